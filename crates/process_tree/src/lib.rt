@@ -1,0 +1,28 @@
+//! Names, steps and trees of processes, and what they mean.
+//!
+//! A process is a tree of steps. `specs/Blocks` says which steps and whole paths a block has, and everything else is said
+//! over these two lists (`specs/Shape`): play (`Play`), guaranteed termination (`Termination`) and recovery (`Recovery`).
+//! The layers above cite these definitions, and use trees, names, plans and conflict tables as they are made here.
+//! Reading and printing texts is no work of this crate.
+#![tactic(auto)]
+
+mod block;
+mod entry;
+mod limits;
+mod name;
+mod plan;
+mod play;
+mod step;
+mod tree;
+
+pub use block::{Block, Tail};
+pub use entry::Entry;
+pub use limits::{
+    DEFAULT_TRIES, LEAST_ALTERNATIVES, MOST_ALTERNATIVES, MOST_AMOUNT, MOST_NAME_BYTES,
+    MOST_NESTING, MOST_REFUSALS, MOST_STEPS, MOST_TRIES,
+};
+pub use name::{Name, NameError, is_name};
+pub use plan::{Operations, Plan};
+pub use play::{Fallback, Outcome, Place, Places, Played};
+pub use step::{Step, StepKind, Steps};
+pub use tree::{Named, Tree, TreeError};
