@@ -1,6 +1,7 @@
 -- What the making of a tree tests, in this order, each over the whole block.
 use Rattle.std.specs.Prelude.{ℕ, ◌+◌, Bool, ◌&&◌, List, [], ◌∷◌, length, nat_lt, nat_le, nat_eq, if◌then◌else◌, Option, Some, None, ℤ, pos, negsuc}
-use Rattle.std.specs.List.{list_any, starts_with}
+use Rattle.std.specs.List.{list_any}
+use lib.Pointwise.{pointwise}
 use Rattle.process_tree.specs.declared.step.Step.{Step}
 use Rattle.process_tree.specs.declared.step.StepKind.{StepKind}
 use Rattle.process_tree.specs.declared.step.StepKind.TheVariants.{C, P, R}
@@ -34,7 +35,7 @@ is_good_step s = is_amount s.amount && has_good_options s.kind s
 
 -- whether a text is that one
 abbrev pub same_text : List ℕ → List ℕ → Bool
-same_text xs ys = nat_eq (length xs) (length ys) && starts_with nat_eq xs ys
+same_text xs ys = pointwise nat_eq xs ys
 
 -- the place of the first step that has the name of an earlier one, of which n stand before
 abbrev pub first_same_name : ℕ → List (List ℕ) → List Step → Option ℕ

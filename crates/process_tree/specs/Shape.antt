@@ -1,7 +1,8 @@
 -- The shape of a process: the kinds of its steps in text order, and its whole paths in text order, each a list of step
 -- numbers. Play, termination, own order and recovery speak of these two lists alone.
-use Rattle.std.specs.Prelude.{ℕ, ◌+◌, Bool, true, false, ◌&&◌, List, [], ◌∷◌, length, drop, map, Option, Some, None, if◌then◌else◌, nat_eq, nat_lt, slice_index_or}
+use Rattle.std.specs.Prelude.{ℕ, ◌+◌, Bool, true, false, List, [], ◌∷◌, length, drop, map, Option, Some, None, if◌then◌else◌, nat_eq, nat_lt, slice_index_or}
 use Rattle.std.specs.List.{list_any, starts_with, filter_map}
+use lib.Pointwise.{pointwise}
 use Rattle.process_tree.specs.declared.step.StepKind.{StepKind}
 use Rattle.process_tree.specs.declared.step.StepKind.TheVariants.{C, P, R}
 use Rattle.process_tree.specs.declared.block.Block.{Block}
@@ -33,7 +34,7 @@ can_be_refused R = false
 
 -- whether a list is that one
 abbrev pub same_steps : List ℕ → List ℕ → Bool
-same_steps xs ys = nat_eq (length xs) (length ys) && starts_with nat_eq xs ys
+same_steps xs ys = pointwise nat_eq xs ys
 
 -- w is a whole path
 abbrev pub is_whole : Shape → List ℕ → Bool
