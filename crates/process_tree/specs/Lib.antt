@@ -6,3 +6,4 @@ pub mod Termination
 pub mod Recovery
 pub mod Making
 pub mod Examples
+pub mod Measures

@@ -1,5 +1,5 @@
 -- What the making of a tree tests, in this order, each over the whole block.
-use Rattle.std.specs.Prelude.{ℕ, ◌+◌, Bool, ◌&&◌, List, [], ◌∷◌, length, nat_lt, nat_le, nat_eq, if◌then◌else◌, Option, Some, None, ℤ, pos, negsuc}
+use Rattle.std.specs.Prelude.{ℕ, ◌+◌, Bool, ◌&&◌, List, [], ◌∷◌, length, nat_lt, nat_le, nat_eq, if◌then◌else◌, Option, Some, None, ℤ, pos, negsuc, ◌++◌, codes, decimal}
 use Rattle.std.specs.List.{list_any}
 use lib.Pointwise.{pointwise}
 use Rattle.process_tree.specs.declared.step.Step.{Step}
@@ -7,7 +7,7 @@ use Rattle.process_tree.specs.declared.step.StepKind.{StepKind}
 use Rattle.process_tree.specs.declared.step.StepKind.TheVariants.{C, P, R}
 use Rattle.process_tree.specs.declared.block.Block.{Block}
 use Rattle.process_tree.specs.declared.tree.TreeError.{TreeError}
-use Rattle.process_tree.specs.declared.tree.TreeError.TheVariants.{Empty, Steps, Nesting, Alternatives, SameName, Number}
+use Rattle.process_tree.specs.declared.tree.TreeError.TheVariants.{Empty, Steps, Nesting, Alternatives, SameName, Number, NoMemory}
 use Rattle.process_tree.specs.Blocks.{outline}
 
 -- an amount is within a thousand million of 0
@@ -62,3 +62,13 @@ tree_fault root =
     else (if nat_lt 256 (length o.steps) then Some (Steps (length o.steps))
     else (if nat_lt 16 o.nesting then Some (Nesting o.nesting)
     else refused_at Alternatives o.odd_choice names))
+
+-- how an error reads
+abbrev pub text_of : TreeError → List ℕ
+text_of Empty = codes "a block is empty"
+text_of (Steps n) = codes "there are " ++ decimal n ++ codes " steps"
+text_of (Nesting n) = codes "there are " ++ decimal n ++ codes " choices open at once"
+text_of (Alternatives n) = codes "a choice has " ++ decimal n ++ codes " alternatives"
+text_of (SameName n) = codes "step " ++ decimal n ++ codes " has the name of an earlier one"
+text_of (Number n) = codes "step " ++ decimal n ++ codes " is out of its limits"
+text_of NoMemory = codes "out of memory"

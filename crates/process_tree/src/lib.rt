@@ -8,12 +8,15 @@
 
 mod block;
 mod entry;
+mod good;
 mod limits;
+mod measure;
 mod name;
 mod plan;
 mod play;
 mod step;
 mod tree;
+mod walk;
 
 pub use block::{Block, Tail};
 pub use entry::Entry;

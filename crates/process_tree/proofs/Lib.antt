@@ -1,0 +1,4 @@
+pub mod Choices
+pub mod Measured
+pub mod NthStep
+pub mod GoodSteps
