@@ -76,13 +76,14 @@ greatest (x ∷ xs) = greater x (greatest xs)
     greater x None = Some x
     greater x (Some y) = if nat_lt y x then Some x else Some y
 
+-- the same of the steps behind the first i, of which `last` stand up to the last commit point
+abbrev pub fixed_from : Shape → List ℕ → ℕ → ℕ → ℕ
+fixed_from t [] i last = last
+fixed_from t (b ∷ w) i last = fixed_from t w (i + 1) (if commits (kind_of t b) then i + 1 else last)
+
 -- how many steps of w stand up to its last commit point, that one included
 abbrev pub fixed_len : Shape → List ℕ → ℕ
-fixed_len t w = fixed_from w 0 0
-  where
-    fixed_from : List ℕ → ℕ → ℕ → ℕ
-    fixed_from [] i last = last
-    fixed_from (b ∷ w) i last = fixed_from w (i + 1) (if commits (kind_of t b) then i + 1 else last)
+fixed_len t w = fixed_from t w 0 0
 
 -- the steps before b on the first whole path that has it: the branch to b
 abbrev pub branch_to : Shape → ℕ → List ℕ
