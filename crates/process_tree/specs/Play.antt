@@ -62,10 +62,11 @@ stand_from t s (o ∷ os) = stand_from t (answered t s o) os
 abbrev pub stand : Shape → List Outcome → Stand
 stand t os = stand_from t (go_on t []) os
 
+-- how a play ends that stands there
+abbrev pub end_of : Stand → Played
+end_of (asks w b) = Unfinished
+end_of (ended end) = end
+
 -- how a play with these outcomes ends; outcomes behind its end aren't looked at
 abbrev pub play : Shape → List Outcome → Played
 play t os = end_of (stand t os)
-  where
-    end_of : Stand → Played
-    end_of (asks w b) = Unfinished
-    end_of (ended end) = end

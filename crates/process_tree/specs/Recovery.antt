@@ -48,10 +48,11 @@ pub data StepClass : Type 0 where
   committing : StepClass
   undoable : StepClass
 
+-- the class of a step that isn't reserved
+abbrev pub class_by_kind : StepKind → StepClass
+class_by_kind C = undoable
+class_by_kind P = committing
+class_by_kind R = committing
+
 abbrev pub class_of : Shape → List ℕ → ℕ → StepClass
-class_of t w d = if list_any (nat_eq d) (forward t w) then reserved else by_kind (kind_of t d)
-  where
-    by_kind : StepKind → StepClass
-    by_kind C = undoable
-    by_kind P = committing
-    by_kind R = committing
+class_of t w d = if list_any (nat_eq d) (forward t w) then reserved else class_by_kind (kind_of t d)

@@ -58,23 +58,25 @@ next_steps t w = filter_map (λ p. if starts_with nat_eq p w then first_of (drop
 abbrev pub goes_on_to : Shape → List ℕ → ℕ → Bool
 goes_on_to t w d = list_any (nat_eq d) (next_steps t w)
 
+-- the lesser of x and y, if there is a y
+abbrev pub lesser : ℕ → Option ℕ → Option ℕ
+lesser x None = Some x
+lesser x (Some y) = if nat_lt x y then Some x else Some y
+
 -- the least of a list
 abbrev pub least : List ℕ → Option ℕ
 least [] = None
 least (x ∷ xs) = lesser x (least xs)
-  where
-    lesser : ℕ → Option ℕ → Option ℕ
-    lesser x None = Some x
-    lesser x (Some y) = if nat_lt x y then Some x else Some y
+
+-- the greater of x and y, if there is a y
+abbrev pub greater : ℕ → Option ℕ → Option ℕ
+greater x None = Some x
+greater x (Some y) = if nat_lt y x then Some x else Some y
 
 -- the greatest of a list
 abbrev pub greatest : List ℕ → Option ℕ
 greatest [] = None
 greatest (x ∷ xs) = greater x (greatest xs)
-  where
-    greater : ℕ → Option ℕ → Option ℕ
-    greater x None = Some x
-    greater x (Some y) = if nat_lt y x then Some x else Some y
 
 -- the same of the steps behind the first i, of which `last` stand up to the last commit point
 abbrev pub fixed_from : Shape → List ℕ → ℕ → ℕ → ℕ
@@ -85,14 +87,16 @@ fixed_from t (b ∷ w) i last = fixed_from t w (i + 1) (if commits (kind_of t b)
 abbrev pub fixed_len : Shape → List ℕ → ℕ
 fixed_len t w = fixed_from t w 0 0
 
--- the steps before b on the first whole path that has it: the branch to b
-abbrev pub branch_to : Shape → ℕ → List ℕ
-branch_to t b = before b (path_with b t.paths)
-  where
-    path_with : ℕ → List (List ℕ) → List ℕ
-    path_with b [] = []
-    path_with b (p ∷ ps) = if list_any (nat_eq b) p then p else path_with b ps
+-- the first of these paths that has b
+abbrev pub path_through : ℕ → List (List ℕ) → List ℕ
+path_through b [] = []
+path_through b (p ∷ ps) = if list_any (nat_eq b) p then p else path_through b ps
 
-    before : ℕ → List ℕ → List ℕ
-    before b [] = []
-    before b (x ∷ xs) = if nat_eq x b then [] else x ∷ before b xs
+-- the steps of a path before b
+abbrev pub steps_before : ℕ → List ℕ → List ℕ
+steps_before b [] = []
+steps_before b (x ∷ xs) = if nat_eq x b then [] else x ∷ steps_before b xs
+
+-- the branch to b: the steps before it on the first whole path that has it
+abbrev pub branch_to : Shape → ℕ → List ℕ
+branch_to t b = steps_before b (path_through b t.paths)

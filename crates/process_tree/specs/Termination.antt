@@ -11,13 +11,14 @@ use Rattle.process_tree.specs.Play.{asks, stand, play, fallback_of}
 abbrev pub NeverStuck : Shape → Type 0
 NeverStuck t = (os : List Outcome) (b : ℕ) → play t os ≢ Stuck b
 
+-- each number once
+abbrev pub once : List ℕ → List ℕ
+once [] = []
+once (e ∷ es) = if list_any (nat_eq e) es then once es else e ∷ once es
+
 -- the first steps of the alternatives before that of d, at the choice where d begins one
 abbrev pub ways_before : Shape → ℕ → List ℕ
 ways_before t d = once (filter (λ e. nat_lt e d) (next_steps t (branch_to t d)))
-  where
-    once : List ℕ → List ℕ
-    once [] = []
-    once (e ∷ es) = if list_any (nat_eq e) es then once es else e ∷ once es
 
 -- d begins an alternative other than the first
 abbrev pub is_later_way : Shape → ℕ → Bool
