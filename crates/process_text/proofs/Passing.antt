@@ -75,7 +75,7 @@ process_passes earlier p ws flat new room =
     let behind = codes "end" ∷ ws in
     let steps = steps_pass (earlier ++ p.name ∷ []) [] None p.tree.steps behind flat.plain flat.different (omega (arith, flat.few)) in
     let front : fault_between earlier (process_words p ++ ws) ≡ fault_at_step (earlier ++ p.name ∷ []) [] None ((flat_map step_words p.tree.steps ++ codes "end" ∷ []) ++ ws) =
-        rw (lt-ltb (length earlier) 256 room, new) refl in
+    rw (lt-ltb (length earlier) 256 room, new) refl in
     front
     ∙ ap (fault_at_step (earlier ++ p.name ∷ []) [] None) (append_assoc (flat_map step_words p.tree.steps) (codes "end" ∷ []) ws)
     ∙ steps

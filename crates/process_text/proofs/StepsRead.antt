@@ -31,8 +31,8 @@ new_and_one earlier [] n new one =
 new_and_one earlier (m ∷ ms) n new one =
     let parts = and_parts (not (list_any (same_text m) earlier)) (are_new (earlier ++ m ∷ []) ms) new in
     and_from (not (list_any (same_text m) earlier)) (are_new (earlier ++ m ∷ []) (ms ++ n ∷ [])) parts.0
-        (new_and_one (earlier ++ m ∷ []) ms n parts.1
-            (subst (λ (all : List (List ℕ)). not (list_any (same_text n) all) ≡ true) (sym (append_assoc earlier (m ∷ []) ms)) one))
+    (new_and_one (earlier ++ m ∷ []) ms n parts.1
+    (subst (λ (all : List (List ℕ)). not (list_any (same_text n) all) ≡ true) (sym (append_assoc earlier (m ∷ []) ms)) one))
 
 plain_and_one : (ss : List Step) (s : Step) → ArePlainSteps ss → IsPlainStep s → ArePlainSteps (ss ++ s ∷ [])
 plain_and_one [] s plain one = (one, tt)

@@ -8,6 +8,7 @@ ghost use Rattle.process_text.specs.Numbers.{is_number, is_key, is_amount_word};
 use std::str;
 
 const MOST_KEY: u64 = 4294967295;
+
 const MOST_AMOUNT: u64 = 1000000000;
 
 // Whether the word begins with a plus, or with a zero before more.

@@ -29,7 +29,7 @@ fn add_step(
     ensures room { OnOk result (length steps.old.items < 256) }
     ensures err { IfErr result (λ e. (e ≡ TextError.NoMemory)
         ⊎ ((earlier : List (List ℕ)) (last : Option StepKind) (word : List ℕ) → kind_of_word word ≡ Some kind
-            → fault_at_step earlier (step_names steps.old.items) last (word ∷ words.old) ≡ Some e)) }
+        → fault_at_step earlier (step_names steps.old.items) last (word ∷ words.old) ≡ Some e)) }
 {
     if steps.len() >= MOST_STEPS {
         return Err(TextError::BadText);
@@ -85,7 +85,11 @@ fn is_process_name(found: &[Named], name: &[u8]) -> bool
 }
 
 // A name that no process before has.
-fn read_process_name(alloc: Global, words: &mut Words<'_>, found: &[Named]) -> Result<Name, TextError>
+fn read_process_name(
+    alloc: Global,
+    words: &mut Words<'_>,
+    found: &[Named],
+) -> Result<Name, TextError>
     ensures word { IfOk result (λ name. words.old ≡ name ∷ words.new) }
     ensures name { IfOk result (λ name. is_name name ≡ true) }
     ensures new { IfOk result (λ name. not (list_any (same_text name) (process_names found.now)) ≡ true) }
@@ -128,7 +132,11 @@ fn read_process(alloc: Global, words: &mut Words<'_>, found: &[Named]) -> Result
 }
 
 // Adds the process behind the word `process`.
-fn add_process(alloc: Global, words: &mut Words<'_>, found: &mut Vec<Named>) -> Result<(), TextError>
+fn add_process(
+    alloc: Global,
+    words: &mut Words<'_>,
+    found: &mut Vec<Named>,
+) -> Result<(), TextError>
     ensures added { OnOk result ((p : Named) × (found.new.items ≡ found.old.items ++ p ∷ []) × IsFlatProcess p
         × (not (list_any (same_text p.name) (process_names found.old.items)) ≡ true)
         × (codes "process" ∷ words.old ≡ process_words p ++ words.new)) }

@@ -13,12 +13,12 @@ returns-then-not-is_word-clause-fault c =
     subst (λ (ws : List (List ℕ)). AreProcessesRead c.loop-word.found.items c.args.words ws) before c.loop-word.invariant in
     let none : (same_text c.in-Some.word.now (codes "process") && nat_lt (length (process_names c.loop-word.found.items)) 256) ≡ false =
     elim c.then-not-is_word.branch [
-      then-not-is_word-via-then-not-is_word w ↦
-        let other : same_text c.in-Some.word.now (codes "process") ≡ false = search rules in
-        and_left (same_text c.in-Some.word.now (codes "process")) (nat_lt (length (process_names c.loop-word.found.items)) 256) other
-    | then-not-is_word-via-else-not-is_word+then-len-ge-MOST_PROCESSES w ↦
-        let many : 256 ≤ length (process_names c.loop-word.found.items) = rw (length-process_names c.loop-word.found.items) (omega arith) in
-        and_right (same_text c.in-Some.word.now (codes "process")) (nat_lt (length (process_names c.loop-word.found.items)) 256) (le-ltb (length (process_names c.loop-word.found.items)) 256 many)
+      | then-not-is_word-via-then-not-is_word w ↦
+          let other : same_text c.in-Some.word.now (codes "process") ≡ false = search rules in
+          and_left (same_text c.in-Some.word.now (codes "process")) (nat_lt (length (process_names c.loop-word.found.items)) 256) other
+      | then-not-is_word-via-else-not-is_word+then-len-ge-MOST_PROCESSES w ↦
+          let many : 256 ≤ length (process_names c.loop-word.found.items) = rw (length-process_names c.loop-word.found.items) (omega arith) in
+          and_right (same_text c.in-Some.word.now (codes "process")) (nat_lt (length (process_names c.loop-word.found.items)) 256) (le-ltb (length (process_names c.loop-word.found.items)) 256 many)
     ] in
     inr (told_no_process c.in-Some.word.now c.loop-word.found.items c.args.words c.next_word.new.self read none)
 
@@ -41,6 +41,6 @@ returns-in_err-add_process-clause-fault c =
     let room : length (process_names c.loop-word.found.items) < 256 = rw (length-process_names c.loop-word.found.items) (omega arith) in
     let failed : c.from_residual.result ≡ Err c.in_err-add_process.field-0.0 = search rules in
     rw failed (elim c.in_err-add_process.ensures.err [
-      inl memory ↦ inl memory
-    | inr told ↦ inr (told_process c.in-Some.word.now c.loop-word.found.items c.args.words c.next_word.new.self c.in_err-add_process.field-0.0 read named room told)
+      | inl memory ↦ inl memory
+      | inr told ↦ inr (told_process c.in-Some.word.now c.loop-word.found.items c.args.words c.next_word.new.self c.in_err-add_process.field-0.0 read named room told)
     ])

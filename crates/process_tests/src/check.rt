@@ -1,0 +1,158 @@
+// The command `check`.
+use process_flow::{MemorySink, MemorySource};
+use process_top::top;
+use std::alloc::{AllocError, Global};
+use std::process::Abort;
+use std::sync::Wait;
+use std::test::Fail;
+use std::thread::Threads;
+
+fn words_of(alloc: Global, words: &[&str]) -> Result<Vec<String>, AllocError> {
+    let mut list = Vec::new(alloc);
+    for word in words {
+        list.push(String::from_str(alloc, word)?)?;
+    }
+    Ok(list)
+}
+
+// Runs `top` on an input and compares the status and the whole output.
+fn expect<H: Threads + Wait + Sync + Abort>(
+    rt: &H,
+    alloc: Global,
+    words: &[&str],
+    text: &[u8],
+    status: u8,
+    output: &[u8],
+) -> Result<(), AllocError> {
+    let words = words_of(alloc, words)?;
+    let mut source = MemorySource::new(text.to_vec(alloc)?, Vec::new(alloc));
+    let mut sink = MemorySink::new(alloc, Vec::new(alloc));
+    assert_eq!(rt; top(rt, alloc, &words, &mut source, &mut sink), status);
+    assert_eq!(rt; sink.bytes(), output);
+    Ok(())
+}
+
+const ROWS: [(&[u8], u8, &[u8]); 22] = [
+    (b"process a c x add 1 5 end", 0, b"a: well-formed\n"),
+    (b"", 0, b""),
+    (b" \t\r\n", 0, b""),
+    (
+        b"process\ta\nc x add 4294967295 0 end\r",
+        0,
+        b"a: well-formed\n",
+    ),
+    (
+        b"process a p x pay 1 1 c y add 1 1 end",
+        3,
+        b"a: stuck at x/y after done refused\n",
+    ),
+    (
+        b"process a r x ship 1 1 c y add 1 1 p z pay 1 1 end",
+        3,
+        b"a: stuck at x/y after refused\n",
+    ),
+    (
+        b"process a c v add 1 1 p w pay 1 1 r x ship 1 1 p y pay 1 1 end process b c x add 1 1 end",
+        3,
+        b"a: stuck at v/w/x/y after done done refused\nb: well-formed\n",
+    ),
+    (
+        b"process a c x add 1 -1000000000 p y pay 1 1000000000 r z ship 0 1 end",
+        0,
+        b"a: well-formed\n",
+    ),
+    (
+        b"process a choose c x add 1 1 or c y add 1 1 done end",
+        2,
+        b"not yet\n",
+    ),
+    (b"process a c x add 1 1 undo 3 end", 2, b"not yet\n"),
+    (b"process a c x add 1 1 tries 3 end", 2, b"bad text\n"),
+    (b"process a r x ship 1 1 tries 3 end", 2, b"not yet\n"),
+    (b"process a c x add 1 end", 2, b"bad text\n"),
+    (b"process a c x add 01 5 end", 2, b"bad text\n"),
+    (b"process a c x add 1 -0 end", 2, b"bad text\n"),
+    (b"process a c x add 4294967296 5 end", 2, b"bad text\n"),
+    (b"process a c x add 1 1000000001 end", 2, b"bad text\n"),
+    (b"process a c x add 1 5 c x add 1 5 end", 2, b"bad text\n"),
+    (
+        b"process a c x add 1 5 end process a c x add 1 5 end",
+        2,
+        b"bad text\n",
+    ),
+    (b"process a end", 2, b"bad text\n"),
+    (
+        b"process a23456789012345678901234567890123 c x add 1 5 end",
+        2,
+        b"bad text\n",
+    ),
+    (b"process a c x add 1 5 end proces", 2, b"bad text\n"),
+];
+
+#[test]
+fn texts_are_checked(rt: HostRuntime) -> Result<(), Fail> {
+    for (text, status, output) in ROWS {
+        expect(&rt, rt.alloc(), &["check"], text, status, output)?;
+    }
+    Ok(())
+}
+
+#[test]
+fn other_words_are_bad(rt: HostRuntime) -> Result<(), Fail> {
+    let text = b"process a c x add 1 5 end";
+    expect(&rt, rt.alloc(), &[], text, 1, b"bad words\n")?;
+    expect(&rt, rt.alloc(), &["chec"], text, 1, b"bad words\n")?;
+    expect(
+        &rt,
+        rt.alloc(),
+        &["check", "check"],
+        text,
+        1,
+        b"bad words\n",
+    )?;
+    Ok(())
+}
+
+// `count` processes of `steps` steps.
+fn many(alloc: Global, count: u32, steps: u32) -> Result<Vec<u8>, Fail> {
+    let mut text = String::new(alloc);
+    for process in 0..count {
+        write!(text, "process p{process} ")?;
+        for step in 0..steps {
+            write!(text, "c s{step} add 1 1 ")?;
+        }
+        write!(text, "end\n")?;
+    }
+    Ok(text.into_bytes())
+}
+
+#[test]
+fn limits_are_kept(rt: HostRuntime) -> Result<(), Fail> {
+    let alloc = rt.alloc();
+    let words = words_of(alloc, &["check"])?;
+    for (count, steps, status) in [(256, 1, 0), (257, 1, 2), (1, 256, 0), (1, 257, 2)] {
+        let mut source = MemorySource::new(many(alloc, count, steps)?, Vec::new(alloc));
+        let mut sink = MemorySink::new(alloc, Vec::new(alloc));
+        assert_eq!(rt; top(&rt, alloc, &words, &mut source, &mut sink), status);
+    }
+    let spaces = vec![in alloc; b' '; 1048577]?;
+    expect(&rt, alloc, &["check"], &spaces[..1048576], 0, b"")?;
+    expect(&rt, alloc, &["check"], &spaces, 4, b"limit input 1048577\n")?;
+    Ok(())
+}
+
+#[test]
+fn faults_are_told(rt: HostRuntime) -> Result<(), Fail> {
+    let alloc = rt.alloc();
+    let words = words_of(alloc, &["check"])?;
+    let text = b"process a c x add 1 5 end";
+    let mut source = MemorySource::new(text.to_vec(alloc)?, vec![in alloc; 0]?);
+    let mut sink = MemorySink::new(alloc, Vec::new(alloc));
+    assert_eq!(rt; top(&rt, alloc, &words, &mut source, &mut sink), 8);
+    assert_eq!(rt; sink.bytes(), b"read fault\n".as_slice());
+    let mut source = MemorySource::new(text.to_vec(alloc)?, Vec::new(alloc));
+    let mut sink = MemorySink::new(alloc, vec![in alloc; 0]?);
+    assert_eq!(rt; top(&rt, alloc, &words, &mut source, &mut sink), 9);
+    assert_eq!(rt; sink.bytes(), b"".as_slice());
+    Ok(())
+}

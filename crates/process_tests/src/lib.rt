@@ -1,0 +1,5 @@
+//! Tests that cross crates: what the program answers, row by row.
+#![tactic(auto)]
+
+#[cfg(test)]
+mod check;

@@ -1,0 +1,3 @@
+pub mod FlatRule
+pub mod Verdict
+pub mod Reply
