@@ -1,7 +1,7 @@
 -- How the words for crashes compose over a list of calls.
 use Rattle.std.specs.Prelude.{slice_index_or, []}
-use Rattle.std.proofs.Common.{◌≡◌, ◌≤◌, ◌+◌, ℕ, refl, sym, ◌∙◌, ap, subst, arith, inl, inr, ⊎_elim}
-use Rattle.process_disk.specs.Disk.{FileSet, Disk, Told, Same, SameBut, Torn, TornIn, Only, Elapses, Looks, Writes, IsHonest}
+use Rattle.std.proofs.Common.{◌≡◌, ◌≤◌, ℕ, refl, sym, ◌∙◌, ap, subst, arith, inl, inr, ⊎_elim}
+use Rattle.process_disk.specs.Disk.{FileSet, Disk, Told, Same, SameBut, TornIn, Only, Elapses, Looks, Writes, IsHonest}
 use Rattle.process_disk.specs.Images.{EachImage, ImagesFollow, RunBy, OthersAsBefore, AllAsBefore}
 
 -- a rack that tells goes on telling

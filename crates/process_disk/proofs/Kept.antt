@@ -1,8 +1,8 @@
 -- What one change more does to a rack in memory.
-use Rattle.std.proofs.Common.{◌≡◌, ◌+◌, ◌<◌, ◌≤◌, ℕ, List, ◌∷◌, length, refl, sym, ◌∙◌, ap, subst, arith}
-use Rattle.process_disk.specs.Disk.{FileSet, file_of, put, TornIn, Looks, Writes, Only}
+use Rattle.std.proofs.Common.{◌≡◌, ◌<◌, ◌≤◌, ℕ, List, ◌∷◌, length, refl, sym, subst, arith}
+use Rattle.process_disk.specs.Disk.{file_of, Looks, Writes}
 use Rattle.process_disk.specs.Memory.{MemoryDisk, disk_of, files_after, writing, syncing, IsImage}
-use Rattle.process_disk.specs.MemoryLaws.{count_after, torn_by_put, read_is_image, elapses_by_change}
+use Rattle.process_disk.specs.MemoryLaws.{count_after, torn_by_put, elapses_by_change}
 
 -- a finished sync changes nothing that is read, and leaves that alone
 pub looks_by_sync : (old new : MemoryDisk) (number : ℕ) → length old.first ≡ 9 → IsImage old.first old.made (files_after old.first old.made) → new.first ≡ old.first → new.made ≡ syncing number ∷ old.made

@@ -1,10 +1,10 @@
 -- What a stop leaves of a rack in memory is what a crash then may leave.
-use Rattle.std.specs.Prelude.{replicate, length, if◌then◌else◌, ◌||◌, ◌&&◌, ◌==◌, nat_lt, nat_le, ◌≢◌, IsTrue}
-use Rattle.std.proofs.Common.{◌≡◌, ◌⊎◌, ◌+◌, ◌-◌, ◌<◌, ◌≤◌, ℕ, zero, suc, add-one, Bool, true, false, List, [], ◌∷◌, ◌++◌, take, drop, max, min, refl, sym, ◌∙◌, ap, subst, arith, inl, inr, ⊎_elim, length-append}
+use Rattle.std.specs.Prelude.{length, if◌then◌else◌, ◌||◌, ◌&&◌, ◌==◌, nat_lt, nat_le, ◌≢◌, IsTrue}
+use Rattle.std.proofs.Common.{◌≡◌, ◌+◌, ◌-◌, ◌<◌, ◌≤◌, ℕ, zero, suc, Bool, true, false, List, [], ◌∷◌, drop, max, refl, sym, ◌∙◌, ap, subst, arith, inl, inr, length-append}
 use Rattle.std.proofs.lemmas.Bool.{ltb-true, leb-true, le-leb, eqb-true, cases_eq}
 use Rattle.std.proofs.lemmas.List.{get_or-set_same, get_or-set_other, length-set, length-take, length-replicate, drop-drop}
 use Rattle.process_disk.specs.Disk.{FileSet, file_of, written, put, TornIn}
-use Rattle.process_disk.specs.Memory.{files_after, with_change, IsImage, IsLeftAfter, LeftSince, is_placed, are_placed}
+use Rattle.process_disk.specs.Memory.{files_after, IsImage, LeftSince, is_placed, are_placed}
 use Rattle.process_disk.specs.MemoryLaws.{both, count_after, torn_by_put, length-written}
 use Rattle.process_disk.specs.Stop.{from_latest, is_write, is_before, is_through, is_within, kept, unsynced, left_with, left_by}
 use Rattle.process_disk.specs.declared.changes.Change.{Change}

@@ -1,5 +1,5 @@
 -- Nine files under one clock: what a read gives, what a crash may leave, and what a call does to both.
-use Rattle.std.specs.Prelude.{◌≡◌, ◌≢◌, ◌⊎◌, ℕ, ◌+◌, ◌≤◌, ◌<◌, max, List, [], ◌++◌, length, take, drop, Bool, IsTrue, slice_index_or, slice_set}
+use Rattle.std.specs.Prelude.{◌≡◌, ◌≢◌, ◌⊎◌, ℕ, ◌+◌, ◌≤◌, max, List, [], ◌++◌, length, take, drop, Bool, IsTrue, slice_index_or, slice_set}
 
 -- the bytes of each of the nine files
 abbrev pub FileSet : Type 0

@@ -1,5 +1,5 @@
 -- A rack in memory: what it holds, what its calls mean, and what a stop leaves of it. Lists of changes have the newest first.
-use Rattle.std.specs.Prelude.{◌≡◌, ◌⊎◌, ⊤, ℕ, ◌+◌, ◌-◌, ◌^◌, ◌≤◌, ◌<◌, min, List, [], ◌∷◌, ◌++◌, length, take, drop, reverse, replicate, Bool, IsTrue, true, false, ◌&&◌, ◌||◌, nat_lt, nat_le, ◌==◌, if◌then◌else◌, Result, IsErr, OnOk, Contains}
+use Rattle.std.specs.Prelude.{◌≡◌, ◌⊎◌, ℕ, ◌+◌, ◌-◌, ◌^◌, ◌≤◌, min, List, [], ◌∷◌, length, drop, reverse, Bool, IsTrue, true, ◌&&◌, nat_lt, nat_le, Result, IsErr, OnOk, Contains}
 use Rattle.process_flow.specs.Causes.{Rose}
 use Rattle.process_disk.specs.Disk.{FileSet, Disk, file_of, put, TornIn}
 use Rattle.process_disk.specs.declared.changes.Change.{Change}

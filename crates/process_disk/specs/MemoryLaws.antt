@@ -1,11 +1,10 @@
 -- That what a rack in memory tells is what every rack tells.
-use Rattle.std.specs.Prelude.{◌≡◌, ◌≢◌, ◌⊎◌, ℕ, ◌+◌, ◌-◌, ◌≤◌, ◌<◌, max, List, [], ◌∷◌, ◌++◌, length, take, drop, refl, Bool, IsTrue, true, false, reverse, nat_lt, nat_le, ◌&&◌}
-use Rattle.std.proofs.Common.{arith, inl, inr, subst, sym, ap, ◌∙◌, zero, suc, add-one, get_or, length-append, append_assoc}
-use Rattle.std.proofs.lemmas.List.{get_or-set_same, get_or-set_other, length-set, length-take-le, length-drop, drop-append-le, take-append-le, take_at, drop_at, take_all}
+use Rattle.std.specs.Prelude.{◌≡◌, ◌⊎◌, ℕ, ◌+◌, ◌≤◌, ◌<◌, max, List, [], ◌∷◌, ◌++◌, length, take, drop, refl, Bool, IsTrue, true, false, nat_lt, nat_le, ◌&&◌}
+use Rattle.std.proofs.Common.{arith, inl, inr, subst, sym, ap, ◌∙◌, zero, suc, length-append, append_assoc}
+use Rattle.std.proofs.lemmas.List.{get_or-set_same, get_or-set_other, length-set, length-take-le, length-drop, take_at, drop_at}
 use Rattle.std.proofs.lemmas.Bool.{ltb-true, leb-true}
-use Rattle.std.proofs.Math.Seq.{drop-append-add}
-use Rattle.process_disk.specs.Disk.{FileSet, Disk, file_of, written, put, Torn, TornIn, SameBut, Elapses, IsHonest}
-use Rattle.process_disk.specs.Memory.{files_after, with_change, IsImage, IsLeftAfter, LeftSince, is_placed, are_placed, IsSound, MemoryDisk, disk_of}
+use Rattle.process_disk.specs.Disk.{FileSet, file_of, written, put, Torn, TornIn, Elapses, IsHonest}
+use Rattle.process_disk.specs.Memory.{files_after, with_change, IsImage, IsLeftAfter, LeftSince, is_placed, are_placed, MemoryDisk, disk_of}
 use Rattle.process_disk.specs.declared.changes.Change.{Change}
 use Rattle.process_disk.specs.declared.changes.Change.TheVariants.{Written, Synced}
 use Rattle.process_disk.specs.declared.changes.Recorded.{Recorded}

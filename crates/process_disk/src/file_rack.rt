@@ -9,7 +9,7 @@ use std::io;
 use std::io::{Read, Seek, SeekFrom, Write};
 use std::rt::Files;
 
-const NAMES: [&str; 9] = [
+pub(crate) const NAMES: [&str; 9] = [
     "tps.0", "tps.1", "tps.2", "tps.3", "tps.4", "tps.5", "tps.6", "tps.7", "tps.8",
 ];
 

@@ -18,3 +18,6 @@ mod stop;
 pub use file_rack::FileRack;
 pub use memory::MemoryRack;
 pub use rack::Rack;
+
+#[cfg(test)]
+mod tests;
