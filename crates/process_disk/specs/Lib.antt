@@ -1,0 +1,6 @@
+pub mod Disk
+pub mod Images
+pub mod Memory
+pub mod MemoryLaws
+pub mod MemoryView
+pub mod Stop

@@ -1,0 +1,23 @@
+//! Racks of nine files that can stop at any moment.
+//!
+//! `Rack` is what the program keeps its files on. What a rack tells is a `Disk` of `specs/Disk`: what a read gives, what a
+//! crash may leave, and one clock for all nine files. A call fails only where the rack's count of faults rose.
+//! `MemoryRack` tells all of it and keeps its calls, so that `stopped` can give the rack that a stop within any of them
+//! leaves; `FileRack` stands on real files and tells nothing. The layers above use `Rack`, the words of `specs/Images` and
+//! their laws in `proofs/Images`. Nothing here knows what the bytes mean.
+#![tactic(auto)]
+
+mod changes;
+mod file_rack;
+mod files;
+mod memory;
+mod memory_rack;
+mod rack;
+mod stop;
+
+pub use file_rack::FileRack;
+pub use memory::MemoryRack;
+pub use rack::Rack;
+
+#[cfg(test)]
+mod tests;

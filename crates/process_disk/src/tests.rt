@@ -1,0 +1,293 @@
+// What no clause says: stops against tables made by hand, and files of the system.
+use super::*;
+use crate::file_rack::NAMES;
+use std::alloc::Global;
+use std::fs;
+use std::process::Abort;
+use std::test::Fail;
+
+// Writes, from the end of what is there at most.
+fn write(rt: &impl Abort, rack: &mut MemoryRack, file: u8, at: u64, bytes: &[u8]) -> bool {
+    assert!(rt; file < 9);
+    let len = rack.file(file).len() as u64;
+    assert!(rt; at <= len);
+    rack.write_at(file, at, bytes).is_ok()
+}
+
+// Ten calls, of which a write (5) and a sync (7) fail.
+fn run(rt: &impl Abort, alloc: Global) -> Result<MemoryRack, Fail> {
+    let mut rack = MemoryRack::new(alloc, vec![in alloc; 5, 7]?)?;
+    let mut buf = [0; 8];
+    assert!(rt; write(rt, &mut rack, 0, 0, b"abc"));
+    assert!(rt; write(rt, &mut rack, 1, 0, b"xy"));
+    assert!(rt; rack.sync().is_ok());
+    assert!(rt; write(rt, &mut rack, 0, 2, b"CDE"));
+    assert_eq!(rt; rack.len(0), Ok(5));
+    assert!(rt; !write(rt, &mut rack, 1, 1, b"Z"));
+    assert_eq!(rt; rack.read(0, 1, &mut buf), Ok(4));
+    assert!(rt; rack.sync().is_err());
+    assert!(rt; write(rt, &mut rack, 8, 0, b"w"));
+    assert!(rt; rack.sync().is_ok());
+    assert_eq!(rt; buf.as_slice(), b"bCDE\0\0\0\0".as_slice());
+    assert_eq!(rt; rack.calls(), 10);
+    Ok(rack)
+}
+
+struct Stop {
+    call: u32,
+    keep: u32,
+    fill: u8,
+    // files 0, 1 and 8
+    left: [&'static [u8]; 3],
+}
+
+const STOPS: [Stop; 33] = [
+    Stop {
+        call: 0,
+        keep: 0,
+        fill: 0x00,
+        left: [b"\0\0\0", b"", b""],
+    },
+    Stop {
+        call: 0,
+        keep: 1,
+        fill: 0x07,
+        left: [b"a\x07\x07", b"", b""],
+    },
+    Stop {
+        call: 0,
+        keep: 4,
+        fill: 0xff,
+        left: [b"abc", b"", b""],
+    },
+    Stop {
+        call: 1,
+        keep: 0,
+        fill: 0x00,
+        left: [b"\0\0\0", b"\0\0", b""],
+    },
+    Stop {
+        call: 1,
+        keep: 1,
+        fill: 0x07,
+        left: [b"a\x07\x07", b"\x07\x07", b""],
+    },
+    Stop {
+        call: 1,
+        keep: 4,
+        fill: 0xff,
+        left: [b"abc", b"x\xff", b""],
+    },
+    Stop {
+        call: 2,
+        keep: 0,
+        fill: 0x00,
+        left: [b"\0\0\0", b"\0\0", b""],
+    },
+    Stop {
+        call: 2,
+        keep: 1,
+        fill: 0x07,
+        left: [b"a\x07\x07", b"\x07\x07", b""],
+    },
+    Stop {
+        call: 2,
+        keep: 4,
+        fill: 0xff,
+        left: [b"abc", b"x\xff", b""],
+    },
+    Stop {
+        call: 3,
+        keep: 0,
+        fill: 0x00,
+        left: [b"ab\0\0\0", b"xy", b""],
+    },
+    Stop {
+        call: 3,
+        keep: 1,
+        fill: 0x07,
+        left: [b"abC\x07\x07", b"xy", b""],
+    },
+    Stop {
+        call: 3,
+        keep: 4,
+        fill: 0xff,
+        left: [b"abCDE", b"xy", b""],
+    },
+    Stop {
+        call: 4,
+        keep: 0,
+        fill: 0x00,
+        left: [b"ab\0\0\0", b"xy", b""],
+    },
+    Stop {
+        call: 4,
+        keep: 1,
+        fill: 0x07,
+        left: [b"abC\x07\x07", b"xy", b""],
+    },
+    Stop {
+        call: 4,
+        keep: 4,
+        fill: 0xff,
+        left: [b"abCDE", b"xy", b""],
+    },
+    Stop {
+        call: 5,
+        keep: 0,
+        fill: 0x00,
+        left: [b"ab\0\0\0", b"x\0", b""],
+    },
+    Stop {
+        call: 5,
+        keep: 1,
+        fill: 0x07,
+        left: [b"abC\x07\x07", b"x\x07", b""],
+    },
+    Stop {
+        call: 5,
+        keep: 4,
+        fill: 0xff,
+        left: [b"abCDE", b"xZ", b""],
+    },
+    Stop {
+        call: 6,
+        keep: 0,
+        fill: 0x00,
+        left: [b"ab\0\0\0", b"x\0", b""],
+    },
+    Stop {
+        call: 6,
+        keep: 1,
+        fill: 0x07,
+        left: [b"abC\x07\x07", b"x\x07", b""],
+    },
+    Stop {
+        call: 6,
+        keep: 4,
+        fill: 0xff,
+        left: [b"abCDE", b"xZ", b""],
+    },
+    Stop {
+        call: 7,
+        keep: 0,
+        fill: 0x00,
+        left: [b"ab\0\0\0", b"x\0", b""],
+    },
+    Stop {
+        call: 7,
+        keep: 1,
+        fill: 0x07,
+        left: [b"abC\x07\x07", b"x\x07", b""],
+    },
+    Stop {
+        call: 7,
+        keep: 4,
+        fill: 0xff,
+        left: [b"abCDE", b"xZ", b""],
+    },
+    Stop {
+        call: 8,
+        keep: 0,
+        fill: 0x00,
+        left: [b"ab\0\0\0", b"x\0", b"\0"],
+    },
+    Stop {
+        call: 8,
+        keep: 1,
+        fill: 0x07,
+        left: [b"abC\x07\x07", b"x\x07", b"\x07"],
+    },
+    Stop {
+        call: 8,
+        keep: 4,
+        fill: 0xff,
+        left: [b"abCDE", b"xZ", b"\xff"],
+    },
+    Stop {
+        call: 9,
+        keep: 0,
+        fill: 0x00,
+        left: [b"ab\0\0\0", b"x\0", b"\0"],
+    },
+    Stop {
+        call: 9,
+        keep: 1,
+        fill: 0x07,
+        left: [b"abC\x07\x07", b"x\x07", b"\x07"],
+    },
+    Stop {
+        call: 9,
+        keep: 4,
+        fill: 0xff,
+        left: [b"abCDE", b"xZ", b"\xff"],
+    },
+    Stop {
+        call: 3,
+        keep: 2,
+        fill: 0xff,
+        left: [b"abCD\xff", b"xy", b""],
+    },
+    Stop {
+        call: 5,
+        keep: 3,
+        fill: 0x07,
+        left: [b"abCDE", b"x\x07", b""],
+    },
+    Stop {
+        call: 9,
+        keep: 5,
+        fill: 0x00,
+        left: [b"abCDE", b"xZ", b"w"],
+    },
+];
+
+#[test]
+fn a_stop_leaves_what_the_table_says(rt: HostRuntime) -> Result<(), Fail> {
+    let alloc = rt.alloc();
+    let rack = run(&rt, alloc)?;
+    for stop in &STOPS {
+        assert!(rt; u64::from(stop.call) < rack.calls());
+        let left = rack.stopped(alloc, stop.call, stop.keep, stop.fill)?;
+        let call = stop.call;
+        let keep = stop.keep;
+        for file in 0..9_u8 {
+            let want = match file {
+                0 => stop.left[0],
+                1 => stop.left[1],
+                8 => stop.left[2],
+                _ => b"",
+            };
+            assert_eq!(rt;
+                left.file(file),
+                want,
+                "file {file}, call {call}, keep {keep}"
+            );
+        }
+        assert_eq!(rt; left.calls(), 0);
+        assert_eq!(rt; left.starved(), 0);
+    }
+    Ok(())
+}
+
+#[test]
+fn real_files_hold_what_was_written(rt: HostRuntime) -> Result<(), Fail> {
+    for name in NAMES {
+        let _absent = fs::remove_file(&rt, name);
+    }
+    let mut rack = FileRack::new(rt);
+    let mut buf = [0; 8];
+    assert_eq!(rt; rack.len(8), Ok(0));
+    assert_eq!(rt; rack.write_at(8, 0, b"gate"), Ok(()));
+    assert_eq!(rt; rack.write_at(8, 2, b"cdef"), Ok(()));
+    assert_eq!(rt; rack.sync(), Ok(()));
+    assert_eq!(rt; rack.len(8), Ok(6));
+    assert_eq!(rt; rack.read(8, 1, &mut buf), Ok(5));
+    assert_eq!(rt; buf.as_slice(), b"acdef\0\0\0".as_slice());
+    assert_eq!(rt; rack.read(0, 0, &mut buf), Ok(0));
+    assert_eq!(rt; rack.faults, 0);
+    for name in NAMES {
+        let _absent = fs::remove_file(&rt, name);
+    }
+    Ok(())
+}
