@@ -126,6 +126,10 @@ fn many(alloc: Global, count: u32, steps: u32) -> Result<Vec<u8>, Fail> {
     Ok(text.into_bytes())
 }
 
+fn blanks(alloc: Global, count: usize) -> Result<Vec<u8>, AllocError> {
+    vec![in alloc; b' '; count]
+}
+
 #[test]
 fn limits_are_kept(rt: HostRuntime) -> Result<(), Fail> {
     let alloc = rt.alloc();
@@ -135,9 +139,15 @@ fn limits_are_kept(rt: HostRuntime) -> Result<(), Fail> {
         let mut sink = MemorySink::new(alloc, Vec::new(alloc));
         assert_eq!(rt; top(&rt, alloc, &words, &mut source, &mut sink), status);
     }
-    let spaces = vec![in alloc; b' '; 1048577]?;
-    expect(&rt, alloc, &["check"], &spaces[..1048576], 0, b"")?;
-    expect(&rt, alloc, &["check"], &spaces, 4, b"limit input 1048577\n")?;
+    expect(&rt, alloc, &["check"], &blanks(alloc, 1048576)?, 0, b"")?;
+    expect(
+        &rt,
+        alloc,
+        &["check"],
+        &blanks(alloc, 1048577)?,
+        4,
+        b"limit input 1048577\n",
+    )?;
     Ok(())
 }
 
