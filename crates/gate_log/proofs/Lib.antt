@@ -1,0 +1,5 @@
+mod Appending
+mod Crash
+mod Framing
+pub mod Logs
+mod Reading

@@ -1,0 +1,42 @@
+-- What an open log stands for, on a disk that tells.
+use Rattle.std.specs.Prelude.{◌≡◌, ◌⊎◌, ⊤, ℕ, List, [], ◌∷◌, ◌++◌, length, Result, Ok, Err, Vec}
+use Rattle.std.specs.declared.alloc.Global.{Global}
+use Rattle.process_disk.specs.Disk.{FileSet, Disk, file_of}
+use Rattle.process_disk.specs.Images.{EachImage}
+use Rattle.gate_log.specs.LogFile.{IsLog, end_of, read_log}
+use Rattle.gate_log.specs.declared.errors.LogError.{LogError}
+use Rattle.gate_log.specs.declared.errors.LogError.TheVariants.{DiskFault, BadHeader, BadRecord, NoMemory}
+
+-- What a log is seen as: its file, how many records it has, and where its closed gate stands.
+pub record LogState : Type 0 where
+  pub file : ℕ
+  pub count : ℕ
+  pub end : ℕ
+
+-- file q of the set is the log of this list
+abbrev pub Logs : ℕ → List (List ℕ) → FileSet → Type 0
+Logs q bodies files = IsLog q bodies (file_of files q)
+
+-- file q of the set is the log of the list before, or of the list with the body
+abbrev pub LogsBeforeOrWith : ℕ → List (List ℕ) → List ℕ → FileSet → Type 0
+LogsBeforeOrWith q bodies body files = Logs q bodies files ⊎ Logs q (bodies ++ body ∷ []) files
+
+-- The log stands for this list: its file is the log of it, and so is each image of that file from now on.
+pub record StandsFor (log : LogState) (bodies : List (List ℕ)) (disk : Disk) : Type 0 where
+  pub count : log.count ≡ length bodies
+  pub end : log.end ≡ end_of bodies
+  pub read : Logs log.file bodies disk.files
+  pub each : EachImage disk disk.moment (Logs log.file bodies)
+
+-- it stands for some list
+pub record IsOpen (log : LogState) (disk : Disk) : Type 0 where
+  pub bodies : List (List ℕ)
+  pub stands : StandsFor log bodies disk
+
+-- What `open` answers on what a file reads as; want of memory and faults of the rack are free here.
+abbrev pub OpensAs : Result (List (List ℕ)) LogError → Result (LogState × Vec (List ℕ) Global) LogError → Type 0
+OpensAs found (Ok opened) = found ≡ Ok opened.1.items
+OpensAs found (Err DiskFault) = ⊤
+OpensAs found (Err BadHeader) = found ≡ Err BadHeader
+OpensAs found (Err (BadRecord n)) = found ≡ Err (BadRecord n)
+OpensAs found (Err NoMemory) = ⊤

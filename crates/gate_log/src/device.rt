@@ -1,0 +1,42 @@
+// What a log asks of a rack: a write that is on the disk, and a whole file.
+ghost use Rattle.std.specs.Prelude.{◌≡◌, ◌⊎◌, ◌<◌, ◌≤◌, length, IfOk, IfErr, OnOk, IsErrOf};
+ghost use Rattle.process_flow.specs.Causes.{Rose, HasCause};
+ghost use Rattle.process_disk.specs.Disk.{Told, file_of, put, TornIn, Only};
+ghost use Rattle.process_disk.specs.Images.{RunBy, AllAsBefore};
+
+use crate::LogError;
+use process_disk::Rack;
+use process_flow::Failed;
+use std::alloc::Global;
+
+/// Writes, and waits until it is on the disk.
+pub fn write_and_sync<R: Rack>(rack: &mut R, file: u8, at: u64, bytes: &[u8]) -> Result<(), Failed>
+    requires file { file < 9 }
+    requires place { Told (R.disk rack.old) → at ≤ length (file_of (R.disk rack.old).files file) }
+    ensures written { Told (R.disk rack.old) → OnOk result ((R.disk rack.new).files ≡ put (R.disk rack.old).files file at bytes.now) }
+    ensures durable { Told (R.disk rack.old) → OnOk result (Only (R.disk rack.new).files (R.disk rack.new).may_leave) }
+    ensures run { Told (R.disk rack.old) → RunBy (TornIn file at (length bytes.now)) (R.disk rack.old) (R.disk rack.new) }
+    ensures tells { (R.disk rack.new).tells ≡ (R.disk rack.old).tells }
+    ensures cause { HasCause (R.faults rack.old) (R.faults rack.new) result }
+{
+    rack.write_at(file, at, bytes)?;
+    rack.sync()
+}
+
+/// All the bytes of a file.
+pub fn whole_file<R: Rack>(alloc: Global, rack: &mut R, file: u8) -> Result<Vec<u8>, LogError>
+    requires { file < 9 }
+    ensures bytes { Told (R.disk rack.old) → IfOk result (λ bytes. bytes.items ≡ file_of (R.disk rack.old).files file) }
+    ensures all { Told (R.disk rack.old) → AllAsBefore (R.disk rack.old) (R.disk rack.new) }
+    ensures tells { (R.disk rack.new).tells ≡ (R.disk rack.old).tells }
+    ensures later { R.faults rack.old ≤ R.faults rack.new }
+    ensures fault { IsErrOf result LogError.DiskFault → Rose (R.faults rack.old) (R.faults rack.new) }
+    ensures refused { IfErr result (λ e. (e ≡ LogError.DiskFault) ⊎ (e ≡ LogError.NoMemory)) }
+{
+    let len = rack.len(file)?;
+    let mut bytes = Vec::new(alloc);
+    bytes.resize(len as usize, 0)?;
+    let count = rack.read(file, 0, &mut bytes)?;
+    bytes.truncate(count);
+    Ok(bytes)
+}

@@ -1,0 +1,121 @@
+// An open log.
+ghost use Rattle.std.specs.Prelude.{◌≡◌, ◌≢◌, ◌<◌, ◌≤◌, ◌+◌, ◌*◌, ◌^◌, ◌++◌, ◌∷◌, [], ℕ, List, length, IfOk, IfErr, OnOk, OnErr, IsErrOf};
+ghost use Rattle.process_flow.specs.Causes.{Rose, HasCause};
+ghost use Rattle.process_disk.specs.Disk.{Told, file_of};
+ghost use Rattle.process_disk.specs.Images.{EachImage, OthersAsBefore, AllAsBefore};
+ghost use Rattle.gate_log.specs.LogFile.{read_log};
+ghost use Rattle.gate_log.specs.Standing.{StandsFor, IsOpen, LogsBeforeOrWith, OpensAs};
+ghost use Rattle.gate_log.specs.declared.errors.LogError.TheVariants.{NoMemory};
+
+use crate::buffer::Buffer;
+use crate::device::{whole_file, write_and_sync};
+use crate::records::{after_header, bodies_in, first_bytes};
+use crate::{Body, DiskFault, LogError};
+use process_disk::Rack;
+use std::alloc::Global;
+use std::marker::Model;
+
+/// A file of a rack that stands for a list of bodies. After a `DiskFault` it is opened again before any other call.
+#[derive(Drop)]
+pub struct Log {
+    file: u8,
+    count: u32,
+    // where the closed gate stands
+    end: u64,
+    buffer: Buffer,
+}
+
+impl Model for Log {
+    ghost use Rattle.std.specs.Prelude.{◌<◌, ◌≤◌, ◌+◌, ◌*◌};
+    ghost use Rattle.gate_log.specs.Standing.{LogState};
+
+    ghost Value = { LogState };
+
+    ghost view = { λ log. record { file = log.file; count = log.count; end = log.end } };
+
+    ghost invariant = { λ log. (log.file < 9) × (log.count ≤ 65536) × (log.end ≤ 8 + 65538 * log.count) };
+}
+
+impl Log {
+    /// Makes an empty file the log of no bodies.
+    pub fn create<R: Rack>(alloc: Global, rack: &mut R, file: u8) -> Result<Self, LogError>
+        requires file { file < 9 }
+        requires empty { Told (R.disk rack.old) → file_of (R.disk rack.old).files file ≡ [] }
+        ensures stands { Told (R.disk rack.old) → IfOk result (λ log. StandsFor log [] (R.disk rack.new)) }
+        ensures log { IfOk result (λ log. (log.file ≡ file) × (log.count ≡ 0)) }
+        ensures others { Told (R.disk rack.old) → OthersAsBefore file (R.disk rack.old) (R.disk rack.new) }
+        ensures tells { (R.disk rack.new).tells ≡ (R.disk rack.old).tells }
+        ensures later { R.faults rack.old ≤ R.faults rack.new }
+        ensures refused { IfErr result (λ e. e ≢ NoMemory → (e ≡ LogError.DiskFault) × Rose (R.faults rack.old) (R.faults rack.new)) }
+    {
+        let buffer = Buffer::new(alloc)?;
+        write_and_sync(rack, file, 0, &first_bytes(file))?;
+        Ok(Log {
+            file,
+            count: 0,
+            end: 8,
+            buffer,
+        })
+    }
+
+    /// The log of a file, and its bodies in order.
+    pub fn open<R: Rack>(
+        alloc: Global,
+        rack: &mut R,
+        file: u8,
+    ) -> Result<(Self, Vec<Body>), LogError>
+        requires { file < 9 }
+        ensures answer { Told (R.disk rack.old) → OpensAs (read_log file (file_of (R.disk rack.old).files file)) result }
+        ensures stands { Told (R.disk rack.old) → IfOk result (λ opened. StandsFor opened.0 opened.1.items (R.disk rack.new)) }
+        ensures log { IfOk result (λ opened. (opened.0.file ≡ file) × (opened.0.count ≡ length opened.1.items)) }
+        ensures all { Told (R.disk rack.old) → AllAsBefore (R.disk rack.old) (R.disk rack.new) }
+        ensures tells { (R.disk rack.new).tells ≡ (R.disk rack.old).tells }
+        ensures later { R.faults rack.old ≤ R.faults rack.new }
+        ensures fault { IsErrOf result LogError.DiskFault → Rose (R.faults rack.old) (R.faults rack.new) }
+    {
+        let buffer = Buffer::new(alloc)?;
+        rack.sync()?;
+        let bytes = whole_file(alloc, rack, file)?;
+        let read = match after_header(&bytes, file) {
+            Some(rest) => bodies_in(alloc, rest)?,
+            None => return Err(LogError::BadHeader),
+        };
+        let log = Log {
+            file,
+            count: read.bodies.len() as u32,
+            end: 8 + read.size as u64,
+            buffer,
+        };
+        Ok((log, read.bodies))
+    }
+
+    /// How many bodies it has.
+    pub fn count(&self) -> u32
+        ensures { result ≡ self.now.count }
+    {
+        self.count
+    }
+
+    /// Adds a body. A crash leaves the list before or with it.
+    pub fn append<R: Rack>(&mut self, rack: &mut R, body: &[u8]) -> Result<(), DiskFault>
+        requires size { length body.now < 2 ^ 16 }
+        requires room { self.old.count < 65536 }
+        requires open { Told (R.disk rack.old) → IsOpen self.old (R.disk rack.old) }
+        ensures acknowledged { Told (R.disk rack.old) → (bodies : List (List ℕ)) → StandsFor self.old bodies (R.disk rack.old) →
+            OnOk result (StandsFor self.new (bodies ++ body.now ∷ []) (R.disk rack.new)) }
+        ensures any_moment { Told (R.disk rack.old) → (bodies : List (List ℕ)) → StandsFor self.old bodies (R.disk rack.old) →
+            EachImage (R.disk rack.new) (R.disk rack.old).moment (LogsBeforeOrWith self.old.file bodies body.now) }
+        ensures others { Told (R.disk rack.old) → OthersAsBefore self.old.file (R.disk rack.old) (R.disk rack.new) }
+        ensures ok { OnOk result ((self.new.file ≡ self.old.file) × (self.new.count ≡ self.old.count + 1)) }
+        ensures err { OnErr result (self.new ≡ self.old) }
+        ensures tells { (R.disk rack.new).tells ≡ (R.disk rack.old).tells }
+        ensures cause { HasCause (R.faults rack.old) (R.faults rack.new) result }
+    {
+        let size = self.buffer.fill(body);
+        write_and_sync(rack, self.file, self.end + 1, self.buffer.front(size))?;
+        write_and_sync(rack, self.file, self.end, &[1])?;
+        self.end += size as u64;
+        self.count += 1;
+        Ok(())
+    }
+}
