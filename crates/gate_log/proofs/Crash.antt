@@ -1,9 +1,9 @@
 -- What the two writes of an append leave of a log's file.
-use Rattle.std.proofs.Common.{◌≡◌, ◌⊎◌, inl, inr, ℕ, ◌+◌, ◌-◌, ◌*◌, ◌<◌, ◌≤◌, ◌%◌, ◌/◌, List, [], ◌∷◌, ◌++◌, length, take, drop, get_or, refl, sym, ◌∙◌, ap, subst, arith, append_assoc, length-append, take-append-drop}
-use Rattle.std.proofs.lemmas.List.{append-nil, take_at, drop_at, drop_more, take_all, drop_all}
+use Rattle.std.proofs.Common.{◌≡◌, ◌⊎◌, inl, inr, ℕ, ◌+◌, ◌*◌, ◌<◌, ◌≤◌, ◌%◌, ◌/◌, List, [], ◌∷◌, ◌++◌, length, take, drop, get_or, refl, sym, ◌∙◌, ap, subst, arith, append_assoc, length-append, take-append-drop}
+use Rattle.std.proofs.lemmas.List.{take_at, drop_at, drop_more}
 use Rattle.std.proofs.lemmas.Bool.{cases_eq}
 use Rattle.process_disk.specs.Disk.{Torn, written}
-use Rattle.gate_log.specs.LogFile.{AreRecords, IsLog, header, records_size, end_of, most_records, framed}
+use Rattle.gate_log.specs.LogFile.{AreRecords, IsLog, header, end_of, most_records, framed}
 use Rattle.gate_log.proofs.Logs.{length-before, records-push}
 
 -- the parts of a list round one place

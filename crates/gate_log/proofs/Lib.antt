@@ -3,3 +3,4 @@ mod Crash
 mod Framing
 pub mod Logs
 mod Reading
+pub mod Standing

@@ -1,7 +1,7 @@
 -- Records, and the files that are logs.
-use Rattle.std.proofs.Common.{◌≡◌, ℕ, ◌+◌, ◌-◌, ◌*◌, ◌<◌, ◌≤◌, List, [], ◌∷◌, ◌++◌, length, take, drop, refl, sym, ◌∙◌, ap, subst, arith, append_assoc, length-append}
-use Rattle.std.proofs.lemmas.List.{append-nil, take_at, drop_at}
-use Rattle.gate_log.specs.LogFile.{AreRecords, IsLog, header, records_size, end_of, most_records, framed}
+use Rattle.std.proofs.Common.{◌≡◌, ℕ, ◌+◌, ◌*◌, ◌<◌, List, [], ◌∷◌, ◌++◌, length, refl, sym, ◌∙◌, ap, arith, append_assoc, length-append}
+use Rattle.std.proofs.lemmas.List.{append-nil}
+use Rattle.gate_log.specs.LogFile.{AreRecords, header, records_size, end_of}
 
 -- how many bytes records take
 pub length-records : (bodies : List (List ℕ)) (opened : List ℕ) → AreRecords bodies opened → length opened ≡ records_size bodies

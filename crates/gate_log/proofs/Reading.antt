@@ -1,15 +1,15 @@
 -- A log's list is what is read from its file.
-use Rattle.std.specs.Prelude.{if◌then◌else◌, nat_le, nat_eq, ◌==◌, ◌↔◌}
+use Rattle.std.specs.Prelude.{if◌then◌else◌, nat_le, nat_eq, ◌==◌}
 use Rattle.std.specs.List.{starts_with}
 use Rattle.std.specs.Cmp.Lexicographic.{same_text, other_text}
-use Rattle.std.proofs.Common.{◌≡◌, ◌≢◌, ◌⊎◌, inl, inr, ⊎_elim, ℕ, zero, suc, add-one, ◌+◌, ◌-◌, ◌*◌, ◌<◌, ◌≤◌, List, [], ◌∷◌, ◌++◌, length, take, drop, Bool, true, false, Option, Some, None, Result, Ok, Err, refl, sym, ◌∙◌, ap, subst, arith, append_assoc, length-append, take-append-drop}
+use Rattle.std.proofs.Common.{◌≡◌, ◌≢◌, ◌⊎◌, inl, inr, ⊎_elim, ℕ, zero, suc, ◌+◌, ◌-◌, ◌*◌, ◌<◌, ◌≤◌, List, [], ◌∷◌, ◌++◌, length, take, drop, Bool, true, false, Option, Some, None, Result, Ok, Err, refl, sym, ◌∙◌, ap, subst, arith, append_assoc, length-append, take-append-drop}
 use Rattle.std.proofs.lemmas.List.{append-nil, take_at, drop_at, length-take-le}
-use Rattle.std.proofs.lemmas.Bool.{cases_eq, leb-true, le-leb, eqb-true, eq-eqb}
+use Rattle.std.proofs.lemmas.Bool.{cases_eq, leb-true, le-leb}
 use Rattle.std.proofs.lemmas.Bool.Decides.{nat_tests}
-use Rattle.gate_log.specs.LogFile.{AreRecords, IsLog, header, records_size, most_records, after_header, first_body, first_record, is_closed, with_body, none_more, bodies_on, bodies_in, bodies_after, read_log}
+use Rattle.gate_log.specs.LogFile.{AreRecords, IsLog, header, most_records, after_header, first_body, first_record, is_closed, with_body, none_more, bodies_on, bodies_in, bodies_after, read_log}
 use Rattle.gate_log.specs.Laws.{LogsAreRead, OneListAtMost}
 use Rattle.gate_log.specs.declared.errors.LogError.{LogError}
-use Rattle.gate_log.specs.declared.errors.LogError.TheVariants.{BadHeader, BadRecord}
+use Rattle.gate_log.specs.declared.errors.LogError.TheVariants.{BadRecord}
 
 -- the bodies read so far, in front of those behind
 abbrev pub behind : List (List ℕ) → Result (List (List ℕ)) LogError → Result (List (List ℕ)) LogError

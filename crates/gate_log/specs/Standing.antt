@@ -3,7 +3,7 @@ use Rattle.std.specs.Prelude.{◌≡◌, ◌⊎◌, ⊤, ℕ, List, [], ◌∷�
 use Rattle.std.specs.declared.alloc.Global.{Global}
 use Rattle.process_disk.specs.Disk.{FileSet, Disk, file_of}
 use Rattle.process_disk.specs.Images.{EachImage}
-use Rattle.gate_log.specs.LogFile.{IsLog, end_of, read_log}
+use Rattle.gate_log.specs.LogFile.{IsLog, end_of}
 use Rattle.gate_log.specs.declared.errors.LogError.{LogError}
 use Rattle.gate_log.specs.declared.errors.LogError.TheVariants.{DiskFault, BadHeader, BadRecord, NoMemory}
 

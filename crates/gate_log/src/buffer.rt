@@ -1,17 +1,18 @@
 // Room for one record.
-ghost use Rattle.std.specs.Prelude.{◌≡◌, ◌<◌, ◌≤◌, ◌+◌, ◌^◌, ◌++◌, ◌∷◌, [], length, take, IfOk};
+ghost use Rattle.std.specs.Prelude.{◌≡◌, ◌<◌, ◌≤◌, ◌+◌, ◌^◌, ◌++◌, ◌∷◌, [], length, take, drop, IfOk};
 ghost use Rattle.gate_log.specs.LogFile.{framed};
 
 use std::alloc::{AllocError, Global};
 use std::marker::Model;
 
-/// Room for a record's length, the longest body and the next gate, taken once for all records of a log.
+/// Room for the longest record with its open gate and the next gate, taken once for all records of a log.
 #[derive(Drop)]
 pub struct Buffer {
     bytes: Vec<u8>,
 }
 
-const SIZE: usize = 65_538;
+// an open gate, a length, the longest body and a closed gate
+const SIZE: usize = 1 + 2 + 65_535 + 1;
 
 impl Model for Buffer {
     ghost use Rattle.std.specs.Prelude.{◌≡◌, List, ℕ, length};
@@ -20,45 +21,51 @@ impl Model for Buffer {
 
     ghost view = { λ b. b.bytes.items };
 
-    ghost invariant = { λ b. length b.bytes.items ≡ 65538 };
+    ghost invariant = { λ b. length b.bytes.items ≡ 65539 };
 }
 
 impl Buffer {
-    pub fn new(alloc: Global) -> Result<Self, AllocError> {
+    pub fn new(alloc: Global) -> Result<Self, AllocError>
+        ensures { IfOk result (λ buffer. length buffer ≡ 65539) }
+    {
         let mut bytes = Vec::new(alloc);
         bytes.resize(SIZE, 0)?;
         Ok(Buffer { bytes })
     }
 
-    /// Puts a body behind its length, and a closed gate behind it, at the front, and says how many bytes they are.
+    /// Puts an open gate, a body behind its length, and a closed gate at the front, and says how many bytes they are.
     pub fn fill(&mut self, body: &[u8]) -> usize
         requires { length body.now < 2 ^ 16 }
-        ensures size { result ≡ length body.now + 3 }
-        ensures bytes { take result self.new ≡ framed body.now ++ 0 ∷ [] }
+        ensures size { result ≡ length body.now + 4 }
+        ensures bytes { take result self.new ≡ 1 ∷ framed body.now ++ 0 ∷ [] }
     {
         frame(&mut self.bytes, body)
     }
 
-    /// The first bytes.
-    pub fn front(&self, size: usize) -> &[u8]
-        requires { size ≤ 65538 }
-        ensures { result.now ≡ take size self.now }
+    /// The bytes from a place to another.
+    pub fn part(&self, from: usize, to: usize) -> &[u8]
+        requires order { from ≤ to }
+        requires room { to ≤ 65539 }
+        ensures { result.now ≡ drop from (take to self.now) }
     {
-        &self.bytes[..size]
+        let (front, _) = self.bytes.split_at(to);
+        let (_, part) = front.split_at(from);
+        part
     }
 }
 
 fn frame(buffer: &mut [u8], body: &[u8]) -> usize
     requires body { length body.now < 2 ^ 16 }
-    requires room { length buffer.old ≡ 65538 }
-    ensures size { result ≡ length body.now + 3 }
-    ensures bytes { take result buffer.new ≡ framed body.now ++ 0 ∷ [] }
+    requires room { length buffer.old ≡ 65539 }
+    ensures size { result ≡ length body.now + 4 }
+    ensures bytes { take result buffer.new ≡ 1 ∷ framed body.now ++ 0 ∷ [] }
 {
     let size = body.len();
-    let (lengths, rest) = buffer.split_at_mut(2);
-    lengths[0] = (size % 256) as u8;
-    lengths[1] = (size / 256) as u8;
+    let (head, rest) = buffer.split_at_mut(3);
+    head[0] = 1;
+    head[1] = (size % 256) as u8;
+    head[2] = (size / 256) as u8;
     rest[..size].copy_from_slice(body);
     rest[size] = 0;
-    size + 3
+    size + 4
 }

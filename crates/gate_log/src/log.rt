@@ -112,9 +112,9 @@ impl Log {
         ensures cause { HasCause (R.faults rack.old) (R.faults rack.new) result }
     {
         let size = self.buffer.fill(body);
-        write_and_sync(rack, self.file, self.end + 1, self.buffer.front(size))?;
-        write_and_sync(rack, self.file, self.end, &[1])?;
-        self.end += size as u64;
+        write_and_sync(rack, self.file, self.end + 1, self.buffer.part(1, size))?;
+        write_and_sync(rack, self.file, self.end, self.buffer.part(0, 1))?;
+        self.end += size as u64 - 1;
         self.count += 1;
         Ok(())
     }

@@ -166,10 +166,10 @@ fn write_to<T: Write + Seek>(file: &mut T, at: u64, bytes: &[u8]) -> io::Result<
     file.write_all(bytes)
 }
 
-// Whether what was written is on the disk now.
+// Whether what was written is on the disk now. Of a file that was never opened nothing was written.
 fn sync_one<T: OpenFile>(file: &Option<T>) -> bool {
     match file {
         Some(opened) => opened.sync_all().is_ok(),
-        None => false,
+        None => true,
     }
 }

@@ -1,4 +1,4 @@
-use Rattle.std.proofs.Common.{◌≡◌, ◌⊎◌, inl, inr, ◌≤◌, ◌<◌, ◌+◌, ◌++◌, ◌∷◌, [], length, None, Err, sym, ◌∙◌, ap, subst, arith, length-append}
+use Rattle.std.proofs.Common.{◌≡◌, ◌⊎◌, inl, inr, ◌≤◌, ◌<◌, ◌+◌, ◌++◌, ◌∷◌, [], length, None, Err, sym, ◌∙◌, ap, arith, length-append}
 use Rattle.gate_log.specs.LogFile.{first_record, records_size}
 use Rattle.gate_log.specs.declared.errors.LogError.TheVariants.{BadRecord}
 use Rattle.gate_log.proofs.Logs.{records_size-push}

@@ -1,8 +1,10 @@
-use Rattle.std.proofs.Common.{◌≡◌, ◌+◌, ◌<◌, ◌∙◌, refl, sym, inl, ap, subst}
-use Rattle.process_disk.specs.Disk.{TornIn, SameBut, put}
+use Rattle.std.proofs.Common.{◌≡◌, ◌+◌, ◌-◌, ◌<◌, ◌∙◌, drop, length, refl, sym, inl, ap, subst, arith}
+use Rattle.process_disk.specs.Disk.{SameBut}
 use Rattle.process_disk.proofs.Images.{still_told, run_so, same_but_torn, others_then, each_so}
 use Rattle.gate_log.specs.Standing.{Logs, LogsBeforeOrWith}
-use Rattle.gate_log.proofs.Appending.{images_of_record, images_of_append, record_written, body_appended, gate_within, room_left}
+use Rattle.gate_log.specs.contracts.log.Log.{the_view}
+use Rattle.gate_log.proofs.Appending.{RecordDone, images_of_record, images_of_append, body_appended, gate_within, room_left}
+use Rattle.gate_log.proofs.Framing.{gate_alone}
 use Rattle.gate_log.proofs.log.Log.append.Goals as goal
 
 pub write_and_sync-requires-clause-place : goal.write_and_sync-requires-clause-place
@@ -27,11 +29,9 @@ returns-in_err-write_and_sync-2-clause-any_moment g c = rw (← c.self.view_is) 
     let new = g.R.Rack.disk c.write_and_sync-2.new.rack in
     let honest = g.met.R.Rack.honest c.args.rack.now told in
     let room = room_left _ bodies old stands (subst (λ l. l.count < 65536) (sym c.self.view_is) c.requires.room) in
-    let bytes = c.front.ensures ∙ c.fill-size.ensures.bytes in
-    let is = subst (λ bs. mid.files ≡ put old.files c.self.inside.file (c.self.inside.end + 1) bs) bytes (c.in_ok-write_and_sync.ensures.written told) in
-    let staged = record_written _ bodies c.args.body.now old mid honest c.self.invariant.0 stands is in
-    let second = c.write_and_sync-2.ensures.run (still_told old mid c.write_and_sync.ensures.tells told) in
-    images_of_append _ bodies c.args.body.now _ old mid new honest stands room staged (c.write_and_sync.ensures.run told) (c.in_ok-write_and_sync.ensures.durable told) second)
+    let done : RecordDone (the_view c.self.inside) c.args.body.now c.part.result.now old mid = record { bytes_are = c.part.ensures ∙ ap (drop 1) c.fill-size.ensures.bytes; written = c.in_ok-write_and_sync.ensures.written told; durable = c.in_ok-write_and_sync.ensures.durable told; run = c.write_and_sync.ensures.run told } in
+    let gate = c.part-2.ensures ∙ gate_alone c.fill-size.result _ _ (omega (arith, c.fill-size.ensures.size)) c.fill-size.ensures.bytes in
+    images_of_append _ bodies c.args.body.now _ _ old mid new honest c.self.invariant.0 stands room done gate (c.write_and_sync-2.ensures.run (still_told old mid c.write_and_sync.ensures.tells told)))
 
 pub returns-in_err-write_and_sync-2-clause-others : goal.returns-in_err-write_and_sync-2-clause-others
 returns-in_err-write_and_sync-2-clause-others g c = rw (← c.self.view_is) (λ told.
@@ -55,11 +55,11 @@ returns-clause-acknowledged g c = rw (← c.self.view_is) (λ told bodies stands
     let told_new = still_told mid new c.write_and_sync-2.ensures.tells told_mid in
     let honest = g.met.R.Rack.honest c.args.rack.now told in
     let room = room_left _ bodies old stands (subst (λ l. l.count < 65536) (sym c.self.view_is) c.requires.room) in
-    let bytes = c.front.ensures ∙ c.fill-size.ensures.bytes in
-    let is = subst (λ bs. mid.files ≡ put old.files c.self.inside.file (c.self.inside.end + 1) bs) bytes (c.in_ok-write_and_sync.ensures.written told) in
-    let staged = record_written _ bodies c.args.body.now old mid honest c.self.invariant.0 stands is in
-    body_appended _ _ bodies c.args.body.now old mid new stands (g.met.R.Rack.honest c.write_and_sync.new.rack told_mid) (g.met.R.Rack.honest c.write_and_sync-2.new.rack told_new) c.self.invariant.0 room staged
-    (c.in_ok-write_and_sync-2.ensures.written told_mid) (c.in_ok-write_and_sync-2.ensures.durable told_mid) refl refl (ap (λ n. c.self.inside.end + n) c.fill-size.ensures.size))
+    let done : RecordDone (the_view c.self.inside) c.args.body.now c.part.result.now old mid = record { bytes_are = c.part.ensures ∙ ap (drop 1) c.fill-size.ensures.bytes; written = c.in_ok-write_and_sync.ensures.written told; durable = c.in_ok-write_and_sync.ensures.durable told; run = c.write_and_sync.ensures.run told } in
+    let gate = c.part-2.ensures ∙ gate_alone c.fill-size.result _ _ (omega (arith, c.fill-size.ensures.size)) c.fill-size.ensures.bytes in
+    let further : c.self.inside.end + (c.fill-size.result - 1) ≡ c.self.inside.end + (length c.args.body.now + 3) = omega (arith, c.fill-size.ensures.size) in
+    body_appended _ _ bodies c.args.body.now _ _ old mid new honest (g.met.R.Rack.honest c.write_and_sync.new.rack told_mid) (g.met.R.Rack.honest c.write_and_sync-2.new.rack told_new) c.self.invariant.0 stands room done gate
+    (c.in_ok-write_and_sync-2.ensures.written told_mid) (c.in_ok-write_and_sync-2.ensures.durable told_mid) refl refl further)
 
 pub returns-clause-any_moment : goal.returns-clause-any_moment
 returns-clause-any_moment g c = rw (← c.self.view_is) (λ told bodies stands.
@@ -68,11 +68,9 @@ returns-clause-any_moment g c = rw (← c.self.view_is) (λ told bodies stands.
     let new = g.R.Rack.disk c.write_and_sync-2.new.rack in
     let honest = g.met.R.Rack.honest c.args.rack.now told in
     let room = room_left _ bodies old stands (subst (λ l. l.count < 65536) (sym c.self.view_is) c.requires.room) in
-    let bytes = c.front.ensures ∙ c.fill-size.ensures.bytes in
-    let is = subst (λ bs. mid.files ≡ put old.files c.self.inside.file (c.self.inside.end + 1) bs) bytes (c.in_ok-write_and_sync.ensures.written told) in
-    let staged = record_written _ bodies c.args.body.now old mid honest c.self.invariant.0 stands is in
-    let second = c.write_and_sync-2.ensures.run (still_told old mid c.write_and_sync.ensures.tells told) in
-    images_of_append _ bodies c.args.body.now _ old mid new honest stands room staged (c.write_and_sync.ensures.run told) (c.in_ok-write_and_sync.ensures.durable told) second)
+    let done : RecordDone (the_view c.self.inside) c.args.body.now c.part.result.now old mid = record { bytes_are = c.part.ensures ∙ ap (drop 1) c.fill-size.ensures.bytes; written = c.in_ok-write_and_sync.ensures.written told; durable = c.in_ok-write_and_sync.ensures.durable told; run = c.write_and_sync.ensures.run told } in
+    let gate = c.part-2.ensures ∙ gate_alone c.fill-size.result _ _ (omega (arith, c.fill-size.ensures.size)) c.fill-size.ensures.bytes in
+    images_of_append _ bodies c.args.body.now _ _ old mid new honest c.self.invariant.0 stands room done gate (c.write_and_sync-2.ensures.run (still_told old mid c.write_and_sync.ensures.tells told)))
 
 pub returns-clause-others : goal.returns-clause-others
 returns-clause-others g c = rw (← c.self.view_is) (λ told.

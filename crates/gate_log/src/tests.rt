@@ -1,0 +1,169 @@
+// What no clause says: the bytes of a file written by hand, files that are cut or damaged, and stops within an append.
+use super::*;
+use process_disk::{MemoryRack, Rack};
+use std::alloc::Global;
+use std::process::Abort;
+use std::test::Fail;
+
+// File 3: a header, three records behind open gates, and a closed gate.
+const FILE: [u8; 23] = [
+    0x74, 0x70, 0x73, 0x6c, 0x01, 0x03, 0x00, 0x00, // header
+    0x01, 0x02, 0x00, b'h', b'i', // record 1
+    0xff, 0x00, 0x00, // record 2, without a byte
+    0x01, 0x03, 0x00, b'a', b'b', b'c', // record 3
+    0x00, // closed gate
+];
+
+// A rack whose file 3 has these bytes.
+fn rack_of(alloc: Global, bytes: &[u8]) -> Result<MemoryRack, Fail> {
+    let mut rack = MemoryRack::new(alloc, Vec::new(alloc))?;
+    rack.write_at(3, 0, bytes)?;
+    Ok(rack)
+}
+
+// How many bodies the log of file 3 has, or why it is none.
+fn count(alloc: Global, rack: &mut MemoryRack) -> Result<u32, LogError> {
+    let (log, bodies) = Log::open(alloc, rack, 3)?;
+    Ok(log.count())
+}
+
+#[test]
+fn a_file_written_by_hand_is_opened_and_appended_to(rt: HostRuntime) -> Result<(), Fail> {
+    let alloc = rt.alloc();
+    let mut file = FILE.to_vec(alloc)?;
+    file.extend_from_slice(b"free")?;
+    let mut rack = rack_of(alloc, &file)?;
+    let (mut log, bodies) = Log::open(alloc, &mut rack, 3)?;
+    assert_eq!(rt; bodies.len(), 3);
+    assert_eq!(rt; bodies[0].bytes(), b"hi".as_slice());
+    assert_eq!(rt; bodies[1].bytes(), b"".as_slice());
+    assert_eq!(rt; bodies[2].bytes(), b"abc".as_slice());
+    log.append(&mut rack, b"yes")?;
+    assert_eq!(rt; log.count(), 4);
+    let mut buf = [0; 40];
+    assert_eq!(rt; rack.read(3, 0, &mut buf), Ok(29));
+    assert_eq!(rt; &buf[..22], &FILE[..22]);
+    assert_eq!(rt; &buf[22..29], b"\x01\x03\x00yes\x00".as_slice());
+    Ok(())
+}
+
+// The file cut after so many bytes, from one number on and below another.
+const CUTS: [(usize, usize, Result<u32, LogError>); 6] = [
+    (0, 8, Err(LogError::BadHeader)),
+    (8, 13, Err(LogError::BadRecord(1))),
+    (13, 16, Err(LogError::BadRecord(2))),
+    (16, 22, Err(LogError::BadRecord(3))),
+    (22, 23, Err(LogError::BadRecord(4))),
+    (23, 24, Ok(3)),
+];
+
+// The file with another byte at a place.
+const DAMAGES: [(usize, u8, Result<u32, LogError>); 13] = [
+    (0, 0x75, Err(LogError::BadHeader)),
+    (4, 0x02, Err(LogError::BadHeader)),
+    (5, 0x04, Err(LogError::BadHeader)),
+    (6, 0x01, Err(LogError::BadHeader)),
+    (7, 0x01, Err(LogError::BadHeader)),
+    (8, 0x00, Ok(0)),
+    (8, 0x02, Ok(3)),
+    (9, 0xff, Err(LogError::BadRecord(1))),
+    (10, 0x01, Err(LogError::BadRecord(1))),
+    (13, 0x00, Ok(1)),
+    (17, 0x02, Err(LogError::BadRecord(4))),
+    (17, 0x04, Err(LogError::BadRecord(4))),
+    (22, 0x01, Err(LogError::BadRecord(4))),
+];
+
+#[test]
+fn a_cut_or_damaged_file_is_refused_at_its_first_fault(rt: HostRuntime) -> Result<(), Fail> {
+    let alloc = rt.alloc();
+    for (from, to, want) in &CUTS {
+        for len in *from..*to {
+            assert!(rt; len <= FILE.len());
+            let mut rack = rack_of(alloc, &FILE[..len])?;
+            assert_eq!(rt; count(alloc, &mut rack), *want, "cut after {len}");
+        }
+    }
+    for (at, byte, want) in &DAMAGES {
+        let place = *at;
+        assert!(rt; place < FILE.len());
+        let mut file = FILE.to_vec(alloc)?;
+        file[place] = *byte;
+        let mut rack = rack_of(alloc, &file)?;
+        assert_eq!(rt; count(alloc, &mut rack), *want, "damaged at {place}");
+    }
+    Ok(())
+}
+
+#[test]
+fn a_log_has_at_most_65536_records(rt: HostRuntime) -> Result<(), Fail> {
+    let alloc = rt.alloc();
+    for (records, want) in [
+        (65_536, Ok(65_536)),
+        (65_537, Err(LogError::BadRecord(65_537))),
+    ] {
+        let mut file = FILE[..8].to_vec(alloc)?;
+        for _ in 0..records {
+            file.extend_from_slice(b"\x01\x00\x00")?;
+        }
+        file.push(0)?;
+        let mut rack = rack_of(alloc, &file)?;
+        assert_eq!(rt; count(alloc, &mut rack), want);
+    }
+    Ok(())
+}
+
+// A stop within a call, and how many bodies it leaves: `create` makes calls 0 and 1, the appends 2 to 5 and 6 to 9.
+const STOPS: [(u32, u32, u8, u32); 16] = [
+    (2, 0, 0xff, 0),
+    (2, 3, 0x01, 0),
+    (3, 9, 0xff, 0),
+    (4, 0, 0x00, 0),
+    (4, 0, 0x01, 1),
+    (4, 1, 0x00, 1),
+    (5, 0, 0x00, 0),
+    (5, 1, 0x00, 1),
+    (6, 0, 0xff, 1),
+    (6, 4, 0x01, 1),
+    (7, 9, 0xff, 1),
+    (8, 0, 0x00, 1),
+    (8, 0, 0xff, 2),
+    (8, 1, 0x00, 2),
+    (9, 0, 0x00, 1),
+    (9, 1, 0x00, 2),
+];
+
+#[test]
+fn a_stop_within_an_append_leaves_the_list_before_or_with_the_body(
+    rt: HostRuntime,
+) -> Result<(), Fail> {
+    let alloc = rt.alloc();
+    let mut rack = MemoryRack::new(alloc, Vec::new(alloc))?;
+    let mut log = Log::create(alloc, &mut rack, 3)?;
+    log.append(&mut rack, b"one")?;
+    log.append(&mut rack, b"three")?;
+    assert_eq!(rt; rack.calls(), 10);
+    for (call, keep, fill, want) in &STOPS {
+        assert!(rt; u64::from(*call) < rack.calls());
+        let mut left = rack.stopped(alloc, *call, *keep, *fill)?;
+        let within = *call;
+        assert_eq!(rt; count(alloc, &mut left), Ok(*want), "call {within}");
+    }
+    Ok(())
+}
+
+#[test]
+fn a_fault_of_the_rack_is_told(rt: HostRuntime) -> Result<(), Fail> {
+    let alloc = rt.alloc();
+    let mut rack = MemoryRack::new(alloc, vec![in alloc; 1, 5]?)?;
+    assert_eq!(rt;
+        Log::create(alloc, &mut rack, 3).err(),
+        Some(LogError::DiskFault)
+    );
+    let mut log = Log::create(alloc, &mut rack, 4)?;
+    let body = Body::new(b"one".to_vec(alloc)?);
+    assert_eq!(rt; log.append(&mut rack, body.bytes()), Err(DiskFault));
+    let (again, bodies) = Log::open(alloc, &mut rack, 4)?;
+    assert_eq!(rt; again.count(), 0);
+    Ok(())
+}
