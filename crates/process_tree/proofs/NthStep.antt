@@ -57,3 +57,11 @@ fewer bs i b lt is = ap length (steps_in-drop bs i b lt is) ∙ length-append (o
 -- behind all blocks there is none
 pub none_left : (bs : List Block) (i : ℕ) → length bs ≤ i → length (steps_in (drop i bs)) ≡ 0
 none_left bs i le = ap (λ xs. length (steps_in xs)) (drop_all i bs le)
+
+-- a block has at least its own steps
+pub own_le : (block : Block) → length block.steps ≤ length (outline block).steps
+own_le block = by_tail block.steps block.tail
+  where
+    by_tail : (steps : List Step) (tail : Tail) → length steps ≤ length (outline_of steps tail).steps
+    by_tail steps End = omega arith
+    by_tail steps (Choice' shape row) = omega (arith, length-append steps (all_steps (outlines_of row)))

@@ -66,5 +66,8 @@ order_posted = refl
 pub order_not_paid : play order (Done ∷ Refused ∷ []) ≡ Nothing
 order_not_paid = refl
 
+pub order_not_over : play order (Done ∷ Done ∷ []) ≡ Unfinished
+order_not_over = refl
+
 pub order_ways : ways_before order 5 ≡ 2 ∷ []
 order_ways = refl

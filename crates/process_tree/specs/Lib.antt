@@ -7,3 +7,7 @@ pub mod Recovery
 pub mod Making
 pub mod Examples
 pub mod Measures
+pub mod Paths
+pub mod Order
+pub mod Stands
+pub mod Laws

@@ -2,10 +2,12 @@
 use Rattle.std.specs.Prelude.{ℕ, zero, suc, ◌+◌, ◌-◌, List, [], ◌∷◌, ◌++◌, length, take, map, filter, find, flat_map, Option, Some, None, if◌then◌else◌, nat_eq, nat_lt, unwrap_or}
 use Rattle.process_tree.specs.declared.play.Outcome.{Outcome}
 use Rattle.process_tree.specs.declared.play.Outcome.TheVariants.{Done, Refused}
+use Rattle.process_tree.specs.declared.play.Fallback.{Fallback}
+use Rattle.process_tree.specs.declared.play.Fallback.TheVariants as fallback
 use Rattle.process_tree.specs.declared.play.Played.{Played}
 use Rattle.process_tree.specs.declared.play.Played.TheVariants.{Path, Nothing, Stuck, Unfinished}
 use Rattle.process_tree.specs.Blocks.{numbers_from}
-use Rattle.process_tree.specs.Shape.{Shape, kind_of, can_be_refused, next_steps, goes_on_to, least, fixed_len}
+use Rattle.process_tree.specs.Shape.{Shape, kind_of, can_be_refused, next_steps, goes_on_to, least, fixed_len, branch_to}
 
 -- the beginnings of w that have all its commit points, the shortest first
 abbrev pub kept_prefixes : Shape → List ℕ → List (List ℕ)
@@ -18,6 +20,15 @@ fallback_of t w b = least (filter (λ d. nat_lt b d) (flat_map (next_steps t) (k
 -- the beginning of w from which d goes on
 abbrev pub kept_for : Shape → List ℕ → ℕ → List ℕ
 kept_for t w d = unwrap_or (find (λ v. goes_on_to t v d) (kept_prefixes t w)) []
+
+-- where a refused step with w done before it falls back to: where there is no way on, all is undone, or a commit point stands
+abbrev pub fallback_by : Shape → List ℕ → Option ℕ → Fallback
+fallback_by t w None = if nat_eq (fixed_len t w) 0 then fallback.All else fallback.Stuck
+fallback_by t w (Some d) = fallback.Alternative (length (kept_for t w d)) d
+
+-- the same on the branch to b
+abbrev pub fallback_place : Shape → ℕ → Fallback
+fallback_place t b = fallback_by t (branch_to t b) (fallback_of t (branch_to t b) b)
 
 -- where play stands: at a step that asks for an outcome, with the steps that are done, or at its end
 pub data Stand : Type 0 where

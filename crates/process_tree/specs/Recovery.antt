@@ -34,6 +34,10 @@ abbrev pub place_of : Option ℕ → Place
 place_of None = End
 place_of (Some b) = Step b
 
+-- the place where the process begins
+abbrev pub first_place : Shape → Place
+first_place t = place_of (least (next_steps t []))
+
 -- the place after a step through first alternatives
 abbrev pub place_after : Shape → ℕ → Place
 place_after t b = place_of (least (next_steps t (branch_to t b ++ b ∷ [])))

@@ -1,6 +1,6 @@
 -- The shape of a process: the kinds of its steps in text order, and its whole paths in text order, each a list of step
 -- numbers. Play, termination, own order and recovery speak of these two lists alone.
-use Rattle.std.specs.Prelude.{ℕ, ◌+◌, Bool, true, false, List, [], ◌∷◌, length, drop, map, Option, Some, None, if◌then◌else◌, nat_eq, nat_lt, slice_index_or}
+use Rattle.std.specs.Prelude.{ℕ, ◌+◌, Bool, true, false, List, [], ◌∷◌, length, take, drop, map, Option, Some, None, if◌then◌else◌, nat_eq, nat_lt, slice_index_or}
 use Rattle.std.specs.List.{list_any, starts_with, filter_map}
 use lib.Pointwise.{pointwise}
 use Rattle.process_tree.specs.declared.step.StepKind.{StepKind}
@@ -86,6 +86,16 @@ fixed_from t (b ∷ w) i last = fixed_from t w (i + 1) (if commits (kind_of t b)
 -- how many steps of w stand up to its last commit point, that one included
 abbrev pub fixed_len : Shape → List ℕ → ℕ
 fixed_len t w = fixed_from t w 0 0
+
+-- the last of a list
+abbrev pub last_of : List ℕ → Option ℕ
+last_of [] = None
+last_of (b ∷ []) = Some b
+last_of (b ∷ c ∷ bs) = last_of (c ∷ bs)
+
+-- the last commit point of w
+abbrev pub last_commit : Shape → List ℕ → Option ℕ
+last_commit t w = last_of (take (fixed_len t w) w)
 
 -- the first of these paths that has b
 abbrev pub path_through : ℕ → List (List ℕ) → List ℕ

@@ -7,19 +7,29 @@
 #![tactic(auto)]
 
 mod block;
+mod building;
 mod entry;
 mod good;
+mod laws;
 mod limits;
 mod measure;
 mod name;
+mod paths;
 mod plan;
 mod play;
 mod step;
 mod tree;
+mod turns;
 mod walk;
+mod ways;
 
 pub use block::{Block, Tail};
 pub use entry::Entry;
+pub use laws::{
+    alternatives_are_intervals, commit_points_grow, commit_points_stay, each_step_has_a_path,
+    ends_are_whole, next_steps_have_a_class, one_branch_to_a_step, owed_steps_are_retriable,
+    paths_lie_in_order, paths_part, steps_go_up, whole_paths_end,
+};
 pub use limits::{
     DEFAULT_TRIES, LEAST_ALTERNATIVES, MOST_ALTERNATIVES, MOST_AMOUNT, MOST_NAME_BYTES,
     MOST_NESTING, MOST_REFUSALS, MOST_STEPS, MOST_TRIES,
@@ -29,3 +39,6 @@ pub use plan::{Operations, Plan};
 pub use play::{Fallback, Outcome, Place, Places, Played};
 pub use step::{Step, StepKind, Steps};
 pub use tree::{Named, Tree, TreeError};
+
+#[cfg(test)]
+mod tests;

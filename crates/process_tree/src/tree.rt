@@ -1,14 +1,17 @@
 // Trees: blocks within the limits.
-ghost use Rattle.std.specs.Prelude.{◌≡◌, ◌⊎◌, ◌<◌, length, Some, None, nat_eq, if◌then◌else◌, IfOk, IfErr, OnOk, slice_get};
+ghost use Rattle.std.specs.Prelude.{◌≡◌, ◌++◌, ◌∷◌, [], ◌⊎◌, ◌<◌, length, Some, None, IfOk, IfErr, OnOk, slice_get};
 ghost use Rattle.process_tree.specs.Blocks.{outline};
 ghost use Rattle.process_tree.specs.Making.{tree_fault, text_of};
-ghost use Rattle.process_tree.specs.Measures.{size_fault};
+ghost use Rattle.process_tree.specs.Shape.{shape_of, branch_to, last_commit};
+ghost use Rattle.process_tree.specs.Play.{fallback_place};
+ghost use Rattle.process_tree.specs.Recovery.{last_after, place_of, first_place, place_after, last_place_after};
 ghost use Rattle.process_tree.specs.declared.tree.TreeError.TheVariants.{NoMemory};
 
-use crate::good::{first_bad_step, first_same_name};
-use crate::measure::{Measure, measured};
-use crate::walk::{step_at, steps_of};
-use crate::{Block, MOST_NESTING, MOST_STEPS, Name, Step};
+use crate::building::steps_within;
+use crate::paths::paths_of;
+use crate::walk::step_at;
+use crate::ways::{branch_to, greatest_behind, kept_len, least_behind, least_way};
+use crate::{Block, Fallback, Name, Place, Places, Step};
 use std::alloc::{AllocError, Global};
 use std::error::Error;
 use std::fmt;
@@ -18,6 +21,8 @@ use std::marker::Model;
 #[derive(Drop)]
 pub struct Tree {
     root: Block,
+    /// The whole paths, in text order.
+    paths: Vec<Places>,
     count: u16,
 }
 
@@ -37,7 +42,10 @@ impl Model for Tree {
     ghost use Rattle.process_tree.specs.Blocks.{outline};
     ghost use Rattle.process_tree.specs.Making.{tree_fault};
 
-    ghost invariant = { λ t. (tree_fault t.root ≡ None) × (t.count ≡ length (outline t.root).steps) };
+    ghost invariant = { λ t.
+        (tree_fault t.root ≡ None)
+        × (t.count ≡ length (outline t.root).steps)
+        × (t.paths.items ≡ (outline t.root).paths) };
 }
 
 /// A process.
@@ -92,57 +100,14 @@ impl From<AllocError> for TreeError {
     }
 }
 
-/// A refusal with a number, or want of memory where the number is too large for it.
-fn refused_with(error: TreeError, number: u32) -> TreeError
-    ensures { result ≡ (if nat_eq number 4294967295 then NoMemory else error) }
+/// The place of a step, or the end.
+fn place_of(step: Option<u16>) -> Place
+    ensures { result ≡ place_of step }
 {
-    if number == u32::MAX {
-        TreeError::NoMemory
-    } else {
-        error
+    match step {
+        None => Place::End,
+        Some(step) => Place::Step(step),
     }
-}
-
-/// What is refused of a block of this size.
-fn size_fault(size: Measure) -> Option<TreeError>
-    ensures { result ≡ size_fault size }
-{
-    if size.has_empty {
-        return Some(TreeError::Empty);
-    }
-    if size.steps as usize > MOST_STEPS {
-        return Some(refused_with(TreeError::Steps(size.steps), size.steps));
-    }
-    if size.nesting as usize > MOST_NESTING {
-        return Some(refused_with(TreeError::Nesting(size.nesting), size.nesting));
-    }
-    match size.odd_choice {
-        None => None,
-        Some(alternatives) => Some(refused_with(
-            TreeError::Alternatives(alternatives),
-            alternatives,
-        )),
-    }
-}
-
-/// How many steps a block has, if it makes a tree.
-fn steps_within(alloc: Global, root: &Block) -> Result<u16, TreeError>
-    ensures count { IfOk result (λ n. n ≡ length (outline root.now).steps) }
-    ensures good { OnOk result (tree_fault root.now ≡ None) }
-    ensures fault { IfErr result (λ e. (e ≡ NoMemory) ⊎ (tree_fault root.now ≡ Some e)) }
-{
-    let size = measured(root);
-    if let Some(fault) = size_fault(size) {
-        return Err(fault);
-    }
-    let steps = steps_of(alloc, root, size.steps as usize)?;
-    if let Some(place) = first_same_name(&steps) {
-        return Err(TreeError::SameName(place as u16));
-    }
-    if let Some(place) = first_bad_step(&steps) {
-        return Err(TreeError::Number(place as u16));
-    }
-    Ok(size.steps as u16)
 }
 
 impl Tree {
@@ -152,7 +117,8 @@ impl Tree {
         ensures fault { IfErr result (λ e. (e ≡ TreeError.NoMemory) ⊎ (tree_fault root ≡ Some e)) }
     {
         let count = steps_within(alloc, &root)?;
-        Ok(Tree { root, count })
+        let paths = paths_of(alloc, &root)?;
+        Ok(Tree { root, paths, count })
     }
 
     /// The block that the tree was built of.
@@ -180,5 +146,66 @@ impl Tree {
             Ok(step) => step,
             Err(_) => unreachable!(),
         }
+    }
+
+    /// The place where the process begins.
+    pub fn first(&self) -> Place
+        ensures place { result ≡ first_place (shape_of self.now) }
+        ensures good { tree_fault self.now ≡ None }
+    {
+        place_of(least_behind(&self.paths, None))
+    }
+
+    /// The place after a step, through first alternatives.
+    pub fn after(&self, n: u16) -> Place
+        requires { n < length (outline self.now).steps }
+        ensures place { result ≡ place_after (shape_of self.now) n }
+        ensures good { tree_fault self.now ≡ None }
+    {
+        place_of(least_behind(&self.paths, Some(n)))
+    }
+
+    /// The place after a step, through last alternatives.
+    pub fn last_after(&self, n: u16) -> Place
+        requires { n < length (outline self.now).steps }
+        ensures place { result ≡ last_place_after (shape_of self.now) n }
+        ensures good { tree_fault self.now ≡ None }
+    {
+        place_of(greatest_behind(&self.paths, Some(n)))
+    }
+
+    /// Where a refused step falls back to, all steps before it on the branch being done. Of these, `commit` is the last
+    /// commit point.
+    pub fn fallback(&self, n: u16, commit: Option<u16>) -> Fallback
+        requires step { n < length (outline self.now).steps }
+        requires commit { commit ≡ last_commit (shape_of self.now) (branch_to (shape_of self.now) n) }
+        ensures { result ≡ fallback_place (shape_of self.now) n }
+    {
+        let branch = branch_to(&self.paths, n);
+        let kept = kept_len(branch, commit);
+        match least_way(&self.paths, kept, branch, n) {
+            Some(to) => {
+                let keep = branch_to(&self.paths, to).len() as u16;
+                Fallback::Alternative { keep, to }
+            }
+            None => match commit {
+                None => Fallback::All,
+                Some(_) => Fallback::Stuck,
+            },
+        }
+    }
+
+    /// The places after a step, through last alternatives.
+    pub fn completion(&self, alloc: Global, n: u16) -> Result<Places, AllocError>
+        requires { n < length (outline self.now).steps }
+        ensures { IfOk result (λ places. places ≡ last_after (shape_of self.now) (branch_to (shape_of self.now) n ++ n ∷ [])) }
+    {
+        let mut places = Vec::new(alloc);
+        let mut place = self.last_after(n);
+        while let Place::Step(step) = place {
+            places.push(step)?;
+            place = self.last_after(step);
+        }
+        Ok(Places::new(places))
     }
 }

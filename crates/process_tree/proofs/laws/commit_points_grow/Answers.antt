@@ -1,0 +1,5 @@
+use Rattle.process_tree.proofs.TreeLaws.{commit_points_grow}
+use Rattle.process_tree.proofs.laws.commit_points_grow.Goals as goal
+
+pub returns : goal.returns
+returns c = commit_points_grow

@@ -1,0 +1,92 @@
+-- The laws of trees that everything above stands on.
+use Rattle.std.specs.Prelude.{◌≡◌, ◌⊎◌, ℕ, ◌+◌, ◌<◌, ◌≤◌, true, List, [], ◌∷◌, ◌++◌, length, None, nat_eq, if◌then◌else◌}
+use Rattle.std.specs.List.{starts_with}
+use Rattle.process_tree.specs.declared.block.Block.{Block}
+use Rattle.process_tree.specs.declared.step.StepKind.TheVariants.{C, R}
+use Rattle.process_tree.specs.Making.{tree_fault}
+use Rattle.process_tree.specs.Order.{IsLaidOut, PartsBelow, has}
+use Rattle.process_tree.specs.Shape.{Shape, shape_of, kind_of, commits, is_whole, next_steps, goes_on_to, branch_to, fixed_len}
+use Rattle.process_tree.specs.Recovery.{backward, forward, class_of, reserved, committing, undoable}
+use Rattle.process_tree.specs.Termination.{IsWellFormed}
+
+-- t is the shape of a tree
+pub record IsTreeShape (t : Shape) : Type 0 where
+  pub root : Block
+  pub good : tree_fault root ≡ None
+  pub is : t ≡ shape_of root
+
+-- the whole paths of a tree each go upward, and of two that part, the steps of the later one are greater from there on
+abbrev pub PathsLieInOrder : Type 0
+PathsLieInOrder = (t : Shape) → IsTreeShape t → IsLaidOut (length t.kinds) t.paths
+
+-- two whole paths part at a choice, and one is below the other from there on
+abbrev pub PathsPart : Type 0
+PathsPart =
+    (t : Shape) → IsTreeShape t → (p q : List ℕ) → is_whole t p ≡ true → is_whole t q ≡ true →
+    (p ≡ q) ⊎ (PartsBelow p q ⊎ PartsBelow q p)
+
+-- each step is on a whole path
+abbrev pub EachStepHasAPath : Type 0
+EachStepHasAPath = (t : Shape) → IsTreeShape t → (b : ℕ) → b < length t.kinds → goes_on_to t (branch_to t b) b ≡ true
+
+-- a step determines the branch to it
+abbrev pub OneBranchToAStep : Type 0
+OneBranchToAStep = (t : Shape) → IsTreeShape t → (v : List ℕ) (b : ℕ) → goes_on_to t v b ≡ true → branch_to t b ≡ v
+
+-- a step that goes on from others is one of the process, and greater than each of them
+abbrev pub StepsGoUp : Type 0
+StepsGoUp = (t : Shape) → IsTreeShape t → (v : List ℕ) (a b : ℕ) → goes_on_to t (v ++ a ∷ []) b ≡ true → (a < b) × (b < length t.kinds)
+
+-- no whole path is the beginning of another
+abbrev pub WholePathsEnd : Type 0
+WholePathsEnd = (t : Shape) → IsTreeShape t → (w : List ℕ) → is_whole t w ≡ true → next_steps t w ≡ []
+
+-- where nothing goes on, the path is whole
+abbrev pub EndsAreWhole : Type 0
+EndsAreWhole =
+    (t : Shape) → IsTreeShape t → (v : List ℕ) (b : ℕ) →
+    goes_on_to t v b ≡ true → next_steps t (v ++ b ∷ []) ≡ [] → is_whole t (v ++ b ∷ []) ≡ true
+
+-- b is d, or stands behind it, where d goes on from v
+abbrev pub IsInWay : Shape → List ℕ → ℕ → ℕ → Type 0
+IsInWay t v d b = starts_with nat_eq (branch_to t b ++ b ∷ []) (v ++ d ∷ []) ≡ true
+
+-- the steps of an alternative are an interval
+abbrev pub AlternativesAreIntervals : Type 0
+AlternativesAreIntervals =
+    (t : Shape) → IsTreeShape t → (v : List ℕ) (d first b last : ℕ) → last < length t.kinds →
+    IsInWay t v d first → IsInWay t v d last → first ≤ b → b ≤ last → IsInWay t v d b
+
+-- what the class of a next step says
+pub record HasClass (t : Shape) (w : List ℕ) (d : ℕ) : Type 0 where
+  -- a reserved step is retriable, so it is a commit point, and uses no outcome in play
+  pub reserved_is_retriable : class_of t w d ≡ reserved → kind_of t d ≡ R
+  -- where it is next, nothing is left to undo
+  pub nothing_to_undo : class_of t w d ≡ reserved → backward t w ≡ []
+  -- and it is the first that is owed
+  pub owed_first : class_of t w d ≡ reserved → forward t w ≡ d ∷ forward t (w ++ d ∷ [])
+  -- a committing step is a commit point
+  pub committing_commits : class_of t w d ≡ committing → commits (kind_of t d) ≡ true
+  -- the undoable ones are the compensatable ones
+  pub undoable_is_compensatable : class_of t w d ≡ undoable → kind_of t d ≡ C
+  pub compensatable_is_undoable : kind_of t d ≡ C → class_of t w d ≡ undoable
+
+-- each next step of a well-formed process is reserved, committing or undoable
+abbrev pub NextStepsHaveAClass : Type 0
+NextStepsHaveAClass =
+    (t : Shape) → IsTreeShape t → IsWellFormed t → (w : List ℕ) (d : ℕ) → goes_on_to t w d ≡ true → HasClass t w d
+
+-- all that a well-formed process owes is retriable
+abbrev pub OwedStepsAreRetriable : Type 0
+OwedStepsAreRetriable =
+    (t : Shape) → IsTreeShape t → IsWellFormed t → (w : List ℕ) (b : ℕ) → has b (forward t w) ≡ true → kind_of t b ≡ R
+
+-- a commit point stays one while steps are added
+abbrev pub CommitPointsStay : Type 0
+CommitPointsStay = (t : Shape) (w v : List ℕ) → fixed_len t w ≤ fixed_len t (w ++ v)
+
+-- a step that commits fixes all before it, and another one fixes nothing
+abbrev pub CommitPointsGrow : Type 0
+CommitPointsGrow =
+    (t : Shape) (w : List ℕ) (d : ℕ) →
+    fixed_len t (w ++ d ∷ []) ≡ (if commits (kind_of t d) then length w + 1 else fixed_len t w)

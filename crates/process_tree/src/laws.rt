@@ -1,0 +1,62 @@
+// The laws of trees: each function says one, and does nothing.
+ghost use Rattle.process_tree.specs.Laws.{PathsLieInOrder, PathsPart, EachStepHasAPath, OneBranchToAStep, StepsGoUp, WholePathsEnd, EndsAreWhole, AlternativesAreIntervals, NextStepsHaveAClass, OwedStepsAreRetriable, CommitPointsStay, CommitPointsGrow};
+
+/// The whole paths of a tree go upward, and lie in order.
+pub fn paths_lie_in_order()
+    ensures { PathsLieInOrder }
+{}
+
+/// Two whole paths that part do so at a choice, and the later alternative has the greater steps.
+pub fn paths_part()
+    ensures { PathsPart }
+{}
+
+/// Each step is on a whole path.
+pub fn each_step_has_a_path()
+    ensures { EachStepHasAPath }
+{}
+
+/// A step determines the branch to it.
+pub fn one_branch_to_a_step()
+    ensures { OneBranchToAStep }
+{}
+
+/// A step is greater than those before it on its branch.
+pub fn steps_go_up()
+    ensures { StepsGoUp }
+{}
+
+/// No whole path is the beginning of another.
+pub fn whole_paths_end()
+    ensures { WholePathsEnd }
+{}
+
+/// Where no step goes on, the path is whole.
+pub fn ends_are_whole()
+    ensures { EndsAreWhole }
+{}
+
+/// The steps of an alternative are an interval.
+pub fn alternatives_are_intervals()
+    ensures { AlternativesAreIntervals }
+{}
+
+/// Each next step of a well-formed process is reserved, committing or undoable.
+pub fn next_steps_have_a_class()
+    ensures { NextStepsHaveAClass }
+{}
+
+/// All that a well-formed process owes is retriable.
+pub fn owed_steps_are_retriable()
+    ensures { OwedStepsAreRetriable }
+{}
+
+/// A commit point stays one.
+pub fn commit_points_stay()
+    ensures { CommitPointsStay }
+{}
+
+/// What a further step fixes.
+pub fn commit_points_grow()
+    ensures { CommitPointsGrow }
+{}
