@@ -1,0 +1,137 @@
+-- Groups: pieces that are queued and take effect together.
+use Rattle.std.specs.Prelude.{ℕ, ◌+◌, ◌-◌, Bool, true, false, not, ◌&&◌, ◌||◌, List, [], ◌∷◌, filter, map, length, nat_eq, nat_le, if◌then◌else◌, Option, Some, None}
+use Rattle.std.specs.List.{list_any, filter_map}
+use Rattle.process_tree.specs.declared.play.Outcome.{Outcome}
+use Rattle.process_tree.specs.declared.play.Outcome.TheVariants.{Done, Refused}
+use Rattle.schedule_model.specs.Course.{Course, op_of}
+use Rattle.schedule_model.specs.Conflict.{Table}
+use Rattle.schedule_model.specs.Histories.{is_in}
+use Rattle.machine_model.specs.declared.kept.Work.TheVariants.{Forward, End}
+use Rattle.machine_model.specs.declared.kept.Kept.{Kept}
+use Rattle.machine_model.specs.declared.kept.Kept.TheVariants.{Effect, Refuse}
+use Rattle.machine_model.specs.declared.replies.Refusal.{Refusal}
+use Rattle.machine_model.specs.declared.replies.PieceState.{PieceState}
+use Rattle.machine_model.specs.declared.replies.PieceState.TheVariants.{Out, Dropped, Over}
+use Rattle.machine_model.specs.Moment.{Moment}
+use Rattle.machine_model.specs.Pieces.{Piece, piece_of, dropped_at, runs, same_work, state_of}
+use Rattle.machine_model.specs.Advance.{advance}
+use Rattle.machine_model.specs.Replies.{refusal_reply}
+
+-- the subsystem of each operation
+abbrev pub Subsystems : Type 0
+Subsystems = ℕ → ℕ
+
+-- how an answer to a piece is taken: as done, as refused, or as refused since the subsystem bars the step
+pub data Taken : Type 0 where
+  as_done : Taken
+  as_refused : Taken
+  as_barred : Taken
+
+-- a step that is answered done may be barred, and nothing else is
+abbrev pub may_take : Piece → Outcome → Taken → Bool
+may_take p Done as_done = true
+may_take p Done as_refused = false
+may_take p Done as_barred = same_work p.work Forward
+may_take p Refused as_done = false
+may_take p Refused as_refused = true
+may_take p Refused as_barred = false
+
+-- the pieces of a group, dropped ones too
+abbrev pub pieces_in : Moment → List ℕ → List Piece
+pieces_in m group = filter_map (piece_of m.kept) group
+
+-- the piece is an end
+abbrev pub is_end_piece : Piece → Bool
+is_end_piece p = same_work p.work End
+
+-- two pieces need one store: steps or undos whose operations are of one subsystem
+abbrev pub share_store : Subsystems → List Course → Piece → Piece → Bool
+share_store subsystems courses p q =
+    not (is_end_piece p) && not (is_end_piece q)
+    && nat_eq (subsystems (op_of courses p.process p.step)) (subsystems (op_of courses q.process q.step))
+
+-- a group is full for a piece where it has one that needs the same store, or the piece is an end and it has eight ends
+abbrev pub is_full : Subsystems → List Course → Moment → List ℕ → Piece → Bool
+is_full subsystems courses m group p =
+    list_any (share_store subsystems courses p) (pieces_in m group)
+    || (is_end_piece p && nat_le 8 (length (filter is_end_piece (pieces_in m group))))
+
+-- what the queueing of a piece answers
+pub data Queue : Type 0 where
+  queued : Queue
+  full : Queue
+  refused : Refusal → Queue
+  over : Queue
+  dropped : ℕ → Queue
+  no_piece : Queue
+
+-- a piece that is out: refused at once where it was answered so; else full, if the group is; else refused where it is barred
+abbrev pub out_queue : Bool → Refusal → Taken → Queue
+out_queue is_full r as_refused = refused r
+out_queue is_full r as_barred = if is_full then full else refused r
+out_queue is_full r as_done = if is_full then full else queued
+
+-- a piece in this state
+abbrev pub queue_by : Queue → PieceState → Queue
+queue_by out Out = out
+queue_by out (Dropped k) = dropped k
+queue_by out Over = over
+
+-- piece n, if there is one: one that is queued is over for whoever would queue it again
+abbrev pub queue_piece : Table → Subsystems → List Course → Moment → List ℕ → Taken → Option Piece → Queue
+queue_piece table subsystems courses m group taken None = no_piece
+queue_piece table subsystems courses m group taken (Some p) =
+    let refusal = refusal_reply courses (advance table courses m (Refuse p.number)) p in
+    if is_in p.number group then over
+    else queue_by (out_queue (is_full subsystems courses m group p) refusal taken) (state_of m p)
+
+-- what is answered to the queueing of piece n
+abbrev pub queue_reply : Table → Subsystems → List Course → Moment → List ℕ → ℕ → Taken → Queue
+queue_reply table subsystems courses m group n taken = queue_piece table subsystems courses m group taken (piece_of m.kept n)
+
+-- it keeps a refusal or nothing, and a piece that is queued comes last in the group
+abbrev pub queue_kept : ℕ → Queue → List Kept
+queue_kept n (refused r) = Refuse n ∷ []
+queue_kept n queued = []
+queue_kept n full = []
+queue_kept n over = []
+queue_kept n (dropped k) = []
+queue_kept n no_piece = []
+
+-- a piece that is queued is added to the group
+abbrev pub queue_adds : ℕ → Queue → List ℕ
+queue_adds n queued = n ∷ []
+queue_adds n full = []
+queue_adds n (refused r) = []
+queue_adds n over = []
+queue_adds n (dropped k) = []
+queue_adds n no_piece = []
+
+-- a flush keeps an effect for each piece of the group that is running, in order
+abbrev pub flush_kept : Moment → List ℕ → List Kept
+flush_kept m group = map Effect (filter (runs m) group)
+
+-- what became of a piece of a group: its event has this place in the history, or it was dropped at this kept event
+pub data GroupEnd : Type 0 where
+  effected : ℕ → GroupEnd
+  dropped_at_event : ℕ → GroupEnd
+
+-- a piece of a group, and what became of it
+pub record Ended : Type 0 where
+  pub piece : ℕ
+  pub ending : GroupEnd
+
+-- the kept event at which piece n was dropped, if it was
+abbrev pub dropped_number : Moment → Option Piece → Option ℕ
+dropped_number m None = None
+dropped_number m (Some p) = dropped_at m p
+
+-- piece p with what became of it, and then what became of the others: it takes effect at place n, unless it was dropped
+abbrev pub ended_then : ℕ → ℕ → (ℕ → List Ended) → Option ℕ → List Ended
+ended_then p n rest None = record { piece = p; ending = effected n } ∷ rest n
+ended_then p n rest (Some k) = record { piece = p; ending = dropped_at_event k } ∷ rest (n - 1)
+
+-- what a flush answers: each piece of the group in order; n events stand before
+abbrev pub flush_reply : Moment → ℕ → List ℕ → List Ended
+flush_reply m n [] = []
+flush_reply m n (p ∷ ps) = ended_then p (n + 1) (λ k. flush_reply m k ps) (dropped_number m (piece_of m.kept p))

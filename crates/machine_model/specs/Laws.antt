@@ -1,0 +1,150 @@
+-- The laws of the machine, as statements.
+use Rattle.std.specs.Prelude.{◌≡◌, ◌≢◌, ◌⊎◌, ◌≤◌, ℕ, ◌+◌, true, false, not, List, [], ◌∷◌, ◌++◌, length, IsTrue, Some, None}
+use Rattle.std.specs.List.{Contains, list_any, sum_by}
+use Rattle.process_tree.specs.declared.entry.Entry.{Entry}
+use Rattle.process_tree.specs.declared.plan.Plan.{Plan}
+use Rattle.process_tree.specs.declared.step.StepKind.{StepKind}
+use Rattle.process_tree.specs.declared.step.StepKind.TheVariants.{C, P, R}
+use Rattle.process_tree.specs.Blocks.{numbers_from}
+use Rattle.process_tree.specs.Recovery.{committing, reserved}
+use Rattle.process_tree.specs.Shape.{kind_of}
+use Rattle.schedule_model.specs.Course.{Course, courses_of, course, course_of, shape, allowance}
+use Rattle.schedule_model.specs.Conflict.{Table, IsSymmetric, conflict}
+use Rattle.schedule_model.specs.Histories.{active, is_active, is_in, starts, ends, net, net_of, same_step, doing}
+use Rattle.schedule_model.specs.Recovery.{undoable}
+use Rattle.schedule_model.specs.Holdings.{Holdings, holders, reaches, behind}
+use Rattle.schedule_model.specs.Legal.{is_legal, class_in}
+use Rattle.schedule_model.specs.Limits.{is_within_limits}
+use Rattle.schedule_model.specs.Laws.{IsGoodPlan}
+use Rattle.machine_model.specs.declared.blocked.Blocked.{Blocked}
+use Rattle.machine_model.specs.declared.blocked.Rule.TheVariants.{A5}
+use Rattle.machine_model.specs.declared.kept.Work.TheVariants.{Forward, Undo, End}
+use Rattle.machine_model.specs.declared.kept.Kept.TheVariants.{Restart}
+use Rattle.machine_model.specs.Cascade.{IsCascade, cascade}
+use Rattle.machine_model.specs.Moment.{Moment, has_begun}
+use Rattle.machine_model.specs.Pieces.{Piece, hands, running_of}
+use Rattle.machine_model.specs.State.{block_of, hold_of, holdings, is_exhausted, is_pending, next_of, pending_of, undo_next}
+use Rattle.machine_model.specs.Advance.{Machine}
+use Rattle.machine_model.specs.Runs.{history, is_run, now}
+use Rattle.machine_model.specs.Replies.{stuck}
+use Rattle.machine_model.specs.Calls.{IsNoStart, Call, start, answer, answer_next, answered, next_is}
+
+-- a run of the machine over good plans that opens on a legal history within the limits
+pub record IsSession (table : Table) (plans : List Plan) (s : Machine) : Type 0 where
+  pub symmetric : IsSymmetric table
+  pub good : (p : Plan) → Contains plans p → IsGoodPlan p
+  pub courses : s.courses ≡ courses_of plans
+  pub one_each : length plans ≡ length (starts (history table s))
+  pub legal : IsTrue (is_legal table s.courses s.opening)
+  pub within : IsTrue (is_within_limits s.courses s.opening)
+  pub run : IsTrue (is_run table s)
+
+-- Runs are legal: the history of each run is legal, and within the limits.
+abbrev pub RunsAreLegal : Type 0
+RunsAreLegal = (table : Table) (plans : List Plan) (s : Machine) → IsSession table plans s
+    → IsTrue (is_legal table s.courses (history table s)) × IsTrue (is_within_limits s.courses (history table s))
+
+-- What a call keeps makes a longer run; a start adds its plan, or keeps nothing.
+abbrev pub CallsMakeRuns : Type 0
+CallsMakeRuns = (table : Table) (plans : List Plan) (s : Machine) → IsSession table plans s
+    → ((c : Call) → IsNoStart c → IsSession table plans (answered s (answer table s c)))
+    × ((p : Plan) → IsGoodPlan p
+    → let a = answer table s (start (course_of p)) in IsSession table (plans ++ p ∷ []) (answered s a) ⊎ (a.kept ≡ []))
+
+-- no process was active at the opening, or a restart is kept since
+abbrev pub OpenedAtRest : Machine → Type 0
+OpenedAtRest s = (active s.opening ≡ []) ⊎ Contains s.kept Restart
+
+-- every active process has begun to complete
+abbrev pub AllHaveBegun : Moment → Type 0
+AllHaveBegun m = (i : ℕ) → IsTrue (is_active m.events i) → IsTrue (has_begun m i)
+
+-- Admission laws, at a moment of a run.
+pub record AdmissionLaws (table : Table) (s : Machine) : Type 0 where
+  -- the conflict graph has no circle
+  pub no_circle : (i : ℕ) → reaches table (holdings s.courses (now table s)) i i ≡ false
+  -- an undo is blocked by A5 alone
+  pub undo_by_rule : (i : ℕ) (b : Blocked) → (next_of s.courses (now table s) i).work ≡ Undo → block_of table s.courses (now table s) i ≡ Some b → b.rule ≡ A5
+  -- a step that its process owes is never blocked
+  pub owed_is_free : (i : ℕ) → IsTrue (is_active (history table s) i) → (next_of s.courses (now table s) i).work ≡ Forward
+      → class_in s.courses (history table s) i (next_of s.courses (now table s) i).step ≡ reserved → block_of table s.courses (now table s) i ≡ None
+  -- nor is the end of a process that has nothing left to undo
+  pub end_is_free : (i : ℕ) → IsTrue (is_active (history table s) i) → (next_of s.courses (now table s) i).work ≡ End
+      → undoable s.courses (history table s) i ≡ [] → block_of table s.courses (now table s) i ≡ None
+  -- nor is the undo of the last pending entry in joint order, where the machine opened at rest or all have begun
+  pub last_pending_is_free : (i : ℕ) → OpenedAtRest s ⊎ AllHaveBegun (now table s) → undo_next s.courses (now table s) ≡ Some i → block_of table s.courses (now table s) i ≡ None
+
+-- They hold at each moment of a run.
+abbrev pub AdmissionLawsHold : Type 0
+AdmissionLawsHold = (table : Table) (plans : List Plan) (s : Machine) → IsSession table plans s → AdmissionLaws table s
+
+-- the entry is of the step that process k has under way
+abbrev pub IsRunningStep : Moment → List Course → ℕ → Entry → Type 0
+IsRunningStep m courses k e = (p : Piece) × (running_of m k ≡ Some p) × (p.work ≡ Forward) × (e ≡ doing courses k p.step)
+
+-- process i has a running piece that would fix what it has done: a new commit point, or its end
+abbrev pub IsFixing : Moment → List Course → ℕ → Type 0
+IsFixing m courses i = (p : Piece) × (running_of m i ≡ Some p)
+    × (((p.work ≡ Forward) × (class_in courses m.events i p.step ≡ committing)) ⊎ (p.work ≡ End))
+
+-- The standing facts, at a moment of a run; i and k are different active processes where nothing else is said.
+pub record StandingFacts (table : Table) (s : Machine) : Type 0 where
+  -- what is reserved conflicts with no net entry, running step or reserved step of another active process
+  pub reserved_is_free : (i k : ℕ) (r e : Entry) → IsTrue (is_active (history table s) i) → IsTrue (is_active (history table s) k)
+      → Contains (hold_of s.courses (now table s) i).reserved r
+      → Contains (net_of (history table s) k ++ (hold_of s.courses (now table s) k).reserved) e ⊎ IsRunningStep (now table s) s.courses k e → conflict table r e ≡ false
+  -- before a net entry that can't be undone stands no net entry of another active process that conflicts
+  pub fixed_is_free : (i k : ℕ) (x e : Entry) → IsTrue (is_active (history table s) i) → IsTrue (is_active (history table s) k)
+      → Contains (net_of (history table s) k) x → Contains (net_of (history table s) i) e → IsTrue (not (list_any (same_step e) (undoable s.courses (history table s) i)))
+      → Contains (behind x (net (history table s))) e → conflict table x e ≡ false
+  -- running steps don't conflict
+  pub running_are_free : (i k : ℕ) (d e : Entry) → IsRunningStep (now table s) s.courses i d → IsRunningStep (now table s) s.courses k e → conflict table d e ≡ false
+  -- a pending entry conflicts with no running step
+  pub pending_is_free : (i k : ℕ) (x e : Entry) → IsTrue (is_active (history table s) i) → Contains (pending_of s.courses (now table s) i) x
+      → IsRunningStep (now table s) s.courses k e → conflict table x e ≡ false
+  -- while a piece runs that fixes what i has done, no net entry of another active process conflicts with it, or stands before a
+  -- net entry of i and conflicts with that
+  pub fixing_is_free : (i k : ℕ) (x e : Entry) → IsFixing (now table s) s.courses i → IsTrue (is_active (history table s) k) → Contains (net_of (history table s) k) x
+      → IsRunningStep (now table s) s.courses i e ⊎ (Contains (net_of (history table s) i) e × Contains (behind x (net (history table s))) e) → conflict table x e ≡ false
+  -- while the undo of x runs, behind x stands no net entry of another process that conflicts
+  pub undone_is_free : (i : ℕ) (p : Piece) (e : Entry) → running_of (now table s) i ≡ Some p → p.work ≡ Undo
+      → Contains (behind (doing s.courses i p.step) (net (history table s))) e → conflict table (doing s.courses i p.step) e ≡ false
+  -- where the machine opened at rest, what stands behind a pending entry and conflicts with it is pending
+  pub pending_is_closed : (i : ℕ) (x e : Entry) → OpenedAtRest s → IsTrue (is_active (history table s) i) → Contains (pending_of s.courses (now table s) i) x
+      → Contains (behind x (net (history table s))) e → conflict table x e ≡ true → IsTrue (is_pending s.courses (now table s) e)
+  -- behind a net entry of an active process stands no net entry of an ended one that conflicts
+  pub ended_is_free : (i k : ℕ) (x e : Entry) → IsTrue (is_active (history table s) k) → Contains (ends (history table s)) i → Contains (net_of (history table s) k) x
+      → Contains (net_of (history table s) i) e → Contains (behind x (net (history table s))) e → conflict table x e ≡ false
+
+-- They hold at each moment of a run.
+abbrev pub StandingFactsHold : Type 0
+StandingFactsHold = (table : Table) (plans : List Plan) (s : Machine) → IsSession table plans s → StandingFacts table s
+
+-- Progress law: where no active process is exhausted, a request for any piece isn't answered that one is stuck.
+abbrev pub ProgressLaw : Type 0
+ProgressLaw = (table : Table) (plans : List Plan) (s : Machine) → IsSession table plans s
+    → ((i : ℕ) → IsTrue (is_active (history table s) i) → is_exhausted s.courses (now table s) i ≡ false)
+    → (k : ℕ) → (answer_next table s.courses (now table s) s.served).reply ≢ next_is (stuck k)
+
+-- how many pieces a step can take: its tries, and those of its undo
+abbrev pub pieces_for_step : List Course → ℕ → ℕ → ℕ
+pieces_for_step courses i b = by_kind (kind_of (shape courses i) b)
+  where
+    by_kind : StepKind → ℕ
+    by_kind C = 1 + (allowance courses i b).undo_tries
+    by_kind P = 1
+    by_kind R = (allowance courses i b).tries
+
+-- how many pieces a process can take: those of its steps, its end, and one that is dropped
+abbrev pub pieces_for : List Course → ℕ → ℕ
+pieces_for courses i = sum_by (pieces_for_step courses i) (numbers_from 0 (length (course courses i).ops)) + 2
+
+-- Bound on hands: no run hands out more pieces than the processes of its history can take.
+abbrev pub BoundOnHands : Type 0
+BoundOnHands = (table : Table) (plans : List Plan) (s : Machine) → IsSession table plans s
+    → length (hands s.kept) ≤ sum_by (pieces_for s.courses) (starts (history table s))
+
+-- The computed cascade of an active process is the least set.
+abbrev pub CascadeIsLeast : Type 0
+CascadeIsLeast = (table : Table) (g : Holdings) (root : ℕ) (entries : List Entry) → IsTrue (is_in root (holders g))
+    → IsCascade table g root entries (cascade table g root entries)

@@ -1,0 +1,63 @@
+-- The entries of a legal history are those of its plans, and those of its net are steps.
+use Rattle.std.proofs.Common.{◌≡◌, Bool, true, false, cond, ◌||◌, List, [], ◌∷◌, ◌++◌, refl, ap, ◌∙◌}
+use Rattle.std.specs.Bool.{IsTrue}
+use Rattle.std.specs.List.{All, list_any}
+use Rattle.std.proofs.lemmas.Bool.{eqb-true}
+use Rattle.std.proofs.lemmas.List.Elements.{All-nil, All-cons, All-head, All-tail}
+use Rattle.process_tree.specs.declared.entry.Entry.{Entry}
+use Rattle.schedule_model.specs.declared.event.Event.{Event}
+use Rattle.schedule_model.specs.declared.event.Event.TheVariants.{Start, Act, End}
+use Rattle.schedule_model.specs.Course.{Course, op_of}
+use Rattle.schedule_model.specs.Conflict.{Table}
+use Rattle.schedule_model.specs.Histories.{acts, net_acts, doing, undoing, takes_back, is_active}
+use Rattle.schedule_model.specs.OwnOrder.{keeps_order}
+use Rattle.schedule_model.specs.Legal.{may_come, goes_legally, is_legal}
+use Rattle.schedule_model.proofs.Legal.{both-left, both-right}
+
+-- the operation of an entry is the plan's
+abbrev pub HasPlansOperation : List Course → Entry → Type 0
+HasPlansOperation courses e = e.op ≡ op_of courses e.process e.step
+
+module _ (table : Table) (courses : List Course) where
+  entry_of : (before : List Event) (e : Entry) → IsTrue (may_come table courses before (Act e)) → HasPlansOperation courses e
+  entry_of before e may = eqb-true e.op (op_of courses e.process e.step) (both-right (is_active before e.process) _ (both-left _ _ (both-left (keeps_order courses before (Act e)) _ may)))
+
+  pub acts-of_plans_from : (before h : List Event) → IsTrue (goes_legally table courses before h) → All (HasPlansOperation courses) (acts h)
+  acts-of_plans_from before [] is = All-nil (HasPlansOperation courses)
+  acts-of_plans_from before (Start i ∷ h) is = acts-of_plans_from (before ++ Start i ∷ []) h (both-right _ _ is)
+  acts-of_plans_from before (Act e ∷ h) is = All-cons (HasPlansOperation courses) e (acts h) (entry_of before e (both-left _ _ is)) (acts-of_plans_from (before ++ Act e ∷ []) h (both-right _ _ is))
+  acts-of_plans_from before (End i ∷ h) is = acts-of_plans_from (before ++ End i ∷ []) h (both-right _ _ is)
+
+  -- each entry of a legal history has the operation that its plan gives its step
+  pub acts-of_plans : (h : List Event) → IsTrue (is_legal table courses h) → All (HasPlansOperation courses) (acts h)
+  acts-of_plans h is = acts-of_plans_from [] h is
+
+-- what is true of all entries is true of those that stand
+pub All-net_acts : (P : Entry → Type 0) (es : List Entry) → All P es → All P (net_acts es)
+All-net_acts P [] all = All-nil P
+All-net_acts P (e ∷ es) all = by_test (e.undo || list_any (λ f. takes_back f e) es) (All-net_acts P es (All-tail P e es all))
+  where
+    by_test : (b : Bool) → All P (net_acts es) → All P (cond b (net_acts es) (e ∷ net_acts es))
+    by_test true rest = rest
+    by_test false rest = All-cons P e (net_acts es) (All-head P e es all) rest
+
+-- the entries that stand are steps
+pub net_acts-forward : (es : List Entry) → All (λ e. e.undo ≡ false) (net_acts es)
+net_acts-forward [] = All-nil (λ (e : Entry). e.undo ≡ false)
+net_acts-forward (e ∷ es) = by_test e.undo (list_any (λ f. takes_back f e) es) refl (net_acts-forward es)
+  where
+    by_test : (u t : Bool) → e.undo ≡ u → All (λ e. e.undo ≡ false) (net_acts es) → All (λ e. e.undo ≡ false) (cond (u || t) (net_acts es) (e ∷ net_acts es))
+    by_test true t is rest = rest
+    by_test false true is rest = rest
+    by_test false false is rest = All-cons (λ (e : Entry). e.undo ≡ false) e (net_acts es) is rest
+
+-- an entry with the plan's operation is the plan's step, or its undo
+pub doing-is : (courses : List Course) (e : Entry) → HasPlansOperation courses e → e.undo ≡ false → e ≡ doing courses e.process e.step
+doing-is courses e op forward =
+    ap (λ o. record { process = e.process; step = e.step; op = o; undo = e.undo }) op
+    ∙ ap (λ u. record { process = e.process; step = e.step; op = op_of courses e.process e.step; undo = u }) forward
+
+pub undoing-is : (courses : List Course) (e : Entry) → HasPlansOperation courses e → e.undo ≡ true → e ≡ undoing (doing courses e.process e.step)
+undoing-is courses e op undo =
+    ap (λ o. record { process = e.process; step = e.step; op = o; undo = e.undo }) op
+    ∙ ap (λ u. record { process = e.process; step = e.step; op = op_of courses e.process e.step; undo = u }) undo

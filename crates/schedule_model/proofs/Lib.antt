@@ -1,0 +1,17 @@
+pub mod Appends
+pub mod Snoc
+pub mod Legal
+pub mod Entries
+pub mod Active
+pub mod Counts
+pub mod Walks
+pub mod Recoveries
+pub mod Rising
+pub mod Undoing
+pub mod Conflicts
+pub mod Courses
+pub mod Prefixes
+pub mod Apart
+pub mod UndoPhase
+pub mod ClosingPhase
+pub mod Starts

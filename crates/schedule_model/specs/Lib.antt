@@ -1,0 +1,16 @@
+pub mod Course
+pub mod Conflict
+pub mod Histories
+pub mod Recovery
+pub mod Completion
+pub mod OwnOrder
+pub mod Graph
+pub mod Holdings
+pub mod Blocking
+pub mod Legal
+pub mod Limits
+pub mod Reduction
+pub mod PrintedTrace
+pub mod Laws
+pub mod Samples
+pub mod Examples

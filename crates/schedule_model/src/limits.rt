@@ -1,0 +1,10 @@
+// The limits of histories.
+
+/// How many processes may be active at once.
+pub const MOST_ACTIVE: usize = 256;
+
+/// How many processes may start in one history.
+pub const MOST_PROCESSES: usize = 4096;
+
+/// How many acts and ends a history may have, those that its active processes may still need among them.
+pub const MOST_ENTRIES: usize = 16384;
