@@ -22,3 +22,5 @@ pub mod Wholes
 pub mod Covered
 pub mod Intervals
 pub mod TreeLaws
+pub mod Tables
+pub mod Forms

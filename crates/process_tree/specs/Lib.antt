@@ -11,3 +11,5 @@ pub mod Paths
 pub mod Order
 pub mod Stands
 pub mod Laws
+pub mod Conflicts
+pub mod Form

@@ -8,6 +8,7 @@
 
 mod block;
 mod building;
+mod conflicts;
 mod entry;
 mod good;
 mod laws;
@@ -24,6 +25,7 @@ mod walk;
 mod ways;
 
 pub use block::{Block, Tail};
+pub use conflicts::Conflicts;
 pub use entry::Entry;
 pub use laws::{
     alternatives_are_intervals, commit_points_grow, commit_points_stay, each_step_has_a_path,

@@ -1,0 +1,15 @@
+pub mod Writing
+pub mod Loops
+pub mod RowLoops
+pub mod Stops
+pub mod Texts
+pub mod Fresh
+pub mod OpLaws
+pub mod CatalogLaws
+pub mod Begun
+pub mod FirstBad
+pub mod Unknown
+pub mod Walks
+pub mod Valid
+pub mod Answered
+pub mod Bound

@@ -1,0 +1,42 @@
+-- The bytes of a catalog, and where bytes stop being those of any.
+use Rattle.std.specs.Prelude.{◌≡◌, ℕ, ◌<◌, ◌/◌, ◌%◌, Bool, List, [], ◌∷◌, ◌++◌, length, take, map, slice_get, if◌then◌else◌}
+use Rattle.std.specs.List.{flat_map}
+use Rattle.commute_table.specs.declared.op.Verb.{Verb}
+use Rattle.commute_table.specs.declared.op.Verb.TheVariants.{Add, Take, Look, Put, Hold, Free}
+use Rattle.commute_table.specs.declared.op.Op.{Op}
+use Rattle.commute_table.specs.declared.catalog.Catalog.{Catalog}
+use Rattle.commute_table.specs.Operations.{IsCatalog}
+
+-- the code of a verb
+abbrev pub verb_code : Verb → ℕ
+verb_code Add = 0
+verb_code Take = 1
+verb_code Look = 2
+verb_code Put = 3
+verb_code Hold = 4
+verb_code Free = 5
+
+-- the length of the name, the name, the subsystem and the verb
+abbrev pub op_bytes : Op → List ℕ
+op_bytes o = length o.name ∷ (o.name ++ o.subsystem ∷ verb_code o.verb ∷ [])
+
+-- 1 where a pair conflicts, else 0
+abbrev pub cell_byte : Bool → ℕ
+cell_byte conflict = if conflict then 1 else 0
+
+abbrev pub row_bytes : List Bool → List ℕ
+row_bytes row = map cell_byte row
+
+-- the version, the number of operations in two bytes, the low one first, each operation, and each pair: those of
+-- operation 0 with itself and each later one, then those of operation 1, and so on
+abbrev pub bytes_of : Catalog → List ℕ
+bytes_of c = 1 ∷ length c.ops % 256 ∷ length c.ops / 256 ∷ (flat_map op_bytes c.ops ++ flat_map row_bytes c.conflicts)
+
+-- up to place n, that one included, the bytes are those of some catalog; behind the last byte their end is a place too
+abbrev pub GoesOn : List ℕ → ℕ → Type 0
+GoesOn bytes n = (c : Catalog) × IsCatalog c × (take n (bytes_of c) ≡ take n bytes) × (slice_get (bytes_of c) n ≡ slice_get bytes n)
+
+-- place n is the first where no catalog's bytes go on as these do
+pub record IsFirstBad (bytes : List ℕ) (n : ℕ) : Type 0 where
+  pub before : (k : ℕ) → k < n → GoesOn bytes k
+  pub bad : ¬ GoesOn bytes n
