@@ -1,8 +1,14 @@
 # `make demo` builds the program and runs it on an example; `make test` is what CI runs.
-.PHONY: demo test
+.PHONY: demo test bench
 
 demo:
-	./tps check < examples/first.process
+	./demo
 
 test:
 	rt ci
+
+# Times the reading of large texts, and the check of the worst text within 1 MiB; no part of the gate.
+bench:
+	bench/run
+	awk -f bench/worst_text.awk > bench/worst.process
+	time ./tps check < bench/worst.process > /dev/null

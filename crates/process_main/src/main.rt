@@ -1,8 +1,10 @@
-//! The program: its words, standard input and standard output are handed to `top`, and its status is the answer.
+//! The program: its words, standard input, standard output and the files of the current folder are handed to `top`, and its
+//! status is the answer.
 #![tactic(auto)]
 
+use process_disk::FileRack;
 use process_flow::{StdSink, StdSource};
-use process_top::top;
+use process_top::{Finished, top};
 use std::env;
 use std::process::ExitCode;
 
@@ -21,5 +23,8 @@ fn main(rt: HostRuntime) -> ExitCode {
             }
         }
     }
-    ExitCode::from(top(&rt, alloc, &words, &mut source, &mut sink))
+    let rack = FileRack::new(&rt);
+    let Finished { status, rack } = top(&rt, alloc, &words, &mut source, &mut sink, rack);
+    drop(rack);
+    ExitCode::from(status)
 }

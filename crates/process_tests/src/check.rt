@@ -1,18 +1,33 @@
 // The command `check`.
+use process_disk::MemoryRack;
 use process_flow::{MemorySink, MemorySource};
-use process_top::top;
+use process_top::{Finished, top};
 use std::alloc::{AllocError, Global};
 use std::process::Abort;
 use std::sync::Wait;
 use std::test::Fail;
 use std::thread::Threads;
 
-fn words_of(alloc: Global, words: &[&str]) -> Result<Vec<String>, AllocError> {
+pub fn words_of(alloc: Global, words: &[&str]) -> Result<Vec<String>, AllocError> {
     let mut list = Vec::new(alloc);
     for word in words {
         list.push(String::from_str(alloc, word)?)?;
     }
     Ok(list)
+}
+
+// The status of `top` over an empty rack.
+fn answered<H: Threads + Wait + Sync>(
+    rt: &H,
+    alloc: Global,
+    words: &[String],
+    source: &mut MemorySource,
+    sink: &mut MemorySink,
+) -> Result<u8, AllocError> {
+    let rack = MemoryRack::new(alloc, Vec::new(alloc))?;
+    let Finished { status, rack } = top(rt, alloc, words, source, sink, rack);
+    drop(rack);
+    Ok(status)
 }
 
 // Runs `top` on an input and compares the status and the whole output.
@@ -27,12 +42,15 @@ fn expect<H: Threads + Wait + Sync + Abort>(
     let words = words_of(alloc, words)?;
     let mut source = MemorySource::new(text.to_vec(alloc)?, Vec::new(alloc));
     let mut sink = MemorySink::new(alloc, Vec::new(alloc));
-    assert_eq!(rt; top(rt, alloc, &words, &mut source, &mut sink), status);
+    assert_eq!(rt;
+        answered(rt, alloc, &words, &mut source, &mut sink)?,
+        status
+    );
     assert_eq!(rt; sink.bytes(), output);
     Ok(())
 }
 
-const ROWS: [(&[u8], u8, &[u8]); 22] = [
+const ROWS: [(&[u8], u8, &[u8]); 26] = [
     (b"process a c x add 1 5 end", 0, b"a: well-formed\n"),
     (b"", 0, b""),
     (b" \t\r\n", 0, b""),
@@ -45,6 +63,11 @@ const ROWS: [(&[u8], u8, &[u8]); 22] = [
         b"process a p x pay 1 1 c y add 1 1 end",
         3,
         b"a: stuck at x/y after done refused\n",
+    ),
+    (
+        b"process a p x pay 1 1 choose r y ship 1 1 or r z mail 1 1 done end",
+        3,
+        b"a: unreachable x/z\n",
     ),
     (
         b"process a r x ship 1 1 c y add 1 1 p z pay 1 1 end",
@@ -63,30 +86,85 @@ const ROWS: [(&[u8], u8, &[u8]); 22] = [
     ),
     (
         b"process a choose c x add 1 1 or c y add 1 1 done end",
-        2,
-        b"not yet\n",
+        0,
+        b"a: well-formed\n",
     ),
-    (b"process a c x add 1 1 undo 3 end", 2, b"not yet\n"),
-    (b"process a c x add 1 1 tries 3 end", 2, b"bad text\n"),
-    (b"process a r x ship 1 1 tries 3 end", 2, b"not yet\n"),
-    (b"process a c x add 1 end", 2, b"bad text\n"),
-    (b"process a c x add 01 5 end", 2, b"bad text\n"),
-    (b"process a c x add 1 -0 end", 2, b"bad text\n"),
-    (b"process a c x add 4294967296 5 end", 2, b"bad text\n"),
-    (b"process a c x add 1 1000000001 end", 2, b"bad text\n"),
-    (b"process a c x add 1 5 c x add 1 5 end", 2, b"bad text\n"),
     (
-        b"process a c x add 1 5 end process a c x add 1 5 end",
-        2,
-        b"bad text\n",
+        b"process a p x pay 1 1 choose c y add 1 1 or c m add 1 1 or r t mail 1 1 done end",
+        0,
+        b"a: well-formed\n",
     ),
-    (b"process a end", 2, b"bad text\n"),
+    (b"process a c x add 1 1 undo 3 end", 0, b"a: well-formed\n"),
+    (
+        b"process a c x add 1 1 tries 3 end",
+        2,
+        b"bad text at line 1 column 23: expected next\n",
+    ),
+    (
+        b"process a r x ship 1 1 tries 3 end",
+        0,
+        b"a: well-formed\n",
+    ),
+    (
+        b"process a c x add 1 end",
+        2,
+        b"bad text at line 1 column 21: expected amount\n",
+    ),
+    (
+        b"process a\nc x add 01 5 end",
+        2,
+        b"bad text at line 2 column 9: expected key\n",
+    ),
+    (
+        b"process a c x add 1 -0 end",
+        2,
+        b"bad text at line 1 column 21: expected amount\n",
+    ),
+    (
+        b"process a c x add 4294967296 5 end",
+        2,
+        b"bad text at line 1 column 19: expected key\n",
+    ),
+    (
+        b"process a c x add 1 1000000001 end",
+        2,
+        b"bad text at line 1 column 21: expected amount\n",
+    ),
+    (
+        b"process a c x add 1 5 c x add 1 5 end",
+        2,
+        b"same name at line 1: x\n",
+    ),
+    (
+        b"process a c x add 1 5 end\nprocess a c x add 1 5 end",
+        2,
+        b"same name at line 2: a\n",
+    ),
+    (
+        b"process a end",
+        2,
+        b"bad text at line 1 column 11: expected step\n",
+    ),
     (
         b"process a23456789012345678901234567890123 c x add 1 5 end",
         2,
-        b"bad text\n",
+        b"bad text at line 1 column 9: expected name\n",
     ),
-    (b"process a c x add 1 5 end proces", 2, b"bad text\n"),
+    (
+        b"process a c x add 1 5 end proces",
+        2,
+        b"bad text at line 1 column 27: expected process\n",
+    ),
+    (
+        b"process a c x add 1 5",
+        2,
+        b"bad text at line 1 column 22: expected next\n",
+    ),
+    (
+        b"process a choose c x add 1 1 done end",
+        2,
+        b"bad text at line 1 column 30: expected or\n",
+    ),
 ];
 
 #[test]
@@ -134,10 +212,13 @@ fn blanks(alloc: Global, count: usize) -> Result<Vec<u8>, AllocError> {
 fn limits_are_kept(rt: HostRuntime) -> Result<(), Fail> {
     let alloc = rt.alloc();
     let words = words_of(alloc, &["check"])?;
-    for (count, steps, status) in [(256, 1, 0), (257, 1, 2), (1, 256, 0), (1, 257, 2)] {
+    for (count, steps, status) in [(256, 1, 0), (257, 1, 4), (1, 256, 0), (1, 257, 4)] {
         let mut source = MemorySource::new(many(alloc, count, steps)?, Vec::new(alloc));
         let mut sink = MemorySink::new(alloc, Vec::new(alloc));
-        assert_eq!(rt; top(&rt, alloc, &words, &mut source, &mut sink), status);
+        assert_eq!(rt;
+            answered(&rt, alloc, &words, &mut source, &mut sink)?,
+            status
+        );
     }
     expect(&rt, alloc, &["check"], &blanks(alloc, 1048576)?, 0, b"")?;
     expect(
@@ -158,11 +239,11 @@ fn faults_are_told(rt: HostRuntime) -> Result<(), Fail> {
     let text = b"process a c x add 1 5 end";
     let mut source = MemorySource::new(text.to_vec(alloc)?, vec![in alloc; 0]?);
     let mut sink = MemorySink::new(alloc, Vec::new(alloc));
-    assert_eq!(rt; top(&rt, alloc, &words, &mut source, &mut sink), 8);
+    assert_eq!(rt; answered(&rt, alloc, &words, &mut source, &mut sink)?, 8);
     assert_eq!(rt; sink.bytes(), b"read fault\n".as_slice());
     let mut source = MemorySource::new(text.to_vec(alloc)?, Vec::new(alloc));
     let mut sink = MemorySink::new(alloc, vec![in alloc; 0]?);
-    assert_eq!(rt; top(&rt, alloc, &words, &mut source, &mut sink), 9);
+    assert_eq!(rt; answered(&rt, alloc, &words, &mut source, &mut sink)?, 9);
     assert_eq!(rt; sink.bytes(), b"".as_slice());
     Ok(())
 }

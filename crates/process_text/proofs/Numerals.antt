@@ -34,3 +34,7 @@ pub parsed_is_decimal : {E : Type 0} (bs : List ℕ) (r : Result ℕ E) (n : ℕ
 parsed_is_decimal bs r n h is plus zeros =
     let got = OkIff-at_ok r _ _ n (parse_plain own 64 bs r h plus) is in
     rw got.1 (sym (decimal-digits_value own bs got.0.0 got.0.1 zeros got.0.2))
+
+-- what is written for a number is digits
+pub all_digits : (n : ℕ) → n < 2 ^ 64 → AllDigits 10 (decimal n)
+all_digits n small = digits_decimal own n small

@@ -1,26 +1,29 @@
--- That the words of good processes have no fault.
-use Rattle.std.proofs.Common.{◌≡◌, ◌≢◌, ◌≤◌, ◌<◌, ◌+◌, ℕ, ℤ, pos, negsuc, List, [], ◌∷◌, ◌++◌, length, flat_map, true, not, get_or, codes, decimal, Option, Some, None, is_some, refl, sym, ap, arith, ◌∙◌, append_assoc, append-nil, length-append, suc}
+-- That steps within their limits lead to what is told behind them.
+use Rattle.std.proofs.Common.{◌≡◌, ◌≢◌, ◌≤◌, ◌<◌, ◌+◌, ℕ, ℤ, pos, negsuc, List, [], ◌∷◌, ◌++◌, length, Bool, true, false, not, ◌&&◌, nat_le, nat_eq, get_or, decimal, refl, sym, ap, arith, ◌∙◌, append_assoc, append-nil, length-append, suc, inl, inr}
+use Rattle.std.specs.Bool.{⊤}
 use Rattle.std.specs.List.{list_any}
 use Rattle.std.specs.Fmt.{signed_decimal}
-use Rattle.std.proofs.lemmas.Bool.{and_parts, and_from, lt-ltb, ne_eqb, leb-true, ltb-true}
-use Rattle.process_tree.specs.Name.{is_name}
-use Rattle.process_tree.specs.Making.{same_text, is_amount}
+use Rattle.std.proofs.lemmas.Bool.{and_parts, lt-ltb, ne_eqb, not-true, leb-true, ltb-true}
+use Rattle.std.proofs.lemmas.Fmt.{decimal_nonempty}
+use Rattle.process_tree.specs.Making.{same_text, is_amount, are_tries, are_refusals, has_good_options}
 use Rattle.process_tree.specs.declared.step.Step.{Step}
 use Rattle.process_tree.specs.declared.step.StepKind.{StepKind}
 use Rattle.process_tree.specs.declared.step.StepKind.TheVariants.{C, P, R}
-use Rattle.process_tree.specs.declared.tree.Named.{Named}
+use Rattle.process_text.specs.declared.marks.Setting.{Setting}
+use Rattle.process_text.specs.declared.marks.Setting.TheVariants.{Tries, Undo, Refuse, UndoRefuse}
+use Rattle.process_text.specs.declared.marks.At.{At}
+use Rattle.process_text.specs.declared.marks.At.TheVariants.{Begin, BehindStep, BehindChoice}
+use Rattle.process_text.specs.declared.marks.Next.TheVariants as next
+use Rattle.process_text.specs.Words.{begins}
 use Rattle.process_text.specs.Numbers.{is_number, is_key, is_amount_word}
-use Rattle.process_text.specs.Grammar.{kind_word, step_words, process_words, text_words, step_names, process_names, are_new, IsPlainStep, ArePlainSteps, IsFlatProcess, AreFlatProcesses, IsReading}
-use Rattle.process_text.specs.FirstFault.{kind_of_word, is_new_name, last_kind, fault_between, fault_at_step, first_fault}
-use Rattle.std.proofs.lemmas.Fmt.{decimal_nonempty}
+use Rattle.process_text.specs.Marks.{kind_word, settings, setting_word, number_of, takes, is_setting_number, meaning}
+use Rattle.process_text.specs.Grammar.{IsSetting, AreSettings, IsStep, Writes, step_pieces, step_names, are_new}
+use Rattle.process_text.specs.FirstFault.{Before, told_from, in_block, at_settings, begun_in}
+use Rattle.process_text.specs.Leading.{with_names}
 use Rattle.process_text.proofs.Numerals.{first_is_no_minus}
-use Rattle.process_text.proofs.NumberWords.{number_passes, above_zero_passes}
-
--- the word of a kind names it
-pub kind_of_kind_word : (k : StepKind) → kind_of_word (kind_word k) ≡ Some k
-kind_of_kind_word C = refl
-kind_of_kind_word P = refl
-kind_of_kind_word R = refl
+use Rattle.process_text.proofs.NumberWords.{number_passes, above_zero_passes, are_same-refl}
+use Rattle.process_text.proofs.Settings.{setting_passes}
+use Rattle.process_text.proofs.Turns.{no_settings_left}
 
 -- what is written for a key passes
 pub key_passes : (k : ℕ) → k ≤ 4294967295 → is_key (decimal k) ≡ true
@@ -41,60 +44,107 @@ amount_passes (negsuc n) e =
     let lt = ltb-true n 1000000000 e in
     sym (above_zero_passes 1000000000 (decimal (suc n)) (suc n) (omega arith) refl (omega arith) (λ zero. omega arith))
 
--- a step's words, behind which the words ws come, lead to what is told of ws after that step
-pub step_passes : (earlier names : List (List ℕ)) (last : Option StepKind) (s : Step) (ws : List (List ℕ)) → IsPlainStep s → is_new_name names s.name ≡ true → length names < 256
-    → fault_at_step earlier names last (step_words s ++ ws) ≡ fault_at_step earlier (names ++ s.name ∷ []) (Some s.kind) ws
-step_passes earlier names last s ws plain new room =
-    rw (kind_of_kind_word s.kind, lt-ltb (length names) 256 room, new, plain.op_is, key_passes s.key plain.key_is, amount_passes s.amount plain.amount_is) refl
+-- no option takes more than 99
+pub taken_is_small : (x : Setting) (n : ℕ) → takes x n ≡ true → n ≤ 99
+taken_is_small Tries n e = omega (arith, leb-true n 64 (and_parts (nat_le 1 n) (nat_le n 64) e).1)
+taken_is_small Undo n e = omega (arith, leb-true n 64 (and_parts (nat_le 1 n) (nat_le n 64) e).1)
+taken_is_small Refuse n e = leb-true n 99 e
+taken_is_small UndoRefuse n e = leb-true n 99 e
 
--- the parts of being new
-new_parts : (earlier : List (List ℕ)) (n : List ℕ) (ns : List (List ℕ)) → are_new earlier (n ∷ ns) ≡ true → (not (list_any (same_text n) earlier) ≡ true) × (are_new (earlier ++ n ∷ []) ns ≡ true)
-new_parts earlier n ns e = and_parts (not (list_any (same_text n) earlier)) (are_new (earlier ++ n ∷ []) ns) e
+-- what is written for the number of an option passes
+pub number_of_setting_passes : (x : Setting) (n : ℕ) → takes x n ≡ true → is_setting_number x (decimal n) ≡ true
+number_of_setting_passes x n e =
+    let small = taken_is_small x n e in
+    sym (setting_passes x (decimal n) n (omega arith) refl (number_passes 99 (decimal n) n (omega arith) refl small) e)
 
--- steps' words lead to what is told behind them
-pub steps_pass : (earlier names : List (List ℕ)) (last : Option StepKind) (ss : List Step) (ws : List (List ℕ)) → ArePlainSteps ss → are_new names (step_names ss) ≡ true → length names + length ss ≤ 256
-    → fault_at_step earlier names last (flat_map step_words ss ++ ws) ≡ fault_at_step earlier (names ++ step_names ss) (last_kind last ss) ws
-steps_pass earlier names last [] ws plain new room = rw (append-nil names) refl
-steps_pass earlier names last (s ∷ ss) ws plain new room =
-    let parts = new_parts names s.name (step_names ss) new in
-    let name : is_new_name names s.name ≡ true = and_from (is_name s.name) (not (list_any (same_text s.name) names)) plain.0.name_is parts.0 in
-    let first = step_passes earlier names last s (flat_map step_words ss ++ ws) plain.0 name (omega arith) in
-    let others = steps_pass earlier (names ++ s.name ∷ []) (Some s.kind) ss ws plain.1 parts.1 (omega (arith, length-append names (s.name ∷ []))) in
-    first ∙ others ∙ ap (λ all. fault_at_step earlier all (last_kind (Some s.kind) ss) ws) (append_assoc names (s.name ∷ []) (step_names ss))
+-- each of these options has a number that it takes
+abbrev pub AllTake : List Setting → Step → Type 0
+AllTake [] s = ⊤
+AllTake (x ∷ xs) s = (takes x (number_of x s) ≡ true) × AllTake xs s
 
--- after some steps there is a last kind
-last_kind_is_some : (last : Option StepKind) (ss : List Step) → 0 < length ss → is_some (last_kind last ss) ≡ true
-last_kind_is_some last [] some = absurd (omega arith)
-last_kind_is_some last (s ∷ []) some = refl
-last_kind_is_some last (s ∷ r ∷ ss) some = last_kind_is_some (Some s.kind) (r ∷ ss) (omega arith)
+pub four : (a b c d : Bool) → (a && b && c && d) ≡ true → (a ≡ true) × (b ≡ true) × (c ≡ true) × (d ≡ true)
+four true true true true e = (refl, refl, refl, refl)
+four true true true false e = absurd (cc)
+four true true false d e = absurd (cc)
+four true false c d e = absurd (cc)
+four false b c d e = absurd (cc)
 
--- a process's words lead to what is told behind it
-pub process_passes : (earlier : List (List ℕ)) (p : Named) (ws : List (List ℕ)) → IsFlatProcess p → is_new_name earlier p.name ≡ true → length earlier < 256
-    → fault_between earlier (process_words p ++ ws) ≡ fault_between (earlier ++ p.name ∷ []) ws
-process_passes earlier p ws flat new room =
-    let behind = codes "end" ∷ ws in
-    let steps = steps_pass (earlier ++ p.name ∷ []) [] None p.tree.steps behind flat.plain flat.different (omega (arith, flat.few)) in
-    let front : fault_between earlier (process_words p ++ ws) ≡ fault_at_step (earlier ++ p.name ∷ []) [] None ((flat_map step_words p.tree.steps ++ codes "end" ∷ []) ++ ws) =
-    rw (lt-ltb (length earlier) 256 room, new) refl in
-    front
-    ∙ ap (fault_at_step (earlier ++ p.name ∷ []) [] None) (append_assoc (flat_map step_words p.tree.steps) (codes "end" ∷ []) ws)
-    ∙ steps
-    ∙ rw (last_kind_is_some None p.tree.steps flat.some) refl
+-- so it is in a step with good options
+pub all_take : (k : StepKind) (s : Step) → has_good_options k s ≡ true → AllTake (settings k) s
+all_take C s e =
+    let parts = four (nat_eq s.tries 3) (are_tries s.undo_tries) (are_refusals s.refuse) (are_refusals s.undo_refuse) e in
+    (parts.1, (parts.2, (parts.3, tt)))
+all_take P s e =
+    let parts = four (nat_eq s.tries 3) (nat_eq s.undo_tries 3) (are_refusals s.refuse) (nat_eq s.undo_refuse 0) e in
+    (parts.2, tt)
+all_take R s e =
+    let parts = four (are_tries s.tries) (nat_eq s.undo_tries 3) (are_refusals s.refuse) (nat_eq s.undo_refuse 0) e in
+    (parts.0, (parts.2, tt))
 
--- processes' words lead to what is told behind them
-pub processes_pass : (earlier : List (List ℕ)) (ps : List Named) (ws : List (List ℕ)) → AreFlatProcesses ps → are_new earlier (process_names ps) ≡ true → length earlier + length ps ≤ 256
-    → fault_between earlier (text_words ps ++ ws) ≡ fault_between (earlier ++ process_names ps) ws
-processes_pass earlier [] ws flat new room = rw (append-nil earlier) refl
-processes_pass earlier (p ∷ ps) ws flat new room =
-    let parts = new_parts earlier p.name (process_names ps) new in
-    let name : is_new_name earlier p.name ≡ true = and_from (is_name p.name) (not (list_any (same_text p.name) earlier)) flat.0.name_is parts.0 in
-    let first = process_passes earlier p (text_words ps ++ ws) flat.0 name (omega arith) in
-    let others = processes_pass (earlier ++ p.name ∷ []) ps ws flat.1 parts.1 (omega (arith, length-append earlier (p.name ∷ []))) in
-    ap (fault_between earlier) (append_assoc (process_words p) (text_words ps) ws)
-    ∙ first ∙ others ∙ ap (λ all. fault_between all ws) (append_assoc earlier (p.name ∷ []) (process_names ps))
+-- an option that is left out is passed over
+left_out : (b : Before) (x : Setting) (xs : List Setting) (ws : List (List ℕ)) → begins (λ v. same_text v (setting_word x)) ws ≡ false
+    → told_from b (at_settings (x ∷ xs)) ws ≡ told_from b (at_settings xs) ws
+left_out b x xs [] no_word = refl
+left_out b x xs (w ∷ ws) no_word = rw no_word refl
 
--- a text that can be read has no fault
-pub reading_has_no_fault : (words : List (List ℕ)) (ps : List Named) → IsReading words ps → first_fault words ≡ None
-reading_has_no_fault words ps reading =
-    ap first_fault (reading.words_are ∙ sym (append-nil (text_words ps)))
-    ∙ processes_pass [] ps [] reading.flat reading.different (omega (arith, reading.few))
+-- one option
+setting_leads : (b : Before) (x : Setting) (xs : List Setting) (n : ℕ) (before after : List (List ℕ)) → IsSetting x n before after → takes x n ≡ true
+    → told_from b (at_settings (x ∷ xs)) before ≡ told_from b (at_settings xs) after
+setting_leads b x xs n before after (inl is) e = rw (is, are_same-refl (setting_word x), number_of_setting_passes x n e) refl
+setting_leads b x xs n before after (inr is) e = left_out b x xs before is.2 ∙ ap (told_from b (at_settings xs)) is.0
+
+-- options
+pub settings_lead : (b : Before) (xs : List Setting) (s : Step) (before after : List (List ℕ)) → AreSettings xs s before after → AllTake xs s
+    → told_from b (at_settings xs) before ≡ told_from b (at_settings []) after
+settings_lead b [] s before after is e = ap (told_from b (at_settings [])) is
+settings_lead b (x ∷ xs) s before after is e =
+    setting_leads b x xs (number_of x s) before is.0 is.1 e.0 ∙ settings_lead b xs s is.0 after is.2 e.1
+
+-- a step may stand at the beginning of a block and behind a step
+abbrev pub may_go_on : At → Bool
+may_go_on Begin = true
+may_go_on BehindStep = true
+may_go_on BehindChoice = false
+
+-- where it may, the word of its kind is what it is
+pub meaning_of_kind : (at : At) (begun : ℕ) (k : StepKind) → may_go_on at ≡ true → meaning at begun (kind_word k) ≡ next.Step k
+meaning_of_kind Begin begun C e = refl
+meaning_of_kind Begin begun P e = refl
+meaning_of_kind Begin begun R e = refl
+meaning_of_kind BehindStep begun C e = refl
+meaning_of_kind BehindStep begun P e = refl
+meaning_of_kind BehindStep begun R e = refl
+meaning_of_kind BehindChoice begun k e = absurd (cc)
+
+-- a step
+pub step_leads : (names earlier : List (List ℕ)) (choices : List ℕ) (at : At) (s : Step) (before after : List (List ℕ)) → IsStep s before after → may_go_on at ≡ true
+    → length names < 256 → list_any (same_text s.name) names ≡ false
+    → told_from (with_names names earlier choices) (in_block at) before ≡ told_from (with_names (names ++ s.name ∷ []) earlier choices) (in_block BehindStep) after
+step_leads names earlier choices at s before after is e room new =
+    let good = and_parts (is_amount s.amount) (has_good_options s.kind s) is.good in
+    let b = with_names (names ++ s.name ∷ []) earlier choices in
+    let front : told_from (with_names names earlier choices) (in_block at) before ≡ told_from b (at_settings (settings s.kind)) is.behind =
+    rw (is.words_are, meaning_of_kind at (begun_in choices) s.kind e, lt-ltb (length names) 256 room, is.name_is, new, is.op_is, key_passes s.key is.key_is, amount_passes s.amount good.0) refl in
+    front ∙ settings_lead b (settings s.kind) s is.behind after is.settings_are (all_take s.kind s good.1) ∙ no_settings_left b after
+
+-- the place behind steps
+abbrev pub place_behind : At → List Step → At
+place_behind at [] = at
+place_behind at (s ∷ ss) = BehindStep
+
+-- behind a step it is always the same
+behind_again : (ss : List Step) → place_behind BehindStep ss ≡ BehindStep
+behind_again [] = refl
+behind_again (s ∷ ss) = refl
+
+-- steps
+pub steps_lead : (names earlier : List (List ℕ)) (choices : List ℕ) (at : At) (ss : List Step) (before after : List (List ℕ)) → Writes (step_pieces ss) before after → may_go_on at ≡ true
+    → length names + length ss ≤ 256 → are_new names (step_names ss) ≡ true
+    → told_from (with_names names earlier choices) (in_block at) before ≡ told_from (with_names (names ++ step_names ss) earlier choices) (in_block (place_behind at ss)) after
+steps_lead names earlier choices at [] before after is e room new = rw (append-nil names) (ap (told_from (with_names names earlier choices) (in_block at)) is)
+steps_lead names earlier choices at (s ∷ ss) before after is e room new =
+    let parts = and_parts (not (list_any (same_text s.name) names)) (are_new (names ++ s.name ∷ []) (step_names ss)) new in
+    step_leads names earlier choices at s before is.0 is.1 e (omega arith) (not-true (list_any (same_text s.name) names) parts.0)
+    ∙ steps_lead (names ++ s.name ∷ []) earlier choices BehindStep ss is.0 after is.2 refl (omega (arith, length-append names (s.name ∷ []))) parts.1
+    ∙ ap (λ (at : At). told_from (with_names ((names ++ s.name ∷ []) ++ step_names ss) earlier choices) (in_block at) after) (behind_again ss)
+    ∙ ap (λ (all : List (List ℕ)). told_from (with_names all earlier choices) (in_block BehindStep) after) (append_assoc names (s.name ∷ []) (step_names ss))

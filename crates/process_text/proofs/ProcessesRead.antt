@@ -1,66 +1,67 @@
 -- Processes that were read one after another.
-use Rattle.std.proofs.Common.{◌≡◌, ◌<◌, ℕ, List, [], ◌∷◌, ◌++◌, length, true, false, not, ◌&&◌, nat_lt, codes, Some, refl, sym, ap, arith, ◌∙◌, append_assoc, append-nil, length-append, Result, Ok, Err, IfErr, ◌⊎◌, inl, inr}
+use Rattle.std.proofs.Common.{◌≡◌, ◌≤◌, ◌<◌, ◌+◌, ℕ, List, [], ◌∷◌, ◌++◌, length, true, false, not, codes, None, refl, sym, ap, arith, append_assoc, append-nil, subst, inl, inr}
 use Rattle.std.specs.List.{list_any}
-use Rattle.std.specs.Cmp.Lexicographic.{same_text as texts_are_same}
-use Rattle.std.proofs.lemmas.Bool.{lt-ltb}
+use Rattle.std.proofs.lemmas.Bool.{and_parts, and_from}
 use Rattle.std.proofs.lemmas.Grind.{flat_map-append}
-use Rattle.std.proofs.lemmas.List.{map-append, length-map}
-use Rattle.process_tree.specs.Making.{same_text}
+use Rattle.std.proofs.lemmas.List.{map-append}
+use Rattle.process_tree.specs.Making.{same_text, tree_fault}
+use Rattle.process_tree.specs.declared.step.Step.{Step}
 use Rattle.process_tree.specs.declared.tree.Named.{Named}
-use Rattle.process_text.specs.Grammar.{process_words, text_words, process_names, IsFlatProcess, AreFlatProcesses, AreProcessesRead, IsReading}
-use Rattle.process_text.specs.FirstFault.{fault_between, fault_at_name, first_fault}
-use Rattle.process_text.specs.declared.error.TextError.{TextError}
-use Rattle.process_text.specs.declared.error.TextError.TheVariants.{BadText, NoMemory}
-use Rattle.process_text.proofs.Passing.{processes_pass, reading_has_no_fault}
-use Rattle.process_text.proofs.StepsRead.{new_and_one}
+use Rattle.process_text.specs.declared.marks.Setting.{Setting}
+use Rattle.process_text.specs.declared.marks.Mark.TheVariants as marks
+use Rattle.process_text.specs.Marks.{settings}
+use Rattle.process_text.specs.Grammar.{Piece, process, step, mark, IsSetting, AreSettings, IsPiece, Writes, block_pieces, process_pieces, text_pieces, process_names, are_new, AreTrees}
+use Rattle.process_text.proofs.Pieces.{writes_both}
 
-flat_and_one : (ps : List Named) (p : Named) → AreFlatProcesses ps → IsFlatProcess p → AreFlatProcesses (ps ++ p ∷ [])
-flat_and_one [] p flat one = (one, tt)
-flat_and_one (q ∷ ps) p flat one = (flat.0, flat_and_one ps p flat.1 one)
+-- texts stay new when one more is added that is
+pub new_and_one : (earlier ns : List (List ℕ)) (n : List ℕ) → are_new earlier ns ≡ true → list_any (same_text n) (earlier ++ ns) ≡ false → are_new earlier (ns ++ n ∷ []) ≡ true
+new_and_one earlier [] n new one =
+    let here : list_any (same_text n) earlier ≡ false = subst (λ (all : List (List ℕ)). list_any (same_text n) all ≡ false) (append-nil earlier) one in
+    and_from (not (list_any (same_text n) earlier)) true (ap not here) refl
+new_and_one earlier (m ∷ ms) n new one =
+    let parts = and_parts (not (list_any (same_text m) earlier)) (are_new (earlier ++ m ∷ []) ms) new in
+    and_from (not (list_any (same_text m) earlier)) (are_new (earlier ++ m ∷ []) (ms ++ n ∷ [])) parts.0
+    (new_and_one (earlier ++ m ∷ []) ms n parts.1
+    (subst (λ (all : List (List ℕ)). list_any (same_text n) all ≡ false) (sym (append_assoc earlier (m ∷ []) ms)) one))
 
-text_and_one : (ps : List Named) (p : Named) → text_words (ps ++ p ∷ []) ≡ text_words ps ++ process_words p
-text_and_one ps p = flat_map-append process_words ps (p ∷ []) ∙ ap (λ ws. text_words ps ++ ws) (append-nil (process_words p))
+-- one tree more
+pub trees_and_one : (ps : List Named) (p : Named) → AreTrees ps → tree_fault p.tree ≡ None → AreTrees (ps ++ p ∷ [])
+trees_and_one [] p trees one = (one, tt)
+trees_and_one (q ∷ ps) p trees one = (trees.0, trees_and_one ps p trees.1 one)
 
--- one more process behind those that were read
-pub processes_and_one : (word : List ℕ) (ps : List Named) (p : Named) (start mid after : List (List ℕ))
-    → AreProcessesRead ps start (word ∷ mid) → same_text word (codes "process") ≡ true → IsFlatProcess p → not (list_any (same_text p.name) (process_names ps)) ≡ true
-    → codes "process" ∷ mid ≡ process_words p ++ after → length ps < 256 → AreProcessesRead (ps ++ p ∷ []) start after
-processes_and_one word ps p start mid after read named flat new words room = record {
-  words_are =
-      let named_word : word ∷ mid ≡ process_words p ++ after = ap (λ w. w ∷ mid) (texts_are_same word (codes "process") (sym named)) ∙ words in
-      rw (text_and_one ps p) (read.words_are ∙ rw named_word (sym (append_assoc (text_words ps) (process_words p) after)));
-  few = omega (arith, length-append ps (p ∷ []));
-  different = rw (map-append (λ (q : Named). q.name) ps (p ∷ [])) (new_and_one [] (process_names ps) p.name read.different new);
-  flat = flat_and_one ps p read.flat flat;
-}
+-- one process more
+pub writes_process : (ps : List Named) (p : Named) (a b c : List (List ℕ)) → Writes (text_pieces ps) a b → Writes (process_pieces p) b c → Writes (text_pieces (ps ++ p ∷ [])) a c
+writes_process ps p a b c first then =
+    let all : text_pieces (ps ++ p ∷ []) ≡ text_pieces ps ++ (process_pieces p ++ []) = flat_map-append process_pieces ps (p ∷ []) in
+    subst (λ (qs : List Piece). Writes qs a c) (sym all)
+    (writes_both (text_pieces ps) (process_pieces p ++ []) a b c first
+    (subst (λ (qs : List Piece). Writes qs b c) (sym (append-nil (process_pieces p))) then))
 
--- what is told behind processes that were read is told of the text
-pub told_between : (ps : List Named) (start rest : List (List ℕ)) → AreProcessesRead ps start rest → first_fault start ≡ fault_between (process_names ps) rest
-told_between ps start rest read =
-    ap first_fault read.words_are ∙ processes_pass [] ps rest read.flat read.different (omega (arith, read.few))
+-- the same of the names
+pub names_and_one : (ps : List Named) (p : Named) → process_names (ps ++ p ∷ []) ≡ process_names ps ++ p.name ∷ []
+names_and_one ps p = map-append (λ (q : Named). q.name) ps (p ∷ [])
 
--- a word that begins no further process is told as bad
-pub told_no_process : (word : List ℕ) (ps : List Named) (start rest : List (List ℕ)) → AreProcessesRead ps start (word ∷ rest)
-    → (same_text word (codes "process") && nat_lt (length (process_names ps)) 256) ≡ false → first_fault start ≡ Some BadText
-told_no_process word ps start rest read no_process = told_between ps start (word ∷ rest) read ∙ rw no_process refl
+setting_shrinks : (x : Setting) (n : ℕ) (a b : List (List ℕ)) → IsSetting x n a b → length b ≤ length a
+setting_shrinks x n a b (inl is) = rw is (omega arith)
+setting_shrinks x n a b (inr is) = rw is.0 (omega arith)
 
--- what is told behind the word of a further process
-pub told_process : (word : List ℕ) (ps : List Named) (start rest : List (List ℕ)) (e : TextError) → AreProcessesRead ps start (word ∷ rest)
-    → same_text word (codes "process") ≡ true → length (process_names ps) < 256 → fault_at_name (process_names ps) rest ≡ Some e → first_fault start ≡ Some e
-told_process word ps start rest e read named room told =
-    told_between ps start (word ∷ rest) read ∙ rw (named, lt-ltb (length (process_names ps)) 256 room) told
+settings_shrink : (xs : List Setting) (s : Step) (a b : List (List ℕ)) → AreSettings xs s a b → length b ≤ length a
+settings_shrink [] s a b is = rw is (omega arith)
+settings_shrink (x ∷ xs) s a b is = omega (arith, setting_shrinks x _ a is.0 is.1, settings_shrink xs s is.0 b is.2)
 
--- where a fault is told, no processes have these words
-pub fault_has_no_reading : (words : List (List ℕ)) (e : TextError) → first_fault words ≡ Some e → (ps : List Named) → ¬ IsReading words ps
-fault_has_no_reading words e told ps reading = let none = reading_has_no_fault words ps reading in cc
+piece_shrinks : (p : Piece) (a b : List (List ℕ)) → IsPiece p a b → length b ≤ length a
+piece_shrinks (process name) a b is = rw is.1 (omega arith)
+piece_shrinks (step s) a b is = rw is.words_are (omega (arith, settings_shrink (settings s.kind) s is.behind b is.settings_are))
+piece_shrinks (mark m) a b is = rw is (omega arith)
 
--- the same of an answer
-pub error_has_no_reading : {T : Type 0} (r : Result T TextError) (words : List (List ℕ)) → IfErr r (λ e. (e ≡ NoMemory) ⊎ (first_fault words ≡ Some e))
-    → IfErr r (λ e. (e ≡ NoMemory) ⊎ ((ps : List Named) → ¬ IsReading words ps))
-error_has_no_reading (Ok t) words told = tt
-error_has_no_reading (Err e) words told =
-    elim told [ inl memory ↦ inl memory | inr fault ↦ inr (fault_has_no_reading words e fault) ]
+-- what is left behind pieces isn't more than before
+pub writes_shrink : (ps : List Piece) (a b : List (List ℕ)) → Writes ps a b → length b ≤ length a
+writes_shrink [] a b is = rw is (omega arith)
+writes_shrink (p ∷ ps) a b is = omega (arith, piece_shrinks p a is.0 is.1, writes_shrink ps is.0 b is.2)
 
--- there are as many names as processes
-pub length-process_names : (ps : List Named) → length (process_names ps) ≡ length ps
-length-process_names ps = length-map ps (λ p. p.name)
+-- and behind a process it is less
+pub process_shrinks : (p : Named) (a b : List (List ℕ)) → Writes (process_pieces p) (codes "process" ∷ a) b → length b < length a + 1
+process_shrinks p a b is =
+    let behind = writes_shrink (block_pieces p.tree ++ mark marks.End ∷ []) is.0 b is.2 in
+    let size : length (codes "process" ∷ a) ≡ length (codes "process" ∷ p.name ∷ is.0) = ap length is.1.1 in
+    omega arith

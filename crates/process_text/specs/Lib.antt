@@ -1,5 +1,10 @@
 pub mod Words
 pub mod Numbers
+pub mod Marks
 pub mod Grammar
 pub mod FirstFault
+pub mod Places
 pub mod Texts
+pub mod Leading
+pub mod Canonical
+pub mod Examples

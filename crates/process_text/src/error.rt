@@ -1,35 +1,23 @@
 // Why a text wasn't read.
-ghost use Rattle.std.specs.Prelude.{◌≡◌, Some, codes};
+ghost use Rattle.std.specs.Prelude.{◌≡◌};
 ghost use Rattle.process_text.specs.declared.error.TextError.TheVariants.{NoMemory};
-ghost use Rattle.process_text.specs.Texts.{text_of};
 
+use crate::{Expected, What};
+use process_tree::Name;
 use std::alloc::{AllocError, AllocFailed};
-use std::error::Error;
-use std::fmt;
 
-/// Why a text gave no processes.
-#[derive(Clone, Copy, Debug, PartialEq, Eq)]
+/// Why a text gave no processes: its first fault, or want of memory.
+#[derive(Drop)]
 pub enum TextError {
-    /// The first word that doesn't fit is of a choice or an option, which aren't read yet.
-    NotYet,
-    /// The first fault is another.
-    BadText,
+    /// The line and the column of a word that doesn't fit, or of the place just behind the last byte where a word is missing,
+    /// both from 1, and what was expected there.
+    BadText(u32, u32, Expected),
+    /// A limit that is passed, and the number that passes it.
+    Limit(What, u32),
+    /// The line of a name that is taken, and the name.
+    SameName(u32, Name),
     NoMemory,
 }
-
-impl fmt::Display for TextError {
-    ghost output = { λ e. Some (text_of e) };
-
-    fn fmt<W: fmt::Write>(&self, f: &mut fmt::Formatter<W>) -> fmt::Result {
-        f.write_str(match self {
-            TextError::NotYet => "not yet",
-            TextError::BadText => "bad text",
-            TextError::NoMemory => "out of memory",
-        })
-    }
-}
-
-impl Error for TextError {}
 
 impl From<AllocError> for TextError {
     ghost from_gives = { λ _ e. e ≡ NoMemory };

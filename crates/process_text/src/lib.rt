@@ -1,14 +1,36 @@
-//! Reads process texts.
+//! Reads and prints process texts.
+//!
+//! `specs/Grammar` says which words write which processes, `specs/FirstFault` what is told of a text that can't be read, and
+//! `specs/Places` where its words stand. `specs/Canonical` has the one text that is printed of a process. `read` answers the
+//! processes of a text or its first fault, and `print` the canonical text, which is read as the process that was printed.
+//! What processes mean is no work of this crate.
 #![tactic(auto)]
 
+mod blocks;
 mod error;
+mod fault;
+mod marks;
+mod names;
 mod numbers;
+mod places;
+mod printing;
 mod processes;
+mod reading;
 mod steps;
 mod words;
 
+use blocks::read_block;
 pub use error::TextError;
-pub use numbers::{amount, key, number};
-pub use processes::read;
-pub use steps::{kind_of_word, misfit, name_of, read_step};
-pub use words::{Words, is_word};
+use fault::Fault;
+pub use fault::{Expected, What};
+use marks::{At, Mark, Next, Setting, closing, expected_at, kind_of_word, meaning};
+use names::Names;
+use numbers::{amount, key, number};
+pub use printing::print;
+pub use reading::{read, read_again};
+use steps::{add_step, name_of, same_name};
+pub use words::is_word;
+use words::{Words, is_blank};
+
+#[cfg(test)]
+mod tests;

@@ -1,176 +1,133 @@
 // Processes of a text.
-ghost use Rattle.std.specs.Prelude.{Option, ◌≡◌, ◌∷◌, ◌++◌, [], ◌⊎◌, ◌<◌, ◌≤◌, ◌+◌, ℕ, List, true, false, not, None, Some, IfOk, IfErr, OnOk, OnErr, length, vec_len, codes, flat_map, decimal};
-ghost use Rattle.std.specs.Fmt.{signed_decimal};
+ghost use Rattle.std.specs.Prelude.{Option, ◌≡◌, ◌∷◌, ◌++◌, [], ◌⊎◌, ◌<◌, ◌≤◌, ◌+◌, ℕ, List, true, false, not, None, Some, IfOk, IfErr, OnOk, OnErr, length, codes};
 ghost use Rattle.std.specs.List.{list_any};
-ghost use Rattle.process_tree.specs.Making.{same_text};
-ghost use Rattle.process_tree.specs.declared.step.Step.{Step};
-ghost use Rattle.process_tree.specs.declared.step.StepKind.{StepKind};
+ghost use Rattle.process_tree.specs.Making.{same_text, tree_fault};
 ghost use Rattle.process_tree.specs.Name.{is_name};
 ghost use Rattle.process_tree.specs.declared.tree.Named.{Named};
-ghost use Rattle.process_text.specs.Words.{words_of, begins};
-ghost use Rattle.process_text.specs.Grammar.{step_words, process_words, step_names, process_names, are_new, IsStepRead, AreStepsRead, AreProcessesRead, IsFlatProcess, IsReading};
-ghost use Rattle.process_text.specs.FirstFault.{kind_of_word, is_new_name, last_kind, fault_at_step, fault_at_name, first_fault};
+ghost use Rattle.process_text.specs.Words.{words_of};
+ghost use Rattle.process_text.specs.Grammar.{Writes, block_pieces, process_pieces, process_names, IsReading};
+ghost use Rattle.process_text.specs.FirstFault.{told, told_from, at_process_name, between_processes, in_block, first_fault};
+ghost use Rattle.process_text.specs.Leading.{with_names};
 
-use crate::{TextError, Words, is_word, kind_of_word, misfit, name_of, read_step};
-use process_tree::{Block, MOST_STEPS, Name, Named, Step, StepKind, Steps, Tail, Tree, is_name};
+use crate::{At, Expected, Fault, Names, What, Words, is_word, name_of, read_block, same_name};
+use process_tree::{Block, MOST_NESTING, Name, Named, Tree, is_name};
 use std::alloc::Global;
 
 const MOST_PROCESSES: usize = 256;
 
-// Adds the step behind the word of its kind, of which there are at most 256.
-fn add_step(
+// The name of a process, which is taken from then on.
+fn read_process_name<'a>(
     alloc: Global,
-    kind: StepKind,
-    words: &mut Words<'_>,
-    steps: &mut Vec<Step>,
-) -> Result<(), TextError>
-    ensures added { OnOk result ((s : Step) × (steps.new.items ≡ steps.old.items ++ s ∷ [])
-        × IsStepRead kind (step_names steps.old.items) s words.old words.new) }
-    ensures room { OnOk result (length steps.old.items < 256) }
-    ensures err { IfErr result (λ e. (e ≡ TextError.NoMemory)
-        ⊎ ((earlier : List (List ℕ)) (last : Option StepKind) (word : List ℕ) → kind_of_word word ≡ Some kind
-        → fault_at_step earlier (step_names steps.old.items) last (word ∷ words.old) ≡ Some e)) }
-{
-    if steps.len() >= MOST_STEPS {
-        return Err(TextError::BadText);
-    }
-    let step = read_step(alloc, kind, words, steps)?;
-    steps.push(step)?;
-    Ok(())
-}
-
-// The kind of the last step.
-fn last_kind(steps: &[Step]) -> Option<StepKind>
-    ensures { result ≡ last_kind None steps.now }
-{
-    let mut last = None;
-    let mut rest = steps;
-    while let [step, after @ ..] = rest {
-        last = Some(step.kind);
-        rest = after;
-    }
-    last
-}
-
-// The steps up to the word `end`.
-fn read_steps(alloc: Global, words: &mut Words<'_>) -> Result<Vec<Step>, TextError>
-    ensures steps { IfOk result (λ steps. AreStepsRead steps.items words.old (codes "end" ∷ words.new)) }
-    ensures some { IfOk result (λ steps. 0 < vec_len steps) }
-    ensures err { IfErr result (λ e. (e ≡ TextError.NoMemory)
-        ⊎ ((earlier : List (List ℕ)) → fault_at_step earlier [] None words.old ≡ Some e)) }
-{
-    let mut steps = Vec::new(alloc);
-    while let Some(word) = words.next_word() {
-        match kind_of_word(word) {
-            Some(kind) => add_step(alloc, kind, words, &mut steps)?,
-            None if is_word(word, b"end") && !steps.is_empty() => return Ok(steps),
-            None => return Err(misfit(last_kind(&steps), word)),
-        }
-    }
-    Err(TextError::BadText)
-}
-
-// Whether a process has this name.
-fn is_process_name(found: &[Named], name: &[u8]) -> bool
-    ensures { result ≡ list_any (same_text name.now) (process_names found.now) }
-{
-    let mut rest = found;
-    while let [process, after @ ..] = rest {
-        if is_word(name, process.name.bytes()) {
-            return true;
-        }
-        rest = after;
-    }
-    false
-}
-
-// A name that no process before has.
-fn read_process_name(
-    alloc: Global,
-    words: &mut Words<'_>,
-    found: &[Named],
-) -> Result<Name, TextError>
+    words: &mut Words<'a>,
+    names: &mut Names<'a>,
+) -> Result<Name, Fault>
     ensures word { IfOk result (λ name. words.old ≡ name ∷ words.new) }
     ensures name { IfOk result (λ name. is_name name ≡ true) }
-    ensures new { IfOk result (λ name. not (list_any (same_text name) (process_names found.now)) ≡ true) }
-    ensures err { IfErr result (λ e. (e ≡ TextError.NoMemory)
-        ⊎ ((e ≡ TextError.BadText) × (begins (is_new_name (process_names found.now)) words.old ≡ false))) }
+    ensures new { IfOk result (λ name. list_any (same_text name) names.old ≡ false) }
+    ensures taken { IfOk result (λ name. names.new ≡ names.old ++ name ∷ []) }
+    ensures leads { OnOk result (told_from (with_names [] names.old []) at_process_name words.old
+        ≡ told_from (with_names [] names.new []) (in_block At.Begin) words.new) }
+    ensures err { IfErr result (λ e. (e ≡ Fault.NoMemory)
+        ⊎ (told_from (with_names [] names.old []) at_process_name words.old ≡ told e words.new)) }
 {
-    match words.next_word() {
-        Some(word) if is_name(word) && !is_process_name(found, word) => name_of(alloc, word),
-        _ => Err(TextError::BadText),
+    let Some(word) = words.next_word() else {
+        return Err(Fault::Missing(Expected::Name));
+    };
+    if !is_name(word) {
+        return Err(Fault::Misfit(Expected::Name));
     }
+    if names.has(word) {
+        return Err(same_name(alloc, word));
+    }
+    names.add(word)?;
+    name_of(alloc, word)
 }
 
-// The tree of these steps.
-fn tree_of(alloc: Global, steps: Vec<Step>) -> Result<Tree, TextError>
-    ensures tree { IfOk result (λ tree. (tree.steps ≡ steps.items) × (tree.tail ≡ Tail.End)) }
-    ensures memory { IfErr result (λ e. e ≡ TextError.NoMemory) }
+// The root block of a process, up to `end`.
+fn read_root<'a>(alloc: Global, words: &mut Words<'a>) -> Result<Block, Fault>
+    ensures written { IfOk result (λ root. Writes (block_pieces root) words.old (codes "end" ∷ words.new)) }
+    ensures leads { OnOk result ((earlier : List (List ℕ))
+        → told_from (with_names [] earlier []) (in_block At.Begin) words.old
+        ≡ told_from (with_names [] earlier []) between_processes words.new) }
+    ensures err { IfErr result (λ e. (e ≡ Fault.NoMemory)
+        ⊎ ((earlier : List (List ℕ)) → told_from (with_names [] earlier []) (in_block At.Begin) words.old ≡ told e words.new)) }
 {
-    let root = Block {
-        steps: Steps::new(steps),
-        tail: Tail::End,
-    };
+    let mut names = Names::new(alloc);
+    let (root, _) = read_block(alloc, words, &mut names, MOST_NESTING, 0)?;
+    Ok(root)
+}
+
+// The tree of a block.
+fn tree_of(alloc: Global, root: Block) -> Result<Tree, Fault>
+    ensures tree { IfOk result (λ tree. tree ≡ root) }
+    ensures good { OnOk result (tree_fault root ≡ None) }
+    ensures memory { IfErr result (λ e. e ≡ Fault.NoMemory) }
+{
     match Tree::build(alloc, root) {
         Ok(tree) => Ok(tree),
-        Err(_) => Err(TextError::NoMemory),
+        Err(_) => Err(Fault::NoMemory),
     }
 }
 
-// A process behind the word `process`, whose name no process before has.
-fn read_process(alloc: Global, words: &mut Words<'_>, found: &[Named]) -> Result<Named, TextError>
-    ensures words { IfOk result (λ p. codes "process" ∷ words.old ≡ process_words p ++ words.new) }
-    ensures flat { IfOk result IsFlatProcess }
-    ensures new { IfOk result (λ p. not (list_any (same_text p.name) (process_names found.now)) ≡ true) }
-    ensures err { IfErr result (λ e. (e ≡ TextError.NoMemory)
-        ⊎ (fault_at_name (process_names found.now) words.old ≡ Some e)) }
+// A process behind the word `process`, whose name is taken from then on.
+fn read_process<'a>(
+    alloc: Global,
+    words: &mut Words<'a>,
+    names: &mut Names<'a>,
+) -> Result<Named, Fault>
+    ensures written { IfOk result (λ p. Writes (process_pieces p) (codes "process" ∷ words.old) words.new) }
+    ensures good { IfOk result (λ p. tree_fault p.tree ≡ None) }
+    ensures new { IfOk result (λ p. list_any (same_text p.name) names.old ≡ false) }
+    ensures taken { IfOk result (λ p. names.new ≡ names.old ++ p.name ∷ []) }
+    ensures leads { OnOk result (told_from (with_names [] names.old []) at_process_name words.old
+        ≡ told_from (with_names [] names.new []) between_processes words.new) }
+    ensures err { IfErr result (λ e. (e ≡ Fault.NoMemory)
+        ⊎ (told_from (with_names [] names.old []) at_process_name words.old ≡ told e words.new)) }
 {
-    let name = read_process_name(alloc, words, found)?;
-    let steps = read_steps(alloc, words)?;
-    let tree = tree_of(alloc, steps)?;
+    let name = read_process_name(alloc, words, names)?;
+    let root = read_root(alloc, words)?;
+    let tree = tree_of(alloc, root)?;
     Ok(Named { name, tree })
 }
 
-// Adds the process behind the word `process`.
-fn add_process(
+// Adds the process behind the word `process`, of which there are at most 256.
+fn add_process<'a>(
     alloc: Global,
-    words: &mut Words<'_>,
+    words: &mut Words<'a>,
+    names: &mut Names<'a>,
     found: &mut Vec<Named>,
-) -> Result<(), TextError>
-    ensures added { OnOk result ((p : Named) × (found.new.items ≡ found.old.items ++ p ∷ []) × IsFlatProcess p
-        × (not (list_any (same_text p.name) (process_names found.old.items)) ≡ true)
-        × (codes "process" ∷ words.old ≡ process_words p ++ words.new)) }
-    ensures err { IfErr result (λ e. (e ≡ TextError.NoMemory)
-        ⊎ (fault_at_name (process_names found.old.items) words.old ≡ Some e)) }
+) -> Result<(), Fault>
+    ensures room { OnOk result (length names.old < 256) }
+    ensures added { OnOk result ((p : Named) × (found.new.items ≡ found.old.items ++ p ∷ [])
+        × (names.new ≡ names.old ++ p.name ∷ [])
+        × (list_any (same_text p.name) names.old ≡ false)
+        × (tree_fault p.tree ≡ None)
+        × Writes (process_pieces p) (codes "process" ∷ words.old) words.new) }
+    ensures leads { OnOk result (told_from (with_names [] names.old []) between_processes (codes "process" ∷ words.old)
+        ≡ told_from (with_names [] names.new []) between_processes words.new) }
+    ensures err { IfErr result (λ e. (e ≡ Fault.NoMemory)
+        ⊎ (told_from (with_names [] names.old []) between_processes (codes "process" ∷ words.old) ≡ told e words.new)) }
 {
-    let process = read_process(alloc, words, found)?;
+    if names.count() >= MOST_PROCESSES {
+        return Err(Fault::Limit(What::Processes));
+    }
+    let process = read_process(alloc, words, names)?;
     found.push(process)?;
     Ok(())
 }
 
-// The processes of these words.
-fn read_processes(alloc: Global, mut words: Words<'_>) -> Result<Vec<Named>, TextError>
-    ensures reading { IfOk result (λ found. IsReading words.entry found.items) }
-    ensures fault { IfErr result (λ e. (e ≡ TextError.NoMemory) ⊎ (first_fault words.entry ≡ Some e)) }
+/// The processes of these words.
+pub fn read_processes(alloc: Global, words: &mut Words<'_>) -> Result<Vec<Named>, Fault>
+    ensures reading { IfOk result (λ found. IsReading words.old found.items) }
+    ensures fault { IfErr result (λ e. (e ≡ Fault.NoMemory) ⊎ (first_fault words.old ≡ told e words.new)) }
 {
+    let mut names = Names::new(alloc);
     let mut found = Vec::new(alloc);
     while let Some(word) = words.next_word() {
-        if !is_word(word, b"process") || found.len() >= MOST_PROCESSES {
-            return Err(TextError::BadText);
+        if !is_word(word, b"process") {
+            return Err(Fault::Misfit(Expected::Process));
         }
-        add_process(alloc, &mut words, &mut found)?;
+        add_process(alloc, words, &mut names, &mut found)?;
     }
     Ok(found)
-}
-
-/// Reads a text of processes without choices and options.
-pub fn read(alloc: Global, bytes: &[u8]) -> Result<Vec<Named>, TextError>
-    // At `Ok` the words are those of these processes, within the limits.
-    ensures reading { IfOk result (λ found. IsReading (words_of bytes.now) found.items) }
-    // An error is the first fault, and then the words are of no processes within the limits.
-    ensures fault { IfErr result (λ e. (e ≡ TextError.NoMemory) ⊎ (first_fault (words_of bytes.now) ≡ Some e)) }
-    ensures no_reading { IfErr result (λ e. (e ≡ TextError.NoMemory)
-        ⊎ ((ps : List Named) → ¬ IsReading (words_of bytes.now) ps)) }
-{
-    read_processes(alloc, Words::new(bytes))
 }

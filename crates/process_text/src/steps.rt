@@ -1,159 +1,326 @@
 // Steps of a text.
-ghost use Rattle.std.specs.Prelude.{◌≡◌, ◌∷◌, ◌⊎◌, ℕ, List, true, false, not, Some, IfOk, IfErr, OnOk, decimal};
+ghost use Rattle.std.specs.Prelude.{◌≡◌, ◌∷◌, ◌++◌, [], ◌⊎◌, ◌≤◌, ℕ, List, true, false, not, Some, IfOk, IfErr, IfSome, OnOk, is_some, decimal};
 ghost use Rattle.std.specs.Fmt.{signed_decimal};
-ghost use Rattle.std.specs.List.{list_any};
 ghost use Rattle.process_tree.specs.Name.{is_name};
-ghost use Rattle.process_tree.specs.Making.{is_amount, same_text};
-ghost use Rattle.process_text.specs.Words.{begins};
-ghost use Rattle.process_text.specs.Numbers.{is_key, is_amount_word};
-ghost use Rattle.process_text.specs.Grammar.{step_names, IsStepRead};
-ghost use Rattle.process_text.specs.FirstFault.{kind_of_word, is_new_name, is_option, misfit, fault_at_step_name};
+ghost use Rattle.process_tree.specs.Making.{is_amount, has_good_options};
+ghost use Rattle.process_tree.specs.declared.step.Step.{Step};
+ghost use Rattle.process_tree.specs.declared.step.StepKind.{StepKind};
+ghost use Rattle.process_text.specs.declared.marks.Setting.{Setting};
+ghost use Rattle.process_text.specs.Marks.{kind_word, settings, takes, is_setting_number};
+ghost use Rattle.process_text.specs.Grammar.{IsSetting, IsWithSettings, IsStep};
+ghost use Rattle.process_text.specs.FirstFault.{Before, told, told_from, told_behind, at_step_name, at_operation, at_key, at_amount, at_settings, at_number, in_block};
+ghost use Rattle.process_text.specs.Leading.{with_names};
 
-use crate::{TextError, Words, amount, is_word, key};
-use process_tree::{DEFAULT_TRIES, Name, Step, StepKind, is_name};
+use crate::{At, Expected, Fault, Names, Next, Setting, What, Words, amount, key, number};
+use process_tree::{
+    DEFAULT_TRIES, MOST_REFUSALS, MOST_STEPS, MOST_TRIES, Name, Step, StepKind, is_name,
+};
 use std::alloc::Global;
 
-/// The kind that a word names.
-pub fn kind_of_word(word: &[u8]) -> Option<StepKind>
-    ensures { result ≡ kind_of_word word.now }
-{
-    if is_word(word, b"c") {
-        Some(StepKind::C)
-    } else if is_word(word, b"p") {
-        Some(StepKind::P)
-    } else if is_word(word, b"r") {
-        Some(StepKind::R)
-    } else {
-        None
-    }
-}
-
-// Whether a word begins an option of a step of this kind.
-fn is_option(kind: StepKind, word: &[u8]) -> bool
-    ensures { result ≡ is_option (Some kind) word.now }
-{
-    match kind {
-        StepKind::C => {
-            is_word(word, b"undo") || is_word(word, b"refuse") || is_word(word, b"undorefuse")
-        }
-        StepKind::P => is_word(word, b"refuse"),
-        StepKind::R => is_word(word, b"tries") || is_word(word, b"refuse"),
-    }
-}
-
-/// What is told of a word that is no step's and doesn't close the process, `last` being the kind of the step before.
-pub fn misfit(last: Option<StepKind>, word: &[u8]) -> TextError
-    ensures { result ≡ misfit last word.now }
-{
-    if is_word(word, b"choose") {
-        return TextError::NotYet;
-    }
-    match last {
-        Some(kind) if is_option(kind, word) => TextError::NotYet,
-        _ => TextError::BadText,
-    }
-}
-
-// Whether a step has this name.
-fn is_step_name(steps: &[Step], name: &[u8]) -> bool
-    ensures { result ≡ list_any (same_text name.now) (step_names steps.now) }
-{
-    let mut rest = steps;
-    while let [step, after @ ..] = rest {
-        if is_word(name, step.name.bytes()) {
-            return true;
-        }
-        rest = after;
-    }
-    false
-}
-
 /// The name that a word is.
-pub fn name_of(alloc: Global, word: &[u8]) -> Result<Name, TextError>
+pub fn name_of(alloc: Global, word: &[u8]) -> Result<Name, Fault>
     requires { is_name word.now ≡ true }
     ensures name { IfOk result (λ name. name ≡ word.now) }
-    ensures memory { IfErr result (λ e. e ≡ TextError.NoMemory) }
+    ensures memory { IfErr result (λ e. e ≡ Fault.NoMemory) }
 {
     match Name::new(alloc, word) {
         Ok(name) => Ok(name),
-        Err(_) => Err(TextError::NoMemory),
+        Err(_) => Err(Fault::NoMemory),
     }
 }
 
-// A name that no step before has.
-fn read_step_name(alloc: Global, words: &mut Words<'_>, steps: &[Step]) -> Result<Name, TextError>
+/// The fault that a name is taken.
+pub fn same_name(alloc: Global, word: &[u8]) -> Fault
+    requires { is_name word.now ≡ true }
+    ensures { (result ≡ Fault.NoMemory) ⊎ (result ≡ Fault.SameName word.now) }
+{
+    match name_of(alloc, word) {
+        Ok(name) => Fault::SameName(name),
+        Err(fault) => fault,
+    }
+}
+
+// The name of a step, which is taken from then on.
+fn read_step_name<'a>(
+    alloc: Global,
+    words: &mut Words<'a>,
+    names: &mut Names<'a>,
+) -> Result<Name, Fault>
     ensures word { IfOk result (λ name. words.old ≡ name ∷ words.new) }
     ensures name { IfOk result (λ name. is_name name ≡ true) }
-    ensures new { IfOk result (λ name. not (list_any (same_text name) (step_names steps.now)) ≡ true) }
-    ensures err { IfErr result (λ e. (e ≡ TextError.NoMemory)
-        ⊎ ((e ≡ TextError.BadText) × (begins (is_new_name (step_names steps.now)) words.old ≡ false))) }
+    ensures taken { IfOk result (λ name. names.new ≡ names.old ++ name ∷ []) }
+    ensures leads { OnOk result ((earlier : List (List ℕ)) (choices : List ℕ) (k : StepKind)
+        → told_from (with_names names.old earlier choices) (at_step_name k) words.old
+        ≡ told_from (with_names names.new earlier choices) (at_operation k) words.new) }
+    ensures err { IfErr result (λ e. (e ≡ Fault.NoMemory)
+        ⊎ ((earlier : List (List ℕ)) (choices : List ℕ) (k : StepKind)
+        → told_from (with_names names.old earlier choices) (at_step_name k) words.old ≡ told e words.new)) }
 {
-    match words.next_word() {
-        Some(word) if is_name(word) && !is_step_name(steps, word) => name_of(alloc, word),
-        _ => Err(TextError::BadText),
+    let Some(word) = words.next_word() else {
+        return Err(Fault::Missing(Expected::Name));
+    };
+    if !is_name(word) {
+        return Err(Fault::Misfit(Expected::Name));
     }
+    if names.has(word) {
+        return Err(same_name(alloc, word));
+    }
+    names.add(word)?;
+    name_of(alloc, word)
 }
 
 // An operation.
-fn read_operation(alloc: Global, words: &mut Words<'_>) -> Result<Name, TextError>
+fn read_operation(alloc: Global, words: &mut Words<'_>) -> Result<Name, Fault>
     ensures word { IfOk result (λ name. words.old ≡ name ∷ words.new) }
     ensures name { IfOk result (λ name. is_name name ≡ true) }
-    ensures err { IfErr result (λ e. (e ≡ TextError.NoMemory)
-        ⊎ ((e ≡ TextError.BadText) × (begins is_name words.old ≡ false))) }
+    ensures leads { OnOk result ((b : Before) (k : StepKind)
+        → told_from b (at_operation k) words.old ≡ told_from b (at_key k) words.new) }
+    ensures err { IfErr result (λ e. (e ≡ Fault.NoMemory)
+        ⊎ ((b : Before) (k : StepKind) → told_from b (at_operation k) words.old ≡ told e words.new)) }
 {
     match words.next_word() {
         Some(word) if is_name(word) => name_of(alloc, word),
-        _ => Err(TextError::BadText),
+        Some(_) => Err(Fault::Misfit(Expected::Operation)),
+        None => Err(Fault::Missing(Expected::Operation)),
     }
 }
 
 // A key.
-fn read_key(words: &mut Words<'_>) -> Result<u32, TextError>
+fn read_key(words: &mut Words<'_>) -> Result<u32, Fault>
     ensures word { IfOk result (λ key. words.old ≡ decimal key ∷ words.new) }
-    ensures err { IfErr result (λ e. (e ≡ TextError.BadText) × (begins is_key words.old ≡ false)) }
+    ensures leads { OnOk result ((b : Before) (k : StepKind)
+        → told_from b (at_key k) words.old ≡ told_from b (at_amount k) words.new) }
+    ensures err { IfErr result (λ e. (b : Before) (k : StepKind) → told_from b (at_key k) words.old ≡ told e words.new) }
 {
     match words.next_word() {
-        Some(word) => key(word).ok_or(TextError::BadText),
-        None => Err(TextError::BadText),
+        Some(word) => match key(word) {
+            Some(key) => Ok(key),
+            None => Err(Fault::Misfit(Expected::Key)),
+        },
+        None => Err(Fault::Missing(Expected::Key)),
     }
 }
 
 // An amount.
-fn read_amount(words: &mut Words<'_>) -> Result<i64, TextError>
+fn read_amount(words: &mut Words<'_>) -> Result<i64, Fault>
     ensures word { IfOk result (λ amount. words.old ≡ signed_decimal amount ∷ words.new) }
     ensures within { IfOk result (λ amount. is_amount amount ≡ true) }
-    ensures err { IfErr result (λ e. (e ≡ TextError.BadText) × (begins is_amount_word words.old ≡ false)) }
+    ensures leads { OnOk result ((b : Before) (k : StepKind)
+        → told_from b (at_amount k) words.old ≡ told_from b (at_settings (settings k)) words.new) }
+    ensures err { IfErr result (λ e. (b : Before) (k : StepKind) → told_from b (at_amount k) words.old ≡ told e words.new) }
 {
     match words.next_word() {
-        Some(word) => amount(word).ok_or(TextError::BadText),
-        None => Err(TextError::BadText),
+        Some(word) => match amount(word) {
+            Some(amount) => Ok(amount),
+            None => Err(Fault::Misfit(Expected::Amount)),
+        },
+        None => Err(Fault::Missing(Expected::Amount)),
     }
 }
 
-/// A step behind the word of its kind, whose name no step before has.
-pub fn read_step(
-    alloc: Global,
-    kind: StepKind,
-    words: &mut Words<'_>,
-    steps: &[Step],
-) -> Result<Step, TextError>
-    ensures step { IfOk result (λ s. IsStepRead kind (step_names steps.now) s words.old words.new) }
-    ensures err { IfErr result (λ e. (e ≡ TextError.NoMemory)
-        ⊎ ((earlier : List (List ℕ)) → fault_at_step_name earlier (step_names steps.now) kind words.old ≡ Some e)) }
+// Whether an option takes this number.
+fn takes(setting: Setting, number: u8) -> bool
+    ensures { result ≡ takes setting number }
 {
-    let name = read_step_name(alloc, words, steps)?;
+    match setting {
+        Setting::Tries | Setting::Undo => 1 <= number && number <= MOST_TRIES,
+        Setting::Refuse | Setting::UndoRefuse => number <= MOST_REFUSALS,
+    }
+}
+
+// The number of an option that a word writes.
+fn setting_number(setting: Setting, word: &[u8]) -> Option<u8>
+    ensures value { IfSome result (λ n. (word.now ≡ decimal n) × (takes setting n ≡ true)) }
+    ensures test { is_some result ≡ is_setting_number setting word.now }
+{
+    let n = match number(word, 99) {
+        Some(n) => n as u8,
+        None => return None,
+    };
+    if !takes(setting, n) {
+        return None;
+    }
+    Some(n)
+}
+
+// The number behind the word of an option.
+fn read_number(setting: Setting, words: &mut Words<'_>) -> Result<u8, Fault>
+    ensures word { IfOk result (λ n. words.old ≡ decimal n ∷ words.new) }
+    ensures takes { IfOk result (λ n. takes setting n ≡ true) }
+    ensures leads { OnOk result ((b : Before) (xs : List Setting)
+        → told_from b (at_number setting xs) words.old ≡ told_from b (at_settings xs) words.new) }
+    ensures err { IfErr result (λ e. (b : Before) (xs : List Setting)
+        → told_from b (at_number setting xs) words.old ≡ told e words.new) }
+{
+    match words.next_word() {
+        Some(word) => match setting_number(setting, word) {
+            Some(number) => Ok(number),
+            None => Err(Fault::Misfit(Expected::Number)),
+        },
+        None => Err(Fault::Missing(Expected::Number)),
+    }
+}
+
+// An option, or its default where it is left out.
+fn read_setting(setting: Setting, words: &mut Words<'_>) -> Result<u8, Fault>
+    ensures setting { IfOk result (λ n. IsSetting setting n words.old words.new) }
+    ensures takes { IfOk result (λ n. takes setting n ≡ true) }
+    ensures leads { OnOk result ((b : Before) (xs : List Setting)
+        → told_from b (at_settings (setting ∷ xs)) words.old ≡ told_from b (at_settings xs) words.new) }
+    ensures err { IfErr result (λ e. (b : Before) (xs : List Setting)
+        → told_from b (at_settings (setting ∷ xs)) words.old ≡ told e words.new) }
+{
+    if !words.begins_with(setting.word()) {
+        return Ok(setting.default_number());
+    }
+    let _ = words.next_word();
+    read_number(setting, words)
+}
+
+// A compensatable step with its options.
+fn compensatable(step: Step, words: &mut Words<'_>) -> Result<Step, Fault>
+    requires { step.kind ≡ StepKind.C }
+    ensures step { IfOk result (λ s. IsWithSettings step s words.old words.new) }
+    ensures leads { OnOk result ((b : Before) → told_from b (at_settings (settings step.kind)) words.old ≡ told_from b (at_settings []) words.new) }
+    ensures err { IfErr result (λ e. (b : Before) → told_from b (at_settings (settings step.kind)) words.old ≡ told e words.new) }
+{
+    let undo_tries = read_setting(Setting::Undo, words)?;
+    let refuse = read_setting(Setting::Refuse, words)?;
+    let undo_refuse = read_setting(Setting::UndoRefuse, words)?;
+    Ok(Step {
+        tries: DEFAULT_TRIES,
+        undo_tries,
+        refuse,
+        undo_refuse,
+        ..step
+    })
+}
+
+// A pivot with its options.
+fn pivot(step: Step, words: &mut Words<'_>) -> Result<Step, Fault>
+    requires { step.kind ≡ StepKind.P }
+    ensures step { IfOk result (λ s. IsWithSettings step s words.old words.new) }
+    ensures leads { OnOk result ((b : Before) → told_from b (at_settings (settings step.kind)) words.old ≡ told_from b (at_settings []) words.new) }
+    ensures err { IfErr result (λ e. (b : Before) → told_from b (at_settings (settings step.kind)) words.old ≡ told e words.new) }
+{
+    let refuse = read_setting(Setting::Refuse, words)?;
+    Ok(Step {
+        tries: DEFAULT_TRIES,
+        undo_tries: DEFAULT_TRIES,
+        refuse,
+        undo_refuse: 0,
+        ..step
+    })
+}
+
+// A retriable step with its options.
+fn retriable(step: Step, words: &mut Words<'_>) -> Result<Step, Fault>
+    requires { step.kind ≡ StepKind.R }
+    ensures step { IfOk result (λ s. IsWithSettings step s words.old words.new) }
+    ensures leads { OnOk result ((b : Before) → told_from b (at_settings (settings step.kind)) words.old ≡ told_from b (at_settings []) words.new) }
+    ensures err { IfErr result (λ e. (b : Before) → told_from b (at_settings (settings step.kind)) words.old ≡ told e words.new) }
+{
+    let tries = read_setting(Setting::Tries, words)?;
+    let refuse = read_setting(Setting::Refuse, words)?;
+    Ok(Step {
+        tries,
+        undo_tries: DEFAULT_TRIES,
+        refuse,
+        undo_refuse: 0,
+        ..step
+    })
+}
+
+// A step with its options.
+fn with_settings(step: Step, words: &mut Words<'_>) -> Result<Step, Fault>
+    ensures step { IfOk result (λ s. IsWithSettings step s words.old words.new) }
+    ensures leads { OnOk result ((b : Before) → told_from b (at_settings (settings step.kind)) words.old ≡ told_from b (at_settings []) words.new) }
+    ensures err { IfErr result (λ e. (b : Before) → told_from b (at_settings (settings step.kind)) words.old ≡ told e words.new) }
+{
+    match step.kind {
+        StepKind::C => compensatable(step, words),
+        StepKind::P => pivot(step, words),
+        StepKind::R => retriable(step, words),
+    }
+}
+
+// What is called on a step: its operation, its key and its amount.
+#[derive(Drop)]
+struct Call {
+    op: Name,
+    key: u32,
+    amount: i64,
+}
+
+// The operation, the key and the amount of a step.
+fn read_call(alloc: Global, words: &mut Words<'_>) -> Result<Call, Fault>
+    ensures words { IfOk result (λ r. words.old ≡ r.op ∷ decimal r.key ∷ signed_decimal r.amount ∷ words.new) }
+    ensures name { IfOk result (λ r. is_name r.op ≡ true) }
+    ensures within { IfOk result (λ r. is_amount r.amount ≡ true) }
+    ensures leads { OnOk result ((b : Before) (k : StepKind)
+        → told_from b (at_operation k) words.old ≡ told_from b (at_settings (settings k)) words.new) }
+    ensures err { IfErr result (λ e. (e ≡ Fault.NoMemory)
+        ⊎ ((b : Before) (k : StepKind) → told_from b (at_operation k) words.old ≡ told e words.new)) }
+{
     let op = read_operation(alloc, words)?;
     let key = read_key(words)?;
     let amount = read_amount(words)?;
-    Ok(Step {
+    Ok(Call { op, key, amount })
+}
+
+// A step behind the word of its kind.
+fn read_step<'a>(
+    alloc: Global,
+    kind: StepKind,
+    words: &mut Words<'a>,
+    names: &mut Names<'a>,
+) -> Result<Step, Fault>
+    ensures step { IfOk result (λ s. IsStep s (kind_word kind ∷ words.old) words.new) }
+    ensures taken { IfOk result (λ s. names.new ≡ names.old ++ s.name ∷ []) }
+    ensures leads { OnOk result ((earlier : List (List ℕ)) (choices : List ℕ)
+        → told_from (with_names names.old earlier choices) (at_step_name kind) words.old
+        ≡ told_from (with_names names.new earlier choices) (at_settings []) words.new) }
+    ensures err { IfErr result (λ e. (e ≡ Fault.NoMemory)
+        ⊎ ((earlier : List (List ℕ)) (choices : List ℕ)
+        → told_from (with_names names.old earlier choices) (at_step_name kind) words.old ≡ told e words.new)) }
+{
+    let name = read_step_name(alloc, words, names)?;
+    let call = read_call(alloc, words)?;
+    let step = Step {
         kind,
         name,
-        op,
-        key,
-        amount,
+        op: call.op,
+        key: call.key,
+        amount: call.amount,
         tries: DEFAULT_TRIES,
         undo_tries: DEFAULT_TRIES,
         refuse: 0,
         undo_refuse: 0,
-    })
+    };
+    with_settings(step, words)
+}
+
+/// Adds the step behind the word of its kind, of which there are at most 256.
+pub fn add_step<'a>(
+    alloc: Global,
+    kind: StepKind,
+    words: &mut Words<'a>,
+    names: &mut Names<'a>,
+    steps: &mut Vec<Step>,
+) -> Result<(), Fault>
+    ensures added { OnOk result ((s : Step) × (steps.new.items ≡ steps.old.items ++ s ∷ [])
+        × (names.new ≡ names.old ++ s.name ∷ []) × IsStep s (kind_word kind ∷ words.old) words.new) }
+    ensures leads { OnOk result ((earlier : List (List ℕ)) (choices : List ℕ)
+        → told_behind (with_names names.old earlier choices) (Next.Step kind) words.old
+        ≡ told_from (with_names names.new earlier choices) (in_block At.BehindStep) words.new) }
+    ensures err { IfErr result (λ e. (e ≡ Fault.NoMemory)
+        ⊎ ((earlier : List (List ℕ)) (choices : List ℕ)
+        → told_behind (with_names names.old earlier choices) (Next.Step kind) words.old ≡ told e words.new)) }
+{
+    if names.count() >= MOST_STEPS {
+        return Err(Fault::Limit(What::Steps));
+    }
+    let step = read_step(alloc, kind, words, names)?;
+    steps.push(step)?;
+    Ok(())
 }

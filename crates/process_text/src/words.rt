@@ -1,12 +1,13 @@
 // Words of a text.
-ghost use Rattle.std.specs.Prelude.{◌≡◌, [], ◌∷◌, ◌≤◌, ◌<◌, length, MatchOption, IfSome};
+ghost use Rattle.std.specs.Prelude.{◌≡◌, [], ◌∷◌, ◌≤◌, ◌<◌, length, MatchOption, IfSome, IfNone};
 ghost use Rattle.process_tree.specs.Making.{same_text};
-ghost use Rattle.process_text.specs.Words.{is_blank, words_of, word_size};
+ghost use Rattle.process_text.specs.Words.{is_blank, words_of, word_size, begins};
 
 use std::marker::Model;
 
+/// Whether a byte stands between words.
 #[tactic(auto, unfolding(crate::specs::Words::is_blank))]
-fn is_blank(byte: u8) -> bool
+pub fn is_blank(byte: u8) -> bool
     ensures { result ≡ is_blank byte }
 {
     byte == b' ' || byte == b'\t' || byte == b'\n' || byte == b'\r'
@@ -55,6 +56,18 @@ fn split_word(text: &[u8]) -> Option<(&[u8], &[u8])>
     Some(rest.split_at(word_size(rest)))
 }
 
+// How many words a text has.
+fn count(text: &[u8]) -> usize
+    ensures { result ≡ length (words_of text.now) }
+{
+    let mut words = Words::new(text);
+    let mut number = 0;
+    while words.next_word().is_some() {
+        number += 1;
+    }
+    number
+}
+
 /// The words of a text that are left to read.
 #[derive(Drop)]
 pub struct Words<'a> {
@@ -77,9 +90,27 @@ impl<'a> Words<'a> {
         Words { rest: text }
     }
 
+    /// How many they are.
+    pub fn count(&self) -> usize
+        ensures { result ≡ length self.now }
+    {
+        count(self.rest)
+    }
+
+    /// Whether the next word is this one.
+    pub fn begins_with(&self, word: &[u8]) -> bool
+        ensures { result ≡ begins (λ w. same_text w word.now) self.now }
+    {
+        match split_word(self.rest) {
+            Some((next, _)) => is_word(next, word),
+            None => false,
+        }
+    }
+
     /// Takes the next word.
     pub fn next_word(&mut self) -> Option<&'a [u8]>
-        ensures { MatchOption result (self.old ≡ []) (λ word. self.old ≡ word.now ∷ self.new) }
+        ensures word { MatchOption result (self.old ≡ []) (λ word. self.old ≡ word.now ∷ self.new) }
+        ensures end { IfNone result (self.new ≡ []) }
     {
         match split_word(self.rest) {
             Some((word, rest)) => {

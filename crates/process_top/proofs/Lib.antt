@@ -1,7 +1,7 @@
 pub mod Numbers
-pub mod FlatPlay
-pub mod FlatFaults
-pub mod FlatVerdict
+pub mod Kept
+pub mod Lives
 pub mod OneWord
 pub mod Replies
-pub mod VerdictTexts
+pub mod Runs
+pub mod Lines

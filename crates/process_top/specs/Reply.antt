@@ -1,90 +1,118 @@
--- What the program answers on a list of words and an input.
-use Rattle.std.specs.Prelude.{◌≡◌, ◌≤◌, ◌<◌, ◌⊎◌, ℕ, List, [], ◌∷◌, length, take, codes, Option, Some, IfSome, if◌then◌else◌}
-use Rattle.std.specs.Io.KnownBytes.{Appends, IsAtEnd}
+-- What the program answers on a list of words, an input and a rack.
+use Rattle.std.specs.Prelude.{◌≡◌, ◌≤◌, ◌<◌, ◌⊎◌, ℕ, List, [], ◌∷◌, length, codes, true, Option, Some, IfSome, if◌then◌else◌, ⊤}
+use Rattle.std.specs.List.{concat}
+use Rattle.std.specs.Io.KnownBytes.{IsAtEnd}
 use Rattle.process_flow.specs.Causes.{Rose}
+use Rattle.process_disk.specs.Disk.{Disk, Told}
 use Rattle.process_tree.specs.declared.tree.Named.{Named}
 use Rattle.process_tree.specs.Termination.{Fault}
 use Rattle.process_text.specs.Words.{words_of}
 use Rattle.process_text.specs.Grammar.{IsReading}
-use Rattle.process_text.specs.FirstFault.{first_fault}
-use Rattle.process_text.specs.declared.error.TextError.TheVariants.{NotYet, BadText}
+use Rattle.process_text.specs.Places.{text_error}
+use Rattle.process_text.specs.declared.error.TextError.TheVariants.{NoMemory as TextNoMemory}
+use Rattle.process_top.specs.declared.refusal.Refusal.{Refusal}
+use Rattle.process_top.specs.declared.refusal.Refusal.TheVariants.{BadWords, NotYet, Text, TooLong, NotEmpty, ReadFault, NotBegun, CutOff, NoMemory}
+use Rattle.process_top.specs.Refused.{refusal_status, refusal_text}
+use Rattle.process_top.specs.Told.{Output, IsTold}
 use Rattle.process_top.specs.Verdict.{AreVerdicts, verdict_lines, any_fault}
+use Rattle.process_top.specs.Life.{is_add_process, lines_of}
+use Rattle.process_top.specs.Journal.{IsRun, IsRefusedRun}
 
--- the words are the one word `check`
-abbrev pub IsCheck : List (List ℕ) → Type 0
-IsCheck words = words ≡ codes "check" ∷ []
+-- the words are the one word `check`, or `run`
+abbrev pub IsCheckWord : List (List ℕ) → Type 0
+IsCheckWord words = words ≡ codes "check" ∷ []
+
+abbrev pub IsRunWord : List (List ℕ) → Type 0
+IsRunWord words = words ≡ codes "run" ∷ []
 
 -- the greatest size of an input, in bytes
 abbrev pub most_input : ℕ
 most_input = 1048576
-
--- what there is to say
-pub data Reply : Type 0 where
-  -- the verdicts on these processes
-  checked : List Named → List (Option Fault) → Reply
-  bad_words : Reply
-  not_yet : Reply
-  bad_text : Reply
-  too_long : Reply
-  read_fault : Reply
-  no_memory : Reply
-
-abbrev pub status_of : Reply → ℕ
-status_of (checked ps verdicts) = if any_fault verdicts then 3 else 0
-status_of bad_words = 1
-status_of not_yet = 2
-status_of bad_text = 2
-status_of too_long = 4
-status_of read_fault = 8
-status_of no_memory = 13
-
-abbrev pub text_of : Reply → List ℕ
-text_of (checked ps verdicts) = verdict_lines ps verdicts
-text_of bad_words = codes "bad words\n"
-text_of not_yet = codes "not yet\n"
-text_of bad_text = codes "bad text\n"
-text_of too_long = codes "limit input 1048577\n"
-text_of read_fault = codes "read fault\n"
-text_of no_memory = codes "no memory\n"
 
 -- a source at some moment: what it has left, where it tells, and its count of faults
 pub record Input : Type 0 where
   pub left : Option (List ℕ)
   pub faults : ℕ
 
--- a sink at some moment: what it has taken, where it tells, and its count of faults
-pub record Output : Type 0 where
-  pub taken : Option (List ℕ)
+-- a rack at some moment: what it tells of its files, and its count of faults
+pub record Files : Type 1 where
+  pub disk : Disk
   pub faults : ℕ
 
 -- the input, where it is told, is within its limit and has this
-abbrev pub OnInput : Input → (List (List ℕ) → Type 0) → Type 0
-OnInput input P = IfSome input.left (λ text. (length text ≤ most_input) × P (words_of text))
+abbrev pub OnInput : Input → (List ℕ → Type 0) → Type 0
+OnInput input P = IfSome input.left (λ text. (length text ≤ most_input) × P text)
 
--- when each reply is due, on these words, over a source that was so before and is so after
-abbrev pub IsDue : List (List ℕ) → Input → Input → Reply → Type 0
-IsDue words before after (checked ps verdicts) =
-    IsCheck words × IsAtEnd after.left × OnInput before (λ text. IsReading text ps) × AreVerdicts ps verdicts
-IsDue words before after bad_words = ¬ IsCheck words
-IsDue words before after not_yet = IsCheck words × OnInput before (λ text. first_fault text ≡ Some NotYet)
-IsDue words before after bad_text = IsCheck words × OnInput before (λ text. first_fault text ≡ Some BadText)
-IsDue words before after too_long = IsCheck words × IfSome before.left (λ text. most_input < length text)
-IsDue words before after read_fault = IsCheck words × Rose before.faults after.faults
-IsDue words before after no_memory = IsCheck words
+-- why a text was not read, from a source that was so before and is so after
+abbrev pub IsUnread : Refusal → Input → Input → Type 0
+IsUnread BadWords before after = ⊥
+IsUnread NotYet before after = ⊥
+IsUnread (Text e) before after = (e ≡ TextNoMemory) ⊎ OnInput before (λ text. text_error text ≡ Some e)
+IsUnread TooLong before after = IfSome before.left (λ text. most_input < length text)
+IsUnread NotEmpty before after = ⊥
+IsUnread ReadFault before after = Rose before.faults after.faults
+IsUnread NotBegun before after = ⊥
+IsUnread CutOff before after = ⊥
+IsUnread NoMemory before after = ⊤
 
--- the text went out and this is the status, or it is 9, the sink's count rose and a beginning of the text went out
-abbrev pub IsTold : ℕ → List ℕ → Output → Output → ℕ → Type 0
-IsTold status text before after result =
-    ((result ≡ status) × Appends before.taken after.taken text)
-    ⊎ ((result ≡ 9) × Rose before.faults after.faults × ((sent : ℕ) × (sent < length text) × Appends before.taken after.taken (take sent text)))
+-- the source was read to its end, and had the text of these processes
+abbrev pub IsRead : Input → Input → List Named → Type 0
+IsRead before after ps = IsAtEnd after.left × OnInput before (λ text. IsReading (words_of text) ps)
+
+-- they are one process of `add` steps alone
+abbrev pub IsOneAddProcess : List Named → Type 0
+IsOneAddProcess [] = ⊥
+IsOneAddProcess (p ∷ []) = is_add_process p.tree ≡ true
+IsOneAddProcess (p ∷ q ∷ ps) = ⊥
+
+-- what there is to say
+pub data Reply : Type 0 where
+  bad_words : Reply
+  -- a text was not read
+  unread : Refusal → Reply
+  -- the verdicts on these processes
+  checked : List Named → List (Option Fault) → Reply
+  -- these are not one process of `add` steps alone
+  no_add_process : List Named → Reply
+  -- the process was not run, or not to its end
+  not_run : Named → Refusal → Reply
+  -- the process was run
+  ran : Named → Reply
+
+abbrev pub status_of : Reply → ℕ
+status_of bad_words = 1
+status_of (unread r) = refusal_status r
+status_of (checked ps verdicts) = if any_fault verdicts then 3 else 0
+status_of (no_add_process ps) = 2
+status_of (not_run p r) = refusal_status r
+status_of (ran p) = 0
+
+abbrev pub text_of : Reply → List ℕ
+text_of bad_words = codes "bad words\n"
+text_of (unread r) = refusal_text r
+text_of (checked ps verdicts) = verdict_lines ps verdicts
+text_of (no_add_process ps) = codes "not yet\n"
+text_of (not_run p r) = refusal_text r
+text_of (ran p) = concat (lines_of p)
+
+-- when each reply is due, on these words, over a source and a rack that were so before and are so after
+abbrev pub IsDue : List (List ℕ) → Input → Input → Files → Files → Reply → Type 0
+IsDue words input input_after files files_after bad_words = (¬ IsCheckWord words) × (¬ IsRunWord words)
+IsDue words input input_after files files_after (unread r) = (IsCheckWord words ⊎ IsRunWord words) × IsUnread r input input_after
+IsDue words input input_after files files_after (checked ps verdicts) = IsCheckWord words × IsRead input input_after ps × AreVerdicts ps verdicts
+IsDue words input input_after files files_after (no_add_process ps) = IsRunWord words × IsRead input input_after ps × (¬ IsOneAddProcess ps)
+IsDue words input input_after files files_after (not_run p r) =
+    IsRunWord words × IsRead input input_after (p ∷ []) × IsOneAddProcess (p ∷ []) × IsRefusedRun r p files.disk files_after.disk files.faults files_after.faults
+IsDue words input input_after files files_after (ran p) =
+    IsRunWord words × IsRead input input_after (p ∷ []) × IsOneAddProcess (p ∷ []) × (Told files.disk → IsRun p files.disk files_after.disk)
 
 -- the status of an answer: some reply was due, and it was told
-abbrev pub IsAnswered : List (List ℕ) → Input → Input → Output → Output → ℕ → Type 0
-IsAnswered words input input_after output output_after result =
-    (reply : Reply) × IsDue words input input_after reply × IsTold (status_of reply) (text_of reply) output output_after result
+abbrev pub IsAnswered : List (List ℕ) → Input → Input → Files → Files → Output → Output → ℕ → Type 0
+IsAnswered words input input_after files files_after output output_after result =
+    (reply : Reply) × IsDue words input input_after files files_after reply × IsTold (status_of reply) (text_of reply) output output_after result
 
 -- a check of a text in the grammar, with no fault of the source and the sink, gives its verdicts or wants memory
 abbrev pub IsComplete : List (List ℕ) → Input → Input → Output → Output → ℕ → Type 0
 IsComplete words input input_after output output_after result =
-    IsCheck words → ¬ Rose input.faults input_after.faults → ¬ Rose output.faults output_after.faults
+    IsCheckWord words → ¬ Rose input.faults input_after.faults → ¬ Rose output.faults output_after.faults
     → IfSome input.left (λ text. (ps : List Named) → length text ≤ most_input → IsReading (words_of text) ps → (result ≡ 0) ⊎ ((result ≡ 3) ⊎ (result ≡ 13)))

@@ -1,5 +1,5 @@
 -- Verdicts: what the check says of a process.
-use Rattle.std.specs.Prelude.{ℕ, Bool, false, ◌||◌, List, [], ◌∷◌, ◌++◌, map, slice_index_or, codes, Option, Some, None, is_some, ⊤}
+use Rattle.std.specs.Prelude.{◌≡◌, ℕ, Bool, false, ◌||◌, List, [], ◌∷◌, ◌++◌, map, slice_index_or, codes, Option, Some, None, is_some, ⊤}
 use Rattle.std.specs.List.{join_with_byte}
 use Rattle.process_tree.specs.declared.block.Block.{Block}
 use Rattle.process_tree.specs.declared.tree.Named.{Named}
@@ -14,10 +14,13 @@ abbrev pub IsVerdict : Shape → Option Fault → Type 0
 IsVerdict t None = IsWellFormed t
 IsVerdict t (Some fault) = IsFirstFault t fault
 
+-- the name of a step by its number
+abbrev pub step_name : Block → ℕ → List ℕ
+step_name root k = slice_index_or (map (λ s. s.name) (outline root).steps) k []
+
 -- the names of the steps from the root to this one, joined by a slash
 abbrev pub path_text : Block → ℕ → List ℕ
-path_text root b =
-    join_with_byte 47 (map (λ k. slice_index_or (map (λ s. s.name) (outline root).steps) k []) (branch_to (shape_of root) b ++ b ∷ []))
+path_text root b = join_with_byte 47 (map (step_name root) (branch_to (shape_of root) b ++ b ∷ []))
 
 abbrev pub outcome_word : Outcome → List ℕ
 outcome_word Done = codes "done"
@@ -54,3 +57,15 @@ verdict_lines (p ∷ ps) (v ∷ vs) = verdict_line p v ++ verdict_lines ps vs
 abbrev pub any_fault : List (Option Fault) → Bool
 any_fault [] = false
 any_fault (v ∷ vs) = is_some v || any_fault vs
+
+-- what is said of a process of this root was added, and whether it tells a fault
+abbrev pub IsFaultAdded : Block → Bool → List ℕ → List ℕ → Type 0
+IsFaultAdded root any old new = (v : Option Fault) × IsVerdict (shape_of root) v × (new ≡ old ++ fault_text root v) × (any ≡ is_some v)
+
+-- the line of a process was added
+abbrev pub IsLineAdded : Named → Bool → List ℕ → List ℕ → Type 0
+IsLineAdded p any old new = (v : Option Fault) × IsVerdict (shape_of p.tree) v × (new ≡ old ++ verdict_line p v) × (any ≡ is_some v)
+
+-- these are the verdict lines of these processes
+abbrev pub AreLines : List Named → Bool → List ℕ → Type 0
+AreLines ps any lines = (vs : List (Option Fault)) × AreVerdicts ps vs × (lines ≡ verdict_lines ps vs) × (any ≡ any_fault vs)

@@ -1,114 +1,151 @@
 // The commands of the program.
-ghost use Rattle.std.specs.Prelude.{◌≡◌, ◌∷◌, [], ◌↔◌, IsTrue, map, string_bytes, codes};
-ghost use Rattle.process_top.specs.Reply.{IsCheck, IsAnswered, IsComplete};
+ghost use Rattle.std.specs.Prelude.{◌≡◌, ◌∷◌, [], ◌↔◌, IsTrue, map, string_bytes, codes, IfOk, IfErr};
+ghost use Rattle.process_top.specs.Commands.{IsWholeText, IsChecked, IsCheckAnswered, IsOnlyRun, IsOnlyRefused, IsRunOf, IsNotRun, IsRunAnswered};
+ghost use Rattle.process_top.specs.Reply.{IsRead, IsUnread};
 
+use crate::life::is_add_process;
+use crate::refusal::{Refusal, tell_refusal};
+use crate::run::run_process;
 use crate::tell::tell;
 use crate::verdicts::verdicts;
+use process_disk::Rack;
 use process_flow::{ReadError, Sink, Source, read_all};
-use process_text::{TextError, read};
+use process_text::read;
+use process_tree::Named;
 use std::alloc::Global;
-use std::sync::Wait;
-use std::thread::Threads;
 
 const MOST_INPUT: u32 = 1048576;
 
-fn is_check_word(word: &str) -> bool
-    ensures { IsTrue result ↔ (word.now ≡ codes "check") }
+fn is_the_word(word: &str, wanted: &str) -> bool
+    ensures { IsTrue result ↔ (word.now ≡ wanted.now) }
 {
-    word == "check"
+    word == wanted
 }
 
-fn is_check(words: &[String]) -> bool
-    ensures { IsTrue result ↔ IsCheck (map string_bytes words.now) }
+/// Whether the words are this one alone.
+pub fn is_only(words: &[String], wanted: &str) -> bool
+    ensures { IsTrue result ↔ (map string_bytes words.now ≡ wanted.now ∷ []) }
 {
     match words {
-        [word] => is_check_word(word.as_str()),
+        [word] => is_the_word(word.as_str(), wanted),
         _ => false,
     }
 }
 
-// Checks the text of the source.
-fn check<S: Source, K: Sink>(alloc: Global, source: &mut S, sink: &mut K) -> u8
-    ensures { IsAnswered (codes "check" ∷ [])
+// The whole text of the source.
+fn text_of<S: Source>(alloc: Global, source: &mut S) -> Result<Vec<u8>, Refusal>
+    ensures text { IfOk result (λ text. IsWholeText
         (record { left = S.left source.old; faults = S.faults source.old })
-        (record { left = S.left source.new; faults = S.faults source.new })
-        (record { taken = K.taken sink.old; faults = K.faults sink.old })
-        (record { taken = K.taken sink.new; faults = K.faults sink.new }) result }
+        (record { left = S.left source.new; faults = S.faults source.new }) text.items) }
+    ensures refused { IfErr result (λ e. IsUnread e
+        (record { left = S.left source.old; faults = S.faults source.old })
+        (record { left = S.left source.new; faults = S.faults source.new })) }
 {
-    let text = match read_all(alloc, source, MOST_INPUT) {
-        Ok(text) => text,
-        Err(ReadError::ReadFault) => return tell(sink, b"read fault\n", 8),
-        Err(ReadError::TooLong) => return tell(sink, b"limit input 1048577\n", 4),
-        Err(ReadError::NoMemory) => return tell(sink, b"no memory\n", 13),
-    };
-    let processes = match read(alloc, &text) {
-        Ok(processes) => processes,
-        Err(TextError::NotYet) => return tell(sink, b"not yet\n", 2),
-        Err(TextError::BadText) => return tell(sink, b"bad text\n", 2),
-        Err(TextError::NoMemory) => return tell(sink, b"no memory\n", 13),
-    };
+    match read_all(alloc, source, MOST_INPUT) {
+        Ok(text) => Ok(text),
+        Err(ReadError::ReadFault) => Err(Refusal::ReadFault),
+        Err(ReadError::TooLong) => Err(Refusal::TooLong),
+        Err(ReadError::NoMemory) => Err(Refusal::NoMemory),
+    }
+}
+
+// The processes of the source's text.
+fn processes_of<S: Source>(alloc: Global, source: &mut S) -> Result<Vec<Named>, Refusal>
+    ensures read { IfOk result (λ processes. IsRead
+        (record { left = S.left source.old; faults = S.faults source.old })
+        (record { left = S.left source.new; faults = S.faults source.new }) processes.items) }
+    ensures refused { IfErr result (λ e. IsUnread e
+        (record { left = S.left source.old; faults = S.faults source.old })
+        (record { left = S.left source.new; faults = S.faults source.new })) }
+{
+    let text = text_of(alloc, source)?;
+    match read(alloc, &text) {
+        Ok(processes) => Ok(processes),
+        Err(error) => Err(Refusal::Text(error)),
+    }
+}
+
+// The verdict lines of the source's text, and the status.
+fn checked<S: Source>(alloc: Global, source: &mut S) -> Result<(Vec<u8>, u8), Refusal>
+    ensures checked { IfOk result (λ found. IsChecked
+        (record { left = S.left source.old; faults = S.faults source.old })
+        (record { left = S.left source.new; faults = S.faults source.new }) found.0.items found.1) }
+    ensures refused { IfErr result (λ e. IsUnread e
+        (record { left = S.left source.old; faults = S.faults source.old })
+        (record { left = S.left source.new; faults = S.faults source.new })) }
+{
+    let processes = processes_of(alloc, source)?;
     match verdicts(alloc, &processes) {
-        Ok((lines, any)) => tell(sink, &lines, if any { 3 } else { 0 }),
-        Err(_) => tell(sink, b"no memory\n", 13),
+        Ok((lines, any)) => Ok((lines, if any { 3 } else { 0 })),
+        Err(_) => Err(Refusal::NoMemory),
     }
 }
 
-// Answers a list of words.
-fn reply<S: Source, K: Sink>(alloc: Global, words: &[String], source: &mut S, sink: &mut K) -> u8
-    ensures { IsAnswered (map string_bytes words.now)
+/// Checks the text of the source.
+pub fn check<S: Source, K: Sink>(alloc: Global, source: &mut S, sink: &mut K) -> u8
+    ensures { IsCheckAnswered
         (record { left = S.left source.old; faults = S.faults source.old })
         (record { left = S.left source.new; faults = S.faults source.new })
         (record { taken = K.taken sink.old; faults = K.faults sink.old })
         (record { taken = K.taken sink.new; faults = K.faults sink.new }) result }
 {
-    if is_check(words) {
-        check(alloc, source, sink)
-    } else {
-        tell(sink, b"bad words\n", 1)
+    match checked(alloc, source) {
+        Ok((lines, status)) => tell(sink, &lines, status),
+        Err(refusal) => tell_refusal(alloc, sink, &refusal),
     }
 }
 
-/// Answers a list of words over a source and a sink, and gives the status.
-pub fn answer<S: Source, K: Sink>(
-    alloc: Global,
-    words: &[String],
-    source: &mut S,
-    sink: &mut K,
-) -> u8
-    // Some reply was due, and it was told: its text went out and the status is its own, or the sink failed and it is 9.
-    ensures answered { IsAnswered (map string_bytes words.now)
-        (record { left = S.left source.old; faults = S.faults source.old })
-        (record { left = S.left source.new; faults = S.faults source.new })
-        (record { taken = K.taken sink.old; faults = K.faults sink.old })
-        (record { taken = K.taken sink.new; faults = K.faults sink.new }) result }
-    // A text in the grammar is checked, where no call failed and memory was found.
-    ensures complete { IsComplete (map string_bytes words.now)
-        (record { left = S.left source.old; faults = S.faults source.old })
-        (record { left = S.left source.new; faults = S.faults source.new })
-        (record { taken = K.taken sink.old; faults = K.faults sink.old })
-        (record { taken = K.taken sink.new; faults = K.faults sink.new }) result }
+// Runs one of these processes, if it is the only one and has `add` steps alone.
+fn run_only<R: Rack>(alloc: Global, rack: &mut R, processes: &[Named]) -> Result<Vec<u8>, Refusal>
+    ensures ran { IfOk result (λ lines. IsOnlyRun processes.now (R.disk rack.old) (R.disk rack.new) lines.items) }
+    ensures refused { IfErr result (λ e. IsOnlyRefused e processes.now (R.disk rack.old) (R.disk rack.new) (R.faults rack.old) (R.faults rack.new)) }
 {
-    reply(alloc, words, source, sink)
+    match processes {
+        [process] => {
+            if is_add_process(process.tree.root()) {
+                run_process(alloc, rack, process)
+            } else {
+                Err(Refusal::NotYet)
+            }
+        }
+        _ => Err(Refusal::NotYet),
+    }
 }
 
-/// Answers a list of words, as `answer` does.
-pub fn top<H: Threads + Wait + Sync, S: Source, K: Sink>(
-    _rt: &H,
+// Runs the process of the source's text.
+fn ran<S: Source, R: Rack>(alloc: Global, source: &mut S, rack: &mut R) -> Result<Vec<u8>, Refusal>
+    ensures ran { IfOk result (λ lines. IsRunOf
+        (record { left = S.left source.old; faults = S.faults source.old })
+        (record { left = S.left source.new; faults = S.faults source.new })
+        (record { disk = R.disk rack.old; faults = R.faults rack.old })
+        (record { disk = R.disk rack.new; faults = R.faults rack.new }) lines.items) }
+    ensures refused { IfErr result (λ e. IsNotRun e
+        (record { left = S.left source.old; faults = S.faults source.old })
+        (record { left = S.left source.new; faults = S.faults source.new })
+        (record { disk = R.disk rack.old; faults = R.faults rack.old })
+        (record { disk = R.disk rack.new; faults = R.faults rack.new })) }
+{
+    let processes = processes_of(alloc, source)?;
+    run_only(alloc, rack, &processes)
+}
+
+/// Runs the text of the source.
+pub fn run<S: Source, K: Sink, R: Rack>(
     alloc: Global,
-    words: &[String],
     source: &mut S,
     sink: &mut K,
+    rack: &mut R,
 ) -> u8
-    ensures answered { IsAnswered (map string_bytes words.now)
+    ensures { IsRunAnswered
         (record { left = S.left source.old; faults = S.faults source.old })
         (record { left = S.left source.new; faults = S.faults source.new })
-        (record { taken = K.taken sink.old; faults = K.faults sink.old })
-        (record { taken = K.taken sink.new; faults = K.faults sink.new }) result }
-    ensures complete { IsComplete (map string_bytes words.now)
-        (record { left = S.left source.old; faults = S.faults source.old })
-        (record { left = S.left source.new; faults = S.faults source.new })
+        (record { disk = R.disk rack.old; faults = R.faults rack.old })
+        (record { disk = R.disk rack.new; faults = R.faults rack.new })
         (record { taken = K.taken sink.old; faults = K.faults sink.old })
         (record { taken = K.taken sink.new; faults = K.faults sink.new }) result }
 {
-    answer(alloc, words, source, sink)
+    match ran(alloc, source, rack) {
+        Ok(lines) => tell(sink, &lines, 0),
+        Err(refusal) => tell_refusal(alloc, sink, &refusal),
+    }
 }

@@ -1,8 +1,14 @@
 //! The commands of the program.
 #![tactic(auto)]
 
+mod answers;
+mod canonical;
 mod commands;
+mod journal;
+mod life;
+mod refusal;
+mod run;
 mod tell;
 mod verdicts;
 
-pub use commands::{answer, top};
+pub use answers::{Finished, answer, top};

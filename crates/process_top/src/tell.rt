@@ -1,6 +1,6 @@
 // Telling a reply.
 ghost use Rattle.std.specs.Prelude.{◌⊎◌, ◌<◌};
-ghost use Rattle.process_top.specs.Reply.{IsTold};
+ghost use Rattle.process_top.specs.Told.{IsTold};
 
 use process_flow::{Sink, write_all};
 

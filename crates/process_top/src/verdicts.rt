@@ -1,51 +1,31 @@
-// The verdicts of the check on processes without choices.
-ghost use Rattle.std.specs.Prelude.{◌≡◌, ◌≤◌, ◌<◌, ◌+◌, ◌++◌, ◌∷◌, [], ℕ, List, Option, Some, None, false, length, map, take, codes, is_some, slice_index_or, IfOk, IfSome, OnOk, All};
+// The verdict lines of processes.
+ghost use Rattle.std.specs.Prelude.{◌≡◌, ◌++◌, Some, map, IfOk, OnOk};
 ghost use Rattle.std.specs.List.{join_with_byte};
-ghost use Rattle.process_tree.specs.declared.step.StepKind.{StepKind};
-ghost use Rattle.process_tree.specs.declared.block.Tail.{End};
-ghost use Rattle.process_tree.specs.Shape.{can_be_refused};
-ghost use Rattle.process_text.specs.Grammar.{step_names, AreFlatProcesses};
-ghost use Rattle.process_top.specs.FlatRule.{first_late, flat_outcomes, step_kinds, flat_verdict, flat_verdicts};
-ghost use Rattle.process_top.specs.Verdict.{outcomes_text, verdict_line, verdict_lines, any_fault};
+ghost use Rattle.process_tree.specs.Termination.{stuck_at, unreachable_at};
+ghost use Rattle.process_top.specs.Verdict.{step_name, path_text, outcome_word, outcomes_text, fault_text, IsFaultAdded, IsLineAdded, AreLines};
 
-use process_tree::{Named, Step, StepKind};
+use process_tree::{Named, Outcome, Tree};
 use std::alloc::{AllocError, Global};
+use well_formed::{Verdict, check, path};
 
-fn can_be_refused(kind: StepKind) -> bool
-    ensures { result ≡ can_be_refused kind }
+// The name of a step, or nothing where there is no such step.
+fn name_of_step(tree: &Tree, n: u16) -> &[u8]
+    ensures { result.now ≡ step_name tree.now n }
 {
-    match kind {
-        StepKind::C | StepKind::P => true,
-        StepKind::R => false,
+    if n < tree.count() {
+        tree.step(n).name.bytes()
+    } else {
+        b""
     }
-}
-
-// The place of the first step that can be refused behind a commit point.
-fn first_late(steps: &[Step]) -> Option<usize>
-    ensures late { result ≡ first_late false 0 (step_kinds steps.now) }
-    ensures within { IfSome result (λ n. n < length steps.now) }
-{
-    let mut committed = false;
-    let mut place = 0;
-    let mut rest = steps;
-    while let [step, after @ ..] = rest {
-        if committed && can_be_refused(step.kind) {
-            return Some(place);
-        }
-        committed = committed || step.kind != StepKind::C;
-        place += 1;
-        rest = after;
-    }
-    None
 }
 
 // Adds the names of these steps, joined by a slash.
-fn add_path(text: &mut Vec<u8>, steps: &[Step]) -> Result<(), AllocError>
-    ensures { OnOk result (text.new.items ≡ text.old.items ++ join_with_byte 47 (step_names steps.now)) }
+fn add_names(text: &mut Vec<u8>, tree: &Tree, places: &[u16]) -> Result<(), AllocError>
+    ensures { OnOk result (text.new.items ≡ text.old.items ++ join_with_byte 47 (map (step_name tree.now) places.now)) }
 {
-    let mut rest = steps;
-    while let [step, after @ ..] = rest {
-        text.extend_from_slice(step.name.bytes())?;
+    let mut rest = places;
+    while let [place, after @ ..] = rest {
+        text.extend_from_slice(name_of_step(tree, *place))?;
         if !after.is_empty() {
             text.extend_from_slice(b"/")?;
         }
@@ -54,77 +34,114 @@ fn add_path(text: &mut Vec<u8>, steps: &[Step]) -> Result<(), AllocError>
     Ok(())
 }
 
-// Adds what stands for a step of this kind in front of further outcomes.
-fn add_outcome(text: &mut Vec<u8>, kind: StepKind) -> Result<(), AllocError>
-    ensures { OnOk result ((ks : List StepKind) → text.new.items ++ outcomes_text (flat_outcomes ks)
-        ≡ text.old.items ++ outcomes_text (flat_outcomes (kind ∷ ks))) }
+fn word_of(outcome: Outcome) -> &'static [u8]
+    ensures { result.now ≡ outcome_word outcome }
 {
-    if can_be_refused(kind) {
-        text.extend_from_slice(b"done ")?;
+    match outcome {
+        Outcome::Done => b"done",
+        Outcome::Refused => b"refused",
     }
-    Ok(())
 }
 
-// Adds the outcomes by which play comes behind these steps, and is refused there.
-fn add_outcomes(text: &mut Vec<u8>, steps: &[Step]) -> Result<(), AllocError>
-    ensures { OnOk result (text.new.items ≡ text.old.items ++ outcomes_text (flat_outcomes (step_kinds steps.now))) }
+// Adds outcomes with a space between two.
+fn add_outcomes(text: &mut Vec<u8>, outcomes: &[Outcome]) -> Result<(), AllocError>
+    ensures { OnOk result (text.new.items ≡ text.old.items ++ outcomes_text outcomes.now) }
 {
-    let mut rest = steps;
-    while let [step, after @ ..] = rest {
-        add_outcome(text, step.kind)?;
+    let mut rest = outcomes;
+    while let [outcome, after @ ..] = rest {
+        text.extend_from_slice(word_of(*outcome))?;
+        if !after.is_empty() {
+            text.extend_from_slice(b" ")?;
+        }
         rest = after;
     }
-    text.extend_from_slice(b"refused")?;
     Ok(())
 }
 
-// Adds what is said of a process of these steps whose step at this place is late.
-fn add_stuck(text: &mut Vec<u8>, steps: &[Step], late: usize) -> Result<(), AllocError>
-    requires { late < length steps.now }
-    ensures { OnOk result (text.new.items ≡ text.old.items ++ (codes ": stuck at " ++ join_with_byte 47 (step_names (take (late + 1) steps.now))
-        ++ codes " after " ++ outcomes_text (flat_outcomes (step_kinds (take late steps.now))) ++ codes "\n")) }
+// Adds a word and the branch path of a step.
+fn add_path(
+    alloc: Global,
+    text: &mut Vec<u8>,
+    first: &[u8],
+    tree: &Tree,
+    step: u16,
+) -> Result<(), AllocError>
+    ensures { OnOk result (text.new.items ≡ text.old.items ++ (first.now ++ path_text tree.now step)) }
 {
-    text.extend_from_slice(b": stuck at ")?;
-    add_path(text, &steps[..late + 1])?;
+    text.extend_from_slice(first)?;
+    let places = path(alloc, tree, step)?;
+    add_names(text, tree, places.as_slice())
+}
+
+// Adds what is said of a process that is stuck at this step.
+fn add_stuck(
+    alloc: Global,
+    text: &mut Vec<u8>,
+    tree: &Tree,
+    step: u16,
+    outcomes: &[Outcome],
+) -> Result<(), AllocError>
+    ensures { OnOk result (text.new.items ≡ text.old.items ++ fault_text tree.now (Some (stuck_at step outcomes.now))) }
+{
+    add_path(alloc, text, b": stuck at ", tree, step)?;
     text.extend_from_slice(b" after ")?;
-    add_outcomes(text, &steps[..late])?;
+    add_outcomes(text, outcomes)?;
     text.extend_from_slice(b"\n")?;
     Ok(())
 }
 
-// Adds the verdict line of a process without choices, and says whether it tells a fault.
-fn add_verdict(text: &mut Vec<u8>, process: &Named) -> Result<bool, AllocError>
-    requires { process.now.tree.tail ≡ End }
-    ensures line { OnOk result (text.new.items ≡ text.old.items ++ verdict_line process.now (flat_verdict process.now.tree.steps)) }
-    ensures fault { IfOk result (λ fault. fault ≡ is_some (flat_verdict process.now.tree.steps)) }
+// Adds what is said of a process in which the alternative of this step is never fallen back to.
+fn add_unreachable(
+    alloc: Global,
+    text: &mut Vec<u8>,
+    tree: &Tree,
+    step: u16,
+) -> Result<(), AllocError>
+    ensures { OnOk result (text.new.items ≡ text.old.items ++ fault_text tree.now (Some (unreachable_at step))) }
 {
-    text.extend_from_slice(process.name.bytes())?;
-    let steps = process.tree.root().steps.as_slice();
-    match first_late(steps) {
-        None => {
+    add_path(alloc, text, b": unreachable ", tree, step)?;
+    text.extend_from_slice(b"\n")?;
+    Ok(())
+}
+
+// Adds what the check says of a process, and says whether it tells a fault.
+fn add_fault(alloc: Global, text: &mut Vec<u8>, tree: &Tree) -> Result<bool, AllocError>
+    ensures { IfOk result (λ any. IsFaultAdded tree.now any text.old.items text.new.items) }
+{
+    match check(alloc, tree) {
+        Verdict::Good => {
             text.extend_from_slice(b": well-formed\n")?;
             Ok(false)
         }
-        Some(late) => {
-            add_stuck(text, steps, late)?;
+        Verdict::Stuck { step, outcomes } => {
+            add_stuck(alloc, text, tree, step, outcomes.as_slice())?;
             Ok(true)
         }
+        Verdict::Unreachable { step } => {
+            add_unreachable(alloc, text, tree, step)?;
+            Ok(true)
+        }
+        Verdict::NoMemory => Err(AllocError),
     }
 }
 
-/// The verdict lines of processes without choices, and whether one of them tells a fault.
+// Adds the verdict line of a process, and says whether it tells a fault.
+fn add_verdict(alloc: Global, text: &mut Vec<u8>, process: &Named) -> Result<bool, AllocError>
+    ensures { IfOk result (λ any. IsLineAdded process.now any text.old.items text.new.items) }
+{
+    text.extend_from_slice(process.name.bytes())?;
+    add_fault(alloc, text, &process.tree)
+}
+
+/// The verdict lines of processes, and whether one of them tells a fault.
 pub fn verdicts(alloc: Global, processes: &[Named]) -> Result<(Vec<u8>, bool), AllocError>
-    requires { AreFlatProcesses processes.now }
-    ensures lines { IfOk result (λ r. r.0.items ≡ verdict_lines processes.now (flat_verdicts processes.now)) }
-    ensures any { IfOk result (λ r. r.1 ≡ any_fault (flat_verdicts processes.now)) }
+    ensures { IfOk result (λ r. AreLines processes.now r.1 r.0.items) }
 {
     let mut text = Vec::new(alloc);
     let mut any = false;
-    let mut rest = processes;
-    while let [process, after @ ..] = rest {
-        let fault = add_verdict(&mut text, process)?;
+    for process in processes {
+        let fault = add_verdict(alloc, &mut text, process)?;
         any = any || fault;
-        rest = after;
     }
     Ok((text, any))
 }

@@ -1,46 +1,39 @@
-use Rattle.std.proofs.Common.{rules, arith, ◌≡◌, ◌≤◌, ◌<◌, ◌∷◌, ◌&&◌, ℕ, List, true, false, nat_lt, codes, length, Err, inl, inr, subst}
-use Rattle.std.proofs.lemmas.Bool.{and_left, and_right, le-ltb}
+use Rattle.std.proofs.Common.{rules, arith, ◌≡◌, ◌∷◌, ◌∙◌, ◌<◌, ◌+◌, ◌++◌, [], ap, sym, subst, ℕ, List, codes, length, length-append, true, false}
+use Rattle.std.specs.Cmp.Lexicographic.{same_text as texts_are_same}
+use Rattle.std.specs.List.{list_any}
+use Rattle.std.proofs.lemmas.List.{length-map}
 use Rattle.process_tree.specs.Making.{same_text}
-use Rattle.process_text.specs.Grammar.{AreProcessesRead, process_names}
-use Rattle.process_text.proofs.ProcessesRead.{processes_and_one, told_no_process, told_process, length-process_names}
+use Rattle.process_text.specs.Grammar.{Writes, text_pieces, process_names}
+use Rattle.process_text.specs.FirstFault.{told_from, between_processes}
+use Rattle.process_text.specs.Leading.{with_names}
+use Rattle.process_text.proofs.ProcessesRead.{new_and_one, trees_and_one, writes_process, names_and_one, process_shrinks}
 use Rattle.process_text.proofs.processes.read_processes.Goals as goal
-use Rattle.process_text.proofs.processes.read_processes.Goals.{then-not-is_word-via-then-not-is_word, then-not-is_word-via-else-not-is_word+then-len-ge-MOST_PROCESSES}
 
-pub returns-then-not-is_word-clause-fault : goal.returns-then-not-is_word-clause-fault
-returns-then-not-is_word-clause-fault c =
+pub loop-word-smaller : goal.loop-word-smaller
+loop-word-smaller c =
     let before : c.loop-word.words ≡ c.in-Some.word.now ∷ c.next_word.new.self = search rules in
-    let read : AreProcessesRead c.loop-word.found.items c.args.words (c.in-Some.word.now ∷ c.next_word.new.self) =
-    subst (λ (ws : List (List ℕ)). AreProcessesRead c.loop-word.found.items c.args.words ws) before c.loop-word.invariant in
-    let none : (same_text c.in-Some.word.now (codes "process") && nat_lt (length (process_names c.loop-word.found.items)) 256) ≡ false =
-    elim c.then-not-is_word.branch [
-      | then-not-is_word-via-then-not-is_word w ↦
-          let other : same_text c.in-Some.word.now (codes "process") ≡ false = search rules in
-          and_left (same_text c.in-Some.word.now (codes "process")) (nat_lt (length (process_names c.loop-word.found.items)) 256) other
-      | then-not-is_word-via-else-not-is_word+then-len-ge-MOST_PROCESSES w ↦
-          let many : 256 ≤ length (process_names c.loop-word.found.items) = rw (length-process_names c.loop-word.found.items) (omega arith) in
-          and_right (same_text c.in-Some.word.now (codes "process")) (nat_lt (length (process_names c.loop-word.found.items)) 256) (le-ltb (length (process_names c.loop-word.found.items)) 256 many)
-    ] in
-    inr (told_no_process c.in-Some.word.now c.loop-word.found.items c.args.words c.next_word.new.self read none)
+    let added = c.in_ok-add_process.ensures.added in
+    let less : length c.add_process.new.words < length c.next_word.new.self + 1 = process_shrinks added.0 c.next_word.new.self c.add_process.new.words added.5 in
+    let size : length c.loop-word.words ≡ length (c.in-Some.word.now ∷ c.next_word.new.self) = ap length before in
+    omega arith
 
 pub loop-word-preserved : goal.loop-word-preserved
 loop-word-preserved c =
     let before : c.loop-word.words ≡ c.in-Some.word.now ∷ c.next_word.new.self = search rules in
-    let read : AreProcessesRead c.loop-word.found.items c.args.words (c.in-Some.word.now ∷ c.next_word.new.self) =
-    subst (λ (ws : List (List ℕ)). AreProcessesRead c.loop-word.found.items c.args.words ws) before c.loop-word.invariant in
     let named : same_text c.in-Some.word.now (codes "process") ≡ true = search rules in
-    let room : length c.loop-word.found.items < 256 = omega arith in
+    let whole : c.loop-word.words ≡ codes "process" ∷ c.next_word.new.self = before ∙ ap (λ w. w ∷ c.next_word.new.self) (texts_are_same c.in-Some.word.now (codes "process") (sym named)) in
     let added = c.in_ok-add_process.ensures.added in
-    rw added.1 (processes_and_one c.in-Some.word.now c.loop-word.found.items added.0 c.args.words c.next_word.new.self c.add_process.new.words read named added.2 added.3 added.4 room)
-
-pub returns-in_err-add_process-clause-fault : goal.returns-in_err-add_process-clause-fault
-returns-in_err-add_process-clause-fault c =
-    let before : c.loop-word.words ≡ c.in-Some.word.now ∷ c.next_word.new.self = search rules in
-    let read : AreProcessesRead c.loop-word.found.items c.args.words (c.in-Some.word.now ∷ c.next_word.new.self) =
-    subst (λ (ws : List (List ℕ)). AreProcessesRead c.loop-word.found.items c.args.words ws) before c.loop-word.invariant in
-    let named : same_text c.in-Some.word.now (codes "process") ≡ true = search rules in
-    let room : length (process_names c.loop-word.found.items) < 256 = rw (length-process_names c.loop-word.found.items) (omega arith) in
-    let failed : c.from_residual.result ≡ Err c.in_err-add_process.field-0.0 = search rules in
-    rw failed (elim c.in_err-add_process.ensures.err [
-      | inl memory ↦ inl memory
-      | inr told ↦ inr (told_process c.in-Some.word.now c.loop-word.found.items c.args.words c.next_word.new.self c.in_err-add_process.field-0.0 read named room told)
-    ])
+    let inv = c.loop-word.invariant in
+    let found = c.loop-word.found.items in
+    let room = c.in_ok-add_process.ensures.room in
+    let count : length c.loop-word.names ≡ length found = ap length inv.named ∙ length-map found (λ p. p.name) in
+    let is_new : list_any (same_text added.0.name) (process_names found) ≡ false = subst (λ (ns : List (List ℕ)). list_any (same_text added.0.name) ns ≡ false) inv.named added.3 in
+    rw added.1 (record {
+      written = writes_process found added.0 c.args.words.now (codes "process" ∷ c.next_word.new.self) c.add_process.new.words
+          (subst (λ (ws : List (List ℕ)). Writes (text_pieces found) c.args.words.now ws) whole inv.written) added.5;
+      few = omega (arith, length-append found (added.0 ∷ []));
+      different = rw (names_and_one found added.0) (new_and_one [] (process_names found) added.0.name inv.different is_new);
+      trees = trees_and_one found added.0 inv.trees added.4;
+      named = added.2 ∙ ap (λ ns. ns ++ added.0.name ∷ []) inv.named ∙ sym (names_and_one found added.0);
+      leads = inv.leads ∙ ap (told_from (with_names [] c.loop-word.names []) between_processes) whole ∙ c.in_ok-add_process.ensures.leads;
+    })

@@ -1,0 +1,23 @@
+-- What a part of a text that is read leads to, whatever stands before the process.
+use Rattle.std.specs.Prelude.{◌≡◌, ◌+◌, ℕ, List, length}
+use Rattle.process_text.specs.FirstFault.{Before, told_from, told_behind, told, begun_in, in_block}
+use Rattle.process_text.specs.declared.fault.Fault.{Fault}
+use Rattle.process_text.specs.declared.marks.At.TheVariants.{Begin}
+use Rattle.process_text.specs.declared.marks.Mark.{Mark}
+use Rattle.process_text.specs.declared.marks.Next.TheVariants as next
+
+-- these names of steps stand before, and what else may
+abbrev pub with_names : List (List ℕ) → List (List ℕ) → List ℕ → Before
+with_names names earlier choices = record { earlier = earlier; names = names; choices = choices }
+
+-- what is told at a place is what is told behind a word
+abbrev pub LeadsTo : (left begun : ℕ) (names : List (List ℕ)) (before : List (List ℕ)) (names' : List (List ℕ)) (mark : Mark) (after : List (List ℕ)) → Type 0
+LeadsTo left begun names before names' mark after =
+    (earlier : List (List ℕ)) (choices : List ℕ) → length choices + left ≡ 16 → begun_in choices ≡ begun
+    → told_from (with_names names earlier choices) (in_block Begin) before ≡ told_behind (with_names names' earlier choices) (next.Mark mark) after
+
+-- a fault is told
+abbrev pub Fails : (left begun : ℕ) (names : List (List ℕ)) (before : List (List ℕ)) (fault : Fault) (after : List (List ℕ)) → Type 0
+Fails left begun names before fault after =
+    (earlier : List (List ℕ)) (choices : List ℕ) → length choices + left ≡ 16 → begun_in choices ≡ begun
+    → told_from (with_names names earlier choices) (in_block Begin) before ≡ told fault after

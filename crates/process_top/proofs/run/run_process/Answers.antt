@@ -1,0 +1,48 @@
+use Rattle.std.proofs.Common.{◌≡◌, ◌<◌, ◌^◌, List, ℕ, length, All, subst, sym, ap, ◌∙◌, arith}
+use Rattle.process_disk.specs.Disk.{Told}
+use Rattle.process_disk.proofs.Images.{still_told}
+use Rattle.process_top.specs.Life.{records_of}
+use Rattle.process_top.specs.Journal.{AreKept, AreSomeKept, life}
+use Rattle.process_top.proofs.Runs.{few_steps, records_fit, records_count, life_made, rose_later}
+use Rattle.process_top.proofs.run.run_process.Goals as goal
+
+pub append_all-requires-clause-sizes : goal.append_all-requires-clause-sizes
+append_all-requires-clause-sizes g c =
+    let are : c.deref-2.result.now ≡ records_of c.deref.result.now c.count-count.result = c.deref-2.ensures.value ∙ c.in_ok-bodies.ensures in
+    let short : length c.deref.result.now < 65000 = omega (arith, ap length c.deref.ensures.value, c.in_ok-text.ensures.size) in
+    subst (λ (bodies : List (List ℕ)). All (λ body. length body < 2 ^ 16) bodies) (sym are) (records_fit c.deref.result.now c.count-count.result short)
+
+pub append_all-requires-clause-room : goal.append_all-requires-clause-room
+append_all-requires-clause-room g c =
+    let are : c.deref-2.result.now ≡ records_of c.deref.result.now c.count-count.result = c.deref-2.ensures.value ∙ c.in_ok-bodies.ensures in
+    omega (arith, ap length are, records_count c.deref.result.now c.count-count.result, c.count-count.ensures.count, few_steps c.args.process.now.tree c.count-count.ensures.good)
+
+pub returns-in-Ok-clause-all : goal.returns-in-Ok-clause-all
+returns-in-Ok-clause-all g c = λ told.
+    let old = g.R.Rack.disk c.args.rack.now in
+    let mid = g.R.Rack.disk c.begin.new.rack in
+    let new = g.R.Rack.disk c.append_all.new.rack in
+    let told_mid : Told mid = still_told old mid c.begin.ensures.tells told in
+    let are : c.deref-2.result.now ≡ life c.args.process.now =
+    life_made c.args.process.now c.deref-2.result.now c.deref.result.now c.count-count.result c.requires (c.deref.ensures.value ∙ c.in_ok-text.ensures.text) c.count-count.ensures.count
+    (c.deref-2.ensures.value ∙ c.in_ok-bodies.ensures) in (
+      c.in_ok-log.ensures.empty told,
+      (mid.moment, subst (λ (bodies : List (List ℕ)). AreKept bodies (length bodies) mid.moment new) are (c.in-Ok.ensures.all told_mid)),
+    )
+
+pub returns-clause-refused : goal.returns-clause-refused
+returns-clause-refused g c =
+    let old = g.R.Rack.disk c.args.rack.now in
+    let mid = g.R.Rack.disk c.begin.new.rack in
+    let new = g.R.Rack.disk c.append_all.new.rack in
+    let are : c.deref-2.result.now ≡ life c.args.process.now =
+    life_made c.args.process.now c.deref-2.result.now c.deref.result.now c.count-count.result c.requires (c.deref.ensures.value ∙ c.in_ok-text.ensures.text) c.count-count.ensures.count
+    (c.deref-2.ensures.value ∙ c.in_ok-bodies.ensures) in (
+      rose_later _ _ _ c.begin.ensures.later c.in-Err.ensures.cause.failed,
+      λ told.
+          let told_mid : Told mid = still_told old mid c.begin.ensures.tells told in
+          let some = c.in-Err.ensures.some told_mid in (
+            c.in_ok-log.ensures.empty told,
+            subst (λ (bodies : List (List ℕ)). AreSomeKept bodies new) are (some.0, mid.moment, some.1, some.2),
+          ),
+    )

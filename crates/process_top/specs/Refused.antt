@@ -1,0 +1,43 @@
+-- What is said of a refusal.
+use Rattle.std.specs.Prelude.{ℕ, List, ◌++◌, codes, decimal}
+use Rattle.process_text.specs.declared.error.TextError.{TextError}
+use Rattle.process_text.specs.declared.error.TextError.TheVariants as errors
+use Rattle.process_text.specs.Texts.{expected_word, what_word}
+use Rattle.process_top.specs.declared.refusal.Refusal.{Refusal}
+use Rattle.process_top.specs.declared.refusal.Refusal.TheVariants.{BadWords, NotYet, Text, TooLong, NotEmpty, ReadFault, NotBegun, CutOff, NoMemory}
+
+-- of a text
+abbrev pub error_status : TextError → ℕ
+error_status (errors.BadText line column expected) = 2
+error_status (errors.Limit what n) = 4
+error_status (errors.SameName line name) = 2
+error_status errors.NoMemory = 13
+
+abbrev pub error_text : TextError → List ℕ
+error_text (errors.BadText line column expected) =
+    codes "bad text at line " ++ decimal line ++ codes " column " ++ decimal column ++ codes ": expected " ++ expected_word expected ++ codes "\n"
+error_text (errors.Limit what n) = codes "limit " ++ what_word what ++ codes " " ++ decimal n ++ codes "\n"
+error_text (errors.SameName line name) = codes "same name at line " ++ decimal line ++ codes ": " ++ name ++ codes "\n"
+error_text errors.NoMemory = codes "no memory\n"
+
+abbrev pub refusal_status : Refusal → ℕ
+refusal_status BadWords = 1
+refusal_status NotYet = 2
+refusal_status (Text e) = error_status e
+refusal_status TooLong = 4
+refusal_status NotEmpty = 6
+refusal_status ReadFault = 8
+refusal_status NotBegun = 10
+refusal_status CutOff = 10
+refusal_status NoMemory = 13
+
+abbrev pub refusal_text : Refusal → List ℕ
+refusal_text BadWords = codes "bad words\n"
+refusal_text NotYet = codes "not yet\n"
+refusal_text (Text e) = error_text e
+refusal_text TooLong = codes "limit input 1048577\n"
+refusal_text NotEmpty = codes "not empty file 0\n"
+refusal_text ReadFault = codes "read fault\n"
+refusal_text NotBegun = codes "disk fault\n"
+refusal_text CutOff = codes "disk fault\n"
+refusal_text NoMemory = codes "no memory\n"

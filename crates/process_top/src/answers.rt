@@ -1,0 +1,99 @@
+// Answers to lists of words.
+ghost use Rattle.std.specs.Prelude.{◌≡◌, ◌⊎◌, map, string_bytes};
+ghost use Rattle.process_top.specs.Reply.{IsRunWord, IsAnswered, IsComplete};
+
+use crate::commands::{check, is_only, run};
+use crate::tell::tell;
+use process_disk::Rack;
+use process_flow::{Sink, Source};
+use std::alloc::Global;
+use std::sync::Wait;
+use std::thread::Threads;
+
+/// The status of an answer, and the rack after it.
+pub struct Finished<R> {
+    pub status: u8,
+    pub rack: R,
+}
+
+// Answers a list of words.
+fn reply<S: Source, K: Sink, R: Rack>(
+    alloc: Global,
+    words: &[String],
+    source: &mut S,
+    sink: &mut K,
+    rack: &mut R,
+) -> u8
+    ensures answered { IsAnswered (map string_bytes words.now)
+        (record { left = S.left source.old; faults = S.faults source.old })
+        (record { left = S.left source.new; faults = S.faults source.new })
+        (record { disk = R.disk rack.old; faults = R.faults rack.old })
+        (record { disk = R.disk rack.new; faults = R.faults rack.new })
+        (record { taken = K.taken sink.old; faults = K.faults sink.old })
+        (record { taken = K.taken sink.new; faults = K.faults sink.new }) result }
+    ensures untouched { (IsRunWord (map string_bytes words.now)) ⊎ (rack.new ≡ rack.old) }
+{
+    if is_only(words, "check") {
+        check(alloc, source, sink)
+    } else if is_only(words, "run") {
+        run(alloc, source, sink, rack)
+    } else {
+        tell(sink, b"bad words\n", 1)
+    }
+}
+
+/// Answers a list of words over a source, a sink and a rack.
+pub fn answer<S: Source, K: Sink, R: Rack>(
+    alloc: Global,
+    words: &[String],
+    source: &mut S,
+    sink: &mut K,
+    rack: R,
+) -> Finished<R>
+    // Some reply was due, and it was told: its text went out and the status is its own, or the sink failed and it is 9.
+    ensures answered { IsAnswered (map string_bytes words.now)
+        (record { left = S.left source.old; faults = S.faults source.old })
+        (record { left = S.left source.new; faults = S.faults source.new })
+        (record { disk = R.disk rack; faults = R.faults rack })
+        (record { disk = R.disk result.rack; faults = R.faults result.rack })
+        (record { taken = K.taken sink.old; faults = K.faults sink.old })
+        (record { taken = K.taken sink.new; faults = K.faults sink.new }) result.status }
+    // A text in the grammar is checked, where no call failed and memory was found.
+    ensures complete { IsComplete (map string_bytes words.now)
+        (record { left = S.left source.old; faults = S.faults source.old })
+        (record { left = S.left source.new; faults = S.faults source.new })
+        (record { taken = K.taken sink.old; faults = K.faults sink.old })
+        (record { taken = K.taken sink.new; faults = K.faults sink.new }) result.status }
+    // No command but `run` touches the rack.
+    ensures untouched { (IsRunWord (map string_bytes words.now)) ⊎ (result.rack ≡ rack) }
+{
+    let mut rack = rack;
+    let status = reply(alloc, words, source, sink, &mut rack);
+    Finished { status, rack }
+}
+
+/// Answers a list of words, as `answer` does.
+pub fn top<H: Threads + Wait + Sync, S: Source, K: Sink, R: Rack>(
+    _rt: &H,
+    alloc: Global,
+    words: &[String],
+    source: &mut S,
+    sink: &mut K,
+    rack: R,
+) -> Finished<R>
+    ensures answered { IsAnswered (map string_bytes words.now)
+        (record { left = S.left source.old; faults = S.faults source.old })
+        (record { left = S.left source.new; faults = S.faults source.new })
+        (record { disk = R.disk rack; faults = R.faults rack })
+        (record { disk = R.disk result.rack; faults = R.faults result.rack })
+        (record { taken = K.taken sink.old; faults = K.faults sink.old })
+        (record { taken = K.taken sink.new; faults = K.faults sink.new }) result.status }
+    ensures complete { IsComplete (map string_bytes words.now)
+        (record { left = S.left source.old; faults = S.faults source.old })
+        (record { left = S.left source.new; faults = S.faults source.new })
+        (record { taken = K.taken sink.old; faults = K.faults sink.old })
+        (record { taken = K.taken sink.new; faults = K.faults sink.new }) result.status }
+    ensures untouched { (IsRunWord (map string_bytes words.now)) ⊎ (result.rack ≡ rack) }
+{
+    answer(alloc, words, source, sink, rack)
+}

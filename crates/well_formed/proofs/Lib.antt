@@ -1,0 +1,12 @@
+pub mod Apart
+pub mod Once
+pub mod Standing
+pub mod Reach
+pub mod CutOffs
+pub mod Firsts
+pub mod Spots
+pub mod WaysOn
+pub mod Judging
+pub mod Rounds
+pub mod Counted
+pub mod Told

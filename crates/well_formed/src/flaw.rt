@@ -1,0 +1,126 @@
+// What is wrong with single steps.
+ghost use Rattle.std.specs.Prelude.{◌≡◌, ◌≤◌, ◌<◌, ◌-◌, ◌++◌, ◌∷◌, [], true, length, Option, None, slice_index, IsTrue, MatchOption};
+ghost use Rattle.std.specs.List.{list_any, filter_map};
+ghost use Rattle.process_tree.specs.Order.{Each};
+ghost use Rattle.process_tree.specs.Shape.{greatest, goes_on_to, fixed_len, can_be_refused, commits, last_of};
+ghost use Rattle.process_tree.specs.Paths.{greater_of};
+ghost use Rattle.well_formed.specs.Flaws.{shape_by, IsOrderly, flaw_at, IsSound, is_sure};
+ghost use Rattle.well_formed.specs.Spots.{stands_at, step_on, earlier_way, is_later, leaves_later};
+
+use process_tree::{Places, StepKind};
+
+/// What can be wrong with a step.
+#[derive(Clone, Copy, Debug, PartialEq, Eq)]
+pub enum Flaw {
+    /// It begins an alternative behind one that is always finished.
+    CutOff,
+    /// If it is refused, the process is stuck.
+    DeadEnd,
+}
+
+pub fn can_be_refused(kind: StepKind) -> bool
+    ensures { result ≡ can_be_refused kind }
+{
+    match kind {
+        StepKind::C => true,
+        StepKind::P => true,
+        StepKind::R => false,
+    }
+}
+
+pub fn commits(kind: StepKind) -> bool
+    ensures { result ≡ commits kind }
+{
+    match kind {
+        StepKind::C => false,
+        StepKind::P => true,
+        StepKind::R => true,
+    }
+}
+
+fn stands_at(path: &[u16], place: usize, step: u16) -> bool
+    ensures { result ≡ stands_at step place path.now }
+{
+    match path.get(place) {
+        None => false,
+        Some(other) => *other == step,
+    }
+}
+
+/// The step with which a path goes on from a branch: a step stands behind one branch only.
+fn step_on(path: &[u16], branch: &[u16]) -> Option<u16>
+    ensures { result ≡ step_on (length branch.now) branch.now path.now }
+{
+    let place = branch.len();
+    if place > 0 && !stands_at(path, place - 1, branch[place - 1]) {
+        return None;
+    }
+    match path.get(place) {
+        None => None,
+        Some(step) => Some(*step),
+    }
+}
+
+fn earlier_way(path: &[u16], branch: &[u16], step: u16) -> Option<u16>
+    ensures { result ≡ earlier_way branch.now step path.now }
+{
+    match step_on(path, branch) {
+        None => None,
+        Some(other) => { if other < step { Some(other) } else { None } }
+    }
+}
+
+fn greater_of(found: Option<u16>, next: Option<u16>) -> Option<u16>
+    ensures { result ≡ greater_of found next }
+{
+    match (found, next) {
+        (None, _) => next,
+        (Some(step), None) => Some(step),
+        (Some(step), Some(other)) => Some(if other < step { step } else { other }),
+    }
+}
+
+/// The greatest step below this one with which a path goes on from a branch.
+pub fn way_before(paths: &[Places], branch: &[u16], step: u16) -> Option<u16>
+    ensures { result ≡ greatest (filter_map (earlier_way branch.now step) paths.now) }
+{
+    let mut found = None;
+    for path in paths {
+        found = greater_of(found, earlier_way(path.as_slice(), branch, step));
+    }
+    found
+}
+
+/// Whether a path goes on to a step behind this one.
+fn ends_later(path: &[u16], step: u16) -> bool
+    ensures { result ≡ is_later step (last_of path.now) }
+{
+    match path.last() {
+        None => false,
+        Some(last) => step < *last,
+    }
+}
+
+/// Whether a path leaves the branch to a step behind its first steps, for later ones.
+fn leaves_later(path: &[u16], branch: &[u16], fixed: usize, step: u16) -> bool
+    requires some { 0 < fixed }
+    requires within { fixed ≤ length branch.now }
+    ensures { result ≡ leaves_later (fixed - 1) branch.now step path.now }
+{
+    stands_at(path, fixed - 1, branch[fixed - 1])
+        && !stands_at(path, branch.len(), step)
+        && ends_later(path, step)
+}
+
+pub fn has_way_on(paths: &[Places], branch: &[u16], fixed: usize, step: u16) -> bool
+    requires some { 0 < fixed }
+    requires within { fixed ≤ length branch.now }
+    ensures { result ≡ list_any (leaves_later (fixed - 1) branch.now step) paths.now }
+{
+    for path in paths {
+        if leaves_later(path.as_slice(), branch, fixed, step) {
+            return true;
+        }
+    }
+    false
+}

@@ -1,0 +1,146 @@
+// What is wrong first with a process.
+ghost use Rattle.std.specs.Prelude.{◌≡◌, ◌+◌, ◌<◌, true, [], length, take, slice_index_or, IfSome, IsTrue, if◌then◌else◌};
+ghost use Rattle.process_tree.specs.declared.step.StepKind.TheVariants.{C};
+ghost use Rattle.process_tree.specs.Order.{Each};
+ghost use Rattle.process_tree.specs.Shape.{goes_on_to, fixed_len, commits};
+ghost use Rattle.well_formed.specs.Flaws.{shape_by, IsOrderly, is_sure, is_cut_off, is_dead_end, flaw_at, IsSound, AreJudged, IsJudged};
+
+use crate::flaw::{Flaw, can_be_refused, commits, has_way_on, way_before};
+use process_tree::{Places, StepKind};
+
+/// A step with what is wrong with it.
+#[derive(Clone, Copy)]
+pub struct Flawed {
+    pub step: u16,
+    pub flaw: Flaw,
+}
+
+/// Whether there is a step that can't be refused.
+fn is_sure(kinds: &[StepKind], way: Option<u16>) -> bool
+    requires { IfSome way (λ step. step < length kinds.now) }
+    ensures { result ≡ is_sure kinds.now way }
+{
+    match way {
+        None => false,
+        Some(step) => !can_be_refused(kinds[usize::from(step)]),
+    }
+}
+
+/// Whether a step that goes on from this branch is cut off by the way before it.
+fn is_cut_off(paths: &[Places], kinds: &[StepKind], branch: &[u16], step: u16) -> bool
+    requires orderly { IsOrderly (shape_by kinds.now paths.now) }
+    requires on { goes_on_to (shape_by kinds.now paths.now) branch.now step ≡ true }
+    ensures { result ≡ is_cut_off (shape_by kinds.now paths.now) step }
+{
+    is_sure(kinds, way_before(paths, branch, step))
+}
+
+/// Whether a step that goes on from this branch is a dead end. So many first steps of the branch stand up to its last
+/// commit point.
+fn is_dead_end(
+    paths: &[Places],
+    kinds: &[StepKind],
+    branch: &[u16],
+    fixed: usize,
+    step: u16,
+) -> bool
+    requires orderly { IsOrderly (shape_by kinds.now paths.now) }
+    requires on { goes_on_to (shape_by kinds.now paths.now) branch.now step ≡ true }
+    requires fixed { fixed ≡ fixed_len (shape_by kinds.now paths.now) branch.now }
+    ensures { result ≡ is_dead_end (shape_by kinds.now paths.now) step }
+{
+    if fixed == 0 {
+        return false;
+    }
+    if !can_be_refused(kinds[usize::from(step)]) {
+        return false;
+    }
+    !has_way_on(paths, branch, fixed, step)
+}
+
+/// What is wrong with a step that goes on from this branch. Nothing is looked up of a step that is known to be sound.
+fn flaw_of(
+    paths: &[Places],
+    kinds: &[StepKind],
+    branch: &[u16],
+    fixed: usize,
+    step: u16,
+    is_known: bool,
+) -> Option<Flaw>
+    requires orderly { IsOrderly (shape_by kinds.now paths.now) }
+    requires on { goes_on_to (shape_by kinds.now paths.now) branch.now step ≡ true }
+    requires fixed { fixed ≡ fixed_len (shape_by kinds.now paths.now) branch.now }
+    requires known { IsTrue is_known → IsSound (shape_by kinds.now paths.now) step }
+    ensures { result ≡ flaw_at (shape_by kinds.now paths.now) step }
+{
+    if is_known {
+        return None;
+    }
+    if is_cut_off(paths, kinds, branch, step) {
+        return Some(Flaw::CutOff);
+    }
+    if is_dead_end(paths, kinds, branch, fixed, step) {
+        return Some(Flaw::DeadEnd);
+    }
+    None
+}
+
+/// How many steps stand up to the last commit point behind a step that stands at this place.
+fn fixed_behind(kinds: &[StepKind], fixed: usize, place: usize, step: u16) -> usize
+    requires step { step < length kinds.now }
+    requires place { place < 18446744073709551615 }
+    ensures { result ≡ (if commits (slice_index_or kinds.now step C) then place + 1 else fixed) }
+{
+    if commits(kinds[usize::from(step)]) {
+        place + 1
+    } else {
+        fixed
+    }
+}
+
+/// What is wrong first on a path, of which the first steps were found sound on an earlier one.
+fn flaw_on(paths: &[Places], kinds: &[StepKind], at: usize, skip: usize) -> Option<Flawed>
+    requires orderly { IsOrderly (shape_by kinds.now paths.now) }
+    requires within { at < length paths.now }
+    requires earlier { Each (Each (IsSound (shape_by kinds.now paths.now))) (take at paths.now) }
+    requires skip { Each (IsSound (shape_by kinds.now paths.now)) (take skip (slice_index_or paths.now at [])) }
+    ensures { AreJudged (shape_by kinds.now paths.now) (slice_index_or paths.now at []) result }
+{
+    let path = paths[at].as_slice();
+    let mut fixed = 0;
+    for place in 0..path.len() {
+        let step = path[place];
+        if let Some(flaw) = flaw_of(paths, kinds, &path[..place], fixed, step, place < skip) {
+            return Some(Flawed { step, flaw });
+        }
+        fixed = fixed_behind(kinds, fixed, place, step);
+    }
+    None
+}
+
+/// How many steps two paths have in common.
+fn shared(earlier: &[u16], path: &[u16]) -> usize
+    ensures { take result earlier.now ≡ take result path.now }
+{
+    let mut count = 0;
+    while count < earlier.len() && count < path.len() && earlier[count] == path[count] {
+        count += 1;
+    }
+    count
+}
+
+/// What is wrong first with a process with these whole paths and kinds.
+pub fn first_flaw(paths: &[Places], kinds: &[StepKind]) -> Option<Flawed>
+    requires { IsOrderly (shape_by kinds.now paths.now) }
+    ensures { IsJudged (shape_by kinds.now paths.now) result }
+{
+    let mut earlier: &[u16] = &[];
+    for at in 0..paths.len() {
+        let path = paths[at].as_slice();
+        if let Some(flawed) = flaw_on(paths, kinds, at, shared(earlier, path)) {
+            return Some(flawed);
+        }
+        earlier = path;
+    }
+    None
+}
