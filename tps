@@ -1,9 +1,10 @@
 #!/bin/sh
 # Runs the program with the words, the input, the output, the status and the folder of this call, and builds it first
-# where it isn't built.
+# where it isn't built or a source is newer.
 top=$(cd "$(dirname "$0")" && pwd)
 program=$top/crates/process_main/out/process_main
-if [ ! -x "$program" ]; then
+if [ ! -x "$program" ] || [ -n "$(find "$top/crates" -name '*.rt' -newer "$program" -print -quit)" ]; then
+  rm -f "$program"
   log=$(mktemp)
   (cd "$top/crates/process_main" && rt run) </dev/null >"$log" 2>&1
   if [ ! -x "$program" ]; then
