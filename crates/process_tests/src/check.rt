@@ -50,7 +50,7 @@ fn expect<H: Threads + Wait + Sync + Abort>(
     Ok(())
 }
 
-const ROWS: [(&[u8], u8, &[u8]); 26] = [
+const ROWS: [(&[u8], u8, &[u8]); 27] = [
     (b"process a c x add 1 5 end", 0, b"a: well-formed\n"),
     (b"", 0, b""),
     (b" \t\r\n", 0, b""),
@@ -93,6 +93,12 @@ const ROWS: [(&[u8], u8, &[u8]); 26] = [
         b"process a p x pay 1 1 choose c y add 1 1 or c m add 1 1 or r t mail 1 1 done end",
         0,
         b"a: well-formed\n",
+    ),
+    (
+        b"process order c reserve take 1 2 p payment pay 1 40 choose c pick take 2 1 p ship send 1 1 r tell note 1 1 \
+            or r post note 2 1 r inform note 3 1 done end",
+        0,
+        b"order: well-formed\n",
     ),
     (b"process a c x add 1 1 undo 3 end", 0, b"a: well-formed\n"),
     (
@@ -204,6 +210,20 @@ fn many(alloc: Global, count: u32, steps: u32) -> Result<Vec<u8>, Fail> {
     Ok(text.into_bytes())
 }
 
+// A process with this many choices, each in the second alternative of the one before.
+fn nested(alloc: Global, depth: u32) -> Result<Vec<u8>, Fail> {
+    let mut text = String::new(alloc);
+    write!(text, "process a ")?;
+    for level in 0..depth {
+        write!(text, "choose c s{level} add 1 1 or c t{level} add 1 1 ")?;
+    }
+    for _ in 0..depth {
+        write!(text, "done ")?;
+    }
+    write!(text, "end")?;
+    Ok(text.into_bytes())
+}
+
 fn blanks(alloc: Global, count: usize) -> Result<Vec<u8>, AllocError> {
     vec![in alloc; b' '; count]
 }
@@ -220,6 +240,22 @@ fn limits_are_kept(rt: HostRuntime) -> Result<(), Fail> {
             status
         );
     }
+    expect(
+        &rt,
+        alloc,
+        &["check"],
+        &nested(alloc, 16)?,
+        0,
+        b"a: well-formed\n",
+    )?;
+    expect(
+        &rt,
+        alloc,
+        &["check"],
+        &nested(alloc, 17)?,
+        4,
+        b"limit nesting 17\n",
+    )?;
     expect(&rt, alloc, &["check"], &blanks(alloc, 1048576)?, 0, b"")?;
     expect(
         &rt,
