@@ -16,3 +16,4 @@ pub mod Written
 pub mod Short
 pub mod GoodPieces
 pub mod Reprinted
+pub mod Injective

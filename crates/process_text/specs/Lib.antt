@@ -8,3 +8,4 @@ pub mod Texts
 pub mod Leading
 pub mod Canonical
 pub mod Examples
+pub mod Again

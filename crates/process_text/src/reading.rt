@@ -1,6 +1,7 @@
 // Reading a text.
 ghost use Rattle.std.specs.Prelude.{◌≡◌, ◌⊎◌, List, Some, IfOk, IfErr};
 ghost use Rattle.process_tree.specs.declared.tree.Named.{Named};
+ghost use Rattle.process_text.specs.Again.{IsAgain};
 ghost use Rattle.process_text.specs.Words.{words_of};
 ghost use Rattle.process_text.specs.Grammar.{IsReading, text_pieces, pieces_of_process};
 ghost use Rattle.process_text.specs.Places.{text_error};
@@ -38,7 +39,9 @@ fn read_text(alloc: Global, bytes: &[u8]) -> Result<Vec<Named>, TextError>
 
 /// Reads the canonical text of a process again.
 pub fn read_again(alloc: Global, name: &Name, tree: &Tree) -> Result<Vec<Named>, TextError>
-    // What is read has the pieces of that name and that tree.
+    // What is read is one process of that name and with a tree that equals that one, wherever both lie in memory.
+    ensures again { IfOk result (λ found. IsAgain name.now tree.now found.items) }
+    // It has the same pieces.
     ensures same { IfOk result (λ found. text_pieces found.items ≡ pieces_of_process name.now tree.now) }
     ensures memory { IfErr result (λ e. e ≡ TextError.NoMemory) }
 {
