@@ -1,9 +1,9 @@
 -- How records are kept as they are appended.
 use Rattle.std.proofs.Common.{◌≡◌, ◌≤◌, ◌<◌, ◌+◌, ◌⊎◌, ℕ, List, [], ◌∷◌, ◌++◌, length, take, inl, inr, arith}
 use Rattle.std.proofs.lemmas.Bool.{cases_lt}
-use Rattle.process_disk.specs.Disk.{FileSet, Disk}
-use Rattle.process_disk.specs.Images.{EachImage, ImagesFollow}
-use Rattle.process_disk.proofs.Images.{each_so, each_then}
+use Rattle.process_disk.specs.Disk.{FileSet, Disk, Told, IsHonest}
+use Rattle.process_disk.specs.Images.{EachImage, ImagesFollow, OthersAsBefore}
+use Rattle.process_disk.proofs.Images.{each_so, each_then, still_told, others_then}
 use Rattle.gate_log.specs.Standing.{Logs, LogsBeforeOrWith}
 use Rattle.process_top.specs.Journal.{LogsAtLeast, AreKept}
 
@@ -48,3 +48,10 @@ kept_after records n created disk lt later each kept = record {
   begun = kept.begun;
   appended = λ k le. one_more records n created disk lt later each kept k le (cases_lt k (n + 1));
 }
+
+-- files other than this one as before, over a run of calls and another
+pub others_twice : (q : ℕ) (old mid new : Disk) → (Told mid → IsHonest mid) → (Told new → IsHonest new) → mid.tells ≡ old.tells → new.tells ≡ mid.tells
+    → (Told old → OthersAsBefore q old mid) → (Told mid → OthersAsBefore q mid new) → Told old → OthersAsBefore q old new
+others_twice q old mid new honest_mid honest tells1 tells2 first second told =
+    let told_mid : Told mid = still_told old mid tells1 told in
+    others_then q old mid new (honest_mid told_mid) (honest (still_told mid new tells2 told_mid)) (first told) (second told_mid)

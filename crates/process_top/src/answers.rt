@@ -1,5 +1,7 @@
 // Answers to lists of words.
 ghost use Rattle.std.specs.Prelude.{◌≡◌, ◌⊎◌, map, string_bytes};
+ghost use Rattle.process_disk.specs.Disk.{Told};
+ghost use Rattle.process_disk.specs.Images.{OthersAsBefore};
 ghost use Rattle.process_top.specs.Reply.{IsRunWord, IsAnswered, IsComplete};
 
 use crate::commands::{check, is_only, run};
@@ -31,6 +33,7 @@ fn reply<S: Source, K: Sink, R: Rack>(
         (record { disk = R.disk rack.new; faults = R.faults rack.new })
         (record { taken = K.taken sink.old; faults = K.faults sink.old })
         (record { taken = K.taken sink.new; faults = K.faults sink.new }) result }
+    ensures others { Told (R.disk rack.old) → OthersAsBefore 0 (R.disk rack.old) (R.disk rack.new) }
     ensures untouched { (IsRunWord (map string_bytes words.now)) ⊎ (rack.new ≡ rack.old) }
 {
     if is_only(words, "check") {
@@ -64,6 +67,8 @@ pub fn answer<S: Source, K: Sink, R: Rack>(
         (record { left = S.left source.new; faults = S.faults source.new })
         (record { taken = K.taken sink.old; faults = K.faults sink.old })
         (record { taken = K.taken sink.new; faults = K.faults sink.new }) result.status }
+    // The files but file 0 stay as they are, and stand together in each crash image as a crash at the start may leave them.
+    ensures others { Told (R.disk rack) → OthersAsBefore 0 (R.disk rack) (R.disk result.rack) }
     // No command but `run` touches the rack.
     ensures untouched { (IsRunWord (map string_bytes words.now)) ⊎ (result.rack ≡ rack) }
 {
@@ -93,6 +98,7 @@ pub fn top<H: Threads + Wait + Sync, S: Source, K: Sink, R: Rack>(
         (record { left = S.left source.new; faults = S.faults source.new })
         (record { taken = K.taken sink.old; faults = K.faults sink.old })
         (record { taken = K.taken sink.new; faults = K.faults sink.new }) result.status }
+    ensures others { Told (R.disk rack) → OthersAsBefore 0 (R.disk rack) (R.disk result.rack) }
     ensures untouched { (IsRunWord (map string_bytes words.now)) ⊎ (result.rack ≡ rack) }
 {
     answer(alloc, words, source, sink, rack)

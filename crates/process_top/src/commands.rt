@@ -1,5 +1,7 @@
 // The commands of the program.
 ghost use Rattle.std.specs.Prelude.{◌≡◌, ◌∷◌, [], ◌↔◌, IsTrue, map, string_bytes, codes, IfOk, IfErr};
+ghost use Rattle.process_disk.specs.Disk.{Told};
+ghost use Rattle.process_disk.specs.Images.{OthersAsBefore};
 ghost use Rattle.process_top.specs.Commands.{IsWholeText, IsChecked, IsCheckAnswered, IsOnlyRun, IsOnlyRefused, IsRunOf, IsNotRun, IsRunAnswered};
 ghost use Rattle.process_top.specs.Reply.{IsRead, IsUnread};
 
@@ -99,6 +101,7 @@ pub fn check<S: Source, K: Sink>(alloc: Global, source: &mut S, sink: &mut K) ->
 fn run_only<R: Rack>(alloc: Global, rack: &mut R, processes: &[Named]) -> Result<Vec<u8>, Refusal>
     ensures ran { IfOk result (λ lines. IsOnlyRun processes.now (R.disk rack.old) (R.disk rack.new) lines.items) }
     ensures refused { IfErr result (λ e. IsOnlyRefused e processes.now (R.disk rack.old) (R.disk rack.new) (R.faults rack.old) (R.faults rack.new)) }
+    ensures others { Told (R.disk rack.old) → OthersAsBefore 0 (R.disk rack.old) (R.disk rack.new) }
 {
     match processes {
         [process] => {
@@ -124,6 +127,7 @@ fn ran<S: Source, R: Rack>(alloc: Global, source: &mut S, rack: &mut R) -> Resul
         (record { left = S.left source.new; faults = S.faults source.new })
         (record { disk = R.disk rack.old; faults = R.faults rack.old })
         (record { disk = R.disk rack.new; faults = R.faults rack.new })) }
+    ensures others { Told (R.disk rack.old) → OthersAsBefore 0 (R.disk rack.old) (R.disk rack.new) }
 {
     let processes = processes_of(alloc, source)?;
     run_only(alloc, rack, &processes)
@@ -136,13 +140,14 @@ pub fn run<S: Source, K: Sink, R: Rack>(
     sink: &mut K,
     rack: &mut R,
 ) -> u8
-    ensures { IsRunAnswered
+    ensures answered { IsRunAnswered
         (record { left = S.left source.old; faults = S.faults source.old })
         (record { left = S.left source.new; faults = S.faults source.new })
         (record { disk = R.disk rack.old; faults = R.faults rack.old })
         (record { disk = R.disk rack.new; faults = R.faults rack.new })
         (record { taken = K.taken sink.old; faults = K.faults sink.old })
         (record { taken = K.taken sink.new; faults = K.faults sink.new }) result }
+    ensures others { Told (R.disk rack.old) → OthersAsBefore 0 (R.disk rack.old) (R.disk rack.new) }
 {
     match ran(alloc, source, rack) {
         Ok(lines) => tell(sink, &lines, 0),

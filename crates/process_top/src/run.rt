@@ -2,6 +2,7 @@
 ghost use Rattle.std.specs.Prelude.{◌≡◌, ◌≢◌, ◌≤◌, ◌<◌, [], ℕ, true, length, IfOk, IfErr};
 ghost use Rattle.std.specs.List.{concat};
 ghost use Rattle.process_disk.specs.Disk.{Told, file_of};
+ghost use Rattle.process_disk.specs.Images.{OthersAsBefore};
 ghost use Rattle.gate_log.specs.Standing.{StandsFor};
 ghost use Rattle.process_top.specs.Life.{is_add_process, lines_of};
 ghost use Rattle.process_top.specs.Journal.{IsRun, IsRefusedBefore, IsRefusedRun};
@@ -20,6 +21,7 @@ fn is_empty<R: Rack>(rack: &mut R) -> Result<(), Refusal>
     ensures empty { Told (R.disk rack.old) → IfOk result (λ _. file_of (R.disk rack.old).files 0 ≡ []) }
     ensures same { Told (R.disk rack.old) → (R.disk rack.new).files ≡ (R.disk rack.old).files }
     ensures refused { IfErr result (λ e. IsRefusedBefore e (R.disk rack.old) (R.faults rack.old) (R.faults rack.new)) }
+    ensures others { Told (R.disk rack.old) → OthersAsBefore 0 (R.disk rack.old) (R.disk rack.new) }
     ensures tells { (R.disk rack.new).tells ≡ (R.disk rack.old).tells }
     ensures later { R.faults rack.old ≤ R.faults rack.new }
 {
@@ -36,6 +38,7 @@ fn begin<R: Rack>(alloc: Global, rack: &mut R) -> Result<Log, Refusal>
     ensures stands { Told (R.disk rack.old) → IfOk result (λ log. StandsFor log [] (R.disk rack.new)) }
     ensures log { IfOk result (λ log. (log.file ≡ 0) × (log.count ≡ 0)) }
     ensures refused { IfErr result (λ e. IsRefusedBefore e (R.disk rack.old) (R.faults rack.old) (R.faults rack.new)) }
+    ensures others { Told (R.disk rack.old) → OthersAsBefore 0 (R.disk rack.old) (R.disk rack.new) }
     ensures tells { (R.disk rack.new).tells ≡ (R.disk rack.old).tells }
     ensures later { R.faults rack.old ≤ R.faults rack.new }
 {
@@ -56,6 +59,7 @@ pub fn run_process<R: Rack>(
     requires { is_add_process process.now.tree ≡ true }
     ensures lines { IfOk result (λ lines. lines.items ≡ concat (lines_of process.now)) }
     ensures all { Told (R.disk rack.old) → IfOk result (λ _. IsRun process.now (R.disk rack.old) (R.disk rack.new)) }
+    ensures others { Told (R.disk rack.old) → OthersAsBefore 0 (R.disk rack.old) (R.disk rack.new) }
     ensures refused { IfErr result (λ e. IsRefusedRun e process.now (R.disk rack.old) (R.disk rack.new) (R.faults rack.old) (R.faults rack.new)) }
 {
     let text = canonical(alloc, process)?;

@@ -6,4 +6,4 @@ pub returns-then-is_only-clause-answered : goal.returns-then-is_only-clause-answ
 returns-then-is_only-clause-answered g c = check_answers _ _ _ _ _ _ _ _ (search rules) c.check.ensures
 
 pub returns-then-is_only-2-clause-answered : goal.returns-then-is_only-2-clause-answered
-returns-then-is_only-2-clause-answered g c = run_answers _ _ _ _ _ _ _ _ (search rules) c.run.ensures
+returns-then-is_only-2-clause-answered g c = run_answers _ _ _ _ _ _ _ _ (search rules) c.run.ensures.answered

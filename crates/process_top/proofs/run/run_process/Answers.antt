@@ -3,6 +3,7 @@ use Rattle.process_disk.specs.Disk.{Told}
 use Rattle.process_disk.proofs.Images.{still_told}
 use Rattle.process_top.specs.Life.{records_of}
 use Rattle.process_top.specs.Journal.{AreKept, AreSomeKept, life}
+use Rattle.process_top.proofs.Kept.{others_twice}
 use Rattle.process_top.proofs.Runs.{few_steps, records_fit, records_count, life_made, rose_later}
 use Rattle.process_top.proofs.run.run_process.Goals as goal
 
@@ -46,3 +47,13 @@ returns-clause-refused g c =
             subst (λ (bodies : List (List ℕ)). AreSomeKept bodies new) are (some.0, mid.moment, some.1, some.2),
           ),
     )
+
+pub returns-in-Ok-clause-others : goal.returns-in-Ok-clause-others
+returns-in-Ok-clause-others g c =
+    others_twice 0 (g.R.Rack.disk c.args.rack.now) (g.R.Rack.disk c.begin.new.rack) (g.R.Rack.disk c.append_all.new.rack) (g.met.R.Rack.honest c.begin.new.rack) (g.met.R.Rack.honest c.append_all.new.rack)
+    c.begin.ensures.tells c.append_all.ensures.tells c.begin.ensures.others c.append_all.ensures.others
+
+pub returns-clause-others : goal.returns-clause-others
+returns-clause-others g c =
+    others_twice 0 (g.R.Rack.disk c.args.rack.now) (g.R.Rack.disk c.begin.new.rack) (g.R.Rack.disk c.append_all.new.rack) (g.met.R.Rack.honest c.begin.new.rack) (g.met.R.Rack.honest c.append_all.new.rack)
+    c.begin.ensures.tells c.append_all.ensures.tells c.begin.ensures.others c.append_all.ensures.others
