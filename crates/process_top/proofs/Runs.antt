@@ -13,7 +13,8 @@ use Rattle.process_tree.specs.declared.tree.TreeError.TheVariants.{Empty, Steps}
 use Rattle.process_tree.specs.Blocks.{numbers_from, outline, outline_of}
 use Rattle.process_tree.specs.Making.{tree_fault}
 use Rattle.process_flow.specs.Causes.{Rose}
-use Rattle.process_top.specs.Life.{is_add_step, is_end, is_add_process, process_text, act_body, setup_body, start_body, end_body, records_of, lines_of, lines_from, do_line}
+use Rattle.process_top.specs.Life.{is_add_step, is_end, is_add_process, act_body, setup_body, start_body, end_body, records_of, lines_of, lines_from, do_line}
+use Rattle.process_text.specs.Canonical.{canonical_text}
 use Rattle.process_top.specs.Journal.{life}
 
 few_by : (empty over : Bool) (n : ℕ) (rest : Option TreeError) → nat_lt 256 n ≡ over → (if empty then Some Empty else (if over then Some (Steps n) else rest)) ≡ None → n ≤ 256
@@ -38,7 +39,7 @@ acts_fit [] = λ k d lt. absurd (omega arith)
 acts_fit (k ∷ ks) = All-cons (λ k. length (act_body k) < 2 ^ 16) k ks (omega arith) (acts_fit ks)
 
 -- each record of a text that isn't long fits a log
-pub records_fit : (text : List ℕ) (n : ℕ) → length text < 65000 → All (λ body. length body < 2 ^ 16) (records_of text n)
+pub records_fit : (text : List ℕ) (n : ℕ) → length text < 40000 → All (λ body. length body < 2 ^ 16) (records_of text n)
 records_fit text n short =
     let Fits = λ (body : List ℕ). length body < 2 ^ 16 in
     let acts = map act_body (numbers_from 0 n) ++ end_body ∷ [] in
@@ -60,10 +61,10 @@ pub lines_count : (p : Named) → length (lines_of p) ≡ length p.tree.steps + 
 lines_count p = omega (arith, length-append (map do_line p.tree.steps) ((lines_from []) ++ []), length-map p.tree.steps do_line)
 
 -- the bodies that were made are those of the life
-pub life_made : (p : Named) (bodies : List (List ℕ)) (text : List ℕ) (n : ℕ) → is_add_process p.tree ≡ true → text ≡ process_text p → n ≡ length (outline p.tree).steps
+pub life_made : (p : Named) (bodies : List (List ℕ)) (text : List ℕ) (n : ℕ) → is_add_process p.tree ≡ true → text ≡ canonical_text p.name p.tree → n ≡ length (outline p.tree).steps
     → bodies ≡ records_of text n → bodies ≡ life p
 life_made p bodies text n is made counted are =
-    are ∙ ap (λ t. records_of t n) made ∙ ap (λ k. records_of (process_text p) k) (counted ∙ ap (λ ss. length ss) (steps_at_end p.tree is))
+    are ∙ ap (λ t. records_of t n) made ∙ ap (λ k. records_of (canonical_text p.name p.tree) k) (counted ∙ ap (λ ss. length ss) (steps_at_end p.tree is))
 
 -- a count that rose later rose
 pub rose_later : (before mid after : ℕ) → before ≤ mid → Rose mid after → Rose before after

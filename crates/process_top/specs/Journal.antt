@@ -5,7 +5,8 @@ use Rattle.process_disk.specs.Disk.{FileSet, Disk, Told, file_of}
 use Rattle.process_disk.specs.Images.{EachImage}
 use Rattle.gate_log.specs.Standing.{Logs}
 use Rattle.process_tree.specs.declared.tree.Named.{Named}
-use Rattle.process_top.specs.Life.{process_text, records_of}
+use Rattle.process_top.specs.Life.{records_of}
+use Rattle.process_text.specs.Canonical.{canonical_text}
 use Rattle.process_top.specs.declared.refusal.Refusal.{Refusal}
 use Rattle.process_top.specs.declared.refusal.Refusal.TheVariants.{BadWords, NotYet, Text, TooLong, NotEmpty, ReadFault, NotBegun, CutOff, NoMemory}
 
@@ -27,9 +28,9 @@ AreSomeKept records disk = (n : ℕ) × (created : ℕ) × (n ≤ length records
 abbrev pub AreAllKept : List (List ℕ) → Disk → Type 0
 AreAllKept records disk = (created : ℕ) × AreKept records (length records) created disk
 
--- the records of a process of `add` steps alone
+-- the records of a process of `add` steps alone; its start has its canonical text
 abbrev pub life : Named → List (List ℕ)
-life p = records_of (process_text p) (length p.tree.steps)
+life p = records_of (canonical_text p.name p.tree) (length p.tree.steps)
 
 -- file 0 was empty, and all records of this process were appended to it
 abbrev pub IsRun : Named → Disk → Disk → Type 0

@@ -1,6 +1,5 @@
 -- The journaled life of one process: its records in file 0, and the lines that are printed for them.
-use Rattle.std.specs.Prelude.{ℕ, ◌/◌, ◌%◌, Bool, true, false, ◌&&◌, List, [], ◌∷◌, ◌++◌, map, flat_map, nat_eq, codes, decimal}
-use Rattle.std.specs.Fmt.{signed_decimal}
+use Rattle.std.specs.Prelude.{ℕ, ◌/◌, ◌%◌, Bool, true, false, ◌&&◌, List, [], ◌∷◌, ◌++◌, map, nat_eq, codes}
 use Rattle.std.specs.List.{list_all}
 use Rattle.process_tree.specs.declared.step.Step.{Step}
 use Rattle.process_tree.specs.declared.step.StepKind.{StepKind}
@@ -29,13 +28,6 @@ is_end (Choice' shape blocks) = false
 -- such steps without a choice
 abbrev pub is_add_process : Block → Bool
 is_add_process root = is_end root.tail && list_all is_add_step root.steps
-
--- the canonical text of such steps, and of such a process
-abbrev pub step_text : Step → List ℕ
-step_text s = codes " c " ++ s.name ++ codes " add " ++ decimal s.key ++ codes " " ++ signed_decimal s.amount
-
-abbrev pub process_text : Named → List ℕ
-process_text p = codes "process " ++ p.name ++ flat_map step_text p.tree.steps ++ codes " end\n"
 
 -- a number of two bytes, the lower first
 abbrev pub two_bytes : ℕ → List ℕ

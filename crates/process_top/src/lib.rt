@@ -2,7 +2,6 @@
 #![tactic(auto)]
 
 mod answers;
-mod canonical;
 mod commands;
 mod journal;
 mod life;

@@ -7,12 +7,12 @@ ghost use Rattle.gate_log.specs.Standing.{StandsFor};
 ghost use Rattle.process_top.specs.Life.{is_add_process, lines_of};
 ghost use Rattle.process_top.specs.Journal.{IsRun, IsRefusedBefore, IsRefusedRun};
 
-use crate::canonical::canonical;
 use crate::journal::append_all;
 use crate::life::{lines, records};
 use crate::refusal::Refusal;
 use gate_log::{Log, LogError};
 use process_disk::Rack;
+use process_text::print;
 use process_tree::Named;
 use std::alloc::Global;
 
@@ -62,7 +62,7 @@ pub fn run_process<R: Rack>(
     ensures others { Told (R.disk rack.old) → OthersAsBefore 0 (R.disk rack.old) (R.disk rack.new) }
     ensures refused { IfErr result (λ e. IsRefusedRun e process.now (R.disk rack.old) (R.disk rack.new) (R.faults rack.old) (R.faults rack.new)) }
 {
-    let text = canonical(alloc, process)?;
+    let text = print(alloc, &process.name, &process.tree)?;
     let count = process.tree.count();
     let bodies = records(alloc, &text, count)?;
     let lines = lines(alloc, process, usize::from(count) + 3)?;

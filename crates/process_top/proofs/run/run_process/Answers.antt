@@ -10,7 +10,7 @@ use Rattle.process_top.proofs.run.run_process.Goals as goal
 pub append_all-requires-clause-sizes : goal.append_all-requires-clause-sizes
 append_all-requires-clause-sizes g c =
     let are : c.deref-2.result.now ≡ records_of c.deref.result.now c.count-count.result = c.deref-2.ensures.value ∙ c.in_ok-bodies.ensures in
-    let short : length c.deref.result.now < 65000 = omega (arith, ap length c.deref.ensures.value, c.in_ok-text.ensures.size) in
+    let short : length c.deref.result.now < 40000 = omega (arith, ap length c.deref.ensures.value, c.in_ok-text.ensures.short) in
     subst (λ (bodies : List (List ℕ)). All (λ body. length body < 2 ^ 16) bodies) (sym are) (records_fit c.deref.result.now c.count-count.result short)
 
 pub append_all-requires-clause-room : goal.append_all-requires-clause-room
@@ -25,7 +25,7 @@ returns-in-Ok-clause-all g c = λ told.
     let new = g.R.Rack.disk c.append_all.new.rack in
     let told_mid : Told mid = still_told old mid c.begin.ensures.tells told in
     let are : c.deref-2.result.now ≡ life c.args.process.now =
-    life_made c.args.process.now c.deref-2.result.now c.deref.result.now c.count-count.result c.requires (c.deref.ensures.value ∙ c.in_ok-text.ensures.text) c.count-count.ensures.count
+    life_made c.args.process.now c.deref-2.result.now c.deref.result.now c.count-count.result c.requires (c.deref.ensures.value ∙ c.in_ok-text.ensures.canonical) c.count-count.ensures.count
     (c.deref-2.ensures.value ∙ c.in_ok-bodies.ensures) in (
       c.in_ok-log.ensures.empty told,
       (mid.moment, subst (λ (bodies : List (List ℕ)). AreKept bodies (length bodies) mid.moment new) are (c.in-Ok.ensures.all told_mid)),
@@ -37,7 +37,7 @@ returns-clause-refused g c =
     let mid = g.R.Rack.disk c.begin.new.rack in
     let new = g.R.Rack.disk c.append_all.new.rack in
     let are : c.deref-2.result.now ≡ life c.args.process.now =
-    life_made c.args.process.now c.deref-2.result.now c.deref.result.now c.count-count.result c.requires (c.deref.ensures.value ∙ c.in_ok-text.ensures.text) c.count-count.ensures.count
+    life_made c.args.process.now c.deref-2.result.now c.deref.result.now c.count-count.result c.requires (c.deref.ensures.value ∙ c.in_ok-text.ensures.canonical) c.count-count.ensures.count
     (c.deref-2.ensures.value ∙ c.in_ok-bodies.ensures) in (
       rose_later _ _ _ c.begin.ensures.later c.in-Err.ensures.cause.failed,
       λ told.
