@@ -2,5 +2,5 @@ mod Appending
 mod Crash
 mod Framing
 pub mod Logs
-mod Reading
+pub mod Reading
 pub mod Standing

@@ -1,8 +1,8 @@
 // An open log.
 ghost use Rattle.std.specs.Prelude.{◌≡◌, ◌≢◌, ◌<◌, ◌≤◌, ◌+◌, ◌*◌, ◌^◌, ◌++◌, ◌∷◌, [], ℕ, List, length, IfOk, IfErr, OnOk, OnErr, IsErrOf};
 ghost use Rattle.process_flow.specs.Causes.{Rose, HasCause};
-ghost use Rattle.process_disk.specs.Disk.{Told, file_of};
-ghost use Rattle.process_disk.specs.Images.{EachImage, OthersAsBefore, AllAsBefore};
+ghost use Rattle.process_disk.specs.Disk.{Told, TornIn, file_of};
+ghost use Rattle.process_disk.specs.Images.{EachImage, RunBy, OthersAsBefore, AllAsBefore};
 ghost use Rattle.gate_log.specs.LogFile.{read_log};
 ghost use Rattle.gate_log.specs.Standing.{StandsFor, IsOpen, LogsBeforeOrWith, OpensAs};
 ghost use Rattle.gate_log.specs.declared.errors.LogError.TheVariants.{NoMemory};
@@ -44,6 +44,9 @@ impl Log {
         ensures stands { Told (R.disk rack.old) → IfOk result (λ log. StandsFor log [] (R.disk rack.new)) }
         ensures log { IfOk result (λ log. (log.file ≡ file) × (log.count ≡ 0)) }
         ensures others { Told (R.disk rack.old) → OthersAsBefore file (R.disk rack.old) (R.disk rack.new) }
+        // Whatever it answers, at most the nine bytes of an empty log were written.
+        ensures run { Told (R.disk rack.old) → RunBy (TornIn file 0 9) (R.disk rack.old) (R.disk rack.new) }
+        ensures unwritten { IfErr result (λ e. e ≡ NoMemory → rack.new ≡ rack.old) }
         ensures tells { (R.disk rack.new).tells ≡ (R.disk rack.old).tells }
         ensures later { R.faults rack.old ≤ R.faults rack.new }
         ensures refused { IfErr result (λ e. e ≢ NoMemory → (e ≡ LogError.DiskFault) × Rose (R.faults rack.old) (R.faults rack.new)) }
