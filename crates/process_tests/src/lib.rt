@@ -5,3 +5,5 @@
 mod check;
 #[cfg(test)]
 mod run;
+#[cfg(test)]
+mod show;

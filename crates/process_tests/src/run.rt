@@ -1,6 +1,5 @@
 // The command `run`.
 use crate::check::words_of;
-use gate_log::Log;
 use process_disk::{MemoryRack, Rack};
 use process_flow::{MemorySink, MemorySource};
 use process_top::{Finished, top};
@@ -10,10 +9,10 @@ use std::sync::Wait;
 use std::test::Fail;
 use std::thread::Threads;
 
-const TEXT: &[u8] = b"process a c x add 1 5 c y add 1 6 end";
+pub const TEXT: &[u8] = b"process a c x add 1 5 c y add 1 6 end";
 
 // What is told of a text and a rack, and the rack after it.
-fn run_on<H: Threads + Wait + Sync + Abort>(
+pub fn run_on<H: Threads + Wait + Sync + Abort>(
     rt: &H,
     alloc: Global,
     text: &[u8],
@@ -82,43 +81,6 @@ fn faults_of_the_rack_are_told(rt: HostRuntime) -> Result<(), Fail> {
         let rack = MemoryRack::new(alloc, vec![in alloc; call]?)?;
         let rack = run_on(&rt, alloc, TEXT, rack, 10, b"disk fault\n")?;
         drop(rack);
-    }
-    Ok(())
-}
-
-// How many calls create the log: the length, the header and its sync.
-const CREATED: u32 = 3;
-
-#[test]
-fn a_stop_leaves_a_beginning_of_the_records(rt: HostRuntime) -> Result<(), Fail> {
-    let alloc = rt.alloc();
-    let rack = MemoryRack::new(alloc, Vec::new(alloc))?;
-    let lines = b"start 1 a\ndo 1.x add\ndo 1.y add\nend 1\n";
-    let mut whole = run_on(&rt, alloc, TEXT, rack, 0, lines)?;
-    let calls = whole.calls();
-    let (_, all) = Log::open(alloc, &mut whole, 0)?;
-    for call in CREATED..64 {
-        if u64::from(call) >= calls {
-            break;
-        }
-        for (keep, fill) in [
-            (0, 0x00),
-            (0, 0x07),
-            (0, 0xff),
-            (1, 0x00),
-            (1, 0x07),
-            (2, 0xff),
-        ] {
-            assert!(rt; u64::from(call) < whole.calls());
-            let mut left = whole.stopped(alloc, call, keep, fill)?;
-            let (_, bodies) = Log::open(alloc, &mut left, 0)?;
-            assert!(rt; bodies.len() <= all.len());
-            // Two syncs and two writes for each record.
-            assert!(rt; bodies.len() >= ((call - CREATED) / 4) as usize);
-            for n in 0..bodies.len() {
-                assert_eq!(rt; bodies[n].bytes(), all[n].bytes());
-            }
-        }
     }
     Ok(())
 }

@@ -5,3 +5,8 @@ pub mod OneWord
 pub mod Replies
 pub mod Runs
 pub mod Lines
+pub mod OnWay
+pub mod Stories
+pub mod StoryBegun
+pub mod StoryPrefixes
+pub mod Showing

@@ -1,14 +1,14 @@
 -- What is kept of records that are appended to file 0 one after another.
-use Rattle.std.specs.Prelude.{◌≡◌, ℕ, ◌≤◌, List, [], length, take, ⊤}
+use Rattle.std.specs.Prelude.{◌≡◌, ◌⊎◌, ℕ, ◌≤◌, max, List, [], length, take}
 use Rattle.process_flow.specs.Causes.{Rose}
-use Rattle.process_disk.specs.Disk.{FileSet, Disk, Told, file_of}
-use Rattle.process_disk.specs.Images.{EachImage}
+use Rattle.process_disk.specs.Disk.{FileSet, Disk, Told, SameBut, file_of}
+use Rattle.process_disk.specs.Images.{EachImage, RunBy, AllAsBefore}
 use Rattle.gate_log.specs.Standing.{Logs}
 use Rattle.process_tree.specs.declared.tree.Named.{Named}
 use Rattle.process_top.specs.Life.{records_of}
 use Rattle.process_text.specs.Canonical.{canonical_text}
 use Rattle.process_top.specs.declared.refusal.Refusal.{Refusal}
-use Rattle.process_top.specs.declared.refusal.Refusal.TheVariants.{BadWords, NotYet, Text, TooLong, NotEmpty, ReadFault, NotBegun, CutOff, NoMemory}
+use Rattle.process_top.specs.declared.refusal.Refusal.TheVariants.{NotEmpty, NotBegun, CutOff, NoMemory}
 
 -- file 0 is the log of a beginning of the records that has at least n of them
 abbrev pub LogsAtLeast : ℕ → List (List ℕ) → FileSet → Type 0
@@ -32,30 +32,37 @@ AreAllKept records disk = (created : ℕ) × AreKept records (length records) cr
 abbrev pub life : Named → List (List ℕ)
 life p = records_of (canonical_text p.name p.tree) (length p.tree.steps)
 
--- file 0 was empty, and all records of this process were appended to it
-abbrev pub IsRun : Named → Disk → Disk → Type 0
-IsRun p before after = (file_of before.files 0 ≡ []) × AreAllKept (life p) after
+-- file 0 is no longer than the nine bytes of an empty log, or than it was; the others are as they were
+pub record IsShort (old new : FileSet) : Type 0 where
+  pub others : SameBut 0 old new
+  pub short : length (file_of new 0) ≤ max (length (file_of old 0)) 9
 
--- why the journal was not begun, on a rack that was so before and with these counts of faults
-abbrev pub IsRefusedBefore : Refusal → Disk → ℕ → ℕ → Type 0
-IsRefusedBefore BadWords disk faults faults_after = ⊥
-IsRefusedBefore NotYet disk faults faults_after = ⊥
-IsRefusedBefore (Text e) disk faults faults_after = ⊥
-IsRefusedBefore TooLong disk faults faults_after = ⊥
-IsRefusedBefore NotEmpty disk faults faults_after = Told disk → ¬ (file_of disk.files 0 ≡ [])
-IsRefusedBefore ReadFault disk faults faults_after = ⊥
-IsRefusedBefore NotBegun disk faults faults_after = Rose faults faults_after
-IsRefusedBefore CutOff disk faults faults_after = ⊥
-IsRefusedBefore NoMemory disk faults faults_after = ⊤
+-- the same, or file 0 is the log of a beginning of these records
+pub record IsOnWay (records : List (List ℕ)) (old new : FileSet) : Type 0 where
+  pub others : SameBut 0 old new
+  pub so_far : (length (file_of new 0) ≤ max (length (file_of old 0)) 9) ⊎ LogsAtLeast 0 records new
+
+-- file 0 was empty, at each moment it was no longer than an empty log or was the log of a beginning of this process's records, and all were appended
+abbrev pub IsRun : Named → Disk → Disk → Type 0
+IsRun p before after = (file_of before.files 0 ≡ []) × RunBy (IsOnWay (life p)) before after × AreAllKept (life p) after
+
+-- the journal was begun at most: nothing was written, or file 0 was empty and is no longer than an empty log
+abbrev pub IsBegunAtMost : Disk → Disk → Type 0
+IsBegunAtMost before after = AllAsBefore before after ⊎ ((file_of before.files 0 ≡ []) × RunBy IsShort before after)
+
+-- why the journal was not begun, on a rack that was so before and is so after, with these counts of faults
+abbrev pub IsRefusedBefore : Refusal → Disk → Disk → ℕ → ℕ → Type 0
+IsRefusedBefore NotEmpty before after faults faults_after = Told before → (¬ (file_of before.files 0 ≡ [])) × AllAsBefore before after
+IsRefusedBefore NotBegun before after faults faults_after = Rose faults faults_after × (Told before → IsBegunAtMost before after)
+IsRefusedBefore NoMemory before after faults faults_after = Told before → AllAsBefore before after
+IsRefusedBefore r before after faults faults_after = ⊥
+
+-- the rack failed while records of this process were appended: those that were are kept
+abbrev pub IsCutOff : Named → Disk → Disk → ℕ → ℕ → Type 0
+IsCutOff p before after faults faults_after =
+    Rose faults faults_after × (Told before → (file_of before.files 0 ≡ []) × RunBy (IsOnWay (life p)) before after × AreSomeKept (life p) after)
 
 -- why a process was not run to its end
 abbrev pub IsRefusedRun : Refusal → Named → Disk → Disk → ℕ → ℕ → Type 0
-IsRefusedRun BadWords p before after faults faults_after = ⊥
-IsRefusedRun NotYet p before after faults faults_after = ⊥
-IsRefusedRun (Text e) p before after faults faults_after = ⊥
-IsRefusedRun TooLong p before after faults faults_after = ⊥
-IsRefusedRun NotEmpty p before after faults faults_after = Told before → ¬ (file_of before.files 0 ≡ [])
-IsRefusedRun ReadFault p before after faults faults_after = ⊥
-IsRefusedRun NotBegun p before after faults faults_after = Rose faults faults_after
-IsRefusedRun CutOff p before after faults faults_after = Rose faults faults_after × (Told before → (file_of before.files 0 ≡ []) × AreSomeKept (life p) after)
-IsRefusedRun NoMemory p before after faults faults_after = ⊤
+IsRefusedRun CutOff p before after faults faults_after = IsCutOff p before after faults faults_after
+IsRefusedRun r p before after faults faults_after = IsRefusedBefore r before after faults faults_after

@@ -5,3 +5,5 @@ pub mod Life
 pub mod Refused
 pub mod Commands
 pub mod Told
+pub mod Story
+pub mod Examples

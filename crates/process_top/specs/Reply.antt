@@ -1,9 +1,13 @@
 -- What the program answers on a list of words, an input and a rack.
-use Rattle.std.specs.Prelude.{◌≡◌, ◌≤◌, ◌<◌, ◌⊎◌, ℕ, List, [], ◌∷◌, length, codes, true, Option, Some, IfSome, if◌then◌else◌, ⊤}
+use Rattle.std.specs.Prelude.{◌≡◌, ◌≤◌, ◌<◌, ◌⊎◌, ℕ, List, [], ◌∷◌, length, take, codes, true, Option, Some, IfSome, Ok, Err, if◌then◌else◌, ⊤}
 use Rattle.std.specs.List.{concat}
 use Rattle.std.specs.Io.KnownBytes.{IsAtEnd}
 use Rattle.process_flow.specs.Causes.{Rose}
-use Rattle.process_disk.specs.Disk.{Disk, Told}
+use Rattle.process_disk.specs.Disk.{Disk, Told, file_of}
+use Rattle.process_disk.specs.Images.{AllAsBefore}
+use Rattle.gate_log.specs.LogFile.{read_log}
+use Rattle.gate_log.specs.Standing.{Logs}
+use Rattle.gate_log.specs.declared.errors.LogError.TheVariants as log_errors
 use Rattle.process_tree.specs.declared.tree.Named.{Named}
 use Rattle.process_tree.specs.Termination.{Fault}
 use Rattle.process_text.specs.Words.{words_of}
@@ -11,19 +15,23 @@ use Rattle.process_text.specs.Grammar.{IsReading}
 use Rattle.process_text.specs.Places.{text_error}
 use Rattle.process_text.specs.declared.error.TextError.TheVariants.{NoMemory as TextNoMemory}
 use Rattle.process_top.specs.declared.refusal.Refusal.{Refusal}
-use Rattle.process_top.specs.declared.refusal.Refusal.TheVariants.{BadWords, NotYet, Text, TooLong, NotEmpty, ReadFault, NotBegun, CutOff, NoMemory}
+use Rattle.process_top.specs.declared.refusal.Refusal.TheVariants.{Text, TooLong, BadHeader, BadRecord, ReadFault, NotBegun, NoMemory}
 use Rattle.process_top.specs.Refused.{refusal_status, refusal_text}
 use Rattle.process_top.specs.Told.{Output, IsTold}
 use Rattle.process_top.specs.Verdict.{AreVerdicts, verdict_lines, any_fault}
 use Rattle.process_top.specs.Life.{is_add_process, lines_of}
-use Rattle.process_top.specs.Journal.{IsRun, IsRefusedRun}
+use Rattle.process_top.specs.Journal.{IsRun, IsRefusedRun, life}
+use Rattle.process_top.specs.Story.{IsAddProcess, IsOddAt}
 
--- the words are the one word `check`, or `run`
+-- the words are the one word `check`, or `run`, or `show`
 abbrev pub IsCheckWord : List (List ℕ) → Type 0
 IsCheckWord words = words ≡ codes "check" ∷ []
 
 abbrev pub IsRunWord : List (List ℕ) → Type 0
 IsRunWord words = words ≡ codes "run" ∷ []
+
+abbrev pub IsShowWord : List (List ℕ) → Type 0
+IsShowWord words = words ≡ codes "show" ∷ []
 
 -- the greatest size of an input, in bytes
 abbrev pub most_input : ℕ
@@ -43,17 +51,17 @@ pub record Files : Type 1 where
 abbrev pub OnInput : Input → (List ℕ → Type 0) → Type 0
 OnInput input P = IfSome input.left (λ text. (length text ≤ most_input) × P text)
 
+-- all files read as before, and a crash leaves nothing that one at the start might not have left
+abbrev pub AreUntouched : Files → Files → Type 0
+AreUntouched before after = Told before.disk → AllAsBefore before.disk after.disk
+
 -- why a text was not read, from a source that was so before and is so after
 abbrev pub IsUnread : Refusal → Input → Input → Type 0
-IsUnread BadWords before after = ⊥
-IsUnread NotYet before after = ⊥
 IsUnread (Text e) before after = (e ≡ TextNoMemory) ⊎ OnInput before (λ text. text_error text ≡ Some e)
 IsUnread TooLong before after = IfSome before.left (λ text. most_input < length text)
-IsUnread NotEmpty before after = ⊥
 IsUnread ReadFault before after = Rose before.faults after.faults
-IsUnread NotBegun before after = ⊥
-IsUnread CutOff before after = ⊥
 IsUnread NoMemory before after = ⊤
+IsUnread r before after = ⊥
 
 -- the source was read to its end, and had the text of these processes
 abbrev pub IsRead : Input → Input → List Named → Type 0
@@ -64,6 +72,22 @@ abbrev pub IsOneAddProcess : List Named → Type 0
 IsOneAddProcess [] = ⊥
 IsOneAddProcess (p ∷ []) = is_add_process p.tree ≡ true
 IsOneAddProcess (p ∷ q ∷ ps) = ⊥
+
+-- file 0 is the log of the first n records of this process
+abbrev pub IsShown : Named → ℕ → Files → Type 0
+IsShown p n files = IsAddProcess p × (n ≤ length (life p)) × (Told files.disk → Logs 0 (take n (life p)) files.disk.files)
+
+-- record n of file 0, counted from 1, is the first that isn't whole; or all are, and it is the first that isn't the next one of a process
+abbrev pub IsBadRecord : ℕ → List ℕ → Type 0
+IsBadRecord n file = (read_log 0 file ≡ Err (log_errors.BadRecord n)) ⊎ ((bodies : List (List ℕ)) × (read_log 0 file ≡ Ok bodies) × IsOddAt n bodies)
+
+-- why file 0 was not shown, on a rack that was so before and is so after
+abbrev pub IsNotShown : Refusal → Files → Files → Type 0
+IsNotShown BadHeader before after = Told before.disk → read_log 0 (file_of before.disk.files 0) ≡ Err log_errors.BadHeader
+IsNotShown (BadRecord n) before after = Told before.disk → IsBadRecord n (file_of before.disk.files 0)
+IsNotShown NotBegun before after = Rose before.faults after.faults
+IsNotShown NoMemory before after = ⊤
+IsNotShown r before after = ⊥
 
 -- what there is to say
 pub data Reply : Type 0 where
@@ -78,6 +102,10 @@ pub data Reply : Type 0 where
   not_run : Named → Refusal → Reply
   -- the process was run
   ran : Named → Reply
+  -- the first records of this process, so many, are shown
+  shown : Named → ℕ → Reply
+  -- file 0 was not shown
+  not_shown : Refusal → Reply
 
 abbrev pub status_of : Reply → ℕ
 status_of bad_words = 1
@@ -86,6 +114,8 @@ status_of (checked ps verdicts) = if any_fault verdicts then 3 else 0
 status_of (no_add_process ps) = 2
 status_of (not_run p r) = refusal_status r
 status_of (ran p) = 0
+status_of (shown p n) = 0
+status_of (not_shown r) = refusal_status r
 
 abbrev pub text_of : Reply → List ℕ
 text_of bad_words = codes "bad words\n"
@@ -94,25 +124,46 @@ text_of (checked ps verdicts) = verdict_lines ps verdicts
 text_of (no_add_process ps) = codes "not yet\n"
 text_of (not_run p r) = refusal_text r
 text_of (ran p) = concat (lines_of p)
+text_of (shown p n) = concat (take n (lines_of p))
+text_of (not_shown r) = refusal_text r
 
 -- when each reply is due, on these words, over a source and a rack that were so before and are so after
 abbrev pub IsDue : List (List ℕ) → Input → Input → Files → Files → Reply → Type 0
-IsDue words input input_after files files_after bad_words = (¬ IsCheckWord words) × (¬ IsRunWord words)
-IsDue words input input_after files files_after (unread r) = (IsCheckWord words ⊎ IsRunWord words) × IsUnread r input input_after
-IsDue words input input_after files files_after (checked ps verdicts) = IsCheckWord words × IsRead input input_after ps × AreVerdicts ps verdicts
-IsDue words input input_after files files_after (no_add_process ps) = IsRunWord words × IsRead input input_after ps × (¬ IsOneAddProcess ps)
+IsDue words input input_after files files_after bad_words =
+    (¬ IsCheckWord words) × (¬ IsRunWord words) × (¬ IsShowWord words) × AreUntouched files files_after
+IsDue words input input_after files files_after (unread r) = (IsCheckWord words ⊎ IsRunWord words) × IsUnread r input input_after × AreUntouched files files_after
+IsDue words input input_after files files_after (checked ps verdicts) = IsCheckWord words × IsRead input input_after ps × AreVerdicts ps verdicts × AreUntouched files files_after
+IsDue words input input_after files files_after (no_add_process ps) = IsRunWord words × IsRead input input_after ps × (¬ IsOneAddProcess ps) × AreUntouched files files_after
 IsDue words input input_after files files_after (not_run p r) =
     IsRunWord words × IsRead input input_after (p ∷ []) × IsOneAddProcess (p ∷ []) × IsRefusedRun r p files.disk files_after.disk files.faults files_after.faults
 IsDue words input input_after files files_after (ran p) =
     IsRunWord words × IsRead input input_after (p ∷ []) × IsOneAddProcess (p ∷ []) × (Told files.disk → IsRun p files.disk files_after.disk)
+IsDue words input input_after files files_after (shown p n) = IsShowWord words × IsShown p n files × AreUntouched files files_after
+IsDue words input input_after files files_after (not_shown r) = IsShowWord words × IsNotShown r files files_after × AreUntouched files files_after
 
 -- the status of an answer: some reply was due, and it was told
 abbrev pub IsAnswered : List (List ℕ) → Input → Input → Files → Files → Output → Output → ℕ → Type 0
 IsAnswered words input input_after files files_after output output_after result =
     (reply : Reply) × IsDue words input input_after files files_after reply × IsTold (status_of reply) (text_of reply) output output_after result
 
--- a check of a text in the grammar, with no fault of the source and the sink, gives its verdicts or wants memory
-abbrev pub IsComplete : List (List ℕ) → Input → Input → Output → Output → ℕ → Type 0
-IsComplete words input input_after output output_after result =
-    IsCheckWord words → ¬ Rose input.faults input_after.faults → ¬ Rose output.faults output_after.faults
-    → IfSome input.left (λ text. (ps : List Named) → length text ≤ most_input → IsReading (words_of text) ps → (result ≡ 0) ⊎ ((result ≡ 3) ⊎ (result ≡ 13)))
+-- a check of a text in the grammar gives its verdicts
+abbrev pub IsCheckComplete : Input → ℕ → Type 0
+IsCheckComplete input result =
+    IfSome input.left (λ text. (ps : List Named) → length text ≤ most_input → IsReading (words_of text) ps → (result ≡ 0) ⊎ ((result ≡ 3) ⊎ (result ≡ 13)))
+
+-- a run of one process of `add` steps alone on an empty file 0 runs it
+abbrev pub IsRunComplete : Input → Disk → ℕ → Type 0
+IsRunComplete input disk result =
+    IfSome input.left (λ text. (p : Named) → length text ≤ most_input → IsReading (words_of text) (p ∷ []) → is_add_process p.tree ≡ true
+    → Told disk → file_of disk.files 0 ≡ [] → (result ≡ 0) ⊎ (result ≡ 13))
+
+-- file 0 is shown where it is the log of the first records of such a process
+abbrev pub IsShowComplete : Disk → ℕ → Type 0
+IsShowComplete disk result =
+    (p : Named) (n : ℕ) → IsAddProcess p → n ≤ length (life p) → Told disk → Logs 0 (take n (life p)) disk.files → (result ≡ 0) ⊎ (result ≡ 13)
+
+-- with no fault of the source, the sink and the rack, a command does what it is for, or wants memory
+pub record IsComplete (words : List (List ℕ)) (input input_after : Input) (files files_after : Files) (output output_after : Output) (result : ℕ) : Type 0 where
+  pub check : IsCheckWord words → ¬ Rose input.faults input_after.faults → ¬ Rose output.faults output_after.faults → IsCheckComplete input result
+  pub run : IsRunWord words → ¬ Rose input.faults input_after.faults → ¬ Rose output.faults output_after.faults → ¬ Rose files.faults files_after.faults → IsRunComplete input files.disk result
+  pub show : IsShowWord words → ¬ Rose output.faults output_after.faults → ¬ Rose files.faults files_after.faults → IsShowComplete files.disk result

@@ -2,9 +2,10 @@
 ghost use Rattle.std.specs.Prelude.{◌≡◌, ◌⊎◌, map, string_bytes};
 ghost use Rattle.process_disk.specs.Disk.{Told};
 ghost use Rattle.process_disk.specs.Images.{OthersAsBefore};
-ghost use Rattle.process_top.specs.Reply.{IsRunWord, IsAnswered, IsComplete};
+ghost use Rattle.process_top.specs.Reply.{IsCheckWord, IsRunWord, IsShowWord, IsAnswered, IsComplete};
 
 use crate::commands::{check, is_only, run};
+use crate::show::show;
 use crate::tell::tell;
 use process_disk::Rack;
 use process_flow::{Sink, Source};
@@ -34,12 +35,15 @@ fn reply<S: Source, K: Sink, R: Rack>(
         (record { taken = K.taken sink.old; faults = K.faults sink.old })
         (record { taken = K.taken sink.new; faults = K.faults sink.new }) result }
     ensures others { Told (R.disk rack.old) → OthersAsBefore 0 (R.disk rack.old) (R.disk rack.new) }
-    ensures untouched { (IsRunWord (map string_bytes words.now)) ⊎ (rack.new ≡ rack.old) }
+    ensures untouched { (IsRunWord (map string_bytes words.now)) ⊎ (IsShowWord (map string_bytes words.now)) ⊎ (rack.new ≡ rack.old) }
+    ensures unread { (IsCheckWord (map string_bytes words.now)) ⊎ (IsRunWord (map string_bytes words.now)) ⊎ (source.new ≡ source.old) }
 {
     if is_only(words, "check") {
         check(alloc, source, sink)
     } else if is_only(words, "run") {
         run(alloc, source, sink, rack)
+    } else if is_only(words, "show") {
+        show(alloc, sink, rack)
     } else {
         tell(sink, b"bad words\n", 1)
     }
@@ -61,16 +65,21 @@ pub fn answer<S: Source, K: Sink, R: Rack>(
         (record { disk = R.disk result.rack; faults = R.faults result.rack })
         (record { taken = K.taken sink.old; faults = K.faults sink.old })
         (record { taken = K.taken sink.new; faults = K.faults sink.new }) result.status }
-    // A text in the grammar is checked, where no call failed and memory was found.
+    // Where no call failed and memory was found, a text in the grammar is checked, a process of `add` steps is run on an empty
+    // file 0, and a beginning of its records is shown.
     ensures complete { IsComplete (map string_bytes words.now)
         (record { left = S.left source.old; faults = S.faults source.old })
         (record { left = S.left source.new; faults = S.faults source.new })
+        (record { disk = R.disk rack; faults = R.faults rack })
+        (record { disk = R.disk result.rack; faults = R.faults result.rack })
         (record { taken = K.taken sink.old; faults = K.faults sink.old })
         (record { taken = K.taken sink.new; faults = K.faults sink.new }) result.status }
     // The files but file 0 stay as they are, and stand together in each crash image as a crash at the start may leave them.
     ensures others { Told (R.disk rack) → OthersAsBefore 0 (R.disk rack) (R.disk result.rack) }
-    // No command but `run` touches the rack.
-    ensures untouched { (IsRunWord (map string_bytes words.now)) ⊎ (result.rack ≡ rack) }
+    // No command but `run` and `show` calls the rack.
+    ensures untouched { (IsRunWord (map string_bytes words.now)) ⊎ (IsShowWord (map string_bytes words.now)) ⊎ (result.rack ≡ rack) }
+    // No command but `check` and `run` calls the source.
+    ensures unread { (IsCheckWord (map string_bytes words.now)) ⊎ (IsRunWord (map string_bytes words.now)) ⊎ (source.new ≡ source.old) }
 {
     let mut rack = rack;
     let status = reply(alloc, words, source, sink, &mut rack);
@@ -96,10 +105,13 @@ pub fn top<H: Threads + Wait + Sync, S: Source, K: Sink, R: Rack>(
     ensures complete { IsComplete (map string_bytes words.now)
         (record { left = S.left source.old; faults = S.faults source.old })
         (record { left = S.left source.new; faults = S.faults source.new })
+        (record { disk = R.disk rack; faults = R.faults rack })
+        (record { disk = R.disk result.rack; faults = R.faults result.rack })
         (record { taken = K.taken sink.old; faults = K.faults sink.old })
         (record { taken = K.taken sink.new; faults = K.faults sink.new }) result.status }
     ensures others { Told (R.disk rack) → OthersAsBefore 0 (R.disk rack) (R.disk result.rack) }
-    ensures untouched { (IsRunWord (map string_bytes words.now)) ⊎ (result.rack ≡ rack) }
+    ensures untouched { (IsRunWord (map string_bytes words.now)) ⊎ (IsShowWord (map string_bytes words.now)) ⊎ (result.rack ≡ rack) }
+    ensures unread { (IsCheckWord (map string_bytes words.now)) ⊎ (IsRunWord (map string_bytes words.now)) ⊎ (source.new ≡ source.old) }
 {
     answer(alloc, words, source, sink, rack)
 }

@@ -7,6 +7,8 @@ mod journal;
 mod life;
 mod refusal;
 mod run;
+mod show;
+mod story;
 mod tell;
 mod verdicts;
 

@@ -57,7 +57,8 @@ fn body_of(alloc: Global, first: &[u8], second: &[u8]) -> Result<Body, AllocErro
     Ok(Body::new(bytes))
 }
 
-const SETUP: [u8; 11] = [0, 1, 1, 0, 3, 97, 100, 100, 0, 0, 0];
+/// The record of the catalog.
+pub const SETUP: [u8; 11] = [0, 1, 1, 0, 3, 97, 100, 100, 0, 0, 0];
 
 // The record of step k.
 fn act_of(alloc: Global, k: u16) -> Result<Body, AllocError>

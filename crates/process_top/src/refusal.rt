@@ -2,7 +2,7 @@
 ghost use Rattle.std.specs.Prelude.{◌≡◌, ◌++◌, codes, decimal, IfOk, OnOk};
 ghost use Rattle.process_text.specs.Texts.{expected_word, what_word};
 ghost use Rattle.process_top.specs.Told.{IsToldOrNoMemory};
-ghost use Rattle.process_top.specs.Refused.{error_text, error_status, refusal_text, refusal_status};
+ghost use Rattle.process_top.specs.Refused.{error_text, error_status, refusal_text, refusal_status, IsRefusalTold};
 ghost use Rattle.process_top.specs.declared.refusal.Refusal.TheVariants.{NoMemory};
 
 use crate::tell::tell;
@@ -20,6 +20,10 @@ pub enum Refusal {
     TooLong,
     /// File 0 is not empty.
     NotEmpty,
+    /// File 0 has no header of a log.
+    BadHeader,
+    /// The first record of file 0, counted from 1, that is not whole, or not the next one of a process.
+    BadRecord(u32),
     ReadFault,
     /// The rack failed before the journal was there.
     NotBegun,
@@ -123,6 +127,16 @@ fn same_name_line(alloc: Global, line: u32, name: &[u8]) -> Result<Vec<u8>, Allo
     Ok(text)
 }
 
+// The line of a bad record.
+fn bad_record_line(alloc: Global, n: u32) -> Result<Vec<u8>, AllocError>
+    ensures { IfOk result (λ text. text.items ≡ codes "bad record file 0 at " ++ decimal n ++ codes "\n") }
+{
+    let mut text = Vec::new(alloc);
+    add_number(alloc, &mut text, b"bad record file 0 at ", n)?;
+    text.extend_from_slice(b"\n")?;
+    Ok(text)
+}
+
 // The line of what is wrong with a text.
 fn error_line(alloc: Global, error: &TextError) -> Result<Vec<u8>, AllocError>
     ensures { IfOk result (λ text. text.items ≡ error_text error.now) }
@@ -160,9 +174,21 @@ fn tell_error<K: Sink>(alloc: Global, sink: &mut K, error: &TextError) -> u8
     }
 }
 
-/// Writes the line of a refusal and answers its status, or says that there is no memory for it.
+// Writes the line of a bad record and answers its status.
+fn tell_bad_record<K: Sink>(alloc: Global, sink: &mut K, n: u32) -> u8
+    ensures { IsToldOrNoMemory 6 (codes "bad record file 0 at " ++ decimal n ++ codes "\n")
+        (record { taken = K.taken sink.old; faults = K.faults sink.old })
+        (record { taken = K.taken sink.new; faults = K.faults sink.new }) result }
+{
+    match bad_record_line(alloc, n) {
+        Ok(line) => tell(sink, &line, 6),
+        Err(_) => tell(sink, b"no memory\n", 13),
+    }
+}
+
+/// Writes the line of a refusal and answers its status, or says that there is no memory for a line that needs it.
 pub fn tell_refusal<K: Sink>(alloc: Global, sink: &mut K, refusal: &Refusal) -> u8
-    ensures { IsToldOrNoMemory (refusal_status refusal.now) (refusal_text refusal.now)
+    ensures { IsRefusalTold refusal.now
         (record { taken = K.taken sink.old; faults = K.faults sink.old })
         (record { taken = K.taken sink.new; faults = K.faults sink.new }) result }
 {
@@ -172,6 +198,8 @@ pub fn tell_refusal<K: Sink>(alloc: Global, sink: &mut K, refusal: &Refusal) -> 
         Refusal::Text(error) => tell_error(alloc, sink, error),
         Refusal::TooLong => tell(sink, b"limit input 1048577\n", 4),
         Refusal::NotEmpty => tell(sink, b"not empty file 0\n", 6),
+        Refusal::BadHeader => tell(sink, b"bad header file 0\n", 6),
+        Refusal::BadRecord(n) => tell_bad_record(alloc, sink, *n),
         Refusal::ReadFault => tell(sink, b"read fault\n", 8),
         Refusal::NotBegun => tell(sink, b"disk fault\n", 10),
         Refusal::CutOff => tell(sink, b"disk fault\n", 10),

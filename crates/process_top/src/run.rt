@@ -2,10 +2,10 @@
 ghost use Rattle.std.specs.Prelude.{◌≡◌, ◌≢◌, ◌≤◌, ◌<◌, [], ℕ, true, length, IfOk, IfErr};
 ghost use Rattle.std.specs.List.{concat};
 ghost use Rattle.process_disk.specs.Disk.{Told, file_of};
-ghost use Rattle.process_disk.specs.Images.{OthersAsBefore};
+ghost use Rattle.process_disk.specs.Images.{RunBy, OthersAsBefore, AllAsBefore};
 ghost use Rattle.gate_log.specs.Standing.{StandsFor};
 ghost use Rattle.process_top.specs.Life.{is_add_process, lines_of};
-ghost use Rattle.process_top.specs.Journal.{IsRun, IsRefusedBefore, IsRefusedRun};
+ghost use Rattle.process_top.specs.Journal.{IsShort, IsRun, IsRefusedBefore, IsRefusedRun};
 
 use crate::journal::append_all;
 use crate::life::{lines, records};
@@ -19,8 +19,8 @@ use std::alloc::Global;
 // Whether file 0 is empty.
 fn is_empty<R: Rack>(rack: &mut R) -> Result<(), Refusal>
     ensures empty { Told (R.disk rack.old) → IfOk result (λ _. file_of (R.disk rack.old).files 0 ≡ []) }
-    ensures same { Told (R.disk rack.old) → (R.disk rack.new).files ≡ (R.disk rack.old).files }
-    ensures refused { IfErr result (λ e. IsRefusedBefore e (R.disk rack.old) (R.faults rack.old) (R.faults rack.new)) }
+    ensures all { Told (R.disk rack.old) → AllAsBefore (R.disk rack.old) (R.disk rack.new) }
+    ensures refused { IfErr result (λ e. IsRefusedBefore e (R.disk rack.old) (R.disk rack.new) (R.faults rack.old) (R.faults rack.new)) }
     ensures others { Told (R.disk rack.old) → OthersAsBefore 0 (R.disk rack.old) (R.disk rack.new) }
     ensures tells { (R.disk rack.new).tells ≡ (R.disk rack.old).tells }
     ensures later { R.faults rack.old ≤ R.faults rack.new }
@@ -37,7 +37,8 @@ fn begin<R: Rack>(alloc: Global, rack: &mut R) -> Result<Log, Refusal>
     ensures empty { Told (R.disk rack.old) → IfOk result (λ _. file_of (R.disk rack.old).files 0 ≡ []) }
     ensures stands { Told (R.disk rack.old) → IfOk result (λ log. StandsFor log [] (R.disk rack.new)) }
     ensures log { IfOk result (λ log. (log.file ≡ 0) × (log.count ≡ 0)) }
-    ensures refused { IfErr result (λ e. IsRefusedBefore e (R.disk rack.old) (R.faults rack.old) (R.faults rack.new)) }
+    ensures short { Told (R.disk rack.old) → RunBy IsShort (R.disk rack.old) (R.disk rack.new) }
+    ensures refused { IfErr result (λ e. IsRefusedBefore e (R.disk rack.old) (R.disk rack.new) (R.faults rack.old) (R.faults rack.new)) }
     ensures others { Told (R.disk rack.old) → OthersAsBefore 0 (R.disk rack.old) (R.disk rack.new) }
     ensures tells { (R.disk rack.new).tells ≡ (R.disk rack.old).tells }
     ensures later { R.faults rack.old ≤ R.faults rack.new }

@@ -1,9 +1,11 @@
 use Rattle.std.proofs.Common.{◌≡◌, ◌<◌, ◌^◌, List, ℕ, length, All, subst, sym, ap, ◌∙◌, arith}
 use Rattle.process_disk.specs.Disk.{Told}
+use Rattle.process_disk.specs.Images.{RunBy}
 use Rattle.process_disk.proofs.Images.{still_told}
 use Rattle.process_top.specs.Life.{records_of}
-use Rattle.process_top.specs.Journal.{AreKept, AreSomeKept, life}
+use Rattle.process_top.specs.Journal.{AreKept, AreSomeKept, IsOnWay, life}
 use Rattle.process_top.proofs.Kept.{others_twice}
+use Rattle.process_top.proofs.OnWay.{on_way}
 use Rattle.process_top.proofs.Runs.{few_steps, records_fit, records_count, life_made, rose_later}
 use Rattle.process_top.proofs.run.run_process.Goals as goal
 
@@ -28,6 +30,9 @@ returns-in-Ok-clause-all g c = λ told.
     life_made c.args.process.now c.deref-2.result.now c.deref.result.now c.count-count.result c.requires (c.deref.ensures.value ∙ c.in_ok-text.ensures.canonical) c.count-count.ensures.count
     (c.deref-2.ensures.value ∙ c.in_ok-bodies.ensures) in (
       c.in_ok-log.ensures.empty told,
+      subst (λ (bodies : List (List ℕ)). RunBy (IsOnWay bodies) old new) are
+          (on_way c.deref-2.result.now old mid new (g.met.R.Rack.honest c.begin.new.rack told_mid) (g.met.R.Rack.honest c.append_all.new.rack (still_told mid new c.append_all.ensures.tells told_mid))
+          (c.begin.ensures.short told) (c.append_all.ensures.others told_mid) (c.in-Ok.ensures.all told_mid).begun),
       (mid.moment, subst (λ (bodies : List (List ℕ)). AreKept bodies (length bodies) mid.moment new) are (c.in-Ok.ensures.all told_mid)),
     )
 
@@ -44,6 +49,9 @@ returns-clause-refused g c =
           let told_mid : Told mid = still_told old mid c.begin.ensures.tells told in
           let some = c.in-Err.ensures.some told_mid in (
             c.in_ok-log.ensures.empty told,
+            subst (λ (bodies : List (List ℕ)). RunBy (IsOnWay bodies) old new) are
+                (on_way c.deref-2.result.now old mid new (g.met.R.Rack.honest c.begin.new.rack told_mid) (g.met.R.Rack.honest c.append_all.new.rack (still_told mid new c.append_all.ensures.tells told_mid))
+                (c.begin.ensures.short told) (c.append_all.ensures.others told_mid) some.2.begun),
             subst (λ (bodies : List (List ℕ)). AreSomeKept bodies new) are (some.0, mid.moment, some.1, some.2),
           ),
     )

@@ -1,0 +1,212 @@
+// The command `show`.
+use crate::check::words_of;
+use crate::run::{TEXT, run_on};
+use process_disk::{MemoryRack, Rack};
+use process_flow::{MemorySink, MemorySource};
+use process_top::{Finished, top};
+use std::alloc::Global;
+use std::process::Abort;
+use std::sync::Wait;
+use std::test::Fail;
+use std::thread::Threads;
+
+// What is shown of a rack, and the rack after it.
+fn show_on<H: Threads + Wait + Sync + Abort>(
+    rt: &H,
+    alloc: Global,
+    rack: MemoryRack,
+    status: u8,
+    output: &[u8],
+) -> Result<MemoryRack, Fail> {
+    let words = words_of(alloc, &["show"])?;
+    let mut source = MemorySource::new(Vec::new(alloc), Vec::new(alloc));
+    let mut sink = MemorySink::new(alloc, Vec::new(alloc));
+    let finished = top(rt, alloc, &words, &mut source, &mut sink, rack);
+    let Finished { status: told, rack } = finished;
+    assert_eq!(rt; told, status);
+    assert_eq!(rt; sink.bytes(), output);
+    Ok(rack)
+}
+
+const LINES: &[u8] = b"start 1 a\ndo 1.x add\ndo 1.y add\nend 1\n";
+
+// Where the line of each record ends: none for the catalog.
+const ENDS: [usize; 6] = [0, 0, 10, 21, 32, 38];
+
+#[test]
+fn what_was_run_is_shown(rt: HostRuntime) -> Result<(), Fail> {
+    let alloc = rt.alloc();
+    let rack = MemoryRack::new(alloc, Vec::new(alloc))?;
+    let rack = run_on(&rt, alloc, TEXT, rack, 0, LINES)?;
+    let rack = show_on(&rt, alloc, rack, 0, LINES)?;
+    let rack = show_on(&rt, alloc, rack, 0, LINES)?;
+    drop(rack);
+    Ok(())
+}
+
+const SETUP: &[u8] = &[0, 1, 1, 0, 3, 97, 100, 100, 0, 0, 0];
+
+const START: &[u8] = b"\x01\x01\x00\x00\x00process a c x add 1 5 c y add 1 6 end\n";
+
+const ACT_0: &[u8] = &[2, 1, 0, 0, 0, 0, 0, 0];
+
+const ACT_1: &[u8] = &[2, 1, 0, 0, 0, 1, 0, 0];
+
+const END: &[u8] = &[3, 1, 0, 0, 0];
+
+// Bodies in file 0, and what is told of them.
+const ROWS: [(&[&[u8]], u8, &[u8]); 15] = [
+    (&[], 0, b""),
+    (&[SETUP], 0, b""),
+    (&[SETUP, START], 0, b"start 1 a\n"),
+    (
+        &[SETUP, START, ACT_0, ACT_1],
+        0,
+        b"start 1 a\ndo 1.x add\ndo 1.y add\n",
+    ),
+    (&[SETUP, START, ACT_0, ACT_1, END], 0, LINES),
+    (&[START], 6, b"bad record file 0 at 1\n"),
+    (&[SETUP, SETUP], 6, b"bad record file 0 at 2\n"),
+    // another process's number
+    (
+        &[SETUP, b"\x01\x02\x00\x00\x00process a c x add 1 5 end\n"],
+        6,
+        b"bad record file 0 at 2\n",
+    ),
+    // no canonical text, no text, no step of `add`, and two processes
+    (
+        &[SETUP, b"\x01\x01\x00\x00\x00process a c x add 1 5 end"],
+        6,
+        b"bad record file 0 at 2\n",
+    ),
+    (
+        &[SETUP, b"\x01\x01\x00\x00\x00process a end\n"],
+        6,
+        b"bad record file 0 at 2\n",
+    ),
+    (
+        &[SETUP, b"\x01\x01\x00\x00\x00process a c x pay 1 5 end\n"],
+        6,
+        b"bad record file 0 at 2\n",
+    ),
+    (
+        &[
+            SETUP,
+            b"\x01\x01\x00\x00\x00process a c x add 1 5 end\nprocess b c x add 1 5 end\n",
+        ],
+        6,
+        b"bad record file 0 at 2\n",
+    ),
+    (&[SETUP, START, ACT_1], 6, b"bad record file 0 at 3\n"),
+    (&[SETUP, START, ACT_0, END], 6, b"bad record file 0 at 4\n"),
+    (
+        &[SETUP, START, ACT_0, ACT_1, END, END],
+        6,
+        b"bad record file 0 at 6\n",
+    ),
+];
+
+// A rack whose file 0 is the log of these bodies, each shorter than 256 bytes.
+fn rack_of(alloc: Global, bodies: &[&[u8]]) -> Result<MemoryRack, Fail> {
+    let mut file = b"tpsl\x01\x00\x00\x00".to_vec(alloc)?;
+    for body in bodies {
+        file.extend_from_slice(&[1, (body.len() % 256) as u8, 0])?;
+        file.extend_from_slice(body)?;
+    }
+    file.push(0)?;
+    let mut rack = MemoryRack::new(alloc, Vec::new(alloc))?;
+    rack.write_at(0, 0, &file)?;
+    Ok(rack)
+}
+
+#[test]
+fn the_first_odd_record_is_named(rt: HostRuntime) -> Result<(), Fail> {
+    let alloc = rt.alloc();
+    for (bodies, status, output) in ROWS {
+        let rack = show_on(&rt, alloc, rack_of(alloc, bodies)?, status, output)?;
+        drop(rack);
+    }
+    Ok(())
+}
+
+// Bytes of file 0, and what is told of them: an odd record counts only where all are whole.
+const FILES: [(&[u8], &[u8]); 5] = [
+    (b"", b"bad header file 0\n"),
+    (b"tpsl\x01\x01\x00\x00\x00", b"bad header file 0\n"),
+    (b"tpsl\x01\x00\x00\x00", b"bad record file 0 at 1\n"),
+    (
+        b"tpsl\x01\x00\x00\x00\x01\x01\x00\x09\x01\x02\x00\x09",
+        b"bad record file 0 at 2\n",
+    ),
+    (
+        b"tpsl\x01\x00\x00\x00\x01\x01\x00\x09\x00",
+        b"bad record file 0 at 1\n",
+    ),
+];
+
+#[test]
+fn a_file_that_is_no_log_is_refused(rt: HostRuntime) -> Result<(), Fail> {
+    let alloc = rt.alloc();
+    for (bytes, output) in FILES {
+        let mut rack = MemoryRack::new(alloc, Vec::new(alloc))?;
+        rack.write_at(0, 0, bytes)?;
+        let mut rack = show_on(&rt, alloc, rack, 6, output)?;
+        assert_eq!(rt; rack.len(0), Ok(bytes.len() as u64));
+    }
+    for call in [0, 1, 2] {
+        let rack = MemoryRack::new(alloc, vec![in alloc; call]?)?;
+        let rack = show_on(&rt, alloc, rack, 10, b"disk fault\n")?;
+        drop(rack);
+    }
+    Ok(())
+}
+
+// How many calls create the log: the length, the header and its sync.
+const CREATED: u32 = 3;
+
+// How many records a stop leaves, where these many calls were made: two writes and two syncs append one.
+fn kept_by(call: u32) -> usize {
+    (call.saturating_sub(CREATED) / 4) as usize
+}
+
+#[test]
+fn a_stop_leaves_a_beginning_of_the_lines(rt: HostRuntime) -> Result<(), Fail> {
+    let alloc = rt.alloc();
+    let rack = MemoryRack::new(alloc, Vec::new(alloc))?;
+    let whole = run_on(&rt, alloc, TEXT, rack, 0, LINES)?;
+    let words = words_of(alloc, &["show"])?;
+    assert_eq!(rt; whole.calls(), 23);
+    for call in CREATED..23 {
+        for (keep, fill) in [
+            (0, 0x00),
+            (0, 0x07),
+            (0, 0xff),
+            (1, 0x00),
+            (1, 0x07),
+            (1, 0xff),
+            (2, 0x00),
+            (2, 0x07),
+            (2, 0xff),
+        ] {
+            assert!(rt; u64::from(call) < whole.calls());
+            let left = whole.stopped(alloc, call, keep, fill)?;
+            let mut source = MemorySource::new(Vec::new(alloc), Vec::new(alloc));
+            let mut sink = MemorySink::new(alloc, Vec::new(alloc));
+            let finished = top(&rt, alloc, &words, &mut source, &mut sink, left);
+            let Finished { status, rack } = finished;
+            drop(rack);
+            assert_eq!(rt; status, 0, "within call {call}");
+            // The records that were acknowledged, or one more.
+            let kept = kept_by(call);
+            assert!(rt; kept < 5);
+            let (fewer, more) = (ENDS[kept], ENDS[kept + 1]);
+            assert!(rt; fewer <= LINES.len() && more <= LINES.len());
+            let shown = sink.bytes();
+            assert!(rt;
+                shown == &LINES[..fewer] || shown == &LINES[..more],
+                "within call {call}"
+            );
+        }
+    }
+    Ok(())
+}

@@ -1,0 +1,30 @@
+-- What a journal tells: the beginning of the life of one process of `add` steps.
+use Rattle.std.specs.Prelude.{◌≡◌, ◌≤◌, ◌<◌, ◌-◌, ℕ, true, List, ◌∷◌, [], length, take}
+use Rattle.process_tree.specs.declared.tree.Named.{Named}
+use Rattle.process_text.specs.Words.{words_of}
+use Rattle.process_text.specs.Grammar.{IsReading}
+use Rattle.process_text.specs.Canonical.{canonical_text}
+use Rattle.process_top.specs.Life.{is_add_process}
+use Rattle.process_top.specs.Journal.{life}
+
+-- a process of `add` steps alone, within the limits of a text
+pub record IsAddProcess (p : Named) : Type 0 where
+  pub adds : is_add_process p.tree ≡ true
+  pub reading : IsReading (words_of (canonical_text p.name p.tree)) (p ∷ [])
+
+-- these are the first n records of such a process
+pub record AreFirst (n : ℕ) (p : Named) (bodies : List (List ℕ)) : Type 0 where
+  pub process : IsAddProcess p
+  pub within : n ≤ length (life p)
+  pub are : bodies ≡ take n (life p)
+
+-- they are the first of some such process
+abbrev pub AreBegun : List (List ℕ) → Type 0
+AreBegun bodies = (p : Named) × AreFirst (length bodies) p bodies
+
+-- Record n, counted from 1, is the first that isn't the next one of such a process.
+pub record IsOddAt (n : ℕ) (bodies : List (List ℕ)) : Type 0 where
+  pub counted : 0 < n
+  pub there : n ≤ length bodies
+  pub begun : AreBegun (take (n - 1) bodies)
+  pub not_next : ¬ AreBegun (take n bodies)
