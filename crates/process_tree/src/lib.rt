@@ -41,6 +41,7 @@ pub use plan::{Operations, Plan};
 pub use play::{Fallback, Outcome, Place, Places, Played};
 pub use step::{Step, StepKind, Steps};
 pub use tree::{Named, Tree, TreeError};
+pub use ways::branch_to;
 
 #[cfg(test)]
 mod tests;

@@ -137,6 +137,14 @@ impl Tree {
         self.count
     }
 
+    /// The whole paths, in text order.
+    pub fn paths(&self) -> &[Places]
+        ensures paths { result.now ≡ (outline self.now).paths }
+        ensures good { tree_fault self.now ≡ None }
+    {
+        &self.paths
+    }
+
     /// A step by its number.
     pub fn step(&self, n: u16) -> &Step
         requires { n < length (outline self.now).steps }

@@ -96,7 +96,7 @@ pub fn place_on(path: &[u16], step: u16) -> Option<usize>
     None
 }
 
-/// The steps before this one.
+/// The steps before this one on the first path that has it.
 pub fn branch_to(paths: &[Places], step: u16) -> &[u16]
     ensures { result.now ≡ steps_before step (path_through step paths.now) }
 {

@@ -7,12 +7,10 @@ ghost use Rattle.well_formed.specs.Verdicts.{Tells};
 ghost use Rattle.well_formed.specs.declared.verdict.Verdict.TheVariants.{Good, NoMemory};
 
 use crate::Verdict;
-use crate::branch::branch_to;
 use crate::flaw::Flaw;
 use crate::judge::first_flaw;
 use crate::outcomes::outcomes_to;
-use crate::paths::paths_of;
-use process_tree::{Places, StepKind, Tree};
+use process_tree::{Places, StepKind, Tree, branch_to};
 use std::alloc::{AllocError, Global};
 
 /// The kinds of all steps, in text order.
@@ -49,9 +47,8 @@ fn verdict_by(alloc: Global, paths: &[Places], kinds: &[StepKind]) -> Result<Ver
 fn verdict(alloc: Global, tree: &Tree) -> Result<Verdict, AllocError>
     ensures { IfOk result (Tells (shape_of tree.now)) }
 {
-    let paths = paths_of(alloc, tree.root())?;
     let kinds = kinds_of(alloc, tree)?;
-    verdict_by(alloc, &paths, &kinds)
+    verdict_by(alloc, tree.paths(), &kinds)
 }
 
 /// Whether a process can go wrong, and if so where first.
@@ -69,8 +66,7 @@ pub fn check(alloc: Global, tree: &Tree) -> Verdict
 pub fn path(alloc: Global, tree: &Tree, step: u16) -> Result<Places, AllocError>
     ensures { IfOk result (λ path. path ≡ branch_to (shape_of tree.now) step ++ step ∷ []) }
 {
-    let paths = paths_of(alloc, tree.root())?;
-    let mut path = branch_to(&paths, step).to_vec(alloc)?;
+    let mut path = branch_to(tree.paths(), step).to_vec(alloc)?;
     path.push(step)?;
     Ok(Places::new(path))
 }

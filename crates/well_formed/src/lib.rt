@@ -5,12 +5,10 @@
 //! step shows in its place alone. The layer above prints the verdicts, and the branch path of the step that one names.
 #![tactic(auto)]
 
-mod branch;
 mod checks;
 mod flaw;
 mod judge;
 mod outcomes;
-mod paths;
 mod verdict;
 
 pub use checks::{check, path};

@@ -7,9 +7,8 @@ ghost use Rattle.process_tree.specs.Termination.{ways_before, outcomes_to};
 ghost use Rattle.well_formed.specs.Flaws.{shape_by, IsOrderly, IsOn};
 
 use crate::Outcomes;
-use crate::branch::branch_to;
 use crate::flaw::{can_be_refused, way_before};
-use process_tree::{Outcome, Places, StepKind};
+use process_tree::{Outcome, Places, StepKind, branch_to};
 use std::alloc::{AllocError, Global};
 
 /// Adds a refusal for each way before that of a step that goes on from this branch.

@@ -1,5 +1,4 @@
 use Rattle.std.proofs.Common.{ap, subst, sym, ◌∙◌}
-use Rattle.process_tree.specs.Blocks.{outline}
 use Rattle.process_tree.specs.Shape.{shape_of}
 use Rattle.well_formed.specs.Flaws.{shape_by, IsOrderly}
 use Rattle.well_formed.proofs.Told.{orderly}
@@ -7,7 +6,7 @@ use Rattle.well_formed.proofs.checks.verdict.Goals as goal
 
 pub verdict_by-requires : goal.verdict_by-requires
 verdict_by-requires c =
-    let kinds = c.deref-2.ensures.value ∙ c.in_ok-kinds.ensures in
-    let paths = c.deref.ensures.value ∙ c.in_ok-paths.ensures ∙ ap (λ r. (outline r).paths) c.root.ensures.root in
-    let same = ap (λ ks. shape_by ks c.deref.result.now) kinds ∙ ap (λ ps. shape_by (shape_of c.args.tree.now).kinds ps) paths in
-    subst IsOrderly (sym same) (orderly c.args.tree.now c.root.ensures.good)
+    let kinds = c.deref.ensures.value ∙ c.in_ok-kinds.ensures in
+    let paths = c.paths.ensures.paths in
+    let same = ap (λ ks. shape_by ks c.paths.result.now) kinds ∙ ap (λ ps. shape_by (shape_of c.args.tree.now).kinds ps) paths in
+    subst IsOrderly (sym same) (orderly c.args.tree.now c.paths.ensures.good)
