@@ -17,12 +17,12 @@ front at before x after list round = ap (take at) round.is ∙ take_at before (x
 split_one : (before : List ℕ) (x : ℕ) (after : List ℕ) → before ++ x ∷ after ≡ (before ++ x ∷ []) ++ after
 split_one before x after = sym (append_assoc before (x ∷ []) after)
 
-through : (at : ℕ) (before : List ℕ) (x : ℕ) (after list : List ℕ) → Round at before x after list → take (at + 1) list ≡ before ++ x ∷ []
+pub through : (at : ℕ) (before : List ℕ) (x : ℕ) (after list : List ℕ) → Round at before x after list → take (at + 1) list ≡ before ++ x ∷ []
 through at before x after list round =
     ap (take (at + 1)) (round.is ∙ split_one before x after)
     ∙ take_at (before ++ x ∷ []) after (at + 1) (omega (arith, round.length_is, length-append before (x ∷ [])))
 
-back : (at : ℕ) (before : List ℕ) (x : ℕ) (after list : List ℕ) → Round at before x after list → drop (at + 1) list ≡ after
+pub back : (at : ℕ) (before : List ℕ) (x : ℕ) (after list : List ℕ) → Round at before x after list → drop (at + 1) list ≡ after
 back at before x after list round =
     ap (drop (at + 1)) (round.is ∙ split_one before x after)
     ∙ drop_at (before ++ x ∷ []) after (at + 1) (omega (arith, round.length_is, length-append before (x ∷ [])))
@@ -67,7 +67,7 @@ pub two_bytes : (n : ℕ) → n % 256 + 256 * (n / 256) ≡ n
 two_bytes n = omega arith
 
 -- the parts of a write at a place that such a list has
-written_at : (at : ℕ) (before : List ℕ) (x : ℕ) (after list bytes : List ℕ) → Round at before x after list → written list at bytes ≡ before ++ bytes ++ drop (at + length bytes) list
+pub written_at : (at : ℕ) (before : List ℕ) (x : ℕ) (after list bytes : List ℕ) → Round at before x after list → written list at bytes ≡ before ++ bytes ++ drop (at + length bytes) list
 written_at at before x after list bytes round = ap (λ (l : List ℕ). l ++ bytes ++ drop (at + length bytes) list) (front at before x after list round)
 
 -- a log with a body written behind its closed gate is so

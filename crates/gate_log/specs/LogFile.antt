@@ -1,5 +1,5 @@
 -- What a file must hold to be the log of a list of bodies, and which list it is the log of.
-use Rattle.std.specs.Prelude.{◌≡◌, ℕ, ◌+◌, ◌*◌, ◌%◌, ◌/◌, ◌<◌, ◌≤◌, List, [], ◌∷◌, ◌++◌, length, take, drop, Bool, false, nat_le, nat_eq, ◌==◌, if◌then◌else◌, Option, Some, None, Result, Ok, Err}
+use Rattle.std.specs.Prelude.{◌≡◌, ℕ, ◌+◌, ◌*◌, ◌%◌, ◌/◌, ◌<◌, ◌≤◌, List, [], ◌∷◌, ◌++◌, length, take, drop, flat_map, Bool, false, nat_le, nat_eq, ◌==◌, if◌then◌else◌, Option, Some, None, Result, Ok, Err}
 use Rattle.std.proofs.Common.{zero, suc}
 use Rattle.std.specs.List.{starts_with}
 use Rattle.gate_log.specs.declared.errors.LogError.{LogError}
@@ -30,6 +30,10 @@ pub record IsLog (q : ℕ) (bodies : List (List ℕ)) (file : List ℕ) : Type 0
   pub records : AreRecords bodies opened
   pub free : List ℕ
   pub is : file ≡ header q ++ opened ++ 0 ∷ free
+
+-- the file that a log writes of these bodies: each record behind a gate of 1, and nothing behind the closed gate
+abbrev pub plain_log : ℕ → List (List ℕ) → List ℕ
+plain_log q bodies = header q ++ flat_map (λ body. 1 ∷ framed body) bodies ++ 0 ∷ []
 
 -- how many bytes the records of these bodies take
 abbrev pub records_size : List (List ℕ) → ℕ

@@ -3,7 +3,7 @@ ghost use Rattle.std.specs.Prelude.{◌≡◌, ◌≢◌, ◌<◌, ◌≤◌, �
 ghost use Rattle.process_flow.specs.Causes.{Rose, HasCause};
 ghost use Rattle.process_disk.specs.Disk.{Told, TornIn, file_of};
 ghost use Rattle.process_disk.specs.Images.{EachImage, RunBy, OthersAsBefore, AllAsBefore};
-ghost use Rattle.gate_log.specs.LogFile.{read_log};
+ghost use Rattle.gate_log.specs.LogFile.{read_log, plain_log};
 ghost use Rattle.gate_log.specs.Standing.{StandsFor, IsOpen, LogsBeforeOrWith, OpensAs};
 ghost use Rattle.gate_log.specs.declared.errors.LogError.TheVariants.{NoMemory};
 
@@ -42,6 +42,7 @@ impl Log {
         requires file { file < 9 }
         requires empty { Told (R.disk rack.old) → file_of (R.disk rack.old).files file ≡ [] }
         ensures stands { Told (R.disk rack.old) → IfOk result (λ log. StandsFor log [] (R.disk rack.new)) }
+        ensures bytes { Told (R.disk rack.old) → IfOk result (λ _. file_of (R.disk rack.new).files file ≡ plain_log file []) }
         ensures log { IfOk result (λ log. (log.file ≡ file) × (log.count ≡ 0)) }
         ensures others { Told (R.disk rack.old) → OthersAsBefore file (R.disk rack.old) (R.disk rack.new) }
         // Whatever it answers, at most the nine bytes of an empty log were written.
@@ -106,6 +107,10 @@ impl Log {
         requires open { Told (R.disk rack.old) → IsOpen self.old (R.disk rack.old) }
         ensures acknowledged { Told (R.disk rack.old) → (bodies : List (List ℕ)) → StandsFor self.old bodies (R.disk rack.old) →
             OnOk result (StandsFor self.new (bodies ++ body.now ∷ []) (R.disk rack.new)) }
+        // A file as a log writes it stays so.
+        ensures bytes { Told (R.disk rack.old) → (bodies : List (List ℕ)) → StandsFor self.old bodies (R.disk rack.old) →
+            file_of (R.disk rack.old).files self.old.file ≡ plain_log self.old.file bodies →
+            OnOk result (file_of (R.disk rack.new).files self.old.file ≡ plain_log self.old.file (bodies ++ body.now ∷ [])) }
         ensures any_moment { Told (R.disk rack.old) → (bodies : List (List ℕ)) → StandsFor self.old bodies (R.disk rack.old) →
             EachImage (R.disk rack.new) (R.disk rack.old).moment (LogsBeforeOrWith self.old.file bodies body.now) }
         ensures others { Told (R.disk rack.old) → OthersAsBefore self.old.file (R.disk rack.old) (R.disk rack.new) }

@@ -5,6 +5,7 @@ use Rattle.gate_log.specs.Standing.{Logs, LogsBeforeOrWith}
 use Rattle.gate_log.specs.contracts.log.Log.{the_view}
 use Rattle.gate_log.proofs.Appending.{RecordDone, images_of_record, images_of_append, body_appended, gate_within, room_left}
 use Rattle.gate_log.proofs.Framing.{gate_alone}
+use Rattle.gate_log.proofs.Plain.{plain_appended}
 use Rattle.gate_log.proofs.log.Log.append.Goals as goal
 
 pub write_and_sync-requires-clause-place : goal.write_and_sync-requires-clause-place
@@ -60,6 +61,16 @@ returns-clause-acknowledged g c = rw (← c.self.view_is) (λ told bodies stands
     let further : c.self.inside.end + (c.fill-size.result - 1) ≡ c.self.inside.end + (length c.args.body.now + 3) = omega (arith, c.fill-size.ensures.size) in
     body_appended _ _ bodies c.args.body.now _ _ old mid new honest (g.met.R.Rack.honest c.write_and_sync.new.rack told_mid) (g.met.R.Rack.honest c.write_and_sync-2.new.rack told_new) c.self.invariant.0 stands room done gate
     (c.in_ok-write_and_sync-2.ensures.written told_mid) (c.in_ok-write_and_sync-2.ensures.durable told_mid) refl refl further)
+
+pub returns-clause-bytes : goal.returns-clause-bytes
+returns-clause-bytes g c = rw (← c.self.view_is) (λ told bodies stands plain.
+    let old = g.R.Rack.disk c.args.rack.now in
+    let mid = g.R.Rack.disk c.write_and_sync.new.rack in
+    let new = g.R.Rack.disk c.write_and_sync-2.new.rack in
+    let told_mid = still_told old mid c.write_and_sync.ensures.tells told in
+    let done : RecordDone (the_view c.self.inside) c.args.body.now c.part.result.now old mid = record { bytes_are = c.part.ensures ∙ ap (drop 1) c.fill-size.ensures.bytes; written = c.in_ok-write_and_sync.ensures.written told; durable = c.in_ok-write_and_sync.ensures.durable told; run = c.write_and_sync.ensures.run told } in
+    let gate = c.part-2.ensures ∙ gate_alone c.fill-size.result _ _ (omega (arith, c.fill-size.ensures.size)) c.fill-size.ensures.bytes in
+    plain_appended _ bodies c.args.body.now _ _ old mid new (g.met.R.Rack.honest c.args.rack.now told) (g.met.R.Rack.honest c.write_and_sync.new.rack told_mid) c.self.invariant.0 stands done gate (c.in_ok-write_and_sync-2.ensures.written told_mid) plain)
 
 pub returns-clause-any_moment : goal.returns-clause-any_moment
 returns-clause-any_moment g c = rw (← c.self.view_is) (λ told bodies stands.
