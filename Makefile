@@ -1,4 +1,4 @@
-# `make demo` builds the program and runs it on an example; `make test` is what CI runs.
+# `make demo` builds the program and runs it on the examples; `make test` is what CI runs.
 .PHONY: demo test bench
 
 demo:

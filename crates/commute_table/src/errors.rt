@@ -32,7 +32,7 @@ impl fmt::Display for CatalogError {
 
 impl Error for CatalogError {}
 
-/// Why a document made no scenario, in the order of the document's refusals.
+/// Why a document made no scenario: the first refusal in the order of `scenario_said` in `specs/Document`.
 #[derive(Drop)]
 pub enum ScenarioError {
     /// It is no TOML document.

@@ -1,7 +1,7 @@
 -- How one process stands: its way on, what it has to undo, and what it does next.
 use Rattle.std.specs.Prelude.{ℕ, Bool, List, [], ◌∷◌, filter, flat_map, drop, length, nat_lt, if◌then◌else◌, Option, Some, None}
 use Rattle.std.specs.List.{list_all}
-use Rattle.process_tree.specs.Shape.{Shape, is_whole, next_steps, least, first_of, fixed_len}
+use Rattle.process_tree.specs.Shape.{Shape, is_whole, next_steps, least, first_of, last_of, fixed_len}
 use Rattle.process_tree.specs.Play.{kept_prefixes, kept_for}
 use Rattle.process_tree.specs.Recovery.{forward}
 use Rattle.machine_model.specs.declared.kept.Work.{Work}
@@ -46,12 +46,6 @@ staying s =
 -- pending: the steps that it has to undo
 abbrev pub pending_steps : Standing → List ℕ
 pending_steps s = drop (staying s) s.net
-
--- the last of a list
-abbrev pub last_of : List ℕ → Option ℕ
-last_of [] = None
-last_of (b ∷ []) = Some b
-last_of (b ∷ c ∷ bs) = last_of (c ∷ bs)
 
 -- a step, if there is one, and else the end
 abbrev pub step_or_end : Option ℕ → Task

@@ -2,7 +2,7 @@
 use Rattle.std.specs.Prelude.{ℕ, Bool, false, not, ◌&&◌, ◌||◌, List, [], ◌++◌, filter, map, drop, length, nat_eq, nat_le, if◌then◌else◌, Option, Some, None, is_some, is_none}
 use Rattle.std.specs.List.{list_any, list_all}
 use Rattle.process_tree.specs.declared.entry.Entry.{Entry}
-use Rattle.process_tree.specs.Shape.{Shape, kind_of, can_be_refused, greatest}
+use Rattle.process_tree.specs.Shape.{Shape, kind_of, can_be_refused, greatest, last_of}
 use Rattle.process_tree.specs.Recovery.{StepClass, reserved, committing, undoable}
 use Rattle.schedule_model.specs.declared.event.Event.{Event}
 use Rattle.schedule_model.specs.Course.{Course, shape, allowance}
@@ -16,7 +16,7 @@ use Rattle.machine_model.specs.declared.blocked.Blocked.{Blocked}
 use Rattle.machine_model.specs.declared.kept.Work.{Work}
 use Rattle.machine_model.specs.declared.kept.Work.TheVariants.{Forward, Undo, End}
 use Rattle.machine_model.specs.Blocks.{blocks_of, least_block}
-use Rattle.machine_model.specs.Standing.{Standing, Task, staying, next_task, last_of}
+use Rattle.machine_model.specs.Standing.{Standing, Task, staying, next_task}
 use Rattle.machine_model.specs.Moment.{Moment, has_begun}
 use Rattle.machine_model.specs.Pieces.{Piece, refused_pieces, refusals, running_of, running_pieces}
 

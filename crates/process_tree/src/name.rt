@@ -57,6 +57,7 @@ impl From<AllocError> for NameError {
 }
 
 impl Name {
+    /// The name that this text is; `BadName` where it is none.
     pub fn new(alloc: Global, text: &[u8]) -> Result<Name, NameError>
         ensures name { IfOk result (λ name. name ≡ text.now) }
         ensures good { OnOk result (is_name text.now ≡ true) }

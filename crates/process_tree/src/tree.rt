@@ -111,6 +111,7 @@ fn place_of(step: Option<u16>) -> Place
 }
 
 impl Tree {
+    /// The tree of this block, or what is refused of it first, in the order of `TreeError`.
     pub fn build(alloc: Global, root: Block) -> Result<Tree, TreeError>
         ensures tree { IfOk result (λ tree. tree ≡ root) }
         ensures good { OnOk result (tree_fault root ≡ None) }
