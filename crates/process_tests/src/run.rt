@@ -62,6 +62,15 @@ fn processes_are_run(rt: HostRuntime) -> Result<(), Fail> {
     Ok(())
 }
 
+// The journal of that text: the header, five records behind open gates, and a closed gate.
+const JOURNAL: &[u8] = b"tpsl\x01\x00\x00\x00\
+    \x01\x0b\x00\x00\x01\x01\x00\x03add\x00\x00\x00\
+    \x01\x2b\x00\x01\x01\x00\x00\x00process a c x add 1 5 c y add 1 6 end\n\
+    \x01\x08\x00\x02\x01\x00\x00\x00\x00\x00\x00\
+    \x01\x08\x00\x02\x01\x00\x00\x00\x01\x00\x00\
+    \x01\x05\x00\x03\x01\x00\x00\x00\
+    \x00";
+
 #[test]
 fn the_journal_has_all_records(rt: HostRuntime) -> Result<(), Fail> {
     let alloc = rt.alloc();
@@ -69,6 +78,9 @@ fn the_journal_has_all_records(rt: HostRuntime) -> Result<(), Fail> {
     let lines = b"start 1 a\ndo 1.x add\ndo 1.y add\nend 1\n";
     let mut rack = run_on(&rt, alloc, TEXT, rack, 0, lines)?;
     assert_eq!(rt; rack.len(0), Ok(99));
+    let mut bytes = [0; 100];
+    assert_eq!(rt; rack.read(0, 0, &mut bytes), Ok(99));
+    assert_eq!(rt; &bytes[..99], JOURNAL);
     let rack = run_on(&rt, alloc, TEXT, rack, 6, b"not empty file 0\n")?;
     drop(rack);
     Ok(())

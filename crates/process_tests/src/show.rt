@@ -164,6 +164,32 @@ fn a_file_that_is_no_log_is_refused(rt: HostRuntime) -> Result<(), Fail> {
 // How many calls create the log: the length, the header and its sync.
 const CREATED: u32 = 3;
 
+// A stop within a call before the log is there, and what is told of it.
+const BEFORE: [(u32, u32, u8, u8, &[u8]); 8] = [
+    (0, 0, 0x07, 6, b"bad header file 0\n"),
+    (1, 0, 0x00, 6, b"bad header file 0\n"),
+    (1, 7, 0xff, 6, b"bad header file 0\n"),
+    (1, 8, 0x00, 0, b""),
+    (1, 8, 0xff, 6, b"bad record file 0 at 1\n"),
+    (2, 1, 0x07, 6, b"bad header file 0\n"),
+    (2, 8, 0x07, 6, b"bad record file 0 at 1\n"),
+    (2, 9, 0xff, 0, b""),
+];
+
+#[test]
+fn a_stop_before_the_log_is_there_leaves_no_line(rt: HostRuntime) -> Result<(), Fail> {
+    let alloc = rt.alloc();
+    let rack = MemoryRack::new(alloc, Vec::new(alloc))?;
+    let whole = run_on(&rt, alloc, TEXT, rack, 0, LINES)?;
+    for (call, keep, fill, status, output) in BEFORE {
+        assert!(rt; u64::from(call) < whole.calls());
+        let left = whole.stopped(alloc, call, keep, fill)?;
+        let left = show_on(&rt, alloc, left, status, output)?;
+        drop(left);
+    }
+    Ok(())
+}
+
 // How many records a stop leaves, where these many calls were made: two writes and two syncs append one.
 fn kept_by(call: u32) -> usize {
     (call.saturating_sub(CREATED) / 4) as usize

@@ -1,53 +1,71 @@
--- How records are kept as they are appended.
-use Rattle.std.proofs.Common.{◌≡◌, ◌≤◌, ◌<◌, ◌+◌, ◌⊎◌, ℕ, List, [], ◌∷◌, ◌++◌, length, take, inl, inr, arith}
-use Rattle.std.proofs.lemmas.Bool.{cases_lt}
+-- What is known of records as they are appended.
+use Rattle.std.proofs.Common.{◌≡◌, ◌≤◌, ◌+◌, ℕ, zero, suc, List, [], ◌∷◌, ◌++◌, take, inl, inr, ⊎_elim, sym, subst, arith}
 use Rattle.process_disk.specs.Disk.{FileSet, Disk, Told, IsHonest}
 use Rattle.process_disk.specs.Images.{EachImage, ImagesFollow, OthersAsBefore}
 use Rattle.process_disk.proofs.Images.{each_so, each_then, still_told, others_then}
 use Rattle.gate_log.specs.Standing.{Logs, LogsBeforeOrWith}
-use Rattle.process_top.specs.Journal.{LogsAtLeast, AreKept}
+use Rattle.process_top.specs.Journal.{LogsOrNext, AreAppended}
 
--- a log of no records is a beginning of them
-pub kept_at_first : (records : List (List ℕ)) (disk : Disk) → EachImage disk disk.moment (Logs 0 []) → AreKept records 0 disk.moment disk
-kept_at_first records disk each =
-    let begun = each_so disk disk.moment (Logs 0 []) (LogsAtLeast 0 records) (λ files log. (0, omega arith, omega arith, log)) each in
-    record {
-      begun = begun;
-      appended = λ k le. let first : k ≡ 0 = omega arith in (disk.moment, omega arith, omega arith, rw first begun);
-    }
+-- in a log of no records none are appended yet
+pub none_appended : (records : List (List ℕ)) (disk : Disk) → EachImage disk disk.moment (Logs 0 []) → AreAppended records 0 disk.moment 0 disk
+none_appended records disk each = (omega arith, each_so disk disk.moment (Logs 0 []) (LogsOrNext 0 records) (λ files log. inl log) each)
 
--- before or with the next record is a beginning with at least those before
-at_least : (records : List (List ℕ)) (n k : ℕ) (body : List ℕ) → n < length records → take (n + 1) records ≡ take n records ++ body ∷ [] → k ≤ n
-    → (files : FileSet) → LogsBeforeOrWith 0 (take n records) body files → LogsAtLeast k records files
-at_least records n k body lt next le files (inl before) = (n, le, omega arith, before)
-at_least records n k body lt next le files (inr with_it) = (n + 1, omega arith, omega arith, rw next with_it)
+-- the first moment is no later than now
+by_now : (records : List (List ℕ)) (k t n : ℕ) (disk : Disk) → AreAppended records k t n disk → t ≤ disk.moment
+by_now records k t zero disk kept = kept.0
+by_now records k t (suc n) disk kept = omega (arith, kept.1, by_now records (k + 1) kept.0 n disk kept.3)
 
--- while the next record is appended, those before are kept
-pub kept_meanwhile : (records : List (List ℕ)) (n created : ℕ) (body : List ℕ) (old new : Disk) → n < length records → take (n + 1) records ≡ take n records ++ body ∷ []
-    → created ≤ old.moment → ImagesFollow old new → EachImage new old.moment (LogsBeforeOrWith 0 (take n records) body) → AreKept records n created old → AreKept records n created new
-kept_meanwhile records n created body old new lt next later follow each kept =
-    let since : (k : ℕ) → k ≤ n → EachImage new old.moment (LogsAtLeast k records) =
-    λ k le. each_so new old.moment (LogsBeforeOrWith 0 (take n records) body) (LogsAtLeast k records) (at_least records n k body lt next le) each in
-    record {
-      begun = each_then old new created (LogsAtLeast 0 records) later follow kept.begun (since 0 (omega arith));
-      appended = λ k le.
-          let was = kept.appended k le in
-          (was.0, was.1, omega (arith, was.2, follow.later), each_then old new was.0 (LogsAtLeast k records) was.2 follow was.3 (since k le));
-    }
+-- while the next one is appended, those before stay
+pub appended_meanwhile : (records : List (List ℕ)) (k t n : ℕ) (old new : Disk) → IsHonest new → ImagesFollow old new → EachImage new old.moment (LogsOrNext (k + n) records) → AreAppended records k t n old
+    → AreAppended records k t n new
+appended_meanwhile records k t zero old new honest follow each kept =
+    let none : k + 0 ≡ k = omega arith in
+    (omega (arith, kept.0, follow.later), each_then old new t (LogsOrNext k records) kept.0 follow kept.1 (subst (λ (m : ℕ). EachImage new old.moment (LogsOrNext m records)) none each))
+appended_meanwhile records k t (suc n) old new honest follow each kept =
+    let u = kept.0 in
+    let now = by_now records (k + 1) u n old kept.3 in
+    let further : k + suc n ≡ k + 1 + n = omega arith in (
+      u,
+      kept.1,
+      λ c left. ⊎_elim
+          (λ by_old. ⊎_elim (λ since. inl (follow.keeps u c now since)) (λ logs. inr logs) (kept.2 c by_old))
+          (λ since_old. inl (honest.earlier u old.moment c now since_old))
+          (follow.nothing_else t c (omega (arith, kept.1, now)) left),
+      appended_meanwhile records (k + 1) u n old new honest follow (subst (λ (m : ℕ). EachImage new old.moment (LogsOrNext m records)) further each) kept.3,
+    )
 
-one_more : (records : List (List ℕ)) (n created : ℕ) (disk : Disk) → n < length records → created ≤ disk.moment → EachImage disk disk.moment (Logs 0 (take (n + 1) records)) → AreKept records n created disk
-    → (k : ℕ) → k ≤ n + 1 → (k < n + 1) ⊎ (n + 1 ≤ k) → (t : ℕ) × (created ≤ t) × (t ≤ disk.moment) × EachImage disk t (LogsAtLeast k records)
-one_more records n created disk lt later each kept k le (inl before) = kept.appended k (omega arith)
-one_more records n created disk lt later each kept k le (inr last) =
-    (disk.moment, later, omega arith, each_so disk disk.moment (Logs 0 (take (n + 1) records)) (LogsAtLeast k records) (λ files log. (n + 1, omega arith, omega arith, log)) each)
+-- once it is there, it is appended too
+pub one_appended : (records : List (List ℕ)) (k t n : ℕ) (disk : Disk) → EachImage disk disk.moment (Logs 0 (take (k + n + 1) records)) → AreAppended records k t n disk → AreAppended records k t (suc n) disk
+one_appended records k t zero disk each kept =
+    let none : k + 0 + 1 ≡ k + 1 = omega arith in
+    let there : EachImage disk disk.moment (Logs 0 (take (k + 1) records)) = subst (λ (m : ℕ). EachImage disk disk.moment (Logs 0 (take m records))) none each in (
+      disk.moment,
+      kept.0,
+      λ c left. inr (kept.1.has c left),
+      (omega arith, each_so disk disk.moment (Logs 0 (take (k + 1) records)) (LogsOrNext (k + 1) records) (λ files log. inl log) there),
+    )
+one_appended records k t (suc n) disk each kept =
+    let further : k + suc n + 1 ≡ k + 1 + n + 1 = omega arith in
+    (kept.0, kept.1, kept.2, one_appended records (k + 1) kept.0 n disk (subst (λ (m : ℕ). EachImage disk disk.moment (Logs 0 (take m records))) further each) kept.3)
 
--- once it is appended, it is kept too
-pub kept_after : (records : List (List ℕ)) (n created : ℕ) (disk : Disk) → n < length records → created ≤ disk.moment → EachImage disk disk.moment (Logs 0 (take (n + 1) records))
-    → AreKept records n created disk → AreKept records (n + 1) created disk
-kept_after records n created disk lt later each kept = record {
-  begun = kept.begun;
-  appended = λ k le. one_more records n created disk lt later each kept k le (cases_lt k (n + 1));
-}
+before_or_next : (records : List (List ℕ)) (i : ℕ) (body : List ℕ) → take (i + 1) records ≡ take i records ++ body ∷ [] → (files : FileSet) → LogsBeforeOrWith 0 (take i records) body files → LogsOrNext i records files
+before_or_next records i body next files (inl before) = inl before
+before_or_next records i body next files (inr with_it) = inr (subst (λ (l : List (List ℕ)). Logs 0 l files) (sym next) with_it)
+
+-- while the next body is appended to the first i
+pub meanwhile : (records : List (List ℕ)) (t i : ℕ) (body : List ℕ) (old new : Disk) → IsHonest new → ImagesFollow old new → take (i + 1) records ≡ take i records ++ body ∷ []
+    → EachImage new old.moment (LogsBeforeOrWith 0 (take i records) body) → AreAppended records 0 t i old → AreAppended records 0 t i new
+meanwhile records t i body old new honest follow next each kept =
+    let none : i ≡ 0 + i = omega arith in
+    let logs = each_so new old.moment (LogsBeforeOrWith 0 (take i records) body) (LogsOrNext i records) (before_or_next records i body next) each in
+    appended_meanwhile records 0 t i old new honest follow (subst (λ (m : ℕ). EachImage new old.moment (LogsOrNext m records)) none logs) kept
+
+-- and once it is
+pub then_one_more : (records : List (List ℕ)) (t i : ℕ) (disk : Disk) → EachImage disk disk.moment (Logs 0 (take (i + 1) records)) → AreAppended records 0 t i disk → AreAppended records 0 t (i + 1) disk
+then_one_more records t i disk each kept =
+    let none : i + 1 ≡ 0 + i + 1 = omega arith in
+    let more : suc i ≡ i + 1 = omega arith in
+    subst (λ (m : ℕ). AreAppended records 0 t m disk) more (one_appended records 0 t i disk (subst (λ (m : ℕ). EachImage disk disk.moment (Logs 0 (take m records))) none each) kept)
 
 -- files other than this one as before, over a run of calls and another
 pub others_twice : (q : ℕ) (old mid new : Disk) → (Told mid → IsHonest mid) → (Told new → IsHonest new) → mid.tells ≡ old.tells → new.tells ≡ mid.tells

@@ -18,11 +18,11 @@ use Rattle.gate_log.proofs.Reading.{logs_are_read}
 use Rattle.std.specs.declared.alloc.Global.{Global}
 use Rattle.std.specs.List.{concat}
 use Rattle.process_top.specs.declared.refusal.Refusal.{Refusal}
-use Rattle.process_top.specs.declared.refusal.Refusal.TheVariants.{BadWords, NotYet, Text, TooLong, NotEmpty, BadHeader, BadRecord, ReadFault, NotBegun, CutOff, NoMemory}
+use Rattle.process_top.specs.declared.refusal.Refusal.TheVariants.{NotYet, Text, TooLong, NotEmpty, BadHeader, BadRecord, ReadFault, NotBegun, CutOff, NoMemory}
 use Rattle.process_top.specs.Refused.{error_status, refusal_status, refusal_text, needs_memory, IsRefusalTold}
 use Rattle.process_top.specs.Life.{is_add_process, lines_of}
-use Rattle.process_top.specs.Journal.{IsRun, IsRefusedRun, life}
-use Rattle.process_top.specs.Story.{IsAddProcess, AreBegun}
+use Rattle.process_top.specs.Journal.{IsRun, IsRefusedRun, life, IsAddProcess}
+use Rattle.process_top.specs.Story.{AreBegun}
 use Rattle.process_top.proofs.Stories.{adds_again}
 use Rattle.process_top.specs.Commands.{IsCheckAnswered, IsRunOf, IsNotRun, IsOnlyRun, IsOnlyRefused, IsRunAnswered, IsShowAnswered}
 use Rattle.process_top.specs.Told.{Output, IsTold}
@@ -62,7 +62,6 @@ faulty_on text e ps (inr fault) reading = no_reading_or_memory text e ps reading
 -- a text that wasn't read has no reading, or a fault came or memory was wanted
 unread_on : (r : Refusal) (text : List ℕ) (faults : ℕ) (after : Input) (ps : List Named) → IsUnread r (record { left = Some text; faults = faults }) after → ¬ Rose faults after.faults
     → length text ≤ most_input → IsReading (words_of text) ps → refusal_status r ≡ 13
-unread_on BadWords text faults after ps why quiet within reading = absurd why
 unread_on NotYet text faults after ps why quiet within reading = absurd why
 unread_on (Text e) text faults after ps why quiet within reading = ap error_status (faulty_on text e ps why reading)
 unread_on TooLong text faults after ps why quiet within reading = absurd (omega (arith, why, within))
@@ -114,7 +113,6 @@ check_done words text faults after files files_after output output_after result 
 -- a run on an empty file 0, without a fault of the rack, is refused for want of memory alone
 not_run_on : (r : Refusal) (p : Named) (before after : Disk) (faults faults_after : ℕ) → IsRefusedRun r p before after faults faults_after → ¬ Rose faults faults_after → Told before → file_of before.files 0 ≡ []
     → refusal_status r ≡ 13
-not_run_on BadWords p before after faults faults_after why quiet told empty = absurd why
 not_run_on NotYet p before after faults faults_after why quiet told empty = absurd why
 not_run_on (Text e) p before after faults faults_after why quiet told empty = absurd why
 not_run_on TooLong p before after faults faults_after why quiet told empty = absurd why
@@ -176,7 +174,6 @@ no_bad_record n p k file adds within log (inr odd) =
 -- the first records of a process are shown, without a fault of the rack, but for want of memory
 not_shown_on : (r : Refusal) (files files_after : Files) (p : Named) (k : ℕ) → IsNotShown r files files_after → ¬ Rose files.faults files_after.faults → IsAddProcess p → k ≤ length (life p) → Told files.disk
     → Logs 0 (take k (life p)) files.disk.files → refusal_status r ≡ 13
-not_shown_on BadWords files files_after p k why quiet adds within told log = absurd why
 not_shown_on NotYet files files_after p k why quiet adds within told log = absurd why
 not_shown_on (Text e) files files_after p k why quiet adds within told log = absurd why
 not_shown_on TooLong files files_after p k why quiet adds within told log = absurd why
@@ -249,7 +246,6 @@ check_answers words input input_after files files_after output output_after resu
 
 -- a process that is not run, or not to its end, is told without memory
 no_memory_needed : (r : Refusal) (p : Named) (before after : Disk) (faults faults_after : ℕ) → IsRefusedRun r p before after faults faults_after → needs_memory r ≡ true → ⊥
-no_memory_needed BadWords p before after faults faults_after why needs = why
 no_memory_needed NotYet p before after faults faults_after why needs = why
 no_memory_needed (Text e) p before after faults faults_after why needs = why
 no_memory_needed TooLong p before after faults faults_after why needs = why
@@ -306,7 +302,7 @@ other_answers words input input_after files files_after output output_after resu
     isnt b P false_is both p = let true_is : b ≡ true = both.1 p in absurd (cc)
 
 -- the only process was run, or why it was not
-pub only_ran : (ps : List Named) (p : Named) (before after : Disk) (r : Result (Vec ℕ Global) Refusal) → ps ≡ p ∷ [] → is_add_process p.tree ≡ true
+pub only_ran : (ps : List Named) (p : Named) (before after : Disk) (r : Result (Vec ℕ Global) Refusal) → ps ≡ p ∷ [] → IfOk r (λ lines. IsAddProcess p)
     → IfOk r (λ lines. lines.items ≡ concat (lines_of p)) → (Told before → IfOk r (λ lines. IsRun p before after)) → IfOk r (λ lines. IsOnlyRun ps before after lines.items)
 only_ran ps p before after (Ok lines) one adds are all = (p, one, adds, all, are)
 only_ran ps p before after (Err e) one adds are all = tt

@@ -1,5 +1,5 @@
 -- The records of a life fit a log.
-use Rattle.std.proofs.Common.{◌≡◌, ◌≤◌, ◌<◌, ◌+◌, ◌^◌, ℕ, zero, suc, List, [], ◌∷◌, ◌++◌, length, map, All, Bool, true, false, ◌&&◌, Option, Some, None, if◌then◌else◌, nat_lt, refl, ap, ◌∙◌, arith, length-append}
+use Rattle.std.proofs.Common.{◌≡◌, ◌≤◌, ◌<◌, ◌+◌, ◌^◌, ℕ, zero, suc, List, [], ◌∷◌, ◌++◌, length, map, All, Bool, true, false, ◌&&◌, Option, Some, None, if◌then◌else◌, nat_lt, refl, subst, ap, ◌∙◌, arith, length-append}
 use Rattle.std.proofs.lemmas.Bool.Decides.{nat_tests}
 use Rattle.std.specs.List.{list_all}
 use Rattle.std.proofs.lemmas.List.Elements.{All-cons, All-append, All-map}
@@ -14,8 +14,10 @@ use Rattle.process_tree.specs.Blocks.{numbers_from, outline, outline_of}
 use Rattle.process_tree.specs.Making.{tree_fault}
 use Rattle.process_flow.specs.Causes.{Rose}
 use Rattle.process_top.specs.Life.{is_add_step, is_end, is_add_process, act_body, setup_body, start_body, end_body, records_of, lines_of, lines_from, do_line}
+use Rattle.process_text.specs.Words.{words_of}
+use Rattle.process_text.specs.Grammar.{IsReading, process_of}
 use Rattle.process_text.specs.Canonical.{canonical_text}
-use Rattle.process_top.specs.Journal.{life}
+use Rattle.process_top.specs.Journal.{life, IsAddProcess}
 
 few_by : (empty over : Bool) (n : ℕ) (rest : Option TreeError) → nat_lt 256 n ≡ over → (if empty then Some Empty else (if over then Some (Steps n) else rest)) ≡ None → n ≤ 256
 few_by true over n rest is none = absurd (cc)
@@ -65,6 +67,10 @@ pub life_made : (p : Named) (bodies : List (List ℕ)) (text : List ℕ) (n : �
     → bodies ≡ records_of text n → bodies ≡ life p
 life_made p bodies text n is made counted are =
     are ∙ ap (λ t. records_of t n) made ∙ ap (λ k. records_of (canonical_text p.name p.tree) k) (counted ∙ ap (λ ss. length ss) (steps_at_end p.tree is))
+
+-- a process of `add` steps alone that is printed is within the limits
+pub add_process : (p : Named) (text : List ℕ) → is_add_process p.tree ≡ true → text ≡ canonical_text p.name p.tree → IsReading (words_of text) (process_of p.name p.tree ∷ []) → IsAddProcess p
+add_process p text adds is reading = record { adds = adds; reading = subst (λ (t : List ℕ). IsReading (words_of t) (p ∷ [])) is reading }
 
 -- a count that rose later rose
 pub rose_later : (before mid after : ℕ) → before ≤ mid → Rose mid after → Rose before after

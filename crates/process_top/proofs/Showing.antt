@@ -4,6 +4,7 @@ use Rattle.std.specs.declared.alloc.Global.{Global}
 use Rattle.std.specs.List.{concat}
 use Rattle.process_tree.specs.declared.tree.Named.{Named}
 use Rattle.process_disk.specs.Disk.{Told, file_of}
+use Rattle.process_disk.specs.Images.{EachImage}
 use Rattle.gate_log.specs.LogFile.{read_log}
 use Rattle.gate_log.specs.Standing.{Logs}
 use Rattle.gate_log.proofs.Reading.{logs_are_read}
@@ -15,15 +16,23 @@ use Rattle.process_top.specs.Reply.{Files, IsNotShown}
 use Rattle.process_top.specs.Commands.{IsShownAs}
 
 -- the first records of a process were found
-pub shown_as : (files : Files) (bodies : List (List ℕ)) (r : Result (Vec ℕ Global) Refusal) → (Told files.disk → read_log 0 (file_of files.disk.files 0) ≡ Ok bodies)
-    → IfOk r (λ lines. (p : Named) × AreFirst (length bodies) p bodies × (lines.items ≡ concat (take (length bodies) (lines_of p)))) → IfOk r (λ lines. IsShownAs files lines.items)
-shown_as files bodies (Err e) read found = tt
-shown_as files bodies (Ok lines) read found =
+pub shown_as : (files files_after : Files) (bodies : List (List ℕ)) (r : Result (Vec ℕ Global) Refusal) → (Told files.disk → read_log 0 (file_of files.disk.files 0) ≡ Ok bodies)
+    → (Told files.disk → EachImage files_after.disk files_after.disk.moment (Logs 0 bodies))
+    → IfOk r (λ lines. (p : Named) × AreFirst (length bodies) p bodies × (lines.items ≡ concat (take (length bodies) (lines_of p)))) → IfOk r (λ lines. IsShownAs files files_after lines.items)
+shown_as files files_after bodies (Err e) read each found = tt
+shown_as files files_after bodies (Ok lines) read each found =
     let p = found.0 in
     let first = found.1 in (
       p,
       length bodies,
-      (first.process, first.within, λ told. subst (λ (records : List (List ℕ)). Logs 0 records files.disk.files) first.are ((logs_are_read 0 bodies (file_of files.disk.files 0)).1 (read told))),
+      (
+        first.process,
+        first.within,
+        λ told. (
+          subst (λ (records : List (List ℕ)). Logs 0 records files.disk.files) first.are ((logs_are_read 0 bodies (file_of files.disk.files 0)).1 (read told)),
+          subst (λ (records : List (List ℕ)). EachImage files_after.disk files_after.disk.moment (Logs 0 records)) first.are (each told),
+        ),
+      ),
       found.2,
     )
 

@@ -16,8 +16,7 @@ use Rattle.process_text.specs.Again.{IsAgain}
 use Rattle.process_text.proofs.Reprinted.{readings_agree}
 use Rattle.process_text.proofs.Injective.{read_as_one}
 use Rattle.process_top.specs.Life.{is_add_step, is_end, is_add_process, records_of, start_line, lines_from, lines_of}
-use Rattle.process_top.specs.Journal.{life}
-use Rattle.process_top.specs.Story.{IsAddProcess}
+use Rattle.process_top.specs.Journal.{life, IsAddProcess}
 use Rattle.process_top.specs.Reply.{IsOneAddProcess}
 
 -- what is read of the words of a process is that process again

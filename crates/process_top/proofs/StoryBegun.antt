@@ -9,8 +9,8 @@ use Rattle.process_tree.specs.declared.tree.Named.{Named}
 use Rattle.process_text.specs.Canonical.{canonical_text}
 use Rattle.process_text.proofs.Reprinted.{canonical_reading}
 use Rattle.process_top.specs.Life.{setup_body, start_body, lines_of}
-use Rattle.process_top.specs.Journal.{life}
-use Rattle.process_top.specs.Story.{IsAddProcess, AreFirst, AreBegun, IsOddAt}
+use Rattle.process_top.specs.Journal.{life, IsAddProcess}
+use Rattle.process_top.specs.Story.{AreFirst, AreBegun, IsOddAt}
 use Rattle.process_top.proofs.Runs.{records_count}
 use Rattle.process_top.proofs.Stories.{one_life}
 

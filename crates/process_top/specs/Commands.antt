@@ -10,7 +10,7 @@ use Rattle.process_top.specs.declared.refusal.Refusal.TheVariants.{NotYet}
 use Rattle.process_top.specs.Verdict.{AreLines}
 use Rattle.process_top.specs.Refused.{IsRefusalTold}
 use Rattle.process_top.specs.Life.{lines_of}
-use Rattle.process_top.specs.Journal.{IsRun, IsRefusedRun}
+use Rattle.process_top.specs.Journal.{IsRun, IsRefusedRun, IsAddProcess}
 use Rattle.process_top.specs.Reply.{most_input, Input, Files, AreUntouched, IsRead, IsUnread, IsOneAddProcess, IsShown, IsNotShown}
 use Rattle.process_top.specs.Told.{Output, IsTold}
 
@@ -31,7 +31,7 @@ IsCheckAnswered input input_after output output_after result =
 
 -- one of these processes, the only one, was run
 abbrev pub IsOnlyRun : List Named → Disk → Disk → List ℕ → Type 0
-IsOnlyRun ps before after lines = (p : Named) × (ps ≡ p ∷ []) × IsOneAddProcess (p ∷ []) × (Told before → IsRun p before after) × (lines ≡ concat (lines_of p))
+IsOnlyRun ps before after lines = (p : Named) × (ps ≡ p ∷ []) × IsAddProcess p × (Told before → IsRun p before after) × (lines ≡ concat (lines_of p))
 
 -- why it was not run, or not to its end
 abbrev pub IsOnlyRefused : Refusal → List Named → Disk → Disk → ℕ → ℕ → Type 0
@@ -42,7 +42,7 @@ IsOnlyRefused r ps before after faults faults_after =
 -- the text of the source was run
 abbrev pub IsRunOf : Input → Input → Files → Files → List ℕ → Type 0
 IsRunOf input input_after files files_after lines =
-    (p : Named) × IsRead input input_after (p ∷ []) × IsOneAddProcess (p ∷ []) × (Told files.disk → IsRun p files.disk files_after.disk) × (lines ≡ concat (lines_of p))
+    (p : Named) × IsRead input input_after (p ∷ []) × IsAddProcess p × (Told files.disk → IsRun p files.disk files_after.disk) × (lines ≡ concat (lines_of p))
 
 -- why it was not run, or not to its end
 abbrev pub IsNotRun : Refusal → Input → Input → Files → Files → Type 0
@@ -58,11 +58,11 @@ IsRunAnswered input input_after files files_after output output_after result =
     ⊎ ((r : Refusal) × IsNotRun r input input_after files files_after × IsRefusalTold r output output_after result)
 
 -- the first records of a process were found in file 0, and these are their lines
-abbrev pub IsShownAs : Files → List ℕ → Type 0
-IsShownAs files lines = (p : Named) × (n : ℕ) × IsShown p n files × (lines ≡ concat (take n (lines_of p)))
+abbrev pub IsShownAs : Files → Files → List ℕ → Type 0
+IsShownAs files files_after lines = (p : Named) × (n : ℕ) × IsShown p n files files_after × (lines ≡ concat (take n (lines_of p)))
 
 -- what `show` answers
 abbrev pub IsShowAnswered : Files → Files → Output → Output → ℕ → Type 0
 IsShowAnswered files files_after output output_after result =
-    ((lines : List ℕ) × IsShownAs files lines × IsTold 0 lines output output_after result)
+    ((lines : List ℕ) × IsShownAs files files_after lines × IsTold 0 lines output output_after result)
     ⊎ ((r : Refusal) × IsNotShown r files files_after × IsRefusalTold r output output_after result)

@@ -1,9 +1,9 @@
 -- Worked examples, each of which holds by computing.
-use Rattle.std.specs.Prelude.{◌≡◌, refl, List, [], ◌∷◌, ◌+◌, ℕ, true, codes, take}
+use Rattle.std.specs.Prelude.{◌≡◌, refl, List, [], ◌∷◌, ℕ, true, codes, take, length}
 use Rattle.std.proofs.Common.{pos}
 use Rattle.std.specs.List.{concat}
 use Rattle.std.specs.Fmt.{digits}
-use Rattle.gate_log.specs.LogFile.{end_of}
+use Rattle.gate_log.specs.LogFile.{plain_log}
 use Rattle.process_tree.specs.declared.step.Step.{Step}
 use Rattle.process_tree.specs.declared.step.StepKind.TheVariants.{C}
 use Rattle.process_tree.specs.declared.block.Tail.{End}
@@ -20,7 +20,7 @@ abbrev pub two_adds : Named
 two_adds = record { name = codes "a"; tree = record { steps = adding (codes "x") 5 ∷ adding (codes "y") 6 ∷ []; tail = End } }
 
 -- its journal takes 99 bytes
-pub journal_size : end_of (life two_adds) + 1 ≡ 99
+pub journal_size : length (plain_log 0 (life two_adds)) ≡ 99
 unfolding digits
 journal_size = refl
 

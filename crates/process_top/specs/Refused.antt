@@ -5,7 +5,7 @@ use Rattle.process_text.specs.declared.error.TextError.TheVariants as errors
 use Rattle.process_text.specs.Texts.{expected_word, what_word}
 use Rattle.process_top.specs.Told.{Output, IsTold}
 use Rattle.process_top.specs.declared.refusal.Refusal.{Refusal}
-use Rattle.process_top.specs.declared.refusal.Refusal.TheVariants.{BadWords, NotYet, Text, TooLong, NotEmpty, BadHeader, BadRecord, ReadFault, NotBegun, CutOff, NoMemory}
+use Rattle.process_top.specs.declared.refusal.Refusal.TheVariants.{NotYet, Text, TooLong, NotEmpty, BadHeader, BadRecord, ReadFault, NotBegun, CutOff, NoMemory}
 
 -- of a text
 abbrev pub error_status : TextError → ℕ
@@ -22,7 +22,6 @@ error_text (errors.SameName line name) = codes "same name at line " ++ decimal l
 error_text errors.NoMemory = codes "no memory\n"
 
 abbrev pub refusal_status : Refusal → ℕ
-refusal_status BadWords = 1
 refusal_status NotYet = 2
 refusal_status (Text e) = error_status e
 refusal_status TooLong = 4
@@ -35,7 +34,6 @@ refusal_status CutOff = 10
 refusal_status NoMemory = 13
 
 abbrev pub refusal_text : Refusal → List ℕ
-refusal_text BadWords = codes "bad words\n"
 refusal_text NotYet = codes "not yet\n"
 refusal_text (Text e) = error_text e
 refusal_text TooLong = codes "limit input 1048577\n"

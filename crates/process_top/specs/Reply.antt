@@ -4,7 +4,7 @@ use Rattle.std.specs.List.{concat}
 use Rattle.std.specs.Io.KnownBytes.{IsAtEnd}
 use Rattle.process_flow.specs.Causes.{Rose}
 use Rattle.process_disk.specs.Disk.{Disk, Told, file_of}
-use Rattle.process_disk.specs.Images.{AllAsBefore}
+use Rattle.process_disk.specs.Images.{EachImage, AllAsBefore}
 use Rattle.gate_log.specs.LogFile.{read_log}
 use Rattle.gate_log.specs.Standing.{Logs}
 use Rattle.gate_log.specs.declared.errors.LogError.TheVariants as log_errors
@@ -20,8 +20,8 @@ use Rattle.process_top.specs.Refused.{refusal_status, refusal_text}
 use Rattle.process_top.specs.Told.{Output, IsTold}
 use Rattle.process_top.specs.Verdict.{AreVerdicts, verdict_lines, any_fault}
 use Rattle.process_top.specs.Life.{is_add_process, lines_of}
-use Rattle.process_top.specs.Journal.{IsRun, IsRefusedRun, life}
-use Rattle.process_top.specs.Story.{IsAddProcess, IsOddAt}
+use Rattle.process_top.specs.Journal.{IsRun, IsRefusedRun, life, IsAddProcess}
+use Rattle.process_top.specs.Story.{IsOddAt}
 
 -- the words are the one word `check`, or `run`, or `show`
 abbrev pub IsCheckWord : List (List ℕ) → Type 0
@@ -51,7 +51,7 @@ pub record Files : Type 1 where
 abbrev pub OnInput : Input → (List ℕ → Type 0) → Type 0
 OnInput input P = IfSome input.left (λ text. (length text ≤ most_input) × P text)
 
--- all files read as before, and a crash leaves nothing that one at the start might not have left
+-- all files, where they are told, read as before, and a crash leaves nothing that one at the start might not have left
 abbrev pub AreUntouched : Files → Files → Type 0
 AreUntouched before after = Told before.disk → AllAsBefore before.disk after.disk
 
@@ -63,7 +63,7 @@ IsUnread ReadFault before after = Rose before.faults after.faults
 IsUnread NoMemory before after = ⊤
 IsUnread r before after = ⊥
 
--- the source was read to its end, and had the text of these processes
+-- the source was read to its end, where it tells, and had the text of these processes within the limit
 abbrev pub IsRead : Input → Input → List Named → Type 0
 IsRead before after ps = IsAtEnd after.left × OnInput before (λ text. IsReading (words_of text) ps)
 
@@ -73,9 +73,11 @@ IsOneAddProcess [] = ⊥
 IsOneAddProcess (p ∷ []) = is_add_process p.tree ≡ true
 IsOneAddProcess (p ∷ q ∷ ps) = ⊥
 
--- file 0 is the log of the first n records of this process
-abbrev pub IsShown : Named → ℕ → Files → Type 0
-IsShown p n files = IsAddProcess p × (n ≤ length (life p)) × (Told files.disk → Logs 0 (take n (life p)) files.disk.files)
+-- file 0, where it is told, is the log of the first n records of this process, and from then on each image of it is
+abbrev pub IsShown : Named → ℕ → Files → Files → Type 0
+IsShown p n before after =
+    IsAddProcess p × (n ≤ length (life p))
+    × (Told before.disk → Logs 0 (take n (life p)) before.disk.files × EachImage after.disk after.disk.moment (Logs 0 (take n (life p))))
 
 -- record n of file 0, counted from 1, is the first that isn't whole; or all are, and it is the first that isn't the next one of a process
 abbrev pub IsBadRecord : ℕ → List ℕ → Type 0
@@ -137,8 +139,8 @@ IsDue words input input_after files files_after (no_add_process ps) = IsRunWord 
 IsDue words input input_after files files_after (not_run p r) =
     IsRunWord words × IsRead input input_after (p ∷ []) × IsOneAddProcess (p ∷ []) × IsRefusedRun r p files.disk files_after.disk files.faults files_after.faults
 IsDue words input input_after files files_after (ran p) =
-    IsRunWord words × IsRead input input_after (p ∷ []) × IsOneAddProcess (p ∷ []) × (Told files.disk → IsRun p files.disk files_after.disk)
-IsDue words input input_after files files_after (shown p n) = IsShowWord words × IsShown p n files × AreUntouched files files_after
+    IsRunWord words × IsRead input input_after (p ∷ []) × IsAddProcess p × (Told files.disk → IsRun p files.disk files_after.disk)
+IsDue words input input_after files files_after (shown p n) = IsShowWord words × IsShown p n files files_after × AreUntouched files files_after
 IsDue words input input_after files files_after (not_shown r) = IsShowWord words × IsNotShown r files files_after × AreUntouched files files_after
 
 -- the status of an answer: some reply was due, and it was told
@@ -146,23 +148,23 @@ abbrev pub IsAnswered : List (List ℕ) → Input → Input → Files → Files 
 IsAnswered words input input_after files files_after output output_after result =
     (reply : Reply) × IsDue words input input_after files files_after reply × IsTold (status_of reply) (text_of reply) output output_after result
 
--- a check of a text in the grammar gives its verdicts
+-- a check of a text in the grammar has the status of verdicts, or of want of memory
 abbrev pub IsCheckComplete : Input → ℕ → Type 0
 IsCheckComplete input result =
     IfSome input.left (λ text. (ps : List Named) → length text ≤ most_input → IsReading (words_of text) ps → (result ≡ 0) ⊎ ((result ≡ 3) ⊎ (result ≡ 13)))
 
--- a run of one process of `add` steps alone on an empty file 0 runs it
+-- a run of one process of `add` steps alone on an empty file 0 has the status of a run, or of want of memory
 abbrev pub IsRunComplete : Input → Disk → ℕ → Type 0
 IsRunComplete input disk result =
     IfSome input.left (λ text. (p : Named) → length text ≤ most_input → IsReading (words_of text) (p ∷ []) → is_add_process p.tree ≡ true
     → Told disk → file_of disk.files 0 ≡ [] → (result ≡ 0) ⊎ (result ≡ 13))
 
--- file 0 is shown where it is the log of the first records of such a process
+-- where file 0 is the log of the first records of such a process, showing it has the status of lines, or of want of memory
 abbrev pub IsShowComplete : Disk → ℕ → Type 0
 IsShowComplete disk result =
     (p : Named) (n : ℕ) → IsAddProcess p → n ≤ length (life p) → Told disk → Logs 0 (take n (life p)) disk.files → (result ≡ 0) ⊎ (result ≡ 13)
 
--- with no fault of the source, the sink and the rack, a command does what it is for, or wants memory
+-- with no fault of the source, the sink and the rack, a command has the status of what it is for, or of want of memory
 pub record IsComplete (words : List (List ℕ)) (input input_after : Input) (files files_after : Files) (output output_after : Output) (result : ℕ) : Type 0 where
   pub check : IsCheckWord words → ¬ Rose input.faults input_after.faults → ¬ Rose output.faults output_after.faults → IsCheckComplete input result
   pub run : IsRunWord words → ¬ Rose input.faults input_after.faults → ¬ Rose output.faults output_after.faults → ¬ Rose files.faults files_after.faults → IsRunComplete input files.disk result

@@ -1,16 +1,7 @@
 -- What a journal tells: the beginning of the life of one process of `add` steps.
-use Rattle.std.specs.Prelude.{◌≡◌, ◌≤◌, ◌<◌, ◌-◌, ℕ, true, List, ◌∷◌, [], length, take}
+use Rattle.std.specs.Prelude.{◌≡◌, ◌≤◌, ◌<◌, ◌-◌, ℕ, List, length, take}
 use Rattle.process_tree.specs.declared.tree.Named.{Named}
-use Rattle.process_text.specs.Words.{words_of}
-use Rattle.process_text.specs.Grammar.{IsReading}
-use Rattle.process_text.specs.Canonical.{canonical_text}
-use Rattle.process_top.specs.Life.{is_add_process}
-use Rattle.process_top.specs.Journal.{life}
-
--- a process of `add` steps alone, within the limits of a text
-pub record IsAddProcess (p : Named) : Type 0 where
-  pub adds : is_add_process p.tree ≡ true
-  pub reading : IsReading (words_of (canonical_text p.name p.tree)) (p ∷ [])
+use Rattle.process_top.specs.Journal.{life, IsAddProcess}
 
 -- these are the first n records of such a process
 pub record AreFirst (n : ℕ) (p : Named) (bodies : List (List ℕ)) : Type 0 where

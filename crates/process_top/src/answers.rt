@@ -1,5 +1,5 @@
 // Answers to lists of words.
-ghost use Rattle.std.specs.Prelude.{◌≡◌, ◌⊎◌, map, string_bytes};
+ghost use Rattle.std.specs.Prelude.{◌≤◌, ◌≡◌, ◌⊎◌, map, string_bytes};
 ghost use Rattle.process_disk.specs.Disk.{Told};
 ghost use Rattle.process_disk.specs.Images.{OthersAsBefore};
 ghost use Rattle.process_top.specs.Reply.{IsCheckWord, IsRunWord, IsShowWord, IsAnswered, IsComplete};
@@ -37,6 +37,8 @@ fn reply<S: Source, K: Sink, R: Rack>(
     ensures others { Told (R.disk rack.old) → OthersAsBefore 0 (R.disk rack.old) (R.disk rack.new) }
     ensures untouched { (IsRunWord (map string_bytes words.now)) ⊎ (IsShowWord (map string_bytes words.now)) ⊎ (rack.new ≡ rack.old) }
     ensures unread { (IsCheckWord (map string_bytes words.now)) ⊎ (IsRunWord (map string_bytes words.now)) ⊎ (source.new ≡ source.old) }
+    ensures tells { (R.disk rack.new).tells ≡ (R.disk rack.old).tells }
+    ensures later { R.faults rack.old ≤ R.faults rack.new }
 {
     if is_only(words, "check") {
         check(alloc, source, sink)
@@ -65,8 +67,8 @@ pub fn answer<S: Source, K: Sink, R: Rack>(
         (record { disk = R.disk result.rack; faults = R.faults result.rack })
         (record { taken = K.taken sink.old; faults = K.faults sink.old })
         (record { taken = K.taken sink.new; faults = K.faults sink.new }) result.status }
-    // Where no call failed and memory was found, a text in the grammar is checked, a process of `add` steps is run on an empty
-    // file 0, and a beginning of its records is shown.
+    // Where no call failed and source and rack tell, a text in the grammar has the status of a check, a process of `add` steps on
+    // an empty file 0 that of a run, and a beginning of its records that of a show; or memory is wanting.
     ensures complete { IsComplete (map string_bytes words.now)
         (record { left = S.left source.old; faults = S.faults source.old })
         (record { left = S.left source.new; faults = S.faults source.new })
@@ -76,10 +78,13 @@ pub fn answer<S: Source, K: Sink, R: Rack>(
         (record { taken = K.taken sink.new; faults = K.faults sink.new }) result.status }
     // The files but file 0 stay as they are, and stand together in each crash image as a crash at the start may leave them.
     ensures others { Told (R.disk rack) → OthersAsBefore 0 (R.disk rack) (R.disk result.rack) }
-    // No command but `run` and `show` calls the rack.
+    // But for `run` and `show` the rack is left as it is.
     ensures untouched { (IsRunWord (map string_bytes words.now)) ⊎ (IsShowWord (map string_bytes words.now)) ⊎ (result.rack ≡ rack) }
-    // No command but `check` and `run` calls the source.
+    // But for `check` and `run` the source is left as it is.
     ensures unread { (IsCheckWord (map string_bytes words.now)) ⊎ (IsRunWord (map string_bytes words.now)) ⊎ (source.new ≡ source.old) }
+    // The rack tells as before, and its count of faults didn't fall.
+    ensures tells { (R.disk result.rack).tells ≡ (R.disk rack).tells }
+    ensures later { R.faults rack ≤ R.faults result.rack }
 {
     let mut rack = rack;
     let status = reply(alloc, words, source, sink, &mut rack);
@@ -112,6 +117,8 @@ pub fn top<H: Threads + Wait + Sync, S: Source, K: Sink, R: Rack>(
     ensures others { Told (R.disk rack) → OthersAsBefore 0 (R.disk rack) (R.disk result.rack) }
     ensures untouched { (IsRunWord (map string_bytes words.now)) ⊎ (IsShowWord (map string_bytes words.now)) ⊎ (result.rack ≡ rack) }
     ensures unread { (IsCheckWord (map string_bytes words.now)) ⊎ (IsRunWord (map string_bytes words.now)) ⊎ (source.new ≡ source.old) }
+    ensures tells { (R.disk result.rack).tells ≡ (R.disk rack).tells }
+    ensures later { R.faults rack ≤ R.faults result.rack }
 {
     answer(alloc, words, source, sink, rack)
 }

@@ -1,5 +1,5 @@
 // The commands of the program.
-ghost use Rattle.std.specs.Prelude.{◌≡◌, ◌∷◌, [], ◌↔◌, IsTrue, map, string_bytes, codes, IfOk, IfErr};
+ghost use Rattle.std.specs.Prelude.{◌≤◌, ◌≡◌, ◌∷◌, [], ◌↔◌, IsTrue, map, string_bytes, codes, IfOk, IfErr};
 ghost use Rattle.process_disk.specs.Disk.{Told};
 ghost use Rattle.process_disk.specs.Images.{OthersAsBefore};
 ghost use Rattle.process_top.specs.Commands.{IsWholeText, IsChecked, IsCheckAnswered, IsOnlyRun, IsOnlyRefused, IsRunOf, IsNotRun, IsRunAnswered};
@@ -102,6 +102,8 @@ fn run_only<R: Rack>(alloc: Global, rack: &mut R, processes: &[Named]) -> Result
     ensures ran { IfOk result (λ lines. IsOnlyRun processes.now (R.disk rack.old) (R.disk rack.new) lines.items) }
     ensures refused { IfErr result (λ e. IsOnlyRefused e processes.now (R.disk rack.old) (R.disk rack.new) (R.faults rack.old) (R.faults rack.new)) }
     ensures others { Told (R.disk rack.old) → OthersAsBefore 0 (R.disk rack.old) (R.disk rack.new) }
+    ensures tells { (R.disk rack.new).tells ≡ (R.disk rack.old).tells }
+    ensures later { R.faults rack.old ≤ R.faults rack.new }
 {
     match processes {
         [process] => {
@@ -128,6 +130,8 @@ fn ran<S: Source, R: Rack>(alloc: Global, source: &mut S, rack: &mut R) -> Resul
         (record { disk = R.disk rack.old; faults = R.faults rack.old })
         (record { disk = R.disk rack.new; faults = R.faults rack.new })) }
     ensures others { Told (R.disk rack.old) → OthersAsBefore 0 (R.disk rack.old) (R.disk rack.new) }
+    ensures tells { (R.disk rack.new).tells ≡ (R.disk rack.old).tells }
+    ensures later { R.faults rack.old ≤ R.faults rack.new }
 {
     let processes = processes_of(alloc, source)?;
     run_only(alloc, rack, &processes)
@@ -148,6 +152,8 @@ pub fn run<S: Source, K: Sink, R: Rack>(
         (record { taken = K.taken sink.old; faults = K.faults sink.old })
         (record { taken = K.taken sink.new; faults = K.faults sink.new }) result }
     ensures others { Told (R.disk rack.old) → OthersAsBefore 0 (R.disk rack.old) (R.disk rack.new) }
+    ensures tells { (R.disk rack.new).tells ≡ (R.disk rack.old).tells }
+    ensures later { R.faults rack.old ≤ R.faults rack.new }
 {
     match ran(alloc, source, rack) {
         Ok(lines) => tell(sink, &lines, 0),

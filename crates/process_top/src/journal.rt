@@ -1,10 +1,11 @@
 // The journal of one process.
 ghost use Rattle.std.specs.Prelude.{◌≡◌, ◌<◌, ◌≤◌, ◌+◌, ◌^◌, [], ℕ, List, length, All, OnOk, OnErr};
 ghost use Rattle.process_flow.specs.Causes.{HasCause};
-ghost use Rattle.process_disk.specs.Disk.{Told};
+ghost use Rattle.process_disk.specs.Disk.{Told, file_of};
 ghost use Rattle.process_disk.specs.Images.{OthersAsBefore};
+ghost use Rattle.gate_log.specs.LogFile.{plain_log};
 ghost use Rattle.gate_log.specs.Standing.{StandsFor};
-ghost use Rattle.process_top.specs.Journal.{AreKept};
+ghost use Rattle.process_top.specs.Journal.{AreAppended};
 
 use gate_log::{Body, DiskFault, Log};
 use process_disk::Rack;
@@ -16,8 +17,9 @@ pub fn append_all<R: Rack>(log: &mut Log, rack: &mut R, bodies: &[Body]) -> Resu
     requires file { log.old.file ≡ 0 }
     requires room { length bodies.now ≤ 65536 }
     requires open { Told (R.disk rack.old) → StandsFor log.old [] (R.disk rack.old) }
-    ensures all { Told (R.disk rack.old) → OnOk result (AreKept bodies.now (length bodies.now) (R.disk rack.old).moment (R.disk rack.new)) }
-    ensures some { Told (R.disk rack.old) → OnErr result ((n : ℕ) × (n ≤ length bodies.now) × AreKept bodies.now n (R.disk rack.old).moment (R.disk rack.new)) }
+    ensures all { Told (R.disk rack.old) → OnOk result (AreAppended bodies.now 0 (R.disk rack.old).moment (length bodies.now) (R.disk rack.new)) }
+    ensures bytes { Told (R.disk rack.old) → file_of (R.disk rack.old).files 0 ≡ plain_log 0 [] → OnOk result (file_of (R.disk rack.new).files 0 ≡ plain_log 0 bodies.now) }
+    ensures some { Told (R.disk rack.old) → OnErr result ((n : ℕ) × (n < length bodies.now) × AreAppended bodies.now 0 (R.disk rack.old).moment n (R.disk rack.new)) }
     ensures others { Told (R.disk rack.old) → OthersAsBefore 0 (R.disk rack.old) (R.disk rack.new) }
     ensures tells { (R.disk rack.new).tells ≡ (R.disk rack.old).tells }
     ensures cause { HasCause (R.faults rack.old) (R.faults rack.new) result }

@@ -40,7 +40,8 @@ fn is_end(tail: &Tail) -> bool
     }
 }
 
-/// Whether a process has compensatable steps of the operation `add` alone, without choices and options.
+/// Whether a process has compensatable steps of the operation `add` alone, without choices and with each option at its
+/// default.
 pub fn is_add_process(root: &Block) -> bool
     ensures { result ≡ is_add_process root.now }
 {

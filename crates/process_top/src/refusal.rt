@@ -13,7 +13,6 @@ use std::alloc::{AllocError, Global};
 /// Why a command gave nothing.
 #[derive(Drop)]
 pub enum Refusal {
-    BadWords,
     NotYet,
     /// What is wrong first with a text.
     Text(TextError),
@@ -25,7 +24,7 @@ pub enum Refusal {
     /// The first record of file 0, counted from 1, that is not whole, or not the next one of a process.
     BadRecord(u32),
     ReadFault,
-    /// The rack failed before the journal was there.
+    /// The rack failed before a record was appended.
     NotBegun,
     /// The rack failed while records were appended.
     CutOff,
@@ -193,7 +192,6 @@ pub fn tell_refusal<K: Sink>(alloc: Global, sink: &mut K, refusal: &Refusal) -> 
         (record { taken = K.taken sink.new; faults = K.faults sink.new }) result }
 {
     match refusal {
-        Refusal::BadWords => tell(sink, b"bad words\n", 1),
         Refusal::NotYet => tell(sink, b"not yet\n", 2),
         Refusal::Text(error) => tell_error(alloc, sink, error),
         Refusal::TooLong => tell(sink, b"limit input 1048577\n", 4),

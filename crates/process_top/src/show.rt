@@ -15,11 +15,15 @@ use std::alloc::Global;
 
 // The lines of the records in file 0.
 fn shown<R: Rack>(alloc: Global, rack: &mut R) -> Result<Vec<u8>, Refusal>
-    ensures shown { IfOk result (λ lines. IsShownAs (record { disk = R.disk rack.old; faults = R.faults rack.old }) lines.items) }
+    ensures shown { IfOk result (λ lines. IsShownAs
+        (record { disk = R.disk rack.old; faults = R.faults rack.old })
+        (record { disk = R.disk rack.new; faults = R.faults rack.new }) lines.items) }
     ensures refused { IfErr result (λ e. IsNotShown e
         (record { disk = R.disk rack.old; faults = R.faults rack.old })
         (record { disk = R.disk rack.new; faults = R.faults rack.new })) }
     ensures all { Told (R.disk rack.old) → AllAsBefore (R.disk rack.old) (R.disk rack.new) }
+    ensures tells { (R.disk rack.new).tells ≡ (R.disk rack.old).tells }
+    ensures later { R.faults rack.old ≤ R.faults rack.new }
 {
     match Log::open(alloc, rack, 0) {
         Ok((log, bodies)) => {
@@ -41,6 +45,8 @@ pub fn show<K: Sink, R: Rack>(alloc: Global, sink: &mut K, rack: &mut R) -> u8
         (record { taken = K.taken sink.old; faults = K.faults sink.old })
         (record { taken = K.taken sink.new; faults = K.faults sink.new }) result }
     ensures all { Told (R.disk rack.old) → AllAsBefore (R.disk rack.old) (R.disk rack.new) }
+    ensures tells { (R.disk rack.new).tells ≡ (R.disk rack.old).tells }
+    ensures later { R.faults rack.old ≤ R.faults rack.new }
 {
     match shown(alloc, rack) {
         Ok(lines) => tell(sink, &lines, 0),

@@ -5,7 +5,8 @@ ghost use Rattle.process_tree.specs.declared.tree.Named.{Named};
 ghost use Rattle.process_text.specs.Canonical.{canonical_text};
 ghost use Rattle.process_top.specs.declared.refusal.Refusal.TheVariants.{BadRecord, NoMemory};
 ghost use Rattle.process_top.specs.Life.{setup_body, start_body, is_add_process, lines_of};
-ghost use Rattle.process_top.specs.Story.{IsAddProcess, AreFirst, IsOddAt};
+ghost use Rattle.process_top.specs.Journal.{IsAddProcess};
+ghost use Rattle.process_top.specs.Story.{AreFirst, IsOddAt};
 
 use crate::life::{SETUP, is_add_process, lines, records};
 use crate::refusal::Refusal;
