@@ -1,5 +1,5 @@
 -- A rack in memory: what it holds, what its calls mean, and what a stop leaves of it. Lists of changes have the newest first.
-use Rattle.std.specs.Prelude.{◌≡◌, ◌⊎◌, ℕ, ◌+◌, ◌-◌, ◌^◌, ◌≤◌, min, List, [], ◌∷◌, length, drop, reverse, Bool, IsTrue, true, ◌&&◌, nat_lt, nat_le, Result, IsErr, OnOk, Contains}
+use Rattle.std.specs.Prelude.{◌≡◌, ◌⊎◌, ℕ, ◌+◌, ◌-◌, ◌^◌, ◌≤◌, min, List, [], ◌∷◌, length, drop, reverse, Bool, IsTrue, true, ◌&&◌, nat_lt, nat_le, Result, IsErr, OnOk, OnErr, Contains}
 use Rattle.process_flow.specs.Causes.{Rose}
 use Rattle.process_disk.specs.Disk.{FileSet, Disk, file_of, put, TornIn}
 use Rattle.process_disk.specs.declared.changes.Change.{Change}
@@ -86,10 +86,12 @@ disk_of m = record {
   left_since = LeftSince m.first m.made;
 }
 
--- One call of it: it fails exactly where its number is listed or memory was wanting.
+-- One call of it: it fails exactly where its number is listed or memory was wanting, and then the count of faults is one more, up to its last value.
 pub record IsCall {T E : Type 0} (old new : MemoryDisk) (result : Result T E) : Type 0 where
   pub listed : Contains old.fails old.calls → IsErr result
   pub failed : IsErr result → Contains old.fails old.calls ⊎ Rose old.starved new.starved
+  pub quiet : OnOk result (new.faults ≡ old.faults)
+  pub by_one : OnErr result (new.faults ≡ min (old.faults + 1) (2 ^ 64 - 1))
   pub starved : OnOk result (new.starved ≡ old.starved)
   pub never_falls : old.starved ≤ new.starved
   pub list : new.fails ≡ old.fails

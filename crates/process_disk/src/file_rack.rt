@@ -1,5 +1,5 @@
 // Nine files of the current folder.
-ghost use Rattle.std.specs.Prelude.{◌≡◌, ◌<◌, ◌≤◌, length, IfOk, OnOk, IsErr, IsTrue, ℕ, true, false, slice_set, slice_index_or};
+ghost use Rattle.std.specs.Prelude.{◌≡◌, ◌<◌, ◌≤◌, ◌+◌, ◌-◌, ◌^◌, min, length, IfOk, IfSome, IfNone, OnOk, OnErr, IsErr, IsTrue, ℕ, true, false, slice_set, slice_index_or};
 ghost use Rattle.process_flow.specs.Causes.{HasCause};
 
 use crate::Rack;
@@ -41,6 +41,7 @@ impl<F: Files + Drop> FileRack<F> {
     fn failed<T>(&mut self) -> Result<T, Failed>
         ensures error { IsErr result }
         ensures cause { HasCause self.old.faults self.new.faults result }
+        ensures by_one { self.new.faults ≡ min (self.old.faults + 1) (2 ^ 64 - 1) }
         ensures unsynced { self.new.unsynced ≡ self.old.unsynced }
     {
         self.faults = self.faults.saturating_add(1);
@@ -62,6 +63,7 @@ impl<F: Files + Drop> Rack for FileRack<F> {
         requires { file < 9 }
         ensures cause { HasCause self.old.faults self.new.faults result }
         ensures each_err { OnOk result (self.new.faults ≡ self.old.faults) }
+        ensures by_one { OnErr result (self.new.faults ≡ min (self.old.faults + 1) (2 ^ 64 - 1)) }
         ensures unsynced { self.new.unsynced ≡ self.old.unsynced }
     {
         let found = match opened(&self.rt, &mut self.files, file) {
@@ -79,6 +81,7 @@ impl<F: Files + Drop> Rack for FileRack<F> {
         ensures bound { IfOk result (λ n. n ≤ length buf.old) }
         ensures cause { HasCause self.old.faults self.new.faults result }
         ensures each_err { OnOk result (self.new.faults ≡ self.old.faults) }
+        ensures by_one { OnErr result (self.new.faults ≡ min (self.old.faults + 1) (2 ^ 64 - 1)) }
         ensures unsynced { self.new.unsynced ≡ self.old.unsynced }
     {
         let found = match opened(&self.rt, &mut self.files, file) {
@@ -95,6 +98,7 @@ impl<F: Files + Drop> Rack for FileRack<F> {
         requires { file < 9 }
         ensures cause { HasCause self.old.faults self.new.faults result }
         ensures each_err { OnOk result (self.new.faults ≡ self.old.faults) }
+        ensures by_one { OnErr result (self.new.faults ≡ min (self.old.faults + 1) (2 ^ 64 - 1)) }
         ensures unsynced { self.new.unsynced ≡ slice_set self.old.unsynced file true }
     {
         self.unsynced[usize::from(file)] = true;
@@ -111,18 +115,35 @@ impl<F: Files + Drop> Rack for FileRack<F> {
     fn sync(&mut self) -> Result<(), Failed>
         ensures cause { HasCause self.old.faults self.new.faults result }
         ensures each_err { OnOk result (self.new.faults ≡ self.old.faults) }
+        ensures by_one { OnErr result (self.new.faults ≡ min (self.old.faults + 1) (2 ^ 64 - 1)) }
         ensures all_synced { OnOk result ((k : ℕ) → slice_index_or self.new.unsynced k false ≡ false) }
+        // After a failure some file has unsynced writes still.
+        ensures left { OnErr result ((k : ℕ) × (slice_index_or self.new.unsynced k false ≡ true)) }
         ensures none_written { (k : ℕ) → slice_index_or self.old.unsynced k false ≡ false → slice_index_or self.new.unsynced k false ≡ false }
     {
-        let mut good = true;
         for file in 0..9 {
             if self.unsynced[file] && sync_one(&self.files[file]) {
                 self.unsynced[file] = false;
             }
-            good = good && !self.unsynced[file];
         }
-        if good { Ok(()) } else { self.failed() }
+        match unsynced_file(&self.unsynced) {
+            None => Ok(()),
+            Some(_) => self.failed(),
+        }
     }
+}
+
+// The first file that may hold unsynced writes.
+fn unsynced_file(unsynced: &[bool]) -> Option<usize>
+    ensures some { IfSome result (λ k. slice_index_or unsynced.now k false ≡ true) }
+    ensures none { IfNone result ((k : ℕ) → slice_index_or unsynced.now k false ≡ false) }
+{
+    for (file, flag) in unsynced.iter().enumerate() {
+        if *flag {
+            return Some(file);
+        }
+    }
+    None
 }
 
 // The file, opened and where it is absent made, if no call did so before.

@@ -107,6 +107,7 @@ impl MemoryRack {
         ensures same { SameFiles (memory self.old) (memory self.new) }
         ensures calls { (memory self.new).calls ≡ (memory self.old).calls }
         ensures faults { Rose (memory self.old).faults (memory self.new).faults }
+        ensures by_one { (memory self.new).faults ≡ min ((memory self.old).faults + 1) (2 ^ 64 - 1) }
         ensures faults_later { (memory self.old).faults ≤ (memory self.new).faults }
         ensures starved { (memory self.new).starved ≡ (memory self.old).starved }
     {
@@ -119,6 +120,7 @@ impl MemoryRack {
         ensures same { SameFiles (memory self.old) (memory self.new) }
         ensures calls { (memory self.new).calls ≡ (memory self.old).calls }
         ensures faults { Rose (memory self.old).faults (memory self.new).faults }
+        ensures by_one { (memory self.new).faults ≡ min ((memory self.old).faults + 1) (2 ^ 64 - 1) }
         ensures faults_later { (memory self.old).faults ≤ (memory self.new).faults }
         ensures starved { Rose (memory self.old).starved (memory self.new).starved }
         ensures starved_later { (memory self.old).starved ≤ (memory self.new).starved }

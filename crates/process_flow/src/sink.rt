@@ -1,5 +1,5 @@
 // Sinks of bytes: the trait, one in memory, one over a writer, and writing all.
-ghost use Rattle.std.specs.Prelude.{◌≡◌, ◌<◌, ◌≤◌, ◌+◌, ◌-◌, ◌^◌, ◌⊎◌, List, ℕ, length, take, min, IfOk, IfErr, OnOk, IsErr, Contains};
+ghost use Rattle.std.specs.Prelude.{◌≡◌, ◌<◌, ◌≤◌, ◌+◌, ◌-◌, ◌^◌, ◌⊎◌, List, ℕ, length, take, min, IfOk, IfErr, OnOk, OnErr, IsErr, Contains};
 ghost use Rattle.std.specs.declared.option.Option.{Option};
 ghost use Rattle.std.specs.Io.KnownBytes.{WriteAppends, Appends};
 ghost use Rattle.process_flow.specs.Causes.{Rose, HasCause};
@@ -89,6 +89,8 @@ impl Sink for MemorySink {
         ensures bound { IfOk result (λ n. n ≤ length bytes.now) }
         ensures bytes { WriteAppends (Some self.old.taken) (Some self.new.taken) result bytes.now }
         ensures cause { HasCause self.old.faults self.new.faults result }
+        ensures each_err { OnOk result (self.new.faults ≡ self.old.faults) }
+        ensures by_one { OnErr result (self.new.faults ≡ min (self.old.faults + 1) (2 ^ 64 - 1)) }
         ensures listed { Contains self.old.fails self.old.calls → IsErr result }
         ensures failed { IsErr result → Contains self.old.fails self.old.calls ⊎ Rose self.old.starved self.new.starved }
         ensures starved { OnOk result (self.new.starved ≡ self.old.starved) }
@@ -135,7 +137,15 @@ impl<T: Write + Drop> Sink for StdSink<T> {
 
     ghost faults = { λ s. s.faults };
 
-    fn give(&mut self, bytes: &[u8]) -> Result<usize, Failed> {
+    fn give(&mut self, bytes: &[u8]) -> Result<usize, Failed>
+        requires { 0 < length bytes.now }
+        ensures some { IfOk result (λ n. 0 < n) }
+        ensures bound { IfOk result (λ n. n ≤ length bytes.now) }
+        ensures bytes { WriteAppends (T.contents self.old.inner) (T.contents self.new.inner) result bytes.now }
+        ensures cause { HasCause self.old.faults self.new.faults result }
+        ensures each_err { OnOk result (self.new.faults ≡ self.old.faults) }
+        ensures by_one { OnErr result (self.new.faults ≡ min (self.old.faults + 1) (2 ^ 64 - 1)) }
+    {
         match self.inner.write(bytes) {
             Ok(count) if count > 0 => Ok(count),
             _ => {

@@ -1,5 +1,5 @@
 // Sources of bytes: the trait, one in memory, one over a reader, and reading to the end.
-ghost use Rattle.std.specs.Prelude.{◌≡◌, ◌<◌, ◌≤◌, ◌+◌, ◌-◌, ◌^◌, ◌↔◌, List, ℕ, length, Some, IfOk, OnOk, IfSome, IsErrOf, IsErr, Contains, min, take};
+ghost use Rattle.std.specs.Prelude.{◌≡◌, ◌<◌, ◌≤◌, ◌+◌, ◌-◌, ◌^◌, ◌↔◌, List, ℕ, length, Some, IfOk, OnOk, OnErr, IfSome, IsErrOf, IsErr, Contains, min, take};
 ghost use Rattle.std.specs.declared.option.Option.{Option};
 ghost use Rattle.std.specs.Io.{ReadsAtMost};
 ghost use Rattle.std.specs.Io.KnownBytes.{ReadConsumes, Consumes, IsAtEnd};
@@ -79,6 +79,8 @@ impl Source for MemorySource {
         ensures bound { ReadsAtMost result buf.new }
         ensures bytes { ReadConsumes (Some self.old.left) (Some self.new.left) result buf.new }
         ensures cause { HasCause self.old.faults self.new.faults result }
+        ensures each_err { OnOk result (self.new.faults ≡ self.old.faults) }
+        ensures by_one { OnErr result (self.new.faults ≡ min (self.old.faults + 1) (2 ^ 64 - 1)) }
         ensures fails_where_listed { IsErr result ↔ Contains self.old.fails self.old.calls }
         ensures most { IfOk result (λ n. n ≡ min (length self.old.left) (length buf.old)) }
         ensures list { self.new.fails ≡ self.old.fails }
@@ -127,7 +129,14 @@ impl<T: Read + Drop> Source for StdSource<T> {
 
     ghost faults = { λ s. s.faults };
 
-    fn take(&mut self, buf: &mut [u8]) -> Result<usize, Failed> {
+    fn take(&mut self, buf: &mut [u8]) -> Result<usize, Failed>
+        requires { 0 < length buf.old }
+        ensures bound { ReadsAtMost result buf.new }
+        ensures bytes { ReadConsumes (T.remaining self.old.inner) (T.remaining self.new.inner) result buf.new }
+        ensures cause { HasCause self.old.faults self.new.faults result }
+        ensures each_err { OnOk result (self.new.faults ≡ self.old.faults) }
+        ensures by_one { OnErr result (self.new.faults ≡ min (self.old.faults + 1) (2 ^ 64 - 1)) }
+    {
         match self.inner.read(buf) {
             Ok(count) => Ok(count),
             Err(_) => {

@@ -1,10 +1,9 @@
-use Rattle.std.specs.Prelude.{slice_index_or, IsTrue}
-use Rattle.std.proofs.Common.{◌≡◌, ◌<◌, ℕ, false}
+use Rattle.std.specs.Prelude.{slice_index_or}
+use Rattle.std.proofs.Common.{◌≡◌, ℕ, false}
 use Rattle.process_disk.proofs.file_rack.FileRackRack.sync.Given as goal
 
 abbrev pub invariant-loop-file : goal.invariant-loop-file
 invariant-loop-file g l = record {
   faults : l.self.faults ≡ l.fn.self.faults;
-  synced : IsTrue l.good → (k : ℕ) → k < l.file → slice_index_or l.self.unsynced k false ≡ false;
   none_written : (k : ℕ) → slice_index_or l.fn.self.unsynced k false ≡ false → slice_index_or l.self.unsynced k false ≡ false;
 }
