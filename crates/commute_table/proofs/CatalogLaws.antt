@@ -9,7 +9,7 @@ use Rattle.process_tree.specs.Conflicts.{Table, is_table}
 use Rattle.commute_table.specs.declared.op.Op.{Op}
 use Rattle.commute_table.specs.declared.catalog.Catalog.{Catalog}
 use Rattle.commute_table.specs.Operations.{has_name, is_good_op, differ_from, IsCatalog}
-use Rattle.commute_table.specs.Bytes.{op_bytes, cell_byte, row_bytes, bytes_of}
+use Rattle.commute_table.specs.Bytes.{op_bytes, cell_byte, row_bytes, bytes_of, NoCatalogBeginsAnother}
 use Rattle.commute_table.specs.Reading.{◌>>=◌, byte_at, count_at, op_at, ops_at, cells_at, rows_at, front_at, catalog_at}
 use Rattle.commute_table.proofs.RowLoops.{bind_ok, ok_is}
 use Rattle.commute_table.proofs.Texts.{both_hold}
@@ -242,3 +242,16 @@ unread_is bytes left d valid e h = is_none left d (sym h ∙ ap catalog_at e ∙
   where
     is_none : (left : ℕ) (d : Catalog) → (let r : Result Catalog ℕ = Err left in r ≡ Ok d) → ⊥
     is_none left d e = cc
+
+-- no catalog begins another
+pub none_begins_another : NoCatalogBeginsAnother
+none_begins_another c d rest valid_c valid_d same =
+    let whole : front_at (bytes_of d) ≡ Ok (d, []) = ap front_at (sym (append-nil (bytes_of d))) ∙ front_again d [] valid_d in
+    parts (sym whole ∙ ap front_at same ∙ front_again c rest valid_c)
+  where
+    parts : (let r : Result (Catalog × List ℕ) ℕ = Ok (d, []) in r ≡ Ok (c, rest)) → (rest ≡ []) × (d ≡ c)
+    parts e =
+        let first : Catalog × List ℕ = (d, []) in
+        let second : Catalog × List ℕ = (c, rest) in
+        let both : first ≡ second = cc in
+        (sym (ap (λ (x : Catalog × List ℕ). x.1) both), ap (λ (x : Catalog × List ℕ). x.0) both)

@@ -40,3 +40,7 @@ GoesOn bytes n = (c : Catalog) × IsCatalog c × (take n (bytes_of c) ≡ take n
 pub record IsFirstBad (bytes : List ℕ) (n : ℕ) : Type 0 where
   pub before : (k : ℕ) → k < n → GoesOn bytes k
   pub bad : ¬ GoesOn bytes n
+
+-- no catalog's bytes begin another's
+abbrev pub NoCatalogBeginsAnother : Type 0
+NoCatalogBeginsAnother = (c d : Catalog) (rest : List ℕ) → IsCatalog c → IsCatalog d → bytes_of d ≡ bytes_of c ++ rest → (rest ≡ []) × (d ≡ c)

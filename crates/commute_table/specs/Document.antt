@@ -134,18 +134,19 @@ abbrev pub items_length : Items → ℕ
 items_length no_items = 0
 items_length (item d ds) = items_length ds + 1
 
--- an operation of each table, behind these
+-- the operation of an item, behind these; what is no table is refused as the key `op`
 abbrev pub table_said : List Op → Option Members → Said Op
 table_said earlier None = Err (BadKey (codes "op"))
 table_said earlier (Some t) = op_said earlier t
 
+-- an operation of each of these items, behind these
 unfoldable pub ops_said : List Op → Items → Said (List Op)
 ops_said earlier no_items = Ok earlier
 ops_said earlier (item d ds) = do
   op ← table_said earlier (as_table d)
   ops_said (earlier ++ op ∷ []) ds
 
--- at most 256 of them
+-- at most 256 of them, and else their number
 unfoldable pub few_said : Items → Said (List Op)
 few_said ds = if nat_lt 256 (items_length ds) then Err (Ops (items_length ds)) else ops_said [] ds
 
@@ -186,7 +187,7 @@ abbrev pub are_pairs : Items → Bool
 are_pairs no_items = true
 are_pairs (item d ds) = is_some (pair_in d) && are_pairs ds
 
--- the number of the operation with this name, of which n stand before
+-- the number of the first operation with this name, where the first of these has the number n
 abbrev pub number_from : ℕ → List Op → List ℕ → Option ℕ
 number_from n [] name = None
 number_from n (o ∷ ops) name = if same_text o.name name then Some n else number_from (n + 1) ops name

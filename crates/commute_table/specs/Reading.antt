@@ -50,13 +50,13 @@ name_bytes = codes "abcdefghijklmnopqrstuvwxyz0123456789_"
 abbrev pub is_new : List Op → List ℕ → Bool
 is_new earlier text = is_name text && not (has_name text earlier)
 
--- what names begin with, and no more than 32 bytes: each beginning of a name is a name
+-- what names begin with, and no more than 32 bytes: nothing, or a name
 abbrev pub begins_name : List ℕ → Bool
 begins_name [] = true
 begins_name (b ∷ bs) = is_name (b ∷ bs)
 
--- with so many bytes more the text can become a name that no operation has: with two more it always can, since there are
--- more names than operations
+-- With so many bytes more, at most 32 in all, the text can become a name that no operation has: with two more what begins a name
+-- always can, since there are more names than operations.
 unfoldable pub can_be_new : List Op → ℕ → List ℕ → Bool
 can_be_new earlier zero text = is_new earlier text
 can_be_new earlier (suc zero) text = list_any (λ b. is_new earlier (text ++ b ∷ [])) name_bytes

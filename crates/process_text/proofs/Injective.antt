@@ -14,7 +14,7 @@ use Rattle.process_text.specs.declared.marks.Mark.{Mark}
 use Rattle.process_text.specs.declared.marks.Mark.TheVariants as marks
 use Rattle.process_text.specs.Grammar.{Piece, mark, step_pieces, alternatives, pieces_of, pieces_in, block_pieces, pieces_of_process, text_pieces, AreTrees, IsReading}
 use Rattle.process_text.specs.declared.error.TextError.{TextError}
-use Rattle.process_text.specs.Again.{IsAgain}
+use Rattle.process_text.specs.Again.{IsAgain, AreAlike}
 
 -- a mark that closes a block
 abbrev Closing : Mark → Type 0
@@ -148,3 +148,15 @@ pub again_if : {T : Type 0} (items : T → List Named) (r : Result T TextError) 
     → IfOk r (λ t. text_pieces (items t) ≡ pieces_of_process name root) → IfOk r (λ t. IsAgain name root (items t))
 again_if items (Ok t) words name root good reading same = read_as_one (items t) name root reading.trees good same
 again_if items (Err e) words name root good reading same = tt
+
+-- equal pieces are those of equal processes
+pub all_alike : (ps qs : List Named) → AreTrees ps → AreTrees qs → text_pieces ps ≡ text_pieces qs → AreAlike ps qs
+all_alike [] [] trees good e = tt
+all_alike [] (q ∷ qs) trees good e = absurd (cc)
+all_alike (p ∷ ps) [] trees good e = absurd (cc)
+all_alike (p ∷ ps) (q ∷ qs) trees good e =
+    let named : p.name ≡ q.name = cc in
+    let rest : (block_pieces p.tree ++ mark marks.End ∷ []) ++ text_pieces ps ≡ (block_pieces q.tree ++ mark marks.End ∷ []) ++ text_pieces qs = cc in
+    let alike = block_alike p.tree.steps p.tree.tail q.tree.steps q.tree.tail marks.End marks.End (text_pieces ps) (text_pieces qs) (λ is. absurd (cc)) (λ is. absurd (cc)) (even_tree p.tree trees.0) (even_tree q.tree good.0)
+    (sym (append_assoc (block_pieces p.tree) (mark marks.End ∷ []) (text_pieces ps)) ∙ rest ∙ append_assoc (block_pieces q.tree) (mark marks.End ∷ []) (text_pieces qs)) in
+    (named, alike.0, all_alike ps qs trees.1 good.1 (behind _ _ _ _ alike.1))

@@ -21,7 +21,9 @@ use Rattle.process_text.proofs.GoodPieces.{AreGood, good_both, good_tree}
 use Rattle.process_text.proofs.Lines.{is_plain, ArePlain, plain_both, words_of-line, name_is_plain, number_is_plain, amount_is_plain}
 use Rattle.process_text.proofs.Passing.{AllTake, all_take, taken_is_small}
 use Rattle.process_text.proofs.Written.{canonical_writes}
+use Rattle.process_text.specs.Again.{ReadingsAreAlike}
 use Rattle.process_text.proofs.Unique.{pieces_are}
+use Rattle.process_text.proofs.Injective.{all_alike}
 
 kind_is_plain : (k : StepKind) → is_plain (kind_word k) ≡ true
 unfolding is_blank
@@ -101,6 +103,10 @@ canonical_reading name root text named none is =
 -- two readings of the same words are of the same pieces
 pub readings_agree : (words : List (List ℕ)) (ps qs : List Named) → IsReading words ps → IsReading words qs → text_pieces ps ≡ text_pieces qs
 readings_agree words ps qs first second = pieces_are (text_pieces ps) (text_pieces qs) words first.written second.written
+
+-- so the readings are alike
+pub readings_are_alike : ReadingsAreAlike
+readings_are_alike words ps qs first second = all_alike ps qs first.trees second.trees (readings_agree words ps qs first second)
 
 -- words that can be read are refused for want of memory alone
 pub only_memory : {T : Type 0} (r : Result T TextError) (words : List (List ℕ)) (ps : List Named) → IsReading words ps

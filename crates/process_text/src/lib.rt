@@ -9,6 +9,7 @@
 mod blocks;
 mod error;
 mod fault;
+mod laws;
 mod marks;
 mod names;
 mod numbers;
@@ -23,6 +24,7 @@ use blocks::read_block;
 pub use error::TextError;
 use fault::Fault;
 pub use fault::{Expected, What};
+pub use laws::readings_are_alike;
 use marks::{At, Mark, Next, Setting, closing, expected_at, kind_of_word, meaning};
 use names::Names;
 use numbers::{amount, key, number};

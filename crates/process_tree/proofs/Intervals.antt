@@ -10,7 +10,7 @@ use Rattle.process_tree.proofs.Covered.{OnSomePath}
 use Rattle.process_tree.proofs.Wholes.{paths_part}
 
 -- u is the beginning of p
-abbrev Begins : List ℕ → List ℕ → Type 0
+abbrev pub Begins : List ℕ → List ℕ → Type 0
 Begins [] p = Unit
 Begins (x ∷ u) [] = ⊥
 Begins (x ∷ u) (y ∷ p) = (x ≡ y) × Begins u p
@@ -29,20 +29,20 @@ take_begins (x ∷ u) [] b = absurd b
 take_begins (x ∷ u) (y ∷ p) b = ap (λ z. z ∷ u) b.0 ∙ ap (λ zs. y ∷ zs) (take_begins u p b.1)
 
 -- the same as a test
-begins_from : (u p : List ℕ) → starts_with nat_eq p u ≡ true → Begins u p
+pub begins_from : (u p : List ℕ) → starts_with nat_eq p u ≡ true → Begins u p
 begins_from u p e = begins_take u p ((bytes_eq-Decides u (take (length u) p)).0 e)
 
-begins_to : (u p : List ℕ) → Begins u p → starts_with nat_eq p u ≡ true
+pub begins_to : (u p : List ℕ) → Begins u p → starts_with nat_eq p u ≡ true
 begins_to u p b = (bytes_eq-Decides u (take (length u) p)).1 (take_begins u p b)
 
-begins_trans : (u v p : List ℕ) → Begins u v → Begins v p → Begins u p
+pub begins_trans : (u v p : List ℕ) → Begins u v → Begins v p → Begins u p
 begins_trans [] v p b c = tt
 begins_trans (x ∷ u) [] p b c = absurd b
 begins_trans (x ∷ u) (y ∷ v) [] b c = absurd c
 begins_trans (x ∷ u) (y ∷ v) (z ∷ p) b c = (b.0 ∙ c.0, begins_trans u v p b.1 c.1)
 
 -- a step of a path, with those before it, begins the path
-before_begins : (b : ℕ) (p : List ℕ) → has b p ≡ true → Begins (steps_before b p ++ b ∷ []) p
+pub before_begins : (b : ℕ) (p : List ℕ) → has b p ≡ true → Begins (steps_before b p ++ b ∷ []) p
 before_begins b [] on = absurd (cc)
 before_begins b (x ∷ p) on =
     ⊎_elim
@@ -51,14 +51,14 @@ before_begins b (x ∷ p) on =
     (has_cases b x p on)
 
 -- the last of a beginning is on the path
-begins_has : (v p : List ℕ) (d : ℕ) → Begins (v ++ d ∷ []) p → has d p ≡ true
+pub begins_has : (v p : List ℕ) (d : ℕ) → Begins (v ++ d ∷ []) p → has d p ≡ true
 begins_has [] [] d b = absurd b
 begins_has [] (y ∷ p) d b = has_here d y p b.0
 begins_has (x ∷ v) [] d b = absurd b
 begins_has (x ∷ v) (y ∷ p) d b = has_there d y p (begins_has v p d b.1)
 
 -- and below what stands behind it
-begins_low : (v w p : List ℕ) (d b : ℕ) → IsRising p → Begins (w ++ b ∷ []) p → Begins (v ++ d ∷ []) (w ++ b ∷ []) → d ≤ b
+pub begins_low : (v w p : List ℕ) (d b : ℕ) → IsRising p → Begins (w ++ b ∷ []) p → Begins (v ++ d ∷ []) (w ++ b ∷ []) → d ≤ b
 begins_low [] [] p d b rise on in_way = let e : d ≡ b = in_way.0 in omega arith
 begins_low [] (y ∷ w) [] d b rise on in_way = absurd on
 begins_low [] (y ∷ w) (z ∷ p) d b rise on in_way =

@@ -21,6 +21,7 @@ pub mod Classes
 pub mod Wholes
 pub mod Covered
 pub mod Intervals
+pub mod Between
 pub mod TreeLaws
 pub mod Tables
 pub mod Forms

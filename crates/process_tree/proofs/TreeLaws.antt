@@ -5,7 +5,7 @@ use Rattle.process_tree.specs.Blocks.{outline}
 use Rattle.process_tree.specs.Making.{tree_fault}
 use Rattle.process_tree.specs.Order.{IsLaidOut}
 use Rattle.process_tree.specs.Shape.{Shape, shape_of, goes_on_to}
-use Rattle.process_tree.specs.Laws.{IsTreeShape, PathsLieInOrder, PathsPart, EachStepHasAPath, OneBranchToAStep, StepsGoUp, WholePathsEnd, EndsAreWhole, AlternativesAreIntervals, NextStepsHaveAClass, OwedStepsAreRetriable, CommitPointsStay, CommitPointsGrow}
+use Rattle.process_tree.specs.Laws.{IsTreeShape, PathsLieInOrder, PathsPart, EachStepHasAPath, OneBranchToAStep, StepsGoUp, WholePathsEnd, EndsAreWhole, WaysAreIntervals, AlternativesAreIntervals, NextStepsHaveAClass, OwedStepsAreRetriable, CommitPointsStay, CommitPointsGrow}
 use Rattle.process_tree.proofs.Branches.{branch_is}
 use Rattle.process_tree.proofs.Onward.{onward_self, goes_on, branch_from}
 use Rattle.process_tree.proofs.Trees.{tree_laid_out, none_odd}
@@ -13,6 +13,7 @@ use Rattle.process_tree.proofs.InTurn.{kinds_count, goes_up, goes_within}
 use Rattle.process_tree.proofs.Covered.{OnSomePath, covered}
 use Rattle.process_tree.proofs.Wholes.{whole_among, paths_part, whole_ends, end_is_whole}
 use Rattle.process_tree.proofs.Intervals.{in_between}
+use Rattle.process_tree.proofs.Between.{between_ways}
 use Rattle.process_tree.proofs.Classes.{has_class, owed_retriable}
 use Rattle.process_tree.proofs.Fixed.{fixed_stays, fixed_more}
 
@@ -60,7 +61,11 @@ pub ends_are_whole : EndsAreWhole
 ends_are_whole t tree v b on none = end_is_whole t v b on none
 
 pub alternatives_are_intervals : AlternativesAreIntervals
-alternatives_are_intervals t tree v d first b last lt in_first in_last le ge =
+alternatives_are_intervals t tree v d e first b last lt in_first in_last le ge =
+    between_ways t v d e first b last (paths_lie_in_order t tree) (step_on_path t tree first (omega arith)) (step_on_path t tree b (omega arith)) (step_on_path t tree last lt) in_first in_last le ge
+
+pub ways_are_intervals : WaysAreIntervals
+ways_are_intervals t tree v d first b last lt in_first in_last le ge =
     in_between t v d first b last (paths_lie_in_order t tree) (step_on_path t tree first (omega arith)) (step_on_path t tree b (omega arith)) (step_on_path t tree last lt) in_first in_last le ge
 
 pub next_steps_have_a_class : NextStepsHaveAClass

@@ -53,6 +53,13 @@ no_need = record { kinds = P ∷ R ∷ R ∷ []; paths = (0 ∷ 1 ∷ []) ∷ (0
 pub no_need_later : is_later_way no_need 2 ≡ true
 no_need_later = refl
 
+-- whatever becomes of its first step, play doesn't come to the third
+pub no_need_done : play no_need (Done ∷ []) ≡ Path (0 ∷ 1 ∷ [])
+no_need_done = refl
+
+pub no_need_refused : play no_need (Refused ∷ []) ≡ Nothing
+no_need_refused = refl
+
 -- an order: reserve, payment, and then pick and ship and tell, or post and tell
 abbrev pub order : Shape
 order = record { kinds = C ∷ P ∷ C ∷ P ∷ R ∷ R ∷ R ∷ []; paths = (0 ∷ 1 ∷ 2 ∷ 3 ∷ 4 ∷ []) ∷ (0 ∷ 1 ∷ 5 ∷ 6 ∷ []) ∷ [] }

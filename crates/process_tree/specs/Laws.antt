@@ -3,6 +3,7 @@ use Rattle.std.specs.Prelude.{◌≡◌, ◌⊎◌, ℕ, ◌+◌, ◌<◌, ◌�
 use Rattle.std.specs.List.{starts_with}
 use Rattle.process_tree.specs.declared.block.Block.{Block}
 use Rattle.process_tree.specs.declared.step.StepKind.TheVariants.{C, R}
+use Rattle.process_tree.specs.Conflicts.{Table, do_conflict}
 use Rattle.process_tree.specs.Making.{tree_fault}
 use Rattle.process_tree.specs.Order.{IsLaidOut, PartsBelow, has}
 use Rattle.process_tree.specs.Shape.{Shape, shape_of, kind_of, commits, is_whole, next_steps, goes_on_to, branch_to, fixed_len}
@@ -19,7 +20,7 @@ pub record IsTreeShape (t : Shape) : Type 0 where
 abbrev pub PathsLieInOrder : Type 0
 PathsLieInOrder = (t : Shape) → IsTreeShape t → IsLaidOut (length t.kinds) t.paths
 
--- two whole paths part at a choice, and one is below the other from there on
+-- two whole paths are equal or part, and from there on each step of the one is below the next step of the other
 abbrev pub PathsPart : Type 0
 PathsPart =
     (t : Shape) → IsTreeShape t → (p q : List ℕ) → is_whole t p ≡ true → is_whole t q ≡ true →
@@ -51,11 +52,17 @@ EndsAreWhole =
 abbrev pub IsInWay : Shape → List ℕ → ℕ → ℕ → Type 0
 IsInWay t v d b = starts_with nat_eq (branch_to t b ++ b ∷ []) (v ++ d ∷ []) ≡ true
 
--- the steps of an alternative are an interval
-abbrev pub AlternativesAreIntervals : Type 0
-AlternativesAreIntervals =
+-- the steps of a way are an interval
+abbrev pub WaysAreIntervals : Type 0
+WaysAreIntervals =
     (t : Shape) → IsTreeShape t → (v : List ℕ) (d first b last : ℕ) → last < length t.kinds →
     IsInWay t v d first → IsInWay t v d last → first ≤ b → b ≤ last → IsInWay t v d b
+
+-- and so are those of the ways from d to e, where both go on from v: an alternative has more than one way where it begins with a choice
+abbrev pub AlternativesAreIntervals : Type 0
+AlternativesAreIntervals =
+    (t : Shape) → IsTreeShape t → (v : List ℕ) (d e first b last : ℕ) → last < length t.kinds →
+    IsInWay t v d first → IsInWay t v e last → first ≤ b → b ≤ last → (f : ℕ) × (d ≤ f) × (f ≤ e) × IsInWay t v f b
 
 -- what the class of a next step says
 pub record HasClass (t : Shape) (w : List ℕ) (d : ℕ) : Type 0 where
@@ -90,3 +97,7 @@ abbrev pub CommitPointsGrow : Type 0
 CommitPointsGrow =
     (t : Shape) (w : List ℕ) (d : ℕ) →
     fixed_len t (w ++ d ∷ []) ≡ (if commits (kind_of t d) then length w + 1 else fixed_len t w)
+
+-- the table holds each pair both ways
+abbrev pub ConflictIsSymmetric : Type 0
+ConflictIsSymmetric = (t : Table) (a b : ℕ) → do_conflict t a b ≡ do_conflict t b a

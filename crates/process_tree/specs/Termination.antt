@@ -16,7 +16,7 @@ abbrev pub once : List ℕ → List ℕ
 once [] = []
 once (e ∷ es) = if list_any (nat_eq e) es then once es else e ∷ once es
 
--- the first steps of the alternatives before that of d, at the choice where d begins one
+-- the first steps of the ways before d, where d begins one: one for each alternative, and more for one that begins with a choice
 abbrev pub ways_before : Shape → ℕ → List ℕ
 ways_before t d = once (filter (λ e. nat_lt e d) (next_steps t (branch_to t d)))
 

@@ -1,12 +1,12 @@
 // The laws of trees: each function says one, and does nothing.
-ghost use Rattle.process_tree.specs.Laws.{PathsLieInOrder, PathsPart, EachStepHasAPath, OneBranchToAStep, StepsGoUp, WholePathsEnd, EndsAreWhole, AlternativesAreIntervals, NextStepsHaveAClass, OwedStepsAreRetriable, CommitPointsStay, CommitPointsGrow};
+ghost use Rattle.process_tree.specs.Laws.{PathsLieInOrder, PathsPart, EachStepHasAPath, OneBranchToAStep, StepsGoUp, WholePathsEnd, EndsAreWhole, WaysAreIntervals, AlternativesAreIntervals, ConflictIsSymmetric, NextStepsHaveAClass, OwedStepsAreRetriable, CommitPointsStay, CommitPointsGrow};
 
 /// The whole paths of a tree go upward, and lie in order.
 pub fn paths_lie_in_order()
     ensures { PathsLieInOrder }
 {}
 
-/// Two whole paths that part do so at a choice, and the later alternative has the greater steps.
+/// Two whole paths are equal or part, and from there on the later one has the greater steps.
 pub fn paths_part()
     ensures { PathsPart }
 {}
@@ -36,9 +36,15 @@ pub fn ends_are_whole()
     ensures { EndsAreWhole }
 {}
 
-/// The steps of an alternative are an interval.
+/// The steps of a way are an interval, and so are those of several ways, as an alternative has them.
 pub fn alternatives_are_intervals()
-    ensures { AlternativesAreIntervals }
+    ensures ways { WaysAreIntervals }
+    ensures alternatives { AlternativesAreIntervals }
+{}
+
+/// Two operations conflict in either order or in none.
+pub fn conflict_is_symmetric()
+    ensures { ConflictIsSymmetric }
 {}
 
 /// Each next step of a well-formed process is reserved, committing or undoable.

@@ -28,9 +28,9 @@ pub use block::{Block, Tail};
 pub use conflicts::Conflicts;
 pub use entry::Entry;
 pub use laws::{
-    alternatives_are_intervals, commit_points_grow, commit_points_stay, each_step_has_a_path,
-    ends_are_whole, next_steps_have_a_class, one_branch_to_a_step, owed_steps_are_retriable,
-    paths_lie_in_order, paths_part, steps_go_up, whole_paths_end,
+    alternatives_are_intervals, commit_points_grow, commit_points_stay, conflict_is_symmetric,
+    each_step_has_a_path, ends_are_whole, next_steps_have_a_class, one_branch_to_a_step,
+    owed_steps_are_retriable, paths_lie_in_order, paths_part, steps_go_up, whole_paths_end,
 };
 pub use limits::{
     DEFAULT_TRIES, LEAST_ALTERNATIVES, MOST_ALTERNATIVES, MOST_AMOUNT, MOST_NAME_BYTES,

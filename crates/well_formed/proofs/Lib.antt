@@ -10,3 +10,4 @@ pub mod Judging
 pub mod Rounds
 pub mod Counted
 pub mod Told
+pub mod Judged

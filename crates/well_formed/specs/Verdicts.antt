@@ -1,6 +1,8 @@
 -- What a verdict says of a process.
 use Rattle.process_tree.specs.Shape.{Shape}
-use Rattle.process_tree.specs.Termination.{IsWellFormed, stuck_at, unreachable_at, IsFirstFault}
+use Rattle.std.specs.Prelude.{◌⊎◌}
+use Rattle.process_tree.specs.Laws.{IsTreeShape}
+use Rattle.process_tree.specs.Termination.{IsWellFormed, Fault, stuck_at, unreachable_at, IsFirstFault}
 use Rattle.well_formed.specs.declared.verdict.Verdict.{Verdict}
 use Rattle.well_formed.specs.declared.verdict.Verdict.TheVariants.{Good, Stuck, Unreachable, NoMemory}
 
@@ -10,3 +12,7 @@ Tells t Good = IsWellFormed t
 Tells t (Stuck step outcomes) = IsFirstFault t (stuck_at step outcomes)
 Tells t (Unreachable step) = IsFirstFault t (unreachable_at step)
 Tells t NoMemory = Unit
+
+-- a tree is well-formed or has a first fault
+abbrev pub EachTreeHasAVerdict : Type 0
+EachTreeHasAVerdict = (t : Shape) → IsTreeShape t → IsWellFormed t ⊎ ((fault : Fault) × IsFirstFault t fault)

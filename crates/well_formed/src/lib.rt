@@ -8,8 +8,10 @@
 mod checks;
 mod flaw;
 mod judge;
+mod laws;
 mod outcomes;
 mod verdict;
 
 pub use checks::{check, path};
+pub use laws::each_tree_has_a_verdict;
 pub use verdict::{Outcomes, Verdict};
