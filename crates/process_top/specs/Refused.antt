@@ -1,5 +1,5 @@
 -- What is said of a refusal.
-use Rattle.std.specs.Prelude.{◌≡◌, ◌⊎◌, ℕ, Bool, true, false, List, ◌++◌, codes, decimal}
+use Rattle.std.specs.Prelude.{◌≡◌, ◌⊎◌, ℕ, Bool, true, false, ◌||◌, nat_eq, List, ◌++◌, codes, decimal}
 use Rattle.process_text.specs.declared.error.TextError.{TextError}
 use Rattle.process_text.specs.declared.error.TextError.TheVariants as errors
 use Rattle.process_text.specs.Texts.{expected_word, what_word}
@@ -44,6 +44,18 @@ refusal_text ReadFault = codes "read fault\n"
 refusal_text NotBegun = codes "disk fault\n"
 refusal_text CutOff = codes "disk fault\n"
 refusal_text NoMemory = codes "no memory\n"
+
+-- what was refused is the text alone
+abbrev pub is_of_text : Refusal → Bool
+is_of_text NotYet = true
+is_of_text (Text e) = true
+is_of_text TooLong = true
+is_of_text ReadFault = true
+is_of_text r = false
+
+-- a status that is told before any file is looked at
+abbrev pub is_before_files : ℕ → Bool
+is_before_files n = nat_eq n 1 || nat_eq n 2 || nat_eq n 3 || nat_eq n 4 || nat_eq n 8
 
 -- the line of a refusal needs memory: it has a number or a name
 abbrev pub needs_memory : Refusal → Bool

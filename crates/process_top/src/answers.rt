@@ -1,7 +1,8 @@
 // Answers to lists of words.
-ghost use Rattle.std.specs.Prelude.{◌≤◌, ◌≡◌, ◌⊎◌, map, string_bytes};
+ghost use Rattle.std.specs.Prelude.{◌≤◌, ◌≡◌, ◌⊎◌, map, string_bytes, true};
 ghost use Rattle.process_disk.specs.Disk.{Told};
 ghost use Rattle.process_disk.specs.Images.{OthersAsBefore};
+ghost use Rattle.process_top.specs.Refused.{is_before_files};
 ghost use Rattle.process_top.specs.Reply.{IsCheckWord, IsRunWord, IsShowWord, IsAnswered, IsComplete};
 
 use crate::commands::{check, is_only, run};
@@ -39,6 +40,7 @@ fn reply<S: Source, K: Sink, R: Rack>(
     ensures unread { (IsCheckWord (map string_bytes words.now)) ⊎ (IsRunWord (map string_bytes words.now)) ⊎ (source.new ≡ source.old) }
     ensures tells { (R.disk rack.new).tells ≡ (R.disk rack.old).tells }
     ensures later { R.faults rack.old ≤ R.faults rack.new }
+    ensures early { is_before_files result ≡ true → rack.new ≡ rack.old }
 {
     if is_only(words, "check") {
         check(alloc, source, sink)
@@ -85,6 +87,8 @@ pub fn answer<S: Source, K: Sink, R: Rack>(
     // The rack tells as before, and its count of faults didn't fall.
     ensures tells { (R.disk result.rack).tells ≡ (R.disk rack).tells }
     ensures later { R.faults rack ≤ R.faults result.rack }
+    // What is refused for the words, the input or a verdict is told before the rack is called.
+    ensures early { is_before_files result.status ≡ true → result.rack ≡ rack }
 {
     let mut rack = rack;
     let status = reply(alloc, words, source, sink, &mut rack);
@@ -119,6 +123,7 @@ pub fn top<H: Threads + Wait + Sync, S: Source, K: Sink, R: Rack>(
     ensures unread { (IsCheckWord (map string_bytes words.now)) ⊎ (IsRunWord (map string_bytes words.now)) ⊎ (source.new ≡ source.old) }
     ensures tells { (R.disk result.rack).tells ≡ (R.disk rack).tells }
     ensures later { R.faults rack ≤ R.faults result.rack }
+    ensures early { is_before_files result.status ≡ true → result.rack ≡ rack }
 {
     answer(alloc, words, source, sink, rack)
 }

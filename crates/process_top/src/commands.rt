@@ -1,7 +1,8 @@
 // The commands of the program.
-ghost use Rattle.std.specs.Prelude.{◌≤◌, ◌≡◌, ◌∷◌, [], ◌↔◌, IsTrue, map, string_bytes, codes, IfOk, IfErr};
+ghost use Rattle.std.specs.Prelude.{◌≤◌, ◌≡◌, ◌∷◌, [], ◌↔◌, IsTrue, map, string_bytes, codes, IfOk, IfErr, true};
 ghost use Rattle.process_disk.specs.Disk.{Told};
 ghost use Rattle.process_disk.specs.Images.{OthersAsBefore};
+ghost use Rattle.process_top.specs.Refused.{is_of_text, is_before_files};
 ghost use Rattle.process_top.specs.Commands.{IsWholeText, IsChecked, IsCheckAnswered, IsOnlyRun, IsOnlyRefused, IsRunOf, IsNotRun, IsRunAnswered};
 ghost use Rattle.process_top.specs.Reply.{IsRead, IsUnread};
 
@@ -104,6 +105,7 @@ fn run_only<R: Rack>(alloc: Global, rack: &mut R, processes: &[Named]) -> Result
     ensures others { Told (R.disk rack.old) → OthersAsBefore 0 (R.disk rack.old) (R.disk rack.new) }
     ensures tells { (R.disk rack.new).tells ≡ (R.disk rack.old).tells }
     ensures later { R.faults rack.old ≤ R.faults rack.new }
+    ensures early { IfErr result (λ e. is_of_text e ≡ true → rack.new ≡ rack.old) }
 {
     match processes {
         [process] => {
@@ -132,6 +134,7 @@ fn ran<S: Source, R: Rack>(alloc: Global, source: &mut S, rack: &mut R) -> Resul
     ensures others { Told (R.disk rack.old) → OthersAsBefore 0 (R.disk rack.old) (R.disk rack.new) }
     ensures tells { (R.disk rack.new).tells ≡ (R.disk rack.old).tells }
     ensures later { R.faults rack.old ≤ R.faults rack.new }
+    ensures early { IfErr result (λ e. is_of_text e ≡ true → rack.new ≡ rack.old) }
 {
     let processes = processes_of(alloc, source)?;
     run_only(alloc, rack, &processes)
@@ -154,6 +157,7 @@ pub fn run<S: Source, K: Sink, R: Rack>(
     ensures others { Told (R.disk rack.old) → OthersAsBefore 0 (R.disk rack.old) (R.disk rack.new) }
     ensures tells { (R.disk rack.new).tells ≡ (R.disk rack.old).tells }
     ensures later { R.faults rack.old ≤ R.faults rack.new }
+    ensures early { is_before_files result ≡ true → rack.new ≡ rack.old }
 {
     match ran(alloc, source, rack) {
         Ok(lines) => tell(sink, &lines, 0),

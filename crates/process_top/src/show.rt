@@ -1,7 +1,8 @@
 // Showing what a journal tells.
-ghost use Rattle.std.specs.Prelude.{◌≡◌, ◌≤◌, IfOk, IfErr};
+ghost use Rattle.std.specs.Prelude.{◌≡◌, ◌≤◌, IfOk, IfErr, true};
 ghost use Rattle.process_disk.specs.Disk.{Told};
 ghost use Rattle.process_disk.specs.Images.{AllAsBefore};
+ghost use Rattle.process_top.specs.Refused.{is_before_files};
 ghost use Rattle.process_top.specs.Reply.{IsNotShown};
 ghost use Rattle.process_top.specs.Commands.{IsShownAs, IsShowAnswered};
 
@@ -47,6 +48,7 @@ pub fn show<K: Sink, R: Rack>(alloc: Global, sink: &mut K, rack: &mut R) -> u8
     ensures all { Told (R.disk rack.old) → AllAsBefore (R.disk rack.old) (R.disk rack.new) }
     ensures tells { (R.disk rack.new).tells ≡ (R.disk rack.old).tells }
     ensures later { R.faults rack.old ≤ R.faults rack.new }
+    ensures early { is_before_files result ≡ true → rack.new ≡ rack.old }
 {
     match shown(alloc, rack) {
         Ok(lines) => tell(sink, &lines, 0),
