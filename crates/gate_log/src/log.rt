@@ -72,6 +72,7 @@ impl Log {
         ensures answer { Told (R.disk rack.old) → OpensAs (read_log file (file_of (R.disk rack.old).files file)) result }
         ensures stands { Told (R.disk rack.old) → IfOk result (λ opened. StandsFor opened.0 opened.1.items (R.disk rack.new)) }
         ensures log { IfOk result (λ opened. (opened.0.file ≡ file) × (opened.0.count ≡ length opened.1.items)) }
+        ensures few { IfOk result (λ opened. length opened.1.items ≤ 65536) }
         ensures all { Told (R.disk rack.old) → AllAsBefore (R.disk rack.old) (R.disk rack.new) }
         ensures tells { (R.disk rack.new).tells ≡ (R.disk rack.old).tells }
         ensures later { R.faults rack.old ≤ R.faults rack.new }

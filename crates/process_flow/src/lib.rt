@@ -3,7 +3,8 @@
 //! `Source` and `Sink` are what the program reads from and writes to. Each may tell contents (what is left, what was
 //! taken) and has a count of faults that never falls; a call fails only where that count rose, as `specs/Causes` says.
 //! `MemorySource` and `MemorySink` tell all that they hold, `StdSource` and `StdSink` what their stream tells, which is
-//! nothing for a stream of the system. The layers above use `read_all`, `write_all` and their contracts. Nothing here knows of processes.
+//! nothing for a stream of the system. The layers above use `read_all`, `write_all` and their contracts. Nothing here
+//! knows of processes.
 #![tactic(auto)]
 
 mod faults;

@@ -6,10 +6,6 @@ use Rattle.process_disk.proofs.Images.{each_so, each_then, still_told, others_th
 use Rattle.gate_log.specs.Standing.{Logs, LogsBeforeOrWith}
 use Rattle.process_top.specs.Journal.{LogsOrNext, AreAppended}
 
--- in a log of no records none are appended yet
-pub none_appended : (records : List (List ℕ)) (disk : Disk) → EachImage disk disk.moment (Logs 0 []) → AreAppended records 0 disk.moment 0 disk
-none_appended records disk each = (omega arith, each_so disk disk.moment (Logs 0 []) (LogsOrNext 0 records) (λ files log. inl log) each)
-
 -- the first moment is no later than now
 by_now : (records : List (List ℕ)) (k t n : ℕ) (disk : Disk) → AreAppended records k t n disk → t ≤ disk.moment
 by_now records k t zero disk kept = kept.0

@@ -1,6 +1,6 @@
 -- Numbers in a row.
 use Rattle.std.proofs.Common.{◌≡◌, ◌≤◌, ◌<◌, ◌+◌, ◌-◌, ℕ, zero, suc, List, [], ◌∷◌, ◌++◌, length, take, drop, true, nat_eq, refl, sym, ap, arith, ◌∙◌, ◌⊎◌, inl, inr, add-one, zero-add}
-use Rattle.std.specs.List.{list_any, starts_with}
+use Rattle.std.specs.List.{list_any}
 use lib.Pointwise.{pointwise}
 use Rattle.std.proofs.lemmas.Bool.{and_from, eq-eqb, ne_eqb, cases_eq}
 use Rattle.process_tree.specs.Blocks.{numbers_from}
@@ -30,10 +30,6 @@ drop-numbers_from (suc k) a (suc n) le =
 same-refl : (ks : List ℕ) → pointwise nat_eq ks ks ≡ true
 same-refl [] = refl
 same-refl (k ∷ ks) = and_from (nat_eq k k) (pointwise nat_eq ks ks) (eq-eqb k k refl) (same-refl ks)
-
--- numbers begin with fewer of them
-pub starts_with-numbers_from : (k n : ℕ) → k ≤ n → starts_with nat_eq (numbers_from 0 n) (numbers_from 0 k) ≡ true
-starts_with-numbers_from k n le = rw (length-numbers_from 0 k, take-numbers_from k 0 n le) (same-refl (numbers_from 0 k))
 
 has_here : (b a : ℕ) (ks : List ℕ) → (b ≡ a) ⊎ (b ≡ a → ⊥) → ((b ≡ a → ⊥) → list_any (nat_eq b) ks ≡ true) → list_any (nat_eq b) (a ∷ ks) ≡ true
 has_here b a ks (inl same) later = rw (eq-eqb b a same) refl

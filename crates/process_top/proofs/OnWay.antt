@@ -1,12 +1,9 @@
 -- What a run leaves of file 0 before its records are there.
-use Rattle.std.proofs.Common.{◌≡◌, ℕ, refl, sym, subst, inl, inr, ⊎_elim}
-use Rattle.process_tree.specs.declared.tree.Named.{Named}
+use Rattle.std.proofs.Common.{◌≡◌, refl, sym, subst, inl, inr, ⊎_elim}
 use Rattle.process_disk.specs.Disk.{FileSet, Disk, Told, Same, TornIn, IsHonest}
 use Rattle.process_disk.specs.Images.{ImagesFollow, RunBy, AllAsBefore}
 use Rattle.process_disk.proofs.Images.{run_none, run_then, still_told, torn_none}
-use Rattle.process_top.specs.declared.refusal.Refusal.{Refusal}
-use Rattle.process_top.specs.declared.refusal.Refusal.TheVariants.{NotYet, Text, TooLong, NotEmpty, BadHeader, BadRecord, ReadFault, NotBegun, CutOff, NoMemory}
-use Rattle.process_top.specs.Journal.{IsCreated, IsRefusedBefore, IsRefusedRun}
+use Rattle.process_top.specs.Journal.{IsCreated}
 
 -- nothing is written
 pub untouched : (disk : Disk) → (Told disk → IsHonest disk) → Told disk → AllAsBefore disk disk
@@ -29,16 +26,3 @@ torn_behind old mid new honest_mid honest tells1 tells2 all torn told =
 pub created_by : (old mid new : Disk) → RunBy (TornIn 0 0 9) old mid → ImagesFollow mid new → IsCreated mid.moment old new
 created_by old mid new first follow =
     (first.follow.later, λ c left. ⊎_elim (λ by_mid. inr (first.images c by_mid)) (λ since. inl since) (follow.nothing_else old.moment c first.follow.later left))
-
--- what is refused before the journal is begun is refused of the run
-pub refused_of_run : (r : Refusal) (p : Named) (before after : Disk) (faults faults_after : ℕ) → IsRefusedBefore r before after faults faults_after → IsRefusedRun r p before after faults faults_after
-refused_of_run NotYet p before after faults faults_after why = absurd why
-refused_of_run (Text e) p before after faults faults_after why = absurd why
-refused_of_run TooLong p before after faults faults_after why = absurd why
-refused_of_run NotEmpty p before after faults faults_after why = why
-refused_of_run BadHeader p before after faults faults_after why = absurd why
-refused_of_run (BadRecord n) p before after faults faults_after why = absurd why
-refused_of_run ReadFault p before after faults faults_after why = absurd why
-refused_of_run NotBegun p before after faults faults_after why = why
-refused_of_run CutOff p before after faults faults_after why = absurd why
-refused_of_run NoMemory p before after faults faults_after why = why

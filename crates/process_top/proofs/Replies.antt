@@ -1,7 +1,6 @@
 -- Which replies are due, and that they complete the check.
-use Rattle.std.proofs.Common.{◌≡◌, ◌↔◌, IsTrue, ◌≤◌, ◌<◌, ◌⊎◌, min, ℕ, zero, suc, List, [], ◌∷◌, length, take, Bool, true, false, Option, Some, None, IfSome, IfOk, IfErr, codes, Result, Ok, Err, Vec, refl, sym, arith, subst, ap, ◌∙◌, inl, inr, length-append, if◌then◌else◌}
+use Rattle.std.proofs.Common.{◌≡◌, ◌↔◌, IsTrue, ◌≤◌, ◌⊎◌, min, ℕ, zero, suc, List, [], ◌∷◌, length, take, Bool, true, false, Option, Some, None, IfSome, IfOk, IfErr, codes, Result, Ok, Err, Vec, refl, sym, arith, subst, ap, ◌∙◌, inl, inr, if◌then◌else◌}
 use Rattle.std.proofs.lemmas.List.{length-take-le}
-use Rattle.std.specs.Io.KnownBytes.{Consumes}
 use Rattle.process_flow.specs.Causes.{Rose}
 use Rattle.process_tree.specs.declared.tree.Named.{Named}
 use Rattle.process_text.specs.Words.{words_of}
@@ -34,12 +33,6 @@ pub on_input : (left : Option (List ℕ)) (text : List ℕ) (P : List ℕ → Ty
     → IfSome left (λ given. (length given ≤ most_input) × P given)
 on_input None text P all within is = tt
 on_input (Some given) text P all within is = rw (← all) (within, is)
-
--- a source that gave more than the limit had more
-pub more_was_left : (before after : Option (List ℕ)) (given : List ℕ) → Consumes before after given → most_input < length given → IfSome before (λ text. most_input < length text)
-more_was_left None after given consumed more = tt
-more_was_left (Some text) None given consumed more = absurd consumed
-more_was_left (Some text) (Some rest) given consumed more = rw consumed (omega (arith, length-append given rest))
 
 -- without a fault of the sink, the status is the reply's
 told_well : (status : ℕ) (text : List ℕ) (before after : Output) (result : ℕ) → IsTold status text before after result → ¬ Rose before.faults after.faults → result ≡ status

@@ -13,7 +13,7 @@ use Rattle.process_tree.specs.declared.tree.TreeError.TheVariants.{Empty, Steps}
 use Rattle.process_tree.specs.Blocks.{numbers_from, outline, outline_of}
 use Rattle.process_tree.specs.Making.{tree_fault}
 use Rattle.process_flow.specs.Causes.{Rose}
-use Rattle.process_top.specs.Life.{is_add_step, is_end, is_add_process, act_body, setup_body, start_body, end_body, records_of, lines_of, lines_from, do_line}
+use Rattle.process_top.specs.Life.{is_add_step, is_end, is_add_process, act_body, setup_body, start_body, end_body, records_of}
 use Rattle.process_text.specs.Words.{words_of}
 use Rattle.process_text.specs.Grammar.{IsReading, process_of}
 use Rattle.process_text.specs.Canonical.{canonical_text}
@@ -57,10 +57,6 @@ length_numbers k (suc n) = ap suc (length_numbers (k + 1) n)
 pub records_count : (text : List ℕ) (n : ℕ) → length (records_of text n) ≡ n + 3
 records_count text n =
     omega (arith, length-append (map act_body (numbers_from 0 n)) (end_body ∷ []), length-map (numbers_from 0 n) act_body, length_numbers 0 n)
-
--- and lines
-pub lines_count : (p : Named) → length (lines_of p) ≡ length p.tree.steps + 3
-lines_count p = omega (arith, length-append (map do_line p.tree.steps) ((lines_from []) ++ []), length-map p.tree.steps do_line)
 
 -- the bodies that were made are those of the life
 pub life_made : (p : Named) (bodies : List (List ℕ)) (text : List ℕ) (n : ℕ) → is_add_process p.tree ≡ true → text ≡ canonical_text p.name p.tree → n ≡ length (outline p.tree).steps

@@ -69,10 +69,6 @@ alike words p q first second =
     let same : p ≡ again.0 = cc (again.1) in
     (ap (λ r. r.name) same ∙ again.2, ap (λ r. form_of r.tree) same ∙ again.3)
 
--- one has `add` steps alone if the other has
-pub life_again : (p q : Named) (words : List (List ℕ)) → IsReading words (p ∷ []) → IsReading words (q ∷ []) → is_add_process p.tree ≡ true → is_add_process q.tree ≡ true
-life_again p q words first second adds = (same_steps p.tree q.tree (alike words p q first second).1 adds).0
-
 -- what is read of the words of a process of `add` steps alone is such a process, with its text
 pub one_again : (words : List (List ℕ)) (ps : List Named) (q : Named) → IsReading words ps → IsReading words (q ∷ []) → is_add_process q.tree ≡ true
     → (p : Named) × (ps ≡ p ∷ []) × (is_add_process p.tree ≡ true) × (canonical_text p.name p.tree ≡ canonical_text q.name q.tree)

@@ -53,7 +53,7 @@ is_of_text TooLong = true
 is_of_text ReadFault = true
 is_of_text r = false
 
--- a status that is told before any file is looked at
+-- a status of the words, the input or a verdict
 abbrev pub is_before_files : ℕ → Bool
 is_before_files n = nat_eq n 1 || nat_eq n 2 || nat_eq n 3 || nat_eq n 4 || nat_eq n 8
 

@@ -87,7 +87,7 @@ pub fn answer<S: Source, K: Sink, R: Rack>(
     // The rack tells as before, and its count of faults didn't fall.
     ensures tells { (R.disk result.rack).tells ≡ (R.disk rack).tells }
     ensures later { R.faults rack ≤ R.faults result.rack }
-    // What is refused for the words, the input or a verdict is told before the rack is called.
+    // At a status of the words, the input or a verdict the rack is left as it is.
     ensures early { is_before_files result.status ≡ true → result.rack ≡ rack }
 {
     let mut rack = rack;

@@ -27,10 +27,7 @@ fn shown<R: Rack>(alloc: Global, rack: &mut R) -> Result<Vec<u8>, Refusal>
     ensures later { R.faults rack.old ≤ R.faults rack.new }
 {
     match Log::open(alloc, rack, 0) {
-        Ok((log, bodies)) => {
-            let count = log.count();
-            story(alloc, &bodies)
-        },
+        Ok((_, bodies)) => story(alloc, &bodies),
         Err(LogError::BadHeader) => Err(Refusal::BadHeader),
         Err(LogError::BadRecord(n)) => Err(Refusal::BadRecord(n)),
         Err(LogError::DiskFault) => Err(Refusal::NotBegun),
