@@ -3,7 +3,7 @@ use Rattle.std.proofs.Common.{◌≡◌, Bool, true, false, ◌&&◌, List, [], 
 use Rattle.std.specs.Bool.{IsTrue}
 use Rattle.schedule_model.specs.declared.event.Event.{Event}
 use Rattle.schedule_model.specs.Course.{Course}
-use Rattle.schedule_model.specs.Conflict.{Table}
+use Rattle.schedule_model.specs.Conflict.{ConflictRelation}
 use Rattle.schedule_model.specs.Legal.{may_come, goes_legally, is_legal}
 
 and_assoc : (a b c : Bool) → (a && (b && c)) ≡ ((a && b) && c)
@@ -22,7 +22,7 @@ pub both-right : (a b : Bool) → IsTrue (a && b) → IsTrue b
 both-right true b is = is
 both-right false b is = absurd (search (rules, is))
 
-module _ (table : Table) (courses : List Course) where
+module _ (table : ConflictRelation) (courses : List Course) where
   -- a history goes legally where its beginning does, and the rest after that
   pub goes_legally-append : (before g k : List Event) → goes_legally table courses before (g ++ k)
       ≡ (goes_legally table courses before g && goes_legally table courses (before ++ g) k)

@@ -1,9 +1,13 @@
+pub mod Induction
+pub mod Members
 pub mod Appends
 pub mod Snoc
 pub mod Legal
 pub mod Entries
 pub mod Active
 pub mod Counts
+pub mod Clear
+pub mod NoConflict
 pub mod Walks
 pub mod Recoveries
 pub mod Rising

@@ -11,7 +11,7 @@ use Rattle.process_tree.specs.Shape.{fixed_len}
 use Rattle.schedule_model.specs.declared.event.Event.{Event}
 use Rattle.schedule_model.specs.declared.event.Event.TheVariants.{Act, End}
 use Rattle.schedule_model.specs.Course.{Course, shape}
-use Rattle.schedule_model.specs.Conflict.{Table}
+use Rattle.schedule_model.specs.Conflict.{ConflictRelation}
 use Rattle.schedule_model.specs.Histories.{active, is_active, net, net_of, net_steps, of_process, same_step, undoing}
 use Rattle.schedule_model.specs.Recovery.{undoable, owed}
 use Rattle.schedule_model.specs.Completion.{is_to_undo, all_undoable, closing, completion}
@@ -113,7 +113,7 @@ module _ (courses : List Course) (h : List Event) where
       ∙ (sym (filter_twice (λ e. eqb e.process i) (λ e. list_any (same_step e) (undoable courses h i)) (net h))
       ∙ tail_as_filter (net_of h i) (Apart-filter (λ e. eqb e.process i) (net h) apart) (fixed_len (shape courses i) (net_steps h i))))
 
-module _ (table : Table) (courses : List Course) (h : List Event) (legal : IsTrue (is_legal table courses h)) (front : List Entry) (x : Entry)
+module _ (table : ConflictRelation) (courses : List Course) (h : List Event) (legal : IsTrue (is_legal table courses h)) (front : List Entry) (x : Entry)
     (last_is : all_undoable courses h ≡ front ++ x ∷ []) where
   abbrev after : List Event
   after = h ++ Act (undoing x) ∷ []

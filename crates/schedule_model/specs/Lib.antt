@@ -1,4 +1,5 @@
 pub mod Course
+pub mod EachEvent
 pub mod Conflict
 pub mod Histories
 pub mod Recovery
