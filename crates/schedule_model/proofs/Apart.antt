@@ -1,5 +1,5 @@
 -- The entries that stand in a legal history are of different steps, so each undo finds one entry.
-use Rattle.std.proofs.Common.{◌≡◌, ◌⊎◌, inl, inr, Bool, true, false, not, cond, eqb, ltb, List, [], ◌∷◌, ◌++◌, filter, sym, refl, ap, ◌∙◌, subst, arith, append-nil, append_assoc}
+use Rattle.std.proofs.Common.{◌≡◌, ◌⊎◌, inl, inr, Bool, true, false, not, cond, eqb, ltb, List, [], ◌∷◌, ◌++◌, filter, sym, refl, ap, ◌∙◌, subst, arith}
 use Rattle.std.specs.Bool.{IsTrue}
 use Rattle.std.specs.List.{list_all}
 use Rattle.std.proofs.lemmas.Bool.{and_parts, and_from, or_cases, false≢true, ltb-true, ne_eqb, and_right, and_left}
@@ -72,7 +72,7 @@ lesser_is_apart e f passes = by_reason (or_cases (not (eqb f.process e.process))
     by_reason (inl other) = by_process (eqb f.process e.process) refl other
     by_reason (inr less) = let l = ltb-true f.step e.step less in ap not (and_right (eqb f.process e.process) (eqb f.step e.step) (ne_eqb f.step e.step (λ same. omega arith)))
 
-list_all-weaker : {X : Type 0} (p q : X → Bool) (xs : List X) → ((x : X) → p x ≡ true → q x ≡ true) → list_all p xs ≡ true → list_all q xs ≡ true
+pub list_all-weaker : {X : Type 0} (p q : X → Bool) (xs : List X) → ((x : X) → p x ≡ true → q x ≡ true) → list_all p xs ≡ true → list_all q xs ≡ true
 list_all-weaker p q [] h all = refl
 list_all-weaker p q (x ∷ xs) h all =
     let parts = and_parts (p x) (list_all p xs) all in and_from (q x) (list_all q xs) (h x parts.0) (list_all-weaker p q xs h parts.1)

@@ -1,9 +1,9 @@
 -- Nothing stands against an event exactly where nothing of these conflicts, by the class of the event.
-use Rattle.std.proofs.Common.{◌≡◌, ◌⊎◌, inl, inr, ℕ, Bool, true, false, not, cond, eqb, ◌&&◌, if◌then◌else◌, List, [], ◌∷◌, ◌++◌, length, map, filter, Option, None, sym, refl, ap, ◌∙◌, subst, arith}
+use Rattle.std.proofs.Common.{◌≡◌, ◌⊎◌, inl, inr, ℕ, Bool, true, false, eqb, if◌then◌else◌, List, [], ◌∷◌, ◌++◌, length, map, filter, sym, refl, ap, ◌∙◌, subst, arith}
 use Rattle.std.specs.Bool.{IsTrue}
 use Rattle.std.specs.List.{flat_map}
 use Rattle.std.specs.Option.{option_to_list}
-use Rattle.std.proofs.lemmas.Bool.{and_parts, and_from, eqb-true, eq-eqb, cases_Bool, false≢true}
+use Rattle.std.proofs.lemmas.Bool.{eqb-true, eq-eqb}
 use Rattle.process_tree.specs.declared.entry.Entry.{Entry}
 use Rattle.process_tree.specs.Recovery.{StepClass, reserved, committing, undoable}
 use Rattle.schedule_model.specs.declared.event.Event.{Event}
@@ -13,7 +13,7 @@ use Rattle.schedule_model.specs.Conflict.{ConflictRelation, conflict}
 use Rattle.schedule_model.specs.Histories.{active, is_active, is_in, net}
 use Rattle.schedule_model.specs.Recovery.{owed, owed_after}
 use Rattle.schedule_model.specs.Holdings.{Holdings, Hold, hold_at_rest, at_rest, holders, active_net, all_running, all_reserved, all_pending, behind, reaches}
-use Rattle.schedule_model.specs.Blocking.{Clash, Clashes, against, in_front, in_a_circle, with_running, with_reserved, with_active, with_owed, with_later, against_step, against_undo, against_end, all_clashes}
+use Rattle.schedule_model.specs.Blocking.{Clash, Clashes, against, in_front, in_a_circle, with_running, with_reserved, with_owed, against_step, against_undo, against_end, all_clashes}
 use Rattle.schedule_model.specs.Legal.{class_in, against_entry, is_clear}
 use Rattle.schedule_model.proofs.Active.{is_active-is_in}
 use Rattle.schedule_model.proofs.Members.{Among, among-left, among-right, among-append, among-filter, in_filter, filter-none, none_pass, append-none, none-left, none-right, among-map, in_map, among-flat_map, in_flat_map, flat_map-none, none_mapped, map-none, among-is_in, is_in-among}
@@ -232,10 +232,9 @@ module _ (table : ConflictRelation) (courses : List Course) (h : List Event) whe
 
   apart_rest : (rest : List Entry) → with_owed table (at_rest courses h) rest ≡ [] → RestApart rest
   apart_rest rest none s is =
-      let apart = none_against table s others (none_mapped (λ s. against table s others) rest none s is) in
-      (
+      let apart = none_against table s others (none_mapped (λ s. against table s others) rest none s is) in (
         λ x there goes. apart x (among-left x (active_net (at_rest courses h) ++ all_running (at_rest courses h)) (all_reserved (at_rest courses h))
-        (among-left x (active_net (at_rest courses h)) (all_running (at_rest courses h)) (in_active_net courses h x there goes))),
+            (among-left x (active_net (at_rest courses h)) (all_running (at_rest courses h)) (in_active_net courses h x there goes))),
         λ k x goes owes. apart x (among-right x (active_net (at_rest courses h) ++ all_running (at_rest courses h)) (all_reserved (at_rest courses h)) (in_reserved courses h k x goes owes)),
       )
 
@@ -290,8 +289,7 @@ module _ (table : ConflictRelation) (courses : List Course) (h : List Event) whe
         → OwedApart e × NetApart e × EntriesApart e.process × RestApart (owed_after courses h e.process e.step)
     committing-clear is clear =
         let n = step_nothing committing is clear in
-        let both = n.a3 in
-        (
+        let both = n.a3 in (
           apart_reserved e n.a1,
           apart_active e (none_against table e (active_net (at_rest courses h)) (none-left (against table e (active_net (at_rest courses h))) (in_front table (at_rest courses h) e.process) both)),
           none_in_front table (at_rest courses h) e.process (none-right (against table e (active_net (at_rest courses h))) (in_front table (at_rest courses h) e.process) both),

@@ -1,8 +1,8 @@
 -- One principle for all that is said of a history by one test for each event: what holds of no events, and is kept by each
 -- event that passes, holds of the history.
-use Rattle.std.proofs.Common.{◌≡◌, ℕ, ◌+◌, Bool, true, false, cond, ◌&&◌, List, [], ◌∷◌, ◌++◌, length, Option, Some, None, sym, refl, ap, ◌∙◌, subst, arith, append-nil, append_assoc}
+use Rattle.std.proofs.Common.{◌≡◌, ℕ, ◌+◌, Bool, true, false, cond, ◌&&◌, List, [], ◌∷◌, ◌++◌, length, Some, None, sym, refl, ap, ◌∙◌, subst, arith, append-nil, append_assoc}
 use Rattle.std.specs.Bool.{IsTrue}
-use Rattle.std.proofs.lemmas.Bool.{and_parts, and_from, false≢true}
+use Rattle.std.proofs.lemmas.Bool.{and_parts, and_from}
 use Rattle.schedule_model.specs.declared.event.Event.{Event}
 use Rattle.schedule_model.specs.Course.{Course}
 use Rattle.schedule_model.specs.Conflict.{ConflictRelation}
@@ -76,10 +76,15 @@ module _ (test : EventTest) where
       × IsTrue (each_passes test before g) × (test (before ++ g) e ≡ false)
 
   one_later : (n : ℕ) (before : List Event) (e : Event) (h : List Event) (m : ℕ) → IsTrue (test before e) → Fails (n + 1) (before ++ e ∷ []) h m → Fails n before (e ∷ h) m
-  one_later n before e h m passes f =
-      (e ∷ f.0, f.1, f.2, ap (λ es. e ∷ es) f.3, (let at = f.4 in omega arith),
-      and_from (test before e) (each_passes test (before ++ e ∷ []) f.0) passes f.5,
-      ap (λ b. test b f.1) (sym (append_assoc before (e ∷ []) f.0)) ∙ f.6)
+  one_later n before e h m passes f = (
+    e ∷ f.0,
+    f.1,
+    f.2,
+    ap (λ es. e ∷ es) f.3,
+    (let at = f.4 in omega arith),
+    and_from (test before e) (each_passes test (before ++ e ∷ []) f.0) passes f.5,
+    ap (λ b. test b f.1) (sym (append_assoc before (e ∷ []) f.0)) ∙ f.6,
+  )
 
   some_by : (n : ℕ) (before h : List Event) (e : Event) (m : ℕ) (t : Bool) → test before e ≡ t
       → (first_failing test (n + 1) (before ++ e ∷ []) h ≡ Some m → Fails (n + 1) (before ++ e ∷ []) h m)

@@ -3,6 +3,7 @@ pub mod Members
 pub mod Appends
 pub mod Snoc
 pub mod Legal
+pub mod Acting
 pub mod Entries
 pub mod Active
 pub mod Counts
@@ -19,3 +20,10 @@ pub mod Apart
 pub mod UndoPhase
 pub mod ClosingPhase
 pub mod Starts
+pub mod GoodPlans
+pub mod ClassFacts
+pub mod Chains
+pub mod Behind
+pub mod WithinLimits
+pub mod PlannedShop
+pub mod Aside

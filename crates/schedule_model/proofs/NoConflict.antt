@@ -1,6 +1,6 @@
 -- Where nothing conflicts, nothing stands against any event: what is in own order is legal then. So whatever is proved of
 -- legal histories without a word on conflicts holds of those in own order, and of reducible ones.
-use Rattle.std.proofs.Common.{◌≡◌, Bool, true, false, not, eqb, ◌&&◌, if◌then◌else◌, List, [], ◌∷◌, ◌++◌, refl}
+use Rattle.std.proofs.Common.{◌≡◌, Bool, true, false, not, eqb, ◌&&◌, if◌then◌else◌, List, refl}
 use Rattle.std.specs.Bool.{IsTrue}
 use Rattle.std.proofs.lemmas.Bool.{and_parts, and_from, false≢true}
 use Rattle.process_tree.specs.declared.entry.Entry.{Entry}
@@ -10,7 +10,6 @@ use Rattle.schedule_model.specs.declared.event.Event.TheVariants.{Start, Act, En
 use Rattle.schedule_model.specs.Course.{Course}
 use Rattle.schedule_model.specs.Conflict.{ConflictRelation, conflict, no_conflict}
 use Rattle.schedule_model.specs.OwnOrder.{keeps_order, is_in_own_order}
-use Rattle.schedule_model.specs.Recovery.{owed_after}
 use Rattle.schedule_model.specs.Legal.{class_in, is_clear, may_come, is_legal, keeps_and_ends_clear, is_reducible}
 use Rattle.schedule_model.proofs.Induction.{passes-other}
 use Rattle.schedule_model.proofs.Clear.{clear-reserved, clear-undoable, clear-committing, clear-end, clear-undo}

@@ -1,5 +1,5 @@
 -- The laws of histories, as statements.
-use Rattle.std.specs.Prelude.{◌≡◌, ◌⊎◌, ℕ, ◌+◌, ◌*◌, ◌≤◌, Bool, true, false, not, List, [], ◌∷◌, ◌++◌, length, take, flat_map, nat_lt, IsTrue, Option, Some, None}
+use Rattle.std.specs.Prelude.{◌≡◌, ℕ, ◌+◌, ◌*◌, ◌≤◌, false, not, List, [], ◌∷◌, ◌++◌, length, take, flat_map, nat_lt, IsTrue, Some, None}
 use Rattle.std.specs.List.{Contains, list_any, list_all}
 use Rattle.process_tree.specs.declared.entry.Entry.{Entry}
 use Rattle.process_tree.specs.declared.plan.Plan.{Plan}
@@ -10,7 +10,7 @@ use Rattle.process_tree.specs.Making.{tree_fault}
 use Rattle.process_tree.specs.Termination.{IsWellFormed}
 use Rattle.process_tree.specs.Recovery.{StepClass, reserved, committing, undoable as undoable_class}
 use Rattle.schedule_model.specs.declared.event.Event.{Event}
-use Rattle.schedule_model.specs.declared.event.Event.TheVariants.{Start, Act, End}
+use Rattle.schedule_model.specs.declared.event.Event.TheVariants.{Act}
 use Rattle.schedule_model.specs.declared.trace_step.TraceStep.{TraceStep}
 use Rattle.schedule_model.specs.Course.{Course, course, courses_of, op_of, shape}
 use Rattle.schedule_model.specs.Conflict.{ConflictRelation, IsSymmetric, conflict}
@@ -19,7 +19,7 @@ use Rattle.schedule_model.specs.Recovery.{undoable, owed, owed_after}
 use Rattle.schedule_model.specs.Completion.{completed}
 use Rattle.schedule_model.specs.OwnOrder.{goes_on, is_at_end, is_in_own_order}
 use Rattle.schedule_model.specs.Limits.{Limits, keeps_limits, stands_within}
-use Rattle.schedule_model.specs.Holdings.{Holdings, at_rest, behind, holders, of_active, reaches}
+use Rattle.schedule_model.specs.Holdings.{Holdings, at_rest, behind, of_active, reaches}
 use Rattle.schedule_model.specs.Blocking.{against_step, against_undo, against_end}
 use Rattle.schedule_model.specs.Legal.{class_in, first_illegal, is_legal, is_reducible, may_come}
 use Rattle.schedule_model.specs.Reduction.{AreReduced, applied_all, is_serial}

@@ -1,5 +1,5 @@
 -- Legal histories: one test for each event, on what stands before it.
-use Rattle.std.specs.Prelude.{ℕ, Bool, true, ◌&&◌, List, [], ◌∷◌, length, nat_eq, if◌then◌else◌, Option}
+use Rattle.std.specs.Prelude.{ℕ, Bool, true, ◌&&◌, List, [], length, nat_eq, if◌then◌else◌, Option}
 use Rattle.process_tree.specs.declared.entry.Entry.{Entry}
 use Rattle.process_tree.specs.Recovery.{StepClass, class_of}
 use Rattle.schedule_model.specs.declared.event.Event.{Event}

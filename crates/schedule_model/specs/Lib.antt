@@ -15,3 +15,4 @@ pub mod PrintedTrace
 pub mod Laws
 pub mod Samples
 pub mod Examples
+pub mod PlannedExample
