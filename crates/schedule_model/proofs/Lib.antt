@@ -27,3 +27,5 @@ pub mod Behind
 pub mod WithinLimits
 pub mod PlannedShop
 pub mod Aside
+pub mod OwedPaths
+pub mod NetPaths

@@ -98,7 +98,7 @@ module _ (courses : List Course) (i : ℕ) where
       ∙ (ap length (of_process-append i (acts h) (e ∷ []) ∙ ap (λ t. of_process i (acts h) ++ cond t (e ∷ []) []) own)
       ∙ length-append (of_process i (acts h)) (e ∷ []))
 
-  done_other : (h : List Event) (e : Entry) → eqb e.process i ≡ false → (u : Bool) → e.undo ≡ u → done_steps (h ++ Act e ∷ []) i ≡ done_steps h i
+  pub done_other : (h : List Event) (e : Entry) → eqb e.process i ≡ false → (u : Bool) → e.undo ≡ u → done_steps (h ++ Act e ∷ []) i ≡ done_steps h i
   done_other h e other true undo = done_steps-undo h e i undo
   done_other h e other false is_step =
       done_steps-append h (Act e ∷ []) i ∙ (ap (λ bs. done_steps h i ++ bs) (rw is_step (rw other refl)) ∙ append-nil (done_steps h i))
