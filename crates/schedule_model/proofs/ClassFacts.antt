@@ -36,7 +36,7 @@ module _ (courses : List Course) (h : List Event) (i b : ℕ) (plan : HasGoodPla
   class : HasClass t (net_steps h i) b
   class = next_steps_have_a_class t plan.tree plan.well_formed (net_steps h i) b on
 
-  reserved_commits : class_in courses h i b ≡ reserved → commits (kind_of t b) ≡ true
+  pub reserved_commits : class_in courses h i b ≡ reserved → commits (kind_of t b) ≡ true
   reserved_commits is = ap commits (class.reserved_is_retriable is)
 
   reserved_never_refused : class_in courses h i b ≡ reserved → can_be_refused (kind_of t b) ≡ false

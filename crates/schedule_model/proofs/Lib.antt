@@ -29,3 +29,7 @@ pub mod PlannedShop
 pub mod Aside
 pub mod OwedPaths
 pub mod NetPaths
+pub mod CompletionFirst
+pub mod CompletionLaws
+pub mod Started
+pub mod OwedFree

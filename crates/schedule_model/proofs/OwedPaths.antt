@@ -24,7 +24,7 @@ by_last P nothing more w = from [] w nothing
     from v [] has = subst P (sym (append-nil v)) has
     from v (b ∷ w) has = subst P (append_assoc v (b ∷ []) w) (from (v ++ b ∷ []) w (more v b has))
 
-take_all : (w : List ℕ) (n : ℕ) → drop n w ≡ [] → take n w ≡ w
+pub take_all : (w : List ℕ) (n : ℕ) → drop n w ≡ [] → take n w ≡ w
 take_all w n none = sym (append-nil (take n w)) ∙ (ap (λ es. take n w ++ es) (sym none) ∙ take-append-drop n w)
 
 cons_nothing : (x : ℕ) (xs : List ℕ) → x ∷ xs ≡ [] → ⊥

@@ -1,5 +1,5 @@
 // The laws of histories: each function says one, and does nothing.
-ghost use Rattle.schedule_model.specs.Laws.{PrefixLaw, BeginningsArePlanned, FirstIllegalIsExact, BeginningsKeepLimits, CompletionKeepsLimits, ActsAreFew, LimitsHold, AppliedStepsReduce, ClassFactsHold, EndedDontBlockSteps};
+ghost use Rattle.schedule_model.specs.Laws.{PrefixLaw, BeginningsArePlanned, FirstIllegalIsExact, BeginningsKeepLimits, CompletionKeepsLimits, ActsAreFew, LimitsHold, OwnOrderCompletionLaw, CompletionIsStable, AppliedStepsReduce, ClassFactsHold, EndedDontBlockSteps};
 ghost use Rattle.schedule_model.specs.PlannedExample.{ShopIsPlanned};
 
 /// Each beginning of a legal history is legal, with the plans of those that started in it.
@@ -40,6 +40,16 @@ pub fn acts_are_few()
 /// Nothing but a start adds to what limits count.
 pub fn limits_hold()
     ensures { LimitsHold }
+{}
+
+/// A completed history is in own order, nobody is active in it, and each process is at an end.
+pub fn own_order_is_completed()
+    ensures { OwnOrderCompletionLaw }
+{}
+
+/// Cut off while it is completed, a history is completed to the same.
+pub fn completion_is_stable()
+    ensures { CompletionIsStable }
 {}
 
 /// Trace steps that apply are exchanges of neighbours and cancels, one after another.
