@@ -33,3 +33,7 @@ pub mod CompletionFirst
 pub mod CompletionLaws
 pub mod Started
 pub mod OwedFree
+pub mod Orders
+pub mod NewSteps
+pub mod FixedFree
+pub mod EndedFree

@@ -53,7 +53,7 @@ module _ (courses : List Course) where
     own_order-legal h legal =
         passes-other (may_come table courses) (keeps_order courses) (λ g e may. (and_parts (keeps_order courses g e) (is_clear table courses g e) may).0) h legal
 
-    reducible_keeps : (h : List Event) (e : Event) → IsTrue (keeps_and_ends_clear table courses h e) → IsTrue (keeps_order courses h e)
+    pub reducible_keeps : (h : List Event) (e : Event) → IsTrue (keeps_and_ends_clear table courses h e) → IsTrue (keeps_order courses h e)
     reducible_keeps h (Start i) keeps = keeps
     reducible_keeps h (Act e) keeps = (and_parts (keeps_order courses h (Act e)) (if e.undo then is_clear table courses h (Act e) else true) keeps).0
     reducible_keeps h (End i) keeps = (and_parts (keeps_order courses h (End i)) (is_clear table courses h (End i)) keeps).0
