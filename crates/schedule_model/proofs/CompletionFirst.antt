@@ -38,9 +38,18 @@ last_or_none [] = inl refl
 last_or_none (x ∷ xs) =
     ⊎_elim (λ none. inr ([], x, ap (λ ys. x ∷ ys) none)) (λ some. inr (x ∷ some.0, some.1, ap (λ ys. x ∷ ys) some.2)) (last_or_none xs)
 
+-- what the first event of a completion is: the undo of the last that is to be undone; or, where nothing is, a step that
+-- an active process owes, or an end
+abbrev pub WhatComes : List Course → List Event → Event → Type 0
+WhatComes courses h event =
+    ((front : List Entry) × (x : Entry) × (event ≡ Act (undoing x)) × (all_undoable courses h ≡ front ++ x ∷ []))
+    ⊎ (((i : ℕ) × (b : ℕ) × (event ≡ Act (doing courses i b)) × IsTrue (is_active h i) × (class_in courses h i b ≡ reserved) × Among (doing courses i b) (owed courses h i))
+    ⊎ ((i : ℕ) × (event ≡ End i) × IsTrue (is_active h i) × (undoable courses h i ≡ [])))
+
 -- the first event of a completion, and the rest of it
 pub record First (courses : List Course) (h : List Event) : Type 0 where
   pub event : Event
+  pub what : WhatComes courses h event
   pub rest : completion courses h ≡ event ∷ completion courses (h ++ event ∷ [])
   pub keeps : IsTrue (keeps_order courses h event)
 
@@ -63,6 +72,7 @@ module _ (plans : List Plan) (good : AreGood plans) (h : List Event) (legal : Is
       let there : Among x (net h) = (among-filter (is_to_undo cs h) x (net h) (subst (Among x) (sym last) (last_among front x))).0 in
       record {
         event = Act (undoing x);
+        what = inl (front, x, refl, last);
         rest = completion-after_undo no_conflict cs h legal front x last;
         keeps = and_from (is_active h x.process && eqb x.op (op_of cs x.process x.step)) (is_of_last (undoable cs h x.process) (undoing x))
             (and_from (is_active h x.process) (eqb x.op (op_of cs x.process x.step)) (is_active_one no_conflict cs h legal front x last) (eq-eqb x.op (op_of cs x.process x.step) (net-of_plans x there)))
@@ -106,6 +116,7 @@ module _ (plans : List Plan) (good : AreGood plans) (h : List Event) (legal : Is
       first_end : owed_steps cs h i ≡ [] → First cs h
       first_end owes = record {
         event = End i;
+        what = inr (inr (i, refl, goes, nothing_undoable i goes));
         rest = completion-after_end cs h i others first undone (ap (map (doing cs i)) owes) apart;
         keeps = and_from (is_active h i) (is_at_end cs h i) goes (ended (net_steps h i) refl (net-branch cs i h legal) (steps_fixed i goes) owes);
       }
@@ -123,6 +134,7 @@ module _ (plans : List Plan) (good : AreGood plans) (h : List Event) (legal : Is
           let after = h ++ Act (doing cs i b) ∷ [] in
           record {
             event = Act (doing cs i b);
+            what = inr (inl (i, b, refl, goes, class, subst (Among (doing cs i b)) (sym (does.reserved_owes class)) (inl refl)));
             rest = completion-after_owed cs h i others first undone b (owed cs after i) (does.reserved_owes class) (reserved_commits cs h i b plan on class)
                 (sym (owed-do cs h (doing cs i b) refl)) apart;
             keeps = and_from (is_active h i && eqb (op_of cs i b) (op_of cs i b)) (goes_on cs h i b)

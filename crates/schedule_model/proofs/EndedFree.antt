@@ -165,10 +165,10 @@ module _ (table : ConflictRelation) (symmetric : IsSymmetric table) (courses : L
               flipped e x (end-clear table courses h j clear x e (in_active_net courses h x x_in x_goes) (behind-active courses h x e x_goes e_goes back_in) own)
 
   ended-more : (h : List Event) (e : Event) → IsTrue (is_reducible table courses h) → IsTrue (keeps_and_ends_clear table courses h e) → EndedFree h → EndedFree (h ++ e ∷ [])
-  ended-more h (Start k) reducible may free = ended-start h reducible free k
-  ended-more h (Act a) reducible may free = ended-act h reducible free a (reducible_keeps courses table h (Act a) may) a.undo refl
-  ended-more h (End k) reducible may free =
-      let parts = and_parts (keeps_order courses h (End k)) (is_clear table courses h (End k)) may in
+  ended-more h (Start k) reducible comes free = ended-start h reducible free k
+  ended-more h (Act a) reducible comes free = ended-act h reducible free a (reducible_keeps courses table h (Act a) comes) a.undo refl
+  ended-more h (End k) reducible comes free =
+      let parts = and_parts (keeps_order courses h (End k)) (is_clear table courses h (End k)) comes in
       ended-end h reducible free k (end_in_order courses h k parts.0).0 parts.1
 
   -- it holds of each reducible history

@@ -37,3 +37,4 @@ pub mod Orders
 pub mod NewSteps
 pub mod FixedFree
 pub mod EndedFree
+pub mod StandingLaws

@@ -18,7 +18,7 @@ use Rattle.schedule_model.specs.Histories.{is_in}
 pub has_step-among : (x : Entry) (es : List Entry) → Among x es → has_step x es ≡ true
 has_step-among x es is = any-among (same_step x) x es is (same_step-itself x)
 
-same_step-through : (a b c : Entry) → same_step a b ≡ true → same_step a c ≡ same_step b c
+pub same_step-through : (a b c : Entry) → same_step a b ≡ true → same_step a c ≡ same_step b c
 same_step-through a b c is =
     let parts = and_parts (eqb a.process b.process) (eqb a.step b.step) is in
     ap (λ p. eqb p c.process && eqb a.step c.step) (eqb-true a.process b.process parts.0)

@@ -1,5 +1,5 @@
 // The laws of histories: each function says one, and does nothing.
-ghost use Rattle.schedule_model.specs.Laws.{PrefixLaw, BeginningsArePlanned, FirstIllegalIsExact, BeginningsKeepLimits, CompletionKeepsLimits, ActsAreFew, LimitsHold, OwnOrderCompletionLaw, CompletionIsStable, AppliedStepsReduce, ClassFactsHold, EndedDontBlockSteps};
+ghost use Rattle.schedule_model.specs.Laws.{PrefixLaw, BeginningsArePlanned, FirstIllegalIsExact, BeginningsKeepLimits, CompletionKeepsLimits, ActsAreFew, LimitsHold, OwnOrderCompletionLaw, CompletionLaw, CompletionIsStable, StandingFactsHold, EndedDontBlockUndos, AppliedStepsReduce, ClassFactsHold, EndedDontBlockSteps};
 ghost use Rattle.schedule_model.specs.PlannedExample.{ShopIsPlanned};
 
 /// Each beginning of a legal history is legal, with the plans of those that started in it.
@@ -47,6 +47,11 @@ pub fn own_order_is_completed()
     ensures { OwnOrderCompletionLaw }
 {}
 
+/// A completed history is legal, nobody is active in it, and each process is at an end.
+pub fn legal_histories_are_completed()
+    ensures { CompletionLaw }
+{}
+
 /// Cut off while it is completed, a history is completed to the same.
 pub fn completion_is_stable()
     ensures { CompletionIsStable }
@@ -65,4 +70,14 @@ pub fn class_facts_hold()
 /// What stands against a step or an end is the same without those that have ended.
 pub fn ended_dont_block_steps()
     ensures { EndedDontBlockSteps }
+{}
+
+/// What is owed is free, what is fixed is, and what has ended is.
+pub fn standing_facts_hold()
+    ensures { StandingFactsHold }
+{}
+
+/// In a legal history those that have ended don't stand against an undo.
+pub fn ended_dont_block_undos()
+    ensures { EndedDontBlockUndos }
 {}
