@@ -1,20 +1,20 @@
 -- The first event of a completion keeps own order, and what comes after it is the completion of the history with it.
-use Rattle.std.proofs.Common.{◌≡◌, ◌⊎◌, inl, inr, ⊎_elim, ℕ, zero, suc, ◌+◌, Bool, true, false, not, eqb, ltb, ◌&&◌, if◌then◌else◌, List, [], ◌∷◌, ◌++◌, length, map, filter, drop, sym, refl, ap, ◌∙◌, subst, arith}
+use Rattle.std.proofs.Common.{◌≡◌, ◌⊎◌, inl, inr, ⊎_elim, ℕ, zero, suc, true, not, eqb, ltb, ◌&&◌, List, [], ◌∷◌, ◌++◌, length, map, drop, sym, refl, ap, ◌∙◌, subst, arith}
 use Rattle.std.specs.Bool.{IsTrue}
-use Rattle.std.specs.List.{All, list_all}
-use Rattle.std.proofs.lemmas.Bool.{and_parts, and_from, eq-eqb, or_left, false≢true}
+use Rattle.std.specs.List.{list_all}
+use Rattle.std.proofs.lemmas.Bool.{and_from, eq-eqb, or_left}
 use Rattle.std.proofs.lemmas.List.Elements.{All-contains}
 use Rattle.process_tree.specs.declared.entry.Entry.{Entry}
 use Rattle.process_tree.specs.declared.plan.Plan.{Plan}
-use Rattle.process_tree.specs.Shape.{Shape, kind_of, commits, fixed_len, goes_on_to, is_end}
+use Rattle.process_tree.specs.Shape.{fixed_len, goes_on_to, is_end}
 use Rattle.process_tree.specs.Recovery.{forward, reserved}
 use Rattle.process_tree.proofs.TreeLaws.{paths_lie_in_order}
 use Rattle.schedule_model.specs.declared.event.Event.{Event}
 use Rattle.schedule_model.specs.declared.event.Event.TheVariants.{Act, End}
 use Rattle.schedule_model.specs.Course.{Course, courses_of, shape, op_of}
 use Rattle.schedule_model.specs.Conflict.{no_conflict}
-use Rattle.schedule_model.specs.Histories.{acts, active, is_active, is_in, doing, undoing, net, net_of, net_acts, net_steps, done_steps, of_process, steps_of}
-use Rattle.schedule_model.specs.Recovery.{undoable, owed, owed_steps, owed_after}
+use Rattle.schedule_model.specs.Histories.{acts, active, is_active, is_in, doing, undoing, net, net_of, net_steps, done_steps, of_process, steps_of}
+use Rattle.schedule_model.specs.Recovery.{undoable, owed, owed_steps}
 use Rattle.schedule_model.specs.Completion.{all_undoable, is_to_undo, completion}
 use Rattle.schedule_model.specs.OwnOrder.{keeps_order, goes_on, is_at_end, is_of_last}
 use Rattle.schedule_model.specs.Legal.{is_legal, class_in}
@@ -27,10 +27,10 @@ use Rattle.schedule_model.proofs.Starts.{active-apart}
 use Rattle.schedule_model.proofs.Recoveries.{owed-do}
 use Rattle.schedule_model.proofs.UndoPhase.{is_active_one, undo_of_last, completion-after_undo, all_undoable-of}
 use Rattle.schedule_model.proofs.ClosingPhase.{completion-after_owed, completion-after_end}
-use Rattle.schedule_model.proofs.GoodPlans.{HasGoodPlan, good_if_goes_on}
+use Rattle.schedule_model.proofs.GoodPlans.{good_if_goes_on}
 use Rattle.schedule_model.proofs.ClassFacts.{facts, reserved_commits}
-use Rattle.schedule_model.proofs.OwedPaths.{owed_goes_on, owed_is_reserved, first_owed, at_end, take_all}
-use Rattle.schedule_model.proofs.NetPaths.{IsBranch, net-branch, done-below_owed, steps_of-doing}
+use Rattle.schedule_model.proofs.OwedPaths.{owed_is_reserved, first_owed, at_end, take_all}
+use Rattle.schedule_model.proofs.NetPaths.{IsBranch, net-branch, done-below_owed}
 
 -- a list is empty, or has a last
 pub last_or_none : {X : Type 0} (xs : List X) → (xs ≡ []) ⊎ ((front : List X) × (x : X) × (xs ≡ front ++ x ∷ []))

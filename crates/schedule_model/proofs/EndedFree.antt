@@ -1,7 +1,7 @@
 -- No net entry of an ended process conflicts with an earlier one of a process that is active, or ended after it.
-use Rattle.std.proofs.Common.{◌≡◌, ◌⊎◌, inl, inr, ⊎_elim, ℕ, Bool, true, false, not, cond, eqb, ◌&&◌, ◌||◌, List, [], ◌∷◌, ◌++◌, sym, refl, ap, ◌∙◌, subst, append-nil}
+use Rattle.std.proofs.Common.{◌≡◌, ◌⊎◌, inl, inr, ⊎_elim, ℕ, Bool, true, false, cond, eqb, ◌||◌, List, [], ◌∷◌, ◌++◌, sym, refl, ap, ◌∙◌, subst, append-nil}
 use Rattle.std.specs.Bool.{IsTrue}
-use Rattle.std.proofs.lemmas.Bool.{and_parts, and_from, eqb-true, eq-eqb, or_left, or_right, or_cases, false≢true}
+use Rattle.std.proofs.lemmas.Bool.{and_parts, eqb-true, or_left, or_right, or_cases, false≢true}
 use Rattle.process_tree.specs.declared.entry.Entry.{Entry}
 use Rattle.schedule_model.specs.declared.event.Event.{Event}
 use Rattle.schedule_model.specs.declared.event.Event.TheVariants.{Start, Act, End}
@@ -12,14 +12,13 @@ use Rattle.schedule_model.specs.Holdings.{behind}
 use Rattle.schedule_model.specs.Legal.{is_clear, may_come, is_legal, keeps_and_ends_clear, is_reducible}
 use Rattle.schedule_model.specs.OwnOrder.{keeps_order}
 use Rattle.schedule_model.proofs.Members.{Among}
-use Rattle.schedule_model.proofs.Behind.{among_behind}
 use Rattle.schedule_model.proofs.Appends.{ends-append, is_in-append}
 use Rattle.schedule_model.proofs.Conflicts.{conflict-symmetric}
 use Rattle.schedule_model.proofs.Snoc.{net-start, net-end, is_active-do}
 use Rattle.schedule_model.proofs.Acting.{act_in_order, end_in_order}
-use Rattle.schedule_model.proofs.Clear.{EntriesApart, end-clear, in_active_net}
+use Rattle.schedule_model.proofs.Clear.{end-clear, in_active_net}
 use Rattle.schedule_model.proofs.Induction.{by_reducible}
-use Rattle.schedule_model.proofs.NoConflict.{reducible_keeps, legal-from_reducible, reducible-legal, may_come-no_conflict}
+use Rattle.schedule_model.proofs.NoConflict.{reducible_keeps, legal-from_reducible, may_come-no_conflict}
 use Rattle.schedule_model.proofs.CompletionLaws.{ended-inactive}
 use Rattle.schedule_model.proofs.Started.{net-started, active-before_start, active-before_end}
 use Rattle.schedule_model.proofs.NewSteps.{step-is_new}

@@ -1,8 +1,7 @@
 -- Before what an active process can't undo any more stands no net entry of another active process that conflicts.
-use Rattle.std.proofs.Common.{◌≡◌, ◌⊎◌, inl, inr, ⊎_elim, ℕ, Bool, true, false, not, cond, eqb, ◌&&◌, ◌||◌, List, [], ◌∷◌, ◌++◌, sym, refl, ap, ◌∙◌, subst}
+use Rattle.std.proofs.Common.{◌≡◌, inl, ⊎_elim, ℕ, Bool, true, false, eqb, ◌&&◌, ◌||◌, List, [], ◌∷◌, ◌++◌, sym, refl, ap, ◌∙◌, subst}
 use Rattle.std.specs.Bool.{IsTrue}
-use Rattle.std.specs.List.{list_any}
-use Rattle.std.proofs.lemmas.Bool.{and_parts, eqb-true, eq-eqb, or_left, or_right, false≢true}
+use Rattle.std.proofs.lemmas.Bool.{and_parts, eqb-true, or_left, or_right, false≢true}
 use Rattle.std.proofs.lemmas.List.Folds.{list_any-append}
 use Rattle.process_tree.specs.declared.entry.Entry.{Entry}
 use Rattle.process_tree.specs.declared.plan.Plan.{Plan}
@@ -11,21 +10,21 @@ use Rattle.schedule_model.specs.declared.event.Event.{Event}
 use Rattle.schedule_model.specs.declared.event.Event.TheVariants.{Start, Act, End}
 use Rattle.schedule_model.specs.Course.{Course, courses_of}
 use Rattle.schedule_model.specs.Conflict.{ConflictRelation, IsSymmetric, conflict}
-use Rattle.schedule_model.specs.Histories.{doing, is_active, net, same_step}
+use Rattle.schedule_model.specs.Histories.{is_active, net, same_step}
 use Rattle.schedule_model.specs.Recovery.{undoable, owed}
-use Rattle.schedule_model.specs.Holdings.{at_rest, behind}
+use Rattle.schedule_model.specs.Holdings.{behind}
 use Rattle.schedule_model.specs.Legal.{class_in, may_come, is_legal}
 use Rattle.schedule_model.specs.Laws.{AreGood}
 use Rattle.schedule_model.proofs.Induction.{by_legal}
-use Rattle.schedule_model.proofs.Members.{Among, any-among}
-use Rattle.schedule_model.proofs.Behind.{has_step, among_behind, same_step-itself, same_step-symmetric}
+use Rattle.schedule_model.proofs.Members.{Among}
+use Rattle.schedule_model.proofs.Behind.{has_step, among_behind, same_step-itself}
 use Rattle.schedule_model.proofs.Conflicts.{conflict-symmetric}
 use Rattle.schedule_model.proofs.Snoc.{net-start, net-end, net_of-other, net_of-start, net_of-end, undoable-by_net, is_active-do}
 use Rattle.schedule_model.proofs.Acting.{clear_of, act_active}
-use Rattle.schedule_model.proofs.Undoing.{Undoes, undoes}
+use Rattle.schedule_model.proofs.Undoing.{undoes}
 use Rattle.schedule_model.proofs.Clear.{committing-clear, in_active_net}
 use Rattle.schedule_model.proofs.Started.{net-started, active-before_start, active-before_end}
-use Rattle.schedule_model.proofs.OwedFree.{OwedFree, owed-free, is_doing, step-facts}
+use Rattle.schedule_model.proofs.OwedFree.{owed-free, is_doing, step-facts}
 use Rattle.schedule_model.proofs.Orders.{behind-undo, behind-do, behind-active}
 use Rattle.schedule_model.proofs.NewSteps.{step-is_new}
 

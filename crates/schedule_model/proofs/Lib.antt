@@ -38,3 +38,7 @@ pub mod NewSteps
 pub mod FixedFree
 pub mod EndedFree
 pub mod StandingLaws
+pub mod Places
+pub mod CancelPhase
+pub mod SerialPhase
+pub mod ReductionLaws

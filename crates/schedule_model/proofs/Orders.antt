@@ -1,7 +1,7 @@
 -- What stands behind an entry of the net, before an event and after it.
-use Rattle.std.proofs.Common.{◌≡◌, ◌⊎◌, inl, inr, ⊎_elim, ℕ, Bool, true, false, not, cond, eqb, ◌&&◌, ◌||◌, List, [], ◌∷◌, ◌++◌, filter, sym, refl, ap, ◌∙◌, subst}
+use Rattle.std.proofs.Common.{◌≡◌, ◌⊎◌, inl, inr, Bool, true, false, not, cond, eqb, ◌&&◌, List, [], ◌∷◌, ◌++◌, sym, ap, ◌∙◌, subst}
 use Rattle.std.specs.Bool.{IsTrue}
-use Rattle.std.proofs.lemmas.Bool.{not-true, cases_Bool, false≢true, eqb-true, eq-eqb, and_parts, and_from}
+use Rattle.std.proofs.lemmas.Bool.{not-true, eqb-true, and_parts}
 use Rattle.process_tree.specs.declared.entry.Entry.{Entry}
 use Rattle.schedule_model.specs.declared.event.Event.{Event}
 use Rattle.schedule_model.specs.declared.event.Event.TheVariants.{Act}
@@ -9,7 +9,7 @@ use Rattle.schedule_model.specs.Histories.{net, same_step, is_active}
 use Rattle.schedule_model.specs.Holdings.{at_rest, behind, active_net, holders}
 use Rattle.schedule_model.specs.Course.{Course}
 use Rattle.schedule_model.proofs.Members.{Among, among-append, among-filter, in_filter, any-among}
-use Rattle.schedule_model.proofs.Behind.{has_step, behind-first, behind-second, behind-none, behind-filter, same_step-itself, same_step-symmetric, same_step-process}
+use Rattle.schedule_model.proofs.Behind.{has_step, behind-first, behind-second, behind-filter, same_step-itself, same_step-process}
 use Rattle.schedule_model.proofs.Snoc.{net-do, net-undo}
 use Rattle.schedule_model.proofs.Clear.{is_holder}
 use Rattle.schedule_model.specs.Histories.{is_in}
@@ -47,9 +47,11 @@ behind-do h s x e is_step new there back = by_place (among-append x (net h) (s �
     by_behind (inr (inr none)) = absurd none
 
     by_place : Among x (net h) ⊎ Among x (s ∷ []) → Among x (net h) × (Among e (behind x (net h)) ⊎ (s ≡ e))
-    by_place (inl before) =
-        (before, by_behind (among-append e (behind x (net h)) (s ∷ [])
-        (subst (Among e) (ap (behind x) (net-do h s is_step) ∙ behind-first x (net h) (s ∷ []) (has_step-among x (net h) before)) back)))
+    by_place (inl before) = (
+      before,
+      by_behind (among-append e (behind x (net h)) (s ∷ [])
+          (subst (Among e) (ap (behind x) (net-do h s is_step) ∙ behind-first x (net h) (s ∷ []) (has_step-among x (net h) before)) back)),
+    )
     by_place (inr (inl now)) =
         let nothing : behind x (net (h ++ Act s ∷ [])) ≡ [] =
         ap (λ y. behind y (net (h ++ Act s ∷ []))) (sym now) ∙ (ap (behind s) (net-do h s is_step) ∙ (behind-second s (net h) (s ∷ []) new ∙ ap (λ t. cond t [] []) (same_step-itself s))) in

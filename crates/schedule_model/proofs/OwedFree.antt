@@ -1,15 +1,15 @@
 -- What an active process owes conflicts with nothing that another active process has done or owes.
-use Rattle.std.proofs.Common.{◌≡◌, ◌⊎◌, inl, inr, ⊎_elim, ℕ, Bool, true, false, not, cond, eqb, ◌&&◌, List, [], ◌∷◌, ◌++◌, map, sym, refl, ap, ◌∙◌, subst}
+use Rattle.std.proofs.Common.{◌≡◌, ◌⊎◌, inl, inr, ℕ, Bool, true, false, not, eqb, List, [], ◌∷◌, ◌++◌, sym, refl, ap, ◌∙◌, subst}
 use Rattle.std.specs.Bool.{IsTrue}
-use Rattle.std.proofs.lemmas.Bool.{and_parts, eqb-true, eq-eqb, cases_Bool}
+use Rattle.std.proofs.lemmas.Bool.{eqb-true}
 use Rattle.process_tree.specs.declared.entry.Entry.{Entry}
 use Rattle.process_tree.specs.declared.plan.Plan.{Plan}
 use Rattle.process_tree.specs.Recovery.{StepClass, reserved, committing, undoable as undoable_class}
 use Rattle.schedule_model.specs.declared.event.Event.{Event}
 use Rattle.schedule_model.specs.declared.event.Event.TheVariants.{Start, Act, End}
 use Rattle.schedule_model.specs.Course.{Course, courses_of}
-use Rattle.schedule_model.specs.Conflict.{ConflictRelation, IsSymmetric, conflict, no_conflict}
-use Rattle.schedule_model.specs.Histories.{doing, is_active, net, net_of, same_step}
+use Rattle.schedule_model.specs.Conflict.{ConflictRelation, IsSymmetric, conflict}
+use Rattle.schedule_model.specs.Histories.{doing, is_active, net, same_step}
 use Rattle.schedule_model.specs.Recovery.{owed, owed_after, owed_steps}
 use Rattle.schedule_model.specs.Legal.{class_in, may_come, is_legal}
 use Rattle.schedule_model.specs.Laws.{AreGood, ClassFacts}
@@ -22,7 +22,7 @@ use Rattle.schedule_model.proofs.Entries.{doing-is}
 use Rattle.schedule_model.proofs.Rising.{step_goes_on}
 use Rattle.schedule_model.proofs.Undoing.{undoes}
 use Rattle.schedule_model.proofs.ClassFacts.{class-facts}
-use Rattle.schedule_model.proofs.Clear.{OwedApart, NetApart, RestApart, reserved-clear, undoable-clear, committing-clear}
+use Rattle.schedule_model.proofs.Clear.{OwedApart, NetApart, undoable-clear, committing-clear}
 use Rattle.schedule_model.proofs.Started.{net-started, owed-started, active-before_start, active-before_end}
 
 -- what a process owes is of it

@@ -1,36 +1,33 @@
 -- The standing facts of legal histories, as they are stated; what has ended doesn't block; and the completion law.
 use Rattle.std.proofs.Common.{◌≡◌, ◌⊎◌, inl, inr, ⊎_elim, ℕ, Bool, true, false, not, cond, eqb, ◌&&◌, ◌||◌, List, [], ◌∷◌, ◌++◌, length, map, filter, sym, refl, ap, ◌∙◌, subst}
 use Rattle.std.specs.Bool.{IsTrue}
-use Rattle.std.specs.List.{Contains, list_any}
-use Rattle.std.proofs.lemmas.Bool.{and_parts, and_from, eqb-true, eq-eqb, or_left, not-true, false≢true}
+use Rattle.std.proofs.lemmas.Bool.{and_parts, and_from, eqb-true, or_left, not-true}
 use Rattle.process_tree.specs.declared.entry.Entry.{Entry}
 use Rattle.process_tree.specs.declared.plan.Plan.{Plan}
-use Rattle.process_tree.specs.Recovery.{reserved}
 use Rattle.schedule_model.specs.declared.event.Event.{Event}
-use Rattle.schedule_model.specs.declared.event.Event.TheVariants.{Start, Act, End}
 use Rattle.schedule_model.specs.Course.{Course, courses_of, op_of}
-use Rattle.schedule_model.specs.Conflict.{ConflictRelation, IsSymmetric, conflict, no_conflict}
+use Rattle.schedule_model.specs.Conflict.{ConflictRelation, IsSymmetric, conflict}
 use Rattle.schedule_model.specs.Histories.{active, after_number, doing, ends, is_active, is_in, net, net_of, outlives, same_step, starts, undoing}
 use Rattle.schedule_model.specs.Recovery.{owed, undoable}
 use Rattle.schedule_model.specs.Completion.{all_undoable, completion, completed, is_to_undo}
-use Rattle.schedule_model.specs.Holdings.{active_net, at_rest, behind, holders, of_active}
-use Rattle.schedule_model.specs.Blocking.{against, against_undo}
-use Rattle.schedule_model.specs.OwnOrder.{is_in_own_order, keeps_order}
-use Rattle.schedule_model.specs.Legal.{class_in, is_clear, is_legal, may_come}
-use Rattle.schedule_model.specs.Laws.{AreGood, IsGood, StandingFacts, StandingFactsHold, CompletionLaw, EndedDontBlockUndos}
+use Rattle.schedule_model.specs.Holdings.{at_rest, behind, holders, of_active}
+use Rattle.schedule_model.specs.Blocking.{against_undo}
+use Rattle.schedule_model.specs.OwnOrder.{keeps_order}
+use Rattle.schedule_model.specs.Legal.{is_clear, is_legal, may_come}
+use Rattle.schedule_model.specs.Laws.{AreGood, StandingFacts, StandingFactsHold, CompletionLaw, EndedDontBlockUndos}
 use Rattle.schedule_model.proofs.Induction.{passes-push}
 use Rattle.schedule_model.proofs.Members.{Among, among-append, among-filter, in_filter, among-any, among-from_contains, filter-agree}
-use Rattle.schedule_model.proofs.Behind.{has_step, among_behind, behind-filter, behind-none, behind-split, same_step-itself, same_step-process, same_step-symmetric}
+use Rattle.schedule_model.proofs.Behind.{has_step, among_behind, behind-filter, behind-none, behind-split, same_step-process, same_step-symmetric}
 use Rattle.schedule_model.proofs.Apart.{Apart, Apart-filter, Apart-last, net-apart}
 use Rattle.schedule_model.proofs.Snoc.{filter_twice}
-use Rattle.schedule_model.proofs.Conflicts.{conflict-symmetric, conflict-itself}
+use Rattle.schedule_model.proofs.Conflicts.{conflict-symmetric}
 use Rattle.schedule_model.proofs.Clear.{LaterApart, EntriesApart, OwedApart, clear-undo, clear-reserved, clear-end, is_holder, among_active_net}
 use Rattle.schedule_model.proofs.NoConflict.{own_order-legal, legal-from_own_order, reducible-legal}
 use Rattle.schedule_model.proofs.Started.{among_net_of, net-started}
 use Rattle.schedule_model.proofs.OwedFree.{OwedFree, owed-free}
-use Rattle.schedule_model.proofs.FixedFree.{FixedFree, IsFixed, fixed-free}
+use Rattle.schedule_model.proofs.FixedFree.{FixedFree, fixed-free}
 use Rattle.schedule_model.proofs.EndedFree.{EndedFree, ended-free}
-use Rattle.schedule_model.proofs.Orders.{has_step-among, same_step-through}
+use Rattle.schedule_model.proofs.Orders.{same_step-through}
 use Rattle.schedule_model.proofs.CompletionFirst.{First, net-of_plans}
 use Rattle.schedule_model.proofs.CompletionLaws.{along_completion, all-at_ends}
 use Rattle.schedule_model.proofs.Members.{not_any, all-among}
@@ -218,9 +215,17 @@ first-legal table plans symmetric good h f legal =
     passes-push (may_come table cs) h f.event legal
     (and_from (keeps_order cs h f.event) (is_clear table cs h f.event) f.keeps (first_clear table plans h symmetric good legal f))
 
+-- a completed history is legal over the same plans, and nobody is active in it
+pub completed-legal : (table : ConflictRelation) (plans : List Plan) → IsSymmetric table → AreGood plans → (h : List Event) → IsTrue (is_legal table (courses_of plans) h)
+    → IsTrue (is_legal table (courses_of plans) (completed (courses_of plans) h)) × (active (completed (courses_of plans) h) ≡ [])
+completed-legal table plans symmetric good h legal =
+    let cs = courses_of plans in
+    let done = along_completion plans good (λ g. IsTrue (is_legal table cs g)) (λ g f own before. first-legal table plans symmetric good g f before)
+    (length (completion cs h)) h refl (own_order-legal cs table h legal) legal in
+    (done.0, done.2)
+
 pub completion-law : CompletionLaw
 completion-law table plans h good =
     let cs = courses_of plans in
-    let done = along_completion plans good.good (λ g. IsTrue (is_legal table cs g)) (λ g f own legal. first-legal table plans good.symmetric good.good g f legal)
-    (length (completion cs h)) h refl (own_order-legal cs table h good.legal) good.legal in
-    (done.0, done.2, all-at_ends cs (completed cs h) (legal-from_own_order cs (completed cs h) done.1) done.2)
+    let done = completed-legal table plans good.symmetric good.good h good.legal in
+    (done.0, done.1, all-at_ends cs (completed cs h) (legal-from_own_order cs (completed cs h) (own_order-legal cs table (completed cs h) done.0)) done.1)

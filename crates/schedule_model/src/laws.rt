@@ -1,5 +1,5 @@
 // The laws of histories: each function says one, and does nothing.
-ghost use Rattle.schedule_model.specs.Laws.{PrefixLaw, BeginningsArePlanned, FirstIllegalIsExact, BeginningsKeepLimits, CompletionKeepsLimits, ActsAreFew, LimitsHold, OwnOrderCompletionLaw, CompletionLaw, CompletionIsStable, StandingFactsHold, EndedDontBlockUndos, AppliedStepsReduce, ClassFactsHold, EndedDontBlockSteps};
+ghost use Rattle.schedule_model.specs.Laws.{PrefixLaw, BeginningsArePlanned, FirstIllegalIsExact, BeginningsKeepLimits, CompletionKeepsLimits, ActsAreFew, LimitsHold, OwnOrderCompletionLaw, CompletionLaw, CompletionIsStable, StandingFactsHold, EndedDontBlockUndos, AppliedStepsReduce, ReductionLaw, PrefixReducibility, ClassFactsHold, EndedDontBlockSteps};
 ghost use Rattle.schedule_model.specs.PlannedExample.{ShopIsPlanned};
 
 /// Each beginning of a legal history is legal, with the plans of those that started in it.
@@ -60,6 +60,16 @@ pub fn completion_is_stable()
 /// Trace steps that apply are exchanges of neighbours and cancels, one after another.
 pub fn applied_steps_reduce()
     ensures { AppliedStepsReduce }
+{}
+
+/// The printed trace of a reducible history in which nobody is active leads to a serial list.
+pub fn reducible_histories_reduce()
+    ensures { ReductionLaw }
+{}
+
+/// So does that of the completed history of each beginning of a legal one.
+pub fn beginnings_reduce()
+    ensures { PrefixReducibility }
 {}
 
 /// What a next step does to the recovery of its process, by its class.
