@@ -42,3 +42,4 @@ pub mod Places
 pub mod CancelPhase
 pub mod SerialPhase
 pub mod ReductionLaws
+pub mod Acyclic

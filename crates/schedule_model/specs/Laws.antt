@@ -77,9 +77,14 @@ FirstIllegalIsExact = (table : ConflictRelation) (courses : List Course) (h : Li
 
 -- Limits.
 
--- Each beginning of a history within limits is within them, with its own plans alone, too.
+-- Each beginning of a history within limits is within them.
 abbrev pub BeginningsKeepLimits : Type 0
 BeginningsKeepLimits = (l : Limits) (courses : List Course) (g k : List Event) → IsTrue (keeps_limits l courses (g ++ k)) → IsTrue (keeps_limits l courses g)
+
+-- Of a legal one it is so with the plans of those that started in it alone.
+abbrev pub LimitsOfBeginnings : Type 0
+LimitsOfBeginnings = (l : Limits) (table : ConflictRelation) (plans : List Plan) (g k : List Event) → IsGood table plans (g ++ k)
+    → IsTrue (keeps_limits l (courses_of plans) (g ++ k)) → IsTrue (keeps_limits l (courses_of (plans_in plans g)) g)
 
 -- Completion of a history within limits is within them.
 abbrev pub CompletionKeepsLimits : Type 0

@@ -1,5 +1,5 @@
 // The laws of histories: each function says one, and does nothing.
-ghost use Rattle.schedule_model.specs.Laws.{PrefixLaw, BeginningsArePlanned, FirstIllegalIsExact, BeginningsKeepLimits, CompletionKeepsLimits, ActsAreFew, LimitsHold, OwnOrderCompletionLaw, CompletionLaw, CompletionIsStable, StandingFactsHold, EndedDontBlockUndos, AppliedStepsReduce, ReductionLaw, PrefixReducibility, ClassFactsHold, EndedDontBlockSteps};
+ghost use Rattle.schedule_model.specs.Laws.{PrefixLaw, BeginningsArePlanned, FirstIllegalIsExact, BeginningsKeepLimits, CompletionKeepsLimits, ActsAreFew, LimitsHold, OwnOrderCompletionLaw, CompletionLaw, CompletionIsStable, StandingFactsHold, OpeningsAreAcyclic, LimitsOfBeginnings, EndedDontBlockUndos, AppliedStepsReduce, ReductionLaw, PrefixReducibility, ClassFactsHold, EndedDontBlockSteps};
 ghost use Rattle.schedule_model.specs.PlannedExample.{ShopIsPlanned};
 
 /// Each beginning of a legal history is legal, with the plans of those that started in it.
@@ -22,9 +22,10 @@ pub fn first_illegal_is_exact()
     ensures { FirstIllegalIsExact }
 {}
 
-/// Each beginning of a history within limits is within them.
+/// Each beginning of a history within limits is within them, with its own plans alone, too.
 pub fn beginnings_keep_limits()
-    ensures { BeginningsKeepLimits }
+    ensures any { BeginningsKeepLimits }
+    ensures planned { LimitsOfBeginnings }
 {}
 
 /// The completion of a history within limits is within them.
@@ -85,6 +86,11 @@ pub fn ended_dont_block_steps()
 /// What is owed is free, what is fixed is, and what has ended is.
 pub fn standing_facts_hold()
     ensures { StandingFactsHold }
+{}
+
+/// The conflict graph of a legal history has no circle.
+pub fn openings_are_acyclic()
+    ensures { OpeningsAreAcyclic }
 {}
 
 /// In a legal history those that have ended don't stand against an undo.
