@@ -21,8 +21,8 @@ use Rattle.machine_model.specs.declared.blocked.Rule.TheVariants.{A5}
 use Rattle.machine_model.specs.declared.kept.Work.TheVariants.{Forward, Undo, End}
 use Rattle.machine_model.specs.declared.kept.Kept.TheVariants.{Restart}
 use Rattle.machine_model.specs.Cascade.{IsCascade, cascade}
-use Rattle.machine_model.specs.Moment.{Moment, has_begun}
-use Rattle.machine_model.specs.Pieces.{Piece, hands, running_of}
+use Rattle.machine_model.specs.Moment.{Moment, Piece, has_begun}
+use Rattle.machine_model.specs.Pieces.{hands, running_of}
 use Rattle.machine_model.specs.State.{block_of, hold_of, holdings, is_exhausted, is_pending, next_of, pending_of, undo_next}
 use Rattle.machine_model.specs.Advance.{Machine}
 use Rattle.machine_model.specs.Runs.{history, is_run, now}

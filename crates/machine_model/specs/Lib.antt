@@ -1,6 +1,7 @@
 pub mod Blocks
 pub mod Cascade
-pub mod Standing
+pub mod Progress
+pub mod ProcessState
 pub mod Moment
 pub mod Pieces
 pub mod State
