@@ -1,5 +1,5 @@
 -- The laws of the machine, as statements.
-use Rattle.std.specs.Prelude.{◌≡◌, ◌≢◌, ◌⊎◌, ◌≤◌, ℕ, ◌+◌, true, false, not, List, [], ◌∷◌, ◌++◌, length, IsTrue, Some, None}
+use Rattle.std.specs.Prelude.{◌≡◌, ◌≢◌, ◌⊎◌, ◌↔◌, ◌≤◌, ℕ, ◌+◌, true, false, not, List, [], ◌∷◌, ◌++◌, length, IsTrue, Some, None, is_some}
 use Rattle.std.specs.List.{Contains, list_any, sum_by}
 use Rattle.process_tree.specs.declared.entry.Entry.{Entry}
 use Rattle.process_tree.specs.declared.plan.Plan.{Plan}
@@ -20,13 +20,14 @@ use Rattle.machine_model.specs.declared.blocked.Blocked.{Blocked}
 use Rattle.machine_model.specs.declared.blocked.Rule.TheVariants.{A5}
 use Rattle.machine_model.specs.declared.kept.Work.TheVariants.{Forward, Undo, End}
 use Rattle.machine_model.specs.declared.kept.Kept.TheVariants.{Restart}
+use Rattle.machine_model.specs.declared.replies.PieceState.TheVariants.{Over}
 use Rattle.machine_model.specs.Cascade.{IsCascade, cascade}
 use Rattle.machine_model.specs.Moment.{Moment, Piece, has_begun}
-use Rattle.machine_model.specs.Pieces.{hands, running_of}
-use Rattle.machine_model.specs.State.{block_of, hold_of, holdings, is_exhausted, is_pending, next_of, pending_of, undo_next}
-use Rattle.machine_model.specs.Advance.{Machine}
+use Rattle.machine_model.specs.Pieces.{hands, is_finished, piece_of, running_of, state_of}
+use Rattle.machine_model.specs.State.{block_of, hold_of, holdings, is_exhausted, is_pending, next_of, pending_of, undo_next, victim_of}
+use Rattle.machine_model.specs.Advance.{Machine, advance_all}
 use Rattle.machine_model.specs.Runs.{history, is_run, now}
-use Rattle.machine_model.specs.Replies.{stuck}
+use Rattle.machine_model.specs.Replies.{stuck, victims, all_victims}
 use Rattle.machine_model.specs.Calls.{IsNoStart, Call, start, answer, answer_next, answered, next_is}
 
 -- a run of the machine over good plans that opens on a legal history within the limits
@@ -148,3 +149,14 @@ BoundOnHands = (table : Table) (plans : List Plan) (s : Machine) → IsSession t
 abbrev pub CascadeIsLeast : Type 0
 CascadeIsLeast = (table : Table) (g : Holdings) (root : ℕ) (entries : List Entry) → IsTrue (is_in root (holders g))
     → IsCascade table g root entries (cascade table g root entries)
+
+-- A piece that was handed out is over exactly where the kept events have its effect or its refusal.
+abbrev pub OverIsFinished : Type 0
+OverIsFinished = (table : Table) (s : Machine) (n : ℕ) → IsTrue (is_run table s) → IsTrue (is_some (piece_of s.kept n))
+    → (state_of (now table s) n ≡ Over) ↔ IsTrue (is_finished s.kept n)
+
+-- Victims run dry: with those made that a request makes, there is no other, and more than so many are never made.
+abbrev pub VictimsRunDry : Type 0
+VictimsRunDry = (table : Table) (courses : List Course) (m : Moment)
+    → (victim_of table courses (advance_all table courses m (all_victims table courses m)) ≡ None)
+    × ((n : ℕ) → length (active m.events) ≤ n → victims n table courses m ≡ all_victims table courses m)
