@@ -5,6 +5,7 @@ pub mod PieceCounts
 pub mod Settled
 pub mod Begun
 pub mod Victims
+pub mod Stuck
 pub mod Least
 pub mod Cascades
 pub mod Clear

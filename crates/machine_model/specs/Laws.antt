@@ -24,10 +24,10 @@ use Rattle.machine_model.specs.declared.replies.PieceState.TheVariants.{Over}
 use Rattle.machine_model.specs.Cascade.{IsCascade, cascade}
 use Rattle.machine_model.specs.Moment.{Moment, Piece, has_begun}
 use Rattle.machine_model.specs.Pieces.{hands, is_finished, piece_of, running_of, state_of}
-use Rattle.machine_model.specs.State.{block_of, hold_of, holdings, is_exhausted, is_pending, next_of, pending_of, undo_next, victim_of}
+use Rattle.machine_model.specs.State.{block_of, hold_of, holdings, is_blocked, is_exhausted, is_pending, next_of, pending_of, undo_next, victim_of}
 use Rattle.machine_model.specs.Advance.{Machine, advance_all}
 use Rattle.machine_model.specs.Runs.{history, is_run, now}
-use Rattle.machine_model.specs.Replies.{stuck, victims, all_victims}
+use Rattle.machine_model.specs.Replies.{stuck, victims, all_victims, least_exhausted}
 use Rattle.machine_model.specs.Calls.{IsNoStart, Call, start, answer, answer_next, answered, next_is}
 
 -- a run of the machine over good plans that opens on a legal history within the limits
@@ -160,3 +160,16 @@ abbrev pub VictimsRunDry : Type 0
 VictimsRunDry = (table : Table) (courses : List Course) (m : Moment)
     → (victim_of table courses (advance_all table courses m (all_victims table courses m)) ≡ None)
     × ((n : ℕ) → length (active m.events) ≤ n → victims n table courses m ≡ all_victims table courses m)
+
+-- One is stuck: some process is active, nothing runs, each active process is exhausted, or has begun to complete and is
+-- blocked, and i is the least exhausted one.
+pub record IsStuck (table : Table) (courses : List Course) (m : Moment) (i : ℕ) : Type 0 where
+  pub some_active : active m.events ≢ []
+  pub nothing_runs : m.out ≡ []
+  pub nobody_goes : (k : ℕ) → IsTrue (is_active m.events k) → IsTrue (is_exhausted courses m k) ⊎ (IsTrue (has_begun m k) × IsTrue (is_blocked table courses m k))
+  pub least : i ≡ least_exhausted courses m
+
+-- A request for any piece answers so exactly where it is so after the victims that it makes.
+abbrev pub StuckIsExact : Type 0
+StuckIsExact = (table : Table) (courses : List Course) (m : Moment) (served i : ℕ)
+    → ((answer_next table courses m served).reply ≡ next_is (stuck i)) ↔ IsStuck table courses (advance_all table courses m (all_victims table courses m)) i
