@@ -1,5 +1,5 @@
 -- What a call keeps may be kept: a session by calls is a run.
-use Rattle.std.proofs.Common.{◌≡◌, ℕ, zero, suc, ◌+◌, Bool, true, false, not, cond, eqb, if◌then◌else◌, ◌&&◌, List, [], ◌∷◌, length, filter, find, slice_get, Option, Some, None, is_some, is_none, sym, refl, ap, ◌∙◌}
+use Rattle.std.proofs.Common.{◌≡◌, ℕ, zero, suc, ◌+◌, Bool, true, false, not, cond, eqb, if◌then◌else◌, ◌&&◌, List, [], ◌∷◌, ◌++◌, append-nil, length, filter, find, slice_get, Option, Some, None, is_some, is_none, sym, refl, ap, ◌∙◌}
 use Rattle.std.specs.Bool.{IsTrue}
 use Rattle.std.specs.List.{list_any}
 use Rattle.std.proofs.lemmas.Option.{none-some, cond_some}
@@ -25,6 +25,7 @@ use Rattle.machine_model.specs.Advance.{Machine, advance, advance_all}
 use Rattle.machine_model.specs.Runs.{is_no_end, may_be_kept, is_victim, goes_on_from, is_run, now}
 use Rattle.machine_model.specs.Replies.{hand_to, kept_hand, admit_by_tries, admit_by_running, admit_by_active, admit_by_known, admit_reply, piece_unless, abort_by_begun, abort_by_tries, abort_by_active, abort_by_known, none_free_by_active, refused_unless_end, next_reply, piece_of_free, none_free_reply, rotation, victims, victim_then, all_victims, finish_reply, finish_piece, finish_by, out_finish, finish_kept, abort_reply, refused, refusal_reply}
 use Rattle.machine_model.specs.Calls.{IsNoStart, Call, start, admit, next, finish, abort, complete_all, admit_kept, next_kept, abort_kept, answer, answer_at}
+use Rattle.machine_model.specs.CallLaws.{CallsKeepRuns}
 use Rattle.machine_model.proofs.Snoc.{goes_on-append, keeping}
 
 same_work-itself : (w : Work) → same_work w w ≡ true
@@ -52,6 +53,12 @@ abbrev is_out : PieceState → Bool
 is_out Out = true
 is_out (Dropped k) = false
 is_out Over = false
+
+-- a piece whose state is out is running
+pub out_runs : (t : Bool) (drop : Option ℕ) → (if t then Out else dropped_or_over drop) ≡ Out → t ≡ true
+out_runs true drop is = refl
+out_runs false None is = absurd (false≢true (ap is_out is))
+out_runs false (Some k) is = absurd (false≢true (ap is_out is))
 
 module _ (table : Table) (courses : List Course) (m : Moment) where
   -- the next piece of a free process may be handed out
@@ -108,11 +115,6 @@ module _ (table : Table) (courses : List Course) (m : Moment) where
   next-kept served = by_free served (find (is_free table courses m) (rotation m served)) refl
 
   -- the end of a piece
-
-  out_runs : (t : Bool) (drop : Option ℕ) → (if t then Out else dropped_or_over drop) ≡ Out → t ≡ true
-  out_runs true drop is = refl
-  out_runs false None is = absurd (false≢true (ap is_out is))
-  out_runs false (Some k) is = absurd (false≢true (ap is_out is))
 
   runs_from : (n : ℕ) (p : Piece) → piece_of m.kept n ≡ Some p → runs m p.number ≡ true → runs m n ≡ true
   runs_from n p found is = ap (runs m) (sym (eqb-true p.number n (find-passes (λ q. eqb q.number n) (hands m.kept) p found))) ∙ is
@@ -205,3 +207,17 @@ pub call-makes_run : (table : Table) (s : Machine) (c : Call) → IsNoStart c �
 call-makes_run table s c no_start run =
     goes_on-append table s.courses (opening_moment s.opening) s.kept (answer table s c).kept
     ∙ and_from (is_run table s) _ run (call-kept table s.courses (now table s) s.served c no_start)
+
+no_courses : (table : Table) (s : Machine) (c : Call) → IsNoStart c → (answer table s c).courses ≡ []
+no_courses table s (start c) no_start = absurd no_start
+no_courses table s (admit i) no_start = refl
+no_courses table s next no_start = refl
+no_courses table s (finish n outcome) no_start = refl
+no_courses table s (abort i) no_start = refl
+no_courses table s complete_all no_start = refl
+
+pub calls_keep_runs : CallsKeepRuns
+calls_keep_runs table s c no_start run =
+    ap (λ cs. is_run table (record { opening = s.opening; courses = cs; kept = s.kept ++ (answer table s c).kept; served = s.served }))
+    (ap (λ cs. s.courses ++ cs) (no_courses table s c no_start) ∙ append-nil s.courses)
+    ∙ call-makes_run table s c no_start run

@@ -6,7 +6,9 @@ pub mod Settled
 pub mod Begun
 pub mod Victims
 pub mod Stuck
+pub mod OneOut
 pub mod Least
 pub mod Cascades
 pub mod Clear
 pub mod CallsKept
+pub mod TurnRuns

@@ -10,7 +10,7 @@ use Rattle.machine_model.specs.Moment.{Moment, Piece, Lost}
 use Rattle.machine_model.specs.Pieces.{hands, piece_of, is_finished, runs, dropped_or_over, event_of_lost, state_of}
 use Rattle.machine_model.specs.Advance.{Machine}
 use Rattle.machine_model.specs.Runs.{is_run, now}
-use Rattle.machine_model.specs.Laws.{OverIsFinished}
+use Rattle.machine_model.specs.PieceLaws.{OverIsFinished}
 use Rattle.machine_model.proofs.Counting.{count, count-some, count-none, some-count, none-count, found-any}
 use Rattle.machine_model.proofs.Snoc.{now-kept}
 use Rattle.machine_model.proofs.PieceCounts.{Counted, is_number, is_lost_number, ends_piece, run-counted}
@@ -43,5 +43,5 @@ over_is_finished table s n run handed =
     let m = now table s in
     let kept = now-kept table s in
     let both = over_is_finished_at m n (run-counted table s run)
-        (ap (λ ks. list_any (is_number n) (hands ks)) kept ∙ (sym (found-any (is_number n) (hands s.kept)) ∙ handed)) in
+    (ap (λ ks. list_any (is_number n) (hands ks)) kept ∙ (sym (found-any (is_number n) (hands s.kept)) ∙ handed)) in
     (λ over. sym (ap (λ ks. is_finished ks n) kept) ∙ both.0 over, λ finished. both.1 (ap (λ ks. is_finished ks n) kept ∙ finished))

@@ -20,6 +20,7 @@ use Rattle.machine_model.specs.State.{progress}
 use Rattle.machine_model.specs.Moment.{Moment, Piece, noted, happened, begins, begins_now, all_begin, has_begun, opening_moment}
 use Rattle.machine_model.specs.Pieces.{hands, piece_of, is_finished, is_effect, is_refusal}
 use Rattle.machine_model.specs.Advance.{Machine, advance, advance_all, drag_along, cascade_of, goes_back, step_refused, piece_refused, with_piece, event_of}
+use Rattle.machine_model.specs.CallLaws.{BeginningsOfRunsAreRuns}
 use Rattle.machine_model.specs.Runs.{goes_on_from, is_run, now, may_be_kept}
 
 -- the machine with more kept events
@@ -160,6 +161,9 @@ is_run-push table s k = goes_on-append table s.courses (opening_moment s.opening
 -- each beginning of a run is one
 pub is_run-prefix : (table : Table) (s : Machine) (ks : List Kept) → IsTrue (is_run table (keeping s ks)) → IsTrue (is_run table s)
 is_run-prefix table s ks is = both-left (is_run table s) _ (sym (goes_on-append table s.courses (opening_moment s.opening) s.kept ks) ∙ is)
+
+pub beginnings_of_runs_are_runs : BeginningsOfRunsAreRuns
+beginnings_of_runs_are_runs table h courses ks js served is = is_run-prefix table (record { opening = h; courses = courses; kept = ks; served = served }) js is
 
 -- the pieces of more kept events
 pub hands-append : (ks js : List Kept) → hands (ks ++ js) ≡ hands ks ++ hands js

@@ -19,7 +19,7 @@ use Rattle.machine_model.specs.State.{block_of, is_blocked, is_exhausted, is_fre
 use Rattle.machine_model.specs.Advance.{advance_all}
 use Rattle.machine_model.specs.Replies.{Next, chosen, wait, all_ended, stuck, rotation, all_victims, least_exhausted, none_free_by_active, none_free_by_running, none_free_reply, piece_of_free, next_reply, hand_to, blocked_in_rotation}
 use Rattle.machine_model.specs.Calls.{answer_next, next_is}
-use Rattle.machine_model.specs.Laws.{IsStuck, StuckIsExact}
+use Rattle.machine_model.specs.CallLaws.{IsStuck, StuckIsExact}
 use Rattle.machine_model.proofs.Victims.{victims_run_dry}
 
 abbrev stuck_number : ℕ → Next → ℕ
@@ -134,7 +134,7 @@ module _ (table : Table) (courses : List Course) (m : Moment) (dry : victim_of t
   stuck_facts i none some idle least = record {
     some_active = some;
     nothing_runs = idle;
-    nobody_goes = λ k active'. by_tries k (sym (is_active-is_in m.events k) ) active' ;
+    nobody_goes = λ k active'. by_tries k (sym (is_active-is_in m.events k)) active';
     least = least;
   }
     where
@@ -203,7 +203,7 @@ module _ (table : Table) (courses : List Course) (m : Moment) where
   pub stuck-if : (served i : ℕ) → IsStuck table courses m i → next_reply table courses m served ≡ stuck i
   stuck-if served i is =
       let none = none_found (is_free table courses m) (rotation m served)
-          (all_fail (is_free table courses m) (rotation m served) (λ k listed. stuck_free i k is (sym (is_active-is_in m.events k) ∙ in_rotation m served k listed))) in
+      (all_fail (is_free table courses m) (rotation m served) (λ k listed. stuck_free i k is (sym (is_active-is_in m.events k) ∙ in_rotation m served k listed))) in
       ap (piece_of_free courses m (none_free_reply table courses m served)) none
       ∙ (ap (none_free_by_active table courses m served) (some_length (active m.events) is.some_active)
       ∙ (ap (none_free_by_running table courses m served) (ap (λ ps. eqb (length ps) 0) is.nothing_runs) ∙ ap stuck (sym is.least)))

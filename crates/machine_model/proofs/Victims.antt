@@ -18,7 +18,7 @@ use Rattle.machine_model.specs.Moment.{Moment, has_begun, noted}
 use Rattle.machine_model.specs.State.{is_blocked, is_stalled, victim_of}
 use Rattle.machine_model.specs.Advance.{advance, advance_all}
 use Rattle.machine_model.specs.Replies.{victims, victim_then, all_victims}
-use Rattle.machine_model.specs.Laws.{VictimsRunDry}
+use Rattle.machine_model.specs.CallLaws.{VictimsRunDry}
 use Rattle.machine_model.proofs.Snoc.{advances}
 use Rattle.machine_model.proofs.Begun.{advance-begun, goes_back-begun}
 
@@ -60,7 +60,7 @@ module _ (table : Table) (courses : List Course) where
       let after = advance table courses m (Victim i) in
       let now_begun = goes_back-begun table courses i WasVictim (noted m (Victim i)) in
       let fewer = length_filter-more (λ k. not (has_begun after k)) (λ k. not (has_begun m k)) (active m.events) (within m i)
-          (any-is_in (λ k. not (not (has_begun after k)) && not (has_begun m k)) i (active m.events) at.0 (and_from _ _ (ap (λ t. not (not t)) now_begun) (ap not at.1))) in
+      (any-is_in (λ k. not (not (has_begun after k)) && not (has_begun m k)) i (active m.events) at.0 (and_from _ _ (ap (λ t. not (not t)) now_begun) (ap not at.1))) in
       let same = ap (λ is. length (filter (λ k. not (has_begun after k)) is)) (victim-active m i) in
       omega arith
 

@@ -18,3 +18,5 @@ pub mod VictimExamples
 pub mod Turns
 pub mod GroupExamples
 pub mod Laws
+pub mod PieceLaws
+pub mod CallLaws
