@@ -7,6 +7,7 @@ pub mod Begun
 pub mod Victims
 pub mod Stuck
 pub mod OneOut
+pub mod Linked
 pub mod Least
 pub mod Cascades
 pub mod Clear
