@@ -13,10 +13,10 @@ use Rattle.machine_model.specs.declared.kept.Kept.TheVariants.{Start, Hand, Effe
 use Rattle.machine_model.specs.declared.began.Cause.{Cause}
 use Rattle.machine_model.specs.declared.began.Cause.TheVariants.{Refused, Abort as Aborted', Cascade, Victim as Victim', Restart as Restarted}
 use Rattle.machine_model.specs.Cascade.{cascade}
-use Rattle.machine_model.specs.Standing.{way_on}
-use Rattle.machine_model.specs.Moment.{Moment, noted, happened, begins, all_begin}
-use Rattle.machine_model.specs.Pieces.{Piece, piece_of}
-use Rattle.machine_model.specs.State.{standing, pending_of, holdings}
+use Rattle.machine_model.specs.Progress.{way_on}
+use Rattle.machine_model.specs.Moment.{Moment, Piece, noted, happened, begins, all_begin}
+use Rattle.machine_model.specs.Pieces.{piece_of}
+use Rattle.machine_model.specs.State.{progress, pending_of, holdings}
 
 -- step b of process i, its undo, or the end of the process, as an event
 abbrev pub event_by : List Course → ℕ → ℕ → Work → Event
@@ -43,7 +43,7 @@ goes_back table courses cause m i = drag_along table courses (begins cause m i) 
 -- step b of process i was refused: without a way on it begins to complete, and its cascade goes back with what is pending now
 abbrev pub step_refused : Table → List Course → Moment → ℕ → ℕ → Moment
 step_refused table courses m i b =
-    drag_along table courses (if is_none (way_on (standing courses m i)) then begins (Refused b) m i else m) i
+    drag_along table courses (if is_none (way_on (progress courses m i)) then begins (Refused b) m i else m) i
 
 -- step b of process i or its undo was refused: a step that can be refused leads to another way or back, and all else is
 -- tried again

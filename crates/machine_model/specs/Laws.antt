@@ -1,5 +1,6 @@
 -- The laws of the machine, as statements.
-use Rattle.std.specs.Prelude.{◌≡◌, ◌≢◌, ◌⊎◌, ◌≤◌, ℕ, ◌+◌, true, false, not, List, [], ◌∷◌, ◌++◌, length, IsTrue, Some, None}
+use Rattle.std.specs.Prelude.{◌≡◌, ◌≢◌, ◌⊎◌, ◌↔◌, ◌≤◌, ℕ, ◌+◌, true, false, not, List, [], ◌∷◌, ◌++◌, length, IsTrue, Some, None, Option}
+use Rattle.std.specs.Option.{option_or}
 use Rattle.std.specs.List.{Contains, list_any, sum_by}
 use Rattle.process_tree.specs.declared.entry.Entry.{Entry}
 use Rattle.process_tree.specs.declared.plan.Plan.{Plan}
@@ -7,12 +8,16 @@ use Rattle.process_tree.specs.declared.step.StepKind.{StepKind}
 use Rattle.process_tree.specs.declared.step.StepKind.TheVariants.{C, P, R}
 use Rattle.process_tree.specs.Blocks.{numbers_from}
 use Rattle.process_tree.specs.Recovery.{committing, reserved}
-use Rattle.process_tree.specs.Shape.{kind_of}
+use Rattle.process_tree.specs.Shape.{kind_of, first_of}
 use Rattle.schedule_model.specs.Course.{Course, courses_of, course, course_of, shape, allowance}
 use Rattle.schedule_model.specs.Conflict.{Table, IsSymmetric, conflict}
 use Rattle.schedule_model.specs.Histories.{active, is_active, is_in, starts, ends, net, net_of, same_step, doing}
 use Rattle.schedule_model.specs.Recovery.{undoable}
-use Rattle.schedule_model.specs.Holdings.{Holdings, holders, reaches, behind}
+use Rattle.schedule_model.specs.Holdings.{Holdings, active_net, holders, reaches, behind}
+use Rattle.schedule_model.specs.Blocking.{Clashes, all_clashes}
+use Rattle.schedule_model.specs.Completion.{completion}
+use Rattle.schedule_model.specs.OwnOrder.{is_at_end}
+use Rattle.schedule_model.specs.declared.event.Event.{Event}
 use Rattle.schedule_model.specs.Legal.{is_legal, class_in}
 use Rattle.schedule_model.specs.Limits.{is_within_limits}
 use Rattle.schedule_model.specs.Laws.{IsGoodPlan}
@@ -20,11 +25,12 @@ use Rattle.machine_model.specs.declared.blocked.Blocked.{Blocked}
 use Rattle.machine_model.specs.declared.blocked.Rule.TheVariants.{A5}
 use Rattle.machine_model.specs.declared.kept.Work.TheVariants.{Forward, Undo, End}
 use Rattle.machine_model.specs.declared.kept.Kept.TheVariants.{Restart}
+use Rattle.machine_model.specs.Blocks.{blocks_of, least_block}
 use Rattle.machine_model.specs.Cascade.{IsCascade, cascade}
-use Rattle.machine_model.specs.Moment.{Moment, has_begun}
-use Rattle.machine_model.specs.Pieces.{Piece, hands, running_of}
-use Rattle.machine_model.specs.State.{block_of, hold_of, holdings, is_exhausted, is_pending, next_of, pending_of, undo_next}
-use Rattle.machine_model.specs.Advance.{Machine}
+use Rattle.machine_model.specs.Moment.{Moment, Piece, has_begun}
+use Rattle.machine_model.specs.Pieces.{hands, running_of}
+use Rattle.machine_model.specs.State.{against_task, against_work, block_of, hold_of, holdings, is_exhausted, is_pending, next_of, pending_of, undo_next}
+use Rattle.machine_model.specs.Advance.{Machine, event_by}
 use Rattle.machine_model.specs.Runs.{history, is_run, now}
 use Rattle.machine_model.specs.Replies.{stuck}
 use Rattle.machine_model.specs.Calls.{IsNoStart, Call, start, answer, answer_next, answered, next_is}
@@ -148,3 +154,42 @@ BoundOnHands = (table : Table) (plans : List Plan) (s : Machine) → IsSession t
 abbrev pub CascadeIsLeast : Type 0
 CascadeIsLeast = (table : Table) (g : Holdings) (root : ℕ) (entries : List Entry) → IsTrue (is_in root (holders g))
     → IsCascade table g root entries (cascade table g root entries)
+
+-- Each process that has ended is at an end.
+abbrev pub EndedAreAtEnds : Type 0
+EndedAreAtEnds = (table : Table) (plans : List Plan) (s : Machine) → IsSession table plans s → (i : ℕ) → Contains (ends (history table s)) i
+    → IsTrue (is_at_end s.courses (history table s) i)
+
+-- who comes next in a restart: the process of the last pending entry in joint order, and else the first active one
+abbrev pub next_in_restart : List Course → Moment → Option ℕ
+next_in_restart courses m = option_or (undo_next courses m) (first_of (active m.events))
+
+-- Once all have begun to complete, the next event is the head of the completion.
+abbrev pub RestartFollowsCompletion : Type 0
+RestartFollowsCompletion = (table : Table) (plans : List Plan) (s : Machine) → IsSession table plans s → AllHaveBegun (now table s)
+    → (i : ℕ) → next_in_restart s.courses (now table s) ≡ Some i
+    → let t = next_of s.courses (now table s) i in
+    (rest : List Event) × (completion s.courses (history table s) ≡ event_by s.courses i t.step t.work ∷ rest)
+
+-- A piece is blocked exactly where something stands against it.
+abbrev pub BlockedWhereSomethingStands : Type 0
+BlockedWhereSomethingStands = (c : Clashes) → (least_block (blocks_of c) ≡ None) ↔ (length (all_clashes c) ≡ 0)
+
+-- An undo is blocked by A5 alone.
+abbrev pub UndosWaitByA5 : Type 0
+UndosWaitByA5 = (table : Table) (courses : List Course) (m : Moment) (i : ℕ) (b : Blocked) → (next_of courses m i).work ≡ Undo
+    → block_of table courses m i ≡ Some b → b.rule ≡ A5
+
+-- what the tables of open processes have of these holdings: no net entry of a process that has ended
+abbrev pub open_only : Holdings → Holdings
+open_only g = record { net = active_net g; holds = g.holds }
+
+-- Where no net entry of an ended process stands behind one of an active process and conflicts with it, nothing else stands
+-- against a task of an active process than against it with those of the open processes alone; and nobody else is dragged along.
+abbrev pub OpenHoldingsBlockAlike : Type 0
+OpenHoldingsBlockAlike = (table : Table) (courses : List Course) (m : Moment)
+    → ((i k : ℕ) (x e : Entry) → IsTrue (is_active m.events k) → IsTrue (not (is_active m.events i)) → Contains (net_of m.events k) x → Contains (net_of m.events i) e
+    → Contains (behind x (net m.events)) e → conflict table x e ≡ false)
+    → (i : ℕ) → IsTrue (is_active m.events i)
+    → let t = next_of courses m i in
+    against_work table courses (open_only (holdings courses m)) m.events i t.step t.work ≡ against_task table courses m i t

@@ -1,5 +1,5 @@
 -- Runs: which event may be kept next, and the sessions in which each was.
-use Rattle.std.specs.Prelude.{ℕ, ◌+◌, Bool, true, false, not, ◌&&◌, List, [], ◌∷◌, length, nat_eq, nat_le, nat_lt, if◌then◌else◌, Option, Some, None, is_none}
+use Rattle.std.specs.Prelude.{ℕ, ◌+◌, Bool, true, false, not, ◌&&◌, List, [], ◌∷◌, length, nat_eq, nat_le, nat_lt, Option, Some, None, is_none}
 use Rattle.std.specs.List.{list_any}
 use Rattle.schedule_model.specs.declared.event.Event.{Event}
 use Rattle.schedule_model.specs.declared.event.Event.TheVariants.{Start as Started}
@@ -13,17 +13,30 @@ use Rattle.machine_model.specs.declared.kept.Kept.{Kept}
 use Rattle.machine_model.specs.declared.kept.Kept.TheVariants.{Start, Hand, Effect, Refuse, Abort, Victim, Restart}
 use Rattle.machine_model.specs.declared.replies.StartWhy.{StartWhy}
 use Rattle.machine_model.specs.declared.replies.StartWhy.TheVariants.{TooMany, NoRoom}
-use Rattle.machine_model.specs.Moment.{Moment, opening_moment, has_begun}
-use Rattle.machine_model.specs.Pieces.{Piece, hands, piece_of, runs, same_work}
+use Rattle.machine_model.specs.Moment.{Moment, Piece, opening_moment, has_begun}
+use Rattle.machine_model.specs.Pieces.{hands, piece_of, runs}
+use Rattle.machine_model.specs.Progress.{same_work}
 use Rattle.machine_model.specs.State.{next_of, is_exhausted, is_free, victim_of}
 use Rattle.machine_model.specs.Advance.{Machine, advance, advance_all}
 
+-- too many entries, done and reserved, or none
+abbrev pub no_room : ℕ → Bool → Option StartWhy
+no_room n true = Some (NoRoom n)
+no_room n false = None
+
+-- too many processes have started; else the next reason
+abbrev pub too_many_started : List Course → Moment → Course → Bool → Option StartWhy
+too_many_started courses m c true = Some (TooMany most_processes)
+too_many_started courses m c false = let n = entries courses m.events + need c in no_room n (nat_lt most_entries n)
+
+-- too many are active; else the next reason
+abbrev pub too_many_active : List Course → Moment → Course → Bool → Option StartWhy
+too_many_active courses m c true = Some (TooMany most_active)
+too_many_active courses m c false = too_many_started courses m c (nat_le most_processes (length (starts m.events)))
+
 -- why a process of this course can't start now, if it can't
 abbrev pub start_refusal : List Course → Moment → Course → Option StartWhy
-start_refusal courses m c =
-    if nat_le most_active (length (active m.events)) then Some (TooMany most_active)
-    else (if nat_le most_processes (length (starts m.events)) then Some (TooMany most_processes)
-    else (if nat_lt most_entries (entries courses m.events + need c) then Some (NoRoom (entries courses m.events + need c)) else None))
+start_refusal courses m c = too_many_active courses m c (nat_le most_active (length (active m.events)))
 
 -- a start takes the next number, within the limits
 abbrev pub may_start : List Course → Moment → ℕ → Bool
