@@ -1,7 +1,7 @@
 -- The laws of pieces and of one process alone, as statements.
 use Rattle.std.specs.Prelude.{◌≡◌, ◌↔◌, ◌≤◌, ℕ, Bool, true, not, ◌&&◌, List, length, filter, nat_eq, IsTrue, Option, Some, None, is_some, if◌then◌else◌}
 use Rattle.process_tree.specs.declared.plan.Plan.{Plan}
-use Rattle.schedule_model.specs.Conflict.{Table}
+use Rattle.schedule_model.specs.Conflict.{ConflictRelation}
 use Rattle.schedule_model.specs.Histories.{is_active}
 use Rattle.machine_model.specs.declared.kept.Kept.{Kept}
 use Rattle.machine_model.specs.declared.kept.Kept.TheVariants.{Start, Hand, Effect, Refuse, Abort, Victim, Restart}
@@ -17,16 +17,16 @@ use Rattle.machine_model.specs.Laws.{IsSession}
 
 -- A piece that was handed out is over exactly where the kept events have its effect or its refusal.
 abbrev pub OverIsFinished : Type 0
-OverIsFinished = (table : Table) (s : Machine) (n : ℕ) → IsTrue (is_run table s) → IsTrue (is_some (piece_of s.kept n))
+OverIsFinished = (table : ConflictRelation) (s : Machine) (n : ℕ) → IsTrue (is_run table s) → IsTrue (is_some (piece_of s.kept n))
     → (state_of (now table s) n ≡ Over) ↔ IsTrue (is_finished s.kept n)
 
 -- At most one piece of a process is out.
 abbrev pub OneRuns : Type 0
-OneRuns = (table : Table) (s : Machine) (i : ℕ) → IsTrue (is_run table s) → length (filter (λ p. nat_eq p.process i) (now table s).out) ≤ 1
+OneRuns = (table : ConflictRelation) (s : Machine) (i : ℕ) → IsTrue (is_run table s) → length (filter (λ p. nat_eq p.process i) (now table s).out) ≤ 1
 
 -- The running piece of a process is its next piece.
 abbrev pub RunningIsNext : Type 0
-RunningIsNext = (table : Table) (s : Machine) (i : ℕ) (p : Piece) → IsTrue (is_run table s) → running_of (now table s) i ≡ Some p
+RunningIsNext = (table : ConflictRelation) (s : Machine) (i : ℕ) (p : Piece) → IsTrue (is_run table s) → running_of (now table s) i ≡ Some p
     → same_task (next_of s.courses (now table s) i) (record { work = p.work; step = p.step }) ≡ true
 
 -- what a kept event makes of the state of process i where it is of its piece
@@ -52,7 +52,7 @@ begun_where has s = if has && not s.progress.begun then begun s else s
 
 -- One counter of refusals is enough: the state of an active process goes by the transitions of one process alone.
 abbrev pub StatesGoByTransitions : Type 0
-StatesGoByTransitions = (table : Table) (plans : List Plan) (s : Machine) (k : Kept) → IsSession table plans s
+StatesGoByTransitions = (table : ConflictRelation) (plans : List Plan) (s : Machine) (k : Kept) → IsSession table plans s
     → IsTrue (may_be_kept table s.courses (now table s) k) → (i : ℕ) → IsTrue (is_active (now table s).events i)
     → let after = advance table s.courses (now table s) k in
     IsTrue (is_active after.events i)
