@@ -1,14 +1,18 @@
 -- A piece is blocked exactly where something stands against it, and an undo by A5 alone.
-use Rattle.std.proofs.Common.{◌≡◌, ◌+◌, List, [], ◌∷◌, ◌++◌, length, None, IfSome, sym, refl, ap, ◌∙◌, arith}
+use Rattle.std.proofs.Common.{◌≡◌, ◌+◌, List, [], ◌∷◌, ◌++◌, length, Option, Some, None, IfSome, sym, refl, ap, subst, ◌∙◌, arith}
 use Rattle.std.proofs.lemmas.List.{length-append, length-map}
 use Rattle.process_tree.specs.declared.entry.Entry.{Entry}
-use Rattle.schedule_model.specs.Conflict.{Table}
+use Rattle.schedule_model.specs.Conflict.{ConflictRelation}
 use Rattle.schedule_model.specs.Holdings.{Holdings}
 use Rattle.schedule_model.specs.Blocking.{Clash, Clashes, all_clashes, against_undo, with_later}
 use Rattle.machine_model.specs.declared.blocked.Blocked.{Blocked}
 use Rattle.machine_model.specs.declared.blocked.Rule.{Rule}
 use Rattle.machine_model.specs.declared.blocked.Rule.TheVariants.{A0, A1, A2, A3, A4, A5}
 use Rattle.machine_model.specs.Blocks.{blocks_of, by_rule, least_block}
+use Rattle.schedule_model.specs.Histories.{doing}
+use Rattle.machine_model.specs.declared.kept.Work.TheVariants.{Undo}
+use Rattle.machine_model.specs.State.{against_work, holdings, next_of}
+use Rattle.machine_model.specs.Laws.{BlockedWhereSomethingStands, UndosWaitByA5}
 use Rattle.machine_model.proofs.Least.{Each, least-has, least-none}
 
 -- there are as many blocks as clashes
@@ -39,5 +43,18 @@ all_by_rule r [] = tt
 all_by_rule r (c ∷ cs) = (refl, all_by_rule r cs)
 
 -- what blocks an undo is A5
-pub undo-by_rule : (table : Table) (g : Holdings) (x : Entry) → IfSome (least_block (blocks_of (against_undo table g x))) (λ b. b.rule ≡ A5)
+pub undo-by_rule : (table : ConflictRelation) (g : Holdings) (x : Entry) → IfSome (least_block (blocks_of (against_undo table g x))) (λ b. b.rule ≡ A5)
 undo-by_rule table g x = least-has (λ b. b.rule ≡ A5) (by_rule A5 (with_later table g x)) (all_by_rule A5 (with_later table g x))
+
+pub blocked_where_something_stands : BlockedWhereSomethingStands
+blocked_where_something_stands c = (none-clear c, clear-none c)
+
+rule_of : (b : Blocked) (o : Option Blocked) → o ≡ Some b → IfSome o (λ x. x.rule ≡ A5) → b.rule ≡ A5
+rule_of b o is rule = subst (λ x. IfSome x (λ y. y.rule ≡ A5)) is rule
+
+pub undos_wait_by_a5 : UndosWaitByA5
+undos_wait_by_a5 table courses m i b undo is =
+    let t = next_of courses m i in
+    rule_of b (least_block (blocks_of (against_work table courses (holdings courses m) m.events i t.step Undo)))
+    (ap (λ w. least_block (blocks_of (against_work table courses (holdings courses m) m.events i t.step w))) (sym undo) ∙ is)
+    (undo-by_rule table (holdings courses m) (doing courses i t.step))

@@ -1,5 +1,15 @@
+pub mod Counting
 pub mod Snoc
+pub mod Keeping
+pub mod PieceCounts
+pub mod Settled
+pub mod Begun
+pub mod Victims
+pub mod Stuck
+pub mod OneOut
+pub mod Linked
 pub mod Least
 pub mod Cascades
-pub mod CallsKept
 pub mod Clear
+pub mod CallsKept
+pub mod TurnRuns

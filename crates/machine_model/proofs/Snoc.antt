@@ -7,7 +7,7 @@ use Rattle.std.proofs.Common.{◌≡◌, ℕ, Bool, true, false, not, cond, eqb,
 use Rattle.schedule_model.specs.declared.event.Event.{Event}
 use Rattle.schedule_model.specs.declared.event.Event.TheVariants.{Start as Started}
 use Rattle.schedule_model.specs.Course.{Course, shape}
-use Rattle.schedule_model.specs.Conflict.{Table}
+use Rattle.schedule_model.specs.Conflict.{ConflictRelation}
 use Rattle.schedule_model.specs.Histories.{active}
 use Rattle.machine_model.specs.declared.kept.Kept.{Kept}
 use Rattle.machine_model.specs.declared.kept.Kept.TheVariants.{Start, Hand, Effect, Refuse, Abort, Victim, Restart}
@@ -15,18 +15,19 @@ use Rattle.machine_model.specs.declared.kept.Work.{Work}
 use Rattle.machine_model.specs.declared.kept.Work.TheVariants.{Forward, Undo, End}
 use Rattle.machine_model.specs.declared.began.Cause.{Cause}
 use Rattle.machine_model.specs.declared.began.Cause.TheVariants.{Refused, Abort as Aborted, Cascade, Victim as WasVictim, Restart as Restarted}
-use Rattle.machine_model.specs.Standing.{way_on}
-use Rattle.machine_model.specs.State.{standing}
-use Rattle.machine_model.specs.Moment.{Moment, noted, happened, begins, all_begin, has_begun, opening_moment}
-use Rattle.machine_model.specs.Pieces.{Piece, hands, piece_of, is_finished, is_effect, is_refusal}
+use Rattle.machine_model.specs.Progress.{way_on}
+use Rattle.machine_model.specs.State.{progress}
+use Rattle.machine_model.specs.Moment.{Moment, Piece, noted, happened, begins, begins_now, all_begin, has_begun, opening_moment}
+use Rattle.machine_model.specs.Pieces.{hands, piece_of, is_finished, is_effect, is_refusal}
 use Rattle.machine_model.specs.Advance.{Machine, advance, advance_all, drag_along, cascade_of, goes_back, step_refused, piece_refused, with_piece, event_of}
+use Rattle.machine_model.specs.CallLaws.{BeginningsOfRunsAreRuns}
 use Rattle.machine_model.specs.Runs.{goes_on_from, is_run, now, may_be_kept}
 
 -- the machine with more kept events
 abbrev pub keeping : Machine → List Kept → Machine
 keeping s ks = record { opening = s.opening; courses = s.courses; kept = s.kept ++ ks; served = s.served }
 
--- A moment that differs from another in who has begun alone.
+-- A moment that differs from another alone in who has begun, and in what is out and lost.
 pub record StandsStill (m n : Moment) : Type 0 where
   pub events : n.events ≡ m.events
   pub kept : n.kept ≡ m.kept
@@ -37,8 +38,7 @@ same_moment m = record { events = refl; kept = refl }
 pub then_still : {m n o : Moment} → StandsStill m n → StandsStill n o → StandsStill m o
 then_still a b = record { events = b.events ∙ a.events; kept = b.kept ∙ a.kept }
 
-by_begun : (cause : Cause) (m : Moment) (i : ℕ) (b : Bool)
-    → StandsStill m (cond b m (record { events = m.events; kept = m.kept; begun = m.begun ++ record { process = i; began = record { event = length m.kept; cause = cause } } ∷ [] }))
+by_begun : (cause : Cause) (m : Moment) (i : ℕ) (b : Bool) → StandsStill m (cond b m (begins_now cause m i))
 by_begun cause m i true = same_moment m
 by_begun cause m i false = record { events = refl; kept = refl }
 
@@ -50,7 +50,7 @@ pub all_begin-still : (cause : Cause) (m : Moment) (is : List ℕ) → StandsSti
 all_begin-still cause m [] = same_moment m
 all_begin-still cause m (i ∷ is) = then_still (begins-still cause m i) (all_begin-still cause (begins cause m i) is)
 
-module _ (table : Table) (courses : List Course) where
+module _ (table : ConflictRelation) (courses : List Course) where
   pub drag_along-still : (m : Moment) (i : ℕ) → StandsStill m (drag_along table courses m i)
   drag_along-still m i = all_begin-still (Cascade i) m (filter (λ k. not (eqb k i)) (cascade_of table courses m i))
 
@@ -63,7 +63,7 @@ module _ (table : Table) (courses : List Course) where
 
   pub step_refused-still : (m : Moment) (i b : ℕ) → StandsStill m (step_refused table courses m i b)
   step_refused-still m i b =
-      let t = is_none (way_on (standing courses m i)) in
+      let t = is_none (way_on (progress courses m i)) in
       then_still (begun_or_not m i b t) (drag_along-still (cond t (begins (Refused b) m i) m) i)
 
   refused_or_not : (m : Moment) (i b : ℕ) (t : Bool) → StandsStill m (cond t (step_refused table courses m i b) m)
@@ -143,11 +143,11 @@ module _ (table : Table) (courses : List Course) where
       ∙ and_assoc (may_be_kept table courses m k) (goes_on_from table courses (advance table courses m k) ks) (goes_on_from table courses (advance_all table courses (advance table courses m k) ks) js)
 
 -- what was kept stays kept
-pub now-kept : (table : Table) (s : Machine) → (now table s).kept ≡ s.kept
+pub now-kept : (table : ConflictRelation) (s : Machine) → (now table s).kept ≡ s.kept
 now-kept table s = advance_all-kept table s.courses (opening_moment s.opening) s.kept
 
 -- the moment with one more kept event
-pub now-push : (table : Table) (s : Machine) (k : Kept) → now table (keeping s (k ∷ [])) ≡ advance table s.courses (now table s) k
+pub now-push : (table : ConflictRelation) (s : Machine) (k : Kept) → now table (keeping s (k ∷ [])) ≡ advance table s.courses (now table s) k
 now-push table s k = advance_all-append table s.courses (opening_moment s.opening) s.kept (k ∷ [])
 
 and_true : (a : Bool) → (a && true) ≡ a
@@ -155,12 +155,15 @@ and_true true = refl
 and_true false = refl
 
 -- a session with one more kept event is a run where it was and the event may be kept
-pub is_run-push : (table : Table) (s : Machine) (k : Kept) → is_run table (keeping s (k ∷ [])) ≡ (is_run table s && may_be_kept table s.courses (now table s) k)
+pub is_run-push : (table : ConflictRelation) (s : Machine) (k : Kept) → is_run table (keeping s (k ∷ [])) ≡ (is_run table s && may_be_kept table s.courses (now table s) k)
 is_run-push table s k = goes_on-append table s.courses (opening_moment s.opening) s.kept (k ∷ []) ∙ ap (λ b. is_run table s && b) (and_true (may_be_kept table s.courses (now table s) k))
 
 -- each beginning of a run is one
-pub is_run-prefix : (table : Table) (s : Machine) (ks : List Kept) → IsTrue (is_run table (keeping s ks)) → IsTrue (is_run table s)
+pub is_run-prefix : (table : ConflictRelation) (s : Machine) (ks : List Kept) → IsTrue (is_run table (keeping s ks)) → IsTrue (is_run table s)
 is_run-prefix table s ks is = both-left (is_run table s) _ (sym (goes_on-append table s.courses (opening_moment s.opening) s.kept ks) ∙ is)
+
+pub beginnings_of_runs_are_runs : BeginningsOfRunsAreRuns
+beginnings_of_runs_are_runs table h courses ks js served is = is_run-prefix table (record { opening = h; courses = courses; kept = ks; served = served }) js is
 
 -- the pieces of more kept events
 pub hands-append : (ks js : List Kept) → hands (ks ++ js) ≡ hands ks ++ hands js

@@ -15,7 +15,7 @@ from_nothing cs = session stock_table [] [] cs
 
 -- who has begun to complete in it, at which kept event, and why
 abbrev pub begun_in : Session → List Beginning
-begun_in s = (now stock_table s.machine).begun
+begun_in s = (now stock_table s.machine).beginnings
 
 -- process i began at this kept event
 abbrev pub begun_at : ℕ → ℕ → Cause → Beginning

@@ -1,5 +1,5 @@
 -- Worked examples, computed: pieces that are queued and take effect together.
-use Rattle.std.specs.Prelude.{ℕ, List, ◌≡◌, [], ◌∷◌, length, None, refl}
+use Rattle.std.specs.Prelude.{ℕ, Bool, true, false, List, ◌≡◌, [], ◌∷◌, length, None, refl, IsTrue}
 use Rattle.process_tree.specs.declared.play.Outcome.TheVariants.{Done}
 use Rattle.schedule_model.specs.Course.{Course}
 use Rattle.schedule_model.specs.Samples.{stock_table, line, addition, pay}
@@ -9,9 +9,9 @@ use Rattle.machine_model.specs.declared.kept.Kept.TheVariants.{Start, Hand, Effe
 use Rattle.machine_model.specs.declared.kept.Work.TheVariants.{Forward}
 use Rattle.machine_model.specs.Moment.{Moment}
 use Rattle.machine_model.specs.Runs.{now}
-use Rattle.machine_model.specs.Calls.{start, admit, abort, Session}
-use Rattle.machine_model.specs.Groups.{Subsystems, queue_reply, queued, full, over, as_done, flush_kept, flush_reply, effected, dropped_at_event}
-use Rattle.machine_model.specs.Turns.{Board, queues, flushes, says, IsTurn, AreTurns}
+use Rattle.machine_model.specs.Calls.{start, admit, finish, abort, Session}
+use Rattle.machine_model.specs.Groups.{Subsystems, queue_reply, queued, full, over, no_refusal, as_done, as_refused, flush_kept, flush_reply, effected, dropped_at_event}
+use Rattle.machine_model.specs.Turns.{Board, queues, flushes, says, IsTurn, AreTurns, FlushesAreDue}
 use Rattle.machine_model.specs.Examples.{from_nothing}
 
 -- each operation has a store of its own
@@ -87,4 +87,22 @@ pub third_turn : IsTurn stock_table stores (board both_handed (1 ∷ 2 ∷ [])) 
 third_turn = (refl, refl)
 
 pub are_turns : AreTurns stock_table stores (board both_handed []) (queues 1 Done (says queued) ∷ queues 2 Done (says queued) ∷ flushes (says 2) ∷ []) (board both_done [])
-are_turns = (board both_handed (1 ∷ []), first_turn, (board both_handed (1 ∷ 2 ∷ []), second_turn, (board both_done [], third_turn, refl)))
+are_turns = ((first_turn.0, (second_turn.0, (third_turn.0, tt))), refl)
+
+-- no flush was due: none had found the group full, and none had waited
+pub flush_not_due : FlushesAreDue stock_table (board both_handed []) false (queues 1 Done (says queued) ∷ flushes (says 1) ∷ []) → ⊥
+flush_not_due due = cc (due.1.0)
+
+-- behind a full group it is
+pub flush_due : FlushesAreDue stock_table (board both_handed (1 ∷ [])) false (queues 2 Done (says full) ∷ flushes (says 1) ∷ [])
+flush_due = (tt, (refl, tt))
+
+-- an end isn't refused, also not where it is queued
+abbrev pub end_under_way : Session
+end_under_way = from_nothing (start addition ∷ admit 1 ∷ finish 1 Done ∷ admit 1 ∷ [])
+
+pub end_not_refused : queue_reply stock_table stores end_under_way.machine.courses (now stock_table end_under_way.machine) [] 2 as_refused ≡ no_refusal
+end_not_refused = refl
+
+pub end_queued : queue_reply stock_table stores end_under_way.machine.courses (now stock_table end_under_way.machine) [] 2 as_done ≡ queued
+end_queued = refl

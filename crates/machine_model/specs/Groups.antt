@@ -1,10 +1,10 @@
 -- Groups: pieces that are queued and take effect together.
-use Rattle.std.specs.Prelude.{ℕ, ◌+◌, ◌-◌, Bool, true, false, not, ◌&&◌, ◌||◌, List, [], ◌∷◌, filter, map, length, nat_eq, nat_le, if◌then◌else◌, Option, Some, None}
+use Rattle.std.specs.Prelude.{ℕ, ◌+◌, Bool, true, false, not, ◌&&◌, ◌||◌, List, [], ◌∷◌, filter, flat_map, length, nat_eq, nat_le, if◌then◌else◌, Option, Some, None, unwrap_or}
 use Rattle.std.specs.List.{list_any, filter_map}
 use Rattle.process_tree.specs.declared.play.Outcome.{Outcome}
 use Rattle.process_tree.specs.declared.play.Outcome.TheVariants.{Done, Refused}
 use Rattle.schedule_model.specs.Course.{Course, op_of}
-use Rattle.schedule_model.specs.Conflict.{Table}
+use Rattle.schedule_model.specs.Conflict.{ConflictRelation}
 use Rattle.schedule_model.specs.Histories.{is_in}
 use Rattle.machine_model.specs.declared.kept.Work.TheVariants.{Forward, End}
 use Rattle.machine_model.specs.declared.kept.Kept.{Kept}
@@ -12,8 +12,9 @@ use Rattle.machine_model.specs.declared.kept.Kept.TheVariants.{Effect, Refuse}
 use Rattle.machine_model.specs.declared.replies.Refusal.{Refusal}
 use Rattle.machine_model.specs.declared.replies.PieceState.{PieceState}
 use Rattle.machine_model.specs.declared.replies.PieceState.TheVariants.{Out, Dropped, Over}
-use Rattle.machine_model.specs.Moment.{Moment}
-use Rattle.machine_model.specs.Pieces.{Piece, piece_of, dropped_at, runs, same_work, state_of}
+use Rattle.machine_model.specs.Moment.{Moment, Piece}
+use Rattle.machine_model.specs.Progress.{same_work}
+use Rattle.machine_model.specs.Pieces.{piece_of, dropped_at, runs, state_of}
 use Rattle.machine_model.specs.Advance.{advance}
 use Rattle.machine_model.specs.Replies.{refusal_reply}
 
@@ -64,12 +65,23 @@ pub data Queue : Type 0 where
   over : Queue
   dropped : ℕ → Queue
   no_piece : Queue
+  no_refusal : Queue
+
+-- full where the group is, and else this
+abbrev pub full_or : Bool → Queue → Queue
+full_or true otherwise = full
+full_or false otherwise = otherwise
+
+-- an end is never refused; what the refusal of another piece leads to
+abbrev pub refused_unless_end : Bool → Refusal → Queue
+refused_unless_end true r = no_refusal
+refused_unless_end false r = refused r
 
 -- a piece that is out: refused at once where it was answered so; else full, if the group is; else refused where it is barred
-abbrev pub out_queue : Bool → Refusal → Taken → Queue
-out_queue is_full r as_refused = refused r
-out_queue is_full r as_barred = if is_full then full else refused r
-out_queue is_full r as_done = if is_full then full else queued
+abbrev pub out_queue : Bool → Bool → Refusal → Taken → Queue
+out_queue is_end is_full r as_refused = refused_unless_end is_end r
+out_queue is_end is_full r as_barred = full_or is_full (refused_unless_end is_end r)
+out_queue is_end is_full r as_done = full_or is_full queued
 
 -- a piece in this state
 abbrev pub queue_by : Queue → PieceState → Queue
@@ -78,15 +90,15 @@ queue_by out (Dropped k) = dropped k
 queue_by out Over = over
 
 -- piece n, if there is one: one that is queued is over for whoever would queue it again
-abbrev pub queue_piece : Table → Subsystems → List Course → Moment → List ℕ → Taken → Option Piece → Queue
+abbrev pub queue_piece : ConflictRelation → Subsystems → List Course → Moment → List ℕ → Taken → Option Piece → Queue
 queue_piece table subsystems courses m group taken None = no_piece
 queue_piece table subsystems courses m group taken (Some p) =
     let refusal = refusal_reply courses (advance table courses m (Refuse p.number)) p in
     if is_in p.number group then over
-    else queue_by (out_queue (is_full subsystems courses m group p) refusal taken) (state_of m p)
+    else queue_by (out_queue (is_end_piece p) (is_full subsystems courses m group p) refusal taken) (state_of m p.number)
 
 -- what is answered to the queueing of piece n
-abbrev pub queue_reply : Table → Subsystems → List Course → Moment → List ℕ → ℕ → Taken → Queue
+abbrev pub queue_reply : ConflictRelation → Subsystems → List Course → Moment → List ℕ → ℕ → Taken → Queue
 queue_reply table subsystems courses m group n taken = queue_piece table subsystems courses m group taken (piece_of m.kept n)
 
 -- it keeps a refusal or nothing, and a piece that is queued comes last in the group
@@ -97,6 +109,7 @@ queue_kept n full = []
 queue_kept n over = []
 queue_kept n (dropped k) = []
 queue_kept n no_piece = []
+queue_kept n no_refusal = []
 
 -- a piece that is queued is added to the group
 abbrev pub queue_adds : ℕ → Queue → List ℕ
@@ -106,10 +119,7 @@ queue_adds n (refused r) = []
 queue_adds n over = []
 queue_adds n (dropped k) = []
 queue_adds n no_piece = []
-
--- a flush keeps an effect for each piece of the group that is running, in order
-abbrev pub flush_kept : Moment → List ℕ → List Kept
-flush_kept m group = map Effect (filter (runs m) group)
+queue_adds n no_refusal = []
 
 -- what became of a piece of a group: its event has this place in the history, or it was dropped at this kept event
 pub data GroupEnd : Type 0 where
@@ -121,17 +131,26 @@ pub record Ended : Type 0 where
   pub piece : ℕ
   pub ending : GroupEnd
 
--- the kept event at which piece n was dropped, if it was
-abbrev pub dropped_number : Moment → Option Piece → Option ℕ
-dropped_number m None = None
-dropped_number m (Some p) = dropped_at m p
-
--- piece p with what became of it, and then what became of the others: it takes effect at place n, unless it was dropped
-abbrev pub ended_then : ℕ → ℕ → (ℕ → List Ended) → Option ℕ → List Ended
-ended_then p n rest None = record { piece = p; ending = effected n } ∷ rest n
-ended_then p n rest (Some k) = record { piece = p; ending = dropped_at_event k } ∷ rest (n - 1)
+-- piece p with what became of it, and then what became of the others: one that runs takes effect at the next place, and one
+-- that doesn't was dropped; n events stand before it
+abbrev pub ended_then : Moment → ℕ → ℕ → (ℕ → List Ended) → Bool → List Ended
+ended_then m n p rest true = record { piece = p; ending = effected (n + 1) } ∷ rest (n + 1)
+ended_then m n p rest false = record { piece = p; ending = dropped_at_event (unwrap_or (dropped_at m p) 0) } ∷ rest n
 
 -- what a flush answers: each piece of the group in order; n events stand before
 abbrev pub flush_reply : Moment → ℕ → List ℕ → List Ended
 flush_reply m n [] = []
-flush_reply m n (p ∷ ps) = ended_then p (n + 1) (λ k. flush_reply m k ps) (dropped_number m (piece_of m.kept p))
+flush_reply m n (p ∷ ps) = ended_then m n p (λ k. flush_reply m k ps) (runs m p)
+
+-- what is kept of a piece that ended so
+abbrev pub kept_for : ℕ → GroupEnd → List Kept
+kept_for p (effected n) = Effect p ∷ []
+kept_for p (dropped_at_event k) = []
+
+-- what is kept of these
+abbrev pub kept_for_ended : List Ended → List Kept
+kept_for_ended es = flat_map (λ e. kept_for e.piece e.ending) es
+
+-- a flush keeps an effect for each piece of the group that takes effect, in order
+abbrev pub flush_kept : Moment → List ℕ → List Kept
+flush_kept m group = kept_for_ended (flush_reply m (length m.events) group)

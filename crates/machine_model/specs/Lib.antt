@@ -1,6 +1,7 @@
 pub mod Blocks
 pub mod Cascade
-pub mod Standing
+pub mod Progress
+pub mod ProcessState
 pub mod Moment
 pub mod Pieces
 pub mod State
@@ -17,3 +18,5 @@ pub mod VictimExamples
 pub mod Turns
 pub mod GroupExamples
 pub mod Laws
+pub mod PieceLaws
+pub mod CallLaws

@@ -1,20 +1,13 @@
 -- Pieces: which were handed out, and what became of each.
-use Rattle.std.specs.Prelude.{ℕ, Bool, true, false, not, ◌&&◌, ◌||◌, List, [], ◌∷◌, filter, find, length, take, nat_eq, if◌then◌else◌, Option, Some, None, is_some, is_none}
+use Rattle.std.specs.Prelude.{ℕ, Bool, true, false, ◌&&◌, ◌||◌, List, [], ◌∷◌, filter, find, length, nat_eq, if◌then◌else◌, Option, Some, None}
 use Rattle.std.specs.List.{list_any}
 use Rattle.machine_model.specs.declared.kept.Work.{Work}
-use Rattle.machine_model.specs.declared.kept.Work.TheVariants.{Forward, Undo, End}
 use Rattle.machine_model.specs.declared.kept.Kept.{Kept}
 use Rattle.machine_model.specs.declared.kept.Kept.TheVariants.{Start, Hand, Effect, Refuse, Abort, Victim, Restart}
 use Rattle.machine_model.specs.declared.replies.PieceState.{PieceState}
 use Rattle.machine_model.specs.declared.replies.PieceState.TheVariants.{Out, Dropped, Over}
-use Rattle.machine_model.specs.Moment.{Moment, Beginning, beginning_of}
-
--- one try of a step or of its undo, or an end
-pub record Piece : Type 0 where
-  pub number : ℕ
-  pub process : ℕ
-  pub step : ℕ
-  pub work : Work
+use Rattle.machine_model.specs.Progress.{same_work}
+use Rattle.machine_model.specs.Moment.{Moment, Piece, Lost}
 
 -- the piece that this event hands out, in front of these
 abbrev pub handed : Kept → List Piece → List Piece
@@ -59,56 +52,40 @@ is_effect n Restart = false
 abbrev pub is_finished : List Kept → ℕ → Bool
 is_finished ks n = list_any (λ k. is_effect n k || is_refusal n k) ks
 
--- the piece was handed out and is unfinished
-abbrev pub is_unfinished : List Kept → ℕ → Bool
-is_unfinished ks n = is_some (piece_of ks n) && not (is_finished ks n)
-
--- a beginning at which the piece was unfinished, as the number of its kept event
-abbrev pub dropped_by : Moment → Piece → Option Beginning → Option ℕ
-dropped_by m p None = None
-dropped_by m p (Some b) = if is_unfinished (take b.began.event m.kept) p.number then Some b.began.event else None
-
--- the kept event at which the piece was dropped: that at which its process began to complete while it was unfinished
-abbrev pub dropped_at : Moment → Piece → Option ℕ
-dropped_at m p = dropped_by m p (beginning_of m p.process)
-
--- a piece is running while it is neither finished nor dropped
-abbrev pub is_running : Moment → Piece → Bool
-is_running m p = not (is_finished m.kept p.number) && is_none (dropped_at m p)
-
--- the running pieces, and that of one process
-abbrev pub running_pieces : Moment → List Piece
-running_pieces m = filter (is_running m) (hands m.kept)
-
 -- the running piece of process i, if it has one
 abbrev pub running_of : Moment → ℕ → Option Piece
-running_of m i = find (λ p. nat_eq p.process i) (running_pieces m)
+running_of m i = find (λ p. nat_eq p.process i) m.out
 
 -- piece n is running
 abbrev pub runs : Moment → ℕ → Bool
-runs m n = list_any (λ p. nat_eq p.number n) (running_pieces m)
+runs m n = list_any (λ p. nat_eq p.number n) m.out
 
--- dropped at this kept event, or still out
-abbrev pub dropped_or_out : Option ℕ → PieceState
-dropped_or_out None = Out
-dropped_or_out (Some k) = Dropped k
+-- the number of the kept event
+abbrev pub event_of_lost : Option Lost → Option ℕ
+event_of_lost None = None
+event_of_lost (Some l) = Some l.event
 
--- what became of a piece
-abbrev pub state_of : Moment → Piece → PieceState
-state_of m p = if is_finished m.kept p.number then Over else dropped_or_out (dropped_at m p)
+-- the kept event at which piece n was dropped: that at which its process began to complete while it was out
+abbrev pub dropped_at : Moment → ℕ → Option ℕ
+dropped_at m n = event_of_lost (find (λ l. nat_eq l.piece.number n) m.lost)
 
--- two pieces do the same kind of work
-abbrev pub same_work : Work → Work → Bool
-same_work Forward Forward = true
-same_work Undo Undo = true
-same_work End End = true
-same_work a b = false
+-- dropped at this kept event, or finished
+abbrev pub dropped_or_over : Option ℕ → PieceState
+dropped_or_over None = Over
+dropped_or_over (Some k) = Dropped k
+
+-- what became of piece n, which was handed out: it is out, was dropped, or is over
+abbrev pub state_of : Moment → ℕ → PieceState
+state_of m n = if runs m n then Out else dropped_or_over (dropped_at m n)
 
 -- the refused pieces
 abbrev pub refused_pieces : List Kept → List Piece
 refused_pieces ks = filter (λ p. list_any (is_refusal p.number) ks) (hands ks)
 
+-- the piece is this work on this step of process i
+abbrev pub is_try_of : ℕ → ℕ → Work → Piece → Bool
+is_try_of i step work p = nat_eq p.process i && nat_eq p.step step && same_work p.work work
+
 -- how often this step of process i was refused, doing this work
 abbrev pub refusals : List Kept → ℕ → ℕ → Work → ℕ
-refusals ks i step work =
-    length (filter (λ p. nat_eq p.process i && nat_eq p.step step && same_work p.work work) (refused_pieces ks))
+refusals ks i step work = length (filter (is_try_of i step work) (refused_pieces ks))

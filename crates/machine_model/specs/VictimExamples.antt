@@ -38,7 +38,7 @@ victim_behind_a_wait = start loose_purchase ∷ start loose_sale ∷ admit 1 ∷
 
 pub victim_behind_a_wait_replies : (from_nothing victim_behind_a_wait).replies ≡
     started 1 ∷ started 2 ∷ out 1 1 Forward 0 ∷ done_at 3 ∷ out 2 2 Forward 0 ∷ done_at 4 ∷ out 3 2 Forward 1 ∷ blocked_on 2 0 1 A2
-    ∷ next_is (wait (Some (record { on = 2; other = 0; own = 1; rule = A2 }))) ∷ done_at 5 ∷ turn 4 2 Undo 1 ∷ []
+    ∷ next_is (wait (Some (record { process = 1; block = record { on = 2; other = 0; own = 1; rule = A2 } }))) ∷ done_at 5 ∷ turn 4 2 Undo 1 ∷ []
 victim_behind_a_wait_replies = refl
 
 pub victim_behind_a_wait_kept : (from_nothing victim_behind_a_wait).machine.kept ≡

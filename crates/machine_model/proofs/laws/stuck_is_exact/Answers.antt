@@ -1,0 +1,5 @@
+use Rattle.machine_model.proofs.Stuck.{stuck_is_exact}
+use Rattle.machine_model.proofs.laws.stuck_is_exact.Goals as goal
+
+pub returns : goal.returns
+returns c = stuck_is_exact

@@ -1,0 +1,59 @@
+-- The laws of pieces and of one process alone, as statements.
+use Rattle.std.specs.Prelude.{◌≡◌, ◌↔◌, ◌≤◌, ℕ, Bool, true, not, ◌&&◌, List, length, filter, nat_eq, IsTrue, Option, Some, None, is_some, if◌then◌else◌}
+use Rattle.process_tree.specs.declared.plan.Plan.{Plan}
+use Rattle.schedule_model.specs.Conflict.{ConflictRelation}
+use Rattle.schedule_model.specs.Histories.{is_active}
+use Rattle.machine_model.specs.declared.kept.Kept.{Kept}
+use Rattle.machine_model.specs.declared.kept.Kept.TheVariants.{Start, Hand, Effect, Refuse, Abort, Victim, Restart}
+use Rattle.machine_model.specs.declared.replies.PieceState.TheVariants.{Over}
+use Rattle.machine_model.specs.Progress.{same_task}
+use Rattle.machine_model.specs.ProcessState.{ProcessState, effected, was_refused, begun}
+use Rattle.machine_model.specs.Moment.{Piece, has_begun}
+use Rattle.machine_model.specs.Pieces.{is_finished, piece_of, running_of, state_of}
+use Rattle.machine_model.specs.State.{next_of, process_state}
+use Rattle.machine_model.specs.Advance.{Machine, advance}
+use Rattle.machine_model.specs.Runs.{is_run, may_be_kept, now}
+use Rattle.machine_model.specs.Laws.{IsSession}
+
+-- A piece that was handed out is over exactly where the kept events have its effect or its refusal.
+abbrev pub OverIsFinished : Type 0
+OverIsFinished = (table : ConflictRelation) (s : Machine) (n : ℕ) → IsTrue (is_run table s) → IsTrue (is_some (piece_of s.kept n))
+    → (state_of (now table s) n ≡ Over) ↔ IsTrue (is_finished s.kept n)
+
+-- At most one piece of a process is out.
+abbrev pub OneRuns : Type 0
+OneRuns = (table : ConflictRelation) (s : Machine) (i : ℕ) → IsTrue (is_run table s) → length (filter (λ p. nat_eq p.process i) (now table s).out) ≤ 1
+
+-- The running piece of a process is its next piece.
+abbrev pub RunningIsNext : Type 0
+RunningIsNext = (table : ConflictRelation) (s : Machine) (i : ℕ) (p : Piece) → IsTrue (is_run table s) → running_of (now table s) i ≡ Some p
+    → same_task (next_of s.courses (now table s) i) (record { work = p.work; step = p.step }) ≡ true
+
+-- what a kept event makes of the state of process i where it is of its piece
+abbrev pub state_by_piece : Kept → ℕ → ProcessState → Option Piece → ProcessState
+state_by_piece k i s None = s
+state_by_piece (Effect n) i s (Some p) = if nat_eq p.process i then effected s else s
+state_by_piece (Refuse n) i s (Some p) = if nat_eq p.process i then was_refused s else s
+state_by_piece k i s (Some p) = s
+
+-- the number of the piece that an event ends
+abbrev pub piece_ended : List Kept → Kept → Option Piece
+piece_ended ks (Effect n) = piece_of ks n
+piece_ended ks (Refuse n) = piece_of ks n
+piece_ended ks (Start i) = None
+piece_ended ks (Hand piece process step work) = None
+piece_ended ks (Abort i) = None
+piece_ended ks (Victim i) = None
+piece_ended ks Restart = None
+
+-- it begins to complete, where it has now and had not
+abbrev pub begun_where : Bool → ProcessState → ProcessState
+begun_where has s = if has && not s.progress.begun then begun s else s
+
+-- One counter of refusals is enough: the state of an active process goes by the transitions of one process alone.
+abbrev pub StatesGoByTransitions : Type 0
+StatesGoByTransitions = (table : ConflictRelation) (plans : List Plan) (s : Machine) (k : Kept) → IsSession table plans s
+    → IsTrue (may_be_kept table s.courses (now table s) k) → (i : ℕ) → IsTrue (is_active (now table s).events i)
+    → let after = advance table s.courses (now table s) k in
+    IsTrue (is_active after.events i)
+    → process_state s.courses after i ≡ begun_where (has_begun after i) (state_by_piece k i (process_state s.courses (now table s) i) (piece_ended s.kept k))

@@ -1,0 +1,54 @@
+// The laws of the machine that are proved: each function says one, and does nothing.
+ghost use Rattle.machine_model.specs.Laws.{BlockedWhereSomethingStands, CascadeIsLeast, UndosWaitByA5};
+ghost use Rattle.machine_model.specs.PieceLaws.{OneRuns, OverIsFinished};
+ghost use Rattle.machine_model.specs.CallLaws.{BeginningsOfRunsAreRuns, CallsKeepRuns, StuckIsExact, TurnsMakeRuns, VictimsRunDry};
+
+/// The computed cascade of an active process is the least set.
+pub fn cascade_is_least()
+    ensures { CascadeIsLeast }
+{}
+
+/// A piece is blocked exactly where something stands against it.
+pub fn blocked_where_something_stands()
+    ensures { BlockedWhereSomethingStands }
+{}
+
+/// An undo is blocked by A5 alone.
+pub fn undos_wait_by_a5()
+    ensures { UndosWaitByA5 }
+{}
+
+/// At most one piece of a process is out.
+pub fn one_runs()
+    ensures { OneRuns }
+{}
+
+/// A piece is over exactly where it took effect or was refused.
+pub fn over_is_finished()
+    ensures { OverIsFinished }
+{}
+
+/// Each beginning of a run is a run.
+pub fn beginnings_of_runs_are_runs()
+    ensures { BeginningsOfRunsAreRuns }
+{}
+
+/// What a call other than a start keeps makes a longer run.
+pub fn calls_keep_runs()
+    ensures { CallsKeepRuns }
+{}
+
+/// A request for any piece makes all victims that can be made.
+pub fn victims_run_dry()
+    ensures { VictimsRunDry }
+{}
+
+/// A request for any piece answers that one is stuck exactly where nobody can go on or go back.
+pub fn stuck_is_exact()
+    ensures { StuckIsExact }
+{}
+
+/// The turns of several threads make a run.
+pub fn turns_make_runs()
+    ensures { TurnsMakeRuns }
+{}
