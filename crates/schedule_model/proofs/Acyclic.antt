@@ -1,11 +1,11 @@
 -- The conflict graph of a legal history has no circle.
-use Rattle.std.proofs.Common.{◌≡◌, ◌⊎◌, inl, inr, ⊎_elim, ℕ, Bool, true, false, not, cond, eqb, ◌&&◌, ◌||◌, List, [], ◌∷◌, ◌++◌, filter, sym, refl, ap, ◌∙◌, subst, append-nil}
+use Rattle.std.proofs.Common.{◌≡◌, ◌⊎◌, inl, inr, ⊎_elim, ℕ, Bool, true, false, not, eqb, ◌&&◌, List, [], ◌∷◌, ◌++◌, filter, sym, refl, ap, ◌∙◌, subst, append-nil}
 use Rattle.std.specs.Bool.{IsTrue}
 use Rattle.std.specs.List.{list_any}
 use Rattle.std.proofs.lemmas.Bool.{and_parts, and_from, eqb-true, eq-eqb, false≢true}
 use Rattle.process_tree.specs.declared.entry.Entry.{Entry}
 use Rattle.process_tree.specs.declared.plan.Plan.{Plan}
-use Rattle.process_tree.specs.Recovery.{StepClass, reserved, committing, undoable as undoable_class}
+use Rattle.process_tree.specs.Recovery.{StepClass, reserved, committing, undoable}
 use Rattle.schedule_model.specs.declared.event.Event.{Event}
 use Rattle.schedule_model.specs.declared.event.Event.TheVariants.{Start, Act, End}
 use Rattle.schedule_model.specs.Course.{Course, courses_of}
@@ -13,11 +13,11 @@ use Rattle.schedule_model.specs.Conflict.{ConflictRelation, IsSymmetric, conflic
 use Rattle.schedule_model.specs.Graph.{Walk, one_arrow, and_then}
 use Rattle.schedule_model.specs.Histories.{is_active, is_in, net}
 use Rattle.schedule_model.specs.Recovery.{owed}
-use Rattle.schedule_model.specs.Holdings.{active_net, all_running, arrow, at_rest, behind, holders, reaches, running_steps}
+use Rattle.schedule_model.specs.Holdings.{active_net, arrow, at_rest, behind, holders, reaches, running_steps}
 use Rattle.schedule_model.specs.Legal.{class_in, is_legal, may_come}
 use Rattle.schedule_model.specs.Laws.{AreGood, OpeningsAreAcyclic}
 use Rattle.schedule_model.proofs.Induction.{by_legal}
-use Rattle.schedule_model.proofs.Members.{Among, among-any, any-among, among-filter, in_filter}
+use Rattle.schedule_model.proofs.Members.{Among, among-any, any-among, among-filter}
 use Rattle.schedule_model.proofs.Behind.{among_behind, behind-filter, same_step-process}
 use Rattle.schedule_model.proofs.Conflicts.{conflict-symmetric, conflict-itself}
 use Rattle.schedule_model.proofs.Walks.{walk-from_leads, leads-from_walk}
@@ -241,7 +241,7 @@ module _ (table : ConflictRelation) (symmetric : IsSymmetric table) (plans : Lis
           no-new is_step (λ x there goes. (owed-free table symmetric plans good h legal).from_net a.process a x (act_active table cs h a comes) (subst (Among a) (sym owes) (inl refl)) there goes) none
       circle-by_class is_step committing is none =
           no-new is_step (committing-clear table cs h a is_step is (clear_of table cs h (Act a) comes)).1 none
-      circle-by_class is_step undoable_class is none =
+      circle-by_class is_step undoable is none =
           let closes = (undoable-clear table cs h a is_step is (clear_of table cs h (Act a) comes)).1 in
           none_closed table cs h after a.process
           (λ k. (x : Entry) × Among x (net h) × IsTrue (is_active h x.process) × (x.process ≡ k) × (conflict table x a ≡ true))

@@ -5,13 +5,13 @@ use Rattle.std.proofs.lemmas.Bool.{and_parts, eqb-true, or_left, or_right, false
 use Rattle.std.proofs.lemmas.List.Folds.{list_any-append}
 use Rattle.process_tree.specs.declared.entry.Entry.{Entry}
 use Rattle.process_tree.specs.declared.plan.Plan.{Plan}
-use Rattle.process_tree.specs.Recovery.{StepClass, reserved, committing, undoable as undoable_class}
+use Rattle.process_tree.specs.Recovery.{StepClass, reserved, committing, undoable}
 use Rattle.schedule_model.specs.declared.event.Event.{Event}
 use Rattle.schedule_model.specs.declared.event.Event.TheVariants.{Start, Act, End}
 use Rattle.schedule_model.specs.Course.{Course, courses_of}
 use Rattle.schedule_model.specs.Conflict.{ConflictRelation, IsSymmetric, conflict}
 use Rattle.schedule_model.specs.Histories.{is_active, net, same_step}
-use Rattle.schedule_model.specs.Recovery.{undoable, owed}
+use Rattle.schedule_model.specs.Recovery.{backward_entries, owed}
 use Rattle.schedule_model.specs.Holdings.{behind}
 use Rattle.schedule_model.specs.Legal.{class_in, may_come, is_legal}
 use Rattle.schedule_model.specs.Laws.{AreGood}
@@ -19,7 +19,7 @@ use Rattle.schedule_model.proofs.Induction.{by_legal}
 use Rattle.schedule_model.proofs.Members.{Among}
 use Rattle.schedule_model.proofs.Behind.{has_step, among_behind, same_step-itself}
 use Rattle.schedule_model.proofs.Conflicts.{conflict-symmetric}
-use Rattle.schedule_model.proofs.Snoc.{net-start, net-end, net_of-other, net_of-start, net_of-end, undoable-by_net, is_active-do}
+use Rattle.schedule_model.proofs.Snoc.{net-start, net-end, net_of-other, net_of-start, net_of-end, backward_entries-by_net, is_active-do}
 use Rattle.schedule_model.proofs.Acting.{clear_of, act_active}
 use Rattle.schedule_model.proofs.Undoing.{undoes}
 use Rattle.schedule_model.proofs.Clear.{committing-clear, in_active_net}
@@ -34,7 +34,7 @@ module _ (table : ConflictRelation) (symmetric : IsSymmetric table) (plans : Lis
 
   -- e can't be undone
   abbrev pub IsFixed : List Event → Entry → Type 0
-  IsFixed h e = has_step e (undoable cs h e.process) ≡ false
+  IsFixed h e = has_step e (backward_entries cs h e.process) ≡ false
 
   abbrev pub FixedFree : List Event → Type 0
   FixedFree h = (x e : Entry) → Among x (net h) → IsTrue (is_active h x.process) → Among e (net h) → IsTrue (is_active h e.process) → IsFixed h e
@@ -49,13 +49,13 @@ module _ (table : ConflictRelation) (symmetric : IsSymmetric table) (plans : Lis
         let x_in = subst (Among x) (net-start h k) there in
         let e_in = subst (Among e) (net-start h k) here in
         free x e x_in (active-before_start h k x.process (net-started table cs h legal x x_in) goes) e_in (active-before_start h k e.process (net-started table cs h legal e e_in) acts)
-        (sym (ap (has_step e) (undoable-by_net cs (h ++ Start k ∷ []) h e.process (net_of-start h k e.process))) ∙ fixed)
+        (sym (ap (has_step e) (backward_entries-by_net cs (h ++ Start k ∷ []) h e.process (net_of-start h k e.process))) ∙ fixed)
         (subst (λ es. Among e (behind x es)) (net-start h k) back)
 
     fixed-end : (k : ℕ) → FixedFree (h ++ End k ∷ [])
     fixed-end k x e there goes here acts fixed back =
         free x e (subst (Among x) (net-end h k) there) (active-before_end h k x.process goes) (subst (Among e) (net-end h k) here) (active-before_end h k e.process acts)
-        (sym (ap (has_step e) (undoable-by_net cs (h ++ End k ∷ []) h e.process (net_of-end h k e.process))) ∙ fixed)
+        (sym (ap (has_step e) (backward_entries-by_net cs (h ++ End k ∷ []) h e.process (net_of-end h k e.process))) ∙ fixed)
         (subst (λ es. Among e (behind x es)) (net-end h k) back)
 
     module _ (a : Entry) (may : IsTrue (may_come table cs h (Act a))) where
@@ -67,7 +67,7 @@ module _ (table : ConflictRelation) (symmetric : IsSymmetric table) (plans : Lis
 
       -- what was fixed of another process still is, and the other way round
       fixed-other : (e : Entry) → eqb a.process e.process ≡ false → IsFixed after e → IsFixed h e
-      fixed-other e other fixed = sym (ap (has_step e) (undoable-by_net cs after h e.process (net_of-other h a e.process other))) ∙ fixed
+      fixed-other e other fixed = sym (ap (has_step e) (backward_entries-by_net cs after h e.process (net_of-other h a e.process other))) ∙ fixed
 
       -- An undo.
 
@@ -85,9 +85,9 @@ module _ (table : ConflictRelation) (symmetric : IsSymmetric table) (plans : Lis
       fixed-undone e undo other fixed true own =
           let same = eqb-true a.process e.process own in
           let taken = undoes table cs h a legal undo may in
-          let lost : undoable cs h e.process ≡ undoable cs after e.process ++ taken.last ∷ [] = subst (λ k. undoable cs h k ≡ undoable cs after k ++ taken.last ∷ []) same taken.undoable in
-          ap (has_step e) lost ∙ (list_any-append (same_step e) (undoable cs after e.process) (taken.last ∷ [])
-          ∙ neither (has_step e (undoable cs after e.process)) (same_step e taken.last) fixed (step_of_last taken.last e taken.same other))
+          let lost : backward_entries cs h e.process ≡ backward_entries cs after e.process ++ taken.last ∷ [] = subst (λ k. backward_entries cs h k ≡ backward_entries cs after k ++ taken.last ∷ []) same taken.backward_entries in
+          ap (has_step e) lost ∙ (list_any-append (same_step e) (backward_entries cs after e.process) (taken.last ∷ [])
+          ∙ neither (has_step e (backward_entries cs after e.process)) (same_step e taken.last) fixed (step_of_last taken.last e taken.same other))
 
       fixed-undo : a.undo ≡ true → FixedFree after
       fixed-undo undo x e there goes here acts fixed back =
@@ -125,20 +125,20 @@ module _ (table : ConflictRelation) (symmetric : IsSymmetric table) (plans : Lis
           let owes : owed cs h a.process ≡ a ∷ owed cs after a.process = does.reserved_owes is ∙ ap (λ d. d ∷ owed cs after a.process) (sym (is_doing table symmetric plans good h a is_step may)) in
           fixed-step is_step
           (λ x e there active here own fixed back.
-          free x e there active here (subst (λ k. IsTrue (is_active h k)) own goes) (of_none e (undoable cs h e.process) (subst (λ k. undoable cs h k ≡ []) own (does.reserved_before is))) back)
+          free x e there active here (subst (λ k. IsTrue (is_active h k)) own goes) (of_none e (backward_entries cs h e.process) (subst (λ k. backward_entries cs h k ≡ []) own (does.reserved_before is))) back)
           (λ x there active fixed. flipped a x ((owed-free table symmetric plans good h legal).from_net a.process a x goes (subst (Among a) (sym owes) (inl refl)) there active))
-      fixed-by_class is_step undoable_class is =
+      fixed-by_class is_step undoable is =
           let does = step-facts table symmetric plans good h a is_step may in
           let goes = act_active table cs h a may in
-          let adds : undoable cs after a.process ≡ undoable cs h a.process ++ a ∷ [] =
-          does.undoable_after is ∙ ap (λ d. undoable cs h a.process ++ d ∷ []) (sym (is_doing table symmetric plans good h a is_step may)) in
+          let adds : backward_entries cs after a.process ≡ backward_entries cs h a.process ++ a ∷ [] =
+          does.undoable_after is ∙ ap (λ d. backward_entries cs h a.process ++ d ∷ []) (sym (is_doing table symmetric plans good h a is_step may)) in
           fixed-step is_step
           (λ x e there active here own fixed back.
           free x e there active here (subst (λ k. IsTrue (is_active h k)) own goes)
-          (left_false (has_step e (undoable cs h e.process)) (has_step e (a ∷ []))
-          (sym (list_any-append (same_step e) (undoable cs h e.process) (a ∷ [])) ∙ (sym (ap (has_step e) (subst (λ k. undoable cs after k ≡ undoable cs h k ++ a ∷ []) own adds)) ∙ fixed))) back)
-          (λ x there active fixed. absurd (false≢true (sym fixed ∙ (ap (has_step a) adds ∙ (list_any-append (same_step a) (undoable cs h a.process) (a ∷ [])
-          ∙ or_right (has_step a (undoable cs h a.process)) (has_step a (a ∷ [])) (or_left (same_step a a) false (same_step-itself a)))))))
+          (left_false (has_step e (backward_entries cs h e.process)) (has_step e (a ∷ []))
+          (sym (list_any-append (same_step e) (backward_entries cs h e.process) (a ∷ [])) ∙ (sym (ap (has_step e) (subst (λ k. backward_entries cs after k ≡ backward_entries cs h k ++ a ∷ []) own adds)) ∙ fixed))) back)
+          (λ x there active fixed. absurd (false≢true (sym fixed ∙ (ap (has_step a) adds ∙ (list_any-append (same_step a) (backward_entries cs h a.process) (a ∷ [])
+          ∙ or_right (has_step a (backward_entries cs h a.process)) (has_step a (a ∷ [])) (or_left (same_step a a) false (same_step-itself a)))))))
         where
           left_false : (p q : Bool) → (p || q) ≡ false → p ≡ false
           left_false true q is = is

@@ -4,7 +4,7 @@ use Rattle.std.specs.Bool.{IsTrue}
 use Rattle.std.proofs.lemmas.Bool.{eqb-true}
 use Rattle.process_tree.specs.declared.entry.Entry.{Entry}
 use Rattle.process_tree.specs.declared.plan.Plan.{Plan}
-use Rattle.process_tree.specs.Recovery.{StepClass, reserved, committing, undoable as undoable_class}
+use Rattle.process_tree.specs.Recovery.{StepClass, reserved, committing, undoable}
 use Rattle.schedule_model.specs.declared.event.Event.{Event}
 use Rattle.schedule_model.specs.declared.event.Event.TheVariants.{Start, Act, End}
 use Rattle.schedule_model.specs.Course.{Course, courses_of}
@@ -143,7 +143,7 @@ module _ (table : ConflictRelation) (symmetric : IsSymmetric table) (plans : Lis
           let before = subst (Among s) (sym owes) (inr has) in
           (λ x there active. free.from_net e.process s x goes before there active, λ k r active owed. free.from_owed e.process k s r goes active before owed))
           (λ k s other active has. free.from_owed e.process k e s goes active (subst (Among e) (sym owes) (inl refl)) has)
-      by_class is_step free undoable_class is =
+      by_class is_step free undoable is =
           let does = step-facts h e is_step may in
           let goes = act_active table cs h e may in
           let apart = (undoable-clear table cs h e is_step is (clear_of table cs h (Act e) may)).0 in

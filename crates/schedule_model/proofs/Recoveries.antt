@@ -9,7 +9,7 @@ use Rattle.schedule_model.specs.declared.event.Event.{Event}
 use Rattle.schedule_model.specs.declared.event.Event.TheVariants.{Act}
 use Rattle.schedule_model.specs.Course.{Course, shape}
 use Rattle.schedule_model.specs.Histories.{doing, net, net_of, net_steps, same_step, steps_of, of_process}
-use Rattle.schedule_model.specs.Recovery.{undoable, owed, owed_after}
+use Rattle.schedule_model.specs.Recovery.{backward_entries, owed, owed_after}
 use Rattle.schedule_model.proofs.Snoc.{net_of-do, net-undo, filter_twice, filter_same}
 
 fixed_step : (t : Shape) (b : ℕ) (n i j last : ℕ) (c : Bool) → i + 1 + n ≡ j → cond c (i + 1 + n + 1) last ≡ cond c (j + 1) last
@@ -56,7 +56,7 @@ pub owed-do : (courses : List Course) (h : List Event) (e : Entry) → e.undo �
 owed-do courses h e is_step = ap (λ w. map (doing courses e.process) (forward (shape courses e.process) w)) (net_steps-do h e is_step)
 
 undoable_at : (courses : List Course) (h : List Event) (e : Entry) → e.undo ≡ false
-    → undoable courses (h ++ Act e ∷ []) e.process
+    → backward_entries courses (h ++ Act e ∷ []) e.process
     ≡ drop (cond (commits (kind_of (shape courses e.process) e.step)) (length (net_steps h e.process) + 1) (fixed_len (shape courses e.process) (net_steps h e.process))) (net_of h e.process ++ e ∷ [])
 undoable_at courses h e is_step =
     ap (λ es. drop (fixed_len (shape courses e.process) (steps_of es)) es) (net_of-do h e is_step)
@@ -65,17 +65,17 @@ undoable_at courses h e is_step =
     ∙ fixed_len-push (shape courses e.process) (net_steps h e.process) e.step)
 
 -- after a commit point nothing can be undone any more
-pub undoable-commit : (courses : List Course) (h : List Event) (e : Entry) → e.undo ≡ false → commits (kind_of (shape courses e.process) e.step) ≡ true
-    → undoable courses (h ++ Act e ∷ []) e.process ≡ []
-undoable-commit courses h e is_step is =
+pub backward_entries-commit : (courses : List Course) (h : List Event) (e : Entry) → e.undo ≡ false → commits (kind_of (shape courses e.process) e.step) ≡ true
+    → backward_entries courses (h ++ Act e ∷ []) e.process ≡ []
+backward_entries-commit courses h e is_step is =
     undoable_at courses h e is_step
     ∙ (ap (λ c. drop (cond c (length (net_steps h e.process) + 1) (fixed_len (shape courses e.process) (net_steps h e.process))) (net_of h e.process ++ e ∷ [])) is
     ∙ drop_of_length-le (net_of h e.process ++ e ∷ []) (omega (arith, length-append (net_of h e.process) (e ∷ []), steps_count (net_of h e.process))))
 
 -- another step can be undone too
-pub undoable-do : (courses : List Course) (h : List Event) (e : Entry) → e.undo ≡ false → commits (kind_of (shape courses e.process) e.step) ≡ false
-    → undoable courses (h ++ Act e ∷ []) e.process ≡ undoable courses h e.process ++ e ∷ []
-undoable-do courses h e is_step is =
+pub backward_entries-do : (courses : List Course) (h : List Event) (e : Entry) → e.undo ≡ false → commits (kind_of (shape courses e.process) e.step) ≡ false
+    → backward_entries courses (h ++ Act e ∷ []) e.process ≡ backward_entries courses h e.process ++ e ∷ []
+backward_entries-do courses h e is_step is =
     undoable_at courses h e is_step
     ∙ (ap (λ c. drop (cond c (length (net_steps h e.process) + 1) (fixed_len (shape courses e.process) (net_steps h e.process))) (net_of h e.process ++ e ∷ [])) is
     ∙ drop-append-le (fixed_len (shape courses e.process) (net_steps h e.process)) (net_of h e.process) (e ∷ [])

@@ -7,7 +7,7 @@ use Rattle.schedule_model.specs.declared.event.Event.{Event}
 use Rattle.schedule_model.specs.declared.event.Event.TheVariants.{Start, Act, End}
 use Rattle.schedule_model.specs.Course.{Course, shape}
 use Rattle.schedule_model.specs.Histories.{starts, ends, net, net_of, is_in, is_active, active, done_steps, same_step, of_process, steps_of, doing}
-use Rattle.schedule_model.specs.Recovery.{undoable, owed}
+use Rattle.schedule_model.specs.Recovery.{backward_entries, owed}
 use Rattle.process_tree.specs.Shape.{fixed_len}
 use Rattle.process_tree.specs.Recovery.{forward}
 use Rattle.schedule_model.proofs.Legal.{both-left}
@@ -107,8 +107,8 @@ net_of-end h k i = ap (of_process i) (net-end h k)
 
 -- Recovery speaks of the net of its process alone.
 
-pub undoable-by_net : (courses : List Course) (g h : List Event) (i : ℕ) → net_of g i ≡ net_of h i → undoable courses g i ≡ undoable courses h i
-undoable-by_net courses g h i same = ap (λ es. drop (fixed_len (shape courses i) (steps_of es)) es) same
+pub backward_entries-by_net : (courses : List Course) (g h : List Event) (i : ℕ) → net_of g i ≡ net_of h i → backward_entries courses g i ≡ backward_entries courses h i
+backward_entries-by_net courses g h i same = ap (λ es. drop (fixed_len (shape courses i) (steps_of es)) es) same
 
 pub owed-by_net : (courses : List Course) (g h : List Event) (i : ℕ) → net_of g i ≡ net_of h i → owed courses g i ≡ owed courses h i
 owed-by_net courses g h i same = ap (λ es. map (doing courses i) (forward (shape courses i) (steps_of es))) same

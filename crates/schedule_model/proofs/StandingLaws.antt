@@ -8,8 +8,8 @@ use Rattle.schedule_model.specs.declared.event.Event.{Event}
 use Rattle.schedule_model.specs.Course.{Course, courses_of, op_of}
 use Rattle.schedule_model.specs.Conflict.{ConflictRelation, IsSymmetric, conflict}
 use Rattle.schedule_model.specs.Histories.{active, after_number, doing, ends, is_active, is_in, net, net_of, outlives, same_step, starts, undoing}
-use Rattle.schedule_model.specs.Recovery.{owed, undoable}
-use Rattle.schedule_model.specs.Completion.{all_undoable, completion, completed, is_to_undo}
+use Rattle.schedule_model.specs.Recovery.{owed, backward_entries}
+use Rattle.schedule_model.specs.Completion.{all_backward_entries, completion, completed, is_to_undo}
 use Rattle.schedule_model.specs.Holdings.{at_rest, behind, holders, of_active}
 use Rattle.schedule_model.specs.Blocking.{against_undo}
 use Rattle.schedule_model.specs.OwnOrder.{keeps_order}
@@ -62,7 +62,7 @@ module _ (table : ConflictRelation) (plans : List Plan) (h : List Event) (symmet
         let one = among_net_of h k x (among-from_contains x (net_of h k) x_in) in
         let two = among_net_of h i e (among-from_contains e (net_of h i) e_in) in
         fixed_facts x e one.0 (ap (is_active h) one.1 ∙ other) two.0 (ap (is_active h) two.1 ∙ goes)
-        (ap (λ j. has_step e (undoable cs h j)) two.1 ∙ not-true (has_step e (undoable cs h i)) fixed)
+        (ap (λ j. has_step e (backward_entries cs h j)) two.1 ∙ not-true (has_step e (backward_entries cs h i)) fixed)
         (among-from_contains e (behind x (net h)) back);
     ended_is_free = λ i k x e ended lives x_in e_in back.
         let one = among_net_of h k x (among-from_contains x (net_of h k) x_in) in
@@ -89,15 +89,15 @@ module _ (table : ConflictRelation) (plans : List Plan) (h : List Event) (symmet
   to_undo-same : (x f : Entry) → is_to_undo cs h x ≡ true → same_step x f ≡ true → is_to_undo cs h f ≡ true
   to_undo-same x f is same =
       let own = same_step-process x f same in
-      let parts = and_parts (is_active h x.process) (has_step x (undoable cs h x.process)) is in
-      and_from (is_active h f.process) (has_step f (undoable cs h f.process)) (ap (is_active h) (sym own) ∙ parts.0)
-      (same_any (undoable cs h f.process) ∙ (ap (λ k. has_step x (undoable cs h k)) (sym own) ∙ parts.1))
+      let parts = and_parts (is_active h x.process) (has_step x (backward_entries cs h x.process)) is in
+      and_from (is_active h f.process) (has_step f (backward_entries cs h f.process)) (ap (is_active h) (sym own) ∙ parts.0)
+      (same_any (backward_entries cs h f.process) ∙ (ap (λ k. has_step x (backward_entries cs h k)) (sym own) ∙ parts.1))
     where
       same_any : (es : List Entry) → has_step f es ≡ has_step x es
       same_any [] = refl
       same_any (e ∷ es) = ap (λ t. t || has_step f es) (sym (same_step-through x f e same)) ∙ ap (λ t. same_step x e || t) (same_any es)
 
-  module _ (front : List Entry) (x : Entry) (last : all_undoable cs h ≡ front ++ x ∷ []) where
+  module _ (front : List Entry) (x : Entry) (last : all_backward_entries cs h ≡ front ++ x ∷ []) where
     last_among : (es : List Entry) → Among x (es ++ x ∷ [])
     last_among [] = inl refl
     last_among (e ∷ es) = inr (last_among es)
@@ -106,10 +106,10 @@ module _ (table : ConflictRelation) (plans : List Plan) (h : List Event) (symmet
     x_there = among-filter (is_to_undo cs h) x (net h) (subst (Among x) (sym last) (last_among front))
 
     x_active : IsTrue (is_active h x.process)
-    x_active = (and_parts (is_active h x.process) (has_step x (undoable cs h x.process)) x_there.1).0
+    x_active = (and_parts (is_active h x.process) (has_step x (backward_entries cs h x.process)) x_there.1).0
 
     -- nothing that is to be undone stands behind the last
-    nothing_behind : behind x (all_undoable cs h) ≡ []
+    nothing_behind : behind x (all_backward_entries cs h) ≡ []
     nothing_behind =
         let apart = subst Apart last (Apart-filter (is_to_undo cs h) (net h) (net-apart table cs h legal)) in
         let none : has_step x front ≡ false = not_any (same_step x) front (λ e is. same_step-both e (all-among (λ f. not (same_step f x)) front (Apart-last front x apart) e is)) in
@@ -121,27 +121,27 @@ module _ (table : ConflictRelation) (plans : List Plan) (h : List Event) (symmet
     undo_apart : LaterApart table cs h (undoing x)
     undo_apart y back = by_process (ended_or_active y (among_behind x y (net h) back))
       where
-        by_fixed : IsTrue (is_active h y.process) → (t : Bool) → has_step y (undoable cs h y.process) ≡ t → conflict table x y ≡ false
+        by_fixed : IsTrue (is_active h y.process) → (t : Bool) → has_step y (backward_entries cs h y.process) ≡ t → conflict table x y ≡ false
         by_fixed goes true loose =
-            let listed = in_filter (is_to_undo cs h) y (behind x (net h)) back (and_from (is_active h y.process) (has_step y (undoable cs h y.process)) goes loose) in
+            let listed = in_filter (is_to_undo cs h) y (behind x (net h)) back (and_from (is_active h y.process) (has_step y (backward_entries cs h y.process)) goes loose) in
             absurd (subst (Among y) (sym (behind-filter (is_to_undo cs h) x (net h) (λ f same. to_undo-same x f x_there.1 same)) ∙ nothing_behind) listed)
         by_fixed goes false fixed = fixed_facts x y x_there.0 x_active (among_behind x y (net h) back) goes fixed back
 
         by_process : IsTrue (is_in y.process (ends h)) ⊎ IsTrue (is_active h y.process) → conflict table x y ≡ false
         by_process (inl ended) = ended_facts x y ended (outlives-active x.process y.process x_active) x_there.0 back
-        by_process (inr goes) = by_fixed goes (has_step y (undoable cs h y.process)) refl
+        by_process (inr goes) = by_fixed goes (has_step y (backward_entries cs h y.process)) refl
 
   reserved_apart : (i b : ℕ) → IsTrue (is_active h i) → Among (doing cs i b) (owed cs h i) → OwedApart table cs h (doing cs i b)
   reserved_apart i b goes owes k s active owed' = owed_facts.from_owed i k (doing cs i b) s goes active owes owed'
 
-  end_apart : (i : ℕ) → IsTrue (is_active h i) → undoable cs h i ≡ [] → EntriesApart table cs h i
+  end_apart : (i : ℕ) → IsTrue (is_active h i) → backward_entries cs h i ≡ [] → EntriesApart table cs h i
   end_apart i goes none x y front back own =
       let there = among_active_net cs h x front in
       let p : Entry → Bool = λ (f : Entry). is_in f.process (holders (at_rest cs h)) in
       let back_in = (among-filter p y (behind x (net h))
       (subst (Among y) (behind-filter p x (net h) (λ f same. is_holder cs h f.process ∙ (ap (is_active h) (sym (same_step-process x f same)) ∙ there.1))) back)).0 in
       conflict-symmetric table symmetric y x
-      ∙ fixed_facts x y there.0 there.1 (among_behind x y (net h) back_in) (ap (is_active h) own ∙ goes) (ap (λ k. has_step y (undoable cs h k)) own ∙ ap (has_step y) none) back_in
+      ∙ fixed_facts x y there.0 there.1 (among_behind x y (net h) back_in) (ap (is_active h) own ∙ goes) (ap (λ k. has_step y (backward_entries cs h k)) own ∙ ap (has_step y) none) back_in
 
   -- the first event of a completion may come
   first_clear : (f : First cs h) → IsTrue (is_clear table cs h f.event)

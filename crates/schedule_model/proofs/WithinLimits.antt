@@ -20,7 +20,7 @@ use Rattle.schedule_model.proofs.Prefixes.{SameOfStarted, courses_in}
 use Rattle.schedule_model.specs.EachEvent.{each_passes}
 use Rattle.schedule_model.specs.Histories.{acts, starts, ends, active, is_active, is_in, of_process, net_of, net_steps, done_steps, undoing}
 use Rattle.schedule_model.specs.Recovery.{owed}
-use Rattle.schedule_model.specs.Completion.{all_undoable, closing, completion}
+use Rattle.schedule_model.specs.Completion.{all_backward_entries, closing, completion}
 use Rattle.schedule_model.specs.OwnOrder.{goes_on, is_in_own_order}
 use Rattle.schedule_model.specs.Limits.{Limits, need, starts_within, keeps_limits, stands_within, still_needed, entries}
 use Rattle.schedule_model.specs.Legal.{may_come, is_legal}
@@ -98,8 +98,8 @@ starts_of_closings courses h (i ∷ is) =
 -- nobody starts in a completion
 pub starts-completion : (courses : List Course) (h : List Event) → starts (completion courses h) ≡ []
 starts-completion courses h =
-    starts-append (map (λ e. Act (undoing e)) (reverse (all_undoable courses h))) (flat_map (closing courses h) (active h))
-    ∙ (ap (λ js. js ++ starts (flat_map (closing courses h) (active h))) (starts_of_undos (reverse (all_undoable courses h)))
+    starts-append (map (λ e. Act (undoing e)) (reverse (all_backward_entries courses h))) (flat_map (closing courses h) (active h))
+    ∙ (ap (λ js. js ++ starts (flat_map (closing courses h) (active h))) (starts_of_undos (reverse (all_backward_entries courses h)))
     ∙ starts_of_closings courses h (active h))
 
 nobody_starts : (i : ℕ) (is : List ℕ) → i ∷ is ≡ [] → ⊥
