@@ -1,9 +1,10 @@
 -- The cancel phase leads from the schedule of a reducible history to its net.
 use Rattle.std.proofs.Common.{◌≡◌, ◌⊎◌, inl, inr, ℕ, zero, suc, ◌+◌, ◌-◌, ◌≤◌, Bool, true, false, not, cond, eqb, ◌&&◌, ◌||◌, List, [], ◌∷◌, ◌++◌, length, filter, Option, Some, sym, refl, ap, ◌∙◌, subst, arith, append-nil, append_assoc, length-append}
+use Rattle.std.proofs.Math.Bool.{and-false}
 use Rattle.std.specs.Bool.{IsTrue}
 use Rattle.std.specs.Prelude.{unwrap_or}
 use Rattle.std.specs.List.{list_any}
-use Rattle.std.proofs.lemmas.Bool.{and_parts, and_from, eqb-true, eq-eqb, false≢true}
+use Rattle.std.proofs.lemmas.Bool.{and_parts, and_from, eqb-true, eq-eqb, false≢true, or_parts}
 use Rattle.std.proofs.lemmas.List.Elements.{All-contains, filter-append}
 use Rattle.process_tree.specs.declared.entry.Entry.{Entry}
 use Rattle.schedule_model.specs.declared.event.Event.{Event}
@@ -90,13 +91,9 @@ module _ (table : ConflictRelation) where
         ∙ ap (λ o. unwrap_or o 0)
         (ap (first_place (λ e. not e.undo && list_any (λ f. takes_back f e) (u ∷ []))) right_nested
         ∙ first_place-at (λ e. not e.undo && list_any (λ f. takes_back f e) (u ∷ [])) front x (bs ++ u ∷ rest)
-        (λ e is. ap (λ t. not e.undo && t) (either_false (takes_back u e) (others e is)) ∙ and_false (not e.undo))
+        (λ e is. ap (λ t. not e.undo && t) (either_false (takes_back u e) (others e is)) ∙ and-false (not e.undo))
         (and_from (not x.undo) (takes_back u x || false) (ap not (steps_only x (x_among front))) (ap (λ t. t || false) taken)))
       where
-        and_false : (a : Bool) → (a && false) ≡ false
-        and_false true = refl
-        and_false false = refl
-
         x_among : (es : List Entry) → Among x (es ++ x ∷ bs)
         x_among [] = inl refl
         x_among (e ∷ es) = inr (x_among es)
@@ -246,14 +243,10 @@ module _ (table : ConflictRelation) where
       kept : (es : List Entry) → has_step does.last es ≡ false → filter (λ f. not (same_step f u)) es ≡ es
       kept [] none = refl
       kept (e ∷ es) none =
-          let parts = neither (same_step does.last e) (has_step does.last es) none in
+          let parts = or_parts (same_step does.last e) (has_step does.last es) none in
           ap (λ t. cond t (e ∷ filter (λ f. not (same_step f u)) es) (filter (λ f. not (same_step f u)) es))
           (ap not (same_step-symmetric e u ∙ (same_step-through u does.last e (same_step-symmetric u does.last ∙ does.same) ∙ parts.0)))
           ∙ ap (λ fs. e ∷ fs) (kept es parts.1)
-        where
-          neither : (a b : Bool) → (a || b) ≡ false → (a ≡ false) × (b ≡ false)
-          neither true b is = absurd (false≢true (sym is))
-          neither false b is = (refl, is)
 
       left : net (h ++ Act u ∷ []) ≡ split.before ++ split.after
       left =

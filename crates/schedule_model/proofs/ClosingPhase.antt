@@ -1,5 +1,6 @@
 -- Completion after an owed step, and after an end, is the rest of it.
 use Rattle.std.proofs.Common.{◌≡◌, ℕ, Bool, true, false, not, cond, eqb, ◌&&◌, List, [], ◌∷◌, ◌++◌, map, filter, reverse, length, sym, refl, ap, ◌∙◌, subst, arith}
+use Rattle.std.proofs.Math.Bool.{and-false}
 use Rattle.std.specs.Bool.{IsTrue}
 use Rattle.std.specs.List.{list_any, list_all, flat_map}
 use Rattle.std.proofs.lemmas.Bool.{eq-eqb, eqb-true, and_parts, false≢true, not-true, ne_eqb, eqb-false}
@@ -15,10 +16,6 @@ use Rattle.schedule_model.specs.Completion.{is_to_undo, all_backward_entries, cl
 use Rattle.schedule_model.proofs.Snoc.{net-do, net-end, net_of-other, net_of-end, backward_entries-by_net, owed-by_net, is_active-do, active-do, active-end}
 use Rattle.schedule_model.proofs.Active.{is_active-is_in, is_in-filter}
 use Rattle.schedule_model.proofs.Recoveries.{backward_entries-commit, owed-do}
-
-and_false : (a : Bool) → (a && false) ≡ false
-and_false true = refl
-and_false false = refl
 
 -- a filter that lets nothing of a list through: each of it fails
 each_fails_step : {X : Type 0} (p : X → Bool) (x : X) (ys : List X) (t : Bool) → p x ≡ t → cond t (x ∷ ys) ys ≡ [] → (p x ≡ false) × (ys ≡ [])
@@ -44,14 +41,14 @@ module _ (courses : List Course) (h : List Event) (i : ℕ) (others : List ℕ) 
     other_fails e true own fails =
         let same = eqb-true i e.process own in
         ap (λ us. is_active then_done e.process && list_any (same_step e) us) (subst (λ k. backward_entries courses then_done k ≡ []) same (backward_entries-commit courses h (doing courses i b) refl point))
-        ∙ and_false (is_active then_done e.process)
+        ∙ and-false (is_active then_done e.process)
     other_fails e false own fails =
         ap (λ a. a && list_any (same_step e) (backward_entries courses then_done e.process)) (is_active-do h (doing courses i b) e.process)
         ∙ (ap (λ us. is_active h e.process && list_any (same_step e) us) (backward_entries-by_net courses then_done h e.process (net_of-other h (doing courses i b) e.process own))
         ∙ fails)
 
     own_fails : is_to_undo courses then_done (doing courses i b) ≡ false
-    own_fails = ap (λ us. is_active then_done i && list_any (same_step (doing courses i b)) us) (backward_entries-commit courses h (doing courses i b) refl point) ∙ and_false (is_active then_done i)
+    own_fails = ap (λ us. is_active then_done i && list_any (same_step (doing courses i b)) us) (backward_entries-commit courses h (doing courses i b) refl point) ∙ and-false (is_active then_done i)
 
     -- nothing is to be undone after the step
     undone_after : all_backward_entries courses then_done ≡ []

@@ -1,6 +1,7 @@
 -- A completed history is in own order, nobody is active in it, and each process is at an end; cut off on the way, it is
 -- completed to the same.
 use Rattle.std.proofs.Common.{◌≡◌, ◌⊎◌, inl, inr, ⊎_elim, ℕ, zero, suc, Bool, true, false, not, eqb, ◌&&◌, List, [], ◌∷◌, ◌++◌, length, sym, refl, ap, ◌∙◌, subst, arith, append-nil, append_assoc}
+use Rattle.std.proofs.Math.Bool.{and-false}
 use Rattle.std.specs.Bool.{IsTrue}
 use Rattle.std.proofs.lemmas.Bool.{and_from, or_cases, eqb-true, false≢true}
 use Rattle.process_tree.specs.declared.entry.Entry.{Entry}
@@ -37,11 +38,7 @@ module _ (courses : List Course) where
 
   -- one that ended isn't active
   pub ended-inactive : (h : List Event) (i : ℕ) → IsTrue (is_in i (ends h)) → is_active h i ≡ false
-  ended-inactive h i is = ap (λ t. is_in i (starts h) && not t) is ∙ and_false (is_in i (starts h))
-    where
-      and_false : (a : Bool) → (a && false) ≡ false
-      and_false true = refl
-      and_false false = refl
+  ended-inactive h i is = ap (λ t. is_in i (starts h) && not t) is ∙ and-false (is_in i (starts h))
 
   -- so an entry that may come is of another
   pub ended-other : (table : ConflictRelation) (h : List Event) (e : Entry) (i : ℕ) → IsTrue (may_come table courses h (Act e)) → IsTrue (is_in i (ends h)) → eqb e.process i ≡ false

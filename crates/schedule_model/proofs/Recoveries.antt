@@ -1,5 +1,6 @@
 -- Recovery of a process that goes on or back by one step.
 use Rattle.std.proofs.Common.{◌≡◌, ℕ, ◌+◌, ◌≤◌, Bool, true, false, not, cond, eqb, ◌&&◌, List, [], ◌∷◌, ◌++◌, length, map, filter, drop, sym, refl, ap, ◌∙◌, arith}
+use Rattle.std.proofs.Math.Bool.{and_comm}
 use Rattle.std.proofs.lemmas.List.{drop-append-le, length-append, map-append}
 use Rattle.std.proofs.Math.ListN.{drop_of_length-le}
 use Rattle.process_tree.specs.declared.entry.Entry.{Entry}
@@ -83,16 +84,10 @@ backward_entries-do courses h e is_step is =
 
 -- The net of a process after an undo of its own.
 
-both_ways : (a b : Bool) → (a && b) ≡ (b && a)
-both_ways true true = refl
-both_ways true false = refl
-both_ways false true = refl
-both_ways false false = refl
-
 -- the undo takes the entries of its step away
 pub net_of-undo : (h : List Event) (e : Entry) (i : ℕ) → e.undo ≡ true → net_of (h ++ Act e ∷ []) i ≡ filter (λ f. not (same_step f e)) (net_of h i)
 net_of-undo h e i undo =
     ap (of_process i) (net-undo h e undo)
     ∙ (filter_twice (λ f. not (same_step f e)) (λ f. eqb f.process i) (net h)
-    ∙ (filter_same (λ f. not (same_step f e) && eqb f.process i) (λ f. eqb f.process i && not (same_step f e)) (net h) (λ f. both_ways (not (same_step f e)) (eqb f.process i))
+    ∙ (filter_same (λ f. not (same_step f e) && eqb f.process i) (λ f. eqb f.process i && not (same_step f e)) (net h) (λ f. and_comm (not (same_step f e)) (eqb f.process i))
     ∙ sym (filter_twice (λ f. eqb f.process i) (λ f. not (same_step f e)) (net h))))

@@ -1,9 +1,10 @@
 -- The reduction law: the printed trace of a reducible history in which nobody is active leads to a serial list.
 use Rattle.std.proofs.Common.{◌≡◌, ◌⊎◌, inl, inr, ℕ, ◌+◌, Bool, true, false, not, cond, eqb, ◌&&◌, ◌||◌, List, [], ◌∷◌, ◌++◌, length, Option, Some, None, sym, refl, ap, ◌∙◌, subst, append-nil, append_assoc}
+use Rattle.std.proofs.Math.Bool.{and-false}
 use Rattle.std.specs.Prelude.{is_none}
 use Rattle.std.specs.Bool.{IsTrue}
 use Rattle.std.specs.List.{list_any, list_all}
-use Rattle.std.proofs.lemmas.Bool.{and_parts, or_right, not-true, eqb-true, eq-eqb, eqb-false, ne_eqb, false≢true}
+use Rattle.std.proofs.lemmas.Bool.{and_parts, or_right, not-true, eqb-true, eq-eqb, eqb-false, ne_eqb, false≢true, or_parts}
 use Rattle.process_tree.specs.declared.entry.Entry.{Entry}
 use Rattle.schedule_model.specs.declared.event.Event.{Event}
 use Rattle.schedule_model.specs.declared.event.Event.TheVariants.{Start, Act, End}
@@ -38,13 +39,9 @@ use Rattle.schedule_model.proofs.StandingLaws.{completed-legal}
 distinct-push : (is : List ℕ) (k : ℕ) → Distinct is → is_in k is ≡ false → Distinct (is ++ k ∷ [])
 distinct-push [] k distinct out = (refl, tt)
 distinct-push (i ∷ is) k distinct out =
-    let parts = neither (eqb k i) (is_in k is) out in
+    let parts = or_parts (eqb k i) (is_in k is) out in
     (is_in-append i is (k ∷ []) ∙ (ap (λ t. t || (eqb i k || false)) distinct.0 ∙ ap (λ t. t || false) (flip i k parts.0)), distinct-push is k distinct.1 parts.1)
   where
-    neither : (a b : Bool) → (a || b) ≡ false → (a ≡ false) × (b ≡ false)
-    neither true b is = absurd (false≢true (sym is))
-    neither false b is = (refl, is)
-
     flip : (a b : ℕ) → eqb b a ≡ false → eqb a b ≡ false
     flip a b is = ne_eqb a b (λ same. eqb-false b a is (sym same))
 
@@ -112,11 +109,7 @@ module _ (table : ConflictRelation) (symmetric : IsSymmetric table) (courses : L
       ∙ ap (λ t. not t && list_any (λ y. eqb y.process e.process) xs) (eq-eqb x.process e.process (ap (λ (f : Entry). f.process) same ∙ (last.3 ∙ sym own)))
   in_place i (x ∷ xs) e own is_step (inr other) =
       ap (λ u. u || (not (eqb x.process e.process) && list_any (λ y. eqb y.process e.process) xs)) is_step
-      ∙ (ap (λ t. not (eqb x.process e.process) && t) (not_any (λ y. eqb y.process e.process) xs (λ y is. ap (eqb y.process) own ∙ other y (inr is))) ∙ and_false (not (eqb x.process e.process)))
-    where
-      and_false : (a : Bool) → (a && false) ≡ false
-      and_false true = refl
-      and_false false = refl
+      ∙ (ap (λ t. not (eqb x.process e.process) && t) (not_any (λ y. eqb y.process e.process) xs (λ y is. ap (eqb y.process) own ∙ other y (inr is))) ∙ and-false (not (eqb x.process e.process)))
 
   -- what a block of one process leaves to look at
   record Passes (n : ℕ) (order : List ℕ) (before rest : List Entry) (from : Option ℕ) : Type 0 where
@@ -148,12 +141,8 @@ module _ (table : ConflictRelation) (symmetric : IsSymmetric table) (courses : L
   blocks (i ∷ order) distinct es steps n before away =
       let passed = block i order distinct.0 (of_process i es)
       (λ b is. let found = among-filter (λ (f : Entry). eqb f.process i) b es is in (eqb-true b.process i found.1, steps b found.0))
-      n before (in_order order es) (inr (λ e is. (neither (eqb e.process i) (is_in e.process order) (away e is)).0)) (λ e is. (neither (eqb e.process i) (is_in e.process order) (away e is)).1) in
+      n before (in_order order es) (inr (λ e is. (or_parts (eqb e.process i) (is_in e.process order) (away e is)).0)) (λ e is. (or_parts (eqb e.process i) (is_in e.process order) (away e is)).1) in
       passed.is ∙ blocks order distinct.1 es steps passed.at passed.seen passed.away
-    where
-      neither : (a b : Bool) → (a || b) ≡ false → (a ≡ false) × (b ≡ false)
-      neither true b is = absurd (false≢true (sym is))
-      neither false b is = (refl, is)
 
   pub reduces : Reduces table h
   reduces =

@@ -3,7 +3,7 @@ use Rattle.std.proofs.Common.{◌≡◌, ◌⊎◌, inl, inr, ⊎_elim, ℕ, zer
 use Rattle.std.specs.Bool.{IsTrue}
 use Rattle.std.specs.Prelude.{unwrap_or}
 use Rattle.std.specs.List.{flat_map}
-use Rattle.std.proofs.lemmas.Bool.{and_from, or_cases, eqb-true, eq-eqb, false≢true}
+use Rattle.std.proofs.lemmas.Bool.{and_from, or_cases, eqb-true, eq-eqb, false≢true, or_parts}
 use Rattle.process_tree.specs.declared.entry.Entry.{Entry}
 use Rattle.schedule_model.specs.Conflict.{ConflictRelation, conflict}
 use Rattle.schedule_model.specs.Histories.{after_number, is_in, of_process}
@@ -81,13 +81,9 @@ of_process-other j front x rest other =
 in_order-other : (order : List ℕ) (front : List Entry) (x : Entry) (rest : List Entry) → is_in x.process order ≡ false → in_order order (front ++ x ∷ rest) ≡ in_order order (front ++ rest)
 in_order-other [] front x rest out = refl
 in_order-other (j ∷ order) front x rest out =
-    let parts = neither (eqb x.process j) (is_in x.process order) out in
+    let parts = or_parts (eqb x.process j) (is_in x.process order) out in
     ap (λ es. es ++ in_order order (front ++ x ∷ rest)) (of_process-other j front x rest parts.0)
     ∙ ap (λ es. of_process j (front ++ rest) ++ es) (in_order-other order front x rest parts.1)
-  where
-    neither : (a b : Bool) → (a || b) ≡ false → (a ≡ false) × (b ≡ false)
-    neither true b is = absurd (false≢true (sym is))
-    neither false b is = (refl, is)
 
 -- its first entry, and then the rest
 in_order-first : (i : ℕ) (order : List ℕ) (front : List Entry) (x : Entry) (rest : List Entry) → x.process ≡ i → NoneOf i front → is_in i order ≡ false

@@ -1,5 +1,6 @@
 -- What each definition is of a history with one event more.
 use Rattle.std.proofs.Common.{◌≡◌, ℕ, Bool, true, false, not, cond, eqb, ◌||◌, ◌&&◌, List, [], ◌∷◌, ◌++◌, map, filter, drop, sym, refl, ap, ◌∙◌, append-nil, rules}
+use Rattle.std.proofs.Math.Bool.{or-false}
 use Rattle.std.proofs.lemmas.Bool.{eq-eqb, eqb-true}
 use Rattle.std.proofs.lemmas.List.Elements.{filter-append}
 use Rattle.process_tree.specs.declared.entry.Entry.{Entry}
@@ -23,10 +24,6 @@ pub filter_same : {X : Type 0} (p q : X → Bool) (xs : List X) → ((x : X) →
 filter_same p q [] same = refl
 filter_same p q (x ∷ xs) same = rw (same x) (ap (λ ys. cond (q x) (x ∷ ys) ys) (filter_same p q xs same))
 
-or_false : (b : Bool) → (b || false) ≡ b
-or_false true = refl
-or_false false = refl
-
 -- Net.
 
 pub net-start : (h : List Event) (i : ℕ) → net (h ++ Start i ∷ []) ≡ net h
@@ -43,7 +40,7 @@ pub net-do : (h : List Event) (e : Entry) → e.undo ≡ false → net (h ++ Act
 net-do h e forward = net-append h (Act e ∷ []) ∙ (ap (λ es. es ++ net (Act e ∷ [])) (filter_all (λ f. not (is_taken_back (e ∷ []) f)) (net h) (λ f. not_taken e f forward)) ∙ rw forward refl)
 
 taken : (e f : Entry) → e.undo ≡ true → not (is_taken_back (e ∷ []) f) ≡ not (same_step f e)
-taken e f undo = rw undo (ap not (or_false (same_step f e)))
+taken e f undo = rw undo (ap not (or-false (same_step f e)))
 
 -- an undo takes the entry of its step away
 pub net-undo : (h : List Event) (e : Entry) → e.undo ≡ true → net (h ++ Act e ∷ []) ≡ filter (λ f. not (same_step f e)) (net h)

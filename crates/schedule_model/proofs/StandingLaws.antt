@@ -1,5 +1,6 @@
 -- The standing facts of legal histories, as they are stated; what has ended doesn't block; and the completion law.
 use Rattle.std.proofs.Common.{◌≡◌, ◌⊎◌, inl, inr, ⊎_elim, ℕ, Bool, true, false, not, cond, eqb, ◌&&◌, ◌||◌, List, [], ◌∷◌, ◌++◌, length, map, filter, sym, refl, ap, ◌∙◌, subst}
+use Rattle.std.proofs.Math.Bool.{and-false}
 use Rattle.std.specs.Bool.{IsTrue}
 use Rattle.std.proofs.lemmas.Bool.{and_parts, and_from, eqb-true, or_left, not-true}
 use Rattle.process_tree.specs.declared.entry.Entry.{Entry}
@@ -186,11 +187,7 @@ module _ (table : ConflictRelation) (plans : List Plan) (h : List Event) (symmet
         by_process : IsTrue (is_in y.process (ends h)) ⊎ IsTrue (is_active h y.process) → (is_in y.process (holders (at_rest cs h)) && conflict table x y) ≡ conflict table x y
         by_process (inl ended) =
             let none = by_ended y back ended in
-            ap (λ t. is_in y.process (holders (at_rest cs h)) && t) none ∙ (and_false (is_in y.process (holders (at_rest cs h))) ∙ sym none)
-          where
-            and_false : (a : Bool) → (a && false) ≡ false
-            and_false true = refl
-            and_false false = refl
+            ap (λ t. is_in y.process (holders (at_rest cs h)) && t) none ∙ (and-false (is_in y.process (holders (at_rest cs h))) ∙ sym none)
         by_process (inr active) = ap (λ t. t && conflict table x y) (is_holder cs h y.process ∙ active)
 
     pub aside_undo : against_undo table (of_active (at_rest cs h)) x ≡ against_undo table (at_rest cs h) x

@@ -1,5 +1,6 @@
 -- Completion after its first undo is the rest of it.
 use Rattle.std.proofs.Common.{◌≡◌, ℕ, zero, suc, Bool, true, false, not, cond, eqb, ◌&&◌, ◌||◌, List, [], ◌∷◌, ◌++◌, map, filter, drop, reverse, sym, refl, ap, ◌∙◌, subst, append-nil, append_assoc}
+use Rattle.std.proofs.Math.Bool.{and-false, and-true, or-false, and_comm}
 use Rattle.std.specs.Bool.{IsTrue}
 use Rattle.std.specs.List.{list_any, list_all, flat_map}
 use Rattle.std.proofs.lemmas.Bool.{eq-eqb, eqb-true, and_parts, and_from, or_left, or_right, not-true}
@@ -49,29 +50,11 @@ tail_as_filter w apart zero = all_listed [] w
 tail_as_filter [] apart (suc k) = refl
 tail_as_filter (x ∷ xs) apart (suc k) = rw (none_of x xs apart.0 k) (tail_as_filter xs apart.1 k)
 
-and_false : (a : Bool) → (a && false) ≡ false
-and_false true = refl
-and_false false = refl
-
-and_swap : (a b : Bool) → (a && b) ≡ (b && a)
-and_swap true true = refl
-and_swap true false = refl
-and_swap false true = refl
-and_swap false false = refl
-
-or_false : (a : Bool) → (a || false) ≡ a
-or_false true = refl
-or_false false = refl
-
 -- a list that ends with an entry of this step does
 pub of_last : (us : List Entry) (x e : Entry) → is_of_last (us ++ x ∷ []) e ≡ same_step x e
 of_last [] x e = refl
 of_last (u ∷ []) x e = refl
 of_last (u ∷ v ∷ us) x e = of_last (v ∷ us) x e
-
-and_true : (a : Bool) → (a && true) ≡ a
-and_true true = refl
-and_true false = refl
 
 -- what a filter lets through passes
 filtered_pass : {X : Type 0} (p : X → Bool) (xs : List X) → list_all p (filter p xs) ≡ true
@@ -99,10 +82,10 @@ module _ (courses : List Course) (h : List Event) where
   own_to_undo : (i : ℕ) (e : Entry) → is_active h i ≡ true → (t : Bool) → eqb e.process i ≡ t
       → (is_to_undo courses h e && t) ≡ (t && list_any (same_step e) (backward_entries courses h i))
   own_to_undo i e active true own =
-      and_swap (is_to_undo courses h e) true
+      and_comm (is_to_undo courses h e) true
       ∙ (ap (λ k. is_active h k && list_any (same_step e) (backward_entries courses h k)) (eqb-true e.process i own)
       ∙ ap (λ a. a && list_any (same_step e) (backward_entries courses h i)) active)
-  own_to_undo i e active false own = and_false (is_to_undo courses h e)
+  own_to_undo i e active false own = and-false (is_to_undo courses h e)
 
   -- of all that is to be undone, what is of one active process is its backward recovery
   pub all_backward_entries-of : (i : ℕ) → Apart (net h) → is_active h i ≡ true → of_process i (all_backward_entries courses h) ≡ backward_entries courses h i
@@ -159,15 +142,15 @@ module _ (table : ConflictRelation) (courses : List Course) (h : List Event) (le
       (sym (ap (list_any (same_step e)) taken_back.backward_entries
       ∙ (list_any-append (same_step e) (backward_entries courses after x.process) (taken_back.last ∷ [])
       ∙ (ap (λ t. list_any (same_step e) (backward_entries courses after x.process) || (t || false)) (same_last e ∙ other)
-      ∙ or_false (list_any (same_step e) (backward_entries courses after x.process))))))
+      ∙ or-false (list_any (same_step e) (backward_entries courses after x.process))))))
   still_listed e other false own = ap (list_any (same_step e)) (backward_entries-by_net courses after h e.process (net_of-other h (undoing x) e.process own))
 
   by_step : (e : Entry) (s : Bool) → same_step e x ≡ s → (not s && is_to_undo courses after e) ≡ (is_to_undo courses h e && not s)
-  by_step e true is = sym (and_false (is_to_undo courses h e))
+  by_step e true is = sym (and-false (is_to_undo courses h e))
   by_step e false is =
       ap (λ a. a && list_any (same_step e) (backward_entries courses after e.process)) (is_active-do h (undoing x) e.process)
       ∙ (ap (λ l. is_active h e.process && l) (still_listed e is (eqb x.process e.process) refl)
-      ∙ sym (and_true (is_to_undo courses h e)))
+      ∙ sym (and-true (is_to_undo courses h e)))
 
   -- all that is to be undone is the same without it
   pub all_backward_entries-after : all_backward_entries courses after ≡ front

@@ -2,20 +2,12 @@
 use Rattle.std.proofs.Common.{◌≡◌, ℕ, zero, suc, ◌+◌, ◌≤◌, ◌<◌, ◌⊎◌, inl, inr, Bool, true, false, not, eqb, ◌||◌, ◌&&◌, List, [], ◌∷◌, length, filter, sym, refl, ap, ◌∙◌, subst, arith}
 use Rattle.std.specs.List.{list_any}
 use Rattle.std.specs.Bool.{IsTrue}
-use Rattle.std.proofs.lemmas.Bool.{eqb-true, eq-eqb, false≢true}
+use Rattle.std.proofs.lemmas.Bool.{eqb-true, eq-eqb, false≢true, or_left, or_right}
 use Rattle.schedule_model.specs.Histories.{is_in}
 use Rattle.schedule_model.specs.Graph.{Arrow, spread, spread_by, reached, leads, IsLeast, Walk, one_arrow, and_then}
 use Rattle.schedule_model.proofs.Active.{is_in-filter}
 use Rattle.schedule_model.proofs.Legal.{both-left, both-right}
 use Rattle.schedule_model.proofs.Counts.{length_filter-more, all_pass, filter_same-in}
-
-or_left : (a b : Bool) → a ≡ true → (a || b) ≡ true
-or_left true b is = refl
-or_left false b is = absurd (false≢true is)
-
-or_right : (a b : Bool) → b ≡ true → (a || b) ≡ true
-or_right true b is = refl
-or_right false b is = is
 
 either : (a b : Bool) → (a || b) ≡ true → (a ≡ true) ⊎ (b ≡ true)
 either true b is = inl refl
