@@ -21,11 +21,11 @@ use Rattle.schedule_model.specs.Legal.{is_clear, is_legal, keeps_and_ends_clear,
 use Rattle.schedule_model.specs.Reduction.{can_change, cancelled, carried_on, and_then, applied_all}
 use Rattle.schedule_model.specs.PrintedTrace.{Trace, after_steps, first_place, without, first_undo, place_taken_back, move_between, cancel_one, cancel_phase}
 use Rattle.schedule_model.proofs.Induction.{passes-push}
-use Rattle.schedule_model.proofs.Members.{Among, among-filter, any-among, in_filter, contains-from_among}
+use Rattle.schedule_model.proofs.Members.{Among, among-filter, any-among, in_filter, contains-from_among, among_there}
 use Rattle.schedule_model.proofs.Snoc.{net-start, net-end, net-do, net-undo, of_process-append}
 use Rattle.schedule_model.proofs.Apart.{Apart, net-apart}
 use Rattle.schedule_model.proofs.Behind.{SplitAt, split_at, behind-at, has_step, same_step-symmetric, same_step-itself}
-use Rattle.schedule_model.proofs.Orders.{same_step-through}
+use Rattle.schedule_model.proofs.Orders.{same_step-through, behind-same_step}
 use Rattle.schedule_model.proofs.Started.{among_net_of}
 use Rattle.schedule_model.proofs.Entries.{HasPlansOperation, acts-of_plans, All-net_acts, net_acts-forward}
 use Rattle.schedule_model.proofs.Acting.{act_in_order}
@@ -92,11 +92,7 @@ module _ (table : ConflictRelation) where
         (ap (first_place (λ e. not e.undo && list_any (λ f. takes_back f e) (u ∷ []))) right_nested
         ∙ first_place-at (λ e. not e.undo && list_any (λ f. takes_back f e) (u ∷ [])) front x (bs ++ u ∷ rest)
         (λ e is. ap (λ t. not e.undo && t) (either_false (takes_back u e) (others e is)) ∙ and-false (not e.undo))
-        (and_from (not x.undo) (takes_back u x || false) (ap not (steps_only x (x_among front))) (ap (λ t. t || false) taken)))
-      where
-        x_among : (es : List Entry) → Among x (es ++ x ∷ bs)
-        x_among [] = inl refl
-        x_among (e ∷ es) = inr (x_among es)
+        (and_from (not x.undo) (takes_back u x || false) (ap not (steps_only x (among_there front x bs))) (ap (λ t. t || false) taken)))
 
     left_over : without (suc (length front)) (without at es) ≡ front ++ (bs ++ rest)
     left_over =
@@ -122,15 +118,11 @@ module _ (table : ConflictRelation) where
         ∙ ap (λ o. and_then o (applied_all table []))
         (ap (cancelled (at - 1)) (sym (append_assoc front bs (x ∷ u ∷ rest)))
         ∙ (ap (λ n. cancelled n ((front ++ bs) ++ x ∷ u ∷ rest)) (let e : at - 1 ≡ suc (length (front ++ bs)) = omega arith in e)
-        ∙ (cancel_at table (front ++ bs) x u rest (and_from (not x.undo) (takes_back u x) (ap not (steps_only x (x_there front))) taken)
+        ∙ (cancel_at table (front ++ bs) x u rest (and_from (not x.undo) (takes_back u x) (ap not (steps_only x (among_there front x bs))) taken)
         ∙ ap Some (append_assoc front bs rest))))
       where
         carried_by : ℕ → ℕ → List Entry → Option (List Entry)
         carried_by n from xs = carried_on table n from xs
-
-        x_there : (es : List Entry) → Among x (es ++ x ∷ bs)
-        x_there [] = inl refl
-        x_there (e ∷ es) = inr (x_there es)
 
     pub cancels : (later : List Entry → Trace) (to : List Entry) → LeadsTo table (front ++ (bs ++ rest)) to (later (front ++ (bs ++ rest)))
         → LeadsTo table es to (cancel_one later es (first_undo es))
@@ -174,12 +166,8 @@ module _ (table : ConflictRelation) where
       last_stands : Among does.last (net h) × (does.last.process ≡ u.process)
       last_stands =
           let found = among_net_of h u.process does.last
-          (subst (Among does.last) (sym does.net) (last_among (net_of (h ++ Act u ∷ []) u.process))) in
+          (subst (Among does.last) (sym does.net) (among_there (net_of (h ++ Act u ∷ []) u.process) does.last [])) in
           (found.0, found.1)
-        where
-          last_among : (es : List Entry) → Among does.last (es ++ does.last ∷ [])
-          last_among [] = inl refl
-          last_among (e ∷ es) = inr (last_among es)
 
       split : SplitAt does.last (net h)
       split = split_at does.last (net h) apart last_stands.0
@@ -200,15 +188,11 @@ module _ (table : ConflictRelation) where
               let whole : net_of (h ++ Act u ∷ []) u.process ++ does.last ∷ [] ≡ (of_process u.process split.before ++ does.last ∷ some.0) ++ some.1 ∷ [] =
               sym does.net ∙ (net_is ∙ (ap (λ es. of_process u.process split.before ++ does.last ∷ es) some.2 ∙ sym (append_assoc (of_process u.process split.before) (does.last ∷ some.0) (some.1 ∷ [])))) in
               let same = (same_ends (net_of (h ++ Act u ∷ []) u.process) (of_process u.process split.before ++ does.last ∷ some.0) does.last some.1 whole).1 in
-              let there : Among some.1 (of_process u.process split.after) = subst (Among some.1) (sym some.2) (end_among some.0 some.1) in
+              let there : Among some.1 (of_process u.process split.after) = subst (Among some.1) (sym some.2) (among_there some.0 some.1 []) in
               let stands = (among-filter (λ (f : Entry). eqb f.process u.process) some.1 split.after there).0 in
               let has : has_step does.last split.after ≡ true = any-among (same_step does.last) some.1 split.after stands
               (ap (same_step does.last) (sym same) ∙ same_step-itself does.last) in
               absurd (false≢true (sym split.none_after ∙ has))
-            where
-              end_among : (es : List Entry) (z : Entry) → Among z (es ++ z ∷ [])
-              end_among [] z = inl refl
-              end_among (e ∷ es) z = inr (end_among es z)
 
       -- nothing behind it conflicts with it
       same_op : does.last.op ≡ u.op
@@ -221,18 +205,13 @@ module _ (table : ConflictRelation) where
 
       can : (b : Entry) → Among b split.after → can_change table does.last b ≡ true
       can b is =
-          let back : Among b (behind u (net h)) = subst (Among b) (sym (same_behind (net h) u does.last (same_step-symmetric u does.last ∙ does.same) ∙ behind-at does.last (net h) split)) is in
+          let back : Among b (behind u (net h)) = subst (Among b) (sym (behind-same_step (net h) u does.last (same_step-symmetric u does.last ∙ does.same) ∙ behind-at does.last (net h) split)) is in
           let free : conflict table u b ≡ false = undo-clear table courses h u undo clear b back in
           let none : conflict table does.last b ≡ false =
           ap (λ p. not (eqb p b.process) && table does.last.op b.op) last_stands.1 ∙ (ap (λ o. not (eqb u.process b.process) && table o b.op) same_op ∙ free) in
           and_from (not (eqb does.last.process b.process)) (not (conflict table does.last b))
           (ap not (by_process (eqb does.last.process b.process) refl)) (ap not none)
         where
-          same_behind : (es : List Entry) (a b : Entry) → same_step a b ≡ true → behind a es ≡ behind b es
-          same_behind [] a b same = refl
-          same_behind (e ∷ es) a b same =
-              ap (λ t. cond t es (behind a es)) (same_step-through a b e same) ∙ ap (λ ys. cond (same_step b e) es ys) (same_behind es a b same)
-
           by_process : (t : Bool) → eqb does.last.process b.process ≡ t → eqb does.last.process b.process ≡ false
           by_process false other = other
           by_process true own =

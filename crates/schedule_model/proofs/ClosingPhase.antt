@@ -1,9 +1,9 @@
 -- Completion after an owed step, and after an end, is the rest of it.
-use Rattle.std.proofs.Common.{◌≡◌, ℕ, Bool, true, false, not, cond, eqb, ◌&&◌, List, [], ◌∷◌, ◌++◌, map, filter, reverse, length, sym, refl, ap, ◌∙◌, subst, arith}
+use Rattle.std.proofs.Common.{◌≡◌, ℕ, Bool, true, false, not, cond, eqb, ◌&&◌, List, [], ◌∷◌, ◌++◌, map, filter, reverse, sym, refl, ap, ◌∙◌, subst}
 use Rattle.std.proofs.Math.Bool.{and-false}
 use Rattle.std.specs.Bool.{IsTrue}
 use Rattle.std.specs.List.{list_any, list_all, flat_map}
-use Rattle.std.proofs.lemmas.Bool.{eq-eqb, eqb-true, and_parts, false≢true, not-true, ne_eqb, eqb-false}
+use Rattle.std.proofs.lemmas.Bool.{eq-eqb, eqb-true, and_parts, false≢true, not-true}
 use Rattle.std.proofs.lemmas.List.Elements.{filter-append}
 use Rattle.process_tree.specs.declared.entry.Entry.{Entry}
 use Rattle.process_tree.specs.Shape.{commits, kind_of}
@@ -16,20 +16,12 @@ use Rattle.schedule_model.specs.Completion.{is_to_undo, all_backward_entries, cl
 use Rattle.schedule_model.proofs.Snoc.{net-do, net-end, net_of-other, net_of-end, backward_entries-by_net, owed-by_net, is_active-do, active-do, active-end}
 use Rattle.schedule_model.proofs.Active.{is_active-is_in, is_in-filter}
 use Rattle.schedule_model.proofs.Recoveries.{backward_entries-commit, owed-do}
+use Rattle.schedule_model.proofs.Conflicts.{same_either_way}
+use Rattle.schedule_model.proofs.Members.{filter-none, none_pass}
 
--- a filter that lets nothing of a list through: each of it fails
-each_fails_step : {X : Type 0} (p : X → Bool) (x : X) (ys : List X) (t : Bool) → p x ≡ t → cond t (x ∷ ys) ys ≡ [] → (p x ≡ false) × (ys ≡ [])
-each_fails_step p x ys true is none = absurd (cons_none x ys none)
-  where
-    cons_none : {X : Type 0} (x : X) (ys : List X) → x ∷ ys ≡ [] → ⊥
-    cons_none x ys e = let l = ap length e in omega arith
-each_fails_step p x ys false is none = (is, none)
-
+-- where nothing passes, nothing passes a test that is harder
 none_through : {X : Type 0} (p q : X → Bool) (xs : List X) → ((x : X) → p x ≡ false → q x ≡ false) → filter p xs ≡ [] → filter q xs ≡ []
-none_through p q [] h none = refl
-none_through p q (x ∷ xs) h none =
-    let parts = each_fails_step p x (filter p xs) (p x) refl none in
-    rw (h x parts.0) (none_through p q xs h parts.1)
+none_through p q xs h none = filter-none q xs (λ x is. h x (none_pass p xs none x is))
 
 module _ (courses : List Course) (h : List Event) (i : ℕ) (others : List ℕ) (first : active h ≡ i ∷ others) (undone : all_backward_entries courses h ≡ []) where
   module _ (b : ℕ) (rest : List Entry) (next : owed courses h i ≡ doing courses i b ∷ rest) (point : commits (kind_of (shape courses i) b) ≡ true)
@@ -109,15 +101,11 @@ module _ (courses : List Course) (h : List Event) (i : ℕ) (others : List ℕ) 
         ap (filter (is_to_undo courses then_ended)) (net-end h i)
         ∙ none_through (is_to_undo courses h) (is_to_undo courses then_ended) (net h) end_fails undone
 
-    either_way : (a b : ℕ) (t : Bool) → eqb a b ≡ t → eqb b a ≡ t
-    either_way a b true is = eq-eqb b a (sym (eqb-true a b is))
-    either_way a b false is = ne_eqb b a (λ same. eqb-false a b is (sym same))
-
     others_stay : (ks : List ℕ) → IsTrue (list_all (λ k. not (eqb i k)) ks) → filter (λ k. not (eqb k i)) ks ≡ ks
     others_stay [] all = refl
     others_stay (k ∷ ks) all =
         let parts = and_parts (not (eqb i k)) (list_all (λ j. not (eqb i j)) ks) all in
-        ap (λ t. cond (not t) (k ∷ filter (λ j. not (eqb j i)) ks) (filter (λ j. not (eqb j i)) ks)) (either_way i k false (not-true (eqb i k) parts.0))
+        ap (λ t. cond (not t) (k ∷ filter (λ j. not (eqb j i)) ks) (filter (λ j. not (eqb j i)) ks)) (same_either_way i k false (not-true (eqb i k) parts.0))
         ∙ ap (λ js. k ∷ js) (others_stay ks parts.1)
 
     active_at_end : IsTrue (list_all (λ k. not (eqb i k)) others) → active then_ended ≡ others

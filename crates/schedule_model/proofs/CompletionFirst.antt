@@ -19,7 +19,7 @@ use Rattle.schedule_model.specs.Completion.{all_backward_entries, is_to_undo, co
 use Rattle.schedule_model.specs.OwnOrder.{keeps_order, goes_on, is_at_end, is_of_last}
 use Rattle.schedule_model.specs.Legal.{is_legal, class_in}
 use Rattle.schedule_model.specs.Laws.{AreGood}
-use Rattle.schedule_model.proofs.Members.{Among, among-filter, contains-from_among}
+use Rattle.schedule_model.proofs.Members.{Among, among-filter, contains-from_among, among_there}
 use Rattle.schedule_model.proofs.Entries.{HasPlansOperation, acts-of_plans, All-net_acts}
 use Rattle.schedule_model.proofs.Active.{is_active-is_in, completion-none}
 use Rattle.schedule_model.proofs.Apart.{net-apart}
@@ -69,7 +69,7 @@ module _ (plans : List Plan) (good : AreGood plans) (h : List Event) (legal : Is
   -- An undo comes first.
   first_undo : (front : List Entry) (x : Entry) → all_backward_entries cs h ≡ front ++ x ∷ [] → First cs h
   first_undo front x last =
-      let there : Among x (net h) = (among-filter (is_to_undo cs h) x (net h) (subst (Among x) (sym last) (last_among front x))).0 in
+      let there : Among x (net h) = (among-filter (is_to_undo cs h) x (net h) (subst (Among x) (sym last) (among_there front x []))).0 in
       record {
         event = Act (undoing x);
         what = inl (front, x, refl, last);
@@ -78,10 +78,6 @@ module _ (plans : List Plan) (good : AreGood plans) (h : List Event) (legal : Is
             (and_from (is_active h x.process) (eqb x.op (op_of cs x.process x.step)) (is_active_one no_conflict cs h legal front x last) (eq-eqb x.op (op_of cs x.process x.step) (net-of_plans x there)))
             (undo_of_last no_conflict cs h legal front x last);
       }
-    where
-      last_among : (front : List Entry) (x : Entry) → Among x (front ++ x ∷ [])
-      last_among [] x = inl refl
-      last_among (y ∷ front) x = inr (last_among front x)
 
   module _ (undone : all_backward_entries cs h ≡ []) where
     -- nothing of an active process is to be undone

@@ -18,7 +18,7 @@ use Rattle.schedule_model.specs.Laws.{AreGood}
 use Rattle.schedule_model.proofs.Induction.{by_legal}
 use Rattle.schedule_model.proofs.Members.{Among}
 use Rattle.schedule_model.proofs.Behind.{has_step, among_behind, same_step-itself}
-use Rattle.schedule_model.proofs.Conflicts.{conflict-symmetric}
+use Rattle.schedule_model.proofs.Conflicts.{conflict-flipped}
 use Rattle.schedule_model.proofs.Snoc.{net-start, net-end, net_of-other, net_of-start, net_of-end, backward_entries-by_net, is_active-do}
 use Rattle.schedule_model.proofs.Acting.{clear_of, act_active}
 use Rattle.schedule_model.proofs.Undoing.{undoes}
@@ -39,9 +39,6 @@ module _ (table : ConflictRelation) (symmetric : IsSymmetric table) (plans : Lis
   abbrev pub FixedFree : List Event → Type 0
   FixedFree h = (x e : Entry) → Among x (net h) → IsTrue (is_active h x.process) → Among e (net h) → IsTrue (is_active h e.process) → IsFixed h e
       → Among e (behind x (net h)) → conflict table x e ≡ false
-
-  flipped : (a b : Entry) → conflict table a b ≡ false → conflict table b a ≡ false
-  flipped a b is = conflict-symmetric table symmetric b a ∙ is
 
   module _ (h : List Event) (legal : IsTrue (is_legal table cs h)) (free : FixedFree h) where
     fixed-start : (k : ℕ) → FixedFree (h ++ Start k ∷ [])
@@ -126,7 +123,7 @@ module _ (table : ConflictRelation) (symmetric : IsSymmetric table) (plans : Lis
           fixed-step is_step
           (λ x e there active here own fixed back.
           free x e there active here (subst (λ k. IsTrue (is_active h k)) own goes) (of_none e (backward_entries cs h e.process) (subst (λ k. backward_entries cs h k ≡ []) own (does.reserved_before is))) back)
-          (λ x there active fixed. flipped a x ((owed-free table symmetric plans good h legal).from_net a.process a x goes (subst (Among a) (sym owes) (inl refl)) there active))
+          (λ x there active fixed. conflict-flipped table symmetric a x ((owed-free table symmetric plans good h legal).from_net a.process a x goes (subst (Among a) (sym owes) (inl refl)) there active))
       fixed-by_class is_step undoable is =
           let does = step-facts table symmetric plans good h a is_step may in
           let goes = act_active table cs h a may in
@@ -148,8 +145,8 @@ module _ (table : ConflictRelation) (symmetric : IsSymmetric table) (plans : Lis
           let goes = act_active table cs h a may in
           fixed-step is_step
           (λ x e there active here own fixed back.
-          flipped e x (clear.2 x e (in_active_net cs h x there active) (behind-active cs h x e active (subst (λ k. IsTrue (is_active h k)) own goes) back) (sym own)))
-          (λ x there active fixed. flipped a x (clear.1 x there active))
+          conflict-flipped table symmetric e x (clear.2 x e (in_active_net cs h x there active) (behind-active cs h x e active (subst (λ k. IsTrue (is_active h k)) own goes) back) (sym own)))
+          (λ x there active fixed. conflict-flipped table symmetric a x (clear.1 x there active))
 
       fixed-act : (u : Bool) → a.undo ≡ u → FixedFree after
       fixed-act true undo = fixed-undo undo

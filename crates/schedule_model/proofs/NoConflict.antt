@@ -1,6 +1,6 @@
 -- Where nothing conflicts, nothing stands against any event: what is in own order is legal then. So whatever is proved of
 -- legal histories without a word on conflicts holds of those in own order, and of reducible ones.
-use Rattle.std.proofs.Common.{◌≡◌, Bool, true, false, not, eqb, ◌&&◌, if◌then◌else◌, List, refl}
+use Rattle.std.proofs.Common.{◌≡◌, Bool, true, false, not, eqb, if◌then◌else◌, List, refl}
 use Rattle.std.proofs.Math.Bool.{and-false}
 use Rattle.std.specs.Bool.{IsTrue}
 use Rattle.std.proofs.lemmas.Bool.{and_parts, and_from, false≢true}

@@ -1,5 +1,5 @@
 -- What stands behind an entry of the net, before an event and after it.
-use Rattle.std.proofs.Common.{◌≡◌, ◌⊎◌, inl, inr, Bool, true, false, not, cond, eqb, ◌&&◌, List, [], ◌∷◌, ◌++◌, sym, ap, ◌∙◌, subst}
+use Rattle.std.proofs.Common.{◌≡◌, ◌⊎◌, inl, inr, Bool, true, false, not, cond, eqb, ◌&&◌, List, [], ◌∷◌, ◌++◌, sym, refl, ap, ◌∙◌, subst}
 use Rattle.std.specs.Bool.{IsTrue}
 use Rattle.std.proofs.lemmas.Bool.{not-true, eqb-true, and_parts}
 use Rattle.process_tree.specs.declared.entry.Entry.{Entry}
@@ -23,6 +23,12 @@ same_step-through a b c is =
     let parts = and_parts (eqb a.process b.process) (eqb a.step b.step) is in
     ap (λ p. eqb p c.process && eqb a.step c.step) (eqb-true a.process b.process parts.0)
     ∙ ap (λ s. eqb b.process c.process && eqb s c.step) (eqb-true a.step b.step parts.1)
+
+-- what stands behind entries of one step is the same
+pub behind-same_step : (es : List Entry) (a b : Entry) → same_step a b ≡ true → behind a es ≡ behind b es
+behind-same_step [] a b same = refl
+behind-same_step (e ∷ es) a b same =
+    ap (λ t. cond t es (behind a es)) (same_step-through a b e same) ∙ ap (λ ys. cond (same_step b e) es ys) (behind-same_step es a b same)
 
 -- Behind an entry after an undo stands what stood behind it.
 pub behind-undo : (h : List Event) (u x e : Entry) → u.undo ≡ true → Among x (net (h ++ Act u ∷ [])) → Among e (behind x (net (h ++ Act u ∷ [])))

@@ -1,5 +1,5 @@
 -- The serial phase leads from a list of steps to the entries of each process, in the order of the ends.
-use Rattle.std.proofs.Common.{◌≡◌, ◌⊎◌, inl, inr, ⊎_elim, ℕ, zero, suc, ◌+◌, ◌-◌, Bool, true, false, not, cond, eqb, ◌||◌, List, [], ◌∷◌, ◌++◌, length, take, drop, Some, sym, refl, ap, ◌∙◌, subst, arith, append_assoc, length-append}
+use Rattle.std.proofs.Common.{◌≡◌, ◌⊎◌, inl, inr, ⊎_elim, ℕ, zero, suc, ◌+◌, ◌-◌, Bool, true, false, not, cond, eqb, List, [], ◌∷◌, ◌++◌, length, take, drop, Some, sym, refl, ap, ◌∙◌, subst, arith, append_assoc, length-append}
 use Rattle.std.specs.Bool.{IsTrue}
 use Rattle.std.specs.Prelude.{unwrap_or}
 use Rattle.std.specs.List.{flat_map}
@@ -9,7 +9,7 @@ use Rattle.schedule_model.specs.Conflict.{ConflictRelation, conflict}
 use Rattle.schedule_model.specs.Histories.{after_number, is_in, of_process}
 use Rattle.schedule_model.specs.Reduction.{can_change, carried_back, applied_all}
 use Rattle.schedule_model.specs.PrintedTrace.{Trace, entry_at, without, move_between, first_to_end, serial_phase}
-use Rattle.schedule_model.proofs.Members.{Among, among-append}
+use Rattle.schedule_model.proofs.Members.{Among, among-append, among_there, among-more}
 use Rattle.schedule_model.proofs.Snoc.{of_process-append}
 use Rattle.schedule_model.proofs.Places.{carry_back, move_back, applied_all-append, first_place-at, first_place-none, entry_at-split, without-split}
 
@@ -102,12 +102,7 @@ module _ (table : ConflictRelation) where
   free-without : (order : List ℕ) (front : List Entry) (x : Entry) (rest : List Entry) → LaterFree table order (front ++ x ∷ rest) → LaterFree table order (front ++ rest)
   free-without order [] x rest free = free.1
   free-without order (a ∷ front) x rest free =
-      (λ y is later. free.0 y (put y front is) later, free-without order front x rest free.1)
-    where
-      put : (y : Entry) (front : List Entry) → Among y (front ++ rest) → Among y (front ++ x ∷ rest)
-      put y [] is = inr is
-      put y (f ∷ front) (inl here) = inl here
-      put y (f ∷ front) (inr later) = inr (put y front later)
+      (λ y is later. free.0 y (among-more y front x rest is) later, free-without order front x rest free.1)
 
   -- what stands before an entry of the first to end doesn't conflict with it
   free-before : (i : ℕ) (order : List ℕ) (front : List Entry) (x : Entry) (rest : List Entry) → x.process ≡ i → NoneOf i front → AllOf (i ∷ order) (front ++ x ∷ rest)
@@ -116,12 +111,8 @@ module _ (table : ConflictRelation) where
   free-before i order (a ∷ front) x rest own none all free b (inr later) = free-before i order front x rest own (λ e there. none e (inr there)) (λ e there. all e (inr there)) free.1 b later
   free-before i order (a ∷ front) x rest own none all free b (inl here) =
       subst (λ f. can_change table f x ≡ true) here
-      (and_from (not (eqb a.process x.process)) (not (conflict table a x)) (ap not apart) (ap not (free.0 x (x_there front) later)))
+      (and_from (not (eqb a.process x.process)) (not (conflict table a x)) (ap not apart) (ap not (free.0 x (among_there front x rest) later)))
     where
-      x_there : (es : List Entry) → Among x (es ++ x ∷ rest)
-      x_there [] = inl refl
-      x_there (e ∷ es) = inr (x_there es)
-
       apart : eqb a.process x.process ≡ false
       apart = ap (eqb a.process) own ∙ none a (inl refl)
 
@@ -215,12 +206,7 @@ module _ (table : ConflictRelation) where
   )
 
   all-without : (order : List ℕ) (front : List Entry) (x : Entry) (rest : List Entry) → AllOf order (front ++ x ∷ rest) → AllOf order (front ++ rest)
-  all-without order front x rest all e is = all e (put front is)
-    where
-      put : (front : List Entry) → Among e (front ++ rest) → Among e (front ++ x ∷ rest)
-      put [] is = inr is
-      put (f ∷ front) (inl here) = inl here
-      put (f ∷ front) (inr later) = inr (put front later)
+  all-without order front x rest all e is = all e (among-more e front x rest is)
 
   -- process after process: an entry of the first to end comes to its place, or it has none left
   one_process : (i : ℕ) (order : List ℕ) → is_in i order ≡ false → ((es : List Entry) → AllOf order es → LaterFree table order es → Orders table order es)

@@ -1,5 +1,5 @@
 -- The standing facts of legal histories, as they are stated; what has ended doesn't block; and the completion law.
-use Rattle.std.proofs.Common.{◌≡◌, ◌⊎◌, inl, inr, ⊎_elim, ℕ, Bool, true, false, not, cond, eqb, ◌&&◌, ◌||◌, List, [], ◌∷◌, ◌++◌, length, map, filter, sym, refl, ap, ◌∙◌, subst}
+use Rattle.std.proofs.Common.{◌≡◌, ◌⊎◌, inl, inr, ⊎_elim, ℕ, Bool, true, false, not, eqb, ◌&&◌, ◌||◌, List, [], ◌∷◌, ◌++◌, length, map, filter, sym, refl, ap, ◌∙◌, subst}
 use Rattle.std.proofs.Math.Bool.{and-false}
 use Rattle.std.specs.Bool.{IsTrue}
 use Rattle.std.proofs.lemmas.Bool.{and_parts, and_from, eqb-true, or_left, not-true}
@@ -17,7 +17,7 @@ use Rattle.schedule_model.specs.OwnOrder.{keeps_order}
 use Rattle.schedule_model.specs.Legal.{is_clear, is_legal, may_come}
 use Rattle.schedule_model.specs.Laws.{AreGood, StandingFacts, StandingFactsHold, CompletionLaw, EndedDontBlockUndos}
 use Rattle.schedule_model.proofs.Induction.{passes-push}
-use Rattle.schedule_model.proofs.Members.{Among, among-append, among-filter, in_filter, among-any, among-from_contains, filter-agree}
+use Rattle.schedule_model.proofs.Members.{Among, among-append, among-filter, in_filter, among-any, among-from_contains, filter-agree, among_there}
 use Rattle.schedule_model.proofs.Behind.{has_step, among_behind, behind-filter, behind-none, behind-split, same_step-process, same_step-symmetric}
 use Rattle.schedule_model.proofs.Apart.{Apart, Apart-filter, Apart-last, net-apart}
 use Rattle.schedule_model.proofs.Snoc.{filter_twice}
@@ -28,7 +28,7 @@ use Rattle.schedule_model.proofs.Started.{among_net_of, net-started}
 use Rattle.schedule_model.proofs.OwedFree.{OwedFree, owed-free}
 use Rattle.schedule_model.proofs.FixedFree.{FixedFree, fixed-free}
 use Rattle.schedule_model.proofs.EndedFree.{EndedFree, ended-free}
-use Rattle.schedule_model.proofs.Orders.{same_step-through}
+use Rattle.schedule_model.proofs.Orders.{same_step-through, behind-same_step}
 use Rattle.schedule_model.proofs.CompletionFirst.{First, net-of_plans}
 use Rattle.schedule_model.proofs.CompletionLaws.{along_completion, all-at_ends}
 use Rattle.schedule_model.proofs.Members.{not_any, all-among}
@@ -99,12 +99,8 @@ module _ (table : ConflictRelation) (plans : List Plan) (h : List Event) (symmet
       same_any (e ∷ es) = ap (λ t. t || has_step f es) (sym (same_step-through x f e same)) ∙ ap (λ t. same_step x e || t) (same_any es)
 
   module _ (front : List Entry) (x : Entry) (last : all_backward_entries cs h ≡ front ++ x ∷ []) where
-    last_among : (es : List Entry) → Among x (es ++ x ∷ [])
-    last_among [] = inl refl
-    last_among (e ∷ es) = inr (last_among es)
-
     x_there : Among x (net h) × (is_to_undo cs h x ≡ true)
-    x_there = among-filter (is_to_undo cs h) x (net h) (subst (Among x) (sym last) (last_among front))
+    x_there = among-filter (is_to_undo cs h) x (net h) (subst (Among x) (sym last) (among_there front x []))
 
     x_active : IsTrue (is_active h x.process)
     x_active = (and_parts (is_active h x.process) (has_step x (backward_entries cs h x.process)) x_there.1).0
@@ -171,15 +167,10 @@ module _ (table : ConflictRelation) (plans : List Plan) (h : List Event) (symmet
             let step : x.step ≡ z.step = eqb-true x.step z.step (and_parts (eqb x.process z.process) (eqb x.step z.step) found.2).1 in
             let same_op : x.op ≡ z.op = op ∙ (ap (λ p. op_of cs p x.step) own ∙ (ap (op_of cs z.process) step
             ∙ sym (net-of_plans plans good h (legal-from_own_order cs h (own_order-legal cs table h legal)) z found.1))) in
-            let same_behind : behind x (net h) ≡ behind z (net h) = behind-same (net h) x z found.2 in
+            let same_behind : behind x (net h) ≡ behind z (net h) = behind-same_step (net h) x z found.2 in
             ap (λ p. not (eqb p y.process) && table x.op y.op) own
             ∙ (ap (λ o. not (eqb z.process y.process) && table o y.op) same_op
             ∙ ended_facts z y ended (outlives-active z.process y.process (ap (is_active h) (sym own) ∙ goes)) found.1 (subst (Among y) same_behind back))
-          where
-            behind-same : (es : List Entry) (a b : Entry) → same_step a b ≡ true → behind a es ≡ behind b es
-            behind-same [] a b same = refl
-            behind-same (e ∷ es) a b same =
-                ap (λ t. cond t es (behind a es)) (same_step-through a b e same) ∙ ap (λ ys. cond (same_step b e) es ys) (behind-same es a b same)
 
     conflicts_same : (y : Entry) → Among y (behind x (net h)) → (holds y && conflict table x y) ≡ conflict table x y
     conflicts_same y back = by_process (ended_or_active y (among_behind x y (net h) back))

@@ -21,14 +21,12 @@ use Rattle.schedule_model.specs.Legal.{is_legal}
 use Rattle.schedule_model.proofs.Snoc.{filter_twice, filter_same, net-undo, net_of-other, backward_entries-by_net, owed-by_net, is_active-do, active-do, of_process-append}
 use Rattle.schedule_model.proofs.Apart.{Apart, Apart-filter, Apart-last, net-apart}
 use Rattle.schedule_model.proofs.Undoing.{Undoes, undoes_last}
+use Rattle.schedule_model.proofs.Behind.{same_step-itself}
 
 -- A tail of a list, as a filter.
 
-same_itself : (e : Entry) → same_step e e ≡ true
-same_itself e = and_from (eqb e.process e.process) (eqb e.step e.step) (eq-eqb e.process e.process refl) (eq-eqb e.step e.step refl)
-
 listed : (ps us : List Entry) (u : Entry) → list_any (same_step u) (ps ++ u ∷ us) ≡ true
-listed ps us u = list_any-append (same_step u) ps (u ∷ us) ∙ or_right (list_any (same_step u) ps) _ (or_left (same_step u u) (list_any (same_step u) us) (same_itself u))
+listed ps us u = list_any-append (same_step u) ps (u ∷ us) ∙ or_right (list_any (same_step u) ps) _ (or_left (same_step u u) (list_any (same_step u) us) (same_step-itself u))
 
 all_listed : (ps us : List Entry) → filter (λ e. list_any (same_step e) (ps ++ us)) us ≡ us
 all_listed ps [] = refl
@@ -76,7 +74,7 @@ without_last : (front : List Entry) (x : Entry) → Apart (front ++ x ∷ []) �
 without_last front x apart =
     filter-append (λ f. not (same_step f x)) front (x ∷ [])
     ∙ (ap (λ es. es ++ filter (λ f. not (same_step f x)) (x ∷ [])) (kept_all x front (Apart-last front x apart))
-    ∙ (ap (λ s. front ++ cond (not s) (x ∷ []) []) (same_itself x) ∙ append-nil front))
+    ∙ (ap (λ s. front ++ cond (not s) (x ∷ []) []) (same_step-itself x) ∙ append-nil front))
 
 module _ (courses : List Course) (h : List Event) where
   own_to_undo : (i : ℕ) (e : Entry) → is_active h i ≡ true → (t : Bool) → eqb e.process i ≡ t
@@ -118,7 +116,7 @@ module _ (table : ConflictRelation) (courses : List Course) (h : List Event) (le
       ∙ ap (λ t. of_process x.process front ++ cond t (x ∷ []) []) (eq-eqb x.process x.process refl)))
 
   pub undo_of_last : IsTrue (is_of_last (backward_entries courses h x.process) (undoing x))
-  undo_of_last = ap (λ us. is_of_last us (undoing x)) last_of_own ∙ (of_last (of_process x.process front) x (undoing x) ∙ same_itself x)
+  undo_of_last = ap (λ us. is_of_last us (undoing x)) last_of_own ∙ (of_last (of_process x.process front) x (undoing x) ∙ same_step-itself x)
 
   -- its undo takes it back
   taken_back : Undoes courses (undoing x) h after
