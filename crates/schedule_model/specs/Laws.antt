@@ -106,6 +106,10 @@ LimitsHold = (l : Limits) (plans : List Plan) (h : List Event) → AreGood plans
 abbrev pub AllAtEnds : List Course → List Event → Type 0
 AllAtEnds courses h = (i : ℕ) → IsTrue (is_in i (starts h)) → IsTrue (is_at_end courses h i)
 
+-- In own order each process that ended is at an end.
+abbrev pub EndedAreAtEnds : Type 0
+EndedAreAtEnds = (courses : List Course) (h : List Event) (i : ℕ) → IsTrue (is_in_own_order courses h) → IsTrue (is_in i (ends h)) → IsTrue (is_at_end courses h i)
+
 -- Completion law of own order: of a history in own order, the completed one is in own order, nobody is active in it, and
 -- each process is at an end.
 abbrev pub OwnOrderCompletionLaw : Type 0
