@@ -8,8 +8,12 @@ pub mod Victims
 pub mod Stuck
 pub mod OneOut
 pub mod Linked
+pub mod RefusedPieces
+pub mod Frames
 pub mod Least
 pub mod Cascades
 pub mod Clear
 pub mod CallsKept
+pub mod RunningNext
+pub mod OthersStay
 pub mod TurnRuns

@@ -1,5 +1,5 @@
 -- The laws of pieces and of one process alone, as statements.
-use Rattle.std.specs.Prelude.{◌≡◌, ◌↔◌, ◌≤◌, ℕ, Bool, true, not, ◌&&◌, List, length, filter, nat_eq, IsTrue, Option, Some, None, is_some, if◌then◌else◌}
+use Rattle.std.specs.Prelude.{◌≡◌, ◌↔◌, ◌≤◌, ℕ, Bool, true, false, not, ◌&&◌, List, length, filter, nat_eq, IsTrue, Option, Some, None, is_some, if◌then◌else◌}
 use Rattle.process_tree.specs.declared.plan.Plan.{Plan}
 use Rattle.schedule_model.specs.Conflict.{Table}
 use Rattle.schedule_model.specs.Histories.{is_active}
@@ -10,7 +10,7 @@ use Rattle.machine_model.specs.Progress.{same_task}
 use Rattle.machine_model.specs.ProcessState.{ProcessState, effected, was_refused, begun}
 use Rattle.machine_model.specs.Moment.{Piece, has_begun}
 use Rattle.machine_model.specs.Pieces.{is_finished, piece_of, running_of, state_of}
-use Rattle.machine_model.specs.State.{next_of, process_state}
+use Rattle.machine_model.specs.State.{hold_of, next_of, process_state}
 use Rattle.machine_model.specs.Advance.{Machine, advance}
 use Rattle.machine_model.specs.Runs.{is_run, may_be_kept, now}
 use Rattle.machine_model.specs.Laws.{IsSession}
@@ -27,7 +27,31 @@ OneRuns = (table : Table) (s : Machine) (i : ℕ) → IsTrue (is_run table s) �
 -- The running piece of a process is its next piece.
 abbrev pub RunningIsNext : Type 0
 RunningIsNext = (table : Table) (s : Machine) (i : ℕ) (p : Piece) → IsTrue (is_run table s) → running_of (now table s) i ≡ Some p
-    → same_task (next_of s.courses (now table s) i) (record { work = p.work; step = p.step }) ≡ true
+    → same_task (record { work = p.work; step = p.step }) (next_of s.courses (now table s) i) ≡ true
+
+-- the piece that an event hands out or ends
+abbrev pub piece_touched : List Kept → Kept → Option Piece
+piece_touched ks (Hand piece process step work) = Some (record { number = piece; process = process; step = step; work = work })
+piece_touched ks (Effect n) = piece_of ks n
+piece_touched ks (Refuse n) = piece_of ks n
+piece_touched ks (Start i) = None
+piece_touched ks (Abort i) = None
+piece_touched ks (Victim i) = None
+piece_touched ks Restart = None
+
+-- the event neither hands out nor ends a piece of process i
+abbrev pub LeavesPieceOf : List Kept → Kept → ℕ → Type 0
+LeavesPieceOf ks k i = (p : Piece) → piece_touched ks k ≡ Some p → nat_eq p.process i ≡ false
+
+-- Frame law: an event that neither hands out nor ends a piece of process i, and doesn't make it begin to complete, leaves what
+-- it runs, its state and what it holds.
+abbrev pub OthersStay : Type 0
+OthersStay = (table : Table) (s : Machine) (k : Kept) (i : ℕ) → IsTrue (is_run table s) → IsTrue (may_be_kept table s.courses (now table s) k)
+    → LeavesPieceOf s.kept k i
+    → let m = now table s in
+    let after = advance table s.courses m k in
+    has_begun after i ≡ has_begun m i
+    → (running_of after i ≡ running_of m i) × (process_state s.courses after i ≡ process_state s.courses m i) × (hold_of s.courses after i ≡ hold_of s.courses m i)
 
 -- what a kept event makes of the state of process i where it is of its piece
 abbrev pub state_by_piece : Kept → ℕ → ProcessState → Option Piece → ProcessState

@@ -1,6 +1,6 @@
 // The laws of the machine that are proved: each function says one, and does nothing.
 ghost use Rattle.machine_model.specs.Laws.{BlockedWhereSomethingStands, CascadeIsLeast, UndosWaitByA5};
-ghost use Rattle.machine_model.specs.PieceLaws.{OneRuns, OverIsFinished};
+ghost use Rattle.machine_model.specs.PieceLaws.{OneRuns, OthersStay, OverIsFinished, RunningIsNext};
 ghost use Rattle.machine_model.specs.CallLaws.{BeginningsOfRunsAreRuns, CallsKeepRuns, StuckIsExact, TurnsMakeRuns, VictimsRunDry};
 
 /// The computed cascade of an active process is the least set.
@@ -51,4 +51,14 @@ pub fn stuck_is_exact()
 /// The turns of several threads make a run.
 pub fn turns_make_runs()
     ensures { TurnsMakeRuns }
+{}
+
+/// The running piece of a process is its next piece.
+pub fn running_is_next()
+    ensures { RunningIsNext }
+{}
+
+/// An event leaves a process as it was, unless it is of its piece or makes it begin to complete.
+pub fn others_stay()
+    ensures { OthersStay }
 {}
