@@ -13,6 +13,7 @@ pub mod Frames
 pub mod Least
 pub mod Cascades
 pub mod Clear
+pub mod OpenHoldings
 pub mod CallsKept
 pub mod RunningNext
 pub mod OthersStay

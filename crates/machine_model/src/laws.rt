@@ -1,5 +1,5 @@
 // The laws of the machine that are proved: each function says one, and does nothing.
-ghost use Rattle.machine_model.specs.Laws.{BlockedWhereSomethingStands, CascadeIsLeast, UndosWaitByA5};
+ghost use Rattle.machine_model.specs.Laws.{BlockedWhereSomethingStands, CascadeIsLeast, OpenHoldingsBlockAlike, UndosWaitByA5};
 ghost use Rattle.machine_model.specs.PieceLaws.{OneRuns, OthersStay, OverIsFinished, RunningIsNext};
 ghost use Rattle.machine_model.specs.CallLaws.{BeginningsOfRunsAreRuns, CallsKeepRuns, StuckIsExact, TurnsMakeRuns, VictimsRunDry};
 
@@ -61,4 +61,9 @@ pub fn running_is_next()
 /// An event leaves a process as it was, unless it is of its piece or makes it begin to complete.
 pub fn others_stay()
     ensures { OthersStay }
+{}
+
+/// What the open processes hold is enough to tell what blocks.
+pub fn open_holdings_block_alike()
+    ensures { OpenHoldingsBlockAlike }
 {}
