@@ -17,4 +17,5 @@ pub mod OpenHoldings
 pub mod CallsKept
 pub mod RunningNext
 pub mod OthersStay
+pub mod OwnEvents
 pub mod TurnRuns

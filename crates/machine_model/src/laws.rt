@@ -1,6 +1,6 @@
 // The laws of the machine that are proved: each function says one, and does nothing.
 ghost use Rattle.machine_model.specs.Laws.{BlockedWhereSomethingStands, CascadeIsLeast, OpenHoldingsBlockAlike, UndosWaitByA5};
-ghost use Rattle.machine_model.specs.PieceLaws.{OneRuns, OthersStay, OverIsFinished, RunningIsNext};
+ghost use Rattle.machine_model.specs.PieceLaws.{OneRuns, OthersStay, OverIsFinished, ProgressGoesByTransitions, RefusedBeginsWithoutWayOn, RunningIsNext};
 ghost use Rattle.machine_model.specs.CallLaws.{BeginningsOfRunsAreRuns, CallsKeepRuns, StuckIsExact, TurnsMakeRuns, VictimsRunDry};
 
 /// The computed cascade of an active process is the least set.
@@ -66,4 +66,14 @@ pub fn others_stay()
 /// What the open processes hold is enough to tell what blocks.
 pub fn open_holdings_block_alike()
     ensures { OpenHoldingsBlockAlike }
+{}
+
+/// The progress of a process goes by the ends of its pieces and by its beginning to complete.
+pub fn progress_goes_by_transitions()
+    ensures { ProgressGoesByTransitions }
+{}
+
+/// A refusal of the one try of a step makes its process begin to complete exactly where no way on is left.
+pub fn refused_begins_without_way_on()
+    ensures { RefusedBeginsWithoutWayOn }
 {}
