@@ -18,4 +18,5 @@ pub mod CallsKept
 pub mod RunningNext
 pub mod OthersStay
 pub mod OwnEvents
+pub mod Dropped
 pub mod TurnRuns

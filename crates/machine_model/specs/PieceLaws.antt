@@ -7,10 +7,10 @@ use Rattle.schedule_model.specs.Course.{shape}
 use Rattle.machine_model.specs.declared.kept.Work.TheVariants.{Undo}
 use Rattle.machine_model.specs.declared.kept.Kept.{Kept}
 use Rattle.machine_model.specs.declared.kept.Kept.TheVariants.{Start, Hand, Effect, Refuse, Abort, Victim, Restart}
-use Rattle.machine_model.specs.declared.replies.PieceState.TheVariants.{Over}
+use Rattle.machine_model.specs.declared.replies.PieceState.TheVariants.{Dropped, Over}
 use Rattle.machine_model.specs.Progress.{Progress, is_only_try, same_task}
 use Rattle.machine_model.specs.ProcessState.{ProcessState, effected, was_refused, begun, work_done, past, complete_unless_on}
-use Rattle.machine_model.specs.Moment.{Piece, has_begun}
+use Rattle.machine_model.specs.Moment.{Moment, Piece, Beginning, beginning_of, has_begun}
 use Rattle.machine_model.specs.Pieces.{is_finished, piece_of, running_of, state_of}
 use Rattle.machine_model.specs.State.{hold_of, next_of, process_state, progress}
 use Rattle.machine_model.specs.Advance.{Machine, advance}
@@ -21,6 +21,17 @@ use Rattle.machine_model.specs.Laws.{IsSession}
 abbrev pub OverIsFinished : Type 0
 OverIsFinished = (table : Table) (s : Machine) (n : ℕ) → IsTrue (is_run table s) → IsTrue (is_some (piece_of s.kept n))
     → (state_of (now table s) n ≡ Over) ↔ IsTrue (is_finished s.kept n)
+
+-- Process of piece n began to complete at kept event k, after the piece was handed out and while it was unfinished.
+abbrev pub WasDroppedAt : Moment → ℕ → ℕ → Type 0
+WasDroppedAt m n k =
+    (p : Piece) × (b : Beginning) × (piece_of m.kept n ≡ Some p) × (beginning_of m p.process ≡ Some b) × (b.began.event ≡ k)
+    × IsTrue (is_some (piece_of (take k m.kept) n)) × (is_finished (take k m.kept) n ≡ false)
+
+-- A piece that was handed out is dropped at a kept event exactly where that is so.
+abbrev pub DroppedIsExact : Type 0
+DroppedIsExact = (table : Table) (s : Machine) (n k : ℕ) → IsTrue (is_run table s) → IsTrue (is_some (piece_of s.kept n))
+    → (state_of (now table s) n ≡ Dropped k) ↔ WasDroppedAt (now table s) n k
 
 -- At most one piece of a process is out.
 abbrev pub OneRuns : Type 0

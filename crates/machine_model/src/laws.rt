@@ -1,6 +1,6 @@
 // The laws of the machine that are proved: each function says one, and does nothing.
 ghost use Rattle.machine_model.specs.Laws.{BlockedWhereSomethingStands, CascadeIsLeast, OpenHoldingsBlockAlike, UndosWaitByA5};
-ghost use Rattle.machine_model.specs.PieceLaws.{OneRuns, OthersStay, OverIsFinished, ProgressGoesByTransitions, RefusedBeginsWithoutWayOn, RunningIsNext};
+ghost use Rattle.machine_model.specs.PieceLaws.{DroppedIsExact, OneRuns, OthersStay, OverIsFinished, ProgressGoesByTransitions, RefusedBeginsWithoutWayOn, RunningIsNext};
 ghost use Rattle.machine_model.specs.CallLaws.{BeginningsOfRunsAreRuns, CallsKeepRuns, StuckIsExact, TurnsMakeRuns, VictimsRunDry};
 
 /// The computed cascade of an active process is the least set.
@@ -76,4 +76,9 @@ pub fn progress_goes_by_transitions()
 /// A refusal of the one try of a step makes its process begin to complete exactly where no way on is left.
 pub fn refused_begins_without_way_on()
     ensures { RefusedBeginsWithoutWayOn }
+{}
+
+/// A piece is dropped exactly where its process began to complete while it was out.
+pub fn dropped_is_exact()
+    ensures { DroppedIsExact }
 {}
