@@ -19,4 +19,7 @@ pub mod RunningNext
 pub mod OthersStay
 pub mod OwnEvents
 pub mod Dropped
+pub mod Ends
+pub mod OpenCascade
+pub mod Restart
 pub mod TurnRuns

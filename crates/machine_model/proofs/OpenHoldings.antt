@@ -24,7 +24,7 @@ use Rattle.machine_model.specs.Moment.{Moment}
 use Rattle.machine_model.specs.State.{against_work, hold_of, holdings, next_of}
 use Rattle.machine_model.specs.Laws.{IsEndedFree, OpenHoldingsBlockAlike, open_only}
 
-head_contained : {X : Type 0} (x : X) (xs : List X) → Contains (x ∷ xs) x
+pub head_contained : {X : Type 0} (x : X) (xs : List X) → Contains (x ∷ xs) x
 head_contained x xs = (0, omega arith, refl)
 
 -- what each contained element has

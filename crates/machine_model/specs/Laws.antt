@@ -30,7 +30,7 @@ use Rattle.machine_model.specs.Cascade.{IsCascade, cascade}
 use Rattle.machine_model.specs.Moment.{Moment, Piece, has_begun}
 use Rattle.machine_model.specs.Pieces.{hands, running_of}
 use Rattle.machine_model.specs.State.{against_task, against_work, block_of, hold_of, holdings, is_exhausted, is_pending, next_of, pending_of, undo_next}
-use Rattle.machine_model.specs.Advance.{Machine, event_by}
+use Rattle.machine_model.specs.Advance.{Machine, cascade_of, event_by}
 use Rattle.machine_model.specs.Runs.{history, is_run, now}
 use Rattle.machine_model.specs.Replies.{stuck}
 use Rattle.machine_model.specs.Calls.{IsNoStart, Call, start, answer, answer_next, answered, next_is}
@@ -195,3 +195,8 @@ OpenHoldingsBlockAlike = (table : Table) (courses : List Course) (m : Moment) (i
     → let t = next_of courses m i in
     (t.work ≡ Undo → IsEndedFree table m (doing courses i t.step))
     → against_work table courses (open_only (holdings courses m)) m.events i t.step t.work ≡ against_task table courses m i t
+
+-- The cascade of an active process is the same by what the open processes hold alone.
+abbrev pub OpenHoldingsDragAlike : Type 0
+OpenHoldingsDragAlike = (table : Table) (courses : List Course) (m : Moment) (i : ℕ) → IsTrue (is_active m.events i)
+    → cascade table (open_only (holdings courses m)) i (pending_of courses m i) ≡ cascade_of table courses m i

@@ -1,5 +1,5 @@
 // The laws of the machine that are proved: each function says one, and does nothing.
-ghost use Rattle.machine_model.specs.Laws.{BlockedWhereSomethingStands, CascadeIsLeast, OpenHoldingsBlockAlike, UndosWaitByA5};
+ghost use Rattle.machine_model.specs.Laws.{BlockedWhereSomethingStands, CascadeIsLeast, OpenHoldingsBlockAlike, OpenHoldingsDragAlike, RestartFollowsCompletion, UndosWaitByA5};
 ghost use Rattle.machine_model.specs.PieceLaws.{DroppedIsExact, OneRuns, OthersStay, OverIsFinished, ProgressGoesByTransitions, RefusedBeginsWithoutWayOn, RunningIsNext};
 ghost use Rattle.machine_model.specs.CallLaws.{BeginningsOfRunsAreRuns, CallsKeepRuns, StuckIsExact, TurnsMakeRuns, VictimsRunDry};
 
@@ -81,4 +81,14 @@ pub fn refused_begins_without_way_on()
 /// A piece is dropped exactly where its process began to complete while it was out.
 pub fn dropped_is_exact()
     ensures { DroppedIsExact }
+{}
+
+/// Once all have begun to complete, the next event is the head of the completion.
+pub fn restart_follows_completion()
+    ensures { RestartFollowsCompletion }
+{}
+
+/// What the open processes hold is enough to tell who goes back together.
+pub fn open_holdings_drag_alike()
+    ensures { OpenHoldingsDragAlike }
 {}
