@@ -4,7 +4,7 @@ use Rattle.std.specs.List.{list_any}
 use Rattle.std.proofs.lemmas.Bool.{eqb-true, or_left, or_right, eq-eqb, false≢true}
 use Rattle.std.proofs.lemmas.List.Folds.{list_any-append}
 use Rattle.schedule_model.specs.Course.{Course}
-use Rattle.schedule_model.specs.Conflict.{Table}
+use Rattle.schedule_model.specs.Conflict.{ConflictRelation}
 use Rattle.schedule_model.specs.Histories.{active, is_in}
 use Rattle.schedule_model.specs.declared.event.Event.{Event}
 use Rattle.machine_model.specs.declared.kept.Kept.{Kept}
@@ -59,7 +59,7 @@ all_begin-has cause m (i ∷ is) k = all_begin-has cause (begins cause m i) is k
     ∙ (ap (λ t. t || is_in k is) (begins-has cause m i k ∙ ap (λ t. has_begun m k || t) (eqb_flip i k)) ∙ or_assoc (has_begun m k) (eqb k i) (is_in k is))
 
 -- whoever has begun stays so
-module _ (table : Table) (courses : List Course) (k : ℕ) where
+module _ (table : ConflictRelation) (courses : List Course) (k : ℕ) where
   abbrev HasBegun : Moment → Type 0
   HasBegun m = has_begun m k ≡ true
 

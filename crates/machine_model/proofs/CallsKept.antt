@@ -7,7 +7,7 @@ use Rattle.std.proofs.lemmas.Bool.{eq-eqb, eqb-true, and_from, false≢true}
 use Rattle.process_tree.specs.declared.play.Outcome.{Outcome}
 use Rattle.process_tree.specs.declared.play.Outcome.TheVariants.{Done, Refused}
 use Rattle.schedule_model.specs.Course.{Course}
-use Rattle.schedule_model.specs.Conflict.{Table}
+use Rattle.schedule_model.specs.Conflict.{ConflictRelation}
 use Rattle.schedule_model.specs.Histories.{active, is_active, is_in, starts}
 use Rattle.machine_model.specs.declared.blocked.Blocked.{Blocked}
 use Rattle.machine_model.specs.declared.kept.Kept.{Kept}
@@ -60,7 +60,7 @@ out_runs true drop is = refl
 out_runs false None is = absurd (false≢true (ap is_out is))
 out_runs false (Some k) is = absurd (false≢true (ap is_out is))
 
-module _ (table : Table) (courses : List Course) (m : Moment) where
+module _ (table : ConflictRelation) (courses : List Course) (m : Moment) where
   -- the next piece of a free process may be handed out
   pub hand-may : (i : ℕ) → is_free table courses m i ≡ true → may_be_kept table courses m (kept_hand (hand_to courses m i)) ≡ true
   hand-may i free = and_from _ _ (and_from _ _ (and_from _ _ (eq-eqb (length (hands m.kept) + 1) (length (hands m.kept) + 1) refl) free) (same_work-itself (next_of courses m i).work)) (eq-eqb (next_of courses m i).step (next_of courses m i).step refl)
@@ -172,7 +172,7 @@ module _ (table : Table) (courses : List Course) (m : Moment) where
   pub restart-kept : goes_on_from table courses m (if may_be_kept table courses m Restart then Restart ∷ [] else []) ≡ true
   restart-kept = restart_by (may_be_kept table courses m Restart) refl
 
-module _ (table : Table) (courses : List Course) where
+module _ (table : ConflictRelation) (courses : List Course) where
   -- victims
 
   victim_kept : (m : Moment) (rest : ℕ → List Kept) → ((i : ℕ) → goes_on_from table courses (advance table courses m (Victim i)) (rest i) ≡ true)
@@ -202,13 +202,13 @@ module _ (table : Table) (courses : List Course) where
   call-kept m served complete_all no_start = restart-kept table courses m
 
 -- a run stays one by every call but a start, whatever its opening and its plans
-pub call-makes_run : (table : Table) (s : Machine) (c : Call) → IsNoStart c → IsTrue (is_run table s)
+pub call-makes_run : (table : ConflictRelation) (s : Machine) (c : Call) → IsNoStart c → IsTrue (is_run table s)
     → IsTrue (is_run table (keeping s (answer table s c).kept))
 call-makes_run table s c no_start run =
     goes_on-append table s.courses (opening_moment s.opening) s.kept (answer table s c).kept
     ∙ and_from (is_run table s) _ run (call-kept table s.courses (now table s) s.served c no_start)
 
-no_courses : (table : Table) (s : Machine) (c : Call) → IsNoStart c → (answer table s c).courses ≡ []
+no_courses : (table : ConflictRelation) (s : Machine) (c : Call) → IsNoStart c → (answer table s c).courses ≡ []
 no_courses table s (start c) no_start = absurd no_start
 no_courses table s (admit i) no_start = refl
 no_courses table s next no_start = refl

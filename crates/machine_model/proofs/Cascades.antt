@@ -3,7 +3,7 @@ use Rattle.std.proofs.Common.{◌≡◌, ℕ, Bool, true, false, eqb, ◌||◌, 
 use Rattle.std.specs.Bool.{IsTrue}
 use Rattle.std.proofs.lemmas.Bool.{eqb-true}
 use Rattle.process_tree.specs.declared.entry.Entry.{Entry}
-use Rattle.schedule_model.specs.Conflict.{Table}
+use Rattle.schedule_model.specs.Conflict.{ConflictRelation}
 use Rattle.schedule_model.specs.Histories.{is_in}
 use Rattle.schedule_model.specs.Holdings.{Holdings, holders}
 use Rattle.schedule_model.proofs.Walks.{reached_least}
@@ -16,6 +16,6 @@ alone k root is = eqb-true k root (sym (or_false (eqb k root)) ∙ is)
     or_false true = refl
     or_false false = refl
 
-pub cascade-least : (table : Table) (g : Holdings) (root : ℕ) (entries : List Entry) → IsTrue (is_in root (holders g))
+pub cascade-least : (table : ConflictRelation) (g : Holdings) (root : ℕ) (entries : List Entry) → IsTrue (is_in root (holders g))
     → IsCascade table g root entries (cascade table g root entries)
 cascade-least table g root entries active = reached_least (drags table g root entries) (holders g) (root ∷ []) (λ k is. ap (λ i. is_in i (holders g)) (alone k root is) ∙ active)

@@ -2,7 +2,7 @@
 use Rattle.std.proofs.Common.{◌≡◌, ◌+◌, List, [], ◌∷◌, ◌++◌, length, Option, Some, None, IfSome, sym, refl, ap, subst, ◌∙◌, arith}
 use Rattle.std.proofs.lemmas.List.{length-append, length-map}
 use Rattle.process_tree.specs.declared.entry.Entry.{Entry}
-use Rattle.schedule_model.specs.Conflict.{Table}
+use Rattle.schedule_model.specs.Conflict.{ConflictRelation}
 use Rattle.schedule_model.specs.Holdings.{Holdings}
 use Rattle.schedule_model.specs.Blocking.{Clash, Clashes, all_clashes, against_undo, with_later}
 use Rattle.machine_model.specs.declared.blocked.Blocked.{Blocked}
@@ -43,7 +43,7 @@ all_by_rule r [] = tt
 all_by_rule r (c ∷ cs) = (refl, all_by_rule r cs)
 
 -- what blocks an undo is A5
-pub undo-by_rule : (table : Table) (g : Holdings) (x : Entry) → IfSome (least_block (blocks_of (against_undo table g x))) (λ b. b.rule ≡ A5)
+pub undo-by_rule : (table : ConflictRelation) (g : Holdings) (x : Entry) → IfSome (least_block (blocks_of (against_undo table g x))) (λ b. b.rule ≡ A5)
 undo-by_rule table g x = least-has (λ b. b.rule ≡ A5) (by_rule A5 (with_later table g x)) (all_by_rule A5 (with_later table g x))
 
 pub blocked_where_something_stands : BlockedWhereSomethingStands

@@ -11,7 +11,7 @@ use Rattle.process_tree.specs.Order.{Each}
 use Rattle.process_tree.proofs.Every.{Each-weaker, Each-append, Each-both, Each-map}
 use Rattle.schedule_model.specs.declared.event.Event.{Event}
 use Rattle.schedule_model.specs.Course.{Course}
-use Rattle.schedule_model.specs.Conflict.{Table}
+use Rattle.schedule_model.specs.Conflict.{ConflictRelation}
 use Rattle.machine_model.specs.declared.kept.Kept.{Kept}
 use Rattle.machine_model.specs.declared.kept.Kept.TheVariants.{Start, Hand, Effect, Refuse, Abort, Victim, Restart}
 use Rattle.machine_model.specs.declared.began.Cause.{Cause}
@@ -252,7 +252,7 @@ module _ (m o : Moment) (k : Kept) (kept : o.kept ≡ m.kept ++ k ∷ []) (lost 
     all = still_all;
   }
 
-module _ (table : Table) (courses : List Course) where
+module _ (table : ConflictRelation) (courses : List Course) where
   by_event : (m : Moment) (k : Kept) → LostInOrder m → may_be_kept table courses m k ≡ true → LostInOrder (entered courses m k)
   by_event m (Effect n) order may = by_piece (piece_of (m.kept ++ Effect n ∷ []) n) (entered-tidy table courses m (Effect n) order.tidy may)
     where
@@ -270,7 +270,7 @@ module _ (table : Table) (courses : List Course) where
   advance-in_order m k order may = advance-keeps LostInOrder (λ cause n i never is. after-in_order cause n i never is) table courses m k (by_event m k order may)
 
 -- so it is all along a run
-pub run-in_order : (table : Table) (s : Machine) → IsTrue (is_run table s) → LostInOrder (now table s)
+pub run-in_order : (table : ConflictRelation) (s : Machine) → IsTrue (is_run table s) → LostInOrder (now table s)
 run-in_order table s run = run-keeps table s LostInOrder (advance-in_order table s.courses) run
     (record { tidy = opening-tidy s.opening; lost = tt; kept = tt; all = λ n p b found began out. absurd (none-some b began) })
 

@@ -9,7 +9,7 @@ use Rattle.process_tree.specs.Shape.{Shape}
 use Rattle.schedule_model.specs.declared.event.Event.{Event}
 use Rattle.schedule_model.specs.declared.event.Event.TheVariants.{Start as Started, Act, End as Ended}
 use Rattle.schedule_model.specs.Course.{Course, shape}
-use Rattle.schedule_model.specs.Conflict.{Table}
+use Rattle.schedule_model.specs.Conflict.{ConflictRelation}
 use Rattle.schedule_model.specs.Histories.{net_of, net_steps, done_steps, steps_of, doing, undoing}
 use Rattle.schedule_model.proofs.Appends.{done_steps-append}
 use Rattle.schedule_model.proofs.Snoc.{net_of-other, net_of-start, net_of-end, done_steps-undo}
@@ -78,7 +78,7 @@ piece_of-plain ks k n none = ap (find (is_number n)) (hands-append ks (k ∷ [])
 abbrev pub IsOfOthers : List Kept → Kept → ℕ → Type 0
 IsOfOthers ks k i = (p : Piece) → piece_ended ks k ≡ Some p → eqb p.process i ≡ false
 
-module _ (table : Table) (courses : List Course) where
+module _ (table : ConflictRelation) (courses : List Course) where
   by_kept : (ks : List Kept) (m : Moment) (i : ℕ) → refused_pieces ks ≡ refused_pieces m.kept
       → map (λ (p : Piece). p.step) (filter (λ (p : Piece). eqb p.process i && is_only_try (shape courses i) p.step p.work) (refused_pieces ks)) ≡ refused_steps courses m i
   by_kept ks m i same = ap (λ ps. map (λ (p : Piece). p.step) (filter (λ (p : Piece). eqb p.process i && is_only_try (shape courses i) p.step p.work) ps)) same

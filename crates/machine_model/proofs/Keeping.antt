@@ -6,7 +6,7 @@ use Rattle.process_tree.specs.Shape.{kind_of, can_be_refused}
 use Rattle.schedule_model.specs.declared.event.Event.{Event}
 use Rattle.schedule_model.specs.declared.event.Event.TheVariants.{Start as Started}
 use Rattle.schedule_model.specs.Course.{Course, shape}
-use Rattle.schedule_model.specs.Conflict.{Table}
+use Rattle.schedule_model.specs.Conflict.{ConflictRelation}
 use Rattle.schedule_model.specs.Histories.{active}
 use Rattle.machine_model.specs.declared.kept.Kept.{Kept}
 use Rattle.machine_model.specs.declared.kept.Kept.TheVariants.{Start, Hand, Effect, Refuse, Abort, Victim, Restart}
@@ -47,7 +47,7 @@ module _ (P : Moment → Type 0) (kept : IsKeptByBeginnings P) where
   all_begin-keep cause m [] holds = holds
   all_begin-keep cause m (i ∷ is) holds = all_begin-keep cause (begins cause m i) is (begins-keep cause m i holds)
 
-  module _ (table : Table) (courses : List Course) where
+  module _ (table : ConflictRelation) (courses : List Course) where
     pub drag_along-keeps : (m : Moment) (i : ℕ) → P m → P (drag_along table courses m i)
     drag_along-keeps m i holds = all_begin-keep (Cascade i) m (filter (λ k. not (eqb k i)) (cascade_of table courses m i)) holds
 
@@ -90,7 +90,7 @@ module _ (P : Moment → Type 0) (kept : IsKeptByBeginnings P) where
     advance-keeps m Restart holds = all_begin-keep Restarted (noted m Restart) (active m.events) holds
 
 -- what holds at the opening and is kept by each event that may be kept holds all along a run
-module _ (table : Table) (courses : List Course) (P : Moment → Type 0)
+module _ (table : ConflictRelation) (courses : List Course) (P : Moment → Type 0)
     (step : (m : Moment) (k : Kept) → P m → may_be_kept table courses m k ≡ true → P (advance table courses m k)) where
   pub goes_on-keeps : (m : Moment) (ks : List Kept) → goes_on_from table courses m ks ≡ true → P m → P (advance_all table courses m ks)
   goes_on-keeps m [] goes holds = holds
@@ -99,7 +99,7 @@ module _ (table : Table) (courses : List Course) (P : Moment → Type 0)
       goes_on-keeps (advance table courses m k) ks parts.1 (step m k holds parts.0)
 
 -- the same of a machine
-pub run-keeps : (table : Table) (s : Machine) (P : Moment → Type 0)
+pub run-keeps : (table : ConflictRelation) (s : Machine) (P : Moment → Type 0)
     → ((m : Moment) (k : Kept) → P m → may_be_kept table s.courses m k ≡ true → P (advance table s.courses m k))
     → IsTrue (is_run table s) → P (opening_moment s.opening) → P (now table s)
 run-keeps table s P step run holds = goes_on-keeps table s.courses P step (opening_moment s.opening) s.kept run holds

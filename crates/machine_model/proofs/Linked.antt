@@ -11,7 +11,7 @@ use Rattle.process_tree.proofs.Every.{Each-weaker, Each-append}
 use Rattle.schedule_model.specs.declared.event.Event.{Event}
 use Rattle.schedule_model.specs.declared.event.Event.TheVariants.{Start as Started}
 use Rattle.schedule_model.specs.Course.{Course}
-use Rattle.schedule_model.specs.Conflict.{Table}
+use Rattle.schedule_model.specs.Conflict.{ConflictRelation}
 use Rattle.machine_model.specs.declared.kept.Kept.{Kept}
 use Rattle.machine_model.specs.declared.kept.Kept.TheVariants.{Start, Hand, Effect, Refuse, Abort, Victim, Restart}
 use Rattle.machine_model.specs.declared.kept.Work.{Work}
@@ -76,7 +76,7 @@ handed_is m p new =
     ∙ (ap (λ o. option_or o (find (is_number p.number) (p ∷ []))) (none_found (is_number p.number) (hands m.kept) (none-count (is_number p.number) (hands m.kept) new))
     ∙ ap (λ t. cond t (Some p) None) (eq-eqb p.number p.number refl)))
 
-module _ (table : Table) (courses : List Course) where
+module _ (table : ConflictRelation) (courses : List Course) where
   perhaps : (m : Moment) (o : Option Piece) → Linked m → Linked (with_piece (λ p. happened m (event_of courses p)) m o)
   perhaps m None linked = linked
   perhaps m (Some p) linked = linked
@@ -113,5 +113,5 @@ pub opening-tidy : (h : List Event) → Tidy (opening_moment h)
 opening-tidy h = record { counted = opening-counted h; one = record { one = λ i. omega arith }; linked = tt }
 
 -- so it is all along a run
-pub run-tidy : (table : Table) (s : Machine) → IsTrue (is_run table s) → Tidy (now table s)
+pub run-tidy : (table : ConflictRelation) (s : Machine) → IsTrue (is_run table s) → Tidy (now table s)
 run-tidy table s run = run-keeps table s Tidy (advance-tidy table s.courses) run (opening-tidy s.opening)

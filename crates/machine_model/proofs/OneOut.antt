@@ -6,7 +6,7 @@ use Rattle.std.proofs.lemmas.Bool.{and_parts, eqb-true, eq-eqb, ne_eqb, cases_eq
 use Rattle.schedule_model.specs.declared.event.Event.{Event}
 use Rattle.schedule_model.specs.declared.event.Event.TheVariants.{Start as Started}
 use Rattle.schedule_model.specs.Course.{Course}
-use Rattle.schedule_model.specs.Conflict.{Table}
+use Rattle.schedule_model.specs.Conflict.{ConflictRelation}
 use Rattle.machine_model.specs.declared.kept.Kept.{Kept}
 use Rattle.machine_model.specs.declared.kept.Kept.TheVariants.{Start, Hand, Effect, Refuse, Abort, Victim, Restart}
 use Rattle.machine_model.specs.declared.kept.Work.{Work}
@@ -33,7 +33,7 @@ idle_none : (o : Option Piece) → is_none o ≡ true → is_some o ≡ false
 idle_none None is = refl
 idle_none (Some p) is = absurd (false≢true is)
 
-module _ (table : Table) (courses : List Course) where
+module _ (table : ConflictRelation) (courses : List Course) where
   handing : (m : Moment) (p : Piece) → is_none (running_of m p.process) ≡ true → OneOut m → OneOut (noted m (Hand p.number p.process p.step p.work))
   handing m p idle c = record { one = one }
     where
@@ -77,7 +77,7 @@ module _ (table : Table) (courses : List Course) where
   advance-one m k c may = advance-keeps OneOut beginnings-one table courses m k (entered-one m k c may)
 
 -- so it is all along a run
-pub run-one : (table : Table) (s : Machine) → IsTrue (is_run table s) → OneOut (now table s)
+pub run-one : (table : ConflictRelation) (s : Machine) → IsTrue (is_run table s) → OneOut (now table s)
 run-one table s run = run-keeps table s OneOut (advance-one table s.courses) run (record { one = λ i. omega arith })
 
 length_step : {X : Type 0} (p : X → Bool) (x : X) (ys xs : List X) (t : Bool) → length ys ≡ count p xs → length (cond t (x ∷ ys) ys) ≡ cond t 1 0 + count p xs

@@ -9,7 +9,7 @@ use Rattle.process_tree.specs.Order.{Each}
 use Rattle.process_tree.proofs.Every.{Each-weaker, Each-append}
 use Rattle.process_tree.specs.declared.entry.Entry.{Entry}
 use Rattle.schedule_model.specs.Course.{Course, shape}
-use Rattle.schedule_model.specs.Conflict.{Table, conflict}
+use Rattle.schedule_model.specs.Conflict.{ConflictRelation, conflict}
 use Rattle.schedule_model.specs.Graph.{Arrow, spread, spread_by, reached}
 use Rattle.schedule_model.specs.Histories.{active, is_active, is_in, net, net_of, net_steps, same_step}
 use Rattle.schedule_model.specs.Holdings.{Hold, Holdings, holders, active_net, running_steps, behind}
@@ -50,7 +50,7 @@ spread-same a b all same (suc n) set =
 abbrev pub IsHeld : Holdings → Entry → Type 0
 IsHeld g e = is_in e.process (holders g) ≡ true
 
-module _ (table : Table) (g : Holdings) where
+module _ (table : ConflictRelation) (g : Holdings) where
   abbrev is_open : Entry → Bool
   is_open e = is_in e.process (holders g)
 

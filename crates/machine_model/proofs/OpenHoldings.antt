@@ -9,7 +9,7 @@ use Rattle.process_tree.specs.Recovery.{StepClass, reserved, committing, undoabl
 use Rattle.process_tree.specs.declared.entry.Entry.{Entry}
 use Rattle.schedule_model.specs.declared.event.Event.{Event}
 use Rattle.schedule_model.specs.Course.{Course}
-use Rattle.schedule_model.specs.Conflict.{Table, conflict}
+use Rattle.schedule_model.specs.Conflict.{ConflictRelation, conflict}
 use Rattle.schedule_model.specs.Graph.{leads}
 use Rattle.schedule_model.specs.Histories.{active, is_active, is_in, net, same_step, doing}
 use Rattle.schedule_model.specs.Holdings.{Hold, Holdings, holders, active_net, all_running, all_reserved, all_pending, running_steps, behind}
@@ -53,7 +53,7 @@ pub behind-filter : (x : Entry) (q : Entry → Bool) → ((e : Entry) → same_s
 behind-filter x q keeps [] = refl
 behind-filter x q keeps (e ∷ es) = behind_step x e q es (same_step x e) (q e) refl refl (keeps e) (behind-filter x q keeps es)
 
-module _ (table : Table) (g : Holdings) where
+module _ (table : ConflictRelation) (g : Holdings) where
   -- the processes that have the arrow
   abbrev arrow_by : List Entry → ℕ → ℕ → Bool
   arrow_by es k i = list_any (λ x. eqb x.process k && list_any (λ y. eqb y.process i && conflict table x y) (behind x es ++ running_steps g)) es

@@ -10,7 +10,7 @@ use Rattle.process_tree.proofs.Every.{Each-weaker}
 use Rattle.process_tree.specs.declared.entry.Entry.{Entry}
 use Rattle.schedule_model.specs.declared.event.Event.{Event}
 use Rattle.schedule_model.specs.Course.{Course, shape}
-use Rattle.schedule_model.specs.Conflict.{Table}
+use Rattle.schedule_model.specs.Conflict.{ConflictRelation}
 use Rattle.schedule_model.specs.Histories.{net_of, net_steps, steps_of, doing}
 use Rattle.schedule_model.specs.Holdings.{Hold}
 use Rattle.schedule_model.specs.Recovery.{owed, undoable}
@@ -71,7 +71,7 @@ pub record StaysFor (courses : List Course) (m n : Moment) (i : ℕ) : Type 0 wh
   pub begun : has_begun m i ≡ true → has_begun n i ≡ true
   pub running : has_begun n i ≡ has_begun m i → running_of n i ≡ running_of m i
 
-module _ (table : Table) (courses : List Course) (m : Moment) (i : ℕ) where
+module _ (table : ConflictRelation) (courses : List Course) (m : Moment) (i : ℕ) where
   abbrev Stays : Moment → Type 0
   Stays n = StaysFor courses m n i
 

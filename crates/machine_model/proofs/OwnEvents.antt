@@ -8,7 +8,7 @@ use Rattle.process_tree.specs.Order.{Each}
 use Rattle.process_tree.specs.Shape.{kind_of, can_be_refused}
 use Rattle.process_tree.proofs.Every.{Each-weaker}
 use Rattle.schedule_model.specs.Course.{Course, shape}
-use Rattle.schedule_model.specs.Conflict.{Table}
+use Rattle.schedule_model.specs.Conflict.{ConflictRelation}
 use Rattle.schedule_model.specs.Histories.{doing, undoing, net_steps, done_steps, is_in}
 use Rattle.schedule_model.proofs.Active.{is_in-filter}
 use Rattle.schedule_model.proofs.Recoveries.{net_steps-do}
@@ -178,7 +178,7 @@ module _ (courses : List Course) (m : Moment) (n : ℕ) (p : Piece) (counted : C
   own-refused = refused_by (is_only_try (shape courses p.process) p.step p.work) refl
 
 -- Beginnings change nothing of a progress but that it has begun.
-module _ (table : Table) (courses : List Course) where
+module _ (table : ConflictRelation) (courses : List Course) where
   pub advance-progress : (m : Moment) (k : Kept) (i : ℕ) → progress courses (advance table courses m k) i ≡ with_begun (has_begun (advance table courses m k) i) (progress courses (entered courses m k) i)
   advance-progress m k i = advance-keeps (λ n. progress courses n i ≡ with_begun (has_begun n i) (progress courses (entered courses m k) i))
       (λ cause n j never is. ap (with_begun (has_begun (begins_now cause n j) i)) is) table courses m k refl

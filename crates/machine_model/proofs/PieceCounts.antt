@@ -6,7 +6,7 @@ use Rattle.std.proofs.lemmas.Bool.{and_parts, eqb-true, eq-eqb, ne_eqb, cases_eq
 use Rattle.schedule_model.specs.declared.event.Event.{Event}
 use Rattle.schedule_model.specs.declared.event.Event.TheVariants.{Start as Started}
 use Rattle.schedule_model.specs.Course.{Course}
-use Rattle.schedule_model.specs.Conflict.{Table}
+use Rattle.schedule_model.specs.Conflict.{ConflictRelation}
 use Rattle.machine_model.specs.declared.kept.Kept.{Kept}
 use Rattle.machine_model.specs.declared.kept.Kept.TheVariants.{Start, Hand, Effect, Refuse, Abort, Victim, Restart}
 use Rattle.machine_model.specs.declared.kept.Work.{Work}
@@ -147,7 +147,7 @@ ending m k n gone ends none is c = record { parted = parted; once = once; fresh 
             let old = c.parted x in
             omega arith
 
-module _ (table : Table) (courses : List Course) where
+module _ (table : ConflictRelation) (courses : List Course) where
   happening : (m : Moment) (e : Event) → Counted m → Counted (happened m e)
   happening m e c = record { parted = c.parted; once = c.once; fresh = c.fresh }
 
@@ -177,5 +177,5 @@ pub opening-counted : (h : List Event) → Counted (opening_moment h)
 opening-counted h = record { parted = λ n. refl; once = λ n. omega arith; fresh = λ n late. refl }
 
 -- so it is all along a run
-pub run-counted : (table : Table) (s : Machine) → IsTrue (is_run table s) → Counted (now table s)
+pub run-counted : (table : ConflictRelation) (s : Machine) → IsTrue (is_run table s) → Counted (now table s)
 run-counted table s run = run-keeps table s Counted (advance-counted table s.courses) run (opening-counted s.opening)

@@ -14,7 +14,7 @@ use Rattle.process_tree.specs.declared.entry.Entry.{Entry}
 use Rattle.schedule_model.specs.declared.event.Event.{Event}
 use Rattle.schedule_model.specs.declared.event.Event.TheVariants.{Start as Started, Act, End as Ended}
 use Rattle.schedule_model.specs.Course.{Course, shape}
-use Rattle.schedule_model.specs.Conflict.{Table}
+use Rattle.schedule_model.specs.Conflict.{ConflictRelation}
 use Rattle.schedule_model.specs.Histories.{acts, active, is_active, is_in, net, net_of, net_steps, same_step, doing, undoing, steps_of}
 use Rattle.schedule_model.specs.Recovery.{owed, owed_steps, undoable}
 use Rattle.schedule_model.specs.Completion.{all_undoable, closing, completion, is_to_undo}
@@ -40,7 +40,7 @@ use Rattle.machine_model.proofs.Linked.{Each-filter}
 use Rattle.machine_model.proofs.OpenHoldings.{head_contained}
 
 -- The acts of a run have the operations of the plans.
-module _ (table : Table) (courses : List Course) where
+module _ (table : ConflictRelation) (courses : List Course) where
   abbrev OfPlans : Moment → Type 0
   OfPlans m = All (HasPlansOperation courses) (acts m.events)
 
@@ -69,7 +69,7 @@ module _ (table : Table) (courses : List Course) where
   advance_of_plans m k all = advance-keeps OfPlans (λ cause n i never is. is) table courses m k (entered_of_plans m k all)
 
 -- where its opening is of its plans, a run is
-pub run-of_plans : (table : Table) (s : Machine) → IsTrue (is_run table s) → All (HasPlansOperation s.courses) (acts s.opening) → All (HasPlansOperation s.courses) (acts (now table s).events)
+pub run-of_plans : (table : ConflictRelation) (s : Machine) → IsTrue (is_run table s) → All (HasPlansOperation s.courses) (acts s.opening) → All (HasPlansOperation s.courses) (acts (now table s).events)
 run-of_plans table s run all = run-keeps table s (OfPlans table s.courses) (λ m k is may. advance_of_plans table s.courses m k is) run all
 
 -- whoever has begun has its whole backward recovery pending

@@ -7,7 +7,7 @@ use Rattle.std.proofs.lemmas.Bool.{and_parts, and_from, or_parts, or_left, or_ri
 use Rattle.process_tree.specs.Order.{Each}
 use Rattle.process_tree.proofs.Every.{Each-weaker, Each-append, Each-both}
 use Rattle.schedule_model.specs.Course.{Course}
-use Rattle.schedule_model.specs.Conflict.{Table}
+use Rattle.schedule_model.specs.Conflict.{ConflictRelation}
 use Rattle.machine_model.specs.declared.kept.Kept.{Kept}
 use Rattle.machine_model.specs.declared.kept.Kept.TheVariants.{Start, Hand, Effect, Refuse, Abort, Victim, Restart}
 use Rattle.machine_model.specs.declared.kept.Work.{Work}
@@ -75,12 +75,12 @@ pub flipped : (a b : ℕ) → eqb a b ≡ false → eqb b a ≡ false
 flipped a b other = ne_eqb b a (λ same. eqb-false a b other (sym same))
 
 -- what a hand asks for
-pub record MayBeHanded (table : Table) (courses : List Course) (m : Moment) (p : Piece) : Type 0 where
+pub record MayBeHanded (table : ConflictRelation) (courses : List Course) (m : Moment) (p : Piece) : Type 0 where
   pub number : p.number ≡ length (hands m.kept) + 1
   pub free : is_free table courses m p.process ≡ true
   pub task : IsNextPiece courses m p
 
-pub hand_parts : (table : Table) (courses : List Course) (m : Moment) (p : Piece) → may_hand table courses m p ≡ true → MayBeHanded table courses m p
+pub hand_parts : (table : ConflictRelation) (courses : List Course) (m : Moment) (p : Piece) → may_hand table courses m p ≡ true → MayBeHanded table courses m p
 hand_parts table courses m p may = by_parts (eqb p.number (length (hands m.kept) + 1)) (is_free table courses m p.process) (same_work p.work (next_of courses m p.process).work) (eqb p.step (next_of courses m p.process).step) refl refl refl refl may
   where
     by_parts : (a b c d : Bool) → eqb p.number (length (hands m.kept) + 1) ≡ a → is_free table courses m p.process ≡ b → same_work p.work (next_of courses m p.process).work ≡ c
@@ -91,7 +91,7 @@ hand_parts table courses m p may = by_parts (eqb p.number (length (hands m.kept)
         let z = and_parts a b y.0 in
         record { number = eqb-true p.number (length (hands m.kept) + 1) (ea ∙ z.0); free = eb ∙ z.1; task = and_from (same_work p.work (next_of courses m p.process).work) (eqb p.step (next_of courses m p.process).step) (ec ∙ y.1) (ed ∙ x.1) }
 
-module _ (table : Table) (courses : List Course) where
+module _ (table : ConflictRelation) (courses : List Course) where
   abbrev AllNext : Moment → Type 0
   AllNext m = Each (IsNextPiece courses m) m.out
 
@@ -159,7 +159,7 @@ module _ (table : Table) (courses : List Course) where
   }
 
 -- so it is all along a run
-pub run-in_order : (table : Table) (s : Machine) → IsTrue (is_run table s) → InOrder table s.courses (now table s)
+pub run-in_order : (table : ConflictRelation) (s : Machine) → IsTrue (is_run table s) → InOrder table s.courses (now table s)
 run-in_order table s run = run-keeps table s (InOrder table s.courses) (advance-in_order table s.courses) run (record { tidy = opening-tidy s.opening; next = tt })
 
 pub running_is_next : RunningIsNext

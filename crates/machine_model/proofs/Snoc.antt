@@ -7,7 +7,7 @@ use Rattle.std.proofs.Common.{◌≡◌, ℕ, Bool, true, false, not, cond, eqb,
 use Rattle.schedule_model.specs.declared.event.Event.{Event}
 use Rattle.schedule_model.specs.declared.event.Event.TheVariants.{Start as Started}
 use Rattle.schedule_model.specs.Course.{Course, shape}
-use Rattle.schedule_model.specs.Conflict.{Table}
+use Rattle.schedule_model.specs.Conflict.{ConflictRelation}
 use Rattle.schedule_model.specs.Histories.{active}
 use Rattle.machine_model.specs.declared.kept.Kept.{Kept}
 use Rattle.machine_model.specs.declared.kept.Kept.TheVariants.{Start, Hand, Effect, Refuse, Abort, Victim, Restart}
@@ -50,7 +50,7 @@ pub all_begin-still : (cause : Cause) (m : Moment) (is : List ℕ) → StandsSti
 all_begin-still cause m [] = same_moment m
 all_begin-still cause m (i ∷ is) = then_still (begins-still cause m i) (all_begin-still cause (begins cause m i) is)
 
-module _ (table : Table) (courses : List Course) where
+module _ (table : ConflictRelation) (courses : List Course) where
   pub drag_along-still : (m : Moment) (i : ℕ) → StandsStill m (drag_along table courses m i)
   drag_along-still m i = all_begin-still (Cascade i) m (filter (λ k. not (eqb k i)) (cascade_of table courses m i))
 
@@ -143,11 +143,11 @@ module _ (table : Table) (courses : List Course) where
       ∙ and_assoc (may_be_kept table courses m k) (goes_on_from table courses (advance table courses m k) ks) (goes_on_from table courses (advance_all table courses (advance table courses m k) ks) js)
 
 -- what was kept stays kept
-pub now-kept : (table : Table) (s : Machine) → (now table s).kept ≡ s.kept
+pub now-kept : (table : ConflictRelation) (s : Machine) → (now table s).kept ≡ s.kept
 now-kept table s = advance_all-kept table s.courses (opening_moment s.opening) s.kept
 
 -- the moment with one more kept event
-pub now-push : (table : Table) (s : Machine) (k : Kept) → now table (keeping s (k ∷ [])) ≡ advance table s.courses (now table s) k
+pub now-push : (table : ConflictRelation) (s : Machine) (k : Kept) → now table (keeping s (k ∷ [])) ≡ advance table s.courses (now table s) k
 now-push table s k = advance_all-append table s.courses (opening_moment s.opening) s.kept (k ∷ [])
 
 and_true : (a : Bool) → (a && true) ≡ a
@@ -155,11 +155,11 @@ and_true true = refl
 and_true false = refl
 
 -- a session with one more kept event is a run where it was and the event may be kept
-pub is_run-push : (table : Table) (s : Machine) (k : Kept) → is_run table (keeping s (k ∷ [])) ≡ (is_run table s && may_be_kept table s.courses (now table s) k)
+pub is_run-push : (table : ConflictRelation) (s : Machine) (k : Kept) → is_run table (keeping s (k ∷ [])) ≡ (is_run table s && may_be_kept table s.courses (now table s) k)
 is_run-push table s k = goes_on-append table s.courses (opening_moment s.opening) s.kept (k ∷ []) ∙ ap (λ b. is_run table s && b) (and_true (may_be_kept table s.courses (now table s) k))
 
 -- each beginning of a run is one
-pub is_run-prefix : (table : Table) (s : Machine) (ks : List Kept) → IsTrue (is_run table (keeping s ks)) → IsTrue (is_run table s)
+pub is_run-prefix : (table : ConflictRelation) (s : Machine) (ks : List Kept) → IsTrue (is_run table (keeping s ks)) → IsTrue (is_run table s)
 is_run-prefix table s ks is = both-left (is_run table s) _ (sym (goes_on-append table s.courses (opening_moment s.opening) s.kept ks) ∙ is)
 
 pub beginnings_of_runs_are_runs : BeginningsOfRunsAreRuns

@@ -8,7 +8,7 @@ use Rattle.process_tree.specs.Shape.{greatest, greater}
 use Rattle.process_tree.proofs.InTurn.{greatest_is}
 use Rattle.process_tree.proofs.LastPath.{greatest_of}
 use Rattle.schedule_model.specs.Course.{Course}
-use Rattle.schedule_model.specs.Conflict.{Table}
+use Rattle.schedule_model.specs.Conflict.{ConflictRelation}
 use Rattle.schedule_model.specs.Histories.{active, is_active, is_in}
 use Rattle.schedule_model.proofs.Active.{is_in-filter, is_active-is_in}
 use Rattle.schedule_model.proofs.Appends.{is_in-append}
@@ -98,7 +98,7 @@ no_greatest (x ∷ xs) k is listed = by_rest (greatest xs) is
         by_test true e' = none-some x (sym e')
         by_test false e' = none-some y (sym e')
 
-module _ (table : Table) (courses : List Course) (m : Moment) (dry : victim_of table courses m ≡ None) where
+module _ (table : ConflictRelation) (courses : List Course) (m : Moment) (dry : victim_of table courses m ≡ None) where
   -- where nothing runs, whoever isn't free is exhausted or blocked
   not_free : (k : ℕ) → m.out ≡ [] → is_active m.events k ≡ true → is_free table courses m k ≡ false → (is_exhausted courses m k || is_blocked table courses m k) ≡ true
   not_free k idle active not_free' = by_tries (is_exhausted courses m k) refl (is_some (block_of table courses m k)) refl
@@ -178,7 +178,7 @@ module _ (table : Table) (courses : List Course) (m : Moment) (dry : victim_of t
   stuck-only served i is = by_free served i (find (is_free table courses m) (rotation m served)) refl is
 
 -- whoever is exhausted or blocked isn't free
-module _ (table : Table) (courses : List Course) (m : Moment) where
+module _ (table : ConflictRelation) (courses : List Course) (m : Moment) where
   exhausted_not_free : (k : ℕ) → is_exhausted courses m k ≡ true → is_free table courses m k ≡ false
   exhausted_not_free k is = and_left _ _ (and_right _ _ (ap not is))
 

@@ -6,7 +6,7 @@ use Rattle.std.proofs.lemmas.Map.Views.{any-filter_same}
 use Rattle.std.proofs.lemmas.Bool.{and_from, and_parts, or_parts, or_left, or_right, eqb-true, eqb-false, eq-eqb, ne_eqb, not-true, false≢true, cases_eq}
 use Rattle.process_tree.specs.declared.play.Outcome.{Outcome}
 use Rattle.schedule_model.specs.Course.{Course}
-use Rattle.schedule_model.specs.Conflict.{Table}
+use Rattle.schedule_model.specs.Conflict.{ConflictRelation}
 use Rattle.schedule_model.specs.Histories.{is_in}
 use Rattle.schedule_model.proofs.Appends.{is_in-append}
 use Rattle.machine_model.specs.declared.kept.Kept.{Kept}
@@ -42,7 +42,7 @@ distinct-push : (n : ℕ) (xs : List ℕ) → AreDistinct xs → is_in n xs ≡ 
 distinct-push n [] distinct new = (refl, tt)
 distinct-push n (x ∷ xs) distinct new = distinct_step n x xs (distinct-push n xs distinct.1) distinct.0 new
 
-module _ (table : Table) (courses : List Course) where
+module _ (table : ConflictRelation) (courses : List Course) where
   out_by : (m : Moment) (n k : ℕ) (o : Option Piece) → runs (with_piece (λ p. happened (noted m (Effect n)) (event_of courses p)) (noted m (Effect n)) o) k ≡ list_any (λ p. eqb p.number k) (without n m.out)
   out_by m n k None = refl
   out_by m n k (Some p) = refl
@@ -70,7 +70,7 @@ module _ (table : Table) (courses : List Course) where
       (λ is. flush-goes m o place ns distinct.1 (λ k listed. alike k (or_right (eqb k n) (is_in k ns) listed)))
 
 -- where nothing is queued as before: what the queueing of a piece keeps may be kept, and it is queued once
-module _ (table : Table) (subsystems : Subsystems) (courses : List Course) (m : Moment) (group : List ℕ) (n : ℕ) where
+module _ (table : ConflictRelation) (subsystems : Subsystems) (courses : List Course) (m : Moment) (group : List ℕ) (n : ℕ) where
   record QueueKeeps (q : Queue) : Type 0 where
     pub may : goes_on_from table courses m (queue_kept n q) ≡ true
     pub distinct : AreDistinct group → AreDistinct (group ++ queue_adds n q)
@@ -117,11 +117,11 @@ module _ (table : Table) (subsystems : Subsystems) (courses : List Course) (m : 
   queue-keeps taken = by_piece taken (piece_of m.kept n) refl
 
 -- a board whose kept events are a run, and in whose group no piece stands twice
-pub record IsGoodBoard (table : Table) (b : Board) : Type 0 where
+pub record IsGoodBoard (table : ConflictRelation) (b : Board) : Type 0 where
   pub run : is_run table b.machine ≡ true
   pub distinct : AreDistinct b.group
 
-module _ (table : Table) (subsystems : Subsystems) where
+module _ (table : ConflictRelation) (subsystems : Subsystems) where
   longer : (b : Board) (ks : List Kept) → is_run table b.machine ≡ true → goes_on_from table b.machine.courses (now table b.machine) ks ≡ true → is_run table (keeping b.machine ks) ≡ true
   longer b ks run goes = goes_on-append table b.machine.courses (opening_moment b.machine.opening) b.machine.kept ks ∙ and_from (is_run table b.machine) _ run goes
 

@@ -6,7 +6,7 @@ use Rattle.std.proofs.lemmas.Bool.{and_parts, and_from, not-true, not_from_true,
 use Rattle.process_tree.specs.Shape.{greatest}
 use Rattle.process_tree.proofs.InTurn.{greatest_is}
 use Rattle.schedule_model.specs.Course.{Course}
-use Rattle.schedule_model.specs.Conflict.{Table}
+use Rattle.schedule_model.specs.Conflict.{ConflictRelation}
 use Rattle.schedule_model.specs.Histories.{active, is_in}
 use Rattle.schedule_model.proofs.Active.{is_in-filter}
 use Rattle.schedule_model.proofs.Counts.{length_filter-within, length_filter-more, length_filter-most}
@@ -26,7 +26,7 @@ use Rattle.machine_model.proofs.Begun.{advance-begun, goes_back-begun}
 abbrev pub not_begun : Moment → ℕ
 not_begun m = length (filter (λ i. not (has_begun m i)) (active m.events))
 
-module _ (table : Table) (courses : List Course) where
+module _ (table : ConflictRelation) (courses : List Course) where
   -- the candidates of a stall
   abbrev candidates : Moment → List ℕ
   candidates m = filter (λ i. is_blocked table courses m i && not (has_begun m i)) (active m.events)

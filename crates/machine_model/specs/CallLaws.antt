@@ -2,7 +2,7 @@
 use Rattle.std.specs.Prelude.{◌≡◌, ◌≢◌, ◌⊎◌, ◌↔◌, ◌≤◌, ℕ, List, [], ◌++◌, length, IsTrue, None}
 use Rattle.schedule_model.specs.declared.event.Event.{Event}
 use Rattle.schedule_model.specs.Course.{Course}
-use Rattle.schedule_model.specs.Conflict.{Table}
+use Rattle.schedule_model.specs.Conflict.{ConflictRelation}
 use Rattle.schedule_model.specs.Histories.{active, is_active}
 use Rattle.machine_model.specs.declared.kept.Kept.{Kept}
 use Rattle.machine_model.specs.Moment.{Moment, has_begun}
@@ -16,23 +16,23 @@ use Rattle.machine_model.specs.Turns.{Board, Turn, AreTurns}
 
 -- Each beginning of a run is one.
 abbrev pub BeginningsOfRunsAreRuns : Type 0
-BeginningsOfRunsAreRuns = (table : Table) (h : List Event) (courses : List Course) (ks js : List Kept) (served : ℕ)
+BeginningsOfRunsAreRuns = (table : ConflictRelation) (h : List Event) (courses : List Course) (ks js : List Kept) (served : ℕ)
     → IsTrue (is_run table (record { opening = h; courses = courses; kept = ks ++ js; served = served }))
     → IsTrue (is_run table (record { opening = h; courses = courses; kept = ks; served = served }))
 
 -- What a call other than a start keeps makes a longer run.
 abbrev pub CallsKeepRuns : Type 0
-CallsKeepRuns = (table : Table) (s : Machine) (c : Call) → IsNoStart c → IsTrue (is_run table s) → IsTrue (is_run table (answered s (answer table s c)))
+CallsKeepRuns = (table : ConflictRelation) (s : Machine) (c : Call) → IsNoStart c → IsTrue (is_run table s) → IsTrue (is_run table (answered s (answer table s c)))
 
 -- Victims run dry: with those made that a request makes, there is no other, and more than so many are never made.
 abbrev pub VictimsRunDry : Type 0
-VictimsRunDry = (table : Table) (courses : List Course) (m : Moment)
+VictimsRunDry = (table : ConflictRelation) (courses : List Course) (m : Moment)
     → (victim_of table courses (advance_all table courses m (all_victims table courses m)) ≡ None)
     × ((n : ℕ) → length (active m.events) ≤ n → victims n table courses m ≡ all_victims table courses m)
 
 -- One is stuck: some process is active, nothing runs, each active process is exhausted, or has begun to complete and is
 -- blocked, and i is the least exhausted one.
-pub record IsStuck (table : Table) (courses : List Course) (m : Moment) (i : ℕ) : Type 0 where
+pub record IsStuck (table : ConflictRelation) (courses : List Course) (m : Moment) (i : ℕ) : Type 0 where
   pub some_active : active m.events ≢ []
   pub nothing_runs : m.out ≡ []
   pub nobody_goes : (k : ℕ) → IsTrue (is_active m.events k) → IsTrue (is_exhausted courses m k) ⊎ (IsTrue (has_begun m k) × IsTrue (is_blocked table courses m k))
@@ -40,10 +40,10 @@ pub record IsStuck (table : Table) (courses : List Course) (m : Moment) (i : ℕ
 
 -- A request for any piece answers so exactly where it is so after the victims that it makes.
 abbrev pub StuckIsExact : Type 0
-StuckIsExact = (table : Table) (courses : List Course) (m : Moment) (served i : ℕ)
+StuckIsExact = (table : ConflictRelation) (courses : List Course) (m : Moment) (served i : ℕ)
     → ((answer_next table courses m served).reply ≡ next_is (stuck i)) ↔ IsStuck table courses (advance_all table courses m (all_victims table courses m)) i
 
 -- Turns make a run: where nothing was queued at first, what they keep makes a longer one.
 abbrev pub TurnsMakeRuns : Type 0
-TurnsMakeRuns = (table : Table) (subsystems : Subsystems) (b last : Board) (ts : List Turn) → b.group ≡ [] → IsTrue (is_run table b.machine)
+TurnsMakeRuns = (table : ConflictRelation) (subsystems : Subsystems) (b last : Board) (ts : List Turn) → b.group ≡ [] → IsTrue (is_run table b.machine)
     → AreTurns table subsystems b ts last → IsTrue (is_run table last.machine)

@@ -3,7 +3,7 @@ use Rattle.std.specs.Prelude.{ℕ, ◌+◌, List, [], ◌∷◌, ◌++◌, lengt
 use Rattle.process_tree.specs.declared.play.Outcome.{Outcome}
 use Rattle.schedule_model.specs.declared.event.Event.{Event}
 use Rattle.schedule_model.specs.Course.{Course}
-use Rattle.schedule_model.specs.Conflict.{Table}
+use Rattle.schedule_model.specs.Conflict.{ConflictRelation}
 use Rattle.schedule_model.specs.Histories.{starts}
 use Rattle.machine_model.specs.declared.kept.Kept.{Kept}
 use Rattle.machine_model.specs.declared.kept.Kept.TheVariants.{Start, Abort, Restart}
@@ -75,7 +75,7 @@ admit_kept ended = []
 admit_kept (exhausted b) = []
 
 -- a request for a piece of one process keeps its hand, if it is handed out
-abbrev pub answer_admit : Table → List Course → Moment → ℕ → ℕ → Answer
+abbrev pub answer_admit : ConflictRelation → List Course → Moment → ℕ → ℕ → Answer
 answer_admit table courses m served i =
     let reply = admit_reply table courses m i in
     record { reply = admitted reply; kept = admit_kept reply; courses = []; served = served }
@@ -95,14 +95,14 @@ next_served served all_ended = served
 next_served served (stuck i) = served
 
 -- a request for any piece keeps the victims first, and then the hand, if one is handed out; its process is served from now on
-abbrev pub answer_next : Table → List Course → Moment → ℕ → Answer
+abbrev pub answer_next : ConflictRelation → List Course → Moment → ℕ → Answer
 answer_next table courses m served =
     let vs = all_victims table courses m in
     let reply = next_reply table courses (advance_all table courses m vs) served in
     record { reply = next_is reply; kept = vs ++ next_kept reply; courses = []; served = next_served served reply }
 
 -- the end of a piece keeps an effect, a refusal or nothing
-abbrev pub answer_finish : Table → List Course → Moment → ℕ → ℕ → Outcome → Answer
+abbrev pub answer_finish : ConflictRelation → List Course → Moment → ℕ → ℕ → Outcome → Answer
 answer_finish table courses m served n outcome =
     let reply = finish_reply table courses m n outcome in
     record { reply = finished reply; kept = finish_kept n reply; courses = []; served = served }
@@ -122,12 +122,12 @@ answer_abort courses m served i =
     record { reply = aborted reply; kept = abort_kept i reply; courses = []; served = served }
 
 -- that all complete is kept where an active process has not begun to
-abbrev pub answer_complete_all : Table → List Course → Moment → ℕ → Answer
+abbrev pub answer_complete_all : ConflictRelation → List Course → Moment → ℕ → Answer
 answer_complete_all table courses m served =
     record { reply = all_complete; kept = if may_be_kept table courses m Restart then Restart ∷ [] else []; courses = []; served = served }
 
 -- the answer to a call
-abbrev pub answer_at : Table → List Course → Moment → ℕ → Call → Answer
+abbrev pub answer_at : ConflictRelation → List Course → Moment → ℕ → Call → Answer
 answer_at table courses m served (start c) = answer_start courses m served c
 answer_at table courses m served (admit i) = answer_admit table courses m served i
 answer_at table courses m served next = answer_next table courses m served
@@ -136,7 +136,7 @@ answer_at table courses m served (abort i) = answer_abort courses m served i
 answer_at table courses m served complete_all = answer_complete_all table courses m served
 
 -- the answer to a call, at the moment to which the machine has come
-abbrev pub answer : Table → Machine → Call → Answer
+abbrev pub answer : ConflictRelation → Machine → Call → Answer
 answer table s c = answer_at table s.courses (now table s) s.served c
 
 -- the machine after an answer
@@ -149,12 +149,12 @@ pub record Session : Type 0 where
   pub replies : List Reply
 
 -- a session goes on with these calls, one after another
-abbrev pub called : Table → Session → List Call → Session
+abbrev pub called : ConflictRelation → Session → List Call → Session
 called table s [] = s
 called table s (c ∷ cs) =
     let a = answer table s.machine c in
     called table (record { machine = answered s.machine a; replies = s.replies ++ a.reply ∷ [] }) cs
 
 -- a session that opens on this history
-abbrev pub session : Table → List Course → List Event → List Call → Session
+abbrev pub session : ConflictRelation → List Course → List Event → List Call → Session
 session table courses h cs = called table (record { machine = record { opening = h; courses = courses; kept = []; served = 0 }; replies = [] }) cs

@@ -4,7 +4,7 @@ use Rattle.std.specs.List.{list_any, filter_map}
 use Rattle.process_tree.specs.declared.play.Outcome.{Outcome}
 use Rattle.process_tree.specs.declared.play.Outcome.TheVariants.{Done, Refused}
 use Rattle.schedule_model.specs.Course.{Course, op_of}
-use Rattle.schedule_model.specs.Conflict.{Table}
+use Rattle.schedule_model.specs.Conflict.{ConflictRelation}
 use Rattle.schedule_model.specs.Histories.{is_in}
 use Rattle.machine_model.specs.declared.kept.Work.TheVariants.{Forward, End}
 use Rattle.machine_model.specs.declared.kept.Kept.{Kept}
@@ -90,7 +90,7 @@ queue_by out (Dropped k) = dropped k
 queue_by out Over = over
 
 -- piece n, if there is one: one that is queued is over for whoever would queue it again
-abbrev pub queue_piece : Table → Subsystems → List Course → Moment → List ℕ → Taken → Option Piece → Queue
+abbrev pub queue_piece : ConflictRelation → Subsystems → List Course → Moment → List ℕ → Taken → Option Piece → Queue
 queue_piece table subsystems courses m group taken None = no_piece
 queue_piece table subsystems courses m group taken (Some p) =
     let refusal = refusal_reply courses (advance table courses m (Refuse p.number)) p in
@@ -98,7 +98,7 @@ queue_piece table subsystems courses m group taken (Some p) =
     else queue_by (out_queue (is_end_piece p) (is_full subsystems courses m group p) refusal taken) (state_of m p.number)
 
 -- what is answered to the queueing of piece n
-abbrev pub queue_reply : Table → Subsystems → List Course → Moment → List ℕ → ℕ → Taken → Queue
+abbrev pub queue_reply : ConflictRelation → Subsystems → List Course → Moment → List ℕ → ℕ → Taken → Queue
 queue_reply table subsystems courses m group n taken = queue_piece table subsystems courses m group taken (piece_of m.kept n)
 
 -- it keeps a refusal or nothing, and a piece that is queued comes last in the group

@@ -10,7 +10,7 @@ use Rattle.process_tree.specs.Blocks.{numbers_from}
 use Rattle.process_tree.specs.Recovery.{committing, reserved}
 use Rattle.process_tree.specs.Shape.{kind_of, first_of}
 use Rattle.schedule_model.specs.Course.{Course, courses_of, course, course_of, shape, allowance}
-use Rattle.schedule_model.specs.Conflict.{Table, IsSymmetric, conflict}
+use Rattle.schedule_model.specs.Conflict.{ConflictRelation, IsSymmetric, conflict}
 use Rattle.schedule_model.specs.Histories.{active, is_active, is_in, starts, ends, net, net_of, same_step, doing}
 use Rattle.schedule_model.specs.Recovery.{undoable}
 use Rattle.schedule_model.specs.Holdings.{Holdings, active_net, holders, reaches, behind}
@@ -36,7 +36,7 @@ use Rattle.machine_model.specs.Replies.{stuck}
 use Rattle.machine_model.specs.Calls.{IsNoStart, Call, start, answer, answer_next, answered, next_is}
 
 -- a run of the machine over good plans that opens on a legal history within the limits
-pub record IsSession (table : Table) (plans : List Plan) (s : Machine) : Type 0 where
+pub record IsSession (table : ConflictRelation) (plans : List Plan) (s : Machine) : Type 0 where
   pub symmetric : IsSymmetric table
   pub good : (p : Plan) → Contains plans p → IsGoodPlan p
   pub courses : s.courses ≡ courses_of plans
@@ -47,12 +47,12 @@ pub record IsSession (table : Table) (plans : List Plan) (s : Machine) : Type 0 
 
 -- Runs are legal: the history of each run is legal, and within the limits.
 abbrev pub RunsAreLegal : Type 0
-RunsAreLegal = (table : Table) (plans : List Plan) (s : Machine) → IsSession table plans s
+RunsAreLegal = (table : ConflictRelation) (plans : List Plan) (s : Machine) → IsSession table plans s
     → IsTrue (is_legal table s.courses (history table s)) × IsTrue (is_within_limits s.courses (history table s))
 
 -- What a call keeps makes a longer run; a start adds its plan, or keeps nothing.
 abbrev pub CallsMakeRuns : Type 0
-CallsMakeRuns = (table : Table) (plans : List Plan) (s : Machine) → IsSession table plans s
+CallsMakeRuns = (table : ConflictRelation) (plans : List Plan) (s : Machine) → IsSession table plans s
     → ((c : Call) → IsNoStart c → IsSession table plans (answered s (answer table s c)))
     × ((p : Plan) → IsGoodPlan p
     → let a = answer table s (start (course_of p)) in IsSession table (plans ++ p ∷ []) (answered s a) ⊎ (a.kept ≡ []))
@@ -66,7 +66,7 @@ abbrev pub AllHaveBegun : Moment → Type 0
 AllHaveBegun m = (i : ℕ) → IsTrue (is_active m.events i) → IsTrue (has_begun m i)
 
 -- Admission laws, at a moment of a run.
-pub record AdmissionLaws (table : Table) (s : Machine) : Type 0 where
+pub record AdmissionLaws (table : ConflictRelation) (s : Machine) : Type 0 where
   -- the conflict graph has no circle
   pub no_circle : (i : ℕ) → reaches table (holdings s.courses (now table s)) i i ≡ false
   -- an undo is blocked by A5 alone
@@ -82,7 +82,7 @@ pub record AdmissionLaws (table : Table) (s : Machine) : Type 0 where
 
 -- They hold at each moment of a run.
 abbrev pub AdmissionLawsHold : Type 0
-AdmissionLawsHold = (table : Table) (plans : List Plan) (s : Machine) → IsSession table plans s → AdmissionLaws table s
+AdmissionLawsHold = (table : ConflictRelation) (plans : List Plan) (s : Machine) → IsSession table plans s → AdmissionLaws table s
 
 -- the entry is of the step that process k has under way
 abbrev pub IsRunningStep : Moment → List Course → ℕ → Entry → Type 0
@@ -94,7 +94,7 @@ IsFixing m courses i = (p : Piece) × (running_of m i ≡ Some p)
     × (((p.work ≡ Forward) × (class_in courses m.events i p.step ≡ committing)) ⊎ (p.work ≡ End))
 
 -- The standing facts, at a moment of a run; i and k are different active processes where nothing else is said.
-pub record StandingFacts (table : Table) (s : Machine) : Type 0 where
+pub record StandingFacts (table : ConflictRelation) (s : Machine) : Type 0 where
   -- what is reserved conflicts with no net entry, running step or reserved step of another active process
   pub reserved_is_free : (i k : ℕ) (r e : Entry) → IsTrue (is_active (history table s) i) → IsTrue (is_active (history table s) k)
       → Contains (hold_of s.courses (now table s) i).reserved r
@@ -124,11 +124,11 @@ pub record StandingFacts (table : Table) (s : Machine) : Type 0 where
 
 -- They hold at each moment of a run.
 abbrev pub StandingFactsHold : Type 0
-StandingFactsHold = (table : Table) (plans : List Plan) (s : Machine) → IsSession table plans s → StandingFacts table s
+StandingFactsHold = (table : ConflictRelation) (plans : List Plan) (s : Machine) → IsSession table plans s → StandingFacts table s
 
 -- Progress law: where no active process is exhausted, a request for any piece isn't answered that one is stuck.
 abbrev pub ProgressLaw : Type 0
-ProgressLaw = (table : Table) (plans : List Plan) (s : Machine) → IsSession table plans s
+ProgressLaw = (table : ConflictRelation) (plans : List Plan) (s : Machine) → IsSession table plans s
     → ((i : ℕ) → IsTrue (is_active (history table s) i) → is_exhausted s.courses (now table s) i ≡ false)
     → (k : ℕ) → (answer_next table s.courses (now table s) s.served).reply ≢ next_is (stuck k)
 
@@ -147,17 +147,17 @@ pieces_for courses i = sum_by (pieces_for_step courses i) (numbers_from 0 (lengt
 
 -- Bound on hands: no run hands out more pieces than the processes of its history can take.
 abbrev pub BoundOnHands : Type 0
-BoundOnHands = (table : Table) (plans : List Plan) (s : Machine) → IsSession table plans s
+BoundOnHands = (table : ConflictRelation) (plans : List Plan) (s : Machine) → IsSession table plans s
     → length (hands s.kept) ≤ sum_by (pieces_for s.courses) (starts (history table s))
 
 -- The computed cascade of an active process is the least set.
 abbrev pub CascadeIsLeast : Type 0
-CascadeIsLeast = (table : Table) (g : Holdings) (root : ℕ) (entries : List Entry) → IsTrue (is_in root (holders g))
+CascadeIsLeast = (table : ConflictRelation) (g : Holdings) (root : ℕ) (entries : List Entry) → IsTrue (is_in root (holders g))
     → IsCascade table g root entries (cascade table g root entries)
 
 -- Each process that has ended is at an end.
 abbrev pub EndedAreAtEnds : Type 0
-EndedAreAtEnds = (table : Table) (plans : List Plan) (s : Machine) → IsSession table plans s → (i : ℕ) → Contains (ends (history table s)) i
+EndedAreAtEnds = (table : ConflictRelation) (plans : List Plan) (s : Machine) → IsSession table plans s → (i : ℕ) → Contains (ends (history table s)) i
     → IsTrue (is_at_end s.courses (history table s) i)
 
 -- who comes next in a restart: the process of the last pending entry in joint order, and else the first active one
@@ -166,7 +166,7 @@ next_in_restart courses m = option_or (undo_next courses m) (first_of (active m.
 
 -- Once all have begun to complete, the next event is the head of the completion.
 abbrev pub RestartFollowsCompletion : Type 0
-RestartFollowsCompletion = (table : Table) (plans : List Plan) (s : Machine) → IsSession table plans s → AllHaveBegun (now table s)
+RestartFollowsCompletion = (table : ConflictRelation) (plans : List Plan) (s : Machine) → IsSession table plans s → AllHaveBegun (now table s)
     → (i : ℕ) → next_in_restart s.courses (now table s) ≡ Some i
     → let t = next_of s.courses (now table s) i in
     (rest : List Event) × (completion s.courses (history table s) ≡ event_by s.courses i t.step t.work ∷ rest)
@@ -177,7 +177,7 @@ BlockedWhereSomethingStands = (c : Clashes) → (least_block (blocks_of c) ≡ N
 
 -- An undo is blocked by A5 alone.
 abbrev pub UndosWaitByA5 : Type 0
-UndosWaitByA5 = (table : Table) (courses : List Course) (m : Moment) (i : ℕ) (b : Blocked) → (next_of courses m i).work ≡ Undo
+UndosWaitByA5 = (table : ConflictRelation) (courses : List Course) (m : Moment) (i : ℕ) (b : Blocked) → (next_of courses m i).work ≡ Undo
     → block_of table courses m i ≡ Some b → b.rule ≡ A5
 
 -- what the tables of open processes have of these holdings: no net entry of a process that has ended
@@ -185,18 +185,18 @@ abbrev pub open_only : Holdings → Holdings
 open_only g = record { net = active_net g; holds = g.holds }
 
 -- No net entry of a process that isn't active stands behind x and conflicts with it.
-abbrev pub IsEndedFree : Table → Moment → Entry → Type 0
+abbrev pub IsEndedFree : ConflictRelation → Moment → Entry → Type 0
 IsEndedFree table m x = (e : Entry) → Contains (behind x (net m.events)) e → is_active m.events e.process ≡ false → conflict table x e ≡ false
 
 -- The open processes are enough: against the next piece of an active process stands the same by their holdings alone as by all;
 -- for an undo, where no ended process stands behind what is undone.
 abbrev pub OpenHoldingsBlockAlike : Type 0
-OpenHoldingsBlockAlike = (table : Table) (courses : List Course) (m : Moment) (i : ℕ) → IsTrue (is_active m.events i)
+OpenHoldingsBlockAlike = (table : ConflictRelation) (courses : List Course) (m : Moment) (i : ℕ) → IsTrue (is_active m.events i)
     → let t = next_of courses m i in
     (t.work ≡ Undo → IsEndedFree table m (doing courses i t.step))
     → against_work table courses (open_only (holdings courses m)) m.events i t.step t.work ≡ against_task table courses m i t
 
 -- The cascade of an active process is the same by what the open processes hold alone.
 abbrev pub OpenHoldingsDragAlike : Type 0
-OpenHoldingsDragAlike = (table : Table) (courses : List Course) (m : Moment) (i : ℕ) → IsTrue (is_active m.events i)
+OpenHoldingsDragAlike = (table : ConflictRelation) (courses : List Course) (m : Moment) (i : ℕ) → IsTrue (is_active m.events i)
     → cascade table (open_only (holdings courses m)) i (pending_of courses m i) ≡ cascade_of table courses m i

@@ -1,7 +1,7 @@
 -- The laws of pieces and of one process alone, as statements.
 use Rattle.std.specs.Prelude.{◌≡◌, ◌↔◌, ◌≤◌, ℕ, Bool, true, false, not, ◌&&◌, List, length, take, filter, ◌-◌, nat_eq, IsTrue, Option, Some, None, is_some, if◌then◌else◌}
 use Rattle.process_tree.specs.declared.plan.Plan.{Plan}
-use Rattle.schedule_model.specs.Conflict.{Table}
+use Rattle.schedule_model.specs.Conflict.{ConflictRelation}
 use Rattle.schedule_model.specs.Histories.{is_active, net_steps}
 use Rattle.schedule_model.specs.Course.{shape}
 use Rattle.machine_model.specs.declared.kept.Work.TheVariants.{Undo}
@@ -19,7 +19,7 @@ use Rattle.machine_model.specs.Laws.{IsSession}
 
 -- A piece that was handed out is over exactly where the kept events have its effect or its refusal.
 abbrev pub OverIsFinished : Type 0
-OverIsFinished = (table : Table) (s : Machine) (n : ℕ) → IsTrue (is_run table s) → IsTrue (is_some (piece_of s.kept n))
+OverIsFinished = (table : ConflictRelation) (s : Machine) (n : ℕ) → IsTrue (is_run table s) → IsTrue (is_some (piece_of s.kept n))
     → (state_of (now table s) n ≡ Over) ↔ IsTrue (is_finished s.kept n)
 
 -- Process of piece n began to complete at kept event k, after the piece was handed out and while it was unfinished.
@@ -30,16 +30,16 @@ WasDroppedAt m n k =
 
 -- A piece that was handed out is dropped at a kept event exactly where that is so.
 abbrev pub DroppedIsExact : Type 0
-DroppedIsExact = (table : Table) (s : Machine) (n k : ℕ) → IsTrue (is_run table s) → IsTrue (is_some (piece_of s.kept n))
+DroppedIsExact = (table : ConflictRelation) (s : Machine) (n k : ℕ) → IsTrue (is_run table s) → IsTrue (is_some (piece_of s.kept n))
     → (state_of (now table s) n ≡ Dropped k) ↔ WasDroppedAt (now table s) n k
 
 -- At most one piece of a process is out.
 abbrev pub OneRuns : Type 0
-OneRuns = (table : Table) (s : Machine) (i : ℕ) → IsTrue (is_run table s) → length (filter (λ p. nat_eq p.process i) (now table s).out) ≤ 1
+OneRuns = (table : ConflictRelation) (s : Machine) (i : ℕ) → IsTrue (is_run table s) → length (filter (λ p. nat_eq p.process i) (now table s).out) ≤ 1
 
 -- The running piece of a process is its next piece.
 abbrev pub RunningIsNext : Type 0
-RunningIsNext = (table : Table) (s : Machine) (i : ℕ) (p : Piece) → IsTrue (is_run table s) → running_of (now table s) i ≡ Some p
+RunningIsNext = (table : ConflictRelation) (s : Machine) (i : ℕ) (p : Piece) → IsTrue (is_run table s) → running_of (now table s) i ≡ Some p
     → same_task (record { work = p.work; step = p.step }) (next_of s.courses (now table s) i) ≡ true
 
 -- the piece that an event hands out or ends
@@ -59,7 +59,7 @@ LeavesPieceOf ks k i = (p : Piece) → piece_touched ks k ≡ Some p → nat_eq 
 -- Frame law: an event that neither hands out nor ends a piece of process i, and doesn't make it begin to complete, leaves what
 -- it runs, its state and what it holds.
 abbrev pub OthersStay : Type 0
-OthersStay = (table : Table) (s : Machine) (k : Kept) (i : ℕ) → IsTrue (is_run table s) → IsTrue (may_be_kept table s.courses (now table s) k)
+OthersStay = (table : ConflictRelation) (s : Machine) (k : Kept) (i : ℕ) → IsTrue (is_run table s) → IsTrue (may_be_kept table s.courses (now table s) k)
     → LeavesPieceOf s.kept k i
     → let m = now table s in
     let after = advance table s.courses m k in
@@ -96,7 +96,7 @@ IsUndoOf i k (Some p) = ⊥
 -- The progress of a process goes by the end of its pieces and by its beginning to complete; for an undo, where it takes back the
 -- last step of the net.
 abbrev pub ProgressGoesByTransitions : Type 0
-ProgressGoesByTransitions = (table : Table) (s : Machine) (k : Kept) (i : ℕ) → IsTrue (is_run table s) → IsTrue (may_be_kept table s.courses (now table s) k)
+ProgressGoesByTransitions = (table : ConflictRelation) (s : Machine) (k : Kept) (i : ℕ) → IsTrue (is_run table s) → IsTrue (may_be_kept table s.courses (now table s) k)
     → let m = now table s in
     let after = advance table s.courses m k in
     (IsUndoOf i k (piece_ended s.kept k) → net_steps after.events i ≡ take (length (net_steps m.events i) - 1) (net_steps m.events i))
@@ -104,7 +104,7 @@ ProgressGoesByTransitions = (table : Table) (s : Machine) (k : Kept) (i : ℕ) �
 
 -- A refusal of the one try of a step makes its process begin to complete exactly where no way on is left.
 abbrev pub RefusedBeginsWithoutWayOn : Type 0
-RefusedBeginsWithoutWayOn = (table : Table) (s : Machine) (n : ℕ) (p : Piece) → IsTrue (is_run table s) → IsTrue (may_be_kept table s.courses (now table s) (Refuse n))
+RefusedBeginsWithoutWayOn = (table : ConflictRelation) (s : Machine) (n : ℕ) (p : Piece) → IsTrue (is_run table s) → IsTrue (may_be_kept table s.courses (now table s) (Refuse n))
     → piece_of s.kept n ≡ Some p
     → let m = now table s in
     let after = advance table s.courses m (Refuse n) in
@@ -124,7 +124,7 @@ begun_where has s = if has && not s.progress.begun then begun s else s
 
 -- One counter of refusals is enough: the state of an active process goes by the transitions of one process alone.
 abbrev pub StatesGoByTransitions : Type 0
-StatesGoByTransitions = (table : Table) (plans : List Plan) (s : Machine) (k : Kept) → IsSession table plans s
+StatesGoByTransitions = (table : ConflictRelation) (plans : List Plan) (s : Machine) (k : Kept) → IsSession table plans s
     → IsTrue (may_be_kept table s.courses (now table s) k) → (i : ℕ) → IsTrue (is_active (now table s).events i)
     → let after = advance table s.courses (now table s) k in
     IsTrue (is_active after.events i)

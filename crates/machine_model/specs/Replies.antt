@@ -6,7 +6,7 @@ use Rattle.process_tree.specs.declared.play.Outcome.{Outcome}
 use Rattle.process_tree.specs.declared.play.Outcome.TheVariants.{Done, Refused}
 use Rattle.process_tree.specs.Shape.{least}
 use Rattle.schedule_model.specs.Course.{Course, allowance}
-use Rattle.schedule_model.specs.Conflict.{Table}
+use Rattle.schedule_model.specs.Conflict.{ConflictRelation}
 use Rattle.schedule_model.specs.Histories.{active, is_active, is_in, starts}
 use Rattle.machine_model.specs.declared.blocked.Blocked.{Blocked}
 use Rattle.machine_model.specs.declared.kept.Work.{Work}
@@ -66,27 +66,27 @@ piece_unless courses m i None = piece (hand_to courses m i)
 piece_unless courses m i (Some b) = blocked b
 
 -- exhausted, or else blocked or its next piece
-abbrev pub admit_by_tries : Table → List Course → Moment → ℕ → Bool → Admit
+abbrev pub admit_by_tries : ConflictRelation → List Course → Moment → ℕ → Bool → Admit
 admit_by_tries table courses m i true = exhausted (next_of courses m i).step
 admit_by_tries table courses m i false = piece_unless courses m i (block_of table courses m i)
 
 -- running, or else the next reason
-abbrev pub admit_by_running : Table → List Course → Moment → ℕ → Bool → Admit
+abbrev pub admit_by_running : ConflictRelation → List Course → Moment → ℕ → Bool → Admit
 admit_by_running table courses m i true = running
 admit_by_running table courses m i false = admit_by_tries table courses m i (is_exhausted courses m i)
 
 -- ended, or else the next reason
-abbrev pub admit_by_active : Table → List Course → Moment → ℕ → Bool → Admit
+abbrev pub admit_by_active : ConflictRelation → List Course → Moment → ℕ → Bool → Admit
 admit_by_active table courses m i true = admit_by_running table courses m i (is_some (running_of m i))
 admit_by_active table courses m i false = ended
 
 -- unknown, or else the next reason
-abbrev pub admit_by_known : Table → List Course → Moment → ℕ → Bool → Admit
+abbrev pub admit_by_known : ConflictRelation → List Course → Moment → ℕ → Bool → Admit
 admit_by_known table courses m i true = admit_by_active table courses m i (is_active m.events i)
 admit_by_known table courses m i false = unknown
 
 -- the first of these that holds: unknown, ended, running, exhausted, blocked; and else its next piece
-abbrev pub admit_reply : Table → List Course → Moment → ℕ → Admit
+abbrev pub admit_reply : ConflictRelation → List Course → Moment → ℕ → Admit
 admit_reply table courses m i = admit_by_known table courses m i (is_in i (starts m.events))
 
 -- a process that is blocked, and by what
@@ -106,14 +106,14 @@ abbrev pub rotation : Moment → ℕ → List ℕ
 rotation m served = filter (λ i. nat_lt served i) (active m.events) ++ filter (λ i. nat_le i served) (active m.events)
 
 -- process i with its block, where it has no running piece and is blocked
-abbrev pub waiting_process : Table → List Course → Moment → ℕ → Option BlockedProcess
+abbrev pub waiting_process : ConflictRelation → List Course → Moment → ℕ → Option BlockedProcess
 waiting_process table courses m i =
     if is_none (running_of m i) && is_blocked table courses m i
     then option_map (λ b. record { process = i; block = b }) (block_of table courses m i)
     else None
 
 -- the blocked processes without a running piece, in rotation, each with its block
-abbrev pub blocked_in_rotation : Table → List Course → Moment → ℕ → List BlockedProcess
+abbrev pub blocked_in_rotation : ConflictRelation → List Course → Moment → ℕ → List BlockedProcess
 blocked_in_rotation table courses m served = filter_map (waiting_process table courses m) (rotation m served)
 
 -- this victim, if there is one, and what follows it
@@ -122,12 +122,12 @@ victim_then rest None = []
 victim_then rest (Some i) = Victim i ∷ rest i
 
 -- the victims that are made as long as one may be made; n is as many as there may be
-abbrev pub victims : ℕ → Table → List Course → Moment → List Kept
+abbrev pub victims : ℕ → ConflictRelation → List Course → Moment → List Kept
 victims zero table courses m = []
 victims (suc n) table courses m = victim_then (λ i. victims n table courses (advance table courses m (Victim i))) (victim_of table courses m)
 
 -- at most every active process is a victim
-abbrev pub all_victims : Table → List Course → Moment → List Kept
+abbrev pub all_victims : ConflictRelation → List Course → Moment → List Kept
 all_victims table courses m = victims (length (active m.events)) table courses m
 
 -- the least exhausted process
@@ -135,17 +135,17 @@ abbrev pub least_exhausted : List Course → Moment → ℕ
 least_exhausted courses m = unwrap_or (least (filter (is_exhausted courses m) (active m.events))) 0
 
 -- nothing runs, so one is stuck; or a piece runs, and there is a wait
-abbrev pub none_free_by_running : Table → List Course → Moment → ℕ → Bool → Next
+abbrev pub none_free_by_running : ConflictRelation → List Course → Moment → ℕ → Bool → Next
 none_free_by_running table courses m served true = stuck (least_exhausted courses m)
 none_free_by_running table courses m served false = wait (slice_get (blocked_in_rotation table courses m served) 0)
 
 -- all have ended, or else the next reason
-abbrev pub none_free_by_active : Table → List Course → Moment → ℕ → Bool → Next
+abbrev pub none_free_by_active : ConflictRelation → List Course → Moment → ℕ → Bool → Next
 none_free_by_active table courses m served true = all_ended
 none_free_by_active table courses m served false = none_free_by_running table courses m served (nat_eq (length m.out) 0)
 
 -- where none is free: all have ended; or one is stuck, as nothing runs; or a piece runs, and there is a wait
-abbrev pub none_free_reply : Table → List Course → Moment → ℕ → Next
+abbrev pub none_free_reply : ConflictRelation → List Course → Moment → ℕ → Next
 none_free_reply table courses m served = none_free_by_active table courses m served (nat_eq (length (active m.events)) 0)
 
 -- the next piece of the process that is free, if there is one
@@ -154,7 +154,7 @@ piece_of_free courses m otherwise None = otherwise
 piece_of_free courses m otherwise (Some i) = chosen (hand_to courses m i)
 
 -- with the victims made: the first free piece in rotation, or why there is none
-abbrev pub next_reply : Table → List Course → Moment → ℕ → Next
+abbrev pub next_reply : ConflictRelation → List Course → Moment → ℕ → Next
 next_reply table courses m served = piece_of_free courses m (none_free_reply table courses m served) (find (is_free table courses m) (rotation m served))
 
 -- what became of a piece that was refused just now
@@ -172,12 +172,12 @@ pub data Finish : Type 0 where
   no_refusal : Finish
 
 -- an end is never refused; what the refusal of another piece leads to
-abbrev pub refused_unless_end : Table → List Course → Moment → Piece → Bool → Finish
+abbrev pub refused_unless_end : ConflictRelation → List Course → Moment → Piece → Bool → Finish
 refused_unless_end table courses m p true = no_refusal
 refused_unless_end table courses m p false = refused (refusal_reply courses (advance table courses m (Refuse p.number)) p)
 
 -- a piece that is out takes effect, or is refused
-abbrev pub out_finish : Table → List Course → Moment → Piece → Outcome → Finish
+abbrev pub out_finish : ConflictRelation → List Course → Moment → Piece → Outcome → Finish
 out_finish table courses m p Done = effected (length m.events + 1)
 out_finish table courses m p Refused = refused_unless_end table courses m p (same_work p.work End)
 
@@ -188,12 +188,12 @@ finish_by out (Dropped k) = dropped k
 finish_by out Over = over
 
 -- piece n, if there is one
-abbrev pub finish_piece : Table → List Course → Moment → Outcome → Option Piece → Finish
+abbrev pub finish_piece : ConflictRelation → List Course → Moment → Outcome → Option Piece → Finish
 finish_piece table courses m outcome None = no_piece
 finish_piece table courses m outcome (Some p) = finish_by (out_finish table courses m p outcome) (state_of m p.number)
 
 -- what is answered to the end of piece n
-abbrev pub finish_reply : Table → List Course → Moment → ℕ → Outcome → Finish
+abbrev pub finish_reply : ConflictRelation → List Course → Moment → ℕ → Outcome → Finish
 finish_reply table courses m n outcome = finish_piece table courses m outcome (piece_of m.kept n)
 
 -- what it keeps: an effect, a refusal or nothing

@@ -4,7 +4,7 @@ use Rattle.std.specs.List.{list_any}
 use Rattle.schedule_model.specs.declared.event.Event.{Event}
 use Rattle.schedule_model.specs.declared.event.Event.TheVariants.{Start as Started}
 use Rattle.schedule_model.specs.Course.{Course, course}
-use Rattle.schedule_model.specs.Conflict.{Table}
+use Rattle.schedule_model.specs.Conflict.{ConflictRelation}
 use Rattle.schedule_model.specs.Histories.{active, is_active, starts}
 use Rattle.schedule_model.specs.Limits.{entries, need, most_active, most_processes, most_entries}
 use Rattle.schedule_model.specs.OwnOrder.{keeps_order}
@@ -43,7 +43,7 @@ abbrev pub may_start : List Course → Moment → ℕ → Bool
 may_start courses m i = keeps_order courses m.events (Started i) && is_none (start_refusal courses m (course courses i))
 
 -- a piece is handed out with the next number, to a free process, and is its next piece
-abbrev pub may_hand : Table → List Course → Moment → Piece → Bool
+abbrev pub may_hand : ConflictRelation → List Course → Moment → Piece → Bool
 may_hand table courses m p =
     nat_eq p.number (length (hands m.kept) + 1) && is_free table courses m p.process
     && same_work p.work (next_of courses m p.process).work && nat_eq p.step (next_of courses m p.process).step
@@ -67,7 +67,7 @@ is_victim i None = false
 is_victim i (Some k) = nat_eq i k
 
 -- the event may be kept next
-abbrev pub may_be_kept : Table → List Course → Moment → Kept → Bool
+abbrev pub may_be_kept : ConflictRelation → List Course → Moment → Kept → Bool
 may_be_kept table courses m (Start i) = may_start courses m i
 may_be_kept table courses m (Hand piece process step work) =
     may_hand table courses m (record { number = piece; process = process; step = step; work = work })
@@ -78,18 +78,18 @@ may_be_kept table courses m (Victim i) = is_victim i (victim_of table courses m)
 may_be_kept table courses m Restart = list_any (λ i. not (has_begun m i)) (active m.events)
 
 -- each of these may be kept after those before it
-abbrev pub goes_on_from : Table → List Course → Moment → List Kept → Bool
+abbrev pub goes_on_from : ConflictRelation → List Course → Moment → List Kept → Bool
 goes_on_from table courses m [] = true
 goes_on_from table courses m (k ∷ ks) = may_be_kept table courses m k && goes_on_from table courses (advance table courses m k) ks
 
 -- a session is a run where each of its events may be kept after those before it
-abbrev pub is_run : Table → Machine → Bool
+abbrev pub is_run : ConflictRelation → Machine → Bool
 is_run table s = goes_on_from table s.courses (opening_moment s.opening) s.kept
 
 -- the moment to which a session has come
-abbrev pub now : Table → Machine → Moment
+abbrev pub now : ConflictRelation → Machine → Moment
 now table s = advance_all table s.courses (opening_moment s.opening) s.kept
 
 -- its history
-abbrev pub history : Table → Machine → List Event
+abbrev pub history : ConflictRelation → Machine → List Event
 history table s = (now table s).events

@@ -6,7 +6,7 @@ use Rattle.process_tree.specs.Shape.{greatest, last_of}
 use Rattle.process_tree.specs.Recovery.{StepClass, reserved, committing, undoable}
 use Rattle.schedule_model.specs.declared.event.Event.{Event}
 use Rattle.schedule_model.specs.Course.{Course, course, shape}
-use Rattle.schedule_model.specs.Conflict.{Table}
+use Rattle.schedule_model.specs.Conflict.{ConflictRelation}
 use Rattle.schedule_model.specs.Histories.{active, is_active, net, net_of, net_steps, done_steps, doing, undoing, same_step}
 use Rattle.schedule_model.specs.Recovery.{owed, owed_after, undoable as undoable_entries}
 use Rattle.schedule_model.specs.Holdings.{Hold, Holdings}
@@ -86,17 +86,17 @@ abbrev pub holdings : List Course → Moment → Holdings
 holdings courses m = record { net = net m.events; holds = map (hold_of courses m) (active m.events) }
 
 -- what stands against step b of process i, against its undo, or against the end of the process
-abbrev pub against_work : Table → List Course → Holdings → List Event → ℕ → ℕ → Work → Clashes
+abbrev pub against_work : ConflictRelation → List Course → Holdings → List Event → ℕ → ℕ → Work → Clashes
 against_work table courses g h i b Forward = against_step table g (class_in courses h i b) (doing courses i b) (owed_after courses h i b)
 against_work table courses g h i b Undo = against_undo table g (doing courses i b)
 against_work table courses g h i b End = against_end table g i
 
 -- what stands against a task of process i
-abbrev pub against_task : Table → List Course → Moment → ℕ → Task → Clashes
+abbrev pub against_task : ConflictRelation → List Course → Moment → ℕ → Task → Clashes
 against_task table courses m i t = against_work table courses (holdings courses m) m.events i t.step t.work
 
 -- what blocks the next piece of process i
-abbrev pub block_of : Table → List Course → Moment → ℕ → Option Blocked
+abbrev pub block_of : ConflictRelation → List Course → Moment → ℕ → Option Blocked
 block_of table courses m i = least_block (blocks_of (against_task table courses m i (next_of courses m i)))
 
 -- how often step b of process i may be tried, or its undo; of a step that can be refused and of an end nothing is said
@@ -120,21 +120,21 @@ abbrev pub is_exhausted : List Course → Moment → ℕ → Bool
 is_exhausted courses m i = has_used_up (course courses i) (process_state courses m i)
 
 -- an active process that isn't exhausted is blocked where something stands against its next piece
-abbrev pub is_blocked : Table → List Course → Moment → ℕ → Bool
+abbrev pub is_blocked : ConflictRelation → List Course → Moment → ℕ → Bool
 is_blocked table courses m i = not (is_exhausted courses m i) && is_some (block_of table courses m i)
 
 -- an active process is free where it has no running piece and is neither exhausted nor blocked
-abbrev pub is_free : Table → List Course → Moment → ℕ → Bool
+abbrev pub is_free : ConflictRelation → List Course → Moment → ℕ → Bool
 is_free table courses m i =
     is_active m.events i && is_none (running_of m i) && not (is_exhausted courses m i) && is_none (block_of table courses m i)
 
 -- nothing runs, and each active process is blocked or exhausted
-abbrev pub is_stalled : Table → List Course → Moment → Bool
+abbrev pub is_stalled : ConflictRelation → List Course → Moment → Bool
 is_stalled table courses m =
     nat_eq (length m.out) 0 && list_all (λ i. is_exhausted courses m i || is_blocked table courses m i) (active m.events)
 
 -- the victim of a stall: the greatest blocked process that has not begun to complete
-abbrev pub victim_of : Table → List Course → Moment → Option ℕ
+abbrev pub victim_of : ConflictRelation → List Course → Moment → Option ℕ
 victim_of table courses m =
     if is_stalled table courses m
     then greatest (filter (λ i. is_blocked table courses m i && not (has_begun m i)) (active m.events))

@@ -2,7 +2,7 @@
 use Rattle.std.specs.Prelude.{◌≡◌, ◌≢◌, ℕ, Bool, true, false, ◌||◌, not, List, [], ◌∷◌, ◌++◌, length, nat_eq, Option, Some, None, IsTrue}
 use Rattle.process_tree.specs.declared.play.Outcome.{Outcome}
 use Rattle.process_tree.specs.declared.play.Outcome.TheVariants.{Done, Refused}
-use Rattle.schedule_model.specs.Conflict.{Table}
+use Rattle.schedule_model.specs.Conflict.{ConflictRelation}
 use Rattle.machine_model.specs.declared.kept.Kept.{Kept}
 use Rattle.machine_model.specs.declared.kept.Work.TheVariants.{Forward}
 use Rattle.machine_model.specs.Moment.{Piece}
@@ -53,7 +53,7 @@ after_said moved_by b disk_fault = shut b
 after_said moved_by b (is_closed k) = b
 
 -- after a reply to a request for any piece: the victims and the hand are kept
-abbrev pub after_next : Table → Board → Next → Board
+abbrev pub after_next : ConflictRelation → Board → Next → Board
 after_next table b r =
     let m = now table b.machine in
     moved b (all_victims table b.machine.courses m ++ next_kept r) b.group (next_served b.machine.served r)
@@ -67,18 +67,18 @@ abbrev pub after_queue : Board → ℕ → Queue → Board
 after_queue b n r = moved b (queue_kept n r) (b.group ++ queue_adds n r) b.machine.served
 
 -- after a flush: the group is empty
-abbrev pub after_flush : Table → Board → ℕ → Board
+abbrev pub after_flush : ConflictRelation → Board → ℕ → Board
 after_flush table b n = moved b (flush_kept (now table b.machine) b.group) [] b.machine.served
 
 -- the board after a turn
-abbrev pub after_turn : Table → Board → Turn → Board
+abbrev pub after_turn : ConflictRelation → Board → Turn → Board
 after_turn table b (nexts said) = after_said (after_next table b) b said
 after_turn table b (finishes n outcome said) = after_said (after_finish b n) b said
 after_turn table b (queues n outcome said) = after_said (after_queue b n) b said
 after_turn table b (flushes said) = after_said (after_flush table b) b said
 
 -- the board after these turns
-abbrev pub after_turns : Table → Board → List Turn → Board
+abbrev pub after_turns : ConflictRelation → Board → List Turn → Board
 after_turns table b [] = b
 after_turns table b (t ∷ ts) = after_turns table (after_turn table b t) ts
 
@@ -104,7 +104,7 @@ IsStepPiece None = ⊥
 IsStepPiece (Some p) = p.work ≡ Forward
 
 -- a request for any piece may say this: the machine's reply, as memory and disk can't fail it
-abbrev pub NextMaySay : Table → Board → Said Next → Type 0
+abbrev pub NextMaySay : ConflictRelation → Board → Said Next → Type 0
 NextMaySay table b (says r) = (answer_next table b.machine.courses (now table b.machine) b.machine.served).reply ≡ next_is r
 NextMaySay table b no_memory = ⊥
 NextMaySay table b disk_fault = ⊥
@@ -112,7 +112,7 @@ NextMaySay table b (is_closed k) = ⊥
 
 -- the end of piece n may say this, while nothing is queued: the machine's reply; or, where the piece is out and was answered
 -- done, that the disk failed, and for a step that memory did
-abbrev pub FinishMaySay : Table → Board → ℕ → Outcome → Said Finish → Type 0
+abbrev pub FinishMaySay : ConflictRelation → Board → ℕ → Outcome → Said Finish → Type 0
 FinishMaySay table b n outcome (says r) =
     (b.group ≡ [])
     × ((taken : Taken) × MayTake outcome taken (piece_of b.machine.kept n) × (r ≡ finish_reply table b.machine.courses (now table b.machine) n (taken_as taken)))
@@ -123,7 +123,7 @@ FinishMaySay table b n outcome (is_closed k) = ⊥
 
 -- the queueing of piece n, which touches no disk, may say this: the machine's reply; or, for a step that would be queued, that
 -- memory failed
-abbrev pub QueueMaySay : Table → Subsystems → Board → ℕ → Outcome → Said Queue → Type 0
+abbrev pub QueueMaySay : ConflictRelation → Subsystems → Board → ℕ → Outcome → Said Queue → Type 0
 QueueMaySay table subsystems b n outcome (says r) =
     (taken : Taken) × MayTake outcome taken (piece_of b.machine.kept n)
     × (r ≡ queue_reply table subsystems b.machine.courses (now table b.machine) b.group n taken)
@@ -135,14 +135,14 @@ QueueMaySay table subsystems b n outcome (is_closed k) = ⊥
 
 -- a flush, which takes no memory, may say this: how many pieces took effect; or that the disk failed, where some piece takes
 -- effect
-abbrev pub FlushMaySay : Table → Board → Said ℕ → Type 0
+abbrev pub FlushMaySay : ConflictRelation → Board → Said ℕ → Type 0
 FlushMaySay table b (says n) = n ≡ length (flush_kept (now table b.machine) b.group)
 FlushMaySay table b no_memory = ⊥
 FlushMaySay table b disk_fault = flush_kept (now table b.machine) b.group ≢ []
 FlushMaySay table b (is_closed k) = ⊥
 
 -- a turn of a board that isn't closed may say this
-abbrev pub OpenMaySay : Table → Subsystems → Board → Turn → Type 0
+abbrev pub OpenMaySay : ConflictRelation → Subsystems → Board → Turn → Type 0
 OpenMaySay table subsystems b (nexts said) = NextMaySay table b said
 OpenMaySay table subsystems b (finishes n outcome said) = FinishMaySay table b n outcome said
 OpenMaySay table subsystems b (queues n outcome said) = QueueMaySay table subsystems b n outcome said
@@ -156,25 +156,25 @@ SaysClosed k (queues n outcome said) = said ≡ is_closed k
 SaysClosed k (flushes said) = said ≡ is_closed k
 
 -- the same, by whether the board is closed
-abbrev pub MaySayBy : Table → Subsystems → Board → Turn → Option ℕ → Type 0
+abbrev pub MaySayBy : ConflictRelation → Subsystems → Board → Turn → Option ℕ → Type 0
 MaySayBy table subsystems b turn None = OpenMaySay table subsystems b turn
 MaySayBy table subsystems b turn (Some k) = SaysClosed k turn
 
 -- a turn may be made of this board: what it says is the machine's at its place, where an answer of done may be taken as barred
-abbrev pub MaySay : Table → Subsystems → Board → Turn → Type 0
+abbrev pub MaySay : ConflictRelation → Subsystems → Board → Turn → Type 0
 MaySay table subsystems b turn = MaySayBy table subsystems b turn b.closed
 
 -- each of these turns may be made of the board after those before it
-abbrev pub AllMaySay : Table → Subsystems → Board → List Turn → Type 0
+abbrev pub AllMaySay : ConflictRelation → Subsystems → Board → List Turn → Type 0
 AllMaySay table subsystems b [] = Unit {0}
 AllMaySay table subsystems b (t ∷ ts) = MaySay table subsystems b t × AllMaySay table subsystems (after_turn table b t) ts
 
 -- a turn leads from one board to the next
-abbrev pub IsTurn : Table → Subsystems → Board → Turn → Board → Type 0
+abbrev pub IsTurn : ConflictRelation → Subsystems → Board → Turn → Board → Type 0
 IsTurn table subsystems b turn after = MaySay table subsystems b turn × (after ≡ after_turn table b turn)
 
 -- these turns, one after another, lead from one board to the last
-abbrev pub AreTurns : Table → Subsystems → Board → List Turn → Board → Type 0
+abbrev pub AreTurns : ConflictRelation → Subsystems → Board → List Turn → Board → Type 0
 AreTurns table subsystems b ts last = AllMaySay table subsystems b ts × (last ≡ after_turns table b ts)
 
 -- a request that has to wait while something is queued asks for a flush
@@ -217,6 +217,6 @@ IsDue due (flushes said) = IsTrue due
 
 -- each flush among these turns comes behind a full group, or a wait with something queued, and no other flush between; due says
 -- whether one is due at first
-abbrev pub FlushesAreDue : Table → Board → Bool → List Turn → Type 0
+abbrev pub FlushesAreDue : ConflictRelation → Board → Bool → List Turn → Type 0
 FlushesAreDue table b due [] = Unit {0}
 FlushesAreDue table b due (t ∷ ts) = IsDue due t × FlushesAreDue table (after_turn table b t) (due_after b due t) ts

@@ -1,5 +1,5 @@
 -- The entries that stand in a legal history are of different steps, so each undo finds one entry.
-use Rattle.std.proofs.Common.{◌≡◌, ◌⊎◌, inl, inr, Bool, true, false, not, cond, eqb, ltb, List, [], ◌∷◌, ◌++◌, filter, sym, refl, ap, ◌∙◌, subst, arith, append-nil, append_assoc}
+use Rattle.std.proofs.Common.{◌≡◌, ◌⊎◌, inl, inr, Bool, true, false, not, cond, eqb, ltb, List, [], ◌∷◌, ◌++◌, filter, sym, refl, ap, ◌∙◌, subst, arith}
 use Rattle.std.specs.Bool.{IsTrue}
 use Rattle.std.specs.List.{list_all}
 use Rattle.std.proofs.lemmas.Bool.{and_parts, and_from, or_cases, false≢true, ltb-true, ne_eqb, and_right, and_left}
@@ -7,10 +7,11 @@ use Rattle.process_tree.specs.declared.entry.Entry.{Entry}
 use Rattle.schedule_model.specs.declared.event.Event.{Event}
 use Rattle.schedule_model.specs.declared.event.Event.TheVariants.{Start, Act, End}
 use Rattle.schedule_model.specs.Course.{Course, shape}
-use Rattle.schedule_model.specs.Conflict.{Table}
+use Rattle.schedule_model.specs.Conflict.{ConflictRelation}
 use Rattle.schedule_model.specs.Histories.{net, net_steps, done_steps, same_step}
 use Rattle.process_tree.specs.Shape.{goes_on_to}
-use Rattle.schedule_model.specs.Legal.{may_come, goes_legally, is_legal}
+use Rattle.schedule_model.specs.Legal.{may_come, is_legal}
+use Rattle.schedule_model.proofs.Induction.{by_legal}
 use Rattle.schedule_model.proofs.Snoc.{net-start, net-end, net-do, net-undo}
 use Rattle.schedule_model.proofs.Rising.{passes_of, all_of, all_net_steps, step_goes_on}
 
@@ -71,12 +72,12 @@ lesser_is_apart e f passes = by_reason (or_cases (not (eqb f.process e.process))
     by_reason (inl other) = by_process (eqb f.process e.process) refl other
     by_reason (inr less) = let l = ltb-true f.step e.step less in ap not (and_right (eqb f.process e.process) (eqb f.step e.step) (ne_eqb f.step e.step (λ same. omega arith)))
 
-list_all-weaker : {X : Type 0} (p q : X → Bool) (xs : List X) → ((x : X) → p x ≡ true → q x ≡ true) → list_all p xs ≡ true → list_all q xs ≡ true
+pub list_all-weaker : {X : Type 0} (p q : X → Bool) (xs : List X) → ((x : X) → p x ≡ true → q x ≡ true) → list_all p xs ≡ true → list_all q xs ≡ true
 list_all-weaker p q [] h all = refl
 list_all-weaker p q (x ∷ xs) h all =
     let parts = and_parts (p x) (list_all p xs) all in and_from (q x) (list_all q xs) (h x parts.0) (list_all-weaker p q xs h parts.1)
 
-module _ (table : Table) (courses : List Course) where
+module _ (table : ConflictRelation) (courses : List Course) where
   by_undo : (h : List Event) (e : Entry) (u : Bool) → e.undo ≡ u → IsTrue (may_come table courses h (Act e)) → Apart (net h) → Apart (net (h ++ Act e ∷ []))
   by_undo h e true undo may apart = subst Apart (sym (net-undo h e undo)) (Apart-filter (λ f. not (same_step f e)) (net h) apart)
   by_undo h e false is_step may apart =
@@ -90,12 +91,6 @@ module _ (table : Table) (courses : List Course) where
   apart_after h (Act e) may apart = by_undo h e e.undo refl may apart
   apart_after h (End k) may apart = subst Apart (sym (net-end h k)) apart
 
-  apart_from : (before h : List Event) → IsTrue (goes_legally table courses before h) → Apart (net before) → Apart (net (before ++ h))
-  apart_from before [] goes apart = subst (λ es. Apart (net es)) (sym (append-nil before)) apart
-  apart_from before (e ∷ h) goes apart =
-      let parts = and_parts (may_come table courses before e) (goes_legally table courses (before ++ e ∷ []) h) goes in
-      subst (λ es. Apart (net es)) (append_assoc before (e ∷ []) h) (apart_from (before ++ e ∷ []) h parts.1 (apart_after before e parts.0 apart))
-
   -- the entries that stand in a legal history are of different steps
   pub net-apart : (h : List Event) → IsTrue (is_legal table courses h) → Apart (net h)
-  net-apart h legal = apart_from [] h legal tt
+  net-apart h legal = by_legal table courses (λ g. Apart (net g)) (λ g e before may apart. apart_after g e may apart) tt h legal

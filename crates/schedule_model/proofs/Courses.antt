@@ -9,7 +9,7 @@ use Rattle.process_tree.specs.Recovery.{forward, class_of}
 use Rattle.schedule_model.specs.declared.event.Event.{Event}
 use Rattle.schedule_model.specs.declared.event.Event.TheVariants.{Start, Act, End}
 use Rattle.schedule_model.specs.Course.{Course, course, op_of}
-use Rattle.schedule_model.specs.Conflict.{Table}
+use Rattle.schedule_model.specs.Conflict.{ConflictRelation}
 use Rattle.schedule_model.specs.Histories.{net, active, is_active, is_in, doing, net_of, net_steps, done_steps}
 use Rattle.schedule_model.specs.Recovery.{undoable, owed_after}
 use Rattle.schedule_model.specs.OwnOrder.{keeps_order, goes_on, is_at_end, is_of_last}
@@ -72,7 +72,7 @@ module _ (cs ds : List Course) where
   keeps_order-courses h (Act e) same = entry_by h e (is_active h e.process) (same e.process)
   keeps_order-courses h (End i) same = end_by h i (is_active h i) (same i)
 
-  module _ (table : Table) where
+  module _ (table : ConflictRelation) where
     entry_against : (h : List Event) (e : Entry) → SameOfActive h → SameCourse e.process → against_entry table cs h e ≡ against_entry table ds h e
     entry_against h e same own =
         ap (λ g. if e.undo then against_undo table g e else against_step table g (class_in cs h e.process e.step) e (owed_after cs h e.process e.step)) (at_rest-courses h same)

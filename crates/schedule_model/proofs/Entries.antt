@@ -1,36 +1,37 @@
 -- The entries of a legal history are those of its plans, and those of its net are steps.
-use Rattle.std.proofs.Common.{◌≡◌, Bool, true, false, cond, ◌||◌, List, [], ◌∷◌, ◌++◌, refl, ap, ◌∙◌}
+use Rattle.std.proofs.Common.{◌≡◌, Bool, true, false, cond, ◌||◌, List, [], ◌∷◌, ◌++◌, sym, refl, ap, ◌∙◌, subst, append-nil}
 use Rattle.std.specs.Bool.{IsTrue}
 use Rattle.std.specs.List.{All, list_any}
 use Rattle.std.proofs.lemmas.Bool.{eqb-true}
-use Rattle.std.proofs.lemmas.List.Elements.{All-nil, All-cons, All-head, All-tail}
+use Rattle.std.proofs.lemmas.List.Elements.{All-nil, All-cons, All-head, All-tail, All-push}
 use Rattle.process_tree.specs.declared.entry.Entry.{Entry}
 use Rattle.schedule_model.specs.declared.event.Event.{Event}
 use Rattle.schedule_model.specs.declared.event.Event.TheVariants.{Start, Act, End}
 use Rattle.schedule_model.specs.Course.{Course, op_of}
-use Rattle.schedule_model.specs.Conflict.{Table}
+use Rattle.schedule_model.specs.Conflict.{ConflictRelation}
 use Rattle.schedule_model.specs.Histories.{acts, net_acts, doing, undoing, takes_back, is_active}
 use Rattle.schedule_model.specs.OwnOrder.{keeps_order}
-use Rattle.schedule_model.specs.Legal.{may_come, goes_legally, is_legal}
+use Rattle.schedule_model.specs.Legal.{may_come, is_legal}
+use Rattle.schedule_model.proofs.Appends.{acts-append}
+use Rattle.schedule_model.proofs.Induction.{by_legal}
 use Rattle.schedule_model.proofs.Legal.{both-left, both-right}
 
 -- the operation of an entry is the plan's
 abbrev pub HasPlansOperation : List Course → Entry → Type 0
 HasPlansOperation courses e = e.op ≡ op_of courses e.process e.step
 
-module _ (table : Table) (courses : List Course) where
+module _ (table : ConflictRelation) (courses : List Course) where
   entry_of : (before : List Event) (e : Entry) → IsTrue (may_come table courses before (Act e)) → HasPlansOperation courses e
   entry_of before e may = eqb-true e.op (op_of courses e.process e.step) (both-right (is_active before e.process) _ (both-left _ _ (both-left (keeps_order courses before (Act e)) _ may)))
 
-  pub acts-of_plans_from : (before h : List Event) → IsTrue (goes_legally table courses before h) → All (HasPlansOperation courses) (acts h)
-  acts-of_plans_from before [] is = All-nil (HasPlansOperation courses)
-  acts-of_plans_from before (Start i ∷ h) is = acts-of_plans_from (before ++ Start i ∷ []) h (both-right _ _ is)
-  acts-of_plans_from before (Act e ∷ h) is = All-cons (HasPlansOperation courses) e (acts h) (entry_of before e (both-left _ _ is)) (acts-of_plans_from (before ++ Act e ∷ []) h (both-right _ _ is))
-  acts-of_plans_from before (End i ∷ h) is = acts-of_plans_from (before ++ End i ∷ []) h (both-right _ _ is)
+  one_more : (h : List Event) (e : Event) → IsTrue (may_come table courses h e) → All (HasPlansOperation courses) (acts h) → All (HasPlansOperation courses) (acts (h ++ e ∷ []))
+  one_more h (Start i) may all = subst (All (HasPlansOperation courses)) (sym (acts-append h (Start i ∷ []) ∙ append-nil (acts h))) all
+  one_more h (Act e) may all = subst (All (HasPlansOperation courses)) (sym (acts-append h (Act e ∷ []))) (All-push (HasPlansOperation courses) (acts h) e all (entry_of h e may))
+  one_more h (End i) may all = subst (All (HasPlansOperation courses)) (sym (acts-append h (End i ∷ []) ∙ append-nil (acts h))) all
 
   -- each entry of a legal history has the operation that its plan gives its step
   pub acts-of_plans : (h : List Event) → IsTrue (is_legal table courses h) → All (HasPlansOperation courses) (acts h)
-  acts-of_plans h is = acts-of_plans_from [] h is
+  acts-of_plans h legal = by_legal table courses (λ g. All (HasPlansOperation courses) (acts g)) (λ g e before may all. one_more g e may all) (All-nil (HasPlansOperation courses)) h legal
 
 -- what is true of all entries is true of those that stand
 pub All-net_acts : (P : Entry → Type 0) (es : List Entry) → All P es → All P (net_acts es)

@@ -1,5 +1,5 @@
 -- Steps of a process rise: in a history in own order each is greater than those that took effect before.
-use Rattle.std.proofs.Common.{◌≡◌, ℕ, Bool, true, false, not, cond, eqb, ltb, ◌&&◌, ◌||◌, ◌⊎◌, inl, inr, if◌then◌else◌, List, [], ◌∷◌, ◌++◌, filter, sym, refl, ap, ◌∙◌, subst, append-nil, append_assoc}
+use Rattle.std.proofs.Common.{◌≡◌, ℕ, Bool, true, false, not, cond, eqb, ltb, ◌&&◌, ◌||◌, ◌⊎◌, inl, inr, if◌then◌else◌, List, [], ◌∷◌, ◌++◌, filter, sym, refl, ap, ◌∙◌, subst, append-nil}
 use Rattle.std.specs.Bool.{IsTrue}
 use Rattle.std.specs.List.{list_any, list_all}
 use Rattle.std.proofs.lemmas.Bool.{eqb-true, and_parts, and_from, cases_Bool}
@@ -7,12 +7,13 @@ use Rattle.process_tree.specs.declared.entry.Entry.{Entry}
 use Rattle.schedule_model.specs.declared.event.Event.{Event}
 use Rattle.schedule_model.specs.declared.event.Event.TheVariants.{Start, Act, End}
 use Rattle.schedule_model.specs.Course.{Course, shape, op_of}
-use Rattle.schedule_model.specs.Conflict.{Table}
+use Rattle.schedule_model.specs.Conflict.{ConflictRelation}
 use Rattle.schedule_model.specs.Histories.{acts, net_acts, net, net_of, net_steps, done_steps, same_step, steps_of, of_process, takes_back, is_active}
 use Rattle.schedule_model.specs.OwnOrder.{entry_keeps_order, goes_on, is_of_last}
 use Rattle.schedule_model.specs.Recovery.{undoable}
 use Rattle.process_tree.specs.Shape.{goes_on_to}
-use Rattle.schedule_model.specs.Legal.{may_come, is_clear, goes_legally, is_legal}
+use Rattle.schedule_model.specs.Legal.{may_come, is_clear, is_legal}
+use Rattle.schedule_model.proofs.Induction.{by_legal}
 use Rattle.schedule_model.proofs.Snoc.{done_steps-do, done_steps-undo, net_of-other, net_of-start, net_of-end}
 use Rattle.schedule_model.proofs.Recoveries.{net_steps-do, net_of-undo}
 use Rattle.schedule_model.proofs.Appends.{done_steps-append}
@@ -36,20 +37,20 @@ Rising-push (x ∷ xs) b rising all =
     (all_above-push x b xs rising.0 parts.0, Rising-push xs b rising.1 parts.1)
 
 -- a step that may come goes on
-pub step_goes_on : (table : Table) (courses : List Course) (h : List Event) (e : Entry) → e.undo ≡ false → IsTrue (may_come table courses h (Act e)) → IsTrue (goes_on courses h e.process e.step)
+pub step_goes_on : (table : ConflictRelation) (courses : List Course) (h : List Event) (e : Entry) → e.undo ≡ false → IsTrue (may_come table courses h (Act e)) → IsTrue (goes_on courses h e.process e.step)
 step_goes_on table courses h e is_step may =
     subst (λ u. (if u then is_of_last (undoable courses h e.process) e else goes_on courses h e.process e.step) ≡ true) is_step
     (and_parts (is_active h e.process && eqb e.op (op_of courses e.process e.step)) (if e.undo then is_of_last (undoable courses h e.process) e else goes_on courses h e.process e.step)
     (and_parts (entry_keeps_order courses h e) (is_clear table courses h (Act e)) may).0).1
 
 -- an undo that may come is of the last entry that can be undone
-pub undo_is_of_last : (table : Table) (courses : List Course) (h : List Event) (e : Entry) → e.undo ≡ true → IsTrue (may_come table courses h (Act e)) → IsTrue (is_of_last (undoable courses h e.process) e)
+pub undo_is_of_last : (table : ConflictRelation) (courses : List Course) (h : List Event) (e : Entry) → e.undo ≡ true → IsTrue (may_come table courses h (Act e)) → IsTrue (is_of_last (undoable courses h e.process) e)
 undo_is_of_last table courses h e undo may =
     subst (λ u. (if u then is_of_last (undoable courses h e.process) e else goes_on courses h e.process e.step) ≡ true) undo
     (and_parts (is_active h e.process && eqb e.op (op_of courses e.process e.step)) (if e.undo then is_of_last (undoable courses h e.process) e else goes_on courses h e.process e.step)
     (and_parts (entry_keeps_order courses h e) (is_clear table courses h (Act e)) may).0).1
 
-module _ (table : Table) (courses : List Course) where
+module _ (table : ConflictRelation) (courses : List Course) where
   by_process : (h : List Event) (e : Entry) (i : ℕ) → e.undo ≡ false → IsTrue (goes_on courses h e.process e.step) → Rising (done_steps h i)
       → (eqb e.process i ≡ true) ⊎ (eqb e.process i ≡ false) → Rising (done_steps (h ++ Act e ∷ []) i)
   by_process h e i is_step goes rising (inl own) =
@@ -70,16 +71,9 @@ module _ (table : Table) (courses : List Course) where
   Rising-may_come h (Act e) i may rising = by_undo h e i e.undo refl may rising
   Rising-may_come h (End k) i may rising = subst Rising (sym (done_steps-append h (End k ∷ []) i ∙ append-nil (done_steps h i))) rising
 
-  pub Rising-from : (before h : List Event) (i : ℕ) → IsTrue (goes_legally table courses before h) → Rising (done_steps before i) → Rising (done_steps (before ++ h) i)
-  Rising-from before [] i goes rising = subst (λ es. Rising (done_steps es i)) (sym (append-nil before)) rising
-  Rising-from before (e ∷ h) i goes rising =
-      let parts = and_parts (may_come table courses before e) (goes_legally table courses (before ++ e ∷ []) h) goes in
-      subst (λ es. Rising (done_steps es i)) (append_assoc before (e ∷ []) h)
-      (Rising-from (before ++ e ∷ []) h i parts.1 (Rising-may_come before e i parts.0 rising))
-
   -- the steps of a process that took effect in a legal history rise
   pub done_steps-rising : (h : List Event) (i : ℕ) → IsTrue (is_legal table courses h) → Rising (done_steps h i)
-  done_steps-rising h i legal = Rising-from [] h i legal tt
+  done_steps-rising h i legal = by_legal table courses (λ g. Rising (done_steps g i)) (λ g e before may rising. Rising-may_come g e i may rising) tt h legal
 
 -- What stands is some of what took effect.
 
@@ -133,7 +127,7 @@ pub Rising-filter : (q : Entry → Bool) (xs : List Entry) → Rising (steps_of 
 Rising-filter q [] rising = tt
 Rising-filter q (e ∷ xs) rising = rising_filter_step q e xs (q e) (Rising-filter q xs rising.1) rising.0
 
-module _ (table : Table) (courses : List Course) where
+module _ (table : ConflictRelation) (courses : List Course) where
   net_by_process : (h : List Event) (e : Entry) (i : ℕ) → e.undo ≡ false → IsTrue (goes_on courses h e.process e.step) → Rising (net_steps h i)
       → (eqb e.process i ≡ true) ⊎ (eqb e.process i ≡ false) → Rising (net_steps (h ++ Act e ∷ []) i)
   net_by_process h e i is_step goes rising (inl own) =
@@ -154,13 +148,6 @@ module _ (table : Table) (courses : List Course) where
   Rising-net-may_come h (Act e) i may rising = net_by_undo h e i e.undo refl may rising
   Rising-net-may_come h (End k) i may rising = subst Rising (sym (ap steps_of (net_of-end h k i))) rising
 
-  pub Rising-net-from : (before h : List Event) (i : ℕ) → IsTrue (goes_legally table courses before h) → Rising (net_steps before i) → Rising (net_steps (before ++ h) i)
-  Rising-net-from before [] i goes rising = subst (λ es. Rising (net_steps es i)) (sym (append-nil before)) rising
-  Rising-net-from before (e ∷ h) i goes rising =
-      let parts = and_parts (may_come table courses before e) (goes_legally table courses (before ++ e ∷ []) h) goes in
-      subst (λ es. Rising (net_steps es i)) (append_assoc before (e ∷ []) h)
-      (Rising-net-from (before ++ e ∷ []) h i parts.1 (Rising-net-may_come before e i parts.0 rising))
-
   -- the steps of a process that stand in a legal history rise
   pub net_steps-rising : (h : List Event) (i : ℕ) → IsTrue (is_legal table courses h) → Rising (net_steps h i)
-  net_steps-rising h i legal = Rising-net-from [] h i legal tt
+  net_steps-rising h i legal = by_legal table courses (λ g. Rising (net_steps g i)) (λ g e before may rising. Rising-net-may_come g e i may rising) tt h legal

@@ -1,18 +1,19 @@
 -- Those that started in a legal history have rising numbers, so the active ones differ.
-use Rattle.std.proofs.Common.{◌≡◌, ℕ, ◌+◌, ◌<◌, Bool, true, false, not, cond, eqb, ltb, List, [], ◌∷◌, ◌++◌, filter, length, sym, refl, ap, ◌∙◌, subst, arith, append-nil, append_assoc}
+use Rattle.std.proofs.Common.{◌≡◌, ℕ, ◌+◌, ◌<◌, Bool, true, false, not, cond, eqb, ltb, List, [], ◌∷◌, ◌++◌, filter, length, sym, refl, ap, ◌∙◌, subst, arith, append-nil}
 use Rattle.std.specs.Bool.{IsTrue}
 use Rattle.std.specs.List.{list_all}
-use Rattle.std.proofs.lemmas.Bool.{and_parts, and_from, or_left, or_right, eq-eqb, eqb-true, ne_eqb, ltb-true, lt-ltb, false≢true}
+use Rattle.std.proofs.lemmas.Bool.{and_parts, and_from, or_left, or_right, eq-eqb, eqb-true, ne_eqb, ltb-true, lt-ltb}
 use Rattle.schedule_model.specs.declared.event.Event.{Event}
 use Rattle.schedule_model.specs.declared.event.Event.TheVariants.{Start, Act, End}
 use Rattle.schedule_model.specs.Course.{Course}
-use Rattle.schedule_model.specs.Conflict.{Table}
+use Rattle.schedule_model.specs.Conflict.{ConflictRelation}
 use Rattle.schedule_model.specs.Histories.{active, is_in, starts, ends}
-use Rattle.schedule_model.specs.Legal.{is_clear, may_come, goes_legally, is_legal}
+use Rattle.schedule_model.specs.Legal.{is_clear, may_come, is_legal}
+use Rattle.schedule_model.proofs.Induction.{by_legal}
 use Rattle.schedule_model.proofs.Appends.{starts-append}
 use Rattle.schedule_model.proofs.Apart.{list_all-filter}
 use Rattle.schedule_model.proofs.Rising.{Rising, Rising-push}
-use Rattle.schedule_model.proofs.Prefixes.{Numbered, numbered_by}
+use Rattle.schedule_model.proofs.Prefixes.{Numbered, legal-numbered}
 
 all_below : (xs : List ℕ) (k : ℕ) → ((i : ℕ) → IsTrue (is_in i xs) → i < k) → IsTrue (list_all (λ d. ltb d k) xs)
 all_below [] k below = refl
@@ -20,7 +21,7 @@ all_below (x ∷ xs) k below =
     and_from (ltb x k) (list_all (λ d. ltb d k) xs) (lt-ltb x k (below x (or_left (eqb x x) (is_in x xs) (eq-eqb x x refl))))
     (all_below xs k (λ i is. below i (or_right (eqb i x) (is_in i xs) is)))
 
-module _ (table : Table) (courses : List Course) where
+module _ (table : ConflictRelation) (courses : List Course) where
   started_after : (h : List Event) (e : Event) → Numbered h → Rising (starts h) → IsTrue (may_come table courses h e) → Rising (starts (h ++ e ∷ []))
   started_after h (Start k) numbered rising may =
       let next = eqb-true k (length (starts h) + 1) (and_parts (eqb k (length (starts h) + 1)) (is_clear table courses h (Start k)) may).0 in
@@ -29,16 +30,9 @@ module _ (table : Table) (courses : List Course) where
   started_after h (Act e) numbered rising may = subst Rising (sym (starts-append h (Act e ∷ []) ∙ append-nil (starts h))) rising
   started_after h (End k) numbered rising may = subst Rising (sym (starts-append h (End k ∷ []) ∙ append-nil (starts h))) rising
 
-  started_from : (before h : List Event) → Numbered before → Rising (starts before) → IsTrue (goes_legally table courses before h) → Rising (starts (before ++ h))
-  started_from before [] numbered rising goes = subst (λ es. Rising (starts es)) (sym (append-nil before)) rising
-  started_from before (e ∷ h) numbered rising goes =
-      let parts = and_parts (may_come table courses before e) (goes_legally table courses (before ++ e ∷ []) h) goes in
-      subst (λ es. Rising (starts es)) (append_assoc before (e ∷ []) h)
-      (started_from (before ++ e ∷ []) h (numbered_by table courses before e numbered parts.0) (started_after before e numbered rising parts.0) parts.1)
-
   -- the numbers of those that started rise
   pub starts-rising : (h : List Event) → IsTrue (is_legal table courses h) → Rising (starts h)
-  starts-rising h legal = started_from [] h (λ i is. absurd (false≢true is)) tt legal
+  starts-rising h legal = by_legal table courses (λ g. Rising (starts g)) (λ g e before may rising. started_after g e (legal-numbered table courses g before) rising may) tt h legal
 
   kept_rising_step : (p : ℕ → Bool) (x : ℕ) (xs : List ℕ) (t : Bool) → IsTrue (list_all (λ y. ltb x y) xs) → Rising (filter p xs) → Rising (cond t (x ∷ filter p xs) (filter p xs))
   kept_rising_step p x xs true above rest = (list_all-filter (λ y. ltb x y) p xs above, rest)

@@ -11,7 +11,7 @@ use Rattle.process_tree.specs.Shape.{fixed_len}
 use Rattle.schedule_model.specs.declared.event.Event.{Event}
 use Rattle.schedule_model.specs.declared.event.Event.TheVariants.{Act, End}
 use Rattle.schedule_model.specs.Course.{Course, shape}
-use Rattle.schedule_model.specs.Conflict.{Table}
+use Rattle.schedule_model.specs.Conflict.{ConflictRelation}
 use Rattle.schedule_model.specs.Histories.{active, is_active, net, net_of, net_steps, of_process, same_step, undoing}
 use Rattle.schedule_model.specs.Recovery.{undoable, owed}
 use Rattle.schedule_model.specs.Completion.{is_to_undo, all_undoable, closing, completion}
@@ -113,7 +113,7 @@ module _ (courses : List Course) (h : List Event) where
       ∙ (sym (filter_twice (λ e. eqb e.process i) (λ e. list_any (same_step e) (undoable courses h i)) (net h))
       ∙ tail_as_filter (net_of h i) (Apart-filter (λ e. eqb e.process i) (net h) apart) (fixed_len (shape courses i) (net_steps h i))))
 
-module _ (table : Table) (courses : List Course) (h : List Event) (legal : IsTrue (is_legal table courses h)) (front : List Entry) (x : Entry)
+module _ (table : ConflictRelation) (courses : List Course) (h : List Event) (legal : IsTrue (is_legal table courses h)) (front : List Entry) (x : Entry)
     (last_is : all_undoable courses h ≡ front ++ x ∷ []) where
   abbrev after : List Event
   after = h ++ Act (undoing x) ∷ []
@@ -123,7 +123,7 @@ module _ (table : Table) (courses : List Course) (h : List Event) (legal : IsTru
       let all = sym (list_all-append (is_to_undo courses h) front (x ∷ [])) ∙ (ap (list_all (is_to_undo courses h)) (sym last_is) ∙ filtered_pass (is_to_undo courses h) (net h)) in
       (and_parts (is_to_undo courses h x) true (and_parts (list_all (is_to_undo courses h) front) (is_to_undo courses h x && true) all).1).0
 
-  is_active_one : is_active h x.process ≡ true
+  pub is_active_one : is_active h x.process ≡ true
   is_active_one = (and_parts (is_active h x.process) (list_any (same_step x) (undoable courses h x.process)) last_passes).0
 
   -- the last of all that is to be undone is the last of its process
@@ -134,10 +134,12 @@ module _ (table : Table) (courses : List Course) (h : List Event) (legal : IsTru
       ∙ (of_process-append x.process front (x ∷ [])
       ∙ ap (λ t. of_process x.process front ++ cond t (x ∷ []) []) (eq-eqb x.process x.process refl)))
 
+  pub undo_of_last : IsTrue (is_of_last (undoable courses h x.process) (undoing x))
+  undo_of_last = ap (λ us. is_of_last us (undoing x)) last_of_own ∙ (of_last (of_process x.process front) x (undoing x) ∙ same_itself x)
+
   -- its undo takes it back
   taken_back : Undoes courses (undoing x) h after
-  taken_back = undoes_last table courses h (undoing x) legal refl
-      (ap (λ us. is_of_last us (undoing x)) last_of_own ∙ (of_last (of_process x.process front) x (undoing x) ∙ same_itself x))
+  taken_back = undoes_last table courses h (undoing x) legal refl undo_of_last
 
   net_after : net after ≡ filter (λ f. not (same_step f x)) (net h)
   net_after = net-undo h (undoing x) refl

@@ -11,7 +11,7 @@ use Rattle.process_tree.specs.Recovery.{forward, last_after}
 use Rattle.schedule_model.specs.declared.event.Event.{Event}
 use Rattle.schedule_model.specs.declared.event.Event.TheVariants.{Act}
 use Rattle.schedule_model.specs.Course.{Course, shape}
-use Rattle.schedule_model.specs.Conflict.{Table}
+use Rattle.schedule_model.specs.Conflict.{ConflictRelation}
 use Rattle.schedule_model.specs.Histories.{doing, net_of, net_steps, same_step, steps_of}
 use Rattle.schedule_model.specs.Recovery.{undoable, owed}
 use Rattle.schedule_model.specs.OwnOrder.{is_of_last}
@@ -120,7 +120,7 @@ front_stays e x front same rising =
     ∙ (ap (λ b. front ++ cond (not b) (x ∷ []) []) same ∙ append-nil front))
 
 -- an undo of the last entry that can be undone takes that back, after a legal history
-pub undoes_last : (table : Table) (courses : List Course) (h : List Event) (e : Entry) → IsTrue (is_legal table courses h) → e.undo ≡ true
+pub undoes_last : (table : ConflictRelation) (courses : List Course) (h : List Event) (e : Entry) → IsTrue (is_legal table courses h) → e.undo ≡ true
     → IsTrue (is_of_last (undoable courses h e.process) e) → Undoes courses e h (h ++ Act e ∷ [])
 undoes_last table courses h e legal undo of_last =
     let t = shape courses e.process in
@@ -136,7 +136,7 @@ undoes_last table courses h e legal undo of_last =
     goes courses e h (h ++ Act e ∷ []) front ends.front ends.last ends.same net_is after_is ends.is
 
 -- an undo that may come in a legal history does
-pub undoes : (table : Table) (courses : List Course) (h : List Event) (e : Entry) → IsTrue (is_legal table courses h) → e.undo ≡ true
+pub undoes : (table : ConflictRelation) (courses : List Course) (h : List Event) (e : Entry) → IsTrue (is_legal table courses h) → e.undo ≡ true
     → IsTrue (may_come table courses h (Act e)) → Undoes courses e h (h ++ Act e ∷ [])
 undoes table courses h e legal undo may = undoes_last table courses h e legal undo (undo_is_of_last table courses h e undo may)
 

@@ -2,7 +2,7 @@
 use Rattle.std.specs.Prelude.{ℕ, List, [], ◌∷◌, ◌++◌, filter, map, flat_map, nat_eq, if◌then◌else◌}
 use Rattle.process_tree.specs.declared.entry.Entry.{Entry}
 use Rattle.process_tree.specs.Recovery.{StepClass, reserved, committing, undoable}
-use Rattle.schedule_model.specs.Conflict.{Table, conflict}
+use Rattle.schedule_model.specs.Conflict.{ConflictRelation, conflict}
 use Rattle.schedule_model.specs.Holdings.{Holdings, active_net, all_running, all_reserved, all_pending, behind, reaches}
 
 -- an entry of one's own, and an entry of another process that it conflicts with
@@ -11,7 +11,7 @@ pub record Clash : Type 0 where
   pub other : Entry
 
 -- an entry of one's own against these
-abbrev pub against : Table → Entry → List Entry → List Clash
+abbrev pub against : ConflictRelation → Entry → List Entry → List Clash
 against table own others = map (λ x. record { own = own; other = x }) (filter (conflict table own) others)
 
 -- what stands against a piece, by rule
@@ -30,37 +30,37 @@ pub record Clashes : Type 0 where
   pub a5 : List Clash
 
 -- what stands of active processes before an entry of process i, against that entry
-abbrev pub in_front : Table → Holdings → ℕ → List Clash
+abbrev pub in_front : ConflictRelation → Holdings → ℕ → List Clash
 in_front table g i =
     let es = active_net g in
     flat_map (λ x. flat_map (λ y. if nat_eq y.process i then against table y (x ∷ []) else []) (behind x es)) es
 
 -- A0
-abbrev pub with_running : Table → Holdings → Entry → List Clash
+abbrev pub with_running : ConflictRelation → Holdings → Entry → List Clash
 with_running table g b = against table b (all_running g)
 
 -- A1
-abbrev pub with_reserved : Table → Holdings → Entry → List Clash
+abbrev pub with_reserved : ConflictRelation → Holdings → Entry → List Clash
 with_reserved table g b = against table b (all_reserved g ++ all_pending g)
 
 -- A2
-abbrev pub in_a_circle : Table → Holdings → Entry → List Clash
+abbrev pub in_a_circle : ConflictRelation → Holdings → Entry → List Clash
 in_a_circle table g b = filter (λ c. reaches table g b.process c.other.process) (against table b (active_net g))
 
 -- A3, of a step: also what conflicts with the step itself
-abbrev pub with_active : Table → Holdings → Entry → List Clash
+abbrev pub with_active : ConflictRelation → Holdings → Entry → List Clash
 with_active table g b = against table b (active_net g) ++ in_front table g b.process
 
 -- A4; owed are the steps that it would reserve
-abbrev pub with_owed : Table → Holdings → List Entry → List Clash
+abbrev pub with_owed : ConflictRelation → Holdings → List Entry → List Clash
 with_owed table g owed = flat_map (λ s. against table s (active_net g ++ all_running g ++ all_reserved g)) owed
 
 -- A5
-abbrev pub with_later : Table → Holdings → Entry → List Clash
+abbrev pub with_later : ConflictRelation → Holdings → Entry → List Clash
 with_later table g x = against table x (behind x g.net)
 
 -- against a step b of this class, after which its process would owe these
-abbrev pub against_step : Table → Holdings → StepClass → Entry → List Entry → Clashes
+abbrev pub against_step : ConflictRelation → Holdings → StepClass → Entry → List Entry → Clashes
 against_step table g reserved b owed =
     record { a0 = with_running table g b; a1 = with_reserved table g b; a2 = []; a3 = []; a4 = []; a5 = [] }
 against_step table g undoable b owed =
@@ -75,11 +75,11 @@ against_step table g committing b owed = record {
 }
 
 -- against the undo of x
-abbrev pub against_undo : Table → Holdings → Entry → Clashes
+abbrev pub against_undo : ConflictRelation → Holdings → Entry → Clashes
 against_undo table g x = record { a0 = []; a1 = []; a2 = []; a3 = []; a4 = []; a5 = with_later table g x }
 
 -- against the end of process i
-abbrev pub against_end : Table → Holdings → ℕ → Clashes
+abbrev pub against_end : ConflictRelation → Holdings → ℕ → Clashes
 against_end table g i = record { a0 = []; a1 = []; a2 = []; a3 = in_front table g i; a4 = []; a5 = [] }
 
 -- all of them

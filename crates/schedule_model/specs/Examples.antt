@@ -5,11 +5,12 @@ use Rattle.schedule_model.specs.declared.event.Event.{Event}
 use Rattle.schedule_model.specs.declared.event.Event.TheVariants.{Start, End}
 use Rattle.schedule_model.specs.declared.trace_step.TraceStep.TheVariants.{Move, Cancel}
 use Rattle.schedule_model.specs.Course.{Course}
-use Rattle.schedule_model.specs.Histories.{acts, net, doing}
+use Rattle.schedule_model.specs.Histories.{acts, net, doing, outlives}
+use Rattle.schedule_model.specs.Limits.{Limits, keeps_limits, stands_within}
 use Rattle.schedule_model.specs.Recovery.{undoable, owed}
 use Rattle.schedule_model.specs.Completion.{completion}
 use Rattle.schedule_model.specs.OwnOrder.{keeps_order}
-use Rattle.schedule_model.specs.Legal.{is_legal, first_illegal}
+use Rattle.schedule_model.specs.Legal.{is_legal, is_reducible, first_illegal}
 use Rattle.schedule_model.specs.Reduction.{applied, applied_all, is_serial, not_serial}
 use Rattle.schedule_model.specs.PrintedTrace.{printed_trace}
 use Rattle.schedule_model.specs.Samples.{stock_table, purchase, sale, delivery, addition, order, nested, did, undid}
@@ -137,3 +138,41 @@ no_earlier_way = refl
 
 pub it_may_end : keeps_order (nested ∷ []) taken_back (End 1) ≡ true
 it_may_end = refl
+
+-- limits of two active processes, two processes in all, and five acts and ends
+abbrev pub narrow : Limits
+narrow = record { active = 2; processes = 2; entries = 5 }
+
+-- two additions at once may need three each; with one End more there are four, but the second start was too much
+abbrev pub both_at_once : List Event
+both_at_once = Start 1 ∷ Start 2 ∷ End 1 ∷ []
+
+pub both_at_once_at_last : stands_within narrow (addition ∷ addition ∷ []) both_at_once ≡ true
+both_at_once_at_last = refl
+
+pub both_at_once_is_too_much : keeps_limits narrow (addition ∷ addition ∷ []) both_at_once ≡ false
+both_at_once_is_too_much = refl
+
+-- one after the other there is room
+pub one_after_the_other : keeps_limits narrow (addition ∷ addition ∷ []) (Start 1 ∷ End 1 ∷ Start 2 ∷ []) ≡ true
+one_after_the_other = refl
+
+-- of two that ended, the one that ended later outlives the other
+pub purchase_outlives : outlives both_undone 1 2 ≡ true
+purchase_outlives = refl
+
+pub sale_is_outlived : outlives both_undone 2 1 ≡ false
+sale_is_outlived = refl
+
+-- what is reducible need not be legal: a sale that was paid too early, but ended after the purchase
+abbrev pub paid_early : List Event
+paid_early = paid_too_early ++ did shop 1 1 ∷ End 1 ∷ End 2 ∷ []
+
+pub paid_early_is_reducible : is_reducible stock_table shop paid_early ≡ true
+paid_early_is_reducible = refl
+
+pub paid_early_is_illegal : first_illegal stock_table shop paid_early ≡ Some 5
+paid_early_is_illegal = refl
+
+pub interleaved_reduces : is_reducible stock_table yard interleaved ≡ true
+interleaved_reduces = refl

@@ -39,6 +39,15 @@ is_active h i = is_in i (starts h) && not (is_in i (ends h))
 abbrev pub active : List Event → List ℕ
 active h = filter (λ i. not (is_in i (ends h))) (starts h)
 
+-- the numbers that stand after i
+abbrev pub after_number : ℕ → List ℕ → List ℕ
+after_number i [] = []
+after_number i (k ∷ ks) = if nat_eq i k then ks else after_number i ks
+
+-- process k is active, or ended after process i
+abbrev pub outlives : List Event → ℕ → ℕ → Bool
+outlives h k i = is_active h k || is_in k (after_number i (ends h))
+
 -- step b of process i taking effect
 abbrev pub doing : List Course → ℕ → ℕ → Entry
 doing courses i b = record { process = i; step = b; op = op_of courses i b; undo = false }

@@ -5,7 +5,7 @@ use Rattle.std.specs.Option.{option_to_list}
 use Rattle.process_tree.specs.declared.entry.Entry.{Entry}
 use Rattle.schedule_model.specs.declared.event.Event.{Event}
 use Rattle.schedule_model.specs.Course.{Course}
-use Rattle.schedule_model.specs.Conflict.{Table, conflict}
+use Rattle.schedule_model.specs.Conflict.{ConflictRelation, conflict}
 use Rattle.schedule_model.specs.Histories.{active, is_in, net, same_step}
 use Rattle.schedule_model.specs.Recovery.{undoable, owed}
 use Rattle.schedule_model.specs.Graph.{leads}
@@ -58,14 +58,14 @@ behind x (e ∷ es) = if same_step x e then es else behind x es
 
 -- the conflict graph: an arrow leads from k to i where a net entry of k conflicts with a later one of i, or with the step of
 -- i that is under way
-abbrev pub arrow : Table → Holdings → ℕ → ℕ → Bool
+abbrev pub arrow : ConflictRelation → Holdings → ℕ → ℕ → Bool
 arrow table g k i =
     let es = active_net g in
     list_any (λ x. nat_eq x.process k
     && list_any (λ y. nat_eq y.process i && conflict table x y) (behind x es ++ running_steps g)) es
 
 -- a walk of one or more arrows leads from k to i
-abbrev pub reaches : Table → Holdings → ℕ → ℕ → Bool
+abbrev pub reaches : ConflictRelation → Holdings → ℕ → ℕ → Bool
 reaches table g k i = leads (arrow table g) (holders g) k i
 
 -- what process i holds while nothing is under way and nothing pending
@@ -75,3 +75,7 @@ hold_at_rest courses h i = record { process = i; running = None; reserved = owed
 -- what all active processes hold then
 abbrev pub at_rest : List Course → List Event → Holdings
 at_rest courses h = record { net = net h; holds = map (hold_at_rest courses h) (active h) }
+
+-- the same without the entries of those that have ended
+abbrev pub of_active : Holdings → Holdings
+of_active g = record { net = active_net g; holds = g.holds }

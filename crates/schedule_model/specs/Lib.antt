@@ -1,4 +1,5 @@
 pub mod Course
+pub mod EachEvent
 pub mod Conflict
 pub mod Histories
 pub mod Recovery
@@ -14,3 +15,4 @@ pub mod PrintedTrace
 pub mod Laws
 pub mod Samples
 pub mod Examples
+pub mod PlannedExample

@@ -6,6 +6,7 @@ use Rattle.process_tree.specs.Shape.{goes_on_to, is_end}
 use Rattle.schedule_model.specs.declared.event.Event.{Event}
 use Rattle.schedule_model.specs.declared.event.Event.TheVariants.{Start, Act, End}
 use Rattle.schedule_model.specs.Course.{Course, shape, op_of}
+use Rattle.schedule_model.specs.EachEvent.{each_passes}
 use Rattle.schedule_model.specs.Histories.{is_active, starts, done_steps, net_steps, same_step}
 use Rattle.schedule_model.specs.Recovery.{undoable}
 
@@ -35,3 +36,7 @@ abbrev pub keeps_order : List Course → List Event → Event → Bool
 keeps_order courses h (Start i) = nat_eq i (length (starts h) + 1)
 keeps_order courses h (Act e) = entry_keeps_order courses h e
 keeps_order courses h (End i) = is_active h i && is_at_end courses h i
+
+-- a history is in own order where each of its events keeps that of its process
+abbrev pub is_in_own_order : List Course → List Event → Bool
+is_in_own_order courses h = each_passes (keeps_order courses) [] h

@@ -5,11 +5,11 @@ use Rattle.std.specs.Option.{option_map}
 use Rattle.process_tree.specs.declared.entry.Entry.{Entry}
 use Rattle.schedule_model.specs.declared.trace_step.TraceStep.{TraceStep}
 use Rattle.schedule_model.specs.declared.trace_step.TraceStep.TheVariants.{Move, Cancel}
-use Rattle.schedule_model.specs.Conflict.{Table, conflict}
+use Rattle.schedule_model.specs.Conflict.{ConflictRelation, conflict}
 use Rattle.schedule_model.specs.Histories.{takes_back}
 
 -- two neighbours may change places where they are of different processes and don't conflict
-abbrev pub can_change : Table → Entry → Entry → Bool
+abbrev pub can_change : ConflictRelation → Entry → Entry → Bool
 can_change table a b = not (nat_eq a.process b.process) && not (conflict table a b)
 
 -- a step and its own undo directly after it
@@ -17,7 +17,7 @@ abbrev pub is_pair : Entry → Entry → Bool
 is_pair a b = not a.undo && takes_back b a
 
 -- two neighbours change places
-abbrev pub IsExchange : Table → List Entry → List Entry → Type 0
+abbrev pub IsExchange : ConflictRelation → List Entry → List Entry → Type 0
 IsExchange table xs ys = (before after : List Entry) × (a b : Entry)
     × (xs ≡ before ++ a ∷ b ∷ after) × (ys ≡ before ++ b ∷ a ∷ after) × IsTrue (can_change table a b)
 
@@ -27,11 +27,16 @@ IsCancel xs ys = (before after : List Entry) × (a b : Entry)
     × (xs ≡ before ++ a ∷ b ∷ after) × (ys ≡ before ++ after) × IsTrue (is_pair a b)
 
 -- one reduction step
-abbrev pub IsReduced : Table → List Entry → List Entry → Type 0
+abbrev pub IsReduced : ConflictRelation → List Entry → List Entry → Type 0
 IsReduced table xs ys = IsExchange table xs ys ⊎ IsCancel xs ys
 
+-- steps one after another
+pub data AreReduced (table : ConflictRelation) : List Entry → List Entry → Type 0 where
+  no_step : {xs : List Entry} → AreReduced table xs xs
+  step_first : {xs ys zs : List Entry} → IsReduced table xs ys → AreReduced table ys zs → AreReduced table xs zs
+
 -- the list after the entries at place at and the next changed places, where they may; places count from 1
-abbrev pub exchanged : Table → ℕ → List Entry → Option (List Entry)
+abbrev pub exchanged : ConflictRelation → ℕ → List Entry → Option (List Entry)
 exchanged table at [] = None
 exchanged table zero (a ∷ xs) = None
 exchanged table (suc zero) (a ∷ []) = None
@@ -52,24 +57,24 @@ and_then None f = None
 and_then (Some x) f = f x
 
 -- n exchanges that carry the entry at this place onward
-abbrev pub carried_on : Table → ℕ → ℕ → List Entry → Option (List Entry)
+abbrev pub carried_on : ConflictRelation → ℕ → ℕ → List Entry → Option (List Entry)
 carried_on table zero from xs = Some xs
 carried_on table (suc n) from xs = and_then (exchanged table from xs) (carried_on table n (from + 1))
 
 -- n exchanges that carry it backward
-abbrev pub carried_back : Table → ℕ → ℕ → List Entry → Option (List Entry)
+abbrev pub carried_back : ConflictRelation → ℕ → ℕ → List Entry → Option (List Entry)
 carried_back table zero from xs = Some xs
 carried_back table (suc n) from xs = and_then (exchanged table (from - 1) xs) (carried_back table n (from - 1))
 
 -- the list after a trace step, where it applies: a move is the exchanges that carry one entry to another place of the list
-abbrev pub applied : Table → TraceStep → List Entry → Option (List Entry)
+abbrev pub applied : ConflictRelation → TraceStep → List Entry → Option (List Entry)
 applied table (Move from to) xs =
     if nat_lt from to then carried_on table (to - from) from xs
     else (if nat_lt to from && nat_le from (length xs) then carried_back table (from - to) from xs else None)
 applied table (Cancel at) xs = cancelled at xs
 
 -- the list after these steps in turn
-abbrev pub applied_all : Table → List TraceStep → List Entry → Option (List Entry)
+abbrev pub applied_all : ConflictRelation → List TraceStep → List Entry → Option (List Entry)
 applied_all table [] xs = Some xs
 applied_all table (s ∷ ss) xs = and_then (applied table s xs) (applied_all table ss)
 

@@ -5,7 +5,7 @@ use Rattle.process_tree.specs.declared.step.StepKind.TheVariants.{C, P, R}
 use Rattle.process_tree.specs.Blocks.{numbers_from}
 use Rattle.schedule_model.specs.declared.event.Event.{Event}
 use Rattle.schedule_model.specs.declared.event.Event.TheVariants.{Act}
-use Rattle.schedule_model.specs.Conflict.{Table}
+use Rattle.schedule_model.specs.Conflict.{ConflictRelation}
 use Rattle.schedule_model.specs.Course.{Course}
 use Rattle.schedule_model.specs.Histories.{doing, undoing}
 
@@ -30,7 +30,7 @@ abbrev pub note : ℕ
 note = 4
 
 -- what is taken depends on what was added and on what else was taken, and notes depend on notes
-abbrev pub stock_table : Table
+abbrev pub stock_table : ConflictRelation
 stock_table a b =
     (nat_eq a add && nat_eq b take) || (nat_eq a take && nat_eq b add) || (nat_eq a take && nat_eq b take)
     || (nat_eq a note && nat_eq b note)

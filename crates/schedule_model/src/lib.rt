@@ -3,15 +3,20 @@
 //! A history is a list of events with a plan for each process (`Event`, `History`). `specs/Histories` says which entries
 //! of it stand, and everything else is said over that: recovery and completion (`Recovery`, `Completion`), own order
 //! (`OwnOrder`), what stands against an event and which histories are legal (`Blocking`, `Legal`), reduction and the
-//! printed trace (`Reduction`, `PrintedTrace`). The layers above cite these definitions. This crate has no algorithm.
+//! printed trace (`Reduction`, `PrintedTrace`). The layers above cite these definitions, and the laws of `specs/Laws` that
+//! the functions of `laws` carry. This crate has no algorithm.
 #![tactic(auto)]
 
 mod event;
 mod history;
+mod laws;
 mod limits;
 mod trace_step;
 
 pub use event::{Event, Events};
 pub use history::{History, Plans};
+pub use laws::{
+    acts_are_few, applied_steps_reduce, beginnings_are_legal, beginnings_are_planned, beginnings_keep_limits, class_facts_hold, completion_is_stable, completion_keeps_limits, ended_dont_block_steps, first_illegal_is_exact, limits_hold, own_order_is_completed, the_shop_is_planned,
+};
 pub use limits::{MOST_ACTIVE, MOST_ENTRIES, MOST_PROCESSES};
 pub use trace_step::TraceStep;

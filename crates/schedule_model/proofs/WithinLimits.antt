@@ -1,0 +1,341 @@
+-- Limits: beginnings and completions keep them, a process has few acts, and nothing but a start adds to what is counted.
+use Rattle.std.proofs.Common.{◌≡◌, ⊎_elim, ℕ, ◌+◌, ◌*◌, ◌≤◌, Bool, true, false, not, cond, eqb, ltb, leb, ◌&&◌, List, [], ◌∷◌, ◌++◌, length, map, filter, reverse, sym, refl, ap, ◌∙◌, subst, arith, append-nil}
+use Rattle.std.specs.Bool.{IsTrue}
+use Rattle.std.specs.List.{flat_map, list_all, sum_by}
+use Rattle.std.proofs.lemmas.Bool.{and_parts, and_from, eqb-true, eq-eqb, ltb-true, lt-ltb, leb-true, le-leb, or_cases, false≢true}
+use Rattle.std.proofs.lemmas.List.Sums.{sum_by-cons}
+use Rattle.std.proofs.lemmas.List.Folds.{list_all-append}
+use Rattle.std.proofs.lemmas.List.{length-append}
+use Rattle.process_tree.specs.declared.entry.Entry.{Entry}
+use Rattle.process_tree.specs.declared.plan.Plan.{Plan}
+use Rattle.process_tree.specs.Shape.{goes_on_to}
+use Rattle.process_tree.proofs.TreeLaws.{paths_lie_in_order}
+use Rattle.process_tree.proofs.InTurn.{goes_within}
+use Rattle.schedule_model.specs.declared.event.Event.{Event}
+use Rattle.schedule_model.specs.declared.event.Event.TheVariants.{Start, Act, End}
+use Rattle.schedule_model.specs.Course.{Course, course, courses_of, shape}
+use Rattle.schedule_model.specs.Conflict.{no_conflict}
+use Rattle.schedule_model.specs.EachEvent.{each_passes}
+use Rattle.schedule_model.specs.Histories.{acts, starts, ends, active, is_active, is_in, of_process, net_of, net_steps, done_steps, undoing}
+use Rattle.schedule_model.specs.Recovery.{owed}
+use Rattle.schedule_model.specs.Completion.{all_undoable, closing, completion}
+use Rattle.schedule_model.specs.OwnOrder.{goes_on, is_in_own_order}
+use Rattle.schedule_model.specs.Limits.{Limits, starts_within, keeps_limits, stands_within, still_needed, entries}
+use Rattle.schedule_model.specs.Legal.{may_come, is_legal}
+use Rattle.schedule_model.specs.Laws.{AreGood, BeginningsKeepLimits, CompletionKeepsLimits, ActsAreFew, LimitsHold}
+use Rattle.schedule_model.proofs.Induction.{each_passes-append, each_passes-prefix, each_passes-push, passes-push, by_legal}
+use Rattle.schedule_model.proofs.Appends.{acts-append, starts-append, ends-append, done_steps-append}
+use Rattle.schedule_model.proofs.Active.{is_active-is_in}
+use Rattle.schedule_model.proofs.Counts.{length_filter-most}
+use Rattle.schedule_model.proofs.Acting.{act_active, end_active}
+use Rattle.schedule_model.proofs.Snoc.{of_process-append, net_of-do, net_of-other, net_of-start, net_of-end, done_steps-do, done_steps-undo, active-do, active-end}
+use Rattle.schedule_model.proofs.Rising.{Rising, done_steps-rising, step_goes_on}
+use Rattle.schedule_model.proofs.Apart.{list_all-weaker}
+use Rattle.schedule_model.proofs.Undoing.{undoes}
+use Rattle.schedule_model.proofs.NoConflict.{legal-from_own_order, own_order-legal}
+use Rattle.schedule_model.proofs.GoodPlans.{good_if_goes_on}
+
+pub beginnings-keep_limits : BeginningsKeepLimits
+beginnings-keep_limits l courses g k keeps = each_passes-prefix (starts_within l courses) g k keeps
+
+-- Completion has no start, so nothing of it is judged.
+
+starts_of_acts : (es : List Entry) → starts (map Act es) ≡ []
+starts_of_acts [] = refl
+starts_of_acts (e ∷ es) = starts_of_acts es
+
+starts_of_undos : (es : List Entry) → starts (map (λ e. Act (undoing e)) es) ≡ []
+starts_of_undos [] = refl
+starts_of_undos (e ∷ es) = starts_of_undos es
+
+starts_of_closings : (courses : List Course) (h : List Event) (is : List ℕ) → starts (flat_map (closing courses h) is) ≡ []
+starts_of_closings courses h [] = refl
+starts_of_closings courses h (i ∷ is) =
+    starts-append (closing courses h i) (flat_map (closing courses h) is)
+    ∙ (ap (λ js. js ++ starts (flat_map (closing courses h) is)) (starts-append (map Act (owed courses h i)) (End i ∷ []) ∙ ap (λ js. js ++ []) (starts_of_acts (owed courses h i)))
+    ∙ starts_of_closings courses h is)
+
+-- nobody starts in a completion
+pub starts-completion : (courses : List Course) (h : List Event) → starts (completion courses h) ≡ []
+starts-completion courses h =
+    starts-append (map (λ e. Act (undoing e)) (reverse (all_undoable courses h))) (flat_map (closing courses h) (active h))
+    ∙ (ap (λ js. js ++ starts (flat_map (closing courses h) (active h))) (starts_of_undos (reverse (all_undoable courses h)))
+    ∙ starts_of_closings courses h (active h))
+
+nobody_starts : (i : ℕ) (is : List ℕ) → i ∷ is ≡ [] → ⊥
+nobody_starts i is e = let l = ap length e in omega arith
+
+no_start : (l : Limits) (courses : List Course) (before k : List Event) → starts k ≡ [] → IsTrue (each_passes (starts_within l courses) before k)
+no_start l courses before [] none = refl
+no_start l courses before (Start i ∷ k) none = absurd (nobody_starts i (starts k) none)
+no_start l courses before (Act e ∷ k) none = no_start l courses (before ++ Act e ∷ []) k none
+no_start l courses before (End i ∷ k) none = no_start l courses (before ++ End i ∷ []) k none
+
+pub completion-keeps_limits : CompletionKeepsLimits
+completion-keeps_limits l courses h keeps =
+    each_passes-append (starts_within l courses) [] h (completion courses h)
+    ∙ and_from (keeps_limits l courses h) (each_passes (starts_within l courses) h (completion courses h)) keeps
+    (no_start l courses h (completion courses h) (starts-completion courses h))
+
+-- A process has few acts: each undo takes back one of its steps, and its steps rise below how many there are.
+
+module _ (courses : List Course) (i : ℕ) where
+  -- acts and net entries of a process are twice its steps that ever took effect
+  abbrev Balanced : List Event → Type 0
+  Balanced h = length (of_process i (acts h)) + length (net_of h i) ≡ 2 * length (done_steps h i)
+
+  same_counts : (g h : List Event) → of_process i (acts h) ≡ of_process i (acts g) → net_of h i ≡ net_of g i → done_steps h i ≡ done_steps g i → Balanced g → Balanced h
+  same_counts g h one two three is = ap (λ es. length es + length (net_of h i)) one ∙ (ap (λ es. length (of_process i (acts g)) + length es) two ∙ (is ∙ ap (λ ds. 2 * length ds) (sym three)))
+
+  acts_other : (h : List Event) (e : Entry) → eqb e.process i ≡ false → of_process i (acts (h ++ Act e ∷ [])) ≡ of_process i (acts h)
+  acts_other h e other =
+      ap (of_process i) (acts-append h (Act e ∷ []))
+      ∙ (of_process-append i (acts h) (e ∷ []) ∙ (ap (λ t. of_process i (acts h) ++ cond t (e ∷ []) []) other ∙ append-nil (of_process i (acts h))))
+
+  acts_own : (h : List Event) (e : Entry) → eqb e.process i ≡ true → length (of_process i (acts (h ++ Act e ∷ []))) ≡ length (of_process i (acts h)) + 1
+  acts_own h e own =
+      ap (λ es. length (of_process i es)) (acts-append h (Act e ∷ []))
+      ∙ (ap length (of_process-append i (acts h) (e ∷ []) ∙ ap (λ t. of_process i (acts h) ++ cond t (e ∷ []) []) own)
+      ∙ length-append (of_process i (acts h)) (e ∷ []))
+
+  pub done_other : (h : List Event) (e : Entry) → eqb e.process i ≡ false → (u : Bool) → e.undo ≡ u → done_steps (h ++ Act e ∷ []) i ≡ done_steps h i
+  done_other h e other true undo = done_steps-undo h e i undo
+  done_other h e other false is_step =
+      done_steps-append h (Act e ∷ []) i ∙ (ap (λ bs. done_steps h i ++ bs) (rw is_step (rw other refl)) ∙ append-nil (done_steps h i))
+
+  balanced_own : (h : List Event) (e : Entry) → IsTrue (is_legal no_conflict courses h) → IsTrue (may_come no_conflict courses h (Act e))
+      → eqb e.process i ≡ true → (u : Bool) → e.undo ≡ u → Balanced h → Balanced (h ++ Act e ∷ [])
+  balanced_own h e legal may own true undo is =
+      let same = eqb-true e.process i own in
+      let one = acts_own h e own in
+      let taken = undoes no_conflict courses h e legal undo may in
+      let two : length (net_of h i) ≡ length (net_of (h ++ Act e ∷ []) i) + 1 =
+      subst (λ k. length (net_of h k) ≡ length (net_of (h ++ Act e ∷ []) k) + 1) same (ap length taken.net ∙ length-append (net_of (h ++ Act e ∷ []) e.process) (taken.last ∷ [])) in
+      let three = ap length (done_steps-undo h e i undo) in
+      omega arith
+  balanced_own h e legal may own false is_step is =
+      let same = eqb-true e.process i own in
+      let one = acts_own h e own in
+      let two : length (net_of (h ++ Act e ∷ []) i) ≡ length (net_of h i) + 1 =
+      subst (λ k. length (net_of (h ++ Act e ∷ []) k) ≡ length (net_of h k) + 1) same (ap length (net_of-do h e is_step) ∙ length-append (net_of h e.process) (e ∷ [])) in
+      let three : length (done_steps (h ++ Act e ∷ []) i) ≡ length (done_steps h i) + 1 =
+      subst (λ k. length (done_steps (h ++ Act e ∷ []) k) ≡ length (done_steps h k) + 1) same (ap length (done_steps-do h e is_step) ∙ length-append (done_steps h e.process) (e.step ∷ [])) in
+      omega arith
+
+  balanced_act : (h : List Event) (e : Entry) → IsTrue (is_legal no_conflict courses h) → IsTrue (may_come no_conflict courses h (Act e))
+      → (own : Bool) → eqb e.process i ≡ own → Balanced h → Balanced (h ++ Act e ∷ [])
+  balanced_act h e legal may true own is = balanced_own h e legal may own e.undo refl is
+  balanced_act h e legal may false other is = same_counts h (h ++ Act e ∷ []) (acts_other h e other) (net_of-other h e i other) (done_other h e other e.undo refl) is
+
+  balanced_more : (h : List Event) (e : Event) → IsTrue (is_legal no_conflict courses h) → IsTrue (may_come no_conflict courses h e) → Balanced h → Balanced (h ++ e ∷ [])
+  balanced_more h (Start k) legal may is =
+      same_counts h (h ++ Start k ∷ []) (ap (of_process i) (acts-append h (Start k ∷ []) ∙ append-nil (acts h))) (net_of-start h k i)
+      (done_steps-append h (Start k ∷ []) i ∙ append-nil (done_steps h i)) is
+  balanced_more h (Act e) legal may is = balanced_act h e legal may (eqb e.process i) refl is
+  balanced_more h (End k) legal may is =
+      same_counts h (h ++ End k ∷ []) (ap (of_process i) (acts-append h (End k ∷ []) ∙ append-nil (acts h))) (net_of-end h k i)
+      (done_steps-append h (End k ∷ []) i ∙ append-nil (done_steps h i)) is
+
+  balanced : (h : List Event) → IsTrue (is_legal no_conflict courses h) → Balanced h
+  balanced h legal = by_legal no_conflict courses Balanced balanced_more refl h legal
+
+-- rising numbers below n are no more than n
+few_rising : (n m : ℕ) (ds : List ℕ) → Rising ds → IsTrue (list_all (λ d. leb m d) ds) → IsTrue (list_all (λ d. ltb d n) ds) → m ≤ n → m + length ds ≤ n
+few_rising n m [] rising low high le = omega arith
+few_rising n m (d ∷ ds) rising low high le =
+    let lows = and_parts (leb m d) (list_all (λ d. leb m d) ds) low in
+    let highs = and_parts (ltb d n) (list_all (λ d. ltb d n) ds) high in
+    let l = leb-true m d lows.0 in
+    let less = ltb-true d n highs.0 in
+    let rest = few_rising n (d + 1) ds rising.1 (list_all-weaker (λ y. ltb d y) (λ y. leb (d + 1) y) ds (λ y is. let up = ltb-true d y is in le-leb (d + 1) y (omega arith)) rising.0) highs.1 (omega arith) in
+    omega arith
+
+module _ (plans : List Plan) (good : AreGood plans) (i : ℕ) where
+  abbrev courses' : List Course
+  courses' = courses_of plans
+
+  abbrev steps_in : ℕ
+  steps_in = length (course courses' i).ops
+
+  -- each step that took effect is one of the process
+  abbrev Within : List Event → Type 0
+  Within h = IsTrue (list_all (λ d. ltb d steps_in) (done_steps h i))
+
+  step_within : (h : List Event) (b : ℕ) → IsTrue (goes_on courses' h i b) → ltb b steps_in ≡ true
+  step_within h b goes =
+      let on = (and_parts (goes_on_to (shape courses' i) (net_steps h i) b) (list_all (λ d. ltb d b) (done_steps h i)) goes).0 in
+      let plan = good_if_goes_on plans i (net_steps h i) b good on in
+      let less = goes_within (shape courses' i) (length (shape courses' i).kinds) (net_steps h i) b (paths_lie_in_order (shape courses' i) plan.tree).within on in
+      let many = plan.operations in
+      lt-ltb b steps_in (omega arith)
+
+  within_act : (h : List Event) (e : Entry) → IsTrue (may_come no_conflict courses' h (Act e)) → (own u : Bool) → eqb e.process i ≡ own → e.undo ≡ u → Within h → Within (h ++ Act e ∷ [])
+  within_act h e may own true is undo within = subst (λ ds. IsTrue (list_all (λ d. ltb d steps_in) ds)) (sym (done_steps-undo h e i undo)) within
+  within_act h e may false false is is_step within = subst (λ ds. IsTrue (list_all (λ d. ltb d steps_in) ds)) (sym (done_other courses' i h e is false is_step)) within
+  within_act h e may true false is is_step within =
+      let same = eqb-true e.process i is in
+      let goes = subst (λ k. IsTrue (goes_on courses' h k e.step)) same (step_goes_on no_conflict courses' h e is_step may) in
+      let done : done_steps (h ++ Act e ∷ []) i ≡ done_steps h i ++ e.step ∷ [] = subst (λ k. done_steps (h ++ Act e ∷ []) k ≡ done_steps h k ++ e.step ∷ []) same (done_steps-do h e is_step) in
+      subst (λ ds. IsTrue (list_all (λ d. ltb d steps_in) ds)) (sym done)
+      (list_all-append (λ d. ltb d steps_in) (done_steps h i) (e.step ∷ []) ∙ and_from (list_all (λ d. ltb d steps_in) (done_steps h i)) (list_all (λ d. ltb d steps_in) (e.step ∷ [])) within
+      (and_from (ltb e.step steps_in) true (step_within h e.step goes) refl))
+
+  within_more : (h : List Event) (e : Event) → IsTrue (may_come no_conflict courses' h e) → Within h → Within (h ++ e ∷ [])
+  within_more h (Start k) may within = subst (λ ds. IsTrue (list_all (λ d. ltb d steps_in) ds)) (sym (done_steps-append h (Start k ∷ []) i ∙ append-nil (done_steps h i))) within
+  within_more h (Act e) may within = within_act h e may (eqb e.process i) e.undo refl refl within
+  within_more h (End k) may within = subst (λ ds. IsTrue (list_all (λ d. ltb d steps_in) ds)) (sym (done_steps-append h (End k ∷ []) i ∙ append-nil (done_steps h i))) within
+
+  few_acts : (h : List Event) → IsTrue (is_in_own_order courses' h) → length (of_process i (acts h)) ≤ 2 * steps_in
+  few_acts h own =
+      let legal = legal-from_own_order courses' h own in
+      let within = by_legal no_conflict courses' Within (λ g e before may is. within_more g e may is) refl h legal in
+      let few = few_rising steps_in 0 (done_steps h i) (done_steps-rising no_conflict courses' h i legal)
+      (list_all-weaker (λ d. ltb d steps_in) (λ d. leb 0 d) (done_steps h i) (λ d is. le-leb 0 d (omega arith)) within) within (omega arith) in
+      let twice = balanced courses' i h legal in
+      omega arith
+
+pub acts-few : ActsAreFew
+acts-few plans h i good own = few_acts plans good i h own
+
+-- Sums over the active processes.
+
+module _ (f g : ℕ → ℕ) where
+  sum_less : (xs : List ℕ) → ((k : ℕ) → g k ≤ f k) → sum_by g xs ≤ sum_by f xs
+  sum_less [] less = omega arith
+  sum_less (x ∷ xs) less =
+      let here = less x in
+      let rest = sum_less xs less in
+      let one = sum_by-cons g x xs in
+      let two = sum_by-cons f x xs in
+      omega arith
+
+  -- where one of them has less, the sum is less
+  sum_drops : (i : ℕ) (xs : List ℕ) → ((k : ℕ) → g k ≤ f k) → g i + 1 ≤ f i → (is_in i xs ≡ true) → sum_by g xs + 1 ≤ sum_by f xs
+  sum_drops i [] less at is = absurd (false≢true is)
+  sum_drops i (x ∷ xs) less at is =
+      let one = sum_by-cons g x xs in
+      let two = sum_by-cons f x xs in
+      ⊎_elim
+      (λ here. let same = eqb-true i x here in let rest = sum_less xs less in let at_x : g x + 1 ≤ f x = subst (λ k. g k + 1 ≤ f k) same at in omega arith)
+      (λ later. let here = less x in let rest = sum_drops i xs less at later in omega arith)
+      (or_cases (eqb i x) (is_in i xs) is)
+
+sum_kept : (f : ℕ → ℕ) (i x : ℕ) (xs : List ℕ) (t : Bool) → sum_by f (cond t (x ∷ filter (λ k. not (eqb k i)) xs) (filter (λ k. not (eqb k i)) xs)) ≤ f x + sum_by f (filter (λ k. not (eqb k i)) xs)
+sum_kept f i x xs true = let one = sum_by-cons f x (filter (λ k. not (eqb k i)) xs) in omega arith
+sum_kept f i x xs false = omega arith
+
+sum_filtered : (f : ℕ → ℕ) (i : ℕ) (xs : List ℕ) → sum_by f (filter (λ k. not (eqb k i)) xs) ≤ sum_by f xs
+sum_filtered f i [] = omega arith
+sum_filtered f i (x ∷ xs) =
+    let one = sum_kept f i x xs (not (eqb x i)) in
+    let two = sum_by-cons f x xs in
+    let rest = sum_filtered f i xs in
+    omega arith
+
+-- without one of them
+sum_without : (f : ℕ → ℕ) (i : ℕ) (xs : List ℕ) → is_in i xs ≡ true → sum_by f (filter (λ k. not (eqb k i)) xs) + f i ≤ sum_by f xs
+sum_without f i [] is = absurd (false≢true is)
+sum_without f i (x ∷ xs) is =
+    let two = sum_by-cons f x xs in
+    ⊎_elim
+    (λ here.
+    let same = eqb-true i x here in
+    let gone : sum_by f (filter (λ k. not (eqb k i)) (x ∷ xs)) ≡ sum_by f (filter (λ k. not (eqb k i)) xs) =
+    ap (λ t. sum_by f (cond (not t) (x ∷ filter (λ k. not (eqb k i)) xs) (filter (λ k. not (eqb k i)) xs))) (eq-eqb x i (sym same)) in
+    let rest = sum_filtered f i xs in
+    let at = ap f same in
+    omega arith)
+    (λ later. let one = sum_kept f i x xs (not (eqb x i)) in let rest = sum_without f i xs later in omega arith)
+    (or_cases (eqb i x) (is_in i xs) is)
+
+fewer_active : (i : ℕ) (xs : List ℕ) → length (filter (λ k. not (eqb k i)) xs) ≤ length xs
+fewer_active i xs = length_filter-most (λ k. not (eqb k i)) xs
+
+-- Nothing but a start adds to what is counted.
+
+module _ (l : Limits) (plans : List Plan) (good : AreGood plans) where
+  abbrev cs : List Course
+  cs = courses_of plans
+
+  still_less : (h : List Event) (e : Entry) → IsTrue (is_in_own_order cs (h ++ Act e ∷ [])) → (k : ℕ) → (own : Bool) → eqb e.process k ≡ own
+      → still_needed cs (h ++ Act e ∷ []) k ≤ still_needed cs h k
+  still_less h e own k true is = let more = acts_own cs k h e is in omega arith
+  still_less h e own k false is = let same = ap length (acts_other cs k h e is) in omega arith
+
+  still_drops : (h : List Event) (e : Entry) → IsTrue (is_in_own_order cs (h ++ Act e ∷ [])) → still_needed cs (h ++ Act e ∷ []) e.process + 1 ≤ still_needed cs h e.process
+  still_drops h e own =
+      let more = acts_own cs e.process h e (eq-eqb e.process e.process refl) in
+      let few = few_acts plans good e.process (h ++ Act e ∷ []) own in
+      omega arith
+
+  entries_act : (h : List Event) (e : Entry) → IsTrue (is_in_own_order cs (h ++ Act e ∷ [])) → IsTrue (is_active h e.process) → entries cs (h ++ Act e ∷ []) ≤ entries cs h
+  entries_act h e own goes =
+      let one = ap length (acts-append h (Act e ∷ [])) in
+      let long = length-append (acts h) (e ∷ []) in
+      let two = ap length (ends-append h (Act e ∷ []) ∙ append-nil (ends h)) in
+      let three = ap (sum_by (still_needed cs (h ++ Act e ∷ []))) (active-do h e) in
+      let drops = sum_drops (still_needed cs h) (still_needed cs (h ++ Act e ∷ [])) e.process (active h) (λ k. still_less h e own k (eqb e.process k) refl) (still_drops h e own)
+      (is_active-is_in h e.process ∙ goes) in
+      omega arith
+
+  entries_end : (h : List Event) (i : ℕ) → IsTrue (is_in_own_order cs h) → IsTrue (is_active h i) → entries cs (h ++ End i ∷ []) ≤ entries cs h
+  entries_end h i own goes =
+      let one = ap length (acts-append h (End i ∷ []) ∙ append-nil (acts h)) in
+      let two = ap length (ends-append h (End i ∷ [])) in
+      let long = length-append (ends h) (i ∷ []) in
+      let three : sum_by (still_needed cs (h ++ End i ∷ [])) (active (h ++ End i ∷ [])) ≤ sum_by (still_needed cs h) (filter (λ k. not (eqb k i)) (active h)) =
+      subst (λ ks. sum_by (still_needed cs (h ++ End i ∷ [])) ks ≤ sum_by (still_needed cs h) (filter (λ k. not (eqb k i)) (active h))) (sym (active-end h i))
+      (sum_less (still_needed cs h) (still_needed cs (h ++ End i ∷ [])) (filter (λ k. not (eqb k i)) (active h))
+      (λ k. let same = ap (λ es. length (of_process k es)) (acts-append h (End i ∷ []) ∙ append-nil (acts h)) in omega arith)) in
+      let without = sum_without (still_needed cs h) i (active h) (is_active-is_in h i ∙ goes) in
+      let few = few_acts plans good i h own in
+      omega arith
+
+  abbrev pub Stands : List Event → Type 0
+  Stands h = (length (active h) ≤ l.active) × (length (starts h) ≤ l.processes) × (entries cs h ≤ l.entries)
+
+  stands_parts : (h : List Event) → IsTrue (stands_within l cs h) → Stands h
+  stands_parts h is =
+      let last = and_parts (leb (length (active h)) l.active && leb (length (starts h)) l.processes) (leb (entries cs h) l.entries) is in
+      let first = and_parts (leb (length (active h)) l.active) (leb (length (starts h)) l.processes) last.0 in
+      (leb-true (length (active h)) l.active first.0, leb-true (length (starts h)) l.processes first.1, leb-true (entries cs h) l.entries last.1)
+
+  stands_from : (h : List Event) → Stands h → IsTrue (stands_within l cs h)
+  stands_from h is =
+      and_from (leb (length (active h)) l.active && leb (length (starts h)) l.processes) (leb (entries cs h) l.entries)
+      (and_from (leb (length (active h)) l.active) (leb (length (starts h)) l.processes) (le-leb (length (active h)) l.active is.0) (le-leb (length (starts h)) l.processes is.1))
+      (le-leb (entries cs h) l.entries is.2)
+
+  still_stands : (h : List Event) (e : Event) → IsTrue (is_legal no_conflict cs h) → IsTrue (may_come no_conflict cs h e) → IsTrue (starts_within l cs h e)
+      → Stands h → IsTrue (stands_within l cs (h ++ e ∷ []))
+  still_stands h (Start i) legal may within is = within
+  still_stands h (Act e) legal may within is =
+      let own = own_order-legal cs no_conflict (h ++ Act e ∷ []) (passes-push (may_come no_conflict cs) h (Act e) legal may) in
+      let goes = act_active no_conflict cs h e may in
+      let less = entries_act h e own goes in
+      let one = ap length (active-do h e) in
+      let two = ap length (starts-append h (Act e ∷ []) ∙ append-nil (starts h)) in
+      let bounds = is in
+      stands_from (h ++ Act e ∷ []) ((let b = is.0 in omega arith), (let b = is.1 in omega arith), (let b = is.2 in omega arith))
+  still_stands h (End i) legal may within is =
+      let own = own_order-legal cs no_conflict h legal in
+      let goes = end_active no_conflict cs h i may in
+      let less = entries_end h i own goes in
+      let one = ap length (active-end h i) in
+      let fewer = fewer_active i (active h) in
+      let two = ap length (starts-append h (End i ∷ []) ∙ append-nil (starts h)) in
+      stands_from (h ++ End i ∷ []) ((let b = is.0 in omega arith), (let b = is.1 in omega arith), (let b = is.2 in omega arith))
+
+  abbrev Holds : List Event → Type 0
+  Holds h = IsTrue (keeps_limits l cs h) → IsTrue (stands_within l cs h)
+
+  holds_more : (h : List Event) (e : Event) → IsTrue (is_legal no_conflict cs h) → IsTrue (may_come no_conflict cs h e) → Holds h → Holds (h ++ e ∷ [])
+  holds_more h e legal may holds keeps =
+      let parts = and_parts (keeps_limits l cs h) (starts_within l cs h e) (sym (each_passes-push (starts_within l cs) h e) ∙ keeps) in
+      still_stands h e legal may parts.1 (stands_parts h (holds parts.0))
+
+  pub limits-hold_from : (h : List Event) → IsTrue (is_legal no_conflict cs h) → Holds h
+  limits-hold_from h legal = by_legal no_conflict cs Holds holds_more (λ keeps. stands_from [] (omega arith, omega arith, omega arith)) h legal
+
+pub limits-hold : LimitsHold
+limits-hold l plans h good own keeps = limits-hold_from l plans good h (legal-from_own_order (courses_of plans) h own) keeps

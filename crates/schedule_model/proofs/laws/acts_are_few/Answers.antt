@@ -1,0 +1,5 @@
+use Rattle.schedule_model.proofs.WithinLimits.{acts-few}
+use Rattle.schedule_model.proofs.laws.acts_are_few.Goals as goal
+
+pub returns : goal.returns
+returns c = acts-few
