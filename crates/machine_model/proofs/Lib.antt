@@ -21,5 +21,6 @@ pub mod OwnEvents
 pub mod Dropped
 pub mod Ends
 pub mod OpenCascade
+pub mod MachineCourses
 pub mod Restart
 pub mod TurnRuns
