@@ -22,8 +22,8 @@ use Rattle.machine_model.specs.Runs.{is_run, now, may_be_kept}
 use Rattle.machine_model.proofs.Counting.{count, none-count}
 use Rattle.machine_model.proofs.Snoc.{hands-append}
 use Rattle.machine_model.proofs.Keeping.{IsKeptByBeginnings, entered, advance-keeps, run-keeps}
-use Rattle.machine_model.proofs.PieceCounts.{Counted, is_number, advance-counted, opening-counted}
-use Rattle.machine_model.proofs.OneOut.{OneOut, advance-one}
+use Rattle.machine_model.proofs.PieceCounts.{Counted, is_number, advance-counted, entered-counted, opening-counted}
+use Rattle.machine_model.proofs.OneOut.{OneOut, advance-one, entered-one}
 use Rattle.machine_model.proofs.Stuck.{none_found}
 
 filter_step : {X : Type 0} (P : X → Type 0) (x : X) (ys : List X) (t : Bool) → P x → Each P ys → Each P (cond t (x ∷ ys) ys)
@@ -59,10 +59,10 @@ pub record Tidy (m : Moment) : Type 0 where
   pub one : OneOut m
   pub linked : Each (IsPieceOfItsNumber m.kept) m.out
 
-abbrev Linked : Moment → Type 0
+abbrev pub Linked : Moment → Type 0
 Linked m = Each (IsPieceOfItsNumber m.kept) m.out
 
-linked-beginnings : IsKeptByBeginnings Linked
+pub linked-beginnings : IsKeptByBeginnings Linked
 linked-beginnings cause m i is linked = Each-filter (IsPieceOfItsNumber m.kept) (λ p. not (eqb p.process i)) m.out linked
 
 longer : (m : Moment) (k : Kept) (ps : List Piece) → Each (IsPieceOfItsNumber m.kept) ps → Each (IsPieceOfItsNumber (m.kept ++ k ∷ [])) ps
@@ -94,6 +94,13 @@ module _ (table : ConflictRelation) (courses : List Course) where
   by_event m (Abort i) c linked may = longer m (Abort i) m.out linked
   by_event m (Victim i) c linked may = longer m (Victim i) m.out linked
   by_event m Restart c linked may = longer m Restart m.out linked
+
+  pub entered-tidy : (m : Moment) (k : Kept) → Tidy m → may_be_kept table courses m k ≡ true → Tidy (entered courses m k)
+  entered-tidy m k tidy may = record {
+    counted = entered-counted table courses m k tidy.counted may;
+    one = entered-one table courses m k tidy.one may;
+    linked = by_event m k tidy.counted tidy.linked may;
+  }
 
   pub advance-tidy : (m : Moment) (k : Kept) → Tidy m → may_be_kept table courses m k ≡ true → Tidy (advance table courses m k)
   advance-tidy m k tidy may = record {

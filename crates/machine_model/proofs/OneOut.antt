@@ -62,19 +62,19 @@ module _ (table : ConflictRelation) (courses : List Course) where
   perhaps m None c = c
   perhaps m (Some p) c = record { one = c.one }
 
-  by_event : (m : Moment) (k : Kept) → OneOut m → may_be_kept table courses m k ≡ true → OneOut (entered courses m k)
-  by_event m (Start i) c may = record { one = c.one }
-  by_event m (Hand piece process step work) c may =
+  pub entered-one : (m : Moment) (k : Kept) → OneOut m → may_be_kept table courses m k ≡ true → OneOut (entered courses m k)
+  entered-one m (Start i) c may = record { one = c.one }
+  entered-one m (Hand piece process step work) c may =
       handing m (record { number = piece; process = process; step = step; work = work })
       (and_parts _ _ (and_parts _ _ (and_parts _ _ (and_parts _ _ (and_parts _ _ (and_parts _ _ may).0).0).1).0).0).1 c
-  by_event m (Effect n) c may = perhaps (noted m (Effect n)) (piece_of (noted m (Effect n)).kept n) (record { one = λ i. ending m n i c })
-  by_event m (Refuse n) c may = record { one = λ i. ending m n i c }
-  by_event m (Abort i) c may = record { one = c.one }
-  by_event m (Victim i) c may = record { one = c.one }
-  by_event m Restart c may = record { one = c.one }
+  entered-one m (Effect n) c may = perhaps (noted m (Effect n)) (piece_of (noted m (Effect n)).kept n) (record { one = λ i. ending m n i c })
+  entered-one m (Refuse n) c may = record { one = λ i. ending m n i c }
+  entered-one m (Abort i) c may = record { one = c.one }
+  entered-one m (Victim i) c may = record { one = c.one }
+  entered-one m Restart c may = record { one = c.one }
 
   pub advance-one : (m : Moment) (k : Kept) → OneOut m → may_be_kept table courses m k ≡ true → OneOut (advance table courses m k)
-  advance-one m k c may = advance-keeps OneOut beginnings-one table courses m k (by_event m k c may)
+  advance-one m k c may = advance-keeps OneOut beginnings-one table courses m k (entered-one m k c may)
 
 -- so it is all along a run
 pub run-one : (table : ConflictRelation) (s : Machine) → IsTrue (is_run table s) → OneOut (now table s)

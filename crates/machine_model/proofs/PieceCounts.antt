@@ -155,23 +155,23 @@ module _ (table : ConflictRelation) (courses : List Course) where
   perhaps_happening m None c = c
   perhaps_happening m (Some p) c = happening m (event_of courses p) c
 
-  by_event : (m : Moment) (k : Kept) → Counted m → may_be_kept table courses m k ≡ true → Counted (entered courses m k)
-  by_event m (Start i) c may = happening (noted m (Start i)) (Started i) (plain m (Start i) refl (λ n. refl) refl c)
-  by_event m (Hand piece process step work) c may =
+  pub entered-counted : (m : Moment) (k : Kept) → Counted m → may_be_kept table courses m k ≡ true → Counted (entered courses m k)
+  entered-counted m (Start i) c may = happening (noted m (Start i)) (Started i) (plain m (Start i) refl (λ n. refl) refl c)
+  entered-counted m (Hand piece process step work) c may =
       handing m (record { number = piece; process = process; step = step; work = work })
       (eqb-true piece (length (hands m.kept) + 1) (and_parts _ _ (and_parts _ _ (and_parts _ _ may).0).0).0) c
-  by_event m (Effect n) c may = perhaps_happening (noted m (Effect n)) (piece_of (noted m (Effect n)).kept n) (ending m (Effect n) n refl (λ x. or_false (eqb x n)) refl may c)
+  entered-counted m (Effect n) c may = perhaps_happening (noted m (Effect n)) (piece_of (noted m (Effect n)).kept n) (ending m (Effect n) n refl (λ x. or_false (eqb x n)) refl may c)
     where
       or_false : (t : Bool) → (t || false) ≡ t
       or_false true = refl
       or_false false = refl
-  by_event m (Refuse n) c may = ending m (Refuse n) n refl (λ x. refl) refl (and_parts _ _ may).0 c
-  by_event m (Abort i) c may = plain m (Abort i) refl (λ n. refl) refl c
-  by_event m (Victim i) c may = plain m (Victim i) refl (λ n. refl) refl c
-  by_event m Restart c may = plain m Restart refl (λ n. refl) refl c
+  entered-counted m (Refuse n) c may = ending m (Refuse n) n refl (λ x. refl) refl (and_parts _ _ may).0 c
+  entered-counted m (Abort i) c may = plain m (Abort i) refl (λ n. refl) refl c
+  entered-counted m (Victim i) c may = plain m (Victim i) refl (λ n. refl) refl c
+  entered-counted m Restart c may = plain m Restart refl (λ n. refl) refl c
 
   pub advance-counted : (m : Moment) (k : Kept) → Counted m → may_be_kept table courses m k ≡ true → Counted (advance table courses m k)
-  advance-counted m k c may = advance-keeps Counted beginnings-counted table courses m k (by_event m k c may)
+  advance-counted m k c may = advance-keeps Counted beginnings-counted table courses m k (entered-counted m k c may)
 
 pub opening-counted : (h : List Event) → Counted (opening_moment h)
 opening-counted h = record { parted = λ n. refl; once = λ n. omega arith; fresh = λ n late. refl }

@@ -12,7 +12,7 @@ use Rattle.process_tree.specs.Shape.{kind_of, first_of}
 use Rattle.schedule_model.specs.Course.{Course, courses_of, course, course_of, shape, allowance}
 use Rattle.schedule_model.specs.Conflict.{ConflictRelation, IsSymmetric, conflict}
 use Rattle.schedule_model.specs.Histories.{active, is_active, is_in, starts, ends, net, net_of, same_step, doing}
-use Rattle.schedule_model.specs.Recovery.{undoable}
+use Rattle.schedule_model.specs.Recovery.{backward_entries}
 use Rattle.schedule_model.specs.Holdings.{Holdings, active_net, holders, reaches, behind}
 use Rattle.schedule_model.specs.Blocking.{Clashes, all_clashes}
 use Rattle.schedule_model.specs.Completion.{completion}
@@ -30,7 +30,7 @@ use Rattle.machine_model.specs.Cascade.{IsCascade, cascade}
 use Rattle.machine_model.specs.Moment.{Moment, Piece, has_begun}
 use Rattle.machine_model.specs.Pieces.{hands, running_of}
 use Rattle.machine_model.specs.State.{against_task, against_work, block_of, hold_of, holdings, is_exhausted, is_pending, next_of, pending_of, undo_next}
-use Rattle.machine_model.specs.Advance.{Machine, event_by}
+use Rattle.machine_model.specs.Advance.{Machine, cascade_of, event_by}
 use Rattle.machine_model.specs.Runs.{history, is_run, now}
 use Rattle.machine_model.specs.Replies.{stuck}
 use Rattle.machine_model.specs.Calls.{IsNoStart, Call, start, answer, answer_next, answered, next_is}
@@ -76,7 +76,7 @@ pub record AdmissionLaws (table : ConflictRelation) (s : Machine) : Type 0 where
       → class_in s.courses (history table s) i (next_of s.courses (now table s) i).step ≡ reserved → block_of table s.courses (now table s) i ≡ None
   -- nor is the end of a process that has nothing left to undo
   pub end_is_free : (i : ℕ) → IsTrue (is_active (history table s) i) → (next_of s.courses (now table s) i).work ≡ End
-      → undoable s.courses (history table s) i ≡ [] → block_of table s.courses (now table s) i ≡ None
+      → backward_entries s.courses (history table s) i ≡ [] → block_of table s.courses (now table s) i ≡ None
   -- nor is the undo of the last pending entry in joint order, where the machine opened at rest or all have begun
   pub last_pending_is_free : (i : ℕ) → OpenedAtRest s ⊎ AllHaveBegun (now table s) → undo_next s.courses (now table s) ≡ Some i → block_of table s.courses (now table s) i ≡ None
 
@@ -101,7 +101,7 @@ pub record StandingFacts (table : ConflictRelation) (s : Machine) : Type 0 where
       → Contains (net_of (history table s) k ++ (hold_of s.courses (now table s) k).reserved) e ⊎ IsRunningStep (now table s) s.courses k e → conflict table r e ≡ false
   -- before a net entry that can't be undone stands no net entry of another active process that conflicts
   pub fixed_is_free : (i k : ℕ) (x e : Entry) → IsTrue (is_active (history table s) i) → IsTrue (is_active (history table s) k)
-      → Contains (net_of (history table s) k) x → Contains (net_of (history table s) i) e → IsTrue (not (list_any (same_step e) (undoable s.courses (history table s) i)))
+      → Contains (net_of (history table s) k) x → Contains (net_of (history table s) i) e → IsTrue (not (list_any (same_step e) (backward_entries s.courses (history table s) i)))
       → Contains (behind x (net (history table s))) e → conflict table x e ≡ false
   -- running steps don't conflict
   pub running_are_free : (i k : ℕ) (d e : Entry) → IsRunningStep (now table s) s.courses i d → IsRunningStep (now table s) s.courses k e → conflict table d e ≡ false
@@ -184,12 +184,19 @@ UndosWaitByA5 = (table : ConflictRelation) (courses : List Course) (m : Moment) 
 abbrev pub open_only : Holdings → Holdings
 open_only g = record { net = active_net g; holds = g.holds }
 
--- Where no net entry of an ended process stands behind one of an active process and conflicts with it, nothing else stands
--- against a task of an active process than against it with those of the open processes alone; and nobody else is dragged along.
+-- No net entry of a process that isn't active stands behind x and conflicts with it.
+abbrev pub IsEndedFree : ConflictRelation → Moment → Entry → Type 0
+IsEndedFree table m x = (e : Entry) → Contains (behind x (net m.events)) e → is_active m.events e.process ≡ false → conflict table x e ≡ false
+
+-- The open processes are enough: against the next piece of an active process stands the same by their holdings alone as by all;
+-- for an undo, where no ended process stands behind what is undone.
 abbrev pub OpenHoldingsBlockAlike : Type 0
-OpenHoldingsBlockAlike = (table : ConflictRelation) (courses : List Course) (m : Moment)
-    → ((i k : ℕ) (x e : Entry) → IsTrue (is_active m.events k) → IsTrue (not (is_active m.events i)) → Contains (net_of m.events k) x → Contains (net_of m.events i) e
-    → Contains (behind x (net m.events)) e → conflict table x e ≡ false)
-    → (i : ℕ) → IsTrue (is_active m.events i)
+OpenHoldingsBlockAlike = (table : ConflictRelation) (courses : List Course) (m : Moment) (i : ℕ) → IsTrue (is_active m.events i)
     → let t = next_of courses m i in
-    against_work table courses (open_only (holdings courses m)) m.events i t.step t.work ≡ against_task table courses m i t
+    (t.work ≡ Undo → IsEndedFree table m (doing courses i t.step))
+    → against_work table courses (open_only (holdings courses m)) m.events i t.step t.work ≡ against_task table courses m i t
+
+-- The cascade of an active process is the same by what the open processes hold alone.
+abbrev pub OpenHoldingsDragAlike : Type 0
+OpenHoldingsDragAlike = (table : ConflictRelation) (courses : List Course) (m : Moment) (i : ℕ) → IsTrue (is_active m.events i)
+    → cascade table (open_only (holdings courses m)) i (pending_of courses m i) ≡ cascade_of table courses m i

@@ -1,6 +1,6 @@
 // The laws of the machine that are proved: each function says one, and does nothing.
-ghost use Rattle.machine_model.specs.Laws.{BlockedWhereSomethingStands, CascadeIsLeast, UndosWaitByA5};
-ghost use Rattle.machine_model.specs.PieceLaws.{OneRuns, OverIsFinished};
+ghost use Rattle.machine_model.specs.Laws.{BlockedWhereSomethingStands, CascadeIsLeast, OpenHoldingsBlockAlike, OpenHoldingsDragAlike, RestartFollowsCompletion, UndosWaitByA5};
+ghost use Rattle.machine_model.specs.PieceLaws.{DroppedIsExact, OneRuns, OthersStay, OverIsFinished, ProgressGoesByTransitions, RefusedBeginsWithoutWayOn, RunningIsNext};
 ghost use Rattle.machine_model.specs.CallLaws.{BeginningsOfRunsAreRuns, CallsKeepRuns, StuckIsExact, TurnsMakeRuns, VictimsRunDry};
 
 /// The computed cascade of an active process is the least set.
@@ -51,4 +51,44 @@ pub fn stuck_is_exact()
 /// The turns of several threads make a run.
 pub fn turns_make_runs()
     ensures { TurnsMakeRuns }
+{}
+
+/// The running piece of a process is its next piece.
+pub fn running_is_next()
+    ensures { RunningIsNext }
+{}
+
+/// An event leaves a process as it was, unless it is of its piece or makes it begin to complete.
+pub fn others_stay()
+    ensures { OthersStay }
+{}
+
+/// What the open processes hold is enough to tell what blocks.
+pub fn open_holdings_block_alike()
+    ensures { OpenHoldingsBlockAlike }
+{}
+
+/// The progress of a process goes by the ends of its pieces and by its beginning to complete.
+pub fn progress_goes_by_transitions()
+    ensures { ProgressGoesByTransitions }
+{}
+
+/// A refusal of the one try of a step makes its process begin to complete exactly where no way on is left.
+pub fn refused_begins_without_way_on()
+    ensures { RefusedBeginsWithoutWayOn }
+{}
+
+/// A piece is dropped exactly where its process began to complete while it was out.
+pub fn dropped_is_exact()
+    ensures { DroppedIsExact }
+{}
+
+/// Once all have begun to complete, the next event is the head of the completion.
+pub fn restart_follows_completion()
+    ensures { RestartFollowsCompletion }
+{}
+
+/// What the open processes hold is enough to tell who goes back together.
+pub fn open_holdings_drag_alike()
+    ensures { OpenHoldingsDragAlike }
 {}
