@@ -18,11 +18,11 @@ use Rattle.schedule_model.proofs.Started.{acts-started, ends-started}
 use Rattle.schedule_model.specs.EachEvent.{each_passes}
 use Rattle.schedule_model.specs.Histories.{acts, starts, ends, active, is_active, is_in, of_process, undoing}
 use Rattle.schedule_model.specs.Recovery.{owed}
-use Rattle.schedule_model.specs.Completion.{all_backward_entries, closing, completion}
+use Rattle.schedule_model.specs.Completion.{all_backward_entries, closing, completion, completed}
 use Rattle.schedule_model.specs.OwnOrder.{keeps_order, is_in_own_order}
 use Rattle.schedule_model.specs.Limits.{Limits, need, starts_within, keeps_limits, stands_within, still_needed, entries}
 use Rattle.schedule_model.specs.Legal.{may_come, is_legal}
-use Rattle.schedule_model.specs.Laws.{AreGood, BeginningsKeepLimits, LimitsOfBeginnings, plans_in, CompletionKeepsLimits, LimitsHold}
+use Rattle.schedule_model.specs.Laws.{AreGood, BeginningsKeepLimits, LimitsOfBeginnings, plans_in, CompletionKeepsLimits, CompletedStandsWithin, LimitsHold}
 use Rattle.schedule_model.proofs.Induction.{each_passes-append, each_passes-prefix, each_passes-push, passes-push, by_legal}
 use Rattle.schedule_model.proofs.Appends.{acts-append, starts-append, ends-append, is_in-append}
 use Rattle.schedule_model.proofs.Active.{is_active-is_in}
@@ -30,6 +30,7 @@ use Rattle.schedule_model.proofs.Counts.{length_filter-most}
 use Rattle.schedule_model.proofs.Acting.{act_active, end_active}
 use Rattle.schedule_model.proofs.Snoc.{active-do, active-start, active-end}
 use Rattle.schedule_model.proofs.NoConflict.{legal-from_own_order, own_order-legal}
+use Rattle.schedule_model.proofs.CompletionLaws.{own_order-completion}
 use Rattle.schedule_model.proofs.FewActs.{acts_own, acts_other, few_acts}
 
 pub beginnings-keep_limits : BeginningsKeepLimits
@@ -254,6 +255,10 @@ module _ (l : Limits) (plans : List Plan) (good : AreGood plans) where
 
 pub limits-hold : LimitsHold
 limits-hold l plans h good own keeps = limits-hold_from l plans good h (legal-from_own_order (courses_of plans) h own) keeps
+
+pub completed-stands_within : CompletedStandsWithin
+completed-stands_within l plans h good own keeps =
+    limits-hold l plans (completed (courses_of plans) h) good (own_order-completion plans h good own).0 (completion-keeps_limits l (courses_of plans) h keeps)
 
 -- What a start makes of what is counted.
 

@@ -90,6 +90,11 @@ LimitsOfBeginnings = (l : Limits) (table : ConflictRelation) (plans : List Plan)
 abbrev pub CompletionKeepsLimits : Type 0
 CompletionKeepsLimits = (l : Limits) (courses : List Course) (h : List Event) → IsTrue (keeps_limits l courses h) → IsTrue (keeps_limits l courses (completed courses h))
 
+-- And it stands within them: what is added was counted when its processes started.
+abbrev pub CompletedStandsWithin : Type 0
+CompletedStandsWithin = (l : Limits) (plans : List Plan) (h : List Event) → AreGood plans → IsTrue (is_in_own_order (courses_of plans) h)
+    → IsTrue (keeps_limits l (courses_of plans) h) → IsTrue (stands_within l (courses_of plans) (completed (courses_of plans) h))
+
 -- In own order a process has at most twice as many acts as steps.
 abbrev pub ActsAreFew : Type 0
 ActsAreFew = (plans : List Plan) (h : List Event) (i : ℕ) → AreGood plans → IsTrue (is_in_own_order (courses_of plans) h)
