@@ -31,7 +31,7 @@ use Rattle.schedule_model.proofs.Apart.{list_all-weaker}
 use Rattle.schedule_model.proofs.Undoing.{undoes, owed_without}
 use Rattle.schedule_model.proofs.GoodPlans.{HasGoodPlan, good_if_goes_on}
 use Rattle.schedule_model.proofs.OwedPaths.{first_owed, below_owed}
-use Rattle.schedule_model.proofs.WithinLimits.{done_other}
+use Rattle.schedule_model.proofs.FewActs.{done_other}
 
 -- w is nothing, or goes along a whole path
 abbrev pub IsBranch : Shape → List ℕ → Type 0
