@@ -10,14 +10,19 @@
 mod changes;
 mod file_rack;
 mod files;
+mod folder;
 mod memory;
 mod memory_rack;
 mod rack;
 mod stop;
+mod system_folder;
+mod transfers;
 
 pub use file_rack::FileRack;
+pub use folder::Folder;
 pub use memory::MemoryRack;
 pub use rack::Rack;
+pub use system_folder::SystemFolder;
 
 #[cfg(test)]
 mod tests;

@@ -1,6 +1,6 @@
 // What no clause says: stops against tables made by hand, and files of the system.
 use super::*;
-use crate::file_rack::NAMES;
+use crate::system_folder::NAMES;
 use std::alloc::Global;
 use std::fs;
 use std::process::Abort;
