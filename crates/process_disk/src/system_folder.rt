@@ -3,6 +3,7 @@ ghost use Rattle.std.specs.Prelude.{◌≡◌, ◌<◌, ◌≤◌, ◌+◌, ◌-
 ghost use Rattle.process_flow.specs.Causes.{HasCause};
 ghost use Rattle.process_disk.specs.Folder.{IsSynced, IsMarked, folder_place};
 
+use crate::counts::{FOLDER, count};
 use crate::{FileRack, Folder};
 use process_flow::Failed;
 use std::fs::{File, OpenFile, OpenOptions};
@@ -13,9 +14,6 @@ use std::rt::Files;
 pub(crate) const NAMES: [&str; 9] = [
     "tps.0", "tps.1", "tps.2", "tps.3", "tps.4", "tps.5", "tps.6", "tps.7", "tps.8",
 ];
-
-// Where syncs of the names are counted, behind the nine files.
-const FOLDER: usize = 9;
 
 // An open file, with the place at which the system goes on, where that is known.
 #[derive(Drop)]
@@ -257,14 +255,6 @@ impl<F: Files<File = File> + Drop> Folder for SystemFolder<F> {
         count(&mut self.syncs, FOLDER);
         Ok(())
     }
-}
-
-// Counts a sync.
-fn count(syncs: &mut [u64; 10], place: usize)
-    requires { place < 10 }
-    ensures { IsSynced place syncs.old syncs.new }
-{
-    syncs[place] = syncs[place].saturating_add(1);
 }
 
 // The file, opened for reading where no call opened it before; none where it is absent.
