@@ -8,16 +8,26 @@
 #![tactic(auto)]
 
 mod changes;
+mod counts;
 mod file_rack;
 mod files;
+mod folder;
 mod memory;
+mod memory_folder;
 mod memory_rack;
 mod rack;
 mod stop;
+mod system_folder;
+mod transfers;
 
 pub use file_rack::FileRack;
+pub use folder::Folder;
 pub use memory::MemoryRack;
+pub use memory_folder::MemoryFolder;
 pub use rack::Rack;
+pub use system_folder::SystemFolder;
 
+#[cfg(test)]
+mod file_tests;
 #[cfg(test)]
 mod tests;

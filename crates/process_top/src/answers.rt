@@ -1,5 +1,5 @@
 // Answers to lists of words.
-ghost use Rattle.std.specs.Prelude.{◌≤◌, ◌≡◌, ◌⊎◌, map, string_bytes, true};
+ghost use Rattle.std.specs.Prelude.{◌≤◌, ◌≡◌, ◌⊎◌, ◌↔◌, IsTrue, map, string_bytes, true};
 ghost use Rattle.process_disk.specs.Disk.{Told};
 ghost use Rattle.process_disk.specs.Images.{OthersAsBefore};
 ghost use Rattle.process_top.specs.Refused.{is_before_files};
@@ -11,8 +11,13 @@ use crate::tell::tell;
 use process_disk::Rack;
 use process_flow::{Sink, Source};
 use std::alloc::Global;
-use std::sync::Wait;
-use std::thread::Threads;
+
+/// Whether a list of words only reads files.
+pub fn only_reads(words: &[String]) -> bool
+    ensures { IsTrue result ↔ IsShowWord (map string_bytes words.now) }
+{
+    is_only(words, "show")
+}
 
 /// The status of an answer, and the rack after it.
 pub struct Finished<R> {
@@ -96,7 +101,7 @@ pub fn answer<S: Source, K: Sink, R: Rack>(
 }
 
 /// Answers a list of words, as `answer` does.
-pub fn top<H: Threads + Wait + Sync, S: Source, K: Sink, R: Rack>(
+pub fn top<H, S: Source, K: Sink, R: Rack>(
     _rt: &H,
     alloc: Global,
     words: &[String],
