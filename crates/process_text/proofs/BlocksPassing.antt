@@ -69,7 +69,7 @@ pub word_leads : (b : Before) (at : At) (k : ℕ) (m : Mark) (before after : Lis
 word_leads b at k m before after same means is = rw (is, same, means) refl
 
 -- the names of steps that stand one after another
-names_of_both : (ss ts : List Step) → step_names (ss ++ ts) ≡ step_names ss ++ step_names ts
+pub names_of_both : (ss ts : List Step) → step_names (ss ++ ts) ≡ step_names ss ++ step_names ts
 names_of_both ss ts = map-append (λ (s : Step). s.name) ss ts
 
 -- What is asked of a block's outline, behind these names and within these choices.

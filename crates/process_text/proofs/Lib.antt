@@ -9,6 +9,7 @@ pub mod Passing
 pub mod Within
 pub mod BlocksPassing
 pub mod ProcessesPassing
+pub mod Fitting
 pub mod Unique
 pub mod Printed
 pub mod Lines
