@@ -25,3 +25,4 @@ pub mod Between
 pub mod TreeLaws
 pub mod Tables
 pub mod Forms
+pub mod Entries

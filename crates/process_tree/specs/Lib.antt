@@ -13,3 +13,4 @@ pub mod Stands
 pub mod Laws
 pub mod Conflicts
 pub mod Form
+pub mod Entries
