@@ -1,4 +1,4 @@
--- The place where reading a catalog stops is the first where no catalog's bytes go on so.
+-- The place where reading a catalog stops is the first that rules out every catalog.
 use Rattle.std.proofs.Common.{◌≡◌, ℕ, zero, suc, ◌+◌, ◌-◌, ◌*◌, ◌^◌, ◌<◌, ◌≤◌, Bool, true, false, cond, List, [], ◌∷◌, ◌++◌, length, get_or, take, drop, Result, Ok, Err, refl, sym, ap, ◌∙◌, subst, append_assoc, arith, inl, inr}
 use Rattle.std.specs.Prelude.{nat_lt, nat_le, nat_eq, ◌==◌, ◌/◌, ◌%◌, replicate, slice_get, IsErr}
 use Rattle.std.specs.List.{list_all, flat_map}
@@ -220,7 +220,7 @@ take_within [] xs ys k lt = absurd (omega arith)
 take_within (b ∷ front) xs ys zero lt = refl
 take_within (b ∷ front) xs ys (suc k) lt = ap (λ (w : List ℕ). b ∷ w) (take_within front xs ys k (omega arith))
 
--- before the place some catalog's bytes go on so
+-- what stands before the place begins some catalog
 goes_on_before : (bytes : List ℕ) (left : ℕ) (b : Begun IsCatalogBytes bytes left) (k : ℕ) → k < length b.front → GoesOn bytes k
 goes_on_before bytes left b k lt =
     let front_is = b.word.2 in (

@@ -4,6 +4,7 @@
 //! lends its items as a slice, and gives the vector back. `proofs` has the lemmas on booleans and lists that several crates
 //! want and that `std` lacks.
 #![tactic(auto)]
+
 ghost use Rattle.std.specs.Prelude.{◌≡◌};
 
 use std::marker::Model;

@@ -26,3 +26,4 @@ pub mod TreeLaws
 pub mod Tables
 pub mod Forms
 pub mod Entries
+pub mod NameBytes

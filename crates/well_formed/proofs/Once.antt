@@ -55,7 +55,6 @@ greatest_is (x ∷ xs) d is = by_rest (greatest xs) refl (λ g e. greatest_is xs
         none_has : (e : ℕ) (xs : List ℕ) → greatest xs ≡ None → has e xs ≡ true → ⊥
         none_has e [] r on = cc
         none_has e (y ∷ ys) r on = some_greater y (greatest ys) r
-
     by_rest (Some g) r rec =
         let rest = rec g r in
         ⊎_elim
