@@ -27,3 +27,4 @@ pub mod Tables
 pub mod Forms
 pub mod Entries
 pub mod NameBytes
+pub mod Alternatives

@@ -14,3 +14,4 @@ pub mod Laws
 pub mod Conflicts
 pub mod Form
 pub mod Entries
+pub mod Alternatives

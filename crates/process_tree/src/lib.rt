@@ -28,7 +28,7 @@ pub use block::{Block, Tail};
 pub use conflicts::Conflicts;
 pub use entry::Entry;
 pub use laws::{
-    alternatives_are_intervals, commit_points_grow, commit_points_stay,
+    alternatives_are_intervals, alternatives_are_ways, commit_points_grow, commit_points_stay,
     conflict_is_between_processes, conflict_is_of_steps, conflict_is_symmetric,
     each_step_has_a_path, ends_are_whole, next_steps_have_a_class, one_branch_to_a_step,
     owed_steps_are_retriable, paths_lie_in_order, paths_part, steps_go_up, whole_paths_end,
