@@ -144,7 +144,7 @@ MaySay BehindChoice ss = ⊥
 pub behind_step : (ss : List Step) (s : Step) → 0 < length (ss ++ s ∷ [])
 behind_step ss s = omega (arith, length-append ss (s ∷ []))
 
-begins_with_choice : (o : Option Next) (w : List ℕ) (m : Mark) → o ≡ opening w → or_else o (next.Misfit expects.Step) ≡ next.Mark m → m ≡ Choose
+pub begins_with_choice : (o : Option Next) (w : List ℕ) (m : Mark) → o ≡ opening w → or_else o (next.Misfit expects.Step) ≡ next.Mark m → m ≡ Choose
 begins_with_choice None w m e is = absurd (cc)
 begins_with_choice (Some n) w m e is = by_test (same_text w (codes "choose")) (kind_of_word w) refl refl
   where
