@@ -25,3 +25,6 @@ pub mod Between
 pub mod TreeLaws
 pub mod Tables
 pub mod Forms
+pub mod Entries
+pub mod NameBytes
+pub mod Alternatives

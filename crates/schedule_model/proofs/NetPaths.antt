@@ -10,7 +10,8 @@ use Rattle.process_tree.specs.declared.entry.Entry.{Entry}
 use Rattle.process_tree.specs.declared.plan.Plan.{Plan}
 use Rattle.process_tree.specs.Shape.{Shape, kind_of, commits, fixed_len, goes_on_to}
 use Rattle.process_tree.specs.Recovery.{forward}
-use Rattle.process_tree.proofs.Reached.{goes_before, last_cases}
+use Rattle.process_tree.proofs.Reached.{goes_before}
+use Rattle.plain_list.proofs.Lasts.{last_cases}
 use Rattle.process_tree.proofs.InTurn.{goes_up}
 use Rattle.process_tree.proofs.TreeLaws.{paths_lie_in_order}
 use Rattle.schedule_model.specs.declared.event.Event.{Event}
