@@ -22,5 +22,7 @@ pub mod Dropped
 pub mod Ends
 pub mod OpenCascade
 pub mod MachineCourses
+pub mod CoursesRuns
+pub mod SessionCalls
 pub mod Restart
 pub mod TurnRuns
