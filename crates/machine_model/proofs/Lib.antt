@@ -24,5 +24,6 @@ pub mod OpenCascade
 pub mod MachineCourses
 pub mod CoursesRuns
 pub mod SessionCalls
+pub mod WaysOn
 pub mod Restart
 pub mod TurnRuns
