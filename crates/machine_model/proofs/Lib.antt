@@ -25,5 +25,6 @@ pub mod MachineCourses
 pub mod CoursesRuns
 pub mod SessionCalls
 pub mod WaysOn
+pub mod NextInOrder
 pub mod Restart
 pub mod TurnRuns
