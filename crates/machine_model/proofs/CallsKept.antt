@@ -208,7 +208,7 @@ call-makes_run table s c no_start run =
     goes_on-append table s.courses (opening_moment s.opening) s.kept (answer table s c).kept
     ∙ and_from (is_run table s) _ run (call-kept table s.courses (now table s) s.served c no_start)
 
-no_courses : (table : ConflictRelation) (s : Machine) (c : Call) → IsNoStart c → (answer table s c).courses ≡ []
+pub no_courses : (table : ConflictRelation) (s : Machine) (c : Call) → IsNoStart c → (answer table s c).courses ≡ []
 no_courses table s (start c) no_start = absurd no_start
 no_courses table s (admit i) no_start = refl
 no_courses table s next no_start = refl

@@ -22,5 +22,9 @@ pub mod Dropped
 pub mod Ends
 pub mod OpenCascade
 pub mod MachineCourses
+pub mod CoursesRuns
+pub mod SessionCalls
+pub mod WaysOn
+pub mod NextInOrder
 pub mod Restart
 pub mod TurnRuns

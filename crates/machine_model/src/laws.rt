@@ -1,5 +1,5 @@
 // The laws of the machine that are proved: each function says one, and does nothing.
-ghost use Rattle.machine_model.specs.Laws.{BlockedWhereSomethingStands, CascadeIsLeast, OpenHoldingsBlockAlike, OpenHoldingsDragAlike, RestartFollowsCompletion, UndosWaitByA5};
+ghost use Rattle.machine_model.specs.Laws.{BlockedWhereSomethingStands, CallsMakeRuns, CascadeIsLeast, OpenHoldingsBlockAlike, OpenHoldingsDragAlike, RestartFollowsCompletion, UndosWaitByA5};
 ghost use Rattle.machine_model.specs.PieceLaws.{DroppedIsExact, OneRuns, OthersStay, OverIsFinished, ProgressGoesByTransitions, RefusedBeginsWithoutWayOn, RunningIsNext};
 ghost use Rattle.machine_model.specs.CallLaws.{BeginningsOfRunsAreRuns, CallsKeepRuns, StuckIsExact, TurnsMakeRuns, VictimsRunDry};
 
@@ -91,4 +91,9 @@ pub fn restart_follows_completion()
 /// What the open processes hold is enough to tell who goes back together.
 pub fn open_holdings_drag_alike()
     ensures { OpenHoldingsDragAlike }
+{}
+
+/// What a call keeps makes a longer session; a start adds its plan, or keeps nothing.
+pub fn calls_make_runs()
+    ensures { CallsMakeRuns }
 {}
