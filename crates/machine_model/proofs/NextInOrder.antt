@@ -20,7 +20,7 @@ use Rattle.schedule_model.specs.Histories.{doing, done_steps, is_active, is_in, 
 use Rattle.schedule_model.specs.Laws.{AreGood}
 use Rattle.schedule_model.specs.Legal.{is_legal}
 use Rattle.schedule_model.specs.OwnOrder.{goes_on, is_at_end, is_of_last, keeps_order}
-use Rattle.schedule_model.specs.Recovery.{owed_steps, undoable}
+use Rattle.schedule_model.specs.Recovery.{owed_steps, backward_entries}
 use Rattle.schedule_model.proofs.Active.{is_in-filter}
 use Rattle.schedule_model.proofs.GoodPlans.{HasGoodPlan, good_if_goes_on}
 use Rattle.schedule_model.proofs.NetPaths.{IsBranch, net-branch, done-below_owed}
@@ -65,7 +65,7 @@ owed_way_on : (s : Progress) (b : ℕ) (rest : List ℕ) → forward s.shape s.n
 owed_way_on s b rest owes ahead none =
     let first = first_owed s.shape s.net b rest owes in
     let among = is_in-flat b (next_steps s.shape) (kept_prefixes s.shape s.net)
-        ∙ first_numbers (λ k. true) (λ k. take k s.net) (λ v. goes_on_to s.shape v b) (fixed_len s.shape s.net) (length s.net - fixed_len s.shape s.net) first.on in
+    ∙ first_numbers (λ k. true) (λ k. take k s.net) (λ v. goes_on_to s.shape v b) (fixed_len s.shape s.net) (length s.net - fixed_len s.shape s.net) first.on in
     no_least (filter (λ d. leb s.onward d) (flat_map (next_steps s.shape) (kept_prefixes s.shape s.net))) b
     (is_in-filter (λ d. leb s.onward d) b (flat_map (next_steps s.shape) (kept_prefixes s.shape s.net)) ∙ and_from (is_in b (flat_map (next_steps s.shape) (kept_prefixes s.shape s.net))) (leb s.onward b) among (le-leb s.onward b ahead)) none
 
@@ -90,7 +90,7 @@ module _ (plans : List Plan) (good : AreGood plans) (m : Moment) (legal : IsTrue
   active_op active' b = and_from (is_active m.events i) (eqb (op_of cs i b) (op_of cs i b)) active' (eq-eqb (op_of cs i b) (op_of cs i b) refl)
 
   undo_keeps : is_active m.events i ≡ true → (b : ℕ) → last_of (pending_steps s) ≡ Some b → Keeps (record { work = Undo; step = b })
-  undo_keeps active' b last = and_from (is_active m.events i && eqb (op_of cs i b) (op_of cs i b)) (is_of_last (undoable cs m.events i) (undoing (doing cs i b))) (active_op active' b)
+  undo_keeps active' b last = and_from (is_active m.events i && eqb (op_of cs i b) (op_of cs i b)) (is_of_last (backward_entries cs m.events i) (undoing (doing cs i b))) (active_op active' b)
       (undo_of_last cs i b (staying s) (fixed_len t w) (net_of m.events i) (all_pass (λ e. eqb e.process i) (net m.events)) (staying-least s) last)
 
   step_keeps : is_active m.events i ≡ true → (d : ℕ) → goes_on_to t w d ≡ true → list_all (λ x. ltb x d) (done_steps m.events i) ≡ true → Keeps (record { work = Forward; step = d })
