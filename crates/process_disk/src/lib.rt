@@ -3,8 +3,9 @@
 //! `Rack` is what the program keeps its files on. What a rack tells is a `Disk` of `specs/Disk`: what a read gives, what a
 //! crash may leave, and one clock for all nine files. A call fails only where the rack's count of faults rose.
 //! `MemoryRack` tells all of it and keeps its calls, so that `stopped` can give the rack that a stop within any of them
-//! leaves; `FileRack` stands on real files and tells nothing. The layers above use `Rack`, the words of `specs/Images` and
-//! their laws in `proofs/Images`. Nothing here knows what the bytes mean.
+//! leaves. `FileRack` stands on a `Folder`, nine files with the calls that a system has, of which it makes a rack that tells what
+//! the folder tells: `SystemFolder` is the current folder, which tells nothing, and `MemoryFolder` one in memory. The layers
+//! above use `Rack`, the words of `specs/Images` and their laws in `proofs/Images`. Nothing here knows what the bytes mean.
 #![tactic(auto)]
 
 mod changes;
