@@ -27,9 +27,9 @@ use Rattle.process_tree.proofs.Intervals.{Begins, begins_to, later_in_way}
 
 -- what the paths say of an alternative: it has a step, and each of its steps is on a path with the steps before its choice, which
 -- goes on within the alternative
-record Stands (ps : List (List ℕ)) (a : Alternative) : Type 0 where
-  some : a.first < a.behind
-  each : (b : ℕ) → IsOf a b → (rest : List ℕ) × Among (a.before ++ rest) ps × (has b rest ≡ true) × Each (IsOf a) rest
+pub record Stands (ps : List (List ℕ)) (a : Alternative) : Type 0 where
+  pub some : a.first < a.behind
+  pub each : (b : ℕ) → IsOf a b → (rest : List ℕ) × Among (a.before ++ rest) ps × (has b rest ≡ true) × Each (IsOf a) rest
 
 moved_within : (n m : ℕ) (v p : List ℕ) → Each (λ b. b < m) p → Each (IsOf (record { before = v; first = n; behind = n + m })) (map (λ k. n + k) p)
 moved_within n m v [] below = tt
@@ -44,7 +44,7 @@ some_steps o covered laid = by_path covered.path (Each-among (λ p. 0 < length p
     by_path (x ∷ p) some within = let lt : x < length o.steps = within.0 in omega arith
 
 -- the alternatives of one choice
-alternatives_stand : (v : List ℕ) (n : ℕ) (os : List Outline) (ps : List (List ℕ)) → Each IsCovered os → Each LaidOutline os
+pub alternatives_stand : (v : List ℕ) (n : ℕ) (os : List Outline) (ps : List (List ℕ)) → Each IsCovered os → Each LaidOutline os
     → ((p : List ℕ) → Among p (paths_from_all v n os) → Among p ps) → Each (Stands ps) (alternatives_from v n os)
 alternatives_stand v n [] ps covered laid among = tt
 alternatives_stand v n (o ∷ os) ps covered laid among = (
@@ -66,18 +66,18 @@ alternatives_stand v n (o ∷ os) ps covered laid among = (
 )
 
 -- each begins where the one before it ends, behind the same steps
-abbrev Neighbours : List Alternative → Type 0
+abbrev pub Neighbours : List Alternative → Type 0
 Neighbours [] = Unit
 Neighbours (a ∷ []) = Unit
 Neighbours (a ∷ c ∷ alts) = (c.first ≡ a.behind) × (c.before ≡ a.before) × Neighbours (c ∷ alts)
 
-neighbours : (v : List ℕ) (n : ℕ) (os : List Outline) → Neighbours (alternatives_from v n os)
+pub neighbours : (v : List ℕ) (n : ℕ) (os : List Outline) → Neighbours (alternatives_from v n os)
 neighbours v n [] = tt
 neighbours v n (o ∷ []) = tt
 neighbours v n (o ∷ o' ∷ os) = (refl, refl, neighbours v (n + length o.steps) (o' ∷ os))
 
 -- so a choice stands
-abbrev ChoiceStands : List (List ℕ) → List Alternative → Type 0
+abbrev pub ChoiceStands : List (List ℕ) → List Alternative → Type 0
 ChoiceStands ps alts = Each (Stands ps) alts × Neighbours alts
 
 mutual
@@ -107,11 +107,11 @@ mutual
       (block_stands v n steps tail ps (or_first o.has_empty empty full) both.0 (λ p inp. among p (among_left p (paths_from v n o) (paths_from_all v (n + length o.steps) os) inp)))
       (row_stands v (n + length o.steps) rest ps (or_second o.has_empty empty full) both.1 (λ p inp. among p (among_right p (paths_from v n o) (paths_from_all v (n + length o.steps) os) inp)))
 
-tree_stands : (root : Block) → tree_fault root ≡ None → Each (ChoiceStands (outline root).paths) (choices root)
+pub tree_stands : (root : Block) → tree_fault root ≡ None → Each (ChoiceStands (outline root).paths) (choices root)
 tree_stands root good =
     block_stands [] 0 root.steps root.tail (outline root).paths (not_empty root good) (none_odd root good) (λ p inp. subst (λ qs. Among p qs) (paths_from-none (outline root)) inp)
 
-onward_after : (v : List ℕ) (x : ℕ) (r : List ℕ) → onward v (v ++ x ∷ r) ≡ Some x
+pub onward_after : (v : List ℕ) (x : ℕ) (r : List ℕ) → onward v (v ++ x ∷ r) ≡ Some x
 onward_after [] x r = refl
 onward_after (y ∷ v) x r = ap (λ c. if c then onward v (v ++ x ∷ r) else None) (eq-eqb y y refl) ∙ onward_after v x r
 
@@ -119,7 +119,7 @@ begins_after : (v : List ℕ) (x : ℕ) (r : List ℕ) → Begins (v ++ x ∷ []
 begins_after [] x r = (refl, tt)
 begins_after (y ∷ v) x r = (refl, begins_after v x r)
 
-rises_behind : (v r : List ℕ) → IsRising (v ++ r) → IsRising r
+pub rises_behind : (v r : List ℕ) → IsRising (v ++ r) → IsRising r
 rises_behind [] r rise = rise
 rises_behind (y ∷ v) r rise = rises_behind v r rise.1
 
@@ -151,7 +151,7 @@ module _ (t : Shape) (laid : IsLaidOut (length t.kinds) t.paths) (a : Alternativ
       let same : a.first ≡ x = ⊎_elim (λ e. e) (λ later. let up : x < a.first = Each-has (λ y. x < y) rest a.first rise.0 later.1 in absurd (omega arith)) (has_cases a.first x rest on) in
       ap (goes_on_to t a.before) same ∙ goes_on t a.before x p among (onward_after a.before x rest)
 
-  of_ways : Stands t.paths a → IsOfWays t a
+  pub of_ways : Stands t.paths a → IsOfWays t a
   of_ways stands =
       let first = stands.each a.first (omega arith, stands.some) in
       record {
@@ -191,7 +191,7 @@ fall_in_turn t laid [] ways next = tt
 fall_in_turn t laid (a ∷ []) ways next = tt
 fall_in_turn t laid (a ∷ c ∷ alts) ways next = (falls_from t laid a c ways.0 ways.1.0 next.0 next.1, fall_in_turn t laid (c ∷ alts) ways.1 next.2)
 
-laid_shape : (root : Block) → tree_fault root ≡ None → IsLaidOut (length (shape_of root).kinds) (shape_of root).paths
+pub laid_shape : (root : Block) → tree_fault root ≡ None → IsLaidOut (length (shape_of root).kinds) (shape_of root).paths
 laid_shape root good = subst (λ c. IsLaidOut c (outline root).paths) (sym (kinds_count root)) (tree_laid_out root good)
 
 choice_ways : (root : Block) → tree_fault root ≡ None → (alts : List Alternative) → ChoiceStands (outline root).paths alts → Each (IsOfWays (shape_of root)) alts

@@ -28,3 +28,4 @@ pub mod Forms
 pub mod Entries
 pub mod NameBytes
 pub mod Alternatives
+pub mod LaterWays

@@ -36,7 +36,7 @@ goes_before t w a d on =
     goes_on t w a along.0 along.1 (onward_front w along.0 a d along.2)
 
 -- each number once, none lost
-has_once : (e : ℕ) (xs : List ℕ) → has e xs ≡ true → has e (once xs) ≡ true
+pub has_once : (e : ℕ) (xs : List ℕ) → has e xs ≡ true → has e (once xs) ≡ true
 has_once e [] on = on
 has_once e (x ∷ xs) on = by_test (list_any (nat_eq x) xs) refl (λ h. has_once e xs h)
   where
@@ -48,7 +48,7 @@ has_once e (x ∷ xs) on = by_test (list_any (nat_eq x) xs) refl (λ h. has_once
         ap (λ b. has e (if b then once xs else x ∷ once xs)) is
         ∙ ⊎_elim (λ same. has_here e x (once xs) same) (λ rest. has_there e x (once xs) (below rest.1)) (has_cases e x xs on)
 
-nonempty : (e : ℕ) (xs : List ℕ) → has e xs ≡ true → 0 < length xs
+pub nonempty : (e : ℕ) (xs : List ℕ) → has e xs ≡ true → 0 < length xs
 nonempty e [] on = absurd (cc)
 nonempty e (x ∷ xs) on = omega arith
 

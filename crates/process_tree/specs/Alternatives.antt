@@ -1,14 +1,16 @@
 -- The alternatives of a process as they stand in its blocks, each with the interval of its steps.
-use Rattle.std.specs.Prelude.{◌≡◌, ℕ, ◌+◌, ◌<◌, ◌≤◌, true, List, [], ◌∷◌, ◌++◌, length, None, Some}
+use Rattle.std.specs.Prelude.{◌≡◌, ℕ, ◌+◌, ◌<◌, ◌≤◌, Bool, true, List, [], ◌∷◌, ◌++◌, length, map, None, Some}
+use Rattle.std.specs.List.{list_any}
 use Rattle.process_tree.specs.declared.step.Step.{Step}
 use Rattle.process_tree.specs.declared.block.Block.{Block}
 use Rattle.process_tree.specs.declared.block.Tail.{Tail, End, Choice', Row_of-Block, end_of-Block, more_of-Block}
 use Rattle.process_tree.specs.Blocks.{Outline, numbers_from, outline_of, outlines_of}
 use Rattle.process_tree.specs.Making.{tree_fault}
-use Rattle.process_tree.specs.Order.{Each}
+use Rattle.process_tree.specs.Order.{Each, has}
 use Rattle.process_tree.specs.Shape.{Shape, shape_of, goes_on_to}
 use Rattle.process_tree.specs.Play.{fallback_of}
 use Rattle.process_tree.specs.Laws.{IsInWay}
+use Rattle.process_tree.specs.Termination.{is_later_way}
 
 pub record Alternative : Type 0 where
   -- the steps before its choice
@@ -71,3 +73,19 @@ FallInTurn t (a ∷ c ∷ alts) = FallsFrom t a c × FallInTurn t (c ∷ alts)
 -- falling to an alternative comes from the one just before it
 abbrev pub AlternativesFallInTurn : Type 0
 AlternativesFallInTurn = (root : Block) → tree_fault root ≡ None → Each (FallInTurn (shape_of root)) (choices root)
+
+-- the first steps of the alternatives of a choice other than the first
+abbrev pub later_firsts : List Alternative → List ℕ
+later_firsts [] = []
+later_firsts (a ∷ alts) = map (λ c. c.first) alts
+
+-- d begins an alternative other than the first at one of these choices
+abbrev pub begins_later : ℕ → List (List Alternative) → Bool
+begins_later d cs = list_any (λ alts. has d (later_firsts alts)) cs
+
+-- a step that begins a later way begins an alternative other than a first one, and the other way round
+abbrev pub LaterWaysAreLaterAlternatives : Type 0
+LaterWaysAreLaterAlternatives =
+    (root : Block) → tree_fault root ≡ None → (d : ℕ) →
+    (is_later_way (shape_of root) d ≡ true → begins_later d (choices root) ≡ true)
+    × (begins_later d (choices root) ≡ true → is_later_way (shape_of root) d ≡ true)

@@ -1,5 +1,5 @@
 // The laws of trees: each function says one, and does nothing.
-ghost use Rattle.process_tree.specs.Alternatives.{AlternativesAreWays, AlternativesFallInTurn};
+ghost use Rattle.process_tree.specs.Alternatives.{AlternativesAreWays, AlternativesFallInTurn, LaterWaysAreLaterAlternatives};
 ghost use Rattle.process_tree.specs.Laws.{PathsLieInOrder, PathsPart, EachStepHasAPath, OneBranchToAStep, StepsGoUp, WholePathsEnd, EndsAreWhole, WaysAreIntervals, AlternativesAreIntervals, ConflictIsSymmetric, EntriesConflictBothWays, ConflictIsBetweenProcesses, UndoConflictsAsItsStep, EntryConflictsAsItsStep, NextStepsHaveAClass, OwedStepsAreRetriable, CommitPointsStay, CommitPointsGrow};
 
 /// The whole paths of a tree go upward, and lie in order.
@@ -43,11 +43,13 @@ pub fn alternatives_are_intervals()
     ensures alternatives { AlternativesAreIntervals }
 {}
 
-/// The ways of a tree say of its alternatives what its blocks say: each step of an alternative is in a way that begins in it, and a
-/// refusal that falls to an alternative is of a step of the one just before it.
+/// The ways of a tree say of its alternatives what its blocks say: each step of an alternative is in a way that begins in it, a
+/// refusal that falls to an alternative is of a step of the one just before it, and the later ways are those that begin an
+/// alternative other than a first one.
 pub fn alternatives_are_ways()
     ensures ways { AlternativesAreWays }
     ensures falls { AlternativesFallInTurn }
+    ensures later { LaterWaysAreLaterAlternatives }
 {}
 
 /// Two operations conflict in either order or in none, and so do two entries.
