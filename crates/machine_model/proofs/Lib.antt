@@ -26,5 +26,6 @@ pub mod CoursesRuns
 pub mod SessionCalls
 pub mod WaysOn
 pub mod NextInOrder
+pub mod Ahead
 pub mod Restart
 pub mod TurnRuns
