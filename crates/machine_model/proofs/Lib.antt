@@ -27,5 +27,6 @@ pub mod SessionCalls
 pub mod WaysOn
 pub mod NextInOrder
 pub mod Ahead
+pub mod OwnOrder
 pub mod Restart
 pub mod TurnRuns

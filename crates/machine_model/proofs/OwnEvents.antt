@@ -67,7 +67,7 @@ module _ (courses : List Course) (m : Moment) (n : ℕ) where
   abbrev done_by : Piece → Moment
   done_by p = happened (noted m (Effect n)) (event_of courses p)
 
-  still_refused : (i : ℕ) → refused_steps courses (noted m (Effect n)) i ≡ refused_steps courses m i
+  pub still_refused : (i : ℕ) → refused_steps courses (noted m (Effect n)) i ≡ refused_steps courses m i
   still_refused i = ap (λ ps. map (λ (p : Piece). p.step) (filter (λ (p : Piece). eqb p.process i && is_only_try (shape courses i) p.step p.work) ps)) (refused-plain m.kept (Effect n) refl (λ x. refl))
 
   -- a step is done
