@@ -28,5 +28,6 @@ pub mod WaysOn
 pub mod NextInOrder
 pub mod Ahead
 pub mod OwnOrder
+pub mod OwnOrderLaws
 pub mod Restart
 pub mod TurnRuns
