@@ -65,7 +65,7 @@ owed_way_on : (s : Progress) (b : ℕ) (rest : List ℕ) → forward s.shape s.n
 owed_way_on s b rest owes ahead none =
     let first = first_owed s.shape s.net b rest owes in
     let among = is_in-flat b (next_steps s.shape) (kept_prefixes s.shape s.net)
-        ∙ first_numbers (λ k. true) (λ k. take k s.net) (λ v. goes_on_to s.shape v b) (fixed_len s.shape s.net) (length s.net - fixed_len s.shape s.net) first.on in
+    ∙ first_numbers (λ k. true) (λ k. take k s.net) (λ v. goes_on_to s.shape v b) (fixed_len s.shape s.net) (length s.net - fixed_len s.shape s.net) first.on in
     no_least (filter (λ d. leb s.onward d) (flat_map (next_steps s.shape) (kept_prefixes s.shape s.net))) b
     (is_in-filter (λ d. leb s.onward d) b (flat_map (next_steps s.shape) (kept_prefixes s.shape s.net)) ∙ and_from (is_in b (flat_map (next_steps s.shape) (kept_prefixes s.shape s.net))) (leb s.onward b) among (le-leb s.onward b ahead)) none
 

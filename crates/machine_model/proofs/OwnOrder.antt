@@ -176,9 +176,11 @@ module _ (table : ConflictRelation) (plans : List Plan) (good : AreGood plans) w
   active_entered m (Hand piece process step work) own may =
       let p : Piece = record { number = piece; process = process; step = step; work = work } in
       let free = (hand_parts table cs m p may).free in
-      Each-append (λ (q : Piece). is_active m.events q.process ≡ true) m.out (p ∷ []) own.active
-      ((and_parts (is_active m.events process) (is_none (running_of m process)) (and_parts (is_active m.events process && is_none (running_of m process)) (not (is_exhausted cs m process))
-      (and_parts ((is_active m.events process && is_none (running_of m process)) && not (is_exhausted cs m process)) (is_none (block_of table cs m process)) free).0).0).0, tt)
+      Each-append (λ (q : Piece). is_active m.events q.process ≡ true) m.out (p ∷ []) own.active (
+        (and_parts (is_active m.events process) (is_none (running_of m process)) (and_parts (is_active m.events process && is_none (running_of m process)) (not (is_exhausted cs m process))
+            (and_parts ((is_active m.events process && is_none (running_of m process)) && not (is_exhausted cs m process)) (is_none (block_of table cs m process)) free).0).0).0,
+        tt,
+      )
   active_entered m (Effect n) own may =
       let out = out_piece table cs m n own.order own.active may in
       perhaps AllActive (noted m (Effect n)) (piece_of (m.kept ++ Effect n ∷ []) n) out.piece (piece_of-plain m.kept (Effect n) n refl ∙ out.found)
@@ -213,7 +215,7 @@ module _ (table : ConflictRelation) (plans : List Plan) (good : AreGood plans) w
       let on = on_from m i b is.1 in
       let plan = good_if_goes_on plans i (net_steps m.events i) b good on in
       let ahead = subst OwedIsAhead (sym (step-effected cs m n number i b))
-          (done_ahead (progress cs m i) b plan.tree plan.well_formed (λ fresh. (way_on-is (progress cs m i) b (fresh_forward (progress cs m i) b fresh is.0)).bound) on) in
+      (done_ahead (progress cs m i) b plan.tree plan.well_formed (λ fresh. (way_on-is (progress cs m i) b (fresh_forward (progress cs m i) b fresh is.0)).bound) on) in
       ahead fresh c rest owes
   done_by_piece m n number i b Undo own is fresh c rest owes =
       let e = undoing (doing cs i b) in

@@ -120,3 +120,35 @@ module _ (table : ConflictRelation) (plans : List Plan) (s : Machine) (session :
       sym (ap (λ xs. take (length (net_steps m.events i) - 1) xs) steps
       ∙ (ap (λ n. take n (net_steps (m.events ++ Act e ∷ []) i ++ taken.last.step ∷ [])) (let e' : length (net_steps m.events i) - 1 ≡ length (net_steps (m.events ++ Act e ∷ []) i) = omega arith in e')
       ∙ take-append_seam (net_steps (m.events ++ Act e ∷ []) i) (taken.last.step ∷ [])))
+
+  undo_by : (n i : ℕ) (o : Option Piece) → piece_of s.kept n ≡ o → may_be_kept table s.courses m (Effect n) ≡ true → IsUndoOf i (Effect n) o
+      → net_steps (advance table s.courses m (Effect n)).events i ≡ take (length (net_steps m.events i) - 1) (net_steps m.events i)
+  undo_by n i None found may undo = absurd undo
+  undo_by n i (Some p) found may undo =
+      let own = session-own_order table plans s session in
+      let found' : piece_of m.kept n ≡ Some p = ap (λ ks. piece_of ks n) (now-kept table s) ∙ found in
+      let out = out_piece table cs m n own.order own.active may in
+      let same : out.piece ≡ p = same_Some out.piece p (sym out.found ∙ found') in
+      let keeps : keeps_order cs m.events (event_of cs p) ≡ true = ap (λ q. keeps_order cs m.events (event_of cs q)) (sym same) ∙ piece_keeps table plans session.good m out.piece own out.next out.active in
+      let event : event_of s.courses p ≡ Act (undoing (doing cs i p.step)) =
+      ap (λ xs. event_of xs p) session.courses ∙ (ap (event_by cs p.process p.step) undo.1 ∙ ap (λ j. event_by cs j p.step Undo) undo.0) in
+      let mine : event_of cs p ≡ Act (undoing (doing cs i p.step)) = ap (event_by cs p.process p.step) undo.1 ∙ ap (λ j. event_by cs j p.step Undo) undo.0 in
+      ap (λ o. net_steps (with_piece (λ q. happened (noted m (Effect n)) (event_of s.courses q)) (noted m (Effect n)) o).events i) (piece_of-plain m.kept (Effect n) n refl ∙ found')
+      ∙ (ap (λ e. net_steps (m.events ++ e ∷ []) i) event ∙ undone i p.step (ap (keeps_order cs m.events) (sym mine) ∙ keeps))
+
+  pub undo_takes_last : (k : Kept) (i : ℕ) → may_be_kept table s.courses m k ≡ true → IsUndoOf i k (piece_ended s.kept k)
+      → net_steps (advance table s.courses m k).events i ≡ take (length (net_steps m.events i) - 1) (net_steps m.events i)
+  undo_takes_last (Effect n) i may undo = undo_by n i (piece_of s.kept n) refl may undo
+  undo_takes_last (Refuse n) i may undo = absurd (no_undo (piece_of s.kept n) undo)
+    where
+      no_undo : (o : Option Piece) → IsUndoOf i (Refuse n) o → ⊥
+      no_undo None u = u
+      no_undo (Some p) u = u
+  undo_takes_last (Start j) i may undo = absurd undo
+  undo_takes_last (Hand a b c d) i may undo = absurd undo
+  undo_takes_last (Abort j) i may undo = absurd undo
+  undo_takes_last (Victim j) i may undo = absurd undo
+  undo_takes_last Restart i may undo = absurd undo
+
+pub undos_take_back_the_last : UndosTakeBackTheLast
+undos_take_back_the_last table plans s k i session may undo = undo_takes_last table plans s session k i may undo
