@@ -15,7 +15,7 @@ use Rattle.schedule_model.specs.declared.event.Event.TheVariants.{Act}
 use Rattle.schedule_model.specs.Histories.{active, is_active, is_in, net, net_of, net_steps, done_steps, doing, undoing}
 use Rattle.schedule_model.specs.Holdings.{Hold, Holdings}
 use Rattle.schedule_model.specs.Blocking.{against_step, against_undo, against_end}
-use Rattle.schedule_model.specs.Recovery.{owed, undoable}
+use Rattle.schedule_model.specs.Recovery.{owed, backward_entries}
 use Rattle.schedule_model.proofs.Active.{is_active-is_in}
 use Rattle.schedule_model.proofs.Counts.{filter_same-in}
 use Rattle.schedule_model.proofs.Courses.{SameCourse, doing-courses, hold-courses}
@@ -90,15 +90,15 @@ module _ (cs ds : List Course) (m : Moment) where
   running_soon i (Some p) found same = soon-courses p.process p.step p.work (subst (SameCourse cs ds) (sym (eqb-true p.process i (find-passes (λ (q : Piece). eqb q.process i) m.out p found))) same)
 
   abbrev by_parts : ℕ → Option Entry → List Entry → List Entry → List Entry → Hold
-  by_parts i r o p u = record { process = i; running = r; reserved = o; pending = p; undoable = u }
+  by_parts i r o p u = record { process = i; running = r; reserved = o; pending = p; backward_entries = u }
 
   pub hold-of-courses : (i : ℕ) → SameCourse cs ds i → hold_of cs m i ≡ hold_of ds m i
   hold-of-courses i same =
       let rest = hold-courses cs ds m.events i same in
-      ap (λ r. by_parts i r (owed cs m.events i ++ owed_soon cs m.events (running_of m i)) (pending_of cs m i) (undoable cs m.events i)) (running_entry i (running_of m i) refl same)
-      ∙ (ap (λ (o : Hold). by_parts i (entry_of ds (running_of m i)) (o.reserved ++ owed_soon cs m.events (running_of m i)) (pending_of cs m i) o.undoable) rest
-      ∙ (ap (λ es. by_parts i (entry_of ds (running_of m i)) (owed ds m.events i ++ es) (pending_of cs m i) (undoable ds m.events i)) (running_soon i (running_of m i) refl same)
-      ∙ ap (λ es. by_parts i (entry_of ds (running_of m i)) (owed ds m.events i ++ owed_soon ds m.events (running_of m i)) es (undoable ds m.events i)) (pending-courses i same)))
+      ap (λ r. by_parts i r (owed cs m.events i ++ owed_soon cs m.events (running_of m i)) (pending_of cs m i) (backward_entries cs m.events i)) (running_entry i (running_of m i) refl same)
+      ∙ (ap (λ (o : Hold). by_parts i (entry_of ds (running_of m i)) (o.reserved ++ owed_soon cs m.events (running_of m i)) (pending_of cs m i) o.backward_entries) rest
+      ∙ (ap (λ es. by_parts i (entry_of ds (running_of m i)) (owed ds m.events i ++ es) (pending_of cs m i) (backward_entries ds m.events i)) (running_soon i (running_of m i) refl same)
+      ∙ ap (λ es. by_parts i (entry_of ds (running_of m i)) (owed ds m.events i ++ owed_soon ds m.events (running_of m i)) es (backward_entries ds m.events i)) (pending-courses i same)))
 
   work-courses : (table : ConflictRelation) (g : Holdings) (i b : ℕ) (w : Work) → SameCourse cs ds i → against_work table cs g m.events i b w ≡ against_work table ds g m.events i b w
   work-courses table g i b Forward same = ap (λ (c : Course). against_step table g (class_of c.shape (net_steps m.events i) b) (record { process = i; step = b; op = slice_index_or c.ops b 0; undo = false })

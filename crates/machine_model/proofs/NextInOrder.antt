@@ -20,7 +20,7 @@ use Rattle.schedule_model.specs.Histories.{doing, done_steps, is_active, is_in, 
 use Rattle.schedule_model.specs.Laws.{AreGood}
 use Rattle.schedule_model.specs.Legal.{is_legal}
 use Rattle.schedule_model.specs.OwnOrder.{goes_on, is_at_end, is_of_last, keeps_order}
-use Rattle.schedule_model.specs.Recovery.{owed_steps, undoable}
+use Rattle.schedule_model.specs.Recovery.{owed_steps, backward_entries}
 use Rattle.schedule_model.proofs.Active.{is_in-filter}
 use Rattle.schedule_model.proofs.GoodPlans.{HasGoodPlan, good_if_goes_on}
 use Rattle.schedule_model.proofs.NetPaths.{IsBranch, net-branch, done-below_owed}
@@ -90,7 +90,7 @@ module _ (plans : List Plan) (good : AreGood plans) (m : Moment) (legal : IsTrue
   active_op active' b = and_from (is_active m.events i) (eqb (op_of cs i b) (op_of cs i b)) active' (eq-eqb (op_of cs i b) (op_of cs i b) refl)
 
   undo_keeps : is_active m.events i ≡ true → (b : ℕ) → last_of (pending_steps s) ≡ Some b → Keeps (record { work = Undo; step = b })
-  undo_keeps active' b last = and_from (is_active m.events i && eqb (op_of cs i b) (op_of cs i b)) (is_of_last (undoable cs m.events i) (undoing (doing cs i b))) (active_op active' b)
+  undo_keeps active' b last = and_from (is_active m.events i && eqb (op_of cs i b) (op_of cs i b)) (is_of_last (backward_entries cs m.events i) (undoing (doing cs i b))) (active_op active' b)
       (undo_of_last cs i b (staying s) (fixed_len t w) (net_of m.events i) (all_pass (λ e. eqb e.process i) (net m.events)) (staying-least s) last)
 
   step_keeps : is_active m.events i ≡ true → (d : ℕ) → goes_on_to t w d ≡ true → list_all (λ x. ltb x d) (done_steps m.events i) ≡ true → Keeps (record { work = Forward; step = d })

@@ -13,11 +13,11 @@ use Rattle.schedule_model.specs.Conflict.{ConflictRelation, conflict}
 use Rattle.schedule_model.specs.Graph.{Arrow, spread, spread_by, reached}
 use Rattle.schedule_model.specs.Histories.{active, is_active, is_in, net, net_of, net_steps, same_step}
 use Rattle.schedule_model.specs.Holdings.{Hold, Holdings, holders, active_net, running_steps, behind}
-use Rattle.schedule_model.specs.Recovery.{undoable}
+use Rattle.schedule_model.specs.Recovery.{backward_entries}
 use Rattle.process_tree.specs.Shape.{fixed_len}
 use Rattle.schedule_model.proofs.Active.{is_active-is_in}
 use Rattle.schedule_model.proofs.Counts.{filter_same-in}
-use Rattle.machine_model.specs.Cascade.{cascade, builds_on, drags, takes_back_all, undoable_of}
+use Rattle.machine_model.specs.Cascade.{cascade, builds_on, drags, takes_back_all, backward_of}
 use Rattle.machine_model.specs.Progress.{staying}
 use Rattle.machine_model.specs.Moment.{Moment}
 use Rattle.machine_model.specs.State.{hold_of, holdings, pending_of, progress}
@@ -70,9 +70,9 @@ module _ (table : ConflictRelation) (g : Holdings) where
   -- what the root and the others take back is held
   pub record TakesHeld (root : ℕ) (entries : List Entry) : Type 0 where
     pub root_held : Each (IsHeld g) entries
-    pub others_held : (j : ℕ) → Each (IsHeld g) (undoable_of g j)
+    pub others_held : (j : ℕ) → Each (IsHeld g) (backward_of g j)
 
-  taken : (root : ℕ) (entries : List Entry) (j : ℕ) → TakesHeld root entries → (t : Bool) → Each (IsHeld g) (if t then entries else undoable_of g j)
+  taken : (root : ℕ) (entries : List Entry) (j : ℕ) → TakesHeld root entries → (t : Bool) → Each (IsHeld g) (if t then entries else backward_of g j)
   taken root entries j held true = held.root_held
   taken root entries j held false = held.others_held j
 
@@ -85,13 +85,13 @@ module _ (courses : List Course) (m : Moment) where
   its j n active' = Each-drop (IsHeld (holdings courses m)) n (net_of m.events j)
       (Each-weaker (λ (e : Entry). eqb e.process j ≡ true) (IsHeld (holdings courses m)) (λ e is. holds-active courses m e.process ∙ (ap (is_active m.events) (eqb-true e.process j is) ∙ active')) (net_of m.events j) (all_pass (λ (e : Entry). eqb e.process j) (net m.events)))
 
-  if_own : (k j : ℕ) (t : Bool) → is_active m.events k ≡ true → Each (IsHeld (holdings courses m)) (if t then undoable courses m.events k else [])
+  if_own : (k j : ℕ) (t : Bool) → is_active m.events k ≡ true → Each (IsHeld (holdings courses m)) (if t then backward_entries courses m.events k else [])
   if_own k j true active' = its k (fixed_len (shape courses k) (net_steps m.events k)) active'
   if_own k j false active' = tt
 
-  held_by : (j : ℕ) (is : List ℕ) → Each (λ k. is_active m.events k ≡ true) is → Each (IsHeld (holdings courses m)) (flat_map (λ (o : Hold). if eqb o.process j then o.undoable else []) (map (hold_of courses m) is))
+  held_by : (j : ℕ) (is : List ℕ) → Each (λ k. is_active m.events k ≡ true) is → Each (IsHeld (holdings courses m)) (flat_map (λ (o : Hold). if eqb o.process j then o.backward_entries else []) (map (hold_of courses m) is))
   held_by j [] each = tt
-  held_by j (k ∷ is) each = Each-append (IsHeld (holdings courses m)) (if eqb k j then undoable courses m.events k else []) (flat_map (λ (o : Hold). if eqb o.process j then o.undoable else []) (map (hold_of courses m) is)) (if_own k j (eqb k j) each.0) (held_by j is each.1)
+  held_by j (k ∷ is) each = Each-append (IsHeld (holdings courses m)) (if eqb k j then backward_entries courses m.events k else []) (flat_map (λ (o : Hold). if eqb o.process j then o.backward_entries else []) (map (hold_of courses m) is)) (if_own k j (eqb k j) each.0) (held_by j is each.1)
 
   all_active : Each (λ k. is_active m.events k ≡ true) (active m.events)
   all_active = Each-weaker (λ k. is_in k (active m.events) ≡ true) (λ k. is_active m.events k ≡ true) (λ k is. sym (is_active-is_in m.events k) ∙ is) (active m.events) (each_listed (active m.events))

@@ -13,9 +13,9 @@ use Rattle.schedule_model.specs.Course.{Course, shape}
 use Rattle.schedule_model.specs.Conflict.{ConflictRelation}
 use Rattle.schedule_model.specs.Histories.{net_of, net_steps, steps_of, doing}
 use Rattle.schedule_model.specs.Holdings.{Hold}
-use Rattle.schedule_model.specs.Recovery.{owed, undoable}
+use Rattle.schedule_model.specs.Recovery.{owed, backward_entries}
 use Rattle.process_tree.specs.Recovery.{class_of, forward}
-use Rattle.schedule_model.proofs.Snoc.{undoable-by_net, owed-by_net}
+use Rattle.schedule_model.proofs.Snoc.{backward_entries-by_net, owed-by_net}
 use Rattle.machine_model.specs.declared.kept.Kept.{Kept}
 use Rattle.machine_model.specs.declared.kept.Kept.TheVariants.{Start, Hand, Effect, Refuse, Abort, Victim, Restart}
 use Rattle.machine_model.specs.declared.kept.Work.{Work}
@@ -206,15 +206,15 @@ module _ (courses : List Course) (m n : Moment) (i : ℕ) (stays : StaysFor cour
 
   pub stays-hold : hold_of courses n i ≡ hold_of courses m i
   stays-hold =
-      ap (λ (o : Option Piece). by_parts (entry_of courses o) (owed courses n.events i ++ owed_soon courses n.events o) (pending_of courses n i) (undoable courses n.events i)) (stays.running begun)
-      ∙ (ap (λ es. by_parts (entry_of courses (running_of m i)) (es ++ owed_soon courses n.events (running_of m i)) (pending_of courses n i) (undoable courses n.events i)) (owed-by_net courses n.events m.events i stays.history.net)
-      ∙ (ap (λ es. by_parts (entry_of courses (running_of m i)) (owed courses m.events i ++ es) (pending_of courses n i) (undoable courses n.events i)) (soon_by (running_of m i) refl)
-      ∙ (ap (λ (p : Progress). by_parts (entry_of courses (running_of m i)) (owed courses m.events i ++ owed_soon courses m.events (running_of m i)) (drop (staying p) (net_of n.events i)) (undoable courses n.events i)) stays-progress
-      ∙ (ap (λ es. by_parts (entry_of courses (running_of m i)) (owed courses m.events i ++ owed_soon courses m.events (running_of m i)) (drop (staying (progress courses m i)) es) (undoable courses n.events i)) stays.history.net
-      ∙ ap (by_parts (entry_of courses (running_of m i)) (owed courses m.events i ++ owed_soon courses m.events (running_of m i)) (pending_of courses m i)) (undoable-by_net courses n.events m.events i stays.history.net)))))
+      ap (λ (o : Option Piece). by_parts (entry_of courses o) (owed courses n.events i ++ owed_soon courses n.events o) (pending_of courses n i) (backward_entries courses n.events i)) (stays.running begun)
+      ∙ (ap (λ es. by_parts (entry_of courses (running_of m i)) (es ++ owed_soon courses n.events (running_of m i)) (pending_of courses n i) (backward_entries courses n.events i)) (owed-by_net courses n.events m.events i stays.history.net)
+      ∙ (ap (λ es. by_parts (entry_of courses (running_of m i)) (owed courses m.events i ++ es) (pending_of courses n i) (backward_entries courses n.events i)) (soon_by (running_of m i) refl)
+      ∙ (ap (λ (p : Progress). by_parts (entry_of courses (running_of m i)) (owed courses m.events i ++ owed_soon courses m.events (running_of m i)) (drop (staying p) (net_of n.events i)) (backward_entries courses n.events i)) stays-progress
+      ∙ (ap (λ es. by_parts (entry_of courses (running_of m i)) (owed courses m.events i ++ owed_soon courses m.events (running_of m i)) (drop (staying (progress courses m i)) es) (backward_entries courses n.events i)) stays.history.net
+      ∙ ap (by_parts (entry_of courses (running_of m i)) (owed courses m.events i ++ owed_soon courses m.events (running_of m i)) (pending_of courses m i)) (backward_entries-by_net courses n.events m.events i stays.history.net)))))
     where
       by_parts : Option Entry → List Entry → List Entry → List Entry → Hold
-      by_parts r o p u = record { process = i; running = r; reserved = o; pending = p; undoable = u }
+      by_parts r o p u = record { process = i; running = r; reserved = o; pending = p; backward_entries = u }
 
 pub others_stay : OthersStay
 others_stay table s k i run may away begun =

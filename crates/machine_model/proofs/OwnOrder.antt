@@ -18,7 +18,7 @@ use Rattle.schedule_model.specs.Histories.{doing, done_steps, ends, is_active, i
 use Rattle.schedule_model.specs.Laws.{AreGood}
 use Rattle.schedule_model.specs.Legal.{is_legal, may_come}
 use Rattle.schedule_model.specs.OwnOrder.{goes_on, is_in_own_order, is_of_last, keeps_order}
-use Rattle.schedule_model.specs.Recovery.{owed, owed_steps, undoable}
+use Rattle.schedule_model.specs.Recovery.{owed, owed_steps, backward_entries}
 use Rattle.schedule_model.proofs.Appends.{starts-append, ends-append, is_in-append}
 use Rattle.schedule_model.proofs.GoodPlans.{good_if_goes_on}
 use Rattle.schedule_model.proofs.Induction.{passes-push}

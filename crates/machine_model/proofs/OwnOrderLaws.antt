@@ -16,7 +16,7 @@ use Rattle.schedule_model.specs.Conflict.{ConflictRelation, no_conflict}
 use Rattle.schedule_model.specs.Histories.{doing, ends, is_active, is_in, net_of, net_steps, starts, steps_of, undoing}
 use Rattle.schedule_model.specs.Legal.{is_legal, may_come, is_clear}
 use Rattle.schedule_model.specs.OwnOrder.{goes_on, is_at_end, is_in_own_order, is_of_last, keeps_order}
-use Rattle.schedule_model.specs.Recovery.{undoable}
+use Rattle.schedule_model.specs.Recovery.{backward_entries}
 use Rattle.schedule_model.proofs.Appends.{ends-append, is_in-append}
 use Rattle.schedule_model.proofs.Induction.{by_legal}
 use Rattle.schedule_model.proofs.NoConflict.{may_come-no_conflict, own_order-legal}

@@ -16,8 +16,8 @@ use Rattle.schedule_model.specs.declared.event.Event.TheVariants.{Start as Start
 use Rattle.schedule_model.specs.Course.{Course, shape}
 use Rattle.schedule_model.specs.Conflict.{ConflictRelation}
 use Rattle.schedule_model.specs.Histories.{acts, active, is_active, is_in, net, net_of, net_steps, same_step, doing, undoing, steps_of}
-use Rattle.schedule_model.specs.Recovery.{owed, owed_steps, undoable}
-use Rattle.schedule_model.specs.Completion.{all_undoable, closing, completion, is_to_undo}
+use Rattle.schedule_model.specs.Recovery.{owed, owed_steps, backward_entries}
+use Rattle.schedule_model.specs.Completion.{all_backward_entries, closing, completion, is_to_undo}
 use Rattle.schedule_model.proofs.Active.{is_active-is_in}
 use Rattle.schedule_model.proofs.Appends.{acts-append}
 use Rattle.schedule_model.proofs.Entries.{HasPlansOperation, acts-of_plans, All-net_acts, net_acts-forward, doing-is}
@@ -73,10 +73,10 @@ pub run-of_plans : (table : ConflictRelation) (s : Machine) → IsTrue (is_run t
 run-of_plans table s run all = run-keeps table s (OfPlans table s.courses) (λ m k is may. advance_of_plans table s.courses m k is) run all
 
 -- whoever has begun has its whole backward recovery pending
-pub pending-begun : (courses : List Course) (m : Moment) (i : ℕ) → has_begun m i ≡ true → pending_of courses m i ≡ undoable courses m.events i
+pub pending-begun : (courses : List Course) (m : Moment) (i : ℕ) → has_begun m i ≡ true → pending_of courses m i ≡ backward_entries courses m.events i
 pending-begun courses m i begun = ap (λ t. drop (staying (with_begun t (progress courses m i))) (net_of m.events i)) begun
 
-steps_begun : (courses : List Course) (m : Moment) (i : ℕ) → has_begun m i ≡ true → pending_steps (progress courses m i) ≡ steps_of (undoable courses m.events i)
+steps_begun : (courses : List Course) (m : Moment) (i : ℕ) → has_begun m i ≡ true → pending_steps (progress courses m i) ≡ steps_of (backward_entries courses m.events i)
 steps_begun courses m i begun =
     ap (λ t. pending_steps (with_begun t (progress courses m i))) begun
     ∙ drop-map (λ (e : Entry). e.step) (fixed_len (shape courses i) (net_steps m.events i)) (net_of m.events i)
@@ -91,30 +91,30 @@ module _ (courses : List Course) (m : Moment) (all : AllHaveBegun m) where
   to_undo_by e false is = and_left _ _ is ∙ sym (and_left _ _ is)
 
   -- once all have begun, what is pending is all that completion undoes
-  pub pending-all : pending_in_order courses m ≡ all_undoable courses m.events
+  pub pending-all : pending_in_order courses m ≡ all_backward_entries courses m.events
   pending-all = filter_same (is_pending courses m) (is_to_undo courses m.events) (net m.events) (λ e. to_undo_by e (is_active m.events e.process) refl)
 
   same_itself : (e : Entry) → same_step e e ≡ true
   same_itself e = and_from (eqb e.process e.process) (eqb e.step e.step) (eq-eqb e.process e.process refl) (eq-eqb e.step e.step refl)
 
   -- the last entry of a nonempty backward recovery of an active process is to be undone
-  last_to_undo : (i : ℕ) (front : List Entry) (z : Entry) → is_active m.events i ≡ true → undoable courses m.events i ≡ front ++ z ∷ [] → eqb z.process i ≡ true → is_to_undo courses m.events z ≡ true
+  last_to_undo : (i : ℕ) (front : List Entry) (z : Entry) → is_active m.events i ≡ true → backward_entries courses m.events i ≡ front ++ z ∷ [] → eqb z.process i ≡ true → is_to_undo courses m.events z ≡ true
   last_to_undo i front z active' is its =
       and_from _ _ (ap (is_active m.events) (eqb-true z.process i its) ∙ active')
-      (ap (λ j. list_any (same_step z) (undoable courses m.events j)) (eqb-true z.process i its) ∙ (ap (list_any (same_step z)) is ∙ any_last (same_step z) front z (same_itself z)))
+      (ap (λ j. list_any (same_step z) (backward_entries courses m.events j)) (eqb-true z.process i its) ∙ (ap (list_any (same_step z)) is ∙ any_last (same_step z) front z (same_itself z)))
 
-  its_entries : (i : ℕ) → Each (λ (e : Entry). eqb e.process i ≡ true) (undoable courses m.events i)
+  its_entries : (i : ℕ) → Each (λ (e : Entry). eqb e.process i ≡ true) (backward_entries courses m.events i)
   its_entries i = Each-drop (λ (e : Entry). eqb e.process i ≡ true) (fixed_len (shape courses i) (net_steps m.events i)) (net_of m.events i) (all_pass (λ (e : Entry). eqb e.process i) (net m.events))
 
   -- where nothing is to be undone, no active process has anything to undo
-  nothing_left : (i : ℕ) → is_active m.events i ≡ true → all_undoable courses m.events ≡ [] → undoable courses m.events i ≡ []
-  nothing_left i active' none = by_end (has_end (undoable courses m.events i))
+  nothing_left : (i : ℕ) → is_active m.events i ≡ true → all_backward_entries courses m.events ≡ [] → backward_entries courses m.events i ≡ []
+  nothing_left i active' none = by_end (has_end (backward_entries courses m.events i))
     where
-      unmarked : Each (λ (e : Entry). is_to_undo courses m.events e ≡ false) (undoable courses m.events i)
+      unmarked : Each (λ (e : Entry). is_to_undo courses m.events e ≡ false) (backward_entries courses m.events i)
       unmarked = Each-drop (λ (e : Entry). is_to_undo courses m.events e ≡ false) (fixed_len (shape courses i) (net_steps m.events i)) (net_of m.events i)
           (Each-filter (λ (e : Entry). is_to_undo courses m.events e ≡ false) (λ e. eqb e.process i) (net m.events) (none_pass (is_to_undo courses m.events) (net m.events) none))
 
-      by_end : (undoable courses m.events i ≡ []) ⊎ HasEnd (undoable courses m.events i) → undoable courses m.events i ≡ []
+      by_end : (backward_entries courses m.events i ≡ []) ⊎ HasEnd (backward_entries courses m.events i) → backward_entries courses m.events i ≡ []
       by_end (inl is) = is
       by_end (inr ends) =
           let its = Each-last (λ (e : Entry). eqb e.process i ≡ true) ends.front ends.last (subst (Each (λ (e : Entry). eqb e.process i ≡ true)) ends.is (its_entries i)) in
@@ -122,7 +122,7 @@ module _ (courses : List Course) (m : Moment) (all : AllHaveBegun m) where
           absurd (false≢true (sym never ∙ last_to_undo i ends.front ends.last active' ends.is its))
 
   -- the process that nothing is pending for goes on with what it owes, or ends
-  pub owed-next : (i : ℕ) → is_active m.events i ≡ true → all_undoable courses m.events ≡ [] → next_of courses m i ≡ step_or_end (first_of (owed_steps courses m.events i))
+  pub owed-next : (i : ℕ) → is_active m.events i ≡ true → all_backward_entries courses m.events ≡ [] → next_of courses m i ≡ step_or_end (first_of (owed_steps courses m.events i))
   owed-next i active' none =
       ap (λ bs. undo_or (next_forward (progress courses m i)) (last_of bs)) (steps_begun courses m i (all i active') ∙ ap steps_of (nothing_left i active' none))
       ∙ forward_begun courses m i (all i active')
@@ -133,7 +133,7 @@ module _ (courses : List Course) (m : Moment) (all : AllHaveBegun m) where
   head_of_closing i (b ∷ bs) others = ((map Act (map (doing courses i) bs) ++ Ended i ∷ []) ++ others, refl)
 
   -- nothing is pending: the first active process goes on
-  pub nothing_pending : (i : ℕ) (is : List ℕ) → all_undoable courses m.events ≡ [] → active m.events ≡ i ∷ is → let t = next_of courses m i in
+  pub nothing_pending : (i : ℕ) (is : List ℕ) → all_backward_entries courses m.events ≡ [] → active m.events ≡ i ∷ is → let t = next_of courses m i in
       (rest : List Event) × (completion courses m.events ≡ event_by courses i t.step t.work ∷ rest)
   nothing_pending i is none first =
       let active' : is_active m.events i ≡ true = sym (is_active-is_in m.events i) ∙ (ap (is_in i) first ∙ or_left (eqb i i) (is_in i is) (eq-eqb i i refl)) in
@@ -151,7 +151,7 @@ module _ (courses : List Course) (m : Moment) (all : AllHaveBegun m) where
   and_swap false false = refl
 
   -- the last entry to be undone is the last of its process
-  its_last : (front : List Entry) (x : Entry) → all_undoable courses m.events ≡ front ++ x ∷ [] → is_active m.events x.process ≡ true → (us : List Entry) (z : Entry) → undoable courses m.events x.process ≡ us ++ z ∷ [] → x ≡ z
+  its_last : (front : List Entry) (x : Entry) → all_backward_entries courses m.events ≡ front ++ x ∷ [] → is_active m.events x.process ≡ true → (us : List Entry) (z : Entry) → backward_entries courses m.events x.process ≡ us ++ z ∷ [] → x ≡ z
   its_last front x is active' us z ends = same_end (filter own front) (filter marked (take k its ++ us)) x z (left ∙ right)
     where
       own : Entry → Bool
@@ -169,7 +169,7 @@ module _ (courses : List Course) (m : Moment) (all : AllHaveBegun m) where
       own_z : eqb z.process x.process ≡ true
       own_z = Each-last (λ (e : Entry). eqb e.process x.process ≡ true) us z (subst (Each (λ (e : Entry). eqb e.process x.process ≡ true)) ends (its_entries x.process))
 
-      left : filter own front ++ x ∷ [] ≡ filter own (all_undoable courses m.events)
+      left : filter own front ++ x ∷ [] ≡ filter own (all_backward_entries courses m.events)
       left = sym (ap (filter own) is ∙ (filter-append own front (x ∷ []) ∙ ap (λ t. filter own front ++ cond t (x ∷ []) []) (eq-eqb x.process x.process refl)))
 
       swapped : filter own (filter marked (net m.events)) ≡ filter marked (filter own (net m.events))
@@ -178,27 +178,27 @@ module _ (courses : List Course) (m : Moment) (all : AllHaveBegun m) where
       parts : net_of m.events x.process ≡ (take k its ++ us) ++ z ∷ []
       parts = sym (take-append-drop k its) ∙ (ap (λ es. take k its ++ es) ends ∙ sym (append_assoc (take k its) us (z ∷ [])))
 
-      right : filter own (all_undoable courses m.events) ≡ filter marked (take k its ++ us) ++ z ∷ []
+      right : filter own (all_backward_entries courses m.events) ≡ filter marked (take k its ++ us) ++ z ∷ []
       right = swapped ∙ (ap (filter marked) parts ∙ (filter-append marked (take k its ++ us) (z ∷ []) ∙ ap (λ t. filter marked (take k its ++ us) ++ cond t (z ∷ []) []) (last_to_undo x.process us z active' ends own_z)))
 
   -- something is pending: the process of the last pending entry undoes it
-  pub something_pending : (front : List Entry) (x : Entry) → All (HasPlansOperation courses) (acts m.events) → all_undoable courses m.events ≡ front ++ x ∷ [] → let t = next_of courses m x.process in
+  pub something_pending : (front : List Entry) (x : Entry) → All (HasPlansOperation courses) (acts m.events) → all_backward_entries courses m.events ≡ front ++ x ∷ [] → let t = next_of courses m x.process in
       (rest : List Event) × (completion courses m.events ≡ event_by courses x.process t.step t.work ∷ rest)
-  something_pending front x plans is = by_end (has_end (undoable courses m.events x.process))
+  something_pending front x plans is = by_end (has_end (backward_entries courses m.events x.process))
     where
       marked : is_to_undo courses m.events x ≡ true
       marked = Each-last (λ e. is_to_undo courses m.events e ≡ true) front x (subst (Each (λ e. is_to_undo courses m.events e ≡ true)) is (all_pass (is_to_undo courses m.events) (net m.events)))
 
       active' : is_active m.events x.process ≡ true
-      active' = (and_parts (is_active m.events x.process) (list_any (same_step x) (undoable courses m.events x.process)) marked).0
+      active' = (and_parts (is_active m.events x.process) (list_any (same_step x) (backward_entries courses m.events x.process)) marked).0
 
-      among : Contains (all_undoable courses m.events) x
+      among : Contains (all_backward_entries courses m.events) x
       among = subst (λ es. Contains es x) (sym is) (Contains-append_right front (x ∷ []) x (head_contained x []))
 
       step : x ≡ doing courses x.process x.step
       step = doing-is courses x
-          (All-contains (HasPlansOperation courses) (all_undoable courses m.events) x (All-filter (is_to_undo courses m.events) (HasPlansOperation courses) (net m.events) (All-net_acts (HasPlansOperation courses) (acts m.events) plans)) among)
-          (All-contains (λ (e : Entry). e.undo ≡ false) (all_undoable courses m.events) x (All-filter (is_to_undo courses m.events) (λ (e : Entry). e.undo ≡ false) (net m.events) (net_acts-forward (acts m.events))) among)
+          (All-contains (HasPlansOperation courses) (all_backward_entries courses m.events) x (All-filter (is_to_undo courses m.events) (HasPlansOperation courses) (net m.events) (All-net_acts (HasPlansOperation courses) (acts m.events) plans)) among)
+          (All-contains (λ (e : Entry). e.undo ≡ false) (all_backward_entries courses m.events) x (All-filter (is_to_undo courses m.events) (λ (e : Entry). e.undo ≡ false) (net m.events) (net_acts-forward (acts m.events))) among)
 
       others : List Event
       others = map (λ (e : Entry). Act (undoing e)) (reverse front) ++ flat_map (closing courses m.events) (active m.events)
@@ -206,9 +206,9 @@ module _ (courses : List Course) (m : Moment) (all : AllHaveBegun m) where
       head : completion courses m.events ≡ Act (undoing x) ∷ (map (λ (e : Entry). Act (undoing e)) (reverse front) ++ flat_map (closing courses m.events) (active m.events))
       head = ap (λ es. map (λ (e : Entry). Act (undoing e)) es ++ flat_map (closing courses m.events) (active m.events)) (ap reverse is ∙ reverse-append front (x ∷ []))
 
-      by_end : (undoable courses m.events x.process ≡ []) ⊎ HasEnd (undoable courses m.events x.process) → let t = next_of courses m x.process in
+      by_end : (backward_entries courses m.events x.process ≡ []) ⊎ HasEnd (backward_entries courses m.events x.process) → let t = next_of courses m x.process in
           (rest : List Event) × (completion courses m.events ≡ event_by courses x.process t.step t.work ∷ rest)
-      by_end (inl none) = absurd (false≢true (sym (ap (list_any (same_step x)) none) ∙ (and_parts (is_active m.events x.process) (list_any (same_step x) (undoable courses m.events x.process)) marked).1))
+      by_end (inl none) = absurd (false≢true (sym (ap (list_any (same_step x)) none) ∙ (and_parts (is_active m.events x.process) (list_any (same_step x) (backward_entries courses m.events x.process)) marked).1))
       by_end (inr ends) =
           let same = its_last front x is active' ends.front ends.last ends.is in
           let last = ap last_of (steps_begun courses m x.process (all x.process active') ∙ (ap steps_of (ends.is ∙ ap (λ z. ends.front ++ z ∷ []) (sym same)) ∙ map-append (λ (e : Entry). e.step) ends.front (x ∷ []))) ∙ last_of-push (steps_of ends.front) x.step in
@@ -223,12 +223,12 @@ first_is [] i at = absurd (none-some i at)
 first_is (j ∷ is) i at = (is, ap (λ k. k ∷ is) (same_Some j i at))
 
 pub restart_follows_completion : RestartFollowsCompletion
-restart_follows_completion table plans s session all i next = by_end (has_end (all_undoable s.courses (now table s).events)) next
+restart_follows_completion table plans s session all i next = by_end (has_end (all_backward_entries s.courses (now table s).events)) next
   where
-    pending : pending_in_order s.courses (now table s) ≡ all_undoable s.courses (now table s).events
+    pending : pending_in_order s.courses (now table s) ≡ all_backward_entries s.courses (now table s).events
     pending = pending-all s.courses (now table s) all
 
-    by_end : (all_undoable s.courses (now table s).events ≡ []) ⊎ HasEnd (all_undoable s.courses (now table s).events) → next_in_restart s.courses (now table s) ≡ Some i → let t = next_of s.courses (now table s) i in
+    by_end : (all_backward_entries s.courses (now table s).events ≡ []) ⊎ HasEnd (all_backward_entries s.courses (now table s).events) → next_in_restart s.courses (now table s) ≡ Some i → let t = next_of s.courses (now table s) i in
         (rest : List Event) × (completion s.courses (now table s).events ≡ event_by s.courses i t.step t.work ∷ rest)
     by_end (inl none) at =
         let first = first_is (active (now table s).events) i (sym (ap (λ es. option_or (last_of (map (λ (e : Entry). e.process) es)) (first_of (active (now table s).events))) (pending ∙ none)) ∙ at) in

@@ -16,7 +16,7 @@ use Rattle.process_tree.specs.declared.entry.Entry.{Entry}
 use Rattle.schedule_model.specs.Course.{Course, shape}
 use Rattle.schedule_model.specs.Histories.{doing, undoing, is_in, net, net_of, net_steps, same_step, steps_of}
 use Rattle.schedule_model.specs.OwnOrder.{is_of_last}
-use Rattle.schedule_model.specs.Recovery.{undoable}
+use Rattle.schedule_model.specs.Recovery.{backward_entries}
 use Rattle.schedule_model.proofs.Active.{is_in-filter}
 use Rattle.schedule_model.proofs.Appends.{is_in-append}
 use Rattle.schedule_model.proofs.Recoveries.{fixed_len-most}

@@ -7,12 +7,12 @@ use Rattle.schedule_model.specs.Graph.{IsLeast, reached}
 use Rattle.schedule_model.specs.Holdings.{Holdings, holders, behind, running_steps}
 
 -- the backward recovery of process k
-abbrev pub undoable_of : Holdings → ℕ → List Entry
-undoable_of g k = flat_map (λ o. if nat_eq o.process k then o.undoable else []) g.holds
+abbrev pub backward_of : Holdings → ℕ → List Entry
+backward_of g k = flat_map (λ o. if nat_eq o.process k then o.backward_entries else []) g.holds
 
 -- what process j takes back: the root these entries, and another its whole backward recovery
 abbrev pub takes_back_all : Holdings → ℕ → List Entry → ℕ → List Entry
-takes_back_all g root entries j = if nat_eq j root then entries else undoable_of g j
+takes_back_all g root entries j = if nat_eq j root then entries else backward_of g j
 
 -- process k has built on one of these: an entry of it stands behind and conflicts, or its step that is under way does
 abbrev pub builds_on : ConflictRelation → Holdings → List Entry → ℕ → Bool

@@ -12,7 +12,7 @@ use Rattle.process_tree.specs.Shape.{kind_of, first_of}
 use Rattle.schedule_model.specs.Course.{Course, courses_of, course, course_of, shape, allowance}
 use Rattle.schedule_model.specs.Conflict.{ConflictRelation, IsSymmetric, conflict}
 use Rattle.schedule_model.specs.Histories.{active, is_active, is_in, starts, ends, net, net_of, same_step, doing}
-use Rattle.schedule_model.specs.Recovery.{undoable}
+use Rattle.schedule_model.specs.Recovery.{backward_entries}
 use Rattle.schedule_model.specs.Holdings.{Holdings, active_net, holders, reaches, behind}
 use Rattle.schedule_model.specs.Blocking.{Clashes, all_clashes}
 use Rattle.schedule_model.specs.Completion.{completion}
@@ -76,7 +76,7 @@ pub record AdmissionLaws (table : ConflictRelation) (s : Machine) : Type 0 where
       → class_in s.courses (history table s) i (next_of s.courses (now table s) i).step ≡ reserved → block_of table s.courses (now table s) i ≡ None
   -- nor is the end of a process that has nothing left to undo
   pub end_is_free : (i : ℕ) → IsTrue (is_active (history table s) i) → (next_of s.courses (now table s) i).work ≡ End
-      → undoable s.courses (history table s) i ≡ [] → block_of table s.courses (now table s) i ≡ None
+      → backward_entries s.courses (history table s) i ≡ [] → block_of table s.courses (now table s) i ≡ None
   -- nor is the undo of the last pending entry in joint order, where the machine opened at rest or all have begun
   pub last_pending_is_free : (i : ℕ) → OpenedAtRest s ⊎ AllHaveBegun (now table s) → undo_next s.courses (now table s) ≡ Some i → block_of table s.courses (now table s) i ≡ None
 
@@ -101,7 +101,7 @@ pub record StandingFacts (table : ConflictRelation) (s : Machine) : Type 0 where
       → Contains (net_of (history table s) k ++ (hold_of s.courses (now table s) k).reserved) e ⊎ IsRunningStep (now table s) s.courses k e → conflict table r e ≡ false
   -- before a net entry that can't be undone stands no net entry of another active process that conflicts
   pub fixed_is_free : (i k : ℕ) (x e : Entry) → IsTrue (is_active (history table s) i) → IsTrue (is_active (history table s) k)
-      → Contains (net_of (history table s) k) x → Contains (net_of (history table s) i) e → IsTrue (not (list_any (same_step e) (undoable s.courses (history table s) i)))
+      → Contains (net_of (history table s) k) x → Contains (net_of (history table s) i) e → IsTrue (not (list_any (same_step e) (backward_entries s.courses (history table s) i)))
       → Contains (behind x (net (history table s))) e → conflict table x e ≡ false
   -- running steps don't conflict
   pub running_are_free : (i k : ℕ) (d e : Entry) → IsRunningStep (now table s) s.courses i d → IsRunningStep (now table s) s.courses k e → conflict table d e ≡ false

@@ -8,7 +8,7 @@ use Rattle.schedule_model.specs.declared.event.Event.{Event}
 use Rattle.schedule_model.specs.Course.{Course, course, shape}
 use Rattle.schedule_model.specs.Conflict.{ConflictRelation}
 use Rattle.schedule_model.specs.Histories.{active, is_active, net, net_of, net_steps, done_steps, doing, undoing, same_step}
-use Rattle.schedule_model.specs.Recovery.{owed, owed_after, undoable as undoable_entries}
+use Rattle.schedule_model.specs.Recovery.{owed, owed_after, backward_entries}
 use Rattle.schedule_model.specs.Holdings.{Hold, Holdings}
 use Rattle.schedule_model.specs.Blocking.{Clashes, against_step, against_undo, against_end}
 use Rattle.schedule_model.specs.Legal.{class_in}
@@ -78,7 +78,7 @@ hold_of courses m i = record {
   running = entry_of courses (running_of m i);
   reserved = owed courses m.events i ++ owed_soon courses m.events (running_of m i);
   pending = pending_of courses m i;
-  undoable = undoable_entries courses m.events i;
+  backward_entries = backward_entries courses m.events i;
 }
 
 -- what all active processes hold

@@ -8,7 +8,7 @@ use Rattle.schedule_model.specs.declared.event.Event.TheVariants.{Act, End}
 use Rattle.schedule_model.specs.Course.{Course, op_of}
 use Rattle.schedule_model.specs.Conflict.{ConflictRelation}
 use Rattle.schedule_model.specs.Histories.{is_active}
-use Rattle.schedule_model.specs.Recovery.{undoable}
+use Rattle.schedule_model.specs.Recovery.{backward_entries}
 use Rattle.schedule_model.specs.OwnOrder.{keeps_order, goes_on, is_of_last, is_at_end}
 use Rattle.schedule_model.specs.Legal.{is_clear, may_come}
 
@@ -16,7 +16,7 @@ module _ (courses : List Course) (h : List Event) where
   -- an entry in own order is of an active process, and has the plan's operation
   pub act_in_order : (e : Entry) → IsTrue (keeps_order courses h (Act e)) → IsTrue (is_active h e.process) × (e.op ≡ op_of courses e.process e.step)
   act_in_order e keeps =
-      let first = and_parts (is_active h e.process && eqb e.op (op_of courses e.process e.step)) (if e.undo then is_of_last (undoable courses h e.process) e else goes_on courses h e.process e.step) keeps in
+      let first = and_parts (is_active h e.process && eqb e.op (op_of courses e.process e.step)) (if e.undo then is_of_last (backward_entries courses h e.process) e else goes_on courses h e.process e.step) keeps in
       let parts = and_parts (is_active h e.process) (eqb e.op (op_of courses e.process e.step)) first.0 in
       (parts.0, eqb-true e.op (op_of courses e.process e.step) parts.1)
 

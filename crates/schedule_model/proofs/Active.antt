@@ -4,7 +4,7 @@ use Rattle.std.proofs.lemmas.Bool.{eqb-true}
 use Rattle.schedule_model.specs.declared.event.Event.{Event}
 use Rattle.schedule_model.specs.Course.{Course}
 use Rattle.schedule_model.specs.Histories.{is_in, is_active, active, starts, ends, net}
-use Rattle.schedule_model.specs.Completion.{is_to_undo, all_undoable, completion}
+use Rattle.schedule_model.specs.Completion.{is_to_undo, all_backward_entries, completion}
 
 is_in-step : (p : ℕ → Bool) (i x : ℕ) (ys : List ℕ) (e a b : Bool) → eqb i x ≡ e → p x ≡ a → is_in i ys ≡ (b && p i)
     → is_in i (cond a (x ∷ ys) ys) ≡ ((e || b) && p i)
@@ -29,9 +29,9 @@ filter_none p [] none = refl
 filter_none p (x ∷ xs) none = rw (none x) (filter_none p xs none)
 
 -- where no process is active, there is nothing to undo
-pub all_undoable-none : (courses : List Course) (h : List Event) → active h ≡ [] → all_undoable courses h ≡ []
-all_undoable-none courses h none = filter_none (is_to_undo courses h) (net h) (λ e. rw (sym (is_active-is_in h e.process), none) refl)
+pub all_backward_entries-none : (courses : List Course) (h : List Event) → active h ≡ [] → all_backward_entries courses h ≡ []
+all_backward_entries-none courses h none = filter_none (is_to_undo courses h) (net h) (λ e. rw (sym (is_active-is_in h e.process), none) refl)
 
 -- and completion adds nothing
 pub completion-none : (courses : List Course) (h : List Event) → active h ≡ [] → completion courses h ≡ []
-completion-none courses h none = rw (all_undoable-none courses h none, none) refl
+completion-none courses h none = rw (all_backward_entries-none courses h none, none) refl

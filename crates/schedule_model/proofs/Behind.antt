@@ -1,12 +1,13 @@
 -- What stands behind an entry: in two lists one after another, in a part of a list, and where the list is split at it.
 use Rattle.std.proofs.Common.{◌≡◌, inl, inr, Bool, true, false, not, cond, eqb, ◌&&◌, ◌||◌, List, [], ◌∷◌, ◌++◌, filter, sym, refl, ap, ◌∙◌, subst}
 use Rattle.std.specs.List.{list_any, list_all}
-use Rattle.std.proofs.lemmas.Bool.{and_parts, and_from, eq-eqb, eqb-true, ne_eqb, eqb-false, not-true}
+use Rattle.std.proofs.lemmas.Bool.{and_parts, and_from, eq-eqb, eqb-true, not-true}
 use Rattle.process_tree.specs.declared.entry.Entry.{Entry}
 use Rattle.schedule_model.specs.Histories.{same_step}
 use Rattle.schedule_model.specs.Holdings.{behind}
 use Rattle.schedule_model.proofs.Members.{Among, not_any, all-among}
 use Rattle.schedule_model.proofs.Apart.{Apart}
+use Rattle.schedule_model.proofs.Conflicts.{same_either_way}
 
 -- an entry of the same step as itself
 pub same_step-itself : (e : Entry) → same_step e e ≡ true
@@ -66,14 +67,10 @@ pub among_behind : (x y : Entry) (es : List Entry) → Among y (behind x es) →
 among_behind x y [] is = absurd is
 among_behind x y (e ∷ es) is = among_step x y e es (same_step x e) (among_behind x y es) is
 
-either_way : (a b : _) (t : Bool) → eqb a b ≡ t → eqb b a ≡ t
-either_way a b true is = eq-eqb b a (sym (eqb-true a b is))
-either_way a b false is = ne_eqb b a (λ same. eqb-false a b is (sym same))
-
 pub same_step-symmetric : (x y : Entry) → same_step x y ≡ same_step y x
 same_step-symmetric x y =
-    ap (λ t. t && eqb x.step y.step) (sym (either_way x.process y.process (eqb x.process y.process) refl))
-    ∙ ap (λ t. eqb y.process x.process && t) (sym (either_way x.step y.step (eqb x.step y.step) refl))
+    ap (λ t. t && eqb x.step y.step) (sym (same_either_way x.process y.process (eqb x.process y.process) refl))
+    ∙ ap (λ t. eqb y.process x.process && t) (sym (same_either_way x.step y.step (eqb x.step y.step) refl))
 
 -- entries of one step are entries of one process
 pub same_step-process : (x y : Entry) → same_step x y ≡ true → x.process ≡ y.process

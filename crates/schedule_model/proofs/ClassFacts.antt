@@ -5,7 +5,7 @@ use Rattle.std.specs.Prelude.{nat_lt}
 use Rattle.std.proofs.lemmas.Bool.{and_parts}
 use Rattle.process_tree.specs.declared.entry.Entry.{Entry}
 use Rattle.process_tree.specs.Shape.{Shape, kind_of, commits, can_be_refused, fixed_len, goes_on_to}
-use Rattle.process_tree.specs.Recovery.{reserved, undoable as undoable_class, forward}
+use Rattle.process_tree.specs.Recovery.{reserved, undoable, forward}
 use Rattle.process_tree.specs.Laws.{HasClass}
 use Rattle.process_tree.proofs.TreeLaws.{next_steps_have_a_class, paths_lie_in_order}
 use Rattle.process_tree.proofs.InTurn.{arrive_on}
@@ -16,7 +16,7 @@ use Rattle.schedule_model.specs.Histories.{doing, net_of, net_steps, done_steps,
 use Rattle.schedule_model.specs.Legal.{class_in}
 use Rattle.schedule_model.specs.Laws.{ClassFacts, ClassFactsHold}
 use Rattle.schedule_model.proofs.GoodPlans.{HasGoodPlan, good_if_goes_on}
-use Rattle.schedule_model.proofs.Recoveries.{undoable-commit, undoable-do, owed-do, net_steps-do}
+use Rattle.schedule_model.proofs.Recoveries.{backward_entries-commit, backward_entries-do, owed-do, net_steps-do}
 use Rattle.schedule_model.proofs.Undoing.{owed-stays}
 
 -- entries have no tail where their steps have none
@@ -42,22 +42,22 @@ module _ (courses : List Course) (h : List Event) (i b : ℕ) (plan : HasGoodPla
   reserved_never_refused : class_in courses h i b ≡ reserved → can_be_refused (kind_of t b) ≡ false
   reserved_never_refused is = ap can_be_refused (class.reserved_is_retriable is)
 
-  undoable_not_commits : class_in courses h i b ≡ undoable_class → commits (kind_of t b) ≡ false
+  undoable_not_commits : class_in courses h i b ≡ undoable → commits (kind_of t b) ≡ false
   undoable_not_commits is = ap commits (class.undoable_is_compensatable is)
 
   pub facts : ClassFacts courses h after i b
   facts = record {
     reserved_before = λ is. no_tail (net_of h i) (fixed_len t (net_steps h i)) (class.nothing_to_undo is);
-    reserved_after = λ is. undoable-commit courses h (doing courses i b) refl (reserved_commits is);
+    reserved_after = λ is. backward_entries-commit courses h (doing courses i b) refl (reserved_commits is);
     reserved_owes = λ is. ap (map (doing courses i)) (class.owed_first is)
         ∙ ap (λ w. doing courses i b ∷ map (doing courses i) (forward t w)) (sym (net_steps-do h (doing courses i b) refl));
     reserved_succeeds = reserved_never_refused;
     reserved_without_outcome = λ is.
         let laid = paths_lie_in_order t plan.tree in
         arrive_on t (length t.kinds) (net_steps h i) b refl laid.rising laid.within on (reserved_never_refused is);
-    committing_after = λ is. undoable-commit courses h (doing courses i b) refl (class.committing_commits is);
+    committing_after = λ is. backward_entries-commit courses h (doing courses i b) refl (class.committing_commits is);
     committing_owes = λ is. owed-do courses h (doing courses i b) refl;
-    undoable_after = λ is. undoable-do courses h (doing courses i b) refl (undoable_not_commits is);
+    undoable_after = λ is. backward_entries-do courses h (doing courses i b) refl (undoable_not_commits is);
     undoable_owes = λ is. owed-stays courses h (doing courses i b) refl (undoable_not_commits is);
   }
 

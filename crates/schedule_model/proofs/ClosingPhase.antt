@@ -1,8 +1,9 @@
 -- Completion after an owed step, and after an end, is the rest of it.
-use Rattle.std.proofs.Common.{◌≡◌, ℕ, Bool, true, false, not, cond, eqb, ◌&&◌, List, [], ◌∷◌, ◌++◌, map, filter, reverse, length, sym, refl, ap, ◌∙◌, subst, arith}
+use Rattle.std.proofs.Common.{◌≡◌, ℕ, Bool, true, false, not, cond, eqb, ◌&&◌, List, [], ◌∷◌, ◌++◌, map, filter, reverse, sym, refl, ap, ◌∙◌, subst}
+use Rattle.std.proofs.Math.Bool.{and-false}
 use Rattle.std.specs.Bool.{IsTrue}
 use Rattle.std.specs.List.{list_any, list_all, flat_map}
-use Rattle.std.proofs.lemmas.Bool.{eq-eqb, eqb-true, and_parts, false≢true, not-true, ne_eqb, eqb-false}
+use Rattle.std.proofs.lemmas.Bool.{eq-eqb, eqb-true, and_parts, false≢true, not-true}
 use Rattle.std.proofs.lemmas.List.Elements.{filter-append}
 use Rattle.process_tree.specs.declared.entry.Entry.{Entry}
 use Rattle.process_tree.specs.Shape.{commits, kind_of}
@@ -10,31 +11,19 @@ use Rattle.schedule_model.specs.declared.event.Event.{Event}
 use Rattle.schedule_model.specs.declared.event.Event.TheVariants.{Act, End}
 use Rattle.schedule_model.specs.Course.{Course, shape}
 use Rattle.schedule_model.specs.Histories.{active, is_active, is_in, net, same_step, doing, undoing}
-use Rattle.schedule_model.specs.Recovery.{undoable, owed, owed_after}
-use Rattle.schedule_model.specs.Completion.{is_to_undo, all_undoable, closing, completion}
-use Rattle.schedule_model.proofs.Snoc.{net-do, net-end, net_of-other, net_of-end, undoable-by_net, owed-by_net, is_active-do, active-do, active-end}
+use Rattle.schedule_model.specs.Recovery.{backward_entries, owed, owed_after}
+use Rattle.schedule_model.specs.Completion.{is_to_undo, all_backward_entries, closing, completion}
+use Rattle.schedule_model.proofs.Snoc.{net-do, net-end, net_of-other, net_of-end, backward_entries-by_net, owed-by_net, is_active-do, active-do, active-end}
 use Rattle.schedule_model.proofs.Active.{is_active-is_in, is_in-filter}
-use Rattle.schedule_model.proofs.Recoveries.{undoable-commit, owed-do}
+use Rattle.schedule_model.proofs.Recoveries.{backward_entries-commit, owed-do}
+use Rattle.schedule_model.proofs.Conflicts.{same_either_way}
+use Rattle.schedule_model.proofs.Members.{filter-none, none_pass}
 
-and_false : (a : Bool) → (a && false) ≡ false
-and_false true = refl
-and_false false = refl
-
--- a filter that lets nothing of a list through: each of it fails
-each_fails_step : {X : Type 0} (p : X → Bool) (x : X) (ys : List X) (t : Bool) → p x ≡ t → cond t (x ∷ ys) ys ≡ [] → (p x ≡ false) × (ys ≡ [])
-each_fails_step p x ys true is none = absurd (cons_none x ys none)
-  where
-    cons_none : {X : Type 0} (x : X) (ys : List X) → x ∷ ys ≡ [] → ⊥
-    cons_none x ys e = let l = ap length e in omega arith
-each_fails_step p x ys false is none = (is, none)
-
+-- where nothing passes, nothing passes a test that is harder
 none_through : {X : Type 0} (p q : X → Bool) (xs : List X) → ((x : X) → p x ≡ false → q x ≡ false) → filter p xs ≡ [] → filter q xs ≡ []
-none_through p q [] h none = refl
-none_through p q (x ∷ xs) h none =
-    let parts = each_fails_step p x (filter p xs) (p x) refl none in
-    rw (h x parts.0) (none_through p q xs h parts.1)
+none_through p q xs h none = filter-none q xs (λ x is. h x (none_pass p xs none x is))
 
-module _ (courses : List Course) (h : List Event) (i : ℕ) (others : List ℕ) (first : active h ≡ i ∷ others) (undone : all_undoable courses h ≡ []) where
+module _ (courses : List Course) (h : List Event) (i : ℕ) (others : List ℕ) (first : active h ≡ i ∷ others) (undone : all_backward_entries courses h ≡ []) where
   module _ (b : ℕ) (rest : List Entry) (next : owed courses h i ≡ doing courses i b ∷ rest) (point : commits (kind_of (shape courses i) b) ≡ true)
       (then_owed : owed_after courses h i b ≡ rest) where
     abbrev then_done : List Event
@@ -43,18 +32,18 @@ module _ (courses : List Course) (h : List Event) (i : ℕ) (others : List ℕ) 
     other_fails : (e : Entry) (own : Bool) → eqb i e.process ≡ own → is_to_undo courses h e ≡ false → is_to_undo courses then_done e ≡ false
     other_fails e true own fails =
         let same = eqb-true i e.process own in
-        ap (λ us. is_active then_done e.process && list_any (same_step e) us) (subst (λ k. undoable courses then_done k ≡ []) same (undoable-commit courses h (doing courses i b) refl point))
-        ∙ and_false (is_active then_done e.process)
+        ap (λ us. is_active then_done e.process && list_any (same_step e) us) (subst (λ k. backward_entries courses then_done k ≡ []) same (backward_entries-commit courses h (doing courses i b) refl point))
+        ∙ and-false (is_active then_done e.process)
     other_fails e false own fails =
-        ap (λ a. a && list_any (same_step e) (undoable courses then_done e.process)) (is_active-do h (doing courses i b) e.process)
-        ∙ (ap (λ us. is_active h e.process && list_any (same_step e) us) (undoable-by_net courses then_done h e.process (net_of-other h (doing courses i b) e.process own))
+        ap (λ a. a && list_any (same_step e) (backward_entries courses then_done e.process)) (is_active-do h (doing courses i b) e.process)
+        ∙ (ap (λ us. is_active h e.process && list_any (same_step e) us) (backward_entries-by_net courses then_done h e.process (net_of-other h (doing courses i b) e.process own))
         ∙ fails)
 
     own_fails : is_to_undo courses then_done (doing courses i b) ≡ false
-    own_fails = ap (λ us. is_active then_done i && list_any (same_step (doing courses i b)) us) (undoable-commit courses h (doing courses i b) refl point) ∙ and_false (is_active then_done i)
+    own_fails = ap (λ us. is_active then_done i && list_any (same_step (doing courses i b)) us) (backward_entries-commit courses h (doing courses i b) refl point) ∙ and-false (is_active then_done i)
 
     -- nothing is to be undone after the step
-    undone_after : all_undoable courses then_done ≡ []
+    undone_after : all_backward_entries courses then_done ≡ []
     undone_after =
         ap (filter (is_to_undo courses then_done)) (net-do h (doing courses i b) refl)
         ∙ (filter-append (is_to_undo courses then_done) (net h) (doing courses i b ∷ [])
@@ -102,25 +91,21 @@ module _ (courses : List Course) (h : List Event) (i : ℕ) (others : List ℕ) 
 
     end_fails : (e : Entry) → is_to_undo courses h e ≡ false → is_to_undo courses then_ended e ≡ false
     end_fails e fails =
-        ap (λ us. is_active then_ended e.process && list_any (same_step e) us) (undoable-by_net courses then_ended h e.process (net_of-end h i e.process))
-        ∙ (ap (λ a. a && list_any (same_step e) (undoable courses h e.process)) (still_active e.process)
-        ∙ fails_still (is_active h e.process) (not (eqb e.process i)) (list_any (same_step e) (undoable courses h e.process)) fails)
+        ap (λ us. is_active then_ended e.process && list_any (same_step e) us) (backward_entries-by_net courses then_ended h e.process (net_of-end h i e.process))
+        ∙ (ap (λ a. a && list_any (same_step e) (backward_entries courses h e.process)) (still_active e.process)
+        ∙ fails_still (is_active h e.process) (not (eqb e.process i)) (list_any (same_step e) (backward_entries courses h e.process)) fails)
 
     -- nothing is to be undone after the end
-    undone_at_end : all_undoable courses then_ended ≡ []
+    undone_at_end : all_backward_entries courses then_ended ≡ []
     undone_at_end =
         ap (filter (is_to_undo courses then_ended)) (net-end h i)
         ∙ none_through (is_to_undo courses h) (is_to_undo courses then_ended) (net h) end_fails undone
-
-    either_way : (a b : ℕ) (t : Bool) → eqb a b ≡ t → eqb b a ≡ t
-    either_way a b true is = eq-eqb b a (sym (eqb-true a b is))
-    either_way a b false is = ne_eqb b a (λ same. eqb-false a b is (sym same))
 
     others_stay : (ks : List ℕ) → IsTrue (list_all (λ k. not (eqb i k)) ks) → filter (λ k. not (eqb k i)) ks ≡ ks
     others_stay [] all = refl
     others_stay (k ∷ ks) all =
         let parts = and_parts (not (eqb i k)) (list_all (λ j. not (eqb i j)) ks) all in
-        ap (λ t. cond (not t) (k ∷ filter (λ j. not (eqb j i)) ks) (filter (λ j. not (eqb j i)) ks)) (either_way i k false (not-true (eqb i k) parts.0))
+        ap (λ t. cond (not t) (k ∷ filter (λ j. not (eqb j i)) ks) (filter (λ j. not (eqb j i)) ks)) (same_either_way i k false (not-true (eqb i k) parts.0))
         ∙ ap (λ js. k ∷ js) (others_stay ks parts.1)
 
     active_at_end : IsTrue (list_all (λ k. not (eqb i k)) others) → active then_ended ≡ others

@@ -1,36 +1,36 @@
 -- The first event of a completion keeps own order, and what comes after it is the completion of the history with it.
-use Rattle.std.proofs.Common.{◌≡◌, ◌⊎◌, inl, inr, ⊎_elim, ℕ, zero, suc, ◌+◌, Bool, true, false, not, eqb, ltb, ◌&&◌, if◌then◌else◌, List, [], ◌∷◌, ◌++◌, length, map, filter, drop, sym, refl, ap, ◌∙◌, subst, arith}
+use Rattle.std.proofs.Common.{◌≡◌, ◌⊎◌, inl, inr, ⊎_elim, ℕ, zero, suc, true, not, eqb, ltb, ◌&&◌, List, [], ◌∷◌, ◌++◌, length, map, drop, sym, refl, ap, ◌∙◌, subst, arith}
 use Rattle.std.specs.Bool.{IsTrue}
-use Rattle.std.specs.List.{All, list_all}
-use Rattle.std.proofs.lemmas.Bool.{and_parts, and_from, eq-eqb, or_left, false≢true}
+use Rattle.std.specs.List.{list_all}
+use Rattle.std.proofs.lemmas.Bool.{and_from, eq-eqb, or_left}
 use Rattle.std.proofs.lemmas.List.Elements.{All-contains}
 use Rattle.process_tree.specs.declared.entry.Entry.{Entry}
 use Rattle.process_tree.specs.declared.plan.Plan.{Plan}
-use Rattle.process_tree.specs.Shape.{Shape, kind_of, commits, fixed_len, goes_on_to, is_end}
+use Rattle.process_tree.specs.Shape.{fixed_len, goes_on_to, is_end}
 use Rattle.process_tree.specs.Recovery.{forward, reserved}
 use Rattle.process_tree.proofs.TreeLaws.{paths_lie_in_order}
 use Rattle.schedule_model.specs.declared.event.Event.{Event}
 use Rattle.schedule_model.specs.declared.event.Event.TheVariants.{Act, End}
 use Rattle.schedule_model.specs.Course.{Course, courses_of, shape, op_of}
 use Rattle.schedule_model.specs.Conflict.{no_conflict}
-use Rattle.schedule_model.specs.Histories.{acts, active, is_active, is_in, doing, undoing, net, net_of, net_acts, net_steps, done_steps, of_process, steps_of}
-use Rattle.schedule_model.specs.Recovery.{undoable, owed, owed_steps, owed_after}
-use Rattle.schedule_model.specs.Completion.{all_undoable, is_to_undo, completion}
+use Rattle.schedule_model.specs.Histories.{acts, active, is_active, is_in, doing, undoing, net, net_of, net_steps, done_steps, of_process, steps_of}
+use Rattle.schedule_model.specs.Recovery.{backward_entries, owed, owed_steps}
+use Rattle.schedule_model.specs.Completion.{all_backward_entries, is_to_undo, completion}
 use Rattle.schedule_model.specs.OwnOrder.{keeps_order, goes_on, is_at_end, is_of_last}
 use Rattle.schedule_model.specs.Legal.{is_legal, class_in}
 use Rattle.schedule_model.specs.Laws.{AreGood}
-use Rattle.schedule_model.proofs.Members.{Among, among-filter, contains-from_among}
+use Rattle.schedule_model.proofs.Members.{Among, among-filter, contains-from_among, among_there}
 use Rattle.schedule_model.proofs.Entries.{HasPlansOperation, acts-of_plans, All-net_acts}
 use Rattle.schedule_model.proofs.Active.{is_active-is_in, completion-none}
 use Rattle.schedule_model.proofs.Apart.{net-apart}
 use Rattle.schedule_model.proofs.Starts.{active-apart}
 use Rattle.schedule_model.proofs.Recoveries.{owed-do}
-use Rattle.schedule_model.proofs.UndoPhase.{is_active_one, undo_of_last, completion-after_undo, all_undoable-of}
+use Rattle.schedule_model.proofs.UndoPhase.{is_active_one, undo_of_last, completion-after_undo, all_backward_entries-of}
 use Rattle.schedule_model.proofs.ClosingPhase.{completion-after_owed, completion-after_end}
-use Rattle.schedule_model.proofs.GoodPlans.{HasGoodPlan, good_if_goes_on}
+use Rattle.schedule_model.proofs.GoodPlans.{good_if_goes_on}
 use Rattle.schedule_model.proofs.ClassFacts.{facts, reserved_commits}
-use Rattle.schedule_model.proofs.OwedPaths.{owed_goes_on, owed_is_reserved, first_owed, at_end, take_all}
-use Rattle.schedule_model.proofs.NetPaths.{IsBranch, net-branch, done-below_owed, steps_of-doing}
+use Rattle.schedule_model.proofs.OwedPaths.{owed_is_reserved, first_owed, at_end, take_all}
+use Rattle.schedule_model.proofs.NetPaths.{IsBranch, net-branch, done-below_owed}
 
 -- a list is empty, or has a last
 pub last_or_none : {X : Type 0} (xs : List X) → (xs ≡ []) ⊎ ((front : List X) × (x : X) × (xs ≡ front ++ x ∷ []))
@@ -38,9 +38,18 @@ last_or_none [] = inl refl
 last_or_none (x ∷ xs) =
     ⊎_elim (λ none. inr ([], x, ap (λ ys. x ∷ ys) none)) (λ some. inr (x ∷ some.0, some.1, ap (λ ys. x ∷ ys) some.2)) (last_or_none xs)
 
+-- what the first event of a completion is: the undo of the last that is to be undone; or, where nothing is, a step that
+-- an active process owes, or an end
+abbrev pub WhatComes : List Course → List Event → Event → Type 0
+WhatComes courses h event =
+    ((front : List Entry) × (x : Entry) × (event ≡ Act (undoing x)) × (all_backward_entries courses h ≡ front ++ x ∷ []))
+    ⊎ (((i : ℕ) × (b : ℕ) × (event ≡ Act (doing courses i b)) × IsTrue (is_active h i) × (class_in courses h i b ≡ reserved) × Among (doing courses i b) (owed courses h i))
+    ⊎ ((i : ℕ) × (event ≡ End i) × IsTrue (is_active h i) × (backward_entries courses h i ≡ [])))
+
 -- the first event of a completion, and the rest of it
 pub record First (courses : List Course) (h : List Event) : Type 0 where
   pub event : Event
+  pub what : WhatComes courses h event
   pub rest : completion courses h ≡ event ∷ completion courses (h ++ event ∷ [])
   pub keeps : IsTrue (keeps_order courses h event)
 
@@ -58,28 +67,25 @@ module _ (plans : List Plan) (good : AreGood plans) (h : List Event) (legal : Is
       All-contains (HasPlansOperation cs) (net h) x (All-net_acts (HasPlansOperation cs) (acts h) (acts-of_plans no_conflict cs h legal)) (contains-from_among x (net h) is)
 
   -- An undo comes first.
-  first_undo : (front : List Entry) (x : Entry) → all_undoable cs h ≡ front ++ x ∷ [] → First cs h
+  first_undo : (front : List Entry) (x : Entry) → all_backward_entries cs h ≡ front ++ x ∷ [] → First cs h
   first_undo front x last =
-      let there : Among x (net h) = (among-filter (is_to_undo cs h) x (net h) (subst (Among x) (sym last) (last_among front x))).0 in
+      let there : Among x (net h) = (among-filter (is_to_undo cs h) x (net h) (subst (Among x) (sym last) (among_there front x []))).0 in
       record {
         event = Act (undoing x);
+        what = inl (front, x, refl, last);
         rest = completion-after_undo no_conflict cs h legal front x last;
-        keeps = and_from (is_active h x.process && eqb x.op (op_of cs x.process x.step)) (is_of_last (undoable cs h x.process) (undoing x))
+        keeps = and_from (is_active h x.process && eqb x.op (op_of cs x.process x.step)) (is_of_last (backward_entries cs h x.process) (undoing x))
             (and_from (is_active h x.process) (eqb x.op (op_of cs x.process x.step)) (is_active_one no_conflict cs h legal front x last) (eq-eqb x.op (op_of cs x.process x.step) (net-of_plans x there)))
             (undo_of_last no_conflict cs h legal front x last);
       }
-    where
-      last_among : (front : List Entry) (x : Entry) → Among x (front ++ x ∷ [])
-      last_among [] x = inl refl
-      last_among (y ∷ front) x = inr (last_among front x)
 
-  module _ (undone : all_undoable cs h ≡ []) where
+  module _ (undone : all_backward_entries cs h ≡ []) where
     -- nothing of an active process is to be undone
-    pub nothing_undoable : (i : ℕ) → IsTrue (is_active h i) → undoable cs h i ≡ []
-    nothing_undoable i goes = sym (all_undoable-of cs h i (net-apart no_conflict cs h legal) goes) ∙ ap (of_process i) undone
+    pub nothing_to_undo : (i : ℕ) → IsTrue (is_active h i) → backward_entries cs h i ≡ []
+    nothing_to_undo i goes = sym (all_backward_entries-of cs h i (net-apart no_conflict cs h legal) goes) ∙ ap (of_process i) undone
 
     steps_fixed : (i : ℕ) → IsTrue (is_active h i) → drop (fixed_len (shape cs i) (net_steps h i)) (net_steps h i) ≡ []
-    steps_fixed i goes = no_steps (net_of h i) (fixed_len (shape cs i) (net_steps h i)) (nothing_undoable i goes)
+    steps_fixed i goes = no_steps (net_of h i) (fixed_len (shape cs i) (net_steps h i)) (nothing_to_undo i goes)
       where
         no_steps : (es : List Entry) (n : ℕ) → drop n es ≡ [] → drop n (steps_of es) ≡ []
         no_steps [] zero none = refl
@@ -106,6 +112,7 @@ module _ (plans : List Plan) (good : AreGood plans) (h : List Event) (legal : Is
       first_end : owed_steps cs h i ≡ [] → First cs h
       first_end owes = record {
         event = End i;
+        what = inr (inr (i, refl, goes, nothing_to_undo i goes));
         rest = completion-after_end cs h i others first undone (ap (map (doing cs i)) owes) apart;
         keeps = and_from (is_active h i) (is_at_end cs h i) goes (ended (net_steps h i) refl (net-branch cs i h legal) (steps_fixed i goes) owes);
       }
@@ -123,6 +130,7 @@ module _ (plans : List Plan) (good : AreGood plans) (h : List Event) (legal : Is
           let after = h ++ Act (doing cs i b) ∷ [] in
           record {
             event = Act (doing cs i b);
+            what = inr (inl (i, b, refl, goes, class, subst (Among (doing cs i b)) (sym (does.reserved_owes class)) (inl refl)));
             rest = completion-after_owed cs h i others first undone b (owed cs after i) (does.reserved_owes class) (reserved_commits cs h i b plan on class)
                 (sym (owed-do cs h (doing cs i b) refl)) apart;
             keeps = and_from (is_active h i && eqb (op_of cs i b) (op_of cs i b)) (goes_on cs h i b)
@@ -144,4 +152,4 @@ module _ (plans : List Plan) (good : AreGood plans) (h : List Event) (legal : Is
   -- a completion is empty, or begins with an event that keeps own order
   pub completes : Completes cs h
   completes =
-      ⊎_elim (λ none. by_active none (active h) refl) (λ some. inr (first_undo some.0 some.1 some.2)) (last_or_none (all_undoable cs h))
+      ⊎_elim (λ none. by_active none (active h) refl) (λ some. inr (first_undo some.0 some.1 some.2)) (last_or_none (all_backward_entries cs h))

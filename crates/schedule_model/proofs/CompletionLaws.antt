@@ -1,8 +1,9 @@
 -- A completed history is in own order, nobody is active in it, and each process is at an end; cut off on the way, it is
 -- completed to the same.
-use Rattle.std.proofs.Common.{◌≡◌, ◌⊎◌, inl, inr, ⊎_elim, ℕ, zero, suc, ◌+◌, Bool, true, false, not, eqb, ◌&&◌, ◌||◌, List, [], ◌∷◌, ◌++◌, length, sym, refl, ap, ◌∙◌, subst, arith, append-nil, append_assoc}
+use Rattle.std.proofs.Common.{◌≡◌, ◌⊎◌, inl, inr, ⊎_elim, ℕ, zero, suc, Bool, true, false, not, eqb, ◌&&◌, List, [], ◌∷◌, ◌++◌, length, sym, refl, ap, ◌∙◌, subst, arith, append-nil, append_assoc}
+use Rattle.std.proofs.Math.Bool.{and-false}
 use Rattle.std.specs.Bool.{IsTrue}
-use Rattle.std.proofs.lemmas.Bool.{and_parts, and_from, or_cases, or_left, or_right, eqb-true, eq-eqb, cases_Bool, false≢true}
+use Rattle.std.proofs.lemmas.Bool.{and_from, or_cases, eqb-true, false≢true}
 use Rattle.process_tree.specs.declared.entry.Entry.{Entry}
 use Rattle.process_tree.specs.declared.plan.Plan.{Plan}
 use Rattle.process_tree.specs.Shape.{is_end}
@@ -20,8 +21,8 @@ use Rattle.schedule_model.proofs.Appends.{ends-append, is_in-append}
 use Rattle.schedule_model.proofs.Snoc.{net_of-other, net_of-start, net_of-end}
 use Rattle.schedule_model.proofs.Active.{is_active-is_in}
 use Rattle.schedule_model.proofs.Acting.{act_active, end_in_order, order_of}
-use Rattle.schedule_model.proofs.NoConflict.{legal-from_own_order, own_order-legal, may_come-no_conflict}
-use Rattle.schedule_model.proofs.CompletionFirst.{First, Completes, completes}
+use Rattle.schedule_model.proofs.NoConflict.{legal-from_own_order}
+use Rattle.schedule_model.proofs.CompletionFirst.{First, completes}
 
 -- Ended processes are at ends.
 
@@ -37,11 +38,7 @@ module _ (courses : List Course) where
 
   -- one that ended isn't active
   pub ended-inactive : (h : List Event) (i : ℕ) → IsTrue (is_in i (ends h)) → is_active h i ≡ false
-  ended-inactive h i is = ap (λ t. is_in i (starts h) && not t) is ∙ and_false (is_in i (starts h))
-    where
-      and_false : (a : Bool) → (a && false) ≡ false
-      and_false true = refl
-      and_false false = refl
+  ended-inactive h i is = ap (λ t. is_in i (starts h) && not t) is ∙ and-false (is_in i (starts h))
 
   -- so an entry that may come is of another
   pub ended-other : (table : ConflictRelation) (h : List Event) (e : Entry) (i : ℕ) → IsTrue (may_come table courses h (Act e)) → IsTrue (is_in i (ends h)) → eqb e.process i ≡ false
@@ -72,7 +69,7 @@ module _ (courses : List Course) where
   ended-at_ends h legal = by_legal no_conflict courses EndedAtEnds (λ g e before may at. ended_more g e may at) (λ i is. absurd (false≢true is)) h legal
 
   -- where nobody is active, each that started has ended
-  all_ended : (h : List Event) → active h ≡ [] → (i : ℕ) → IsTrue (is_in i (starts h)) → IsTrue (is_in i (ends h))
+  pub all_ended : (h : List Event) → active h ≡ [] → (i : ℕ) → IsTrue (is_in i (starts h)) → IsTrue (is_in i (ends h))
   all_ended h none i is = by_end (is_in i (ends h)) refl
     where
       by_end : (e : Bool) → is_in i (ends h) ≡ e → IsTrue (is_in i (ends h))

@@ -5,7 +5,8 @@ use Rattle.process_tree.specs.declared.entry.Entry.{Entry}
 use Rattle.schedule_model.specs.Conflict.{ConflictRelation, IsSymmetric, conflict}
 use Rattle.schedule_model.specs.Histories.{undoing}
 
-same_either_way : (a b : ℕ) (t : Bool) → eqb a b ≡ t → eqb b a ≡ t
+-- numbers are equal either way
+pub same_either_way : (a b : ℕ) (t : Bool) → eqb a b ≡ t → eqb b a ≡ t
 same_either_way a b true is = eq-eqb b a (sym (eqb-true a b is))
 same_either_way a b false is = ne_eqb b a (λ same. eqb-false a b is (sym same))
 
@@ -13,6 +14,10 @@ pub conflict-symmetric : (table : ConflictRelation) → IsSymmetric table → (a
 conflict-symmetric table both a b =
     ap (λ t. not t && table a.op b.op) (sym (same_either_way a.process b.process (eqb a.process b.process) refl))
     ∙ ap (λ t. not (eqb b.process a.process) && t) (both a.op b.op)
+
+-- what doesn't conflict one way doesn't the other way
+pub conflict-flipped : (table : ConflictRelation) → IsSymmetric table → (a b : Entry) → conflict table a b ≡ false → conflict table b a ≡ false
+conflict-flipped table both a b none = conflict-symmetric table both b a ∙ none
 
 pub conflict-differ : (table : ConflictRelation) (a b : Entry) → conflict table a b ≡ true → eqb a.process b.process ≡ false
 conflict-differ table a b is = not-true (eqb a.process b.process) (and_parts (not (eqb a.process b.process)) (table a.op b.op) is).0

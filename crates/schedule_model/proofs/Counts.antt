@@ -1,7 +1,7 @@
 -- How many elements of a list pass a test.
 use Rattle.std.proofs.Common.{◌≡◌, ℕ, ◌≤◌, ◌<◌, Bool, true, false, not, cond, eqb, ◌||◌, ◌&&◌, List, [], ◌∷◌, length, filter, sym, refl, ap, ◌∙◌, arith}
 use Rattle.std.specs.List.{list_any}
-use Rattle.std.proofs.lemmas.Bool.{eqb-true, eq-eqb, false≢true}
+use Rattle.std.proofs.lemmas.Bool.{eqb-true, eq-eqb, false≢true, or_left, or_right}
 use Rattle.schedule_model.specs.Histories.{is_in}
 
 -- in this file a test of p is weaker than one of r
@@ -51,14 +51,6 @@ all_step p k x ys xs true false b is same many most rest any = rest (omega arith
 pub all_pass : (p : ℕ → Bool) (xs : List ℕ) (k : ℕ) → length xs ≤ length (filter p xs) → is_in k xs ≡ true → p k ≡ true
 all_pass p [] k many any = absurd (false≢true any)
 all_pass p (x ∷ xs) k many any = all_step p k x (filter p xs) xs (p x) (eqb k x) (is_in k xs) refl refl many (length_filter-most p xs) (λ l i. all_pass p xs k l i) any
-
-or_right : (a b : Bool) → b ≡ true → (a || b) ≡ true
-or_right true b is = refl
-or_right false b is = is
-
-or_left : (a b : Bool) → a ≡ true → (a || b) ≡ true
-or_left true b is = refl
-or_left false b is = absurd (false≢true is)
 
 -- tests that agree on what is listed let the same through
 pub filter_same-in : (p q : ℕ → Bool) (xs : List ℕ) → ((k : ℕ) → is_in k xs ≡ true → p k ≡ q k) → filter p xs ≡ filter q xs

@@ -11,7 +11,7 @@ use Rattle.schedule_model.specs.declared.event.Event.TheVariants.{Start, Act, En
 use Rattle.schedule_model.specs.Course.{Course, course, op_of}
 use Rattle.schedule_model.specs.Conflict.{ConflictRelation}
 use Rattle.schedule_model.specs.Histories.{net, active, is_active, is_in, doing, net_of, net_steps, done_steps}
-use Rattle.schedule_model.specs.Recovery.{undoable, owed_after}
+use Rattle.schedule_model.specs.Recovery.{backward_entries, owed_after}
 use Rattle.schedule_model.specs.OwnOrder.{keeps_order, goes_on, is_at_end, is_of_last}
 use Rattle.schedule_model.specs.Holdings.{hold_at_rest, at_rest}
 use Rattle.schedule_model.specs.Blocking.{against_step, against_undo, against_end, all_clashes}
@@ -25,8 +25,8 @@ module _ (cs ds : List Course) where
 
   -- What is said of one process.
 
-  pub undoable-courses : (h : List Event) (i : ℕ) → SameCourse i → undoable cs h i ≡ undoable ds h i
-  undoable-courses h i same = ap (λ (c : Course). drop (fixed_len c.shape (net_steps h i)) (net_of h i)) same
+  pub backward_entries-courses : (h : List Event) (i : ℕ) → SameCourse i → backward_entries cs h i ≡ backward_entries ds h i
+  backward_entries-courses h i same = ap (λ (c : Course). drop (fixed_len c.shape (net_steps h i)) (net_of h i)) same
 
   pub doing-courses : (i b : ℕ) → SameCourse i → doing cs i b ≡ doing ds i b
   doing-courses i b same = ap (λ (c : Course). record { process = i; step = b; op = slice_index_or c.ops b 0; undo = false }) same
@@ -37,7 +37,7 @@ module _ (cs ds : List Course) where
     running = None;
     reserved = map (λ b. record { process = i; step = b; op = slice_index_or c.ops b 0; undo = false }) (forward c.shape (net_steps h i));
     pending = [];
-    undoable = drop (fixed_len c.shape (net_steps h i)) (net_of h i);
+    backward_entries = drop (fixed_len c.shape (net_steps h i)) (net_of h i);
   }) same
 
   all_holds : (h : List Event) (is : List ℕ) → ((i : ℕ) → IsTrue (is_in i is) → SameCourse i) → map (hold_at_rest cs h) is ≡ map (hold_at_rest ds h) is
@@ -56,8 +56,8 @@ module _ (cs ds : List Course) where
   -- What is said of one event.
 
   entry_by : (h : List Event) (e : Entry) (a : Bool) → (a ≡ true → SameCourse e.process)
-      → (a && eqb e.op (op_of cs e.process e.step) && (if e.undo then is_of_last (undoable cs h e.process) e else goes_on cs h e.process e.step))
-      ≡ (a && eqb e.op (op_of ds e.process e.step) && (if e.undo then is_of_last (undoable ds h e.process) e else goes_on ds h e.process e.step))
+      → (a && eqb e.op (op_of cs e.process e.step) && (if e.undo then is_of_last (backward_entries cs h e.process) e else goes_on cs h e.process e.step))
+      ≡ (a && eqb e.op (op_of ds e.process e.step) && (if e.undo then is_of_last (backward_entries ds h e.process) e else goes_on ds h e.process e.step))
   entry_by h e false same = refl
   entry_by h e true same = ap (λ (c : Course). eqb e.op (slice_index_or c.ops e.step 0)
       && (if e.undo then is_of_last (drop (fixed_len c.shape (net_steps h e.process)) (net_of h e.process)) e
@@ -88,7 +88,7 @@ module _ (cs ds : List Course) where
     act_by h e same false is = out cs ∙ sym (out ds)
       where
         out : (es : List Course) → may_come table es h (Act e) ≡ false
-        out es = ap (λ a. a && eqb e.op (op_of es e.process e.step) && (if e.undo then is_of_last (undoable es h e.process) e else goes_on es h e.process e.step) && is_clear table es h (Act e)) is
+        out es = ap (λ a. a && eqb e.op (op_of es e.process e.step) && (if e.undo then is_of_last (backward_entries es h e.process) e else goes_on es h e.process e.step) && is_clear table es h (Act e)) is
 
     pub may_come-courses : (h : List Event) (e : Event) → SameOfActive h → may_come table cs h e ≡ may_come table ds h e
     may_come-courses h (Start i) same = refl

@@ -1,7 +1,7 @@
 -- No net entry of an ended process conflicts with an earlier one of a process that is active, or ended after it.
-use Rattle.std.proofs.Common.{◌≡◌, ◌⊎◌, inl, inr, ⊎_elim, ℕ, Bool, true, false, not, cond, eqb, ◌&&◌, ◌||◌, List, [], ◌∷◌, ◌++◌, sym, refl, ap, ◌∙◌, subst, append-nil}
+use Rattle.std.proofs.Common.{◌≡◌, ◌⊎◌, inl, inr, ⊎_elim, ℕ, Bool, true, false, cond, eqb, ◌||◌, List, [], ◌∷◌, ◌++◌, sym, refl, ap, ◌∙◌, subst, append-nil}
 use Rattle.std.specs.Bool.{IsTrue}
-use Rattle.std.proofs.lemmas.Bool.{and_parts, and_from, eqb-true, eq-eqb, or_left, or_right, or_cases, false≢true}
+use Rattle.std.proofs.lemmas.Bool.{and_parts, eqb-true, or_left, or_right, or_cases, false≢true}
 use Rattle.process_tree.specs.declared.entry.Entry.{Entry}
 use Rattle.schedule_model.specs.declared.event.Event.{Event}
 use Rattle.schedule_model.specs.declared.event.Event.TheVariants.{Start, Act, End}
@@ -12,14 +12,13 @@ use Rattle.schedule_model.specs.Holdings.{behind}
 use Rattle.schedule_model.specs.Legal.{is_clear, may_come, is_legal, keeps_and_ends_clear, is_reducible}
 use Rattle.schedule_model.specs.OwnOrder.{keeps_order}
 use Rattle.schedule_model.proofs.Members.{Among}
-use Rattle.schedule_model.proofs.Behind.{among_behind}
 use Rattle.schedule_model.proofs.Appends.{ends-append, is_in-append}
-use Rattle.schedule_model.proofs.Conflicts.{conflict-symmetric}
+use Rattle.schedule_model.proofs.Conflicts.{conflict-flipped}
 use Rattle.schedule_model.proofs.Snoc.{net-start, net-end, is_active-do}
 use Rattle.schedule_model.proofs.Acting.{act_in_order, end_in_order}
-use Rattle.schedule_model.proofs.Clear.{EntriesApart, end-clear, in_active_net}
+use Rattle.schedule_model.proofs.Clear.{end-clear, in_active_net}
 use Rattle.schedule_model.proofs.Induction.{by_reducible}
-use Rattle.schedule_model.proofs.NoConflict.{reducible_keeps, legal-from_reducible, reducible-legal, may_come-no_conflict}
+use Rattle.schedule_model.proofs.NoConflict.{reducible_keeps, legal-from_reducible, may_come-no_conflict}
 use Rattle.schedule_model.proofs.CompletionLaws.{ended-inactive}
 use Rattle.schedule_model.proofs.Started.{net-started, active-before_start, active-before_end}
 use Rattle.schedule_model.proofs.NewSteps.{step-is_new}
@@ -53,9 +52,6 @@ after-last i k (x ∷ xs) out = last_step i k x xs (eqb i x) (after-last i k xs)
 module _ (table : ConflictRelation) (symmetric : IsSymmetric table) (courses : List Course) where
   abbrev pub EndedFree : List Event → Type 0
   EndedFree h = (x e : Entry) → IsTrue (is_in e.process (ends h)) → IsTrue (outlives h x.process e.process) → Among x (net h) → Among e (behind x (net h)) → conflict table x e ≡ false
-
-  flipped : (a b : Entry) → conflict table a b ≡ false → conflict table b a ≡ false
-  flipped a b is = conflict-symmetric table symmetric b a ∙ is
 
   -- the same is said where nobody ends and whoever is active was
   outlived-same : (h : List Event) (e : Event) (k i : ℕ) → ends (h ++ e ∷ []) ≡ ends h → (IsTrue (is_active (h ++ e ∷ []) k) → IsTrue (is_active h k))
@@ -162,13 +158,13 @@ module _ (table : ConflictRelation) (symmetric : IsSymmetric table) (courses : L
               let own = now_ended out in
               let x_goes = active-outlives x.process (sym (ap (λ i. is_in i (ends h)) own) ∙ out) (subst (λ i. IsTrue (outlives (h ++ End j ∷ []) x.process i)) own lives) in
               let e_goes : IsTrue (is_active h e.process) = ap (is_active h) own ∙ goes in
-              flipped e x (end-clear table courses h j clear x e (in_active_net courses h x x_in x_goes) (behind-active courses h x e x_goes e_goes back_in) own)
+              conflict-flipped table symmetric e x (end-clear table courses h j clear x e (in_active_net courses h x x_in x_goes) (behind-active courses h x e x_goes e_goes back_in) own)
 
   ended-more : (h : List Event) (e : Event) → IsTrue (is_reducible table courses h) → IsTrue (keeps_and_ends_clear table courses h e) → EndedFree h → EndedFree (h ++ e ∷ [])
-  ended-more h (Start k) reducible may free = ended-start h reducible free k
-  ended-more h (Act a) reducible may free = ended-act h reducible free a (reducible_keeps courses table h (Act a) may) a.undo refl
-  ended-more h (End k) reducible may free =
-      let parts = and_parts (keeps_order courses h (End k)) (is_clear table courses h (End k)) may in
+  ended-more h (Start k) reducible comes free = ended-start h reducible free k
+  ended-more h (Act a) reducible comes free = ended-act h reducible free a (reducible_keeps courses table h (Act a) comes) a.undo refl
+  ended-more h (End k) reducible comes free =
+      let parts = and_parts (keeps_order courses h (End k)) (is_clear table courses h (End k)) comes in
       ended-end h reducible free k (end_in_order courses h k parts.0).0 parts.1
 
   -- it holds of each reducible history

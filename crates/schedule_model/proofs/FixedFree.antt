@@ -1,31 +1,30 @@
 -- Before what an active process can't undo any more stands no net entry of another active process that conflicts.
-use Rattle.std.proofs.Common.{◌≡◌, ◌⊎◌, inl, inr, ⊎_elim, ℕ, Bool, true, false, not, cond, eqb, ◌&&◌, ◌||◌, List, [], ◌∷◌, ◌++◌, sym, refl, ap, ◌∙◌, subst}
+use Rattle.std.proofs.Common.{◌≡◌, inl, ⊎_elim, ℕ, Bool, true, false, eqb, ◌&&◌, ◌||◌, List, [], ◌∷◌, ◌++◌, sym, refl, ap, ◌∙◌, subst}
 use Rattle.std.specs.Bool.{IsTrue}
-use Rattle.std.specs.List.{list_any}
-use Rattle.std.proofs.lemmas.Bool.{and_parts, eqb-true, eq-eqb, or_left, or_right, false≢true}
+use Rattle.std.proofs.lemmas.Bool.{and_parts, eqb-true, or_left, or_right, false≢true}
 use Rattle.std.proofs.lemmas.List.Folds.{list_any-append}
 use Rattle.process_tree.specs.declared.entry.Entry.{Entry}
 use Rattle.process_tree.specs.declared.plan.Plan.{Plan}
-use Rattle.process_tree.specs.Recovery.{StepClass, reserved, committing, undoable as undoable_class}
+use Rattle.process_tree.specs.Recovery.{StepClass, reserved, committing, undoable}
 use Rattle.schedule_model.specs.declared.event.Event.{Event}
 use Rattle.schedule_model.specs.declared.event.Event.TheVariants.{Start, Act, End}
 use Rattle.schedule_model.specs.Course.{Course, courses_of}
 use Rattle.schedule_model.specs.Conflict.{ConflictRelation, IsSymmetric, conflict}
-use Rattle.schedule_model.specs.Histories.{doing, is_active, net, same_step}
-use Rattle.schedule_model.specs.Recovery.{undoable, owed}
-use Rattle.schedule_model.specs.Holdings.{at_rest, behind}
+use Rattle.schedule_model.specs.Histories.{is_active, net, same_step}
+use Rattle.schedule_model.specs.Recovery.{backward_entries, owed}
+use Rattle.schedule_model.specs.Holdings.{behind}
 use Rattle.schedule_model.specs.Legal.{class_in, may_come, is_legal}
 use Rattle.schedule_model.specs.Laws.{AreGood}
 use Rattle.schedule_model.proofs.Induction.{by_legal}
-use Rattle.schedule_model.proofs.Members.{Among, any-among}
-use Rattle.schedule_model.proofs.Behind.{has_step, among_behind, same_step-itself, same_step-symmetric}
-use Rattle.schedule_model.proofs.Conflicts.{conflict-symmetric}
-use Rattle.schedule_model.proofs.Snoc.{net-start, net-end, net_of-other, net_of-start, net_of-end, undoable-by_net, is_active-do}
+use Rattle.schedule_model.proofs.Members.{Among}
+use Rattle.schedule_model.proofs.Behind.{has_step, among_behind, same_step-itself}
+use Rattle.schedule_model.proofs.Conflicts.{conflict-flipped}
+use Rattle.schedule_model.proofs.Snoc.{net-start, net-end, net_of-other, net_of-start, net_of-end, backward_entries-by_net, is_active-do}
 use Rattle.schedule_model.proofs.Acting.{clear_of, act_active}
-use Rattle.schedule_model.proofs.Undoing.{Undoes, undoes}
+use Rattle.schedule_model.proofs.Undoing.{undoes}
 use Rattle.schedule_model.proofs.Clear.{committing-clear, in_active_net}
 use Rattle.schedule_model.proofs.Started.{net-started, active-before_start, active-before_end}
-use Rattle.schedule_model.proofs.OwedFree.{OwedFree, owed-free, is_doing, step-facts}
+use Rattle.schedule_model.proofs.OwedFree.{owed-free, is_doing, step-facts}
 use Rattle.schedule_model.proofs.Orders.{behind-undo, behind-do, behind-active}
 use Rattle.schedule_model.proofs.NewSteps.{step-is_new}
 
@@ -35,14 +34,11 @@ module _ (table : ConflictRelation) (symmetric : IsSymmetric table) (plans : Lis
 
   -- e can't be undone
   abbrev pub IsFixed : List Event → Entry → Type 0
-  IsFixed h e = has_step e (undoable cs h e.process) ≡ false
+  IsFixed h e = has_step e (backward_entries cs h e.process) ≡ false
 
   abbrev pub FixedFree : List Event → Type 0
   FixedFree h = (x e : Entry) → Among x (net h) → IsTrue (is_active h x.process) → Among e (net h) → IsTrue (is_active h e.process) → IsFixed h e
       → Among e (behind x (net h)) → conflict table x e ≡ false
-
-  flipped : (a b : Entry) → conflict table a b ≡ false → conflict table b a ≡ false
-  flipped a b is = conflict-symmetric table symmetric b a ∙ is
 
   module _ (h : List Event) (legal : IsTrue (is_legal table cs h)) (free : FixedFree h) where
     fixed-start : (k : ℕ) → FixedFree (h ++ Start k ∷ [])
@@ -50,13 +46,13 @@ module _ (table : ConflictRelation) (symmetric : IsSymmetric table) (plans : Lis
         let x_in = subst (Among x) (net-start h k) there in
         let e_in = subst (Among e) (net-start h k) here in
         free x e x_in (active-before_start h k x.process (net-started table cs h legal x x_in) goes) e_in (active-before_start h k e.process (net-started table cs h legal e e_in) acts)
-        (sym (ap (has_step e) (undoable-by_net cs (h ++ Start k ∷ []) h e.process (net_of-start h k e.process))) ∙ fixed)
+        (sym (ap (has_step e) (backward_entries-by_net cs (h ++ Start k ∷ []) h e.process (net_of-start h k e.process))) ∙ fixed)
         (subst (λ es. Among e (behind x es)) (net-start h k) back)
 
     fixed-end : (k : ℕ) → FixedFree (h ++ End k ∷ [])
     fixed-end k x e there goes here acts fixed back =
         free x e (subst (Among x) (net-end h k) there) (active-before_end h k x.process goes) (subst (Among e) (net-end h k) here) (active-before_end h k e.process acts)
-        (sym (ap (has_step e) (undoable-by_net cs (h ++ End k ∷ []) h e.process (net_of-end h k e.process))) ∙ fixed)
+        (sym (ap (has_step e) (backward_entries-by_net cs (h ++ End k ∷ []) h e.process (net_of-end h k e.process))) ∙ fixed)
         (subst (λ es. Among e (behind x es)) (net-end h k) back)
 
     module _ (a : Entry) (may : IsTrue (may_come table cs h (Act a))) where
@@ -68,7 +64,7 @@ module _ (table : ConflictRelation) (symmetric : IsSymmetric table) (plans : Lis
 
       -- what was fixed of another process still is, and the other way round
       fixed-other : (e : Entry) → eqb a.process e.process ≡ false → IsFixed after e → IsFixed h e
-      fixed-other e other fixed = sym (ap (has_step e) (undoable-by_net cs after h e.process (net_of-other h a e.process other))) ∙ fixed
+      fixed-other e other fixed = sym (ap (has_step e) (backward_entries-by_net cs after h e.process (net_of-other h a e.process other))) ∙ fixed
 
       -- An undo.
 
@@ -86,9 +82,9 @@ module _ (table : ConflictRelation) (symmetric : IsSymmetric table) (plans : Lis
       fixed-undone e undo other fixed true own =
           let same = eqb-true a.process e.process own in
           let taken = undoes table cs h a legal undo may in
-          let lost : undoable cs h e.process ≡ undoable cs after e.process ++ taken.last ∷ [] = subst (λ k. undoable cs h k ≡ undoable cs after k ++ taken.last ∷ []) same taken.undoable in
-          ap (has_step e) lost ∙ (list_any-append (same_step e) (undoable cs after e.process) (taken.last ∷ [])
-          ∙ neither (has_step e (undoable cs after e.process)) (same_step e taken.last) fixed (step_of_last taken.last e taken.same other))
+          let lost : backward_entries cs h e.process ≡ backward_entries cs after e.process ++ taken.last ∷ [] = subst (λ k. backward_entries cs h k ≡ backward_entries cs after k ++ taken.last ∷ []) same taken.backward_entries in
+          ap (has_step e) lost ∙ (list_any-append (same_step e) (backward_entries cs after e.process) (taken.last ∷ [])
+          ∙ neither (has_step e (backward_entries cs after e.process)) (same_step e taken.last) fixed (step_of_last taken.last e taken.same other))
 
       fixed-undo : a.undo ≡ true → FixedFree after
       fixed-undo undo x e there goes here acts fixed back =
@@ -126,20 +122,20 @@ module _ (table : ConflictRelation) (symmetric : IsSymmetric table) (plans : Lis
           let owes : owed cs h a.process ≡ a ∷ owed cs after a.process = does.reserved_owes is ∙ ap (λ d. d ∷ owed cs after a.process) (sym (is_doing table symmetric plans good h a is_step may)) in
           fixed-step is_step
           (λ x e there active here own fixed back.
-          free x e there active here (subst (λ k. IsTrue (is_active h k)) own goes) (of_none e (undoable cs h e.process) (subst (λ k. undoable cs h k ≡ []) own (does.reserved_before is))) back)
-          (λ x there active fixed. flipped a x ((owed-free table symmetric plans good h legal).from_net a.process a x goes (subst (Among a) (sym owes) (inl refl)) there active))
-      fixed-by_class is_step undoable_class is =
+          free x e there active here (subst (λ k. IsTrue (is_active h k)) own goes) (of_none e (backward_entries cs h e.process) (subst (λ k. backward_entries cs h k ≡ []) own (does.reserved_before is))) back)
+          (λ x there active fixed. conflict-flipped table symmetric a x ((owed-free table symmetric plans good h legal).from_net a.process a x goes (subst (Among a) (sym owes) (inl refl)) there active))
+      fixed-by_class is_step undoable is =
           let does = step-facts table symmetric plans good h a is_step may in
           let goes = act_active table cs h a may in
-          let adds : undoable cs after a.process ≡ undoable cs h a.process ++ a ∷ [] =
-          does.undoable_after is ∙ ap (λ d. undoable cs h a.process ++ d ∷ []) (sym (is_doing table symmetric plans good h a is_step may)) in
+          let adds : backward_entries cs after a.process ≡ backward_entries cs h a.process ++ a ∷ [] =
+          does.undoable_after is ∙ ap (λ d. backward_entries cs h a.process ++ d ∷ []) (sym (is_doing table symmetric plans good h a is_step may)) in
           fixed-step is_step
           (λ x e there active here own fixed back.
           free x e there active here (subst (λ k. IsTrue (is_active h k)) own goes)
-          (left_false (has_step e (undoable cs h e.process)) (has_step e (a ∷ []))
-          (sym (list_any-append (same_step e) (undoable cs h e.process) (a ∷ [])) ∙ (sym (ap (has_step e) (subst (λ k. undoable cs after k ≡ undoable cs h k ++ a ∷ []) own adds)) ∙ fixed))) back)
-          (λ x there active fixed. absurd (false≢true (sym fixed ∙ (ap (has_step a) adds ∙ (list_any-append (same_step a) (undoable cs h a.process) (a ∷ [])
-          ∙ or_right (has_step a (undoable cs h a.process)) (has_step a (a ∷ [])) (or_left (same_step a a) false (same_step-itself a)))))))
+          (left_false (has_step e (backward_entries cs h e.process)) (has_step e (a ∷ []))
+          (sym (list_any-append (same_step e) (backward_entries cs h e.process) (a ∷ [])) ∙ (sym (ap (has_step e) (subst (λ k. backward_entries cs after k ≡ backward_entries cs h k ++ a ∷ []) own adds)) ∙ fixed))) back)
+          (λ x there active fixed. absurd (false≢true (sym fixed ∙ (ap (has_step a) adds ∙ (list_any-append (same_step a) (backward_entries cs h a.process) (a ∷ [])
+          ∙ or_right (has_step a (backward_entries cs h a.process)) (has_step a (a ∷ [])) (or_left (same_step a a) false (same_step-itself a)))))))
         where
           left_false : (p q : Bool) → (p || q) ≡ false → p ≡ false
           left_false true q is = is
@@ -149,8 +145,8 @@ module _ (table : ConflictRelation) (symmetric : IsSymmetric table) (plans : Lis
           let goes = act_active table cs h a may in
           fixed-step is_step
           (λ x e there active here own fixed back.
-          flipped e x (clear.2 x e (in_active_net cs h x there active) (behind-active cs h x e active (subst (λ k. IsTrue (is_active h k)) own goes) back) (sym own)))
-          (λ x there active fixed. flipped a x (clear.1 x there active))
+          conflict-flipped table symmetric e x (clear.2 x e (in_active_net cs h x there active) (behind-active cs h x e active (subst (λ k. IsTrue (is_active h k)) own goes) back) (sym own)))
+          (λ x there active fixed. conflict-flipped table symmetric a x (clear.1 x there active))
 
       fixed-act : (u : Bool) → a.undo ≡ u → FixedFree after
       fixed-act true undo = fixed-undo undo

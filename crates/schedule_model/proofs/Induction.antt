@@ -1,6 +1,7 @@
 -- One principle for all that is said of a history by one test for each event: what holds of no events, and is kept by each
 -- event that passes, holds of the history.
 use Rattle.std.proofs.Common.{◌≡◌, ℕ, ◌+◌, Bool, true, false, cond, ◌&&◌, List, [], ◌∷◌, ◌++◌, length, Some, None, sym, refl, ap, ◌∙◌, subst, arith, append-nil, append_assoc}
+use Rattle.std.proofs.Math.Bool.{and-true}
 use Rattle.std.specs.Bool.{IsTrue}
 use Rattle.std.proofs.lemmas.Bool.{and_parts, and_from}
 use Rattle.schedule_model.specs.declared.event.Event.{Event}
@@ -13,10 +14,6 @@ use Rattle.schedule_model.specs.Legal.{may_come, is_legal, keeps_and_ends_clear,
 and_assoc : (a b c : Bool) → (a && (b && c)) ≡ ((a && b) && c)
 and_assoc true b c = refl
 and_assoc false b c = refl
-
-and_true : (a : Bool) → (a && true) ≡ a
-and_true true = refl
-and_true false = refl
 
 module _ (test : EventTest) where
   -- all pass where a beginning does, and the rest after that
@@ -32,7 +29,7 @@ module _ (test : EventTest) where
 
   -- one event more is one test more
   pub each_passes-push : (h : List Event) (e : Event) → each_passes test [] (h ++ e ∷ []) ≡ (each_passes test [] h && test h e)
-  each_passes-push h e = each_passes-append [] h (e ∷ []) ∙ ap (λ b. each_passes test [] h && b) (and_true (test h e))
+  each_passes-push h e = each_passes-append [] h (e ∷ []) ∙ ap (λ b. each_passes test [] h && b) (and-true (test h e))
 
   pub passes-push : (h : List Event) (e : Event) → IsTrue (each_passes test [] h) → IsTrue (test h e) → IsTrue (each_passes test [] (h ++ e ∷ []))
   passes-push h e all passes = each_passes-push h e ∙ and_from (each_passes test [] h) (test h e) all passes

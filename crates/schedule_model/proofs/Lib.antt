@@ -37,3 +37,9 @@ pub mod Orders
 pub mod NewSteps
 pub mod FixedFree
 pub mod EndedFree
+pub mod StandingLaws
+pub mod Places
+pub mod CancelPhase
+pub mod SerialPhase
+pub mod ReductionLaws
+pub mod Acyclic

@@ -21,6 +21,16 @@ module _ {X : Type 0} where
   among-right x [] ys is = is
   among-right x (y ∷ xs) ys is = inr (among-right x xs ys is)
 
+  -- one that a list is split at
+  pub among_there : (front : List X) (x : X) (rest : List X) → Among x (front ++ x ∷ rest)
+  among_there front x rest = among-right x front (x ∷ rest) (inl refl)
+
+  -- one more in the list
+  pub among-more : (x : X) (front : List X) (y : X) (rest : List X) → Among x (front ++ rest) → Among x (front ++ y ∷ rest)
+  among-more x [] y rest is = inr is
+  among-more x (z ∷ front) y rest (inl here) = inl here
+  among-more x (z ∷ front) y rest (inr later) = inr (among-more x front y rest later)
+
   pub among-append : (x : X) (xs ys : List X) → Among x (xs ++ ys) → Among x xs ⊎ Among x ys
   among-append x [] ys is = inr is
   among-append x (y ∷ xs) ys (inl here) = inl (inl here)

@@ -1,6 +1,6 @@
 -- In own order what stands of a process is the beginning of a whole path, and the first step that it owes is above each
 -- that took effect.
-use Rattle.std.proofs.Common.{◌≡◌, ◌⊎◌, inl, inr, ⊎_elim, ℕ, ◌+◌, ◌<◌, Bool, true, false, cond, eqb, ltb, ◌&&◌, List, [], ◌∷◌, ◌++◌, length, map, take, drop, sym, refl, ap, ◌∙◌, subst, arith, append-nil, length-append}
+use Rattle.std.proofs.Common.{◌≡◌, ◌⊎◌, inl, inr, ⊎_elim, ℕ, ◌+◌, ◌<◌, Bool, true, false, cond, eqb, ltb, ◌&&◌, List, [], ◌∷◌, ◌++◌, length, map, take, sym, refl, ap, ◌∙◌, subst, arith, append-nil, length-append}
 use Rattle.std.specs.Bool.{IsTrue}
 use Rattle.std.specs.List.{list_all}
 use Rattle.std.proofs.lemmas.Bool.{and_parts, and_from, eqb-true, ltb-true, lt-ltb}
@@ -8,7 +8,7 @@ use Rattle.std.proofs.lemmas.List.{map-append}
 use Rattle.std.proofs.lemmas.List.Folds.{list_all-append}
 use Rattle.process_tree.specs.declared.entry.Entry.{Entry}
 use Rattle.process_tree.specs.declared.plan.Plan.{Plan}
-use Rattle.process_tree.specs.Shape.{Shape, kind_of, commits, fixed_len, goes_on_to, is_end}
+use Rattle.process_tree.specs.Shape.{Shape, kind_of, commits, fixed_len, goes_on_to}
 use Rattle.process_tree.specs.Recovery.{forward}
 use Rattle.process_tree.proofs.Reached.{goes_before, last_cases}
 use Rattle.process_tree.proofs.InTurn.{goes_up}
@@ -25,12 +25,12 @@ use Rattle.schedule_model.specs.Laws.{AreGood}
 use Rattle.schedule_model.proofs.Induction.{by_legal}
 use Rattle.schedule_model.proofs.Appends.{done_steps-append}
 use Rattle.schedule_model.proofs.Snoc.{net_of-other, net_of-start, net_of-end, done_steps-do, done_steps-undo}
-use Rattle.schedule_model.proofs.Recoveries.{fixed_len-push, fixed_len-most, net_steps-do}
+use Rattle.schedule_model.proofs.Recoveries.{fixed_len-push, net_steps-do}
 use Rattle.schedule_model.proofs.Rising.{step_goes_on}
 use Rattle.schedule_model.proofs.Apart.{list_all-weaker}
-use Rattle.schedule_model.proofs.Undoing.{Undoes, undoes, owed_without}
+use Rattle.schedule_model.proofs.Undoing.{undoes, owed_without}
 use Rattle.schedule_model.proofs.GoodPlans.{HasGoodPlan, good_if_goes_on}
-use Rattle.schedule_model.proofs.OwedPaths.{FirstOwed, first_owed, below_owed}
+use Rattle.schedule_model.proofs.OwedPaths.{first_owed, below_owed}
 use Rattle.schedule_model.proofs.WithinLimits.{done_other}
 
 -- w is nothing, or goes along a whole path

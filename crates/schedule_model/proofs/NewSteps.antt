@@ -1,7 +1,6 @@
 -- A step that may come is of none of the steps that stand.
-use Rattle.std.proofs.Common.{◌≡◌, Bool, true, false, not, eqb, ◌&&◌, List, [], ◌∷◌, ◌++◌, sym, ap, ◌∙◌, subst}
+use Rattle.std.proofs.Common.{◌≡◌, false, not, List, [], ◌∷◌, ◌++◌, ◌∙◌, subst}
 use Rattle.std.specs.Bool.{IsTrue}
-use Rattle.std.specs.List.{list_all}
 use Rattle.std.proofs.lemmas.Bool.{not-true}
 use Rattle.process_tree.specs.declared.entry.Entry.{Entry}
 use Rattle.schedule_model.specs.declared.event.Event.{Event}

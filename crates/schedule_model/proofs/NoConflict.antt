@@ -1,6 +1,7 @@
 -- Where nothing conflicts, nothing stands against any event: what is in own order is legal then. So whatever is proved of
 -- legal histories without a word on conflicts holds of those in own order, and of reducible ones.
-use Rattle.std.proofs.Common.{◌≡◌, Bool, true, false, not, eqb, ◌&&◌, if◌then◌else◌, List, refl}
+use Rattle.std.proofs.Common.{◌≡◌, Bool, true, false, not, eqb, if◌then◌else◌, List, refl}
+use Rattle.std.proofs.Math.Bool.{and-false}
 use Rattle.std.specs.Bool.{IsTrue}
 use Rattle.std.proofs.lemmas.Bool.{and_parts, and_from, false≢true}
 use Rattle.process_tree.specs.declared.entry.Entry.{Entry}
@@ -14,12 +15,8 @@ use Rattle.schedule_model.specs.Legal.{class_in, is_clear, may_come, is_legal, k
 use Rattle.schedule_model.proofs.Induction.{passes-other}
 use Rattle.schedule_model.proofs.Clear.{clear-reserved, clear-undoable, clear-committing, clear-end, clear-undo}
 
-and_false : (a : Bool) → (a && false) ≡ false
-and_false true = refl
-and_false false = refl
-
 pub nothing_conflicts : (a b : Entry) → conflict no_conflict a b ≡ false
-nothing_conflicts a b = and_false (not (eqb a.process b.process))
+nothing_conflicts a b = and-false (not (eqb a.process b.process))
 
 module _ (courses : List Course) (h : List Event) where
   step_clear : (e : Entry) → e.undo ≡ false → (class : StepClass) → class_in courses h e.process e.step ≡ class → IsTrue (is_clear no_conflict courses h (Act e))

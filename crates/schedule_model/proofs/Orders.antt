@@ -1,7 +1,7 @@
 -- What stands behind an entry of the net, before an event and after it.
-use Rattle.std.proofs.Common.{◌≡◌, ◌⊎◌, inl, inr, ⊎_elim, ℕ, Bool, true, false, not, cond, eqb, ◌&&◌, ◌||◌, List, [], ◌∷◌, ◌++◌, filter, sym, refl, ap, ◌∙◌, subst}
+use Rattle.std.proofs.Common.{◌≡◌, ◌⊎◌, inl, inr, Bool, true, false, not, cond, eqb, ◌&&◌, List, [], ◌∷◌, ◌++◌, sym, refl, ap, ◌∙◌, subst}
 use Rattle.std.specs.Bool.{IsTrue}
-use Rattle.std.proofs.lemmas.Bool.{not-true, cases_Bool, false≢true, eqb-true, eq-eqb, and_parts, and_from}
+use Rattle.std.proofs.lemmas.Bool.{not-true, eqb-true, and_parts}
 use Rattle.process_tree.specs.declared.entry.Entry.{Entry}
 use Rattle.schedule_model.specs.declared.event.Event.{Event}
 use Rattle.schedule_model.specs.declared.event.Event.TheVariants.{Act}
@@ -9,7 +9,7 @@ use Rattle.schedule_model.specs.Histories.{net, same_step, is_active}
 use Rattle.schedule_model.specs.Holdings.{at_rest, behind, active_net, holders}
 use Rattle.schedule_model.specs.Course.{Course}
 use Rattle.schedule_model.proofs.Members.{Among, among-append, among-filter, in_filter, any-among}
-use Rattle.schedule_model.proofs.Behind.{has_step, behind-first, behind-second, behind-none, behind-filter, same_step-itself, same_step-symmetric, same_step-process}
+use Rattle.schedule_model.proofs.Behind.{has_step, behind-first, behind-second, behind-filter, same_step-itself, same_step-process}
 use Rattle.schedule_model.proofs.Snoc.{net-do, net-undo}
 use Rattle.schedule_model.proofs.Clear.{is_holder}
 use Rattle.schedule_model.specs.Histories.{is_in}
@@ -18,11 +18,17 @@ use Rattle.schedule_model.specs.Histories.{is_in}
 pub has_step-among : (x : Entry) (es : List Entry) → Among x es → has_step x es ≡ true
 has_step-among x es is = any-among (same_step x) x es is (same_step-itself x)
 
-same_step-through : (a b c : Entry) → same_step a b ≡ true → same_step a c ≡ same_step b c
+pub same_step-through : (a b c : Entry) → same_step a b ≡ true → same_step a c ≡ same_step b c
 same_step-through a b c is =
     let parts = and_parts (eqb a.process b.process) (eqb a.step b.step) is in
     ap (λ p. eqb p c.process && eqb a.step c.step) (eqb-true a.process b.process parts.0)
     ∙ ap (λ s. eqb b.process c.process && eqb s c.step) (eqb-true a.step b.step parts.1)
+
+-- what stands behind entries of one step is the same
+pub behind-same_step : (es : List Entry) (a b : Entry) → same_step a b ≡ true → behind a es ≡ behind b es
+behind-same_step [] a b same = refl
+behind-same_step (e ∷ es) a b same =
+    ap (λ t. cond t es (behind a es)) (same_step-through a b e same) ∙ ap (λ ys. cond (same_step b e) es ys) (behind-same_step es a b same)
 
 -- Behind an entry after an undo stands what stood behind it.
 pub behind-undo : (h : List Event) (u x e : Entry) → u.undo ≡ true → Among x (net (h ++ Act u ∷ [])) → Among e (behind x (net (h ++ Act u ∷ [])))
@@ -47,9 +53,11 @@ behind-do h s x e is_step new there back = by_place (among-append x (net h) (s �
     by_behind (inr (inr none)) = absurd none
 
     by_place : Among x (net h) ⊎ Among x (s ∷ []) → Among x (net h) × (Among e (behind x (net h)) ⊎ (s ≡ e))
-    by_place (inl before) =
-        (before, by_behind (among-append e (behind x (net h)) (s ∷ [])
-        (subst (Among e) (ap (behind x) (net-do h s is_step) ∙ behind-first x (net h) (s ∷ []) (has_step-among x (net h) before)) back)))
+    by_place (inl before) = (
+      before,
+      by_behind (among-append e (behind x (net h)) (s ∷ [])
+          (subst (Among e) (ap (behind x) (net-do h s is_step) ∙ behind-first x (net h) (s ∷ []) (has_step-among x (net h) before)) back)),
+    )
     by_place (inr (inl now)) =
         let nothing : behind x (net (h ++ Act s ∷ [])) ≡ [] =
         ap (λ y. behind y (net (h ++ Act s ∷ []))) (sym now) ∙ (ap (behind s) (net-do h s is_step) ∙ (behind-second s (net h) (s ∷ []) new ∙ ap (λ t. cond t [] []) (same_step-itself s))) in

@@ -1,28 +1,28 @@
 -- What an active process owes conflicts with nothing that another active process has done or owes.
-use Rattle.std.proofs.Common.{◌≡◌, ◌⊎◌, inl, inr, ⊎_elim, ℕ, Bool, true, false, not, cond, eqb, ◌&&◌, List, [], ◌∷◌, ◌++◌, map, sym, refl, ap, ◌∙◌, subst}
+use Rattle.std.proofs.Common.{◌≡◌, ◌⊎◌, inl, inr, ℕ, Bool, true, false, not, eqb, List, [], ◌∷◌, ◌++◌, sym, refl, ap, ◌∙◌, subst}
 use Rattle.std.specs.Bool.{IsTrue}
-use Rattle.std.proofs.lemmas.Bool.{and_parts, eqb-true, eq-eqb, cases_Bool}
+use Rattle.std.proofs.lemmas.Bool.{eqb-true}
 use Rattle.process_tree.specs.declared.entry.Entry.{Entry}
 use Rattle.process_tree.specs.declared.plan.Plan.{Plan}
-use Rattle.process_tree.specs.Recovery.{StepClass, reserved, committing, undoable as undoable_class}
+use Rattle.process_tree.specs.Recovery.{StepClass, reserved, committing, undoable}
 use Rattle.schedule_model.specs.declared.event.Event.{Event}
 use Rattle.schedule_model.specs.declared.event.Event.TheVariants.{Start, Act, End}
 use Rattle.schedule_model.specs.Course.{Course, courses_of}
-use Rattle.schedule_model.specs.Conflict.{ConflictRelation, IsSymmetric, conflict, no_conflict}
-use Rattle.schedule_model.specs.Histories.{doing, is_active, net, net_of, same_step}
+use Rattle.schedule_model.specs.Conflict.{ConflictRelation, IsSymmetric, conflict}
+use Rattle.schedule_model.specs.Histories.{doing, is_active, net, same_step}
 use Rattle.schedule_model.specs.Recovery.{owed, owed_after, owed_steps}
 use Rattle.schedule_model.specs.Legal.{class_in, may_come, is_legal}
 use Rattle.schedule_model.specs.Laws.{AreGood, ClassFacts}
 use Rattle.schedule_model.proofs.Induction.{by_legal}
 use Rattle.schedule_model.proofs.Members.{Among, among-append, among-filter, among-map}
-use Rattle.schedule_model.proofs.Conflicts.{conflict-symmetric, conflict-itself}
+use Rattle.schedule_model.proofs.Conflicts.{conflict-itself, conflict-flipped}
 use Rattle.schedule_model.proofs.Snoc.{net-start, net-end, net-do, net-undo, net_of-other, net_of-start, net_of-end, owed-by_net, is_active-do}
 use Rattle.schedule_model.proofs.Acting.{act_in_order, order_of, clear_of, act_active}
 use Rattle.schedule_model.proofs.Entries.{doing-is}
 use Rattle.schedule_model.proofs.Rising.{step_goes_on}
 use Rattle.schedule_model.proofs.Undoing.{undoes}
 use Rattle.schedule_model.proofs.ClassFacts.{class-facts}
-use Rattle.schedule_model.proofs.Clear.{OwedApart, NetApart, RestApart, reserved-clear, undoable-clear, committing-clear}
+use Rattle.schedule_model.proofs.Clear.{OwedApart, NetApart, undoable-clear, committing-clear}
 use Rattle.schedule_model.proofs.Started.{net-started, owed-started, active-before_start, active-before_end}
 
 -- what a process owes is of it
@@ -48,9 +48,6 @@ module _ (table : ConflictRelation) (symmetric : IsSymmetric table) (plans : Lis
   pub record OwedFree (h : List Event) : Type 0 where
     pub from_net : (i : ℕ) (s x : Entry) → IsTrue (is_active h i) → Among s (owed cs h i) → Among x (net h) → IsTrue (is_active h x.process) → conflict table s x ≡ false
     pub from_owed : (i k : ℕ) (s r : Entry) → IsTrue (is_active h i) → IsTrue (is_active h k) → Among s (owed cs h i) → Among r (owed cs h k) → conflict table s r ≡ false
-
-  flipped : (a b : Entry) → conflict table a b ≡ false → conflict table b a ≡ false
-  flipped a b is = conflict-symmetric table symmetric b a ∙ is
 
   -- where nets shrink or stay, and who owes stays
   owed-kept : (h after : List Event) → ((i : ℕ) (s : Entry) → IsTrue (is_active after i) → Among s (owed cs after i) → IsTrue (is_active h i) × Among s (owed cs h i))
@@ -112,7 +109,7 @@ module _ (table : ConflictRelation) (symmetric : IsSymmetric table) (plans : Lis
         against_net i s x true own goes is (inr (inr none)) active = absurd none
         against_net i s x false other goes is (inl before) active = free.from_net i s x goes (subst (Among s) (owed-other i other) is) before active
         against_net i s x false other goes is (inr (inl now)) active =
-            subst (λ f. conflict table s f ≡ false) now (flipped e s (apart i s other goes (subst (Among s) (owed-other i other) is)))
+            subst (λ f. conflict table s f ≡ false) now (conflict-flipped table symmetric e s (apart i s other goes (subst (Among s) (owed-other i other) is)))
         against_net i s x false other goes is (inr (inr none)) active = absurd none
 
         against_owed : (i k : ℕ) (s r : Entry) → (own theirs : Bool) → eqb e.process i ≡ own → eqb e.process k ≡ theirs → IsTrue (is_active h i) → IsTrue (is_active h k)
@@ -122,7 +119,7 @@ module _ (table : ConflictRelation) (symmetric : IsSymmetric table) (plans : Lis
         against_owed i k s r true false own theirs goes other is has =
             (rest s (subst (λ j. Among s (owed cs after j)) (sym (eqb-true e.process i own)) is)).1 k r other (subst (Among r) (owed-other k theirs) has)
         against_owed i k s r false true mine too goes other is has =
-            flipped r s ((rest r (subst (λ j. Among r (owed cs after j)) (sym (eqb-true e.process k too)) has)).1 i s goes (subst (Among s) (owed-other i mine) is))
+            conflict-flipped table symmetric r s ((rest r (subst (λ j. Among r (owed cs after j)) (sym (eqb-true e.process k too)) has)).1 i s goes (subst (Among s) (owed-other i mine) is))
         against_owed i k s r false false mine theirs goes other is has =
             free.from_owed i k s r goes other (subst (Among s) (owed-other i mine) is) (subst (Among r) (owed-other k theirs) has)
 
@@ -143,7 +140,7 @@ module _ (table : ConflictRelation) (symmetric : IsSymmetric table) (plans : Lis
           let before = subst (Among s) (sym owes) (inr has) in
           (λ x there active. free.from_net e.process s x goes before there active, λ k r active owed. free.from_owed e.process k s r goes active before owed))
           (λ k s other active has. free.from_owed e.process k e s goes active (subst (Among e) (sym owes) (inl refl)) has)
-      by_class is_step free undoable_class is =
+      by_class is_step free undoable is =
           let does = step-facts h e is_step may in
           let goes = act_active table cs h e may in
           let apart = (undoable-clear table cs h e is_step is (clear_of table cs h (Act e) may)).0 in

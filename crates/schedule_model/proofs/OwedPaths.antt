@@ -1,13 +1,13 @@
 -- The path that is owed: its first step goes on from what is fixed, and is above each step that can be undone.
-use Rattle.std.proofs.Common.{◌≡◌, ◌⊎◌, inl, inr, ⊎_elim, ℕ, zero, suc, ◌+◌, ◌<◌, ◌≤◌, Bool, true, false, cond, eqb, List, [], ◌∷◌, ◌++◌, length, take, drop, Option, Some, None, sym, refl, ap, ◌∙◌, subst, arith, append-nil, append_assoc, length-append, length-drop, nat_lt, ◌-◌, if◌then◌else◌}
+use Rattle.std.proofs.Common.{◌≡◌, ◌⊎◌, inl, inr, ⊎_elim, ℕ, zero, suc, ◌+◌, ◌<◌, ◌≤◌, Bool, true, false, cond, List, [], ◌∷◌, ◌++◌, length, take, drop, Option, Some, None, sym, refl, ap, ◌∙◌, subst, arith, append-nil, append_assoc, length-append, length-drop, nat_lt, ◌-◌, if◌then◌else◌}
 use Rattle.std.proofs.lemmas.Bool.{eq-eqb, ne_eqb, false≢true}
 use Rattle.std.proofs.lemmas.List.{take-append-drop, drop-append-le}
-use Rattle.process_tree.specs.Order.{Each, IsRising, PartsBelow, IsLaidOut, has}
+use Rattle.process_tree.specs.Order.{Each, PartsBelow, IsLaidOut, has}
 use Rattle.process_tree.specs.Shape.{Shape, kind_of, commits, fixed_len, goes_on_to, next_steps, greater, greatest, is_end, is_whole}
-use Rattle.process_tree.specs.Recovery.{class_of, class_by_kind, forward, last_after, last_path, with_rest, reserved, undoable}
+use Rattle.process_tree.specs.Recovery.{class_of, class_by_kind, forward, last_after, last_path, with_rest, reserved}
 use Rattle.process_tree.specs.Termination.{IsWellFormed}
 use Rattle.process_tree.specs.Laws.{IsTreeShape}
-use Rattle.process_tree.proofs.Branches.{Among, Each-has, Each-among, has_here, is_or_not, same_or_not}
+use Rattle.process_tree.proofs.Branches.{Each-has, has_here, same_or_not}
 use Rattle.process_tree.proofs.Onward.{onward, onward_both, onward_has, goes_along, goes_on}
 use Rattle.process_tree.proofs.InTurn.{greatest_is, goes_within}
 use Rattle.process_tree.proofs.LastPath.{greatest_ge}

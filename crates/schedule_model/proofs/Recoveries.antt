@@ -1,5 +1,6 @@
 -- Recovery of a process that goes on or back by one step.
 use Rattle.std.proofs.Common.{◌≡◌, ℕ, ◌+◌, ◌≤◌, Bool, true, false, not, cond, eqb, ◌&&◌, List, [], ◌∷◌, ◌++◌, length, map, filter, drop, sym, refl, ap, ◌∙◌, arith}
+use Rattle.std.proofs.Math.Bool.{and_comm}
 use Rattle.std.proofs.lemmas.List.{drop-append-le, length-append, map-append}
 use Rattle.std.proofs.Math.ListN.{drop_of_length-le}
 use Rattle.process_tree.specs.declared.entry.Entry.{Entry}
@@ -9,7 +10,7 @@ use Rattle.schedule_model.specs.declared.event.Event.{Event}
 use Rattle.schedule_model.specs.declared.event.Event.TheVariants.{Act}
 use Rattle.schedule_model.specs.Course.{Course, shape}
 use Rattle.schedule_model.specs.Histories.{doing, net, net_of, net_steps, same_step, steps_of, of_process}
-use Rattle.schedule_model.specs.Recovery.{undoable, owed, owed_after}
+use Rattle.schedule_model.specs.Recovery.{backward_entries, owed, owed_after}
 use Rattle.schedule_model.proofs.Snoc.{net_of-do, net-undo, filter_twice, filter_same}
 
 fixed_step : (t : Shape) (b : ℕ) (n i j last : ℕ) (c : Bool) → i + 1 + n ≡ j → cond c (i + 1 + n + 1) last ≡ cond c (j + 1) last
@@ -56,7 +57,7 @@ pub owed-do : (courses : List Course) (h : List Event) (e : Entry) → e.undo �
 owed-do courses h e is_step = ap (λ w. map (doing courses e.process) (forward (shape courses e.process) w)) (net_steps-do h e is_step)
 
 undoable_at : (courses : List Course) (h : List Event) (e : Entry) → e.undo ≡ false
-    → undoable courses (h ++ Act e ∷ []) e.process
+    → backward_entries courses (h ++ Act e ∷ []) e.process
     ≡ drop (cond (commits (kind_of (shape courses e.process) e.step)) (length (net_steps h e.process) + 1) (fixed_len (shape courses e.process) (net_steps h e.process))) (net_of h e.process ++ e ∷ [])
 undoable_at courses h e is_step =
     ap (λ es. drop (fixed_len (shape courses e.process) (steps_of es)) es) (net_of-do h e is_step)
@@ -65,17 +66,17 @@ undoable_at courses h e is_step =
     ∙ fixed_len-push (shape courses e.process) (net_steps h e.process) e.step)
 
 -- after a commit point nothing can be undone any more
-pub undoable-commit : (courses : List Course) (h : List Event) (e : Entry) → e.undo ≡ false → commits (kind_of (shape courses e.process) e.step) ≡ true
-    → undoable courses (h ++ Act e ∷ []) e.process ≡ []
-undoable-commit courses h e is_step is =
+pub backward_entries-commit : (courses : List Course) (h : List Event) (e : Entry) → e.undo ≡ false → commits (kind_of (shape courses e.process) e.step) ≡ true
+    → backward_entries courses (h ++ Act e ∷ []) e.process ≡ []
+backward_entries-commit courses h e is_step is =
     undoable_at courses h e is_step
     ∙ (ap (λ c. drop (cond c (length (net_steps h e.process) + 1) (fixed_len (shape courses e.process) (net_steps h e.process))) (net_of h e.process ++ e ∷ [])) is
     ∙ drop_of_length-le (net_of h e.process ++ e ∷ []) (omega (arith, length-append (net_of h e.process) (e ∷ []), steps_count (net_of h e.process))))
 
 -- another step can be undone too
-pub undoable-do : (courses : List Course) (h : List Event) (e : Entry) → e.undo ≡ false → commits (kind_of (shape courses e.process) e.step) ≡ false
-    → undoable courses (h ++ Act e ∷ []) e.process ≡ undoable courses h e.process ++ e ∷ []
-undoable-do courses h e is_step is =
+pub backward_entries-do : (courses : List Course) (h : List Event) (e : Entry) → e.undo ≡ false → commits (kind_of (shape courses e.process) e.step) ≡ false
+    → backward_entries courses (h ++ Act e ∷ []) e.process ≡ backward_entries courses h e.process ++ e ∷ []
+backward_entries-do courses h e is_step is =
     undoable_at courses h e is_step
     ∙ (ap (λ c. drop (cond c (length (net_steps h e.process) + 1) (fixed_len (shape courses e.process) (net_steps h e.process))) (net_of h e.process ++ e ∷ [])) is
     ∙ drop-append-le (fixed_len (shape courses e.process) (net_steps h e.process)) (net_of h e.process) (e ∷ [])
@@ -83,16 +84,10 @@ undoable-do courses h e is_step is =
 
 -- The net of a process after an undo of its own.
 
-both_ways : (a b : Bool) → (a && b) ≡ (b && a)
-both_ways true true = refl
-both_ways true false = refl
-both_ways false true = refl
-both_ways false false = refl
-
 -- the undo takes the entries of its step away
 pub net_of-undo : (h : List Event) (e : Entry) (i : ℕ) → e.undo ≡ true → net_of (h ++ Act e ∷ []) i ≡ filter (λ f. not (same_step f e)) (net_of h i)
 net_of-undo h e i undo =
     ap (of_process i) (net-undo h e undo)
     ∙ (filter_twice (λ f. not (same_step f e)) (λ f. eqb f.process i) (net h)
-    ∙ (filter_same (λ f. not (same_step f e) && eqb f.process i) (λ f. eqb f.process i && not (same_step f e)) (net h) (λ f. both_ways (not (same_step f e)) (eqb f.process i))
+    ∙ (filter_same (λ f. not (same_step f e) && eqb f.process i) (λ f. eqb f.process i && not (same_step f e)) (net h) (λ f. and_comm (not (same_step f e)) (eqb f.process i))
     ∙ sym (filter_twice (λ f. eqb f.process i) (λ f. not (same_step f e)) (net h))))

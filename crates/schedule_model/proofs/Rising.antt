@@ -10,7 +10,7 @@ use Rattle.schedule_model.specs.Course.{Course, shape, op_of}
 use Rattle.schedule_model.specs.Conflict.{ConflictRelation}
 use Rattle.schedule_model.specs.Histories.{acts, net_acts, net, net_of, net_steps, done_steps, same_step, steps_of, of_process, takes_back, is_active}
 use Rattle.schedule_model.specs.OwnOrder.{entry_keeps_order, goes_on, is_of_last}
-use Rattle.schedule_model.specs.Recovery.{undoable}
+use Rattle.schedule_model.specs.Recovery.{backward_entries}
 use Rattle.process_tree.specs.Shape.{goes_on_to}
 use Rattle.schedule_model.specs.Legal.{may_come, is_clear, is_legal}
 use Rattle.schedule_model.proofs.Induction.{by_legal}
@@ -39,15 +39,15 @@ Rising-push (x ∷ xs) b rising all =
 -- a step that may come goes on
 pub step_goes_on : (table : ConflictRelation) (courses : List Course) (h : List Event) (e : Entry) → e.undo ≡ false → IsTrue (may_come table courses h (Act e)) → IsTrue (goes_on courses h e.process e.step)
 step_goes_on table courses h e is_step may =
-    subst (λ u. (if u then is_of_last (undoable courses h e.process) e else goes_on courses h e.process e.step) ≡ true) is_step
-    (and_parts (is_active h e.process && eqb e.op (op_of courses e.process e.step)) (if e.undo then is_of_last (undoable courses h e.process) e else goes_on courses h e.process e.step)
+    subst (λ u. (if u then is_of_last (backward_entries courses h e.process) e else goes_on courses h e.process e.step) ≡ true) is_step
+    (and_parts (is_active h e.process && eqb e.op (op_of courses e.process e.step)) (if e.undo then is_of_last (backward_entries courses h e.process) e else goes_on courses h e.process e.step)
     (and_parts (entry_keeps_order courses h e) (is_clear table courses h (Act e)) may).0).1
 
 -- an undo that may come is of the last entry that can be undone
-pub undo_is_of_last : (table : ConflictRelation) (courses : List Course) (h : List Event) (e : Entry) → e.undo ≡ true → IsTrue (may_come table courses h (Act e)) → IsTrue (is_of_last (undoable courses h e.process) e)
+pub undo_is_of_last : (table : ConflictRelation) (courses : List Course) (h : List Event) (e : Entry) → e.undo ≡ true → IsTrue (may_come table courses h (Act e)) → IsTrue (is_of_last (backward_entries courses h e.process) e)
 undo_is_of_last table courses h e undo may =
-    subst (λ u. (if u then is_of_last (undoable courses h e.process) e else goes_on courses h e.process e.step) ≡ true) undo
-    (and_parts (is_active h e.process && eqb e.op (op_of courses e.process e.step)) (if e.undo then is_of_last (undoable courses h e.process) e else goes_on courses h e.process e.step)
+    subst (λ u. (if u then is_of_last (backward_entries courses h e.process) e else goes_on courses h e.process e.step) ≡ true) undo
+    (and_parts (is_active h e.process && eqb e.op (op_of courses e.process e.step)) (if e.undo then is_of_last (backward_entries courses h e.process) e else goes_on courses h e.process e.step)
     (and_parts (entry_keeps_order courses h e) (is_clear table courses h (Act e)) may).0).1
 
 module _ (table : ConflictRelation) (courses : List Course) where

@@ -1,5 +1,6 @@
 -- What each definition is of a history with one event more.
 use Rattle.std.proofs.Common.{◌≡◌, ℕ, Bool, true, false, not, cond, eqb, ◌||◌, ◌&&◌, List, [], ◌∷◌, ◌++◌, map, filter, drop, sym, refl, ap, ◌∙◌, append-nil, rules}
+use Rattle.std.proofs.Math.Bool.{or-false}
 use Rattle.std.proofs.lemmas.Bool.{eq-eqb, eqb-true}
 use Rattle.std.proofs.lemmas.List.Elements.{filter-append}
 use Rattle.process_tree.specs.declared.entry.Entry.{Entry}
@@ -7,7 +8,7 @@ use Rattle.schedule_model.specs.declared.event.Event.{Event}
 use Rattle.schedule_model.specs.declared.event.Event.TheVariants.{Start, Act, End}
 use Rattle.schedule_model.specs.Course.{Course, shape}
 use Rattle.schedule_model.specs.Histories.{starts, ends, net, net_of, is_in, is_active, active, done_steps, same_step, of_process, steps_of, doing}
-use Rattle.schedule_model.specs.Recovery.{undoable, owed}
+use Rattle.schedule_model.specs.Recovery.{backward_entries, owed}
 use Rattle.process_tree.specs.Shape.{fixed_len}
 use Rattle.process_tree.specs.Recovery.{forward}
 use Rattle.schedule_model.proofs.Legal.{both-left}
@@ -22,10 +23,6 @@ filter_all p (x ∷ xs) all = rw (all x) (ap (λ ys. x ∷ ys) (filter_all p xs 
 pub filter_same : {X : Type 0} (p q : X → Bool) (xs : List X) → ((x : X) → p x ≡ q x) → filter p xs ≡ filter q xs
 filter_same p q [] same = refl
 filter_same p q (x ∷ xs) same = rw (same x) (ap (λ ys. cond (q x) (x ∷ ys) ys) (filter_same p q xs same))
-
-or_false : (b : Bool) → (b || false) ≡ b
-or_false true = refl
-or_false false = refl
 
 -- Net.
 
@@ -43,7 +40,7 @@ pub net-do : (h : List Event) (e : Entry) → e.undo ≡ false → net (h ++ Act
 net-do h e forward = net-append h (Act e ∷ []) ∙ (ap (λ es. es ++ net (Act e ∷ [])) (filter_all (λ f. not (is_taken_back (e ∷ []) f)) (net h) (λ f. not_taken e f forward)) ∙ rw forward refl)
 
 taken : (e f : Entry) → e.undo ≡ true → not (is_taken_back (e ∷ []) f) ≡ not (same_step f e)
-taken e f undo = rw undo (ap not (or_false (same_step f e)))
+taken e f undo = rw undo (ap not (or-false (same_step f e)))
 
 -- an undo takes the entry of its step away
 pub net-undo : (h : List Event) (e : Entry) → e.undo ≡ true → net (h ++ Act e ∷ []) ≡ filter (λ f. not (same_step f e)) (net h)
@@ -107,8 +104,8 @@ net_of-end h k i = ap (of_process i) (net-end h k)
 
 -- Recovery speaks of the net of its process alone.
 
-pub undoable-by_net : (courses : List Course) (g h : List Event) (i : ℕ) → net_of g i ≡ net_of h i → undoable courses g i ≡ undoable courses h i
-undoable-by_net courses g h i same = ap (λ es. drop (fixed_len (shape courses i) (steps_of es)) es) same
+pub backward_entries-by_net : (courses : List Course) (g h : List Event) (i : ℕ) → net_of g i ≡ net_of h i → backward_entries courses g i ≡ backward_entries courses h i
+backward_entries-by_net courses g h i same = ap (λ es. drop (fixed_len (shape courses i) (steps_of es)) es) same
 
 pub owed-by_net : (courses : List Course) (g h : List Event) (i : ℕ) → net_of g i ≡ net_of h i → owed courses g i ≡ owed courses h i
 owed-by_net courses g h i same = ap (λ es. map (doing courses i) (forward (shape courses i) (steps_of es))) same

@@ -1,23 +1,21 @@
 -- What stands in a legal history, and what is owed, is of processes that started.
-use Rattle.std.proofs.Common.{◌≡◌, ◌⊎◌, inl, inr, ⊎_elim, ℕ, ◌+◌, ◌≤◌, Bool, true, false, not, eqb, ◌&&◌, ◌||◌, List, [], ◌∷◌, ◌++◌, length, map, filter, sym, refl, ap, ◌∙◌, subst, arith, append-nil}
+use Rattle.std.proofs.Common.{◌≡◌, inl, inr, ⊎_elim, ℕ, Bool, true, false, not, eqb, ◌||◌, List, [], ◌∷◌, ◌++◌, map, sym, refl, ap, ◌∙◌, subst, append-nil}
 use Rattle.std.specs.Bool.{IsTrue}
-use Rattle.std.proofs.lemmas.Bool.{and_parts, and_from, or_left, eqb-true, eq-eqb, false≢true}
+use Rattle.std.proofs.lemmas.Bool.{and_parts, and_from, or_left, eqb-true, eq-eqb}
 use Rattle.process_tree.specs.declared.entry.Entry.{Entry}
 use Rattle.process_tree.specs.Recovery.{forward}
 use Rattle.schedule_model.specs.declared.event.Event.{Event}
 use Rattle.schedule_model.specs.declared.event.Event.TheVariants.{Start, Act, End}
 use Rattle.schedule_model.specs.Course.{Course, shape}
 use Rattle.schedule_model.specs.Conflict.{ConflictRelation}
-use Rattle.schedule_model.specs.Histories.{ends, is_active, is_in, net, net_of, of_process, same_step, starts, doing, steps_of}
+use Rattle.schedule_model.specs.Histories.{ends, is_active, is_in, net, net_of, same_step, starts, doing, steps_of}
 use Rattle.schedule_model.specs.Recovery.{owed}
-use Rattle.schedule_model.specs.OwnOrder.{keeps_order}
-use Rattle.schedule_model.specs.Legal.{is_clear, may_come, is_legal}
+use Rattle.schedule_model.specs.Legal.{may_come, is_legal}
 use Rattle.schedule_model.proofs.Induction.{by_legal}
 use Rattle.schedule_model.proofs.Members.{Among, among-append, among-filter, in_filter}
 use Rattle.schedule_model.proofs.Appends.{starts-append, ends-append, is_in-append}
 use Rattle.schedule_model.proofs.Snoc.{net-start, net-end, net-do, net-undo}
 use Rattle.schedule_model.proofs.Acting.{act_active}
-use Rattle.schedule_model.proofs.Prefixes.{legal-numbered}
 
 -- an entry of a process is in the net, and of that process
 pub among_net_of : (h : List Event) (i : ℕ) (e : Entry) → Among e (net_of h i) → Among e (net h) × (e.process ≡ i)

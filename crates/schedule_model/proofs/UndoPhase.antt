@@ -1,5 +1,6 @@
 -- Completion after its first undo is the rest of it.
 use Rattle.std.proofs.Common.{◌≡◌, ℕ, zero, suc, Bool, true, false, not, cond, eqb, ◌&&◌, ◌||◌, List, [], ◌∷◌, ◌++◌, map, filter, drop, reverse, sym, refl, ap, ◌∙◌, subst, append-nil, append_assoc}
+use Rattle.std.proofs.Math.Bool.{and-false, and-true, or-false, and_comm}
 use Rattle.std.specs.Bool.{IsTrue}
 use Rattle.std.specs.List.{list_any, list_all, flat_map}
 use Rattle.std.proofs.lemmas.Bool.{eq-eqb, eqb-true, and_parts, and_from, or_left, or_right, not-true}
@@ -13,21 +14,19 @@ use Rattle.schedule_model.specs.declared.event.Event.TheVariants.{Act, End}
 use Rattle.schedule_model.specs.Course.{Course, shape}
 use Rattle.schedule_model.specs.Conflict.{ConflictRelation}
 use Rattle.schedule_model.specs.Histories.{active, is_active, net, net_of, net_steps, of_process, same_step, undoing}
-use Rattle.schedule_model.specs.Recovery.{undoable, owed}
-use Rattle.schedule_model.specs.Completion.{is_to_undo, all_undoable, closing, completion}
+use Rattle.schedule_model.specs.Recovery.{backward_entries, owed}
+use Rattle.schedule_model.specs.Completion.{is_to_undo, all_backward_entries, closing, completion}
 use Rattle.schedule_model.specs.OwnOrder.{is_of_last}
 use Rattle.schedule_model.specs.Legal.{is_legal}
-use Rattle.schedule_model.proofs.Snoc.{filter_twice, filter_same, net-undo, net_of-other, undoable-by_net, owed-by_net, is_active-do, active-do, of_process-append}
+use Rattle.schedule_model.proofs.Snoc.{filter_twice, filter_same, net-undo, net_of-other, backward_entries-by_net, owed-by_net, is_active-do, active-do, of_process-append}
 use Rattle.schedule_model.proofs.Apart.{Apart, Apart-filter, Apart-last, net-apart}
 use Rattle.schedule_model.proofs.Undoing.{Undoes, undoes_last}
+use Rattle.schedule_model.proofs.Behind.{same_step-itself}
 
 -- A tail of a list, as a filter.
 
-same_itself : (e : Entry) → same_step e e ≡ true
-same_itself e = and_from (eqb e.process e.process) (eqb e.step e.step) (eq-eqb e.process e.process refl) (eq-eqb e.step e.step refl)
-
 listed : (ps us : List Entry) (u : Entry) → list_any (same_step u) (ps ++ u ∷ us) ≡ true
-listed ps us u = list_any-append (same_step u) ps (u ∷ us) ∙ or_right (list_any (same_step u) ps) _ (or_left (same_step u u) (list_any (same_step u) us) (same_itself u))
+listed ps us u = list_any-append (same_step u) ps (u ∷ us) ∙ or_right (list_any (same_step u) ps) _ (or_left (same_step u u) (list_any (same_step u) us) (same_step-itself u))
 
 all_listed : (ps us : List Entry) → filter (λ e. list_any (same_step e) (ps ++ us)) us ≡ us
 all_listed ps [] = refl
@@ -49,29 +48,11 @@ tail_as_filter w apart zero = all_listed [] w
 tail_as_filter [] apart (suc k) = refl
 tail_as_filter (x ∷ xs) apart (suc k) = rw (none_of x xs apart.0 k) (tail_as_filter xs apart.1 k)
 
-and_false : (a : Bool) → (a && false) ≡ false
-and_false true = refl
-and_false false = refl
-
-and_swap : (a b : Bool) → (a && b) ≡ (b && a)
-and_swap true true = refl
-and_swap true false = refl
-and_swap false true = refl
-and_swap false false = refl
-
-or_false : (a : Bool) → (a || false) ≡ a
-or_false true = refl
-or_false false = refl
-
 -- a list that ends with an entry of this step does
 pub of_last : (us : List Entry) (x e : Entry) → is_of_last (us ++ x ∷ []) e ≡ same_step x e
 of_last [] x e = refl
 of_last (u ∷ []) x e = refl
 of_last (u ∷ v ∷ us) x e = of_last (v ∷ us) x e
-
-and_true : (a : Bool) → (a && true) ≡ a
-and_true true = refl
-and_true false = refl
 
 -- what a filter lets through passes
 filtered_pass : {X : Type 0} (p : X → Bool) (xs : List X) → list_all p (filter p xs) ≡ true
@@ -93,28 +74,28 @@ without_last : (front : List Entry) (x : Entry) → Apart (front ++ x ∷ []) �
 without_last front x apart =
     filter-append (λ f. not (same_step f x)) front (x ∷ [])
     ∙ (ap (λ es. es ++ filter (λ f. not (same_step f x)) (x ∷ [])) (kept_all x front (Apart-last front x apart))
-    ∙ (ap (λ s. front ++ cond (not s) (x ∷ []) []) (same_itself x) ∙ append-nil front))
+    ∙ (ap (λ s. front ++ cond (not s) (x ∷ []) []) (same_step-itself x) ∙ append-nil front))
 
 module _ (courses : List Course) (h : List Event) where
   own_to_undo : (i : ℕ) (e : Entry) → is_active h i ≡ true → (t : Bool) → eqb e.process i ≡ t
-      → (is_to_undo courses h e && t) ≡ (t && list_any (same_step e) (undoable courses h i))
+      → (is_to_undo courses h e && t) ≡ (t && list_any (same_step e) (backward_entries courses h i))
   own_to_undo i e active true own =
-      and_swap (is_to_undo courses h e) true
-      ∙ (ap (λ k. is_active h k && list_any (same_step e) (undoable courses h k)) (eqb-true e.process i own)
-      ∙ ap (λ a. a && list_any (same_step e) (undoable courses h i)) active)
-  own_to_undo i e active false own = and_false (is_to_undo courses h e)
+      and_comm (is_to_undo courses h e) true
+      ∙ (ap (λ k. is_active h k && list_any (same_step e) (backward_entries courses h k)) (eqb-true e.process i own)
+      ∙ ap (λ a. a && list_any (same_step e) (backward_entries courses h i)) active)
+  own_to_undo i e active false own = and-false (is_to_undo courses h e)
 
   -- of all that is to be undone, what is of one active process is its backward recovery
-  pub all_undoable-of : (i : ℕ) → Apart (net h) → is_active h i ≡ true → of_process i (all_undoable courses h) ≡ undoable courses h i
-  all_undoable-of i apart active =
+  pub all_backward_entries-of : (i : ℕ) → Apart (net h) → is_active h i ≡ true → of_process i (all_backward_entries courses h) ≡ backward_entries courses h i
+  all_backward_entries-of i apart active =
       filter_twice (is_to_undo courses h) (λ e. eqb e.process i) (net h)
-      ∙ (filter_same (λ e. is_to_undo courses h e && eqb e.process i) (λ e. eqb e.process i && list_any (same_step e) (undoable courses h i)) (net h)
+      ∙ (filter_same (λ e. is_to_undo courses h e && eqb e.process i) (λ e. eqb e.process i && list_any (same_step e) (backward_entries courses h i)) (net h)
       (λ e. own_to_undo i e active (eqb e.process i) refl)
-      ∙ (sym (filter_twice (λ e. eqb e.process i) (λ e. list_any (same_step e) (undoable courses h i)) (net h))
+      ∙ (sym (filter_twice (λ e. eqb e.process i) (λ e. list_any (same_step e) (backward_entries courses h i)) (net h))
       ∙ tail_as_filter (net_of h i) (Apart-filter (λ e. eqb e.process i) (net h) apart) (fixed_len (shape courses i) (net_steps h i))))
 
 module _ (table : ConflictRelation) (courses : List Course) (h : List Event) (legal : IsTrue (is_legal table courses h)) (front : List Entry) (x : Entry)
-    (last_is : all_undoable courses h ≡ front ++ x ∷ []) where
+    (last_is : all_backward_entries courses h ≡ front ++ x ∷ []) where
   abbrev after : List Event
   after = h ++ Act (undoing x) ∷ []
 
@@ -124,18 +105,18 @@ module _ (table : ConflictRelation) (courses : List Course) (h : List Event) (le
       (and_parts (is_to_undo courses h x) true (and_parts (list_all (is_to_undo courses h) front) (is_to_undo courses h x && true) all).1).0
 
   pub is_active_one : is_active h x.process ≡ true
-  is_active_one = (and_parts (is_active h x.process) (list_any (same_step x) (undoable courses h x.process)) last_passes).0
+  is_active_one = (and_parts (is_active h x.process) (list_any (same_step x) (backward_entries courses h x.process)) last_passes).0
 
   -- the last of all that is to be undone is the last of its process
-  last_of_own : undoable courses h x.process ≡ of_process x.process front ++ x ∷ []
+  last_of_own : backward_entries courses h x.process ≡ of_process x.process front ++ x ∷ []
   last_of_own =
-      sym (all_undoable-of courses h x.process (net-apart table courses h legal) is_active_one)
+      sym (all_backward_entries-of courses h x.process (net-apart table courses h legal) is_active_one)
       ∙ (ap (of_process x.process) last_is
       ∙ (of_process-append x.process front (x ∷ [])
       ∙ ap (λ t. of_process x.process front ++ cond t (x ∷ []) []) (eq-eqb x.process x.process refl)))
 
-  pub undo_of_last : IsTrue (is_of_last (undoable courses h x.process) (undoing x))
-  undo_of_last = ap (λ us. is_of_last us (undoing x)) last_of_own ∙ (of_last (of_process x.process front) x (undoing x) ∙ same_itself x)
+  pub undo_of_last : IsTrue (is_of_last (backward_entries courses h x.process) (undoing x))
+  undo_of_last = ap (λ us. is_of_last us (undoing x)) last_of_own ∙ (of_last (of_process x.process front) x (undoing x) ∙ same_step-itself x)
 
   -- its undo takes it back
   taken_back : Undoes courses (undoing x) h after
@@ -152,26 +133,26 @@ module _ (table : ConflictRelation) (courses : List Course) (h : List Event) (le
 
   -- what else was to be undone still is
   still_listed : (e : Entry) → same_step e x ≡ false → (own : Bool) → eqb x.process e.process ≡ own
-      → list_any (same_step e) (undoable courses after e.process) ≡ list_any (same_step e) (undoable courses h e.process)
+      → list_any (same_step e) (backward_entries courses after e.process) ≡ list_any (same_step e) (backward_entries courses h e.process)
   still_listed e other true own =
       let same = eqb-true x.process e.process own in
-      subst (λ i. list_any (same_step e) (undoable courses after i) ≡ list_any (same_step e) (undoable courses h i)) same
-      (sym (ap (list_any (same_step e)) taken_back.undoable
-      ∙ (list_any-append (same_step e) (undoable courses after x.process) (taken_back.last ∷ [])
-      ∙ (ap (λ t. list_any (same_step e) (undoable courses after x.process) || (t || false)) (same_last e ∙ other)
-      ∙ or_false (list_any (same_step e) (undoable courses after x.process))))))
-  still_listed e other false own = ap (list_any (same_step e)) (undoable-by_net courses after h e.process (net_of-other h (undoing x) e.process own))
+      subst (λ i. list_any (same_step e) (backward_entries courses after i) ≡ list_any (same_step e) (backward_entries courses h i)) same
+      (sym (ap (list_any (same_step e)) taken_back.backward_entries
+      ∙ (list_any-append (same_step e) (backward_entries courses after x.process) (taken_back.last ∷ [])
+      ∙ (ap (λ t. list_any (same_step e) (backward_entries courses after x.process) || (t || false)) (same_last e ∙ other)
+      ∙ or-false (list_any (same_step e) (backward_entries courses after x.process))))))
+  still_listed e other false own = ap (list_any (same_step e)) (backward_entries-by_net courses after h e.process (net_of-other h (undoing x) e.process own))
 
   by_step : (e : Entry) (s : Bool) → same_step e x ≡ s → (not s && is_to_undo courses after e) ≡ (is_to_undo courses h e && not s)
-  by_step e true is = sym (and_false (is_to_undo courses h e))
+  by_step e true is = sym (and-false (is_to_undo courses h e))
   by_step e false is =
-      ap (λ a. a && list_any (same_step e) (undoable courses after e.process)) (is_active-do h (undoing x) e.process)
+      ap (λ a. a && list_any (same_step e) (backward_entries courses after e.process)) (is_active-do h (undoing x) e.process)
       ∙ (ap (λ l. is_active h e.process && l) (still_listed e is (eqb x.process e.process) refl)
-      ∙ sym (and_true (is_to_undo courses h e)))
+      ∙ sym (and-true (is_to_undo courses h e)))
 
   -- all that is to be undone is the same without it
-  pub all_undoable-after : all_undoable courses after ≡ front
-  all_undoable-after =
+  pub all_backward_entries-after : all_backward_entries courses after ≡ front
+  all_backward_entries-after =
       ap (filter (is_to_undo courses after)) net_after
       ∙ (filter_twice (λ f. not (same_step f x)) (is_to_undo courses after) (net h)
       ∙ (filter_same (λ f. not (same_step f x) && is_to_undo courses after f) (λ f. is_to_undo courses h f && not (same_step f x)) (net h) (λ f. by_step f (same_step f x) refl)
@@ -195,6 +176,6 @@ module _ (table : ConflictRelation) (courses : List Course) (h : List Event) (le
       ap (λ es. map (λ e. Act (undoing e)) (reverse es) ++ flat_map (closing courses h) (active h)) last_is
       ∙ (ap (λ es. map (λ e. Act (undoing e)) es ++ flat_map (closing courses h) (active h)) (reverse-append front (x ∷ []))
       ∙ ap (λ es. Act (undoing x) ∷ es)
-      (ap (λ es. map (λ e. Act (undoing e)) (reverse es) ++ flat_map (closing courses h) (active h)) (sym all_undoable-after)
-      ∙ (ap (λ es. map (λ e. Act (undoing e)) (reverse (all_undoable courses after)) ++ es) (sym (closings (active h)))
-      ∙ ap (λ is. map (λ e. Act (undoing e)) (reverse (all_undoable courses after)) ++ flat_map (closing courses after) is) (sym (active-do h (undoing x))))))
+      (ap (λ es. map (λ e. Act (undoing e)) (reverse es) ++ flat_map (closing courses h) (active h)) (sym all_backward_entries-after)
+      ∙ (ap (λ es. map (λ e. Act (undoing e)) (reverse (all_backward_entries courses after)) ++ es) (sym (closings (active h)))
+      ∙ ap (λ is. map (λ e. Act (undoing e)) (reverse (all_backward_entries courses after)) ++ flat_map (closing courses after) is) (sym (active-do h (undoing x))))))

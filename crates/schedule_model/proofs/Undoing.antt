@@ -13,7 +13,7 @@ use Rattle.schedule_model.specs.declared.event.Event.TheVariants.{Act}
 use Rattle.schedule_model.specs.Course.{Course, shape}
 use Rattle.schedule_model.specs.Conflict.{ConflictRelation}
 use Rattle.schedule_model.specs.Histories.{doing, net_of, net_steps, same_step, steps_of}
-use Rattle.schedule_model.specs.Recovery.{undoable, owed}
+use Rattle.schedule_model.specs.Recovery.{backward_entries, owed}
 use Rattle.schedule_model.specs.OwnOrder.{is_of_last}
 use Rattle.schedule_model.specs.Legal.{may_come, is_legal}
 use Rattle.schedule_model.proofs.Recoveries.{fixed_len-push, fixed_len-most, net_of-undo, steps_count, net_steps-do}
@@ -88,11 +88,11 @@ pub record Undoes (courses : List Course) (e : Entry) (h after : List Event) : T
   pub last : Entry
   pub same : same_step last e ≡ true
   pub net : net_of h e.process ≡ net_of after e.process ++ last ∷ []
-  pub undoable : undoable courses h e.process ≡ undoable courses after e.process ++ last ∷ []
+  pub backward_entries : backward_entries courses h e.process ≡ backward_entries courses after e.process ++ last ∷ []
   pub owed : owed courses after e.process ≡ owed courses h e.process
 
 goes : (courses : List Course) (e : Entry) (h after : List Event) (front us : List Entry) (x : Entry) → same_step x e ≡ true
-    → net_of h e.process ≡ front ++ x ∷ [] → net_of after e.process ≡ front → undoable courses h e.process ≡ us ++ x ∷ [] → Undoes courses e h after
+    → net_of h e.process ≡ front ++ x ∷ [] → net_of after e.process ≡ front → backward_entries courses h e.process ≡ us ++ x ∷ [] → Undoes courses e h after
 goes courses e h after front us x same net_is after_is left =
     let t = shape courses e.process in
     let fixed = fixed_without t front us x (subst (λ (es : List Entry). drop (fixed_len t (steps_of es)) es ≡ us ++ x ∷ []) net_is left) in
@@ -100,7 +100,7 @@ goes courses e h after front us x same net_is after_is left =
       last = x;
       same = same;
       net = net_is ∙ ap (λ es. es ++ x ∷ []) (sym after_is);
-      undoable =
+      backward_entries =
           ap (λ es. drop (fixed_len t (steps_of es)) es) net_is
           ∙ (ap (λ k. drop k (front ++ x ∷ [])) fixed
           ∙ (drop-append-le (fixed_len t (steps_of front)) front (x ∷ []) (fixed_within t front)
@@ -121,12 +121,12 @@ front_stays e x front same rising =
 
 -- an undo of the last entry that can be undone takes that back, after a legal history
 pub undoes_last : (table : ConflictRelation) (courses : List Course) (h : List Event) (e : Entry) → IsTrue (is_legal table courses h) → e.undo ≡ true
-    → IsTrue (is_of_last (undoable courses h e.process) e) → Undoes courses e h (h ++ Act e ∷ [])
+    → IsTrue (is_of_last (backward_entries courses h e.process) e) → Undoes courses e h (h ++ Act e ∷ [])
 undoes_last table courses h e legal undo of_last =
     let t = shape courses e.process in
     let w = net_of h e.process in
     let k = fixed_len t (steps_of w) in
-    let ends = ends_with e (undoable courses h e.process) of_last in
+    let ends = ends_with e (backward_entries courses h e.process) of_last in
     let front = take k w ++ ends.front in
     let net_is : w ≡ front ++ ends.last ∷ [] = sym (take-append-drop k w) ∙ (ap (λ es. take k w ++ es) ends.is ∙ sym (append_assoc (take k w) ends.front (ends.last ∷ []))) in
     let after_is : net_of (h ++ Act e ∷ []) e.process ≡ front =
@@ -143,9 +143,9 @@ undoes table courses h e legal undo may = undoes_last table courses h e legal un
 -- a step that can be undone leaves what its process owes, too
 pub owed-stays : (courses : List Course) (h : List Event) (e : Entry) → e.undo ≡ false → commits (kind_of (shape courses e.process) e.step) ≡ false
     → owed courses (h ++ Act e ∷ []) e.process ≡ owed courses h e.process
-owed-stays courses h e is_step undoable =
+owed-stays courses h e is_step backward_entries =
     let t = shape courses e.process in
     let ws = net_steps h e.process in
     ap (map (doing courses e.process))
     (ap (forward t) (net_steps-do h e is_step)
-    ∙ owed_without t ws e.step (fixed_len-push t ws e.step ∙ ap (λ c. cond c (length ws + 1) (fixed_len t ws)) undoable))
+    ∙ owed_without t ws e.step (fixed_len-push t ws e.step ∙ ap (λ c. cond c (length ws + 1) (fixed_len t ws)) backward_entries))

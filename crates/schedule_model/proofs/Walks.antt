@@ -2,32 +2,12 @@
 use Rattle.std.proofs.Common.{◌≡◌, ℕ, zero, suc, ◌+◌, ◌≤◌, ◌<◌, ◌⊎◌, inl, inr, Bool, true, false, not, eqb, ◌||◌, ◌&&◌, List, [], ◌∷◌, length, filter, sym, refl, ap, ◌∙◌, subst, arith}
 use Rattle.std.specs.List.{list_any}
 use Rattle.std.specs.Bool.{IsTrue}
-use Rattle.std.proofs.lemmas.Bool.{eqb-true, eq-eqb, false≢true}
+use Rattle.std.proofs.lemmas.Bool.{eqb-true, eq-eqb, false≢true, or_left, or_right, or_cases, and_from, cases_Bool}
 use Rattle.schedule_model.specs.Histories.{is_in}
 use Rattle.schedule_model.specs.Graph.{Arrow, spread, spread_by, reached, leads, IsLeast, Walk, one_arrow, and_then}
 use Rattle.schedule_model.proofs.Active.{is_in-filter}
 use Rattle.schedule_model.proofs.Legal.{both-left, both-right}
 use Rattle.schedule_model.proofs.Counts.{length_filter-more, all_pass, filter_same-in}
-
-or_left : (a b : Bool) → a ≡ true → (a || b) ≡ true
-or_left true b is = refl
-or_left false b is = absurd (false≢true is)
-
-or_right : (a b : Bool) → b ≡ true → (a || b) ≡ true
-or_right true b is = refl
-or_right false b is = is
-
-either : (a b : Bool) → (a || b) ≡ true → (a ≡ true) ⊎ (b ≡ true)
-either true b is = inl refl
-either false b is = inr is
-
-both : (a b : Bool) → a ≡ true → b ≡ true → (a && b) ≡ true
-both true b is has = has
-both false b is has = absurd (false≢true is)
-
-by_test : (t : Bool) → (t ≡ true) ⊎ (t ≡ false)
-by_test true = inl refl
-by_test false = inr refl
 
 any_head : (p : ℕ → Bool) (j x : ℕ) (xs : List ℕ) → (is_in j xs ≡ true → list_any p xs ≡ true) → p j ≡ true
     → (eqb j x ≡ true) ⊎ (is_in j xs ≡ true) → (p x || list_any p xs) ≡ true
@@ -37,12 +17,12 @@ any_head p j x xs rest has (inr later) = or_right (p x) (list_any p xs) (rest la
 -- one that is listed passes: some one does
 pub any-is_in : (p : ℕ → Bool) (j : ℕ) (xs : List ℕ) → is_in j xs ≡ true → p j ≡ true → list_any p xs ≡ true
 any-is_in p j [] is has = absurd (false≢true is)
-any-is_in p j (x ∷ xs) is has = any_head p j x xs (λ later. any-is_in p j xs later has) has (either (eqb j x) (is_in j xs) is)
+any-is_in p j (x ∷ xs) is has = any_head p j x xs (λ later. any-is_in p j xs later has) has (or_cases (eqb j x) (is_in j xs) is)
 
 -- some one passes: it is listed
 pub is_in-any : (p : ℕ → Bool) (xs : List ℕ) → list_any p xs ≡ true → (j : ℕ) × (is_in j xs ≡ true) × (p j ≡ true)
 is_in-any p [] is = absurd (false≢true is)
-is_in-any p (x ∷ xs) is = by_head (either (p x) (list_any p xs) is) (is_in-any p xs)
+is_in-any p (x ∷ xs) is = by_head (or_cases (p x) (list_any p xs) is) (is_in-any p xs)
   where
     by_head : (p x ≡ true) ⊎ (list_any p xs ≡ true) → (list_any p xs ≡ true → (j : ℕ) × (is_in j xs ≡ true) × (p j ≡ true))
         → (j : ℕ) × (is_in j (x ∷ xs) ≡ true) × (p j ≡ true)
@@ -62,7 +42,7 @@ module _ (arrow : Arrow) (all : List ℕ) where
 
   -- what is listed stays in
   stays_in : (set : List ℕ) (k : ℕ) → IsTrue (is_in k all) → IsTrue (is_in k set) → IsTrue (is_in k (spread arrow all set))
-  stays_in set k among is = in_spread set k ∙ both (is_in k all) (grown set k) among (or_left (is_in k set) (list_any (λ j. arrow j k) set) is)
+  stays_in set k among is = in_spread set k ∙ and_from (is_in k all) (grown set k) among (or_left (is_in k set) (list_any (λ j. arrow j k) set) is)
 
   stays_by : (n : ℕ) (set : List ℕ) (k : ℕ) → IsTrue (is_in k all) → IsTrue (is_in k set) → IsTrue (is_in k (spread_by n arrow all set))
   stays_by zero set k among is = is
@@ -82,7 +62,7 @@ module _ (arrow : Arrow) (all : List ℕ) where
   holds_by P (suc n) set begins closed k is =
       let found = sym (in_spread (spread_by n arrow all set) k) ∙ is in
       by_reason P (spread_by n arrow all set) (holds_by P n set begins closed) closed k (both-left (is_in k all) (grown (spread_by n arrow all set) k) found)
-      (either (is_in k (spread_by n arrow all set)) (list_any (λ j. arrow j k) (spread_by n arrow all set)) (both-right (is_in k all) (grown (spread_by n arrow all set) k) found))
+      (or_cases (is_in k (spread_by n arrow all set)) (list_any (λ j. arrow j k) (spread_by n arrow all set)) (both-right (is_in k all) (grown (spread_by n arrow all set) k) found))
 
   -- an arrow leads to one that isn't in
   abbrev grows : List ℕ → Bool
@@ -99,7 +79,7 @@ module _ (arrow : Arrow) (all : List ℕ) where
       (rw out (any-is_in (λ i. arrow i k) j set is a))))
 
   closed_if_still : (set : List ℕ) → grows set ≡ false → Closed set
-  closed_if_still set still j k is among a = in_or_led set j k still is among a (by_test (is_in k set))
+  closed_if_still set still j k is among a = in_or_led set j k still is among a (cases_Bool (is_in k set))
 
   count_grows : (set : List ℕ) → grows set ≡ true → count set < count (spread arrow all set)
   count_grows set more =
@@ -120,7 +100,7 @@ module _ (arrow : Arrow) (all : List ℕ) where
 
   next_round : (n : ℕ) (set : List ℕ) → Closed set ⊎ (n ≤ count set) → Closed (spread arrow all set) ⊎ (n + 1 ≤ count (spread arrow all set))
   next_round n set (inl closed) = inl (closed_spread set closed)
-  next_round n set (inr many) = closed_or_more n set many (by_test (grows set))
+  next_round n set (inr many) = closed_or_more n set many (cases_Bool (grows set))
 
   -- after n rounds the set is closed, or has n processes
   closed_or_many : (n : ℕ) (set : List ℕ) → Closed (spread_by n arrow all set) ⊎ (n ≤ count (spread_by n arrow all set))
@@ -153,5 +133,5 @@ module _ (arrow : Arrow) (all : List ℕ) where
   -- and where a walk leads, it is said
   pub leads-from_walk : {i k : ℕ} → Walk arrow all i k → IsTrue (leads arrow all i k)
   leads-from_walk (one_arrow {i = i} {k = k} among a) =
-      stays_by (length all) (filter (arrow i) all) k among (is_in-filter (arrow i) k all ∙ both (is_in k all) (arrow i k) among a)
+      stays_by (length all) (filter (arrow i) all) k among (is_in-filter (arrow i) k all ∙ and_from (is_in k all) (arrow i k) among a)
   leads-from_walk (and_then {i = i} {j = j} {k = k} w among a) = reached_closed (filter (arrow i) all) j k (leads-from_walk w) among a

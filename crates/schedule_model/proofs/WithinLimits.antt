@@ -1,8 +1,8 @@
 -- Limits: beginnings and completions keep them, a process has few acts, and nothing but a start adds to what is counted.
-use Rattle.std.proofs.Common.{◌≡◌, ⊎_elim, ℕ, ◌+◌, ◌*◌, ◌≤◌, Bool, true, false, not, cond, eqb, ltb, leb, ◌&&◌, List, [], ◌∷◌, ◌++◌, length, map, filter, reverse, sym, refl, ap, ◌∙◌, subst, arith, append-nil}
+use Rattle.std.proofs.Common.{◌≡◌, ⊎_elim, ℕ, ◌+◌, ◌-◌, ◌*◌, ◌≤◌, Bool, true, false, not, cond, eqb, ltb, leb, ◌&&◌, List, [], ◌∷◌, ◌++◌, length, map, filter, reverse, sym, refl, ap, ◌∙◌, subst, arith, append-nil, append_assoc}
 use Rattle.std.specs.Bool.{IsTrue}
 use Rattle.std.specs.List.{flat_map, list_all, sum_by}
-use Rattle.std.proofs.lemmas.Bool.{and_parts, and_from, eqb-true, eq-eqb, ltb-true, lt-ltb, leb-true, le-leb, or_cases, false≢true}
+use Rattle.std.proofs.lemmas.Bool.{and_parts, and_from, eqb-true, eq-eqb, ltb-true, lt-ltb, leb-true, le-leb, or_cases, or_left, or_right, false≢true}
 use Rattle.std.proofs.lemmas.List.Sums.{sum_by-cons}
 use Rattle.std.proofs.lemmas.List.Folds.{list_all-append}
 use Rattle.std.proofs.lemmas.List.{length-append}
@@ -14,17 +14,19 @@ use Rattle.process_tree.proofs.InTurn.{goes_within}
 use Rattle.schedule_model.specs.declared.event.Event.{Event}
 use Rattle.schedule_model.specs.declared.event.Event.TheVariants.{Start, Act, End}
 use Rattle.schedule_model.specs.Course.{Course, course, courses_of, shape}
-use Rattle.schedule_model.specs.Conflict.{no_conflict}
+use Rattle.schedule_model.specs.Conflict.{ConflictRelation, no_conflict}
+use Rattle.schedule_model.proofs.Legal.{is_legal-prefix}
+use Rattle.schedule_model.proofs.Prefixes.{SameOfStarted, courses_in}
 use Rattle.schedule_model.specs.EachEvent.{each_passes}
 use Rattle.schedule_model.specs.Histories.{acts, starts, ends, active, is_active, is_in, of_process, net_of, net_steps, done_steps, undoing}
 use Rattle.schedule_model.specs.Recovery.{owed}
-use Rattle.schedule_model.specs.Completion.{all_undoable, closing, completion}
+use Rattle.schedule_model.specs.Completion.{all_backward_entries, closing, completion}
 use Rattle.schedule_model.specs.OwnOrder.{goes_on, is_in_own_order}
-use Rattle.schedule_model.specs.Limits.{Limits, starts_within, keeps_limits, stands_within, still_needed, entries}
+use Rattle.schedule_model.specs.Limits.{Limits, need, starts_within, keeps_limits, stands_within, still_needed, entries}
 use Rattle.schedule_model.specs.Legal.{may_come, is_legal}
-use Rattle.schedule_model.specs.Laws.{AreGood, BeginningsKeepLimits, CompletionKeepsLimits, ActsAreFew, LimitsHold}
+use Rattle.schedule_model.specs.Laws.{AreGood, BeginningsKeepLimits, LimitsOfBeginnings, plans_in, CompletionKeepsLimits, ActsAreFew, LimitsHold}
 use Rattle.schedule_model.proofs.Induction.{each_passes-append, each_passes-prefix, each_passes-push, passes-push, by_legal}
-use Rattle.schedule_model.proofs.Appends.{acts-append, starts-append, ends-append, done_steps-append}
+use Rattle.schedule_model.proofs.Appends.{acts-append, starts-append, ends-append, is_in-append, done_steps-append}
 use Rattle.schedule_model.proofs.Active.{is_active-is_in}
 use Rattle.schedule_model.proofs.Counts.{length_filter-most}
 use Rattle.schedule_model.proofs.Acting.{act_active, end_active}
@@ -37,6 +39,44 @@ use Rattle.schedule_model.proofs.GoodPlans.{good_if_goes_on}
 
 pub beginnings-keep_limits : BeginningsKeepLimits
 beginnings-keep_limits l courses g k keeps = each_passes-prefix (starts_within l courses) g k keeps
+
+-- What is counted asks the courses of those that started alone.
+
+sum_same : (f g : ℕ → ℕ) (xs : List ℕ) → ((k : ℕ) → IsTrue (is_in k xs) → f k ≡ g k) → sum_by f xs ≡ sum_by g xs
+sum_same f g [] same = refl
+sum_same f g (x ∷ xs) same =
+    let here = same x (or_left (eqb x x) (is_in x xs) (eq-eqb x x refl)) in
+    let rest = sum_same f g xs (λ k is. same k (or_right (eqb k x) (is_in k xs) is)) in
+    let one = sum_by-cons f x xs in
+    let two = sum_by-cons g x xs in
+    omega arith
+
+module _ (cs ds : List Course) (table : ConflictRelation) (l : Limits) where
+  stands-courses : (h : List Event) → SameOfStarted cs ds table h → stands_within l cs h ≡ stands_within l ds h
+  stands-courses h same =
+      ap (λ n. leb (length (active h)) l.active && leb (length (starts h)) l.processes && leb (length (acts h) + length (ends h) + n) l.entries)
+      (sum_same (still_needed cs h) (still_needed ds h) (active h)
+      (λ k is. ap (λ c. need c - length (of_process k (acts h)))
+      (same k (and_parts (is_in k (starts h)) (not (is_in k (ends h))) (sym (is_active-is_in h k) ∙ is)).0)))
+
+  starts-courses : (h : List Event) (e : Event) → SameOfStarted cs ds table (h ++ e ∷ []) → starts_within l cs h e ≡ starts_within l ds h e
+  starts-courses h (Start i) same = stands-courses (h ++ Start i ∷ []) same
+  starts-courses h (Act e) same = refl
+  starts-courses h (End i) same = refl
+
+  limits-courses : (before h : List Event) → SameOfStarted cs ds table (before ++ h) → each_passes (starts_within l cs) before h ≡ each_passes (starts_within l ds) before h
+  limits-courses before [] same = refl
+  limits-courses before (e ∷ h) same =
+      let same' = subst (SameOfStarted cs ds table) (sym (append_assoc before (e ∷ []) h)) same in
+      ap (λ b. b && each_passes (starts_within l cs) (before ++ e ∷ []) h)
+      (starts-courses before e (λ i is. same' i (ap (is_in i) (starts-append (before ++ e ∷ []) h) ∙ (is_in-append i (starts (before ++ e ∷ [])) (starts h) ∙ or_left (is_in i (starts (before ++ e ∷ []))) (is_in i (starts h)) is))))
+      ∙ ap (λ b. starts_within l ds before e && b) (limits-courses (before ++ e ∷ []) h same')
+
+pub limits-of_beginnings : LimitsOfBeginnings
+limits-of_beginnings l table plans g k good keeps =
+    let legal = is_legal-prefix table (courses_of plans) g k good.legal in
+    sym (limits-courses (courses_of plans) (courses_of (plans_in plans g)) table l [] g (courses_in table plans g legal))
+    ∙ each_passes-prefix (starts_within l (courses_of plans)) g k keeps
 
 -- Completion has no start, so nothing of it is judged.
 
@@ -58,8 +98,8 @@ starts_of_closings courses h (i ∷ is) =
 -- nobody starts in a completion
 pub starts-completion : (courses : List Course) (h : List Event) → starts (completion courses h) ≡ []
 starts-completion courses h =
-    starts-append (map (λ e. Act (undoing e)) (reverse (all_undoable courses h))) (flat_map (closing courses h) (active h))
-    ∙ (ap (λ js. js ++ starts (flat_map (closing courses h) (active h))) (starts_of_undos (reverse (all_undoable courses h)))
+    starts-append (map (λ e. Act (undoing e)) (reverse (all_backward_entries courses h))) (flat_map (closing courses h) (active h))
+    ∙ (ap (λ js. js ++ starts (flat_map (closing courses h) (active h))) (starts_of_undos (reverse (all_backward_entries courses h)))
     ∙ starts_of_closings courses h (active h))
 
 nobody_starts : (i : ℕ) (is : List ℕ) → i ∷ is ≡ [] → ⊥

@@ -7,7 +7,7 @@ use Rattle.schedule_model.specs.declared.trace_step.TraceStep.TheVariants.{Move,
 use Rattle.schedule_model.specs.Course.{Course}
 use Rattle.schedule_model.specs.Histories.{acts, net, doing, outlives}
 use Rattle.schedule_model.specs.Limits.{Limits, keeps_limits, stands_within}
-use Rattle.schedule_model.specs.Recovery.{undoable, owed}
+use Rattle.schedule_model.specs.Recovery.{backward_entries, owed}
 use Rattle.schedule_model.specs.Completion.{completion}
 use Rattle.schedule_model.specs.OwnOrder.{keeps_order}
 use Rattle.schedule_model.specs.Legal.{is_legal, is_reducible, first_illegal}
@@ -107,7 +107,7 @@ counter = addition ∷ order ∷ []
 abbrev pub ordered : List Event
 ordered = Start 1 ∷ Start 2 ∷ did counter 2 0 ∷ did counter 1 0 ∷ did counter 2 1 ∷ []
 
-pub ordered_undoable : undoable counter ordered 2 ≡ doing counter 2 1 ∷ []
+pub ordered_undoable : backward_entries counter ordered 2 ≡ doing counter 2 1 ∷ []
 ordered_undoable = refl
 
 pub ordered_owed : owed counter ordered 2 ≡ doing counter 2 4 ∷ []

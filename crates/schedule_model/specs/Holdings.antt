@@ -7,7 +7,7 @@ use Rattle.schedule_model.specs.declared.event.Event.{Event}
 use Rattle.schedule_model.specs.Course.{Course}
 use Rattle.schedule_model.specs.Conflict.{ConflictRelation, conflict}
 use Rattle.schedule_model.specs.Histories.{active, is_in, net, same_step}
-use Rattle.schedule_model.specs.Recovery.{undoable, owed}
+use Rattle.schedule_model.specs.Recovery.{backward_entries, owed}
 use Rattle.schedule_model.specs.Graph.{leads}
 
 -- what one active process holds
@@ -20,7 +20,7 @@ pub record Hold : Type 0 where
   -- the entries that it has to undo, in joint order
   pub pending : List Entry
   -- its backward recovery: the entries that can still be undone, in joint order
-  pub undoable : List Entry
+  pub backward_entries : List Entry
 
 -- the net in joint order, and what each active process holds, by number
 pub record Holdings : Type 0 where
@@ -70,7 +70,7 @@ reaches table g k i = leads (arrow table g) (holders g) k i
 
 -- what process i holds while nothing is under way and nothing pending
 abbrev pub hold_at_rest : List Course → List Event → ℕ → Hold
-hold_at_rest courses h i = record { process = i; running = None; reserved = owed courses h i; pending = []; undoable = undoable courses h i }
+hold_at_rest courses h i = record { process = i; running = None; reserved = owed courses h i; pending = []; backward_entries = backward_entries courses h i }
 
 -- what all active processes hold then
 abbrev pub at_rest : List Course → List Event → Holdings

@@ -8,14 +8,14 @@ use Rattle.process_tree.specs.Shape.{shape_of, kind_of, can_be_refused}
 use Rattle.process_tree.specs.Play.{arrive, go_on}
 use Rattle.process_tree.specs.Making.{tree_fault}
 use Rattle.process_tree.specs.Termination.{IsWellFormed}
-use Rattle.process_tree.specs.Recovery.{StepClass, reserved, committing, undoable as undoable_class}
+use Rattle.process_tree.specs.Recovery.{StepClass, reserved, committing, undoable}
 use Rattle.schedule_model.specs.declared.event.Event.{Event}
 use Rattle.schedule_model.specs.declared.event.Event.TheVariants.{Act}
 use Rattle.schedule_model.specs.declared.trace_step.TraceStep.{TraceStep}
 use Rattle.schedule_model.specs.Course.{Course, course, courses_of, op_of, shape}
 use Rattle.schedule_model.specs.Conflict.{ConflictRelation, IsSymmetric, conflict}
 use Rattle.schedule_model.specs.Histories.{acts, starts, ends, active, is_active, is_in, net, net_of, net_steps, of_process, outlives, same_step, doing}
-use Rattle.schedule_model.specs.Recovery.{undoable, owed, owed_after}
+use Rattle.schedule_model.specs.Recovery.{backward_entries, owed, owed_after}
 use Rattle.schedule_model.specs.Completion.{completed}
 use Rattle.schedule_model.specs.OwnOrder.{goes_on, is_at_end, is_in_own_order}
 use Rattle.schedule_model.specs.Limits.{Limits, keeps_limits, stands_within}
@@ -77,9 +77,14 @@ FirstIllegalIsExact = (table : ConflictRelation) (courses : List Course) (h : Li
 
 -- Limits.
 
--- Each beginning of a history within limits is within them, with its own plans alone, too.
+-- Each beginning of a history within limits is within them.
 abbrev pub BeginningsKeepLimits : Type 0
 BeginningsKeepLimits = (l : Limits) (courses : List Course) (g k : List Event) → IsTrue (keeps_limits l courses (g ++ k)) → IsTrue (keeps_limits l courses g)
+
+-- Of a legal one it is so with the plans of those that started in it alone.
+abbrev pub LimitsOfBeginnings : Type 0
+LimitsOfBeginnings = (l : Limits) (table : ConflictRelation) (plans : List Plan) (g k : List Event) → IsGood table plans (g ++ k)
+    → IsTrue (keeps_limits l (courses_of plans) (g ++ k)) → IsTrue (keeps_limits l (courses_of (plans_in plans g)) g)
 
 -- Completion of a history within limits is within them.
 abbrev pub CompletionKeepsLimits : Type 0
@@ -152,19 +157,19 @@ PrefixReducibility = (table : ConflictRelation) (plans : List Plan) (g k : List 
 -- what step b does to the recovery of process i, by its class; after is the history with it
 pub record ClassFacts (courses : List Course) (h after : List Event) (i b : ℕ) : Type 0 where
   -- an owed step leaves nothing to undo, before and after, and what is owed is the step and then what is owed after it
-  pub reserved_before : class_in courses h i b ≡ reserved → undoable courses h i ≡ []
-  pub reserved_after : class_in courses h i b ≡ reserved → undoable courses after i ≡ []
+  pub reserved_before : class_in courses h i b ≡ reserved → backward_entries courses h i ≡ []
+  pub reserved_after : class_in courses h i b ≡ reserved → backward_entries courses after i ≡ []
   pub reserved_owes : class_in courses h i b ≡ reserved → owed courses h i ≡ doing courses i b ∷ owed courses after i
   -- it can't be refused: play comes past it without an outcome
   pub reserved_succeeds : class_in courses h i b ≡ reserved → can_be_refused (kind_of (shape courses i) b) ≡ false
   pub reserved_without_outcome : class_in courses h i b ≡ reserved
       → arrive (shape courses i) (net_steps h i) b ≡ go_on (shape courses i) (net_steps h i ++ b ∷ [])
   -- a committing step leaves nothing to undo, and what is owed is what was said
-  pub committing_after : class_in courses h i b ≡ committing → undoable courses after i ≡ []
+  pub committing_after : class_in courses h i b ≡ committing → backward_entries courses after i ≡ []
   pub committing_owes : class_in courses h i b ≡ committing → owed courses after i ≡ owed_after courses h i b
   -- an undoable step adds itself to what can be undone, and what is owed stays
-  pub undoable_after : class_in courses h i b ≡ undoable_class → undoable courses after i ≡ undoable courses h i ++ doing courses i b ∷ []
-  pub undoable_owes : class_in courses h i b ≡ undoable_class → owed courses after i ≡ owed courses h i
+  pub undoable_after : class_in courses h i b ≡ undoable → backward_entries courses after i ≡ backward_entries courses h i ++ doing courses i b ∷ []
+  pub undoable_owes : class_in courses h i b ≡ undoable → owed courses after i ≡ owed courses h i
 
 -- They hold of each step that goes on, over good plans.
 abbrev pub ClassFactsHold : Type 0
@@ -179,7 +184,7 @@ pub record StandingFacts (table : ConflictRelation) (courses : List Course) (h :
       → Contains (net_of h k ++ owed courses h k) e → conflict table s e ≡ false
   -- before a net entry of an active process that can't be undone stands no net entry of another active process that conflicts
   pub fixed_is_free : (i k : ℕ) (x e : Entry) → IsTrue (is_active h i) → IsTrue (is_active h k) → Contains (net_of h k) x
-      → Contains (net_of h i) e → IsTrue (not (list_any (same_step e) (undoable courses h i))) → Contains (behind x (net h)) e
+      → Contains (net_of h i) e → IsTrue (not (list_any (same_step e) (backward_entries courses h i))) → Contains (behind x (net h)) e
       → conflict table x e ≡ false
   -- no net entry of an ended process conflicts with an earlier net entry of a process that is active, or ended after it
   pub ended_is_free : (i k : ℕ) (x e : Entry) → IsTrue (is_in i (ends h)) → IsTrue (outlives h k i) → Contains (net_of h k) x

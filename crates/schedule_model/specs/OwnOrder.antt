@@ -8,7 +8,7 @@ use Rattle.schedule_model.specs.declared.event.Event.TheVariants.{Start, Act, En
 use Rattle.schedule_model.specs.Course.{Course, shape, op_of}
 use Rattle.schedule_model.specs.EachEvent.{each_passes}
 use Rattle.schedule_model.specs.Histories.{is_active, starts, done_steps, net_steps, same_step}
-use Rattle.schedule_model.specs.Recovery.{undoable}
+use Rattle.schedule_model.specs.Recovery.{backward_entries}
 
 -- e is of the last step of these entries
 abbrev pub is_of_last : List Entry → Entry → Bool
@@ -29,7 +29,7 @@ is_at_end courses h i = is_end (shape courses i) (net_steps h i)
 abbrev pub entry_keeps_order : List Course → List Event → Entry → Bool
 entry_keeps_order courses h e =
     is_active h e.process && nat_eq e.op (op_of courses e.process e.step)
-    && (if e.undo then is_of_last (undoable courses h e.process) e else goes_on courses h e.process e.step)
+    && (if e.undo then is_of_last (backward_entries courses h e.process) e else goes_on courses h e.process e.step)
 
 -- a start takes the next number, and only an active process that is at an end may end
 abbrev pub keeps_order : List Course → List Event → Event → Bool

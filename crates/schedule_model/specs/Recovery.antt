@@ -8,8 +8,8 @@ use Rattle.schedule_model.specs.Course.{Course, shape}
 use Rattle.schedule_model.specs.Histories.{doing, net_of, net_steps}
 
 -- backward recovery: the net of process i after its last commit point
-abbrev pub undoable : List Course → List Event → ℕ → List Entry
-undoable courses h i = drop (fixed_len (shape courses i) (net_steps h i)) (net_of h i)
+abbrev pub backward_entries : List Course → List Event → ℕ → List Entry
+backward_entries courses h i = drop (fixed_len (shape courses i) (net_steps h i)) (net_of h i)
 
 -- forward recovery: the steps that process i owes from its last commit point on, through last alternatives
 abbrev pub owed_steps : List Course → List Event → ℕ → List ℕ

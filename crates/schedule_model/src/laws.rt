@@ -1,5 +1,5 @@
 // The laws of histories: each function says one, and does nothing.
-ghost use Rattle.schedule_model.specs.Laws.{PrefixLaw, BeginningsArePlanned, FirstIllegalIsExact, BeginningsKeepLimits, CompletionKeepsLimits, ActsAreFew, LimitsHold, OwnOrderCompletionLaw, CompletionIsStable, AppliedStepsReduce, ClassFactsHold, EndedDontBlockSteps};
+ghost use Rattle.schedule_model.specs.Laws.{PrefixLaw, BeginningsArePlanned, FirstIllegalIsExact, BeginningsKeepLimits, CompletionKeepsLimits, ActsAreFew, LimitsHold, OwnOrderCompletionLaw, CompletionLaw, CompletionIsStable, StandingFactsHold, OpeningsAreAcyclic, LimitsOfBeginnings, EndedDontBlockUndos, AppliedStepsReduce, ReductionLaw, PrefixReducibility, ClassFactsHold, EndedDontBlockSteps};
 ghost use Rattle.schedule_model.specs.PlannedExample.{ShopIsPlanned};
 
 /// Each beginning of a legal history is legal, with the plans of those that started in it.
@@ -22,9 +22,10 @@ pub fn first_illegal_is_exact()
     ensures { FirstIllegalIsExact }
 {}
 
-/// Each beginning of a history within limits is within them.
+/// Each beginning of a history within limits is within them, with its own plans alone, too.
 pub fn beginnings_keep_limits()
-    ensures { BeginningsKeepLimits }
+    ensures any { BeginningsKeepLimits }
+    ensures planned { LimitsOfBeginnings }
 {}
 
 /// The completion of a history within limits is within them.
@@ -47,6 +48,11 @@ pub fn own_order_is_completed()
     ensures { OwnOrderCompletionLaw }
 {}
 
+/// A completed history is legal, nobody is active in it, and each process is at an end.
+pub fn legal_histories_are_completed()
+    ensures { CompletionLaw }
+{}
+
 /// Cut off while it is completed, a history is completed to the same.
 pub fn completion_is_stable()
     ensures { CompletionIsStable }
@@ -57,6 +63,16 @@ pub fn applied_steps_reduce()
     ensures { AppliedStepsReduce }
 {}
 
+/// The printed trace of a reducible history in which nobody is active leads to a serial list.
+pub fn reducible_histories_reduce()
+    ensures { ReductionLaw }
+{}
+
+/// So does that of the completed history of each beginning of a legal one.
+pub fn beginnings_reduce()
+    ensures { PrefixReducibility }
+{}
+
 /// What a next step does to the recovery of its process, by its class.
 pub fn class_facts_hold()
     ensures { ClassFactsHold }
@@ -65,4 +81,19 @@ pub fn class_facts_hold()
 /// What stands against a step or an end is the same without those that have ended.
 pub fn ended_dont_block_steps()
     ensures { EndedDontBlockSteps }
+{}
+
+/// What is owed is free, what is fixed is, and what has ended is.
+pub fn standing_facts_hold()
+    ensures { StandingFactsHold }
+{}
+
+/// The conflict graph of a legal history has no circle.
+pub fn openings_are_acyclic()
+    ensures { OpeningsAreAcyclic }
+{}
+
+/// In a legal history those that have ended don't stand against an undo.
+pub fn ended_dont_block_undos()
+    ensures { EndedDontBlockUndos }
 {}

@@ -16,7 +16,11 @@ mod trace_step;
 pub use event::{Event, Events};
 pub use history::{History, Plans};
 pub use laws::{
-    acts_are_few, applied_steps_reduce, beginnings_are_legal, beginnings_are_planned, beginnings_keep_limits, class_facts_hold, completion_is_stable, completion_keeps_limits, ended_dont_block_steps, first_illegal_is_exact, limits_hold, own_order_is_completed, the_shop_is_planned,
+    acts_are_few, applied_steps_reduce, beginnings_are_legal, beginnings_are_planned,
+    beginnings_keep_limits, beginnings_reduce, class_facts_hold, completion_is_stable,
+    completion_keeps_limits, ended_dont_block_steps, ended_dont_block_undos,
+    first_illegal_is_exact, legal_histories_are_completed, limits_hold, openings_are_acyclic,
+    own_order_is_completed, reducible_histories_reduce, standing_facts_hold, the_shop_is_planned,
 };
 pub use limits::{MOST_ACTIVE, MOST_ENTRIES, MOST_PROCESSES};
 pub use trace_step::TraceStep;
