@@ -1,5 +1,6 @@
 -- What a call keeps may be kept: a session by calls is a run.
 use Rattle.std.proofs.Common.{◌≡◌, ℕ, zero, suc, ◌+◌, Bool, true, false, not, cond, eqb, if◌then◌else◌, ◌&&◌, List, [], ◌∷◌, ◌++◌, append-nil, length, filter, find, slice_get, Option, Some, None, is_some, is_none, sym, refl, ap, ◌∙◌}
+use Rattle.std.proofs.Math.Bool.{and-true}
 use Rattle.std.specs.Bool.{IsTrue}
 use Rattle.std.specs.List.{list_any}
 use Rattle.std.proofs.lemmas.Option.{none-some, cond_some}
@@ -32,10 +33,6 @@ same_work-itself : (w : Work) → same_work w w ≡ true
 same_work-itself Forward = refl
 same_work-itself Undo = refl
 same_work-itself End = refl
-
-and_true : (a : Bool) → (a && true) ≡ a
-and_true true = refl
-and_true false = refl
 
 some_same : {X : Type 0} (x y : X) → Some x ≡ Some y → x ≡ y
 some_same x y is = (cond_some true x y is).1

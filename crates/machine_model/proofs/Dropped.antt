@@ -5,7 +5,8 @@ use Rattle.std.specs.List.{list_any}
 use Rattle.std.specs.Option.{option_or}
 use Rattle.std.proofs.lemmas.Option.{none-some, same_Some}
 use Rattle.std.proofs.lemmas.Bool.{and_parts, or_left, or_right, eqb-true, eqb-false, eq-eqb, ne_eqb, not-true, false≢true}
-use Rattle.std.proofs.lemmas.List.{take-append-drop, take-append-le, take_all}
+use Rattle.std.proofs.Math.Seq.{take-length}
+use Rattle.std.proofs.lemmas.List.{take-append-drop, take-append-le}
 use Rattle.std.proofs.lemmas.List.Folds.{find-append}
 use Rattle.process_tree.specs.Order.{Each}
 use Rattle.process_tree.proofs.Every.{Each-weaker, Each-append, Each-both, Each-map}
@@ -85,9 +86,6 @@ any_filter_both : {X : Type 0} (q r : X → Bool) (xs : List X) → Each (λ x. 
 any_filter_both q r [] each any = absurd (false≢true any)
 any_filter_both q r (x ∷ xs) each any = any_step q r x xs (filter r xs) (q x) (r x) refl refl each.0 (any_filter_both q r xs each.1) any
 
-take_whole : {X : Type 0} (xs : List X) → take (length xs) xs ≡ xs
-take_whole xs = take_all (length xs) xs (omega arith)
-
 -- a piece that is out isn't finished
 out_unfinished : (m : Moment) (n : ℕ) → Counted m → runs m n ≡ true → is_finished m.kept n ≡ false
 out_unfinished m n c is = none-count (ends_piece n) m.kept (let a = count-some (is_number n) m.out is in let o = c.once n in let p = c.parted n in omega arith)
@@ -113,7 +111,7 @@ module _ (cause : Cause) (m : Moment) (i : ℕ) (never : has_begun m i ≡ false
     begun = beginning-new cause m i p.process (ap (beginning_of m) (eqb-true p.process i its) ∙ is_none_of (beginning_of m i) never) ∙ ap (λ t. cond t (Some new) None) (eq-eqb i p.process (sym (eqb-true p.process i its)));
     event = refl;
     kept = omega arith;
-    out = (ap (λ ks. is_some (piece_of ks p.number)) (take_whole m.kept) ∙ ap is_some is.0, ap (λ ks. is_finished ks p.number) (take_whole m.kept) ∙ out_unfinished m p.number order.tidy.counted is.1);
+    out = (ap (λ ks. is_some (piece_of ks p.number)) (take-length m.kept) ∙ ap is_some is.0, ap (λ ks. is_finished ks p.number) (take-length m.kept) ∙ out_unfinished m p.number order.tidy.counted is.1);
   }
 
   both_out : Each (λ p. IsPieceOfItsNumber m.kept p × (runs m p.number ≡ true)) m.out
@@ -184,7 +182,7 @@ module _ (cause : Cause) (m : Moment) (i : ℕ) (never : has_begun m i ≡ false
       by_new true its none is =
           let same = same_Some new b is in
           let at : length m.kept ≡ b.began.event = ap (λ (x : Beginning). x.began.event) same in
-          let unfinished : is_finished m.kept n ≡ false = ap (λ ks. is_finished ks n) (sym (take_whole m.kept)) ∙ (ap (λ k. is_finished (take k m.kept) n) at ∙ out.1) in
+          let unfinished : is_finished m.kept n ≡ false = ap (λ ks. is_finished ks n) (sym (take-length m.kept)) ∙ (ap (λ k. is_finished (take k m.kept) n) at ∙ out.1) in
           let lost = unlost n p found none (list_any (is_lost_number n) m.lost) refl in
           newly_dropped n p found (eq-eqb p.process i (sym (eqb-true i p.process its))) lost (else_out n p found lost unfinished) ∙ ap Some at
 

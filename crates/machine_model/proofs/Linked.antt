@@ -30,6 +30,11 @@ filter_step : {X : Type 0} (P : X → Type 0) (x : X) (ys : List X) (t : Bool) �
 filter_step P x ys true has each = (has, each)
 filter_step P x ys false has each = each
 
+-- what all have, each has
+pub every : {X : Type 0} (P : X → Type 0) (xs : List X) → ((x : X) → P x) → Each P xs
+every P [] all = tt
+every P (x ∷ xs) all = (all x, every P xs all)
+
 -- what each has, each of those that pass has
 pub Each-filter : {X : Type 0} (P : X → Type 0) (q : X → Bool) (xs : List X) → Each P xs → Each P (filter q xs)
 Each-filter P q [] each = tt

@@ -22,16 +22,13 @@ use Rattle.machine_model.specs.Progress.{staying}
 use Rattle.machine_model.specs.Moment.{Moment}
 use Rattle.machine_model.specs.State.{hold_of, holdings, pending_of, progress}
 use Rattle.machine_model.specs.Laws.{OpenHoldingsDragAlike, open_only}
+use Rattle.machine_model.proofs.Linked.{every}
 use Rattle.machine_model.proofs.Ends.{Each-drop, all_pass}
 use Rattle.machine_model.proofs.OpenHoldings.{behind-filter, holds-active}
 
 any_same : {X : Type 0} (p q : X → Bool) (xs : List X) → Each (λ x. p x ≡ q x) xs → list_any p xs ≡ list_any q xs
 any_same p q [] each = refl
 any_same p q (x ∷ xs) each = rw (each.0, any_same p q xs each.1) refl
-
-every : {X : Type 0} (P : X → Type 0) (xs : List X) → ((x : X) → P x) → Each P xs
-every P [] all = tt
-every P (x ∷ xs) all = (all x, every P xs all)
 
 -- each of a list of numbers is listed
 pub each_listed : (xs : List ℕ) → Each (λ k. is_in k xs ≡ true) xs

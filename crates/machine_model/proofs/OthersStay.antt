@@ -1,5 +1,6 @@
 -- An event leaves a process as it was, unless it is of its piece or makes it begin to complete.
 use Rattle.std.proofs.Common.{◌≡◌, ℕ, ◌+◌, ◌≤◌, Bool, true, false, not, cond, eqb, ◌&&◌, ◌||◌, List, [], ◌∷◌, ◌++◌, length, filter, find, map, drop, is_some, Option, Some, None, sym, refl, ap, subst, ◌∙◌, append-nil, arith}
+use Rattle.std.proofs.Math.Bool.{or-false}
 use Rattle.std.specs.Bool.{IsTrue}
 use Rattle.std.specs.Option.{option_or}
 use Rattle.std.proofs.lemmas.Option.{none-some, same_Some}
@@ -34,7 +35,7 @@ use Rattle.machine_model.proofs.Begun.{begins_now-has, advance-begun}
 use Rattle.machine_model.proofs.PieceCounts.{Counted, is_number}
 use Rattle.machine_model.proofs.CallsKept.{find-passes}
 use Rattle.machine_model.proofs.RefusedPieces.{refused-plain, refused-hand, refused-others, unhanded-unrefused}
-use Rattle.machine_model.proofs.Linked.{Tidy, IsPieceOfItsNumber, run-tidy}
+use Rattle.machine_model.proofs.Linked.{Tidy, IsPieceOfItsNumber, every, run-tidy}
 use Rattle.machine_model.proofs.Frames.{SameFor, same_history, same_progress, start-leaves, event-leaves, piece_of-plain}
 use Rattle.machine_model.proofs.RunningNext.{flipped, hand_parts}
 
@@ -52,17 +53,9 @@ pub find-filter : {X : Type 0} (q keep : X → Bool) (xs : List X) → Each (λ 
 find-filter q keep [] each = refl
 find-filter q keep (x ∷ xs) each = find_step q keep x xs (keep x) refl each.0 (find-filter q keep xs each.1)
 
-every : {X : Type 0} (P : X → Type 0) (xs : List X) → ((x : X) → P x) → Each P xs
-every P [] all = tt
-every P (x ∷ xs) all = (all x, every P xs all)
-
 or_none : {X : Type 0} (o : Option X) → option_or o None ≡ o
 or_none None = refl
 or_none (Some x) = refl
-
-or_false : (t : Bool) → (t || false) ≡ t
-or_false true = refl
-or_false false = refl
 
 -- what moment n has of process i beside who has begun is as moment m has it
 pub record StaysFor (courses : List Course) (m n : Moment) (i : ℕ) : Type 0 where
@@ -95,7 +88,7 @@ module _ (table : ConflictRelation) (courses : List Course) (m : Moment) (i : �
           find-filter (λ p. eqb p.process i) (λ p. not (eqb p.process k)) n.out
           (every (λ p. eqb p.process i ≡ true → not (eqb p.process k) ≡ true) n.out
           (λ p is. ap not (ap (λ j. eqb j k) (eqb-true p.process i is) ∙ flipped k i at)))
-          ∙ stays.running (sym (ap (λ t. has_begun n i || t) at ∙ or_false (has_begun n i)) ∙ same)
+          ∙ stays.running (sym (ap (λ t. has_begun n i || t) at ∙ or-false (has_begun n i)) ∙ same)
 
   same_refused : (ks : List Kept) → refused_pieces ks ≡ refused_pieces m.kept → (r : Piece → Bool) → ((q : Piece) → eqb q.process i ≡ false → r q ≡ false) → filter r (refused_pieces ks) ≡ filter r (refused_pieces m.kept)
   same_refused ks same r others = ap (filter r) same

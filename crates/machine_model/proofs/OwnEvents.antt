@@ -1,5 +1,6 @@
 -- What the end of its own piece makes of the progress of a process, and what its beginning to complete does.
 use Rattle.std.proofs.Common.{◌≡◌, ◌⊎◌, inl, inr, ℕ, ◌+◌, ◌-◌, ◌≤◌, max, Bool, true, false, not, cond, if◌then◌else◌, eqb, ◌&&◌, ◌||◌, List, [], ◌∷◌, ◌++◌, length, take, filter, find, map, is_none, is_some, Option, Some, None, sym, refl, ap, subst, ◌∙◌, append-nil, append_assoc, arith}
+use Rattle.std.proofs.Math.Bool.{or-false}
 use Rattle.std.specs.Bool.{IsTrue}
 use Rattle.std.specs.List.{list_any}
 use Rattle.std.proofs.lemmas.Option.{none-some, same_Some}
@@ -223,11 +224,7 @@ module _ (table : ConflictRelation) (courses : List Course) where
   drag-own m i =
       let others = filter (λ k. not (eqb k i)) (cascade_of table courses m i) in
       let none : is_in i others ≡ false = is_in-filter (λ k. not (eqb k i)) i (cascade_of table courses m i) ∙ and_right (is_in i (cascade_of table courses m i)) (not (eqb i i)) (not_from_true (eqb i i) (eq-eqb i i refl)) in
-      all_begin-has (Cascade i) m others i ∙ (ap (λ t. has_begun m i || t) none ∙ or_false (has_begun m i))
-    where
-      or_false : (t : Bool) → (t || false) ≡ t
-      or_false true = refl
-      or_false false = refl
+      all_begin-has (Cascade i) m others i ∙ (ap (λ t. has_begun m i || t) none ∙ or-false (has_begun m i))
 
   -- an only try is refused: its process begins to complete where no way on is left
   pub step_refused-progress : (m : Moment) (i b : ℕ) → progress courses (step_refused table courses m i b) i ≡ complete_unless_on (progress courses m i)

@@ -1,5 +1,6 @@
 -- Each piece that was handed out is out, lost or finished, and only one of these.
 use Rattle.std.proofs.Common.{◌≡◌, ◌⊎◌, inl, inr, ℕ, ◌+◌, ◌≤◌, ◌<◌, Bool, true, false, not, cond, eqb, ◌&&◌, ◌||◌, List, [], ◌∷◌, ◌++◌, length, filter, map, Option, Some, None, sym, refl, ap, ◌∙◌, append-nil, arith, length-append}
+use Rattle.std.proofs.Math.Bool.{or-false}
 use Rattle.std.specs.Bool.{IsTrue}
 use Rattle.std.specs.List.{list_any}
 use Rattle.std.proofs.lemmas.Bool.{and_parts, eqb-true, eq-eqb, ne_eqb, cases_eq, false≢true}
@@ -160,11 +161,7 @@ module _ (table : ConflictRelation) (courses : List Course) where
   entered-counted m (Hand piece process step work) c may =
       handing m (record { number = piece; process = process; step = step; work = work })
       (eqb-true piece (length (hands m.kept) + 1) (and_parts _ _ (and_parts _ _ (and_parts _ _ may).0).0).0) c
-  entered-counted m (Effect n) c may = perhaps_happening (noted m (Effect n)) (piece_of (noted m (Effect n)).kept n) (ending m (Effect n) n refl (λ x. or_false (eqb x n)) refl may c)
-    where
-      or_false : (t : Bool) → (t || false) ≡ t
-      or_false true = refl
-      or_false false = refl
+  entered-counted m (Effect n) c may = perhaps_happening (noted m (Effect n)) (piece_of (noted m (Effect n)).kept n) (ending m (Effect n) n refl (λ x. or-false (eqb x n)) refl may c)
   entered-counted m (Refuse n) c may = ending m (Refuse n) n refl (λ x. refl) refl (and_parts _ _ may).0 c
   entered-counted m (Abort i) c may = plain m (Abort i) refl (λ n. refl) refl c
   entered-counted m (Victim i) c may = plain m (Victim i) refl (λ n. refl) refl c

@@ -1,5 +1,6 @@
 -- The running piece of a process is its next piece.
 use Rattle.std.proofs.Common.{◌≡◌, ◌⊎◌, inl, inr, ℕ, ◌+◌, ◌≤◌, Bool, true, false, not, cond, eqb, ◌&&◌, ◌||◌, List, [], ◌∷◌, ◌++◌, length, filter, find, Option, Some, None, sym, refl, ap, subst, ◌∙◌, arith}
+use Rattle.std.proofs.Math.Bool.{or-false}
 use Rattle.std.specs.Bool.{IsTrue}
 use Rattle.std.specs.List.{list_any}
 use Rattle.std.proofs.lemmas.Option.{none-some, same_Some}
@@ -104,12 +105,9 @@ module _ (table : ConflictRelation) (courses : List Course) where
       (λ p next other. still_next m (begins_now cause m k) p (same_progress courses m (begins_now cause m k) p.process (same_history m.events p.process) refl
       (begins_now-has cause m k p.process ∙ same_begun p k (not-true (eqb p.process k) other))) next) each
     where
-      or_false : (t : Bool) → (t || false) ≡ t
-      or_false true = refl
-      or_false false = refl
 
       same_begun : (p : Piece) (j : ℕ) → eqb p.process j ≡ false → (has_begun m p.process || eqb j p.process) ≡ has_begun m p.process
-      same_begun p j other = ap (λ t. has_begun m p.process || t) (flipped p.process j other) ∙ or_false (has_begun m p.process)
+      same_begun p j other = ap (λ t. has_begun m p.process || t) (flipped p.process j other) ∙ or-false (has_begun m p.process)
 
   leaves_all : (m : Moment) (k : Kept) (ps : List Piece) → Tidy m → may_be_kept table courses m k ≡ true → Each (λ p. IsOfOthers m.kept k p.process) ps → Each (IsNextPiece courses m) ps
       → Each (IsNextPiece courses (entered courses m k)) ps
