@@ -1,22 +1,19 @@
 -- Who has begun to complete after each event: nobody's beginning is taken back.
-use Rattle.std.proofs.Common.{◌≡◌, ℕ, Bool, true, false, not, cond, eqb, ◌&&◌, ◌||◌, List, [], ◌∷◌, ◌++◌, filter, find, is_some, length, Option, Some, None, sym, refl, ap, ◌∙◌}
+use Rattle.std.proofs.Common.{◌≡◌, ℕ, Bool, true, false, cond, eqb, ◌||◌, List, [], ◌∷◌, ◌++◌, length, Option, Some, None, sym, refl, ap, ◌∙◌}
 use Rattle.std.proofs.Math.Bool.{or-false}
-use Rattle.std.specs.List.{list_any}
 use Rattle.std.proofs.lemmas.Bool.{eqb-true, or_left, or_right, eq-eqb, false≢true}
 use Rattle.std.proofs.lemmas.List.Folds.{list_any-append}
 use Rattle.schedule_model.specs.Course.{Course}
 use Rattle.schedule_model.specs.Conflict.{ConflictRelation}
-use Rattle.schedule_model.specs.Histories.{active, is_in}
-use Rattle.schedule_model.specs.declared.event.Event.{Event}
+use Rattle.schedule_model.specs.Histories.{is_in}
 use Rattle.machine_model.specs.declared.kept.Kept.{Kept}
 use Rattle.machine_model.specs.declared.kept.Kept.TheVariants.{Start, Hand, Effect, Refuse, Abort, Victim, Restart}
 use Rattle.machine_model.specs.declared.began.Cause.{Cause}
-use Rattle.machine_model.specs.declared.began.Cause.TheVariants.{Cascade}
 use Rattle.machine_model.specs.Moment.{Moment, Piece, Beginning, noted, happened, begins, begins_now, all_begin, has_begun}
 use Rattle.machine_model.specs.Pieces.{piece_of}
-use Rattle.machine_model.specs.Advance.{advance, advance_all, drag_along, goes_back, cascade_of, with_piece, event_of}
+use Rattle.machine_model.specs.Advance.{advance, goes_back, with_piece, event_of}
 use Rattle.machine_model.proofs.Counting.{found-any}
-use Rattle.machine_model.proofs.Keeping.{IsKeptByBeginnings, entered, advance-keeps, begins-keep, all_begin-keep, drag_along-keeps}
+use Rattle.machine_model.proofs.RunInduction.{IsKeptByBeginnings, entered, advance-keeps, drag_along-keeps}
 
 -- who has begun after one more beginning
 pub begins_now-has : (cause : Cause) (m : Moment) (i k : ℕ) → has_begun (begins_now cause m i) k ≡ (has_begun m k || eqb i k)

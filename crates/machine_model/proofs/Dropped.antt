@@ -1,16 +1,15 @@
 -- A piece is dropped exactly where its process began to complete after the piece was handed out and while it was unfinished.
-use Rattle.std.proofs.Common.{◌≡◌, ◌↔◌, ℕ, ◌+◌, ◌≤◌, Bool, true, false, not, cond, if◌then◌else◌, eqb, ◌&&◌, ◌||◌, List, [], ◌∷◌, ◌++◌, length, take, drop, filter, find, map, is_some, Option, Some, None, sym, refl, ap, subst, ◌∙◌, append-nil, length-append, arith}
+use Rattle.std.proofs.Common.{◌≡◌, ℕ, ◌+◌, ◌≤◌, Bool, true, false, cond, if◌then◌else◌, eqb, ◌||◌, List, [], ◌∷◌, ◌++◌, length, take, drop, filter, find, map, is_some, Option, Some, None, sym, refl, ap, subst, ◌∙◌, length-append, arith}
 use Rattle.std.specs.Bool.{IsTrue}
 use Rattle.std.specs.List.{list_any}
 use Rattle.std.specs.Option.{option_or}
 use Rattle.std.proofs.lemmas.Option.{none-some, same_Some}
-use Rattle.std.proofs.lemmas.Bool.{and_parts, or_left, or_right, eqb-true, eqb-false, eq-eqb, ne_eqb, not-true, false≢true}
+use Rattle.std.proofs.lemmas.Bool.{or_left, or_right, eqb-true, eq-eqb, false≢true}
 use Rattle.std.proofs.Math.Seq.{take-length}
 use Rattle.std.proofs.lemmas.List.{take-append-drop, take-append-le}
 use Rattle.std.proofs.lemmas.List.Folds.{find-append}
 use Rattle.process_tree.specs.Order.{Each}
 use Rattle.process_tree.proofs.Every.{Each-weaker, Each-append, Each-both, Each-map}
-use Rattle.schedule_model.specs.declared.event.Event.{Event}
 use Rattle.schedule_model.specs.Course.{Course}
 use Rattle.schedule_model.specs.Conflict.{ConflictRelation}
 use Rattle.machine_model.specs.declared.kept.Kept.{Kept}
@@ -18,17 +17,16 @@ use Rattle.machine_model.specs.declared.kept.Kept.TheVariants.{Start, Hand, Effe
 use Rattle.machine_model.specs.declared.began.Cause.{Cause}
 use Rattle.machine_model.specs.declared.replies.PieceState.{PieceState}
 use Rattle.machine_model.specs.declared.replies.PieceState.TheVariants.{Out, Dropped, Over}
-use Rattle.machine_model.specs.Moment.{Moment, Piece, Lost, Beginning, beginning_of, noted, happened, losses, begins_now, has_begun, opening_moment}
+use Rattle.machine_model.specs.Moment.{Moment, Piece, Lost, Beginning, beginning_of, noted, happened, losses, begins_now, has_begun}
 use Rattle.machine_model.specs.Pieces.{hands, piece_of, is_finished, runs, dropped_at, event_of_lost, dropped_or_over, state_of}
 use Rattle.machine_model.specs.Advance.{Machine, advance, with_piece, event_of}
 use Rattle.machine_model.specs.Runs.{is_run, now, may_be_kept}
 use Rattle.machine_model.specs.PieceLaws.{DroppedIsExact, WasDroppedAt}
-use Rattle.machine_model.proofs.Counting.{count, count-some, count-none, some-count, none-count, found-any}
-use Rattle.machine_model.proofs.Snoc.{now-kept}
-use Rattle.machine_model.proofs.Keeping.{IsKeptByBeginnings, entered, advance-keeps, run-keeps}
+use Rattle.machine_model.proofs.Counting.{count-some, count-none, some-count, none-count, found-any}
+use Rattle.machine_model.proofs.RunInduction.{entered, advance-keeps, run-keeps}
 use Rattle.machine_model.proofs.PieceCounts.{Counted, is_number, is_lost_number, ends_piece, beginnings-counted}
-use Rattle.machine_model.proofs.OneOut.{OneOut, beginnings-one}
-use Rattle.machine_model.proofs.Linked.{Tidy, IsPieceOfItsNumber, Each-filter, Each-find, advance-tidy, opening-tidy, piece_of-more, linked-beginnings, entered-tidy}
+use Rattle.machine_model.proofs.OneOut.{beginnings-one}
+use Rattle.machine_model.proofs.TidyMoments.{Tidy, IsPieceOfItsNumber, Each-find, opening-tidy, piece_of-more, linked-beginnings, entered-tidy}
 use Rattle.machine_model.proofs.CallsKept.{find-passes}
 use Rattle.machine_model.proofs.Stuck.{none_found}
 use Rattle.machine_model.proofs.RunningNext.{Each-passing}

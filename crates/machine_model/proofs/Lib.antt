@@ -1,13 +1,13 @@
 pub mod Counting
 pub mod Snoc
-pub mod Keeping
+pub mod RunInduction
 pub mod PieceCounts
-pub mod Settled
+pub mod OverPieces
 pub mod Begun
 pub mod Victims
 pub mod Stuck
 pub mod OneOut
-pub mod Linked
+pub mod TidyMoments
 pub mod RefusedPieces
 pub mod Frames
 pub mod Least
@@ -19,7 +19,7 @@ pub mod RunningNext
 pub mod OthersStay
 pub mod OwnEvents
 pub mod Dropped
-pub mod Ends
+pub mod LastElements
 pub mod OpenCascade
 pub mod MachineCourses
 pub mod CoursesRuns

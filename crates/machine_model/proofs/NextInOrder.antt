@@ -1,39 +1,36 @@
 -- The next piece of an active process keeps own order.
-use Rattle.std.proofs.Common.{◌≡◌, ◌⊎◌, inl, inr, ℕ, zero, suc, ◌+◌, ◌-◌, ◌≤◌, ◌<◌, Bool, true, false, not, cond, if◌then◌else◌, eqb, ltb, leb, ◌&&◌, ◌||◌, List, [], ◌∷◌, ◌++◌, length, take, drop, map, filter, flat_map, Option, Some, None, is_some, sym, refl, ap, subst, ◌∙◌, add-one, arith}
+use Rattle.std.proofs.Common.{◌≡◌, inl, inr, ℕ, ◌+◌, ◌-◌, ◌≤◌, Bool, true, false, if◌then◌else◌, eqb, ltb, leb, ◌&&◌, List, [], ◌∷◌, ◌++◌, length, take, drop, map, filter, flat_map, Option, Some, None, sym, refl, ap, subst, ◌∙◌, add-one, arith}
 use Rattle.std.specs.Bool.{IsTrue}
 use Rattle.std.specs.List.{list_any, list_all}
-use Rattle.std.proofs.lemmas.Option.{none-some, same_Some}
-use Rattle.std.proofs.lemmas.Bool.{and_parts, and_from, or_left, or_right, eqb-true, eq-eqb, le-leb, false≢true}
+use Rattle.std.proofs.lemmas.Option.{none-some}
+use Rattle.std.proofs.lemmas.Bool.{and_parts, and_from, or_left, eq-eqb, le-leb, false≢true}
 use Rattle.std.proofs.lemmas.List.{length-take}
 use Rattle.std.proofs.lemmas.List.Folds.{list_all-append}
-use Rattle.process_tree.specs.Order.{Each}
 use Rattle.process_tree.specs.Blocks.{numbers_from}
 use Rattle.process_tree.specs.Shape.{Shape, first_of, fixed_len, goes_on_to, is_end, is_whole, last_of, least, next_steps}
 use Rattle.process_tree.specs.Play.{kept_prefixes, kept_for}
 use Rattle.process_tree.specs.Recovery.{forward}
 use Rattle.process_tree.proofs.Numbers.{least_some}
 use Rattle.process_tree.specs.declared.plan.Plan.{Plan}
-use Rattle.schedule_model.specs.declared.event.Event.TheVariants.{Act, End as Ended}
 use Rattle.schedule_model.specs.Course.{Course, courses_of, op_of, shape}
 use Rattle.schedule_model.specs.Conflict.{no_conflict}
-use Rattle.schedule_model.specs.Histories.{doing, done_steps, is_active, is_in, net, net_of, net_steps, steps_of, undoing}
+use Rattle.schedule_model.specs.Histories.{doing, done_steps, is_active, is_in, net, net_of, net_steps, undoing}
 use Rattle.schedule_model.specs.Laws.{AreGood}
 use Rattle.schedule_model.specs.Legal.{is_legal}
 use Rattle.schedule_model.specs.OwnOrder.{goes_on, is_at_end, is_of_last, keeps_order}
 use Rattle.schedule_model.specs.Recovery.{owed_steps, backward_entries}
 use Rattle.schedule_model.proofs.Active.{is_in-filter}
-use Rattle.schedule_model.proofs.GoodPlans.{HasGoodPlan, good_if_goes_on}
+use Rattle.schedule_model.proofs.GoodPlans.{good_if_goes_on}
 use Rattle.schedule_model.proofs.NetPaths.{IsBranch, net-branch, done-below_owed}
 use Rattle.schedule_model.proofs.OwedPaths.{first_owed, at_end, take_all}
-use Rattle.machine_model.specs.declared.kept.Work.{Work}
 use Rattle.machine_model.specs.declared.kept.Work.TheVariants.{Forward, Undo, End}
-use Rattle.machine_model.specs.Progress.{Progress, Task, next_forward, next_task, pending_steps, staying, staying_for, step_or_end, undo_or, way_on}
-use Rattle.machine_model.specs.Moment.{Moment, has_begun}
+use Rattle.machine_model.specs.Progress.{Progress, Task, next_forward, pending_steps, staying, staying_for, step_or_end, undo_or, way_on}
+use Rattle.machine_model.specs.Moment.{Moment}
 use Rattle.machine_model.specs.State.{next_of, progress, refused_steps}
 use Rattle.machine_model.specs.Advance.{event_by}
 use Rattle.machine_model.specs.PieceLaws.{with_begun}
-use Rattle.machine_model.proofs.Ends.{all_pass}
-use Rattle.machine_model.proofs.WaysOn.{IsWayOn, below_bound, is_in-flat, staying-least, undo_of_last, way_on-is}
+use Rattle.machine_model.proofs.LastElements.{all_pass}
+use Rattle.machine_model.proofs.WaysOn.{below_bound, is_in-flat, staying-least, undo_of_last, way_on-is}
 
 last_none : (xs : List ℕ) → last_of xs ≡ None → xs ≡ []
 last_none [] is = refl

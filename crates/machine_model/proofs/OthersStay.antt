@@ -1,15 +1,12 @@
 -- An event leaves a process as it was, unless it is of its piece or makes it begin to complete.
-use Rattle.std.proofs.Common.{◌≡◌, ℕ, ◌+◌, ◌≤◌, Bool, true, false, not, cond, eqb, ◌&&◌, ◌||◌, List, [], ◌∷◌, ◌++◌, length, filter, find, map, drop, is_some, Option, Some, None, sym, refl, ap, subst, ◌∙◌, append-nil, arith}
+use Rattle.std.proofs.Common.{◌≡◌, ℕ, Bool, true, false, not, cond, eqb, ◌&&◌, ◌||◌, List, [], ◌∷◌, ◌++◌, length, filter, find, map, drop, is_some, Option, Some, None, sym, refl, ap, ◌∙◌, arith}
 use Rattle.std.proofs.Math.Bool.{or-false}
-use Rattle.std.specs.Bool.{IsTrue}
 use Rattle.std.specs.Option.{option_or}
-use Rattle.std.proofs.lemmas.Option.{none-some, same_Some}
-use Rattle.std.proofs.lemmas.Bool.{and_parts, and_left, or_left, eqb-true, eqb-false, eq-eqb, ne_eqb, not-true, false≢true, both_ways}
+use Rattle.std.proofs.lemmas.Bool.{and_parts, and_left, or_left, eqb-true, false≢true, both_ways}
 use Rattle.std.proofs.lemmas.List.Folds.{find-append}
 use Rattle.process_tree.specs.Order.{Each}
 use Rattle.process_tree.proofs.Every.{Each-weaker}
 use Rattle.process_tree.specs.declared.entry.Entry.{Entry}
-use Rattle.schedule_model.specs.declared.event.Event.{Event}
 use Rattle.schedule_model.specs.Course.{Course, shape}
 use Rattle.schedule_model.specs.Conflict.{ConflictRelation}
 use Rattle.schedule_model.specs.Histories.{net_of, net_steps, steps_of, doing}
@@ -21,21 +18,21 @@ use Rattle.machine_model.specs.declared.kept.Kept.{Kept}
 use Rattle.machine_model.specs.declared.kept.Kept.TheVariants.{Start, Hand, Effect, Refuse, Abort, Victim, Restart}
 use Rattle.machine_model.specs.declared.kept.Work.{Work}
 use Rattle.machine_model.specs.declared.kept.Work.TheVariants.{Forward, Undo, End}
-use Rattle.machine_model.specs.Progress.{Progress, Task, next_task, same_work, staying, is_only_try}
+use Rattle.machine_model.specs.Progress.{Progress, next_task, same_work, staying, is_only_try}
 use Rattle.machine_model.specs.ProcessState.{ProcessState}
-use Rattle.machine_model.specs.Moment.{Moment, Piece, noted, happened, without, has_begun, begins_now}
+use Rattle.machine_model.specs.Moment.{Moment, Piece, noted, happened, has_begun, begins_now}
 use Rattle.machine_model.specs.Pieces.{hands, piece_of, refusals, refused_pieces, is_refusal, is_try_of, running_of}
-use Rattle.machine_model.specs.State.{progress, process_state, next_of, tried, hold_of, entry_of, owed_soon, owed_by_work, owed_by_class, pending_of, refused_steps}
-use Rattle.machine_model.specs.Advance.{Machine, advance, with_piece, event_of}
-use Rattle.machine_model.specs.PieceLaws.{LeavesPieceOf, OthersStay, piece_ended, piece_touched}
-use Rattle.machine_model.specs.Runs.{is_run, now, may_be_kept, is_no_end}
+use Rattle.machine_model.specs.State.{progress, process_state, next_of, hold_of, entry_of, owed_soon, owed_by_work, owed_by_class, pending_of}
+use Rattle.machine_model.specs.Advance.{advance, with_piece, event_of}
+use Rattle.machine_model.specs.PieceLaws.{LeavesPieceOf, OthersStay, piece_touched}
+use Rattle.machine_model.specs.Runs.{now, may_be_kept, is_no_end}
 use Rattle.machine_model.proofs.Snoc.{now-kept}
-use Rattle.machine_model.proofs.Keeping.{IsKeptByBeginnings, entered, advance-keeps}
-use Rattle.machine_model.proofs.Begun.{begins_now-has, advance-begun}
-use Rattle.machine_model.proofs.PieceCounts.{Counted, is_number}
+use Rattle.machine_model.proofs.RunInduction.{IsKeptByBeginnings, entered, advance-keeps}
+use Rattle.machine_model.proofs.Begun.{begins_now-has}
+use Rattle.machine_model.proofs.PieceCounts.{Counted}
 use Rattle.machine_model.proofs.CallsKept.{find-passes}
 use Rattle.machine_model.proofs.RefusedPieces.{refused-plain, refused-hand, refused-others, unhanded-unrefused}
-use Rattle.machine_model.proofs.Linked.{Tidy, IsPieceOfItsNumber, every, run-tidy}
+use Rattle.machine_model.proofs.TidyMoments.{Tidy, IsPieceOfItsNumber, every, run-tidy}
 use Rattle.machine_model.proofs.Frames.{SameFor, same_history, same_progress, start-leaves, event-leaves, piece_of-plain}
 use Rattle.machine_model.proofs.RunningNext.{flipped, hand_parts}
 

@@ -1,24 +1,23 @@
 -- The history of each run is in own order.
-use Rattle.std.proofs.Common.{◌≡◌, ◌⊎◌, inl, inr, ℕ, ◌+◌, ◌≤◌, max, Bool, true, false, not, cond, if◌then◌else◌, eqb, ltb, ◌&&◌, ◌||◌, List, [], ◌∷◌, ◌++◌, length, take, filter, find, map, Option, Some, None, is_some, is_none, sym, refl, ap, subst, ◌∙◌, append-nil, arith}
+use Rattle.std.proofs.Common.{◌≡◌, ℕ, ◌≤◌, Bool, true, false, not, cond, if◌then◌else◌, eqb, ltb, ◌&&◌, ◌||◌, List, [], ◌∷◌, ◌++◌, find, Option, Some, None, is_some, is_none, sym, refl, ap, subst, ◌∙◌, append-nil, arith}
 use Rattle.std.specs.Bool.{IsTrue}
-use Rattle.std.specs.List.{list_any, list_all}
+use Rattle.std.specs.List.{list_all}
 use Rattle.std.proofs.lemmas.Option.{none-some, same_Some}
-use Rattle.std.proofs.lemmas.Bool.{and_parts, and_from, and_left, or_left, or_from, or_parts, or_cases, not-true, eqb-true, eqb-false, eq-eqb, ne_eqb, ltb-true, false≢true}
+use Rattle.std.proofs.lemmas.Bool.{and_parts, and_from, or_left, or_from, or_parts, not-true, eqb-true, ltb-true, false≢true}
 use Rattle.process_tree.specs.Order.{Each}
 use Rattle.process_tree.proofs.Every.{Each-weaker, Each-append, Each-both}
 use Rattle.process_tree.specs.Recovery.{forward}
-use Rattle.process_tree.specs.Shape.{Shape, can_be_refused, first_of, goes_on_to, kind_of, last_of}
-use Rattle.process_tree.specs.declared.entry.Entry.{Entry}
+use Rattle.process_tree.specs.Shape.{first_of, goes_on_to, last_of}
 use Rattle.process_tree.specs.declared.plan.Plan.{Plan}
 use Rattle.schedule_model.specs.declared.event.Event.{Event}
 use Rattle.schedule_model.specs.declared.event.Event.TheVariants.{Start as Started, Act, End as Ended}
 use Rattle.schedule_model.specs.Course.{Course, course, courses_of, op_of, shape}
 use Rattle.schedule_model.specs.Conflict.{ConflictRelation, no_conflict}
-use Rattle.schedule_model.specs.Histories.{doing, done_steps, ends, is_active, is_in, net_of, net_steps, starts, steps_of, undoing}
+use Rattle.schedule_model.specs.Histories.{doing, done_steps, ends, is_active, is_in, net_steps, starts, steps_of, undoing}
 use Rattle.schedule_model.specs.Laws.{AreGood}
 use Rattle.schedule_model.specs.Legal.{is_legal, may_come}
-use Rattle.schedule_model.specs.OwnOrder.{goes_on, is_in_own_order, is_of_last, keeps_order}
-use Rattle.schedule_model.specs.Recovery.{owed, owed_steps, backward_entries}
+use Rattle.schedule_model.specs.OwnOrder.{goes_on, keeps_order}
+use Rattle.schedule_model.specs.Recovery.{owed_steps}
 use Rattle.schedule_model.proofs.Appends.{starts-append, ends-append, is_in-append}
 use Rattle.schedule_model.proofs.GoodPlans.{good_if_goes_on}
 use Rattle.schedule_model.proofs.Induction.{passes-push}
@@ -32,23 +31,22 @@ use Rattle.machine_model.specs.declared.kept.Kept.TheVariants.{Start, Hand, Effe
 use Rattle.machine_model.specs.declared.kept.Work.{Work}
 use Rattle.machine_model.specs.declared.kept.Work.TheVariants.{Forward, Undo, End}
 use Rattle.machine_model.specs.declared.began.Cause.{Cause}
-use Rattle.machine_model.specs.Progress.{Progress, Task, above, is_only_try, next_forward, next_task, pending_steps, same_task, same_work, step_or_end, undo_or, way_on}
-use Rattle.machine_model.specs.ProcessState.{past, step_done, work_done}
+use Rattle.machine_model.specs.Progress.{Progress, above, is_only_try, next_forward, next_task, pending_steps, same_task, same_work, step_or_end, undo_or, way_on}
+use Rattle.machine_model.specs.ProcessState.{past}
 use Rattle.machine_model.specs.Moment.{Moment, Piece, noted, happened, has_begun, begins_now, without, opening_moment}
 use Rattle.machine_model.specs.Pieces.{piece_of, running_of, runs}
 use Rattle.machine_model.specs.State.{is_exhausted, block_of, next_of, progress, refused_steps}
 use Rattle.machine_model.specs.Advance.{Machine, advance, advance_all, event_by, event_of, with_piece}
 use Rattle.machine_model.specs.Runs.{goes_on_from, is_no_end, is_run, may_be_kept, now, start_refusal}
-use Rattle.machine_model.specs.Laws.{IsSession}
-use Rattle.machine_model.specs.PieceLaws.{piece_ended, with_begun}
+use Rattle.machine_model.specs.PieceLaws.{piece_ended}
 use Rattle.machine_model.proofs.Counting.{found-any}
 use Rattle.machine_model.proofs.CallsKept.{find-passes}
-use Rattle.machine_model.proofs.Keeping.{entered, advance-keeps, goes_on-keeps}
+use Rattle.machine_model.proofs.RunInduction.{entered, advance-keeps, goes_on-keeps}
 use Rattle.machine_model.proofs.Begun.{begins_now-has}
 use Rattle.machine_model.proofs.PieceCounts.{is_number}
-use Rattle.machine_model.proofs.Linked.{Each-filter, Each-find, IsPieceOfItsNumber, opening-tidy}
+use Rattle.machine_model.proofs.TidyMoments.{Each-filter, Each-find, IsPieceOfItsNumber, opening-tidy}
 use Rattle.machine_model.proofs.Frames.{entered-leaves, piece_of-plain}
-use Rattle.machine_model.proofs.RunningNext.{InOrder, IsNextPiece, advance-in_order, hand_parts, others-out, task_of}
+use Rattle.machine_model.proofs.RunningNext.{InOrder, IsNextPiece, advance-in_order, hand_parts, others-out}
 use Rattle.machine_model.proofs.OwnEvents.{step-effected, own-effected, own-refused, still_refused}
 use Rattle.machine_model.proofs.WaysOn.{way_on-is}
 use Rattle.machine_model.proofs.NextInOrder.{OwedIsAhead, next_keeps}

@@ -1,5 +1,5 @@
 -- The laws of own order: of runs, of next pieces, of undos and of processes that have ended.
-use Rattle.std.proofs.Common.{◌≡◌, ◌⊎◌, inl, inr, ℕ, zero, suc, ◌+◌, ◌-◌, ◌≤◌, Bool, true, false, not, eqb, ◌&&◌, ◌||◌, List, [], ◌∷◌, ◌++◌, length, take, Option, Some, None, sym, refl, ap, subst, ◌∙◌, append-nil, length-append, arith}
+use Rattle.std.proofs.Common.{◌≡◌, ◌⊎◌, inl, inr, ℕ, zero, suc, ◌-◌, Bool, true, false, not, eqb, ◌&&◌, ◌||◌, List, [], ◌∷◌, ◌++◌, length, take, Option, Some, None, sym, refl, ap, ◌∙◌, append-nil, length-append, arith}
 use Rattle.std.specs.Bool.{IsTrue}
 use Rattle.std.specs.List.{Contains}
 use Rattle.std.proofs.lemmas.Option.{same_Some}
@@ -15,8 +15,7 @@ use Rattle.schedule_model.specs.Course.{Course, courses_of, op_of, shape}
 use Rattle.schedule_model.specs.Conflict.{ConflictRelation, no_conflict}
 use Rattle.schedule_model.specs.Histories.{doing, ends, is_active, is_in, net_of, net_steps, starts, steps_of, undoing}
 use Rattle.schedule_model.specs.Legal.{is_legal, may_come, is_clear}
-use Rattle.schedule_model.specs.OwnOrder.{goes_on, is_at_end, is_in_own_order, is_of_last, keeps_order}
-use Rattle.schedule_model.specs.Recovery.{backward_entries}
+use Rattle.schedule_model.specs.OwnOrder.{is_at_end, is_in_own_order, keeps_order}
 use Rattle.schedule_model.proofs.Appends.{ends-append, is_in-append}
 use Rattle.schedule_model.proofs.Induction.{by_legal}
 use Rattle.schedule_model.proofs.NoConflict.{may_come-no_conflict, own_order-legal}

@@ -1,23 +1,22 @@
 -- Each piece that was handed out is out, lost or finished, and only one of these.
-use Rattle.std.proofs.Common.{◌≡◌, ◌⊎◌, inl, inr, ℕ, ◌+◌, ◌≤◌, ◌<◌, Bool, true, false, not, cond, eqb, ◌&&◌, ◌||◌, List, [], ◌∷◌, ◌++◌, length, filter, map, Option, Some, None, sym, refl, ap, ◌∙◌, append-nil, arith, length-append}
+use Rattle.std.proofs.Common.{◌≡◌, ◌⊎◌, inl, inr, ℕ, ◌+◌, ◌≤◌, ◌<◌, Bool, true, false, cond, eqb, ◌||◌, List, [], ◌∷◌, ◌++◌, length, filter, Option, Some, None, sym, refl, ap, ◌∙◌, append-nil, arith, length-append}
 use Rattle.std.proofs.Math.Bool.{or-false}
 use Rattle.std.specs.Bool.{IsTrue}
 use Rattle.std.specs.List.{list_any}
-use Rattle.std.proofs.lemmas.Bool.{and_parts, eqb-true, eq-eqb, ne_eqb, cases_eq, false≢true}
+use Rattle.std.proofs.lemmas.Bool.{and_parts, eqb-true, eq-eqb, ne_eqb, cases_eq}
 use Rattle.schedule_model.specs.declared.event.Event.{Event}
 use Rattle.schedule_model.specs.declared.event.Event.TheVariants.{Start as Started}
 use Rattle.schedule_model.specs.Course.{Course}
 use Rattle.schedule_model.specs.Conflict.{ConflictRelation}
 use Rattle.machine_model.specs.declared.kept.Kept.{Kept}
 use Rattle.machine_model.specs.declared.kept.Kept.TheVariants.{Start, Hand, Effect, Refuse, Abort, Victim, Restart}
-use Rattle.machine_model.specs.declared.kept.Work.{Work}
-use Rattle.machine_model.specs.Moment.{Moment, Piece, Lost, noted, happened, without, of_others, losses, begins_now, has_begun, opening_moment, out_after}
-use Rattle.machine_model.specs.Pieces.{hands, handed, is_effect, is_refusal, is_finished, runs, piece_of}
+use Rattle.machine_model.specs.Moment.{Moment, Piece, Lost, noted, happened, without, of_others, losses, opening_moment, out_after}
+use Rattle.machine_model.specs.Pieces.{hands, is_effect, is_refusal, runs, piece_of}
 use Rattle.machine_model.specs.Advance.{Machine, advance, with_piece, event_of}
 use Rattle.machine_model.specs.Runs.{is_run, now, may_be_kept}
 use Rattle.machine_model.proofs.Counting.{count, count-append, count-push, count-map, count-split, count-without, count-some}
 use Rattle.machine_model.proofs.Snoc.{hands-append}
-use Rattle.machine_model.proofs.Keeping.{IsKeptByBeginnings, entered, advance-keeps, run-keeps}
+use Rattle.machine_model.proofs.RunInduction.{IsKeptByBeginnings, entered, advance-keeps, run-keeps}
 
 -- the piece has number n
 abbrev pub is_number : ℕ → Piece → Bool

@@ -1,20 +1,19 @@
 -- The refused pieces with one kept event more.
-use Rattle.std.proofs.Common.{◌≡◌, ℕ, ◌+◌, ◌≤◌, Bool, true, false, not, cond, eqb, ◌&&◌, ◌||◌, List, [], ◌∷◌, ◌++◌, length, filter, find, map, Option, Some, None, sym, refl, ap, ◌∙◌, append-nil, arith}
+use Rattle.std.proofs.Common.{◌≡◌, ℕ, ◌+◌, ◌≤◌, Bool, true, false, not, cond, eqb, ◌||◌, List, [], ◌∷◌, ◌++◌, filter, find, Some, sym, refl, ap, ◌∙◌, append-nil, arith}
 use Rattle.std.proofs.Math.Bool.{or-false}
 use Rattle.std.specs.List.{list_any}
-use Rattle.std.proofs.lemmas.Bool.{eqb-true, eqb-false, eq-eqb, ne_eqb, false≢true, or_parts, or_from}
-use Rattle.std.proofs.lemmas.Option.{none-some, same_Some}
+use Rattle.std.proofs.lemmas.Bool.{false≢true, or_parts, or_from}
+use Rattle.std.proofs.lemmas.Option.{same_Some}
 use Rattle.std.proofs.lemmas.List.Folds.{list_any-append}
 use Rattle.std.proofs.lemmas.List.Elements.{filter-append}
 use Rattle.process_tree.specs.Order.{Each}
 use Rattle.process_tree.proofs.Every.{Each-weaker}
-use Rattle.schedule_model.specs.Course.{Course, shape}
 use Rattle.schedule_model.proofs.Snoc.{filter_same}
 use Rattle.machine_model.specs.declared.kept.Kept.{Kept}
-use Rattle.machine_model.specs.declared.kept.Kept.TheVariants.{Start, Hand, Effect, Refuse, Abort, Victim, Restart}
+use Rattle.machine_model.specs.declared.kept.Kept.TheVariants.{Hand, Refuse}
 use Rattle.machine_model.specs.Moment.{Moment, Piece}
 use Rattle.machine_model.specs.Pieces.{hands, piece_of, is_effect, is_refusal, refused_pieces}
-use Rattle.machine_model.proofs.Counting.{count, count-none, none-count}
+use Rattle.machine_model.proofs.Counting.{count, none-count}
 use Rattle.machine_model.proofs.Snoc.{hands-append}
 use Rattle.machine_model.proofs.PieceCounts.{Counted, is_number, ends_piece}
 
