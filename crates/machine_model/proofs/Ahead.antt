@@ -1,4 +1,4 @@
--- While a process has not begun to complete, the first step that it owes is at its bound or above.
+-- The first step that a process owes stays at the bound of its ways on or above.
 use Rattle.std.proofs.Common.{◌≡◌, ◌⊎◌, inl, inr, ℕ, ◌+◌, ◌≤◌, ◌<◌, Bool, true, false, cond, eqb, ltb, List, [], ◌∷◌, ◌++◌, length, take, drop, sym, refl, ap, ◌∙◌, append-nil, length-append, arith}
 use Rattle.std.specs.List.{list_all}
 use Rattle.std.proofs.lemmas.Bool.{and_parts, or_left, eq-eqb, ltb-true, cases_eq, false≢true}
@@ -71,11 +71,11 @@ module _ (t : Shape) (tree : IsTreeShape t) (well : IsWellFormed t) where
           below_owed t (paths_lie_in_order t tree) well w b d rest (sym same ∙ owes) on kind
 
 -- a step done at the bound or above keeps what is owed ahead
-pub done_ahead : (s : Progress) (d : ℕ) → IsTreeShape s.shape → IsWellFormed s.shape → (s.begun ≡ false → s.onward ≤ d) → goes_on_to s.shape s.net d ≡ true → OwedIsAhead (step_done s d)
-done_ahead s d tree well bound on fresh b rest owes = let less = done_below s.shape tree well s.net b d rest owes on in let o = bound fresh in omega arith
+pub done_ahead : (s : Progress) (d : ℕ) → IsTreeShape s.shape → IsWellFormed s.shape → s.onward ≤ d → goes_on_to s.shape s.net d ≡ true → OwedIsAhead (step_done s d)
+done_ahead s d tree well bound on b rest owes = let less = done_below s.shape tree well s.net b d rest owes on in omega arith
 
 -- so does a refusal
 pub refused_ahead : (s : Progress) (d : ℕ) → IsTreeShape s.shape → IsWellFormed s.shape → goes_on_to s.shape s.net d ≡ true → can_be_refused (kind_of s.shape d) ≡ true
     → ((b : ℕ) (rest : List ℕ) → forward s.shape s.net ≡ b ∷ rest → list_all (λ x. ltb x b) s.net ≡ true) → OwedIsAhead s → OwedIsAhead (past s d)
-refused_ahead s d tree well on refusable below ahead fresh b rest owes =
-    let less = refused_below s.shape tree well s.net b d rest owes on refusable (below b rest owes) in let o = ahead fresh b rest owes in omega arith
+refused_ahead s d tree well on refusable below ahead b rest owes =
+    let less = refused_below s.shape tree well s.net b d rest owes on refusable (below b rest owes) in let o = ahead b rest owes in omega arith

@@ -32,7 +32,7 @@ use Rattle.machine_model.specs.PieceLaws.{with_begun}
 use Rattle.machine_model.proofs.LastElements.{all_pass}
 use Rattle.machine_model.proofs.WaysOn.{below_bound, is_in-flat, staying-least, undo_of_last, way_on-is}
 
-last_none : (xs : List ℕ) → last_of xs ≡ None → xs ≡ []
+pub last_none : (xs : List ℕ) → last_of xs ≡ None → xs ≡ []
 last_none [] is = refl
 last_none (x ∷ []) is = absurd (none-some x (sym is))
 last_none (x ∷ y ∷ xs) is = absurd (some_last y xs is)
@@ -52,9 +52,9 @@ whole_end t (b ∷ w) whole = whole
 first_numbers : (p : ℕ → Bool) (f : ℕ → List ℕ) (q : List ℕ → Bool) (lo n : ℕ) → q (f lo) ≡ true → list_any q (map f (numbers_from lo (n + 1))) ≡ true
 first_numbers p f q lo n is = ap (λ k. list_any q (map f (numbers_from lo k))) (add-one n) ∙ or_left (q (f lo)) (list_any q (map f (numbers_from (lo + 1) n))) is
 
--- While a process has not begun to complete, the first step that it owes is at its bound or above.
+-- The first step that a process owes is at the bound of its ways on or above.
 abbrev pub OwedIsAhead : Progress → Type 0
-OwedIsAhead s = s.begun ≡ false → (b : ℕ) (rest : List ℕ) → forward s.shape s.net ≡ b ∷ rest → s.onward ≤ b
+OwedIsAhead s = (b : ℕ) (rest : List ℕ) → forward s.shape s.net ≡ b ∷ rest → s.onward ≤ b
 
 -- so it has a way on, where it owes something
 owed_way_on : (s : Progress) (b : ℕ) (rest : List ℕ) → forward s.shape s.net ≡ b ∷ rest → s.onward ≤ b
@@ -126,7 +126,7 @@ module _ (plans : List Plan) (good : AreGood plans) (m : Moment) (legal : IsTrue
   no_way : s.begun ≡ false → is_whole t w ≡ false → way_on s ≡ None → drop (fixed_len t w) w ≡ [] → (bs : List ℕ) → forward t w ≡ bs → is_end t w ≡ true
   no_way fresh whole none fixed [] owes = ended w refl (net-branch cs i m.events legal) fixed owes
   no_way fresh whole none fixed (b ∷ rest) owes =
-      absurd (owed_way_on s b rest owes (ahead fresh b rest owes)
+      absurd (owed_way_on s b rest owes (ahead b rest owes)
       (sym (ap (λ x. if x then None else (if is_whole t w then None else least (filter (λ d. leb s.onward d) (flat_map (next_steps t) (kept_prefixes t w))))) fresh
       ∙ ap (λ x. if x then None else least (filter (λ d. leb s.onward d) (flat_map (next_steps t) (kept_prefixes t w)))) whole) ∙ none))
 

@@ -49,7 +49,7 @@ use Rattle.machine_model.proofs.Frames.{entered-leaves, piece_of-plain}
 use Rattle.machine_model.proofs.RunningNext.{InOrder, IsNextPiece, advance-in_order, hand_parts, others-out}
 use Rattle.machine_model.proofs.OwnEvents.{step-effected, own-effected, own-refused, still_refused}
 use Rattle.machine_model.proofs.WaysOn.{way_on-is}
-use Rattle.machine_model.proofs.NextInOrder.{OwedIsAhead, next_keeps}
+use Rattle.machine_model.proofs.NextInOrder.{OwedIsAhead, last_none, next_keeps}
 use Rattle.machine_model.proofs.Ahead.{done_ahead, refused_ahead}
 
 -- work that is the same is equal
@@ -64,17 +64,31 @@ same_work-is End Forward is = absurd (false≢true is)
 same_work-is End Undo is = absurd (false≢true is)
 same_work-is End End is = refl
 
--- a process that has not begun and goes forward has a way on there
-pub fresh_forward : (s : Progress) (d : ℕ) → s.begun ≡ false → same_task (record { work = Forward; step = d }) (next_task s) ≡ true → way_on s ≡ Some d
-fresh_forward s d fresh is = by_pending (last_of (pending_steps s)) is
+-- a process whose next piece is a step has nothing pending, and that step is its way on or the first that it owes
+pub next_step : (s : Progress) (d : ℕ) → same_task (record { work = Forward; step = d }) (next_task s) ≡ true
+    → (pending_steps s ≡ []) × ((if s.begun then first_of (forward s.shape s.net) else way_on s) ≡ Some d)
+next_step s d is = by_pending (last_of (pending_steps s)) refl is
   where
-    by_way : (o : Option ℕ) → way_on s ≡ o → same_task (record { work = Forward; step = d }) (step_or_end o) ≡ true → way_on s ≡ Some d
-    by_way None at same = absurd (false≢true same)
-    by_way (Some b) at same = at ∙ ap Some (sym (eqb-true d b same))
+    by_way : (o : Option ℕ) → same_task (record { work = Forward; step = d }) (step_or_end o) ≡ true → o ≡ Some d
+    by_way None same = absurd (false≢true same)
+    by_way (Some b) same = ap Some (sym (eqb-true d b same))
 
-    by_pending : (o : Option ℕ) → same_task (record { work = Forward; step = d }) (undo_or (next_forward s) o) ≡ true → way_on s ≡ Some d
-    by_pending (Some b) same = absurd (false≢true same)
-    by_pending None same = by_way (way_on s) refl (sym (ap (λ t. same_task (record { work = Forward; step = d }) (step_or_end (if t then first_of (forward s.shape s.net) else way_on s))) fresh) ∙ same)
+    by_pending : (o : Option ℕ) → last_of (pending_steps s) ≡ o → same_task (record { work = Forward; step = d }) (undo_or (next_forward s) o) ≡ true
+        → (pending_steps s ≡ []) × ((if s.begun then first_of (forward s.shape s.net) else way_on s) ≡ Some d)
+    by_pending (Some b) last same = absurd (false≢true same)
+    by_pending None last same = (last_none (pending_steps s) last, by_way (if s.begun then first_of (forward s.shape s.net) else way_on s) same)
+
+first_listed : (bs : List ℕ) (d : ℕ) → first_of bs ≡ Some d → (rest : List ℕ) × (bs ≡ d ∷ rest)
+first_listed [] d is = absurd (none-some d is)
+first_listed (b ∷ bs) d is = (bs, ap (λ x. x ∷ bs) (same_Some b d is))
+
+-- it is at the bound or above
+pub next_step-bound : (s : Progress) (d : ℕ) → OwedIsAhead s → same_task (record { work = Forward; step = d }) (next_task s) ≡ true → s.onward ≤ d
+next_step-bound s d ahead is = by_begun s.begun (next_step s d is).1
+  where
+    by_begun : (b : Bool) → (if b then first_of (forward s.shape s.net) else way_on s) ≡ Some d → s.onward ≤ d
+    by_begun true first = let listed = first_listed (forward s.shape s.net) d first in ahead d listed.0 listed.1
+    by_begun false way = (way_on-is s d way).bound
 
 -- whoever is active stays so by the start of another, and by an end of another
 pub active-start : (h : List Event) (k j : ℕ) → is_active h j ≡ true → is_active (h ++ Started k ∷ []) j ≡ true
@@ -209,23 +223,23 @@ module _ (table : ConflictRelation) (plans : List Plan) (good : AreGood plans) w
   done_by_piece : (m : Moment) (n number i b : ℕ) (w : Work) → InOwnOrder m → (let p : Piece = record { number = number; process = i; step = b; work = w } in
       IsNextPiece cs m p × (keeps_order cs m.events (event_of cs p) ≡ true))
       → OwedIsAhead (progress cs (happened (noted m (Effect n)) (event_by cs i b w)) i)
-  done_by_piece m n number i b Forward own is fresh c rest owes =
+  done_by_piece m n number i b Forward own is c rest owes =
       let on = on_from m i b is.1 in
       let plan = good_if_goes_on plans i (net_steps m.events i) b good on in
       let ahead = subst OwedIsAhead (sym (step-effected cs m n number i b))
-      (done_ahead (progress cs m i) b plan.tree plan.well_formed (λ fresh. (way_on-is (progress cs m i) b (fresh_forward (progress cs m i) b fresh is.0)).bound) on) in
-      ahead fresh c rest owes
-  done_by_piece m n number i b Undo own is fresh c rest owes =
+      (done_ahead (progress cs m i) b plan.tree plan.well_formed (next_step-bound (progress cs m i) b (own.ahead i) is.0) on) in
+      ahead c rest owes
+  done_by_piece m n number i b Undo own is c rest owes =
       let e = undoing (doing cs i b) in
       let taken = undoes no_conflict cs m.events e own.legal refl (may_come-no_conflict cs m.events (Act e) is.1) in
       let same : owed_steps cs (m.events ++ Act e ∷ []) i ≡ owed_steps cs m.events i = sym (steps_of-doing cs i (owed_steps cs (m.events ++ Act e ∷ []) i)) ∙ (ap steps_of taken.owed ∙ steps_of-doing cs i (owed_steps cs m.events i)) in
-      let old = own.ahead i fresh c rest (sym same ∙ owes) in
+      let old = own.ahead i c rest (sym same ∙ owes) in
       let bound : (progress cs (happened (noted m (Effect n)) (Act e)) i).onward ≡ (progress cs m i).onward =
       ap (λ ds. above (ds ++ refused_steps cs (noted m (Effect n)) i)) (done_steps-undo m.events e i refl) ∙ ap (λ rs. above (done_steps m.events i ++ rs)) (still_refused cs m n i) in
       omega arith
-  done_by_piece m n number i b End own is fresh c rest owes =
+  done_by_piece m n number i b End own is c rest owes =
       let ahead = subst OwedIsAhead (sym (own-effected cs m n (record { number = number; process = i; step = b; work = End }) (λ undo. absurd (cc)))) (own.ahead i) in
-      ahead fresh c rest owes
+      ahead c rest owes
 
   effect_ahead : (m : Moment) (n : ℕ) (p : Piece) (i : ℕ) (t : Bool) → InOwnOrder m → may_be_kept table cs m (Effect n) ≡ true → piece_of m.kept n ≡ Some p → IsNextPiece cs m p → keeps_order cs m.events (event_of cs p) ≡ true
       → eqb p.process i ≡ t → OwedIsAhead (progress cs (entered cs m (Effect n)) i)
@@ -272,7 +286,7 @@ module _ (table : ConflictRelation) (plans : List Plan) (good : AreGood plans) w
   ahead_entered m Restart own may i = nothing_ended m Restart own may refl i
 
   ahead_begins : (cause : Cause) (n : Moment) (k : ℕ) → Ahead n → Ahead (begins_now cause n k)
-  ahead_begins cause n k ahead i fresh = ahead i (or_parts (has_begun n i) (eqb k i) (sym (begins_now-has cause n k i) ∙ fresh)).0
+  ahead_begins cause n k ahead i = ahead i
 
   pub advance-own_order : (m : Moment) (k : Kept) → InOwnOrder m → may_be_kept table cs m k ≡ true → InOwnOrder (advance table cs m k)
   advance-own_order m k own may = record {
@@ -283,7 +297,7 @@ module _ (table : ConflictRelation) (plans : List Plan) (good : AreGood plans) w
   }
 
   opening_ahead : (h : List Event) → IsTrue (is_legal no_conflict cs h) → Ahead (opening_moment h)
-  opening_ahead h legal i fresh b rest owes =
+  opening_ahead h legal i b rest owes =
       let most = above_most (done_steps h i) b (done-below_owed plans good i h legal b rest owes) in
       let same = ap above (append-nil (done_steps h i)) in
       omega arith
