@@ -29,5 +29,6 @@ pub mod NextInOrder
 pub mod Ahead
 pub mod OwnOrder
 pub mod OwnOrderLaws
+pub mod GonePieces
 pub mod Restart
 pub mod TurnRuns
