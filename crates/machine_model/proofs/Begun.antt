@@ -1,25 +1,19 @@
 -- Who has begun to complete after each event: nobody's beginning is taken back.
-use Rattle.std.proofs.Common.{◌≡◌, ℕ, Bool, true, false, not, cond, eqb, ◌&&◌, ◌||◌, List, [], ◌∷◌, ◌++◌, filter, find, is_some, length, Option, Some, None, sym, refl, ap, ◌∙◌}
-use Rattle.std.specs.List.{list_any}
+use Rattle.std.proofs.Common.{◌≡◌, ℕ, Bool, true, false, cond, eqb, ◌||◌, List, [], ◌∷◌, ◌++◌, length, Option, Some, None, sym, refl, ap, ◌∙◌}
+use Rattle.std.proofs.Math.Bool.{or-false}
 use Rattle.std.proofs.lemmas.Bool.{eqb-true, or_left, or_right, eq-eqb, false≢true}
 use Rattle.std.proofs.lemmas.List.Folds.{list_any-append}
 use Rattle.schedule_model.specs.Course.{Course}
 use Rattle.schedule_model.specs.Conflict.{ConflictRelation}
-use Rattle.schedule_model.specs.Histories.{active, is_in}
-use Rattle.schedule_model.specs.declared.event.Event.{Event}
+use Rattle.schedule_model.specs.Histories.{is_in}
 use Rattle.machine_model.specs.declared.kept.Kept.{Kept}
 use Rattle.machine_model.specs.declared.kept.Kept.TheVariants.{Start, Hand, Effect, Refuse, Abort, Victim, Restart}
 use Rattle.machine_model.specs.declared.began.Cause.{Cause}
-use Rattle.machine_model.specs.declared.began.Cause.TheVariants.{Cascade}
 use Rattle.machine_model.specs.Moment.{Moment, Piece, Beginning, noted, happened, begins, begins_now, all_begin, has_begun}
 use Rattle.machine_model.specs.Pieces.{piece_of}
-use Rattle.machine_model.specs.Advance.{advance, advance_all, drag_along, goes_back, cascade_of, with_piece, event_of}
+use Rattle.machine_model.specs.Advance.{advance, goes_back, with_piece, event_of}
 use Rattle.machine_model.proofs.Counting.{found-any}
-use Rattle.machine_model.proofs.Keeping.{IsKeptByBeginnings, entered, advance-keeps, begins-keep, all_begin-keep, drag_along-keeps}
-
-or_false : (t : Bool) → (t || false) ≡ t
-or_false true = refl
-or_false false = refl
+use Rattle.machine_model.proofs.RunInduction.{IsKeptByBeginnings, entered, advance-keeps, drag_along-keeps}
 
 -- who has begun after one more beginning
 pub begins_now-has : (cause : Cause) (m : Moment) (i k : ℕ) → has_begun (begins_now cause m i) k ≡ (has_begun m k || eqb i k)
@@ -27,7 +21,7 @@ begins_now-has cause m i k =
     let b : Beginning = record { process = i; began = record { event = length m.kept; cause = cause } } in
     found-any (λ x. eqb x.process k) (m.beginnings ++ b ∷ [])
     ∙ (list_any-append (λ x. eqb x.process k) m.beginnings (b ∷ [])
-    ∙ (ap (λ t. t || (eqb i k || false)) (sym (found-any (λ x. eqb x.process k) m.beginnings)) ∙ ap (λ t. has_begun m k || t) (or_false (eqb i k))))
+    ∙ (ap (λ t. t || (eqb i k || false)) (sym (found-any (λ x. eqb x.process k) m.beginnings)) ∙ ap (λ t. has_begun m k || t) (or-false (eqb i k))))
 
 has_by : (cause : Cause) (m : Moment) (i k : ℕ) (t : Bool) → has_begun m i ≡ t → has_begun (cond t m (begins_now cause m i)) k ≡ (has_begun m k || eqb i k)
 has_by cause m i k false is = begins_now-has cause m i k
@@ -35,7 +29,7 @@ has_by cause m i k true is = same (eqb i k) refl
   where
     same : (t : Bool) → eqb i k ≡ t → has_begun m k ≡ (has_begun m k || t)
     same true at = let begun : has_begun m k ≡ true = ap (has_begun m) (sym (eqb-true i k at)) ∙ is in begun ∙ sym (or_left (has_begun m k) true begun)
-    same false at = sym (or_false (has_begun m k))
+    same false at = sym (or-false (has_begun m k))
 
 pub begins-has : (cause : Cause) (m : Moment) (i k : ℕ) → has_begun (begins cause m i) k ≡ (has_begun m k || eqb i k)
 begins-has cause m i k = has_by cause m i k (has_begun m i) refl
@@ -54,7 +48,7 @@ eqb_flip a b = by_first (eqb a b) refl (eqb b a) refl
     by_first false is false at = is ∙ sym at
 
 pub all_begin-has : (cause : Cause) (m : Moment) (is : List ℕ) (k : ℕ) → has_begun (all_begin cause m is) k ≡ (has_begun m k || is_in k is)
-all_begin-has cause m [] k = sym (or_false (has_begun m k))
+all_begin-has cause m [] k = sym (or-false (has_begun m k))
 all_begin-has cause m (i ∷ is) k = all_begin-has cause (begins cause m i) is k
     ∙ (ap (λ t. t || is_in k is) (begins-has cause m i k ∙ ap (λ t. has_begun m k || t) (eqb_flip i k)) ∙ or_assoc (has_begun m k) (eqb k i) (is_in k is))
 

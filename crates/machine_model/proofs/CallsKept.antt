@@ -1,7 +1,6 @@
 -- What a call keeps may be kept: a session by calls is a run.
-use Rattle.std.proofs.Common.{◌≡◌, ℕ, zero, suc, ◌+◌, Bool, true, false, not, cond, eqb, if◌then◌else◌, ◌&&◌, List, [], ◌∷◌, ◌++◌, append-nil, length, filter, find, slice_get, Option, Some, None, is_some, is_none, sym, refl, ap, ◌∙◌}
+use Rattle.std.proofs.Common.{◌≡◌, ℕ, zero, suc, ◌+◌, Bool, true, false, not, cond, eqb, if◌then◌else◌, List, [], ◌∷◌, ◌++◌, append-nil, length, find, Option, Some, None, is_some, is_none, sym, refl, ap, ◌∙◌}
 use Rattle.std.specs.Bool.{IsTrue}
-use Rattle.std.specs.List.{list_any}
 use Rattle.std.proofs.lemmas.Option.{none-some, cond_some}
 use Rattle.std.proofs.lemmas.Bool.{eq-eqb, eqb-true, and_from, false≢true}
 use Rattle.process_tree.specs.declared.play.Outcome.{Outcome}
@@ -15,7 +14,6 @@ use Rattle.machine_model.specs.declared.kept.Kept.TheVariants.{Effect, Refuse, A
 use Rattle.machine_model.specs.declared.kept.Work.{Work}
 use Rattle.machine_model.specs.declared.kept.Work.TheVariants.{Forward, Undo, End}
 use Rattle.machine_model.specs.declared.replies.PieceState.{PieceState}
-use Rattle.machine_model.specs.declared.replies.Aborted.TheVariants.{Ok, Unknown, Ended, Exhausted, Already}
 use Rattle.machine_model.specs.declared.replies.PieceState.TheVariants.{Out, Dropped, Over}
 use Rattle.machine_model.specs.Moment.{Moment, Piece, has_begun, opening_moment}
 use Rattle.machine_model.specs.Pieces.{hands, piece_of, dropped_at, running_of, runs, state_of, dropped_or_over}
@@ -23,7 +21,7 @@ use Rattle.machine_model.specs.Progress.{same_work}
 use Rattle.machine_model.specs.State.{next_of, block_of, is_exhausted, is_free, victim_of}
 use Rattle.machine_model.specs.Advance.{Machine, advance, advance_all}
 use Rattle.machine_model.specs.Runs.{is_no_end, may_be_kept, is_victim, goes_on_from, is_run, now}
-use Rattle.machine_model.specs.Replies.{hand_to, kept_hand, admit_by_tries, admit_by_running, admit_by_active, admit_by_known, admit_reply, piece_unless, abort_by_begun, abort_by_tries, abort_by_active, abort_by_known, none_free_by_active, refused_unless_end, next_reply, piece_of_free, none_free_reply, rotation, victims, victim_then, all_victims, finish_reply, finish_piece, finish_by, out_finish, finish_kept, abort_reply, refused, refusal_reply}
+use Rattle.machine_model.specs.Replies.{hand_to, kept_hand, admit_by_tries, admit_by_running, admit_by_active, admit_by_known, admit_reply, piece_unless, abort_by_begun, abort_by_tries, abort_by_active, abort_by_known, none_free_by_active, refused_unless_end, next_reply, piece_of_free, none_free_reply, rotation, victims, victim_then, all_victims, finish_reply, finish_piece, finish_by, out_finish, finish_kept, abort_reply}
 use Rattle.machine_model.specs.Calls.{IsNoStart, Call, start, admit, next, finish, abort, complete_all, admit_kept, next_kept, abort_kept, answer, answer_at}
 use Rattle.machine_model.specs.CallLaws.{CallsKeepRuns}
 use Rattle.machine_model.proofs.Snoc.{goes_on-append, keeping}
@@ -32,10 +30,6 @@ same_work-itself : (w : Work) → same_work w w ≡ true
 same_work-itself Forward = refl
 same_work-itself Undo = refl
 same_work-itself End = refl
-
-and_true : (a : Bool) → (a && true) ≡ a
-and_true true = refl
-and_true false = refl
 
 some_same : {X : Type 0} (x y : X) → Some x ≡ Some y → x ≡ y
 some_same x y is = (cond_some true x y is).1

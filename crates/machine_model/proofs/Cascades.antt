@@ -1,5 +1,6 @@
 -- The computed cascade is the least set.
-use Rattle.std.proofs.Common.{◌≡◌, ℕ, Bool, true, false, eqb, ◌||◌, List, [], ◌∷◌, sym, refl, ap, ◌∙◌}
+use Rattle.std.proofs.Common.{◌≡◌, ℕ, eqb, List, [], ◌∷◌, sym, ap, ◌∙◌}
+use Rattle.std.proofs.Math.Bool.{or-false}
 use Rattle.std.specs.Bool.{IsTrue}
 use Rattle.std.proofs.lemmas.Bool.{eqb-true}
 use Rattle.process_tree.specs.declared.entry.Entry.{Entry}
@@ -10,11 +11,7 @@ use Rattle.schedule_model.proofs.Walks.{reached_least}
 use Rattle.machine_model.specs.Cascade.{IsCascade, cascade, drags}
 
 alone : (k root : ℕ) → IsTrue (is_in k (root ∷ [])) → k ≡ root
-alone k root is = eqb-true k root (sym (or_false (eqb k root)) ∙ is)
-  where
-    or_false : (b : Bool) → (b || false) ≡ b
-    or_false true = refl
-    or_false false = refl
+alone k root is = eqb-true k root (sym (or-false (eqb k root)) ∙ is)
 
 pub cascade-least : (table : ConflictRelation) (g : Holdings) (root : ℕ) (entries : List Entry) → IsTrue (is_in root (holders g))
     → IsCascade table g root entries (cascade table g root entries)

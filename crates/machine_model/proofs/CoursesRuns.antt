@@ -1,10 +1,7 @@
 -- Runs by courses that agree on the processes that started: further courses change nothing.
-use Rattle.std.proofs.Common.{◌≡◌, ◌⊎◌, inl, inr, ℕ, ◌+◌, ◌-◌, ◌≤◌, ◌<◌, Bool, true, false, not, cond, eqb, leb, ltb, ◌&&◌, ◌||◌, List, [], ◌∷◌, ◌++◌, length, take, filter, find, Option, Some, None, is_some, is_none, sym, refl, ap, subst, ◌∙◌, append-nil, append_assoc, length-append, arith}
-use Rattle.std.specs.Bool.{IsTrue}
-use Rattle.std.specs.List.{list_any, sum_by}
-use Rattle.std.specs.Option.{option_or}
+use Rattle.std.proofs.Common.{◌≡◌, ◌⊎◌, inl, inr, ℕ, ◌+◌, ◌-◌, ◌≤◌, Bool, true, false, not, eqb, leb, ltb, ◌&&◌, ◌||◌, List, [], ◌∷◌, ◌++◌, length, Option, Some, None, is_none, sym, refl, ap, subst, ◌∙◌, append_assoc, length-append, arith}
+use Rattle.std.specs.List.{sum_by}
 use Rattle.std.proofs.lemmas.List.Sums.{sum_by-cons}
-use Rattle.std.proofs.lemmas.Option.{none-some, same_Some}
 use Rattle.std.proofs.lemmas.Bool.{and_parts, and_from, and_left, and_right, or_cases, or_left, eqb-true, eq-eqb, false≢true}
 use Rattle.process_tree.specs.Order.{Each}
 use Rattle.process_tree.proofs.Every.{Each-weaker, Each-append}
@@ -14,7 +11,7 @@ use Rattle.schedule_model.specs.declared.event.Event.{Event}
 use Rattle.schedule_model.specs.declared.event.Event.TheVariants.{Start as Started, Act, End as Ended}
 use Rattle.schedule_model.specs.EachEvent.{each_passes}
 use Rattle.schedule_model.specs.Histories.{acts, active, ends, is_active, is_in, of_process, starts}
-use Rattle.schedule_model.specs.Limits.{Limits, entries, need, starts_within, stands_within, still_needed, keeps_limits, most_active, most_processes, most_entries}
+use Rattle.schedule_model.specs.Limits.{Limits, entries, need, starts_within, still_needed, most_active, most_processes, most_entries}
 use Rattle.schedule_model.specs.OwnOrder.{keeps_order}
 use Rattle.schedule_model.proofs.Active.{is_active-is_in}
 use Rattle.schedule_model.proofs.Appends.{starts-append, is_in-append}
@@ -25,13 +22,12 @@ use Rattle.machine_model.specs.declared.kept.Work.{Work}
 use Rattle.machine_model.specs.declared.kept.Work.TheVariants.{Forward, Undo, End}
 use Rattle.machine_model.specs.declared.began.Cause.TheVariants.{Abort as Aborted, Victim as WasVictim}
 use Rattle.machine_model.specs.Progress.{Task, same_work}
-use Rattle.machine_model.specs.Moment.{Moment, Piece, noted, happened, begins_now, has_begun}
+use Rattle.machine_model.specs.Moment.{Moment, Piece, noted, happened, has_begun}
 use Rattle.machine_model.specs.Pieces.{hands, piece_of, running_of}
 use Rattle.machine_model.specs.State.{block_of, is_exhausted, is_free, next_of, victim_of}
 use Rattle.machine_model.specs.Advance.{advance, advance_all, event_by, event_of, piece_refused, with_piece}
-use Rattle.machine_model.specs.Runs.{goes_on_from, is_victim, may_abort, may_be_kept, may_hand, may_start, start_refusal, too_many_active, too_many_started, no_room}
-use Rattle.machine_model.proofs.Keeping.{entered, advance-keeps}
-use Rattle.machine_model.proofs.Linked.{Each-find}
+use Rattle.machine_model.specs.Runs.{goes_on_from, is_victim, may_abort, may_be_kept, may_hand, start_refusal, too_many_active, too_many_started, no_room}
+use Rattle.machine_model.proofs.TidyMoments.{Each-find}
 use Rattle.machine_model.proofs.Snoc.{advances, added, added_by_piece, hands-append}
 use Rattle.machine_model.proofs.Frames.{piece_of-plain}
 use Rattle.machine_model.proofs.RunningNext.{hand_parts}

@@ -1,15 +1,15 @@
 -- A piece is dropped exactly where its process began to complete after the piece was handed out and while it was unfinished.
-use Rattle.std.proofs.Common.{◌≡◌, ◌↔◌, ℕ, ◌+◌, ◌≤◌, Bool, true, false, not, cond, if◌then◌else◌, eqb, ◌&&◌, ◌||◌, List, [], ◌∷◌, ◌++◌, length, take, drop, filter, find, map, is_some, Option, Some, None, sym, refl, ap, subst, ◌∙◌, append-nil, length-append, arith}
+use Rattle.std.proofs.Common.{◌≡◌, ℕ, ◌+◌, ◌≤◌, Bool, true, false, cond, if◌then◌else◌, eqb, ◌||◌, List, [], ◌∷◌, ◌++◌, length, take, drop, filter, find, map, is_some, Option, Some, None, sym, refl, ap, subst, ◌∙◌, length-append, arith}
 use Rattle.std.specs.Bool.{IsTrue}
 use Rattle.std.specs.List.{list_any}
 use Rattle.std.specs.Option.{option_or}
 use Rattle.std.proofs.lemmas.Option.{none-some, same_Some}
-use Rattle.std.proofs.lemmas.Bool.{and_parts, or_left, or_right, eqb-true, eqb-false, eq-eqb, ne_eqb, not-true, false≢true}
-use Rattle.std.proofs.lemmas.List.{take-append-drop, take-append-le, take_all}
+use Rattle.std.proofs.lemmas.Bool.{or_left, or_right, eqb-true, eq-eqb, false≢true}
+use Rattle.std.proofs.Math.Seq.{take-length}
+use Rattle.std.proofs.lemmas.List.{take-append-drop, take-append-le}
 use Rattle.std.proofs.lemmas.List.Folds.{find-append}
 use Rattle.process_tree.specs.Order.{Each}
 use Rattle.process_tree.proofs.Every.{Each-weaker, Each-append, Each-both, Each-map}
-use Rattle.schedule_model.specs.declared.event.Event.{Event}
 use Rattle.schedule_model.specs.Course.{Course}
 use Rattle.schedule_model.specs.Conflict.{ConflictRelation}
 use Rattle.machine_model.specs.declared.kept.Kept.{Kept}
@@ -17,17 +17,16 @@ use Rattle.machine_model.specs.declared.kept.Kept.TheVariants.{Start, Hand, Effe
 use Rattle.machine_model.specs.declared.began.Cause.{Cause}
 use Rattle.machine_model.specs.declared.replies.PieceState.{PieceState}
 use Rattle.machine_model.specs.declared.replies.PieceState.TheVariants.{Out, Dropped, Over}
-use Rattle.machine_model.specs.Moment.{Moment, Piece, Lost, Beginning, beginning_of, noted, happened, losses, begins_now, has_begun, opening_moment}
+use Rattle.machine_model.specs.Moment.{Moment, Piece, Lost, Beginning, beginning_of, noted, happened, losses, begins_now, has_begun}
 use Rattle.machine_model.specs.Pieces.{hands, piece_of, is_finished, runs, dropped_at, event_of_lost, dropped_or_over, state_of}
 use Rattle.machine_model.specs.Advance.{Machine, advance, with_piece, event_of}
 use Rattle.machine_model.specs.Runs.{is_run, now, may_be_kept}
 use Rattle.machine_model.specs.PieceLaws.{DroppedIsExact, WasDroppedAt}
-use Rattle.machine_model.proofs.Counting.{count, count-some, count-none, some-count, none-count, found-any}
-use Rattle.machine_model.proofs.Snoc.{now-kept}
-use Rattle.machine_model.proofs.Keeping.{IsKeptByBeginnings, entered, advance-keeps, run-keeps}
+use Rattle.machine_model.proofs.Counting.{count-some, count-none, some-count, none-count, found-any}
+use Rattle.machine_model.proofs.RunInduction.{entered, advance-keeps, run-keeps}
 use Rattle.machine_model.proofs.PieceCounts.{Counted, is_number, is_lost_number, ends_piece, beginnings-counted}
-use Rattle.machine_model.proofs.OneOut.{OneOut, beginnings-one}
-use Rattle.machine_model.proofs.Linked.{Tidy, IsPieceOfItsNumber, Each-filter, Each-find, advance-tidy, opening-tidy, piece_of-more, linked-beginnings, entered-tidy}
+use Rattle.machine_model.proofs.OneOut.{beginnings-one}
+use Rattle.machine_model.proofs.TidyMoments.{Tidy, IsPieceOfItsNumber, Each-find, opening-tidy, piece_of-more, linked-beginnings, entered-tidy}
 use Rattle.machine_model.proofs.CallsKept.{find-passes}
 use Rattle.machine_model.proofs.Stuck.{none_found}
 use Rattle.machine_model.proofs.RunningNext.{Each-passing}
@@ -85,9 +84,6 @@ any_filter_both : {X : Type 0} (q r : X → Bool) (xs : List X) → Each (λ x. 
 any_filter_both q r [] each any = absurd (false≢true any)
 any_filter_both q r (x ∷ xs) each any = any_step q r x xs (filter r xs) (q x) (r x) refl refl each.0 (any_filter_both q r xs each.1) any
 
-take_whole : {X : Type 0} (xs : List X) → take (length xs) xs ≡ xs
-take_whole xs = take_all (length xs) xs (omega arith)
-
 -- a piece that is out isn't finished
 out_unfinished : (m : Moment) (n : ℕ) → Counted m → runs m n ≡ true → is_finished m.kept n ≡ false
 out_unfinished m n c is = none-count (ends_piece n) m.kept (let a = count-some (is_number n) m.out is in let o = c.once n in let p = c.parted n in omega arith)
@@ -113,7 +109,7 @@ module _ (cause : Cause) (m : Moment) (i : ℕ) (never : has_begun m i ≡ false
     begun = beginning-new cause m i p.process (ap (beginning_of m) (eqb-true p.process i its) ∙ is_none_of (beginning_of m i) never) ∙ ap (λ t. cond t (Some new) None) (eq-eqb i p.process (sym (eqb-true p.process i its)));
     event = refl;
     kept = omega arith;
-    out = (ap (λ ks. is_some (piece_of ks p.number)) (take_whole m.kept) ∙ ap is_some is.0, ap (λ ks. is_finished ks p.number) (take_whole m.kept) ∙ out_unfinished m p.number order.tidy.counted is.1);
+    out = (ap (λ ks. is_some (piece_of ks p.number)) (take-length m.kept) ∙ ap is_some is.0, ap (λ ks. is_finished ks p.number) (take-length m.kept) ∙ out_unfinished m p.number order.tidy.counted is.1);
   }
 
   both_out : Each (λ p. IsPieceOfItsNumber m.kept p × (runs m p.number ≡ true)) m.out
@@ -184,7 +180,7 @@ module _ (cause : Cause) (m : Moment) (i : ℕ) (never : has_begun m i ≡ false
       by_new true its none is =
           let same = same_Some new b is in
           let at : length m.kept ≡ b.began.event = ap (λ (x : Beginning). x.began.event) same in
-          let unfinished : is_finished m.kept n ≡ false = ap (λ ks. is_finished ks n) (sym (take_whole m.kept)) ∙ (ap (λ k. is_finished (take k m.kept) n) at ∙ out.1) in
+          let unfinished : is_finished m.kept n ≡ false = ap (λ ks. is_finished ks n) (sym (take-length m.kept)) ∙ (ap (λ k. is_finished (take k m.kept) n) at ∙ out.1) in
           let lost = unlost n p found none (list_any (is_lost_number n) m.lost) refl in
           newly_dropped n p found (eq-eqb p.process i (sym (eqb-true i p.process its))) lost (else_out n p found lost unfinished) ∙ ap Some at
 

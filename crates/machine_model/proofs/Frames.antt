@@ -1,11 +1,8 @@
 -- An event leaves the progress of every process as it was, but that of the process whose piece it ends, and of those that begin
 -- to complete.
-use Rattle.std.proofs.Common.{◌≡◌, ℕ, ◌+◌, ◌≤◌, Bool, true, false, not, cond, eqb, ◌&&◌, ◌||◌, List, [], ◌∷◌, ◌++◌, length, filter, find, map, Option, Some, None, sym, refl, ap, ◌∙◌, append-nil, arith}
-use Rattle.std.specs.Bool.{IsTrue}
-use Rattle.std.specs.List.{list_any}
-use Rattle.std.proofs.lemmas.Bool.{and_parts, and_left, eqb-true, eq-eqb, false≢true}
+use Rattle.std.proofs.Common.{◌≡◌, ℕ, ◌+◌, Bool, true, false, not, cond, eqb, ◌&&◌, List, [], ◌∷◌, ◌++◌, length, filter, find, map, Option, Some, None, sym, refl, ap, ◌∙◌, append-nil, arith}
+use Rattle.std.proofs.lemmas.Bool.{and_parts, and_left, eqb-true, false≢true}
 use Rattle.process_tree.specs.declared.entry.Entry.{Entry}
-use Rattle.process_tree.specs.Shape.{Shape}
 use Rattle.schedule_model.specs.declared.event.Event.{Event}
 use Rattle.schedule_model.specs.declared.event.Event.TheVariants.{Start as Started, Act, End as Ended}
 use Rattle.schedule_model.specs.Course.{Course, shape}
@@ -19,13 +16,13 @@ use Rattle.machine_model.specs.declared.kept.Work.{Work}
 use Rattle.machine_model.specs.declared.kept.Work.TheVariants.{Forward, Undo, End}
 use Rattle.machine_model.specs.Progress.{Progress, above, is_only_try}
 use Rattle.machine_model.specs.Moment.{Moment, Piece, noted, happened, has_begun}
-use Rattle.machine_model.specs.Pieces.{hands, piece_of, refused_pieces, is_refusal}
+use Rattle.machine_model.specs.Pieces.{hands, piece_of, refused_pieces}
 use Rattle.machine_model.specs.State.{progress, refused_steps}
 use Rattle.machine_model.specs.Advance.{event_of, with_piece}
 use Rattle.machine_model.specs.PieceLaws.{piece_ended}
 use Rattle.machine_model.specs.Runs.{may_be_kept, is_no_end}
 use Rattle.machine_model.proofs.Snoc.{hands-append}
-use Rattle.machine_model.proofs.Keeping.{entered}
+use Rattle.machine_model.proofs.RunInduction.{entered}
 use Rattle.machine_model.proofs.PieceCounts.{Counted, is_number}
 use Rattle.machine_model.proofs.RefusedPieces.{refused-plain, refused-hand, refused-others, unhanded-unrefused}
 

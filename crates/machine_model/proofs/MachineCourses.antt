@@ -1,39 +1,34 @@
 -- A moment speaks of a process by its course alone: courses that agree on the processes that started give the same machine.
-use Rattle.std.proofs.Common.{◌≡◌, ℕ, ◌+◌, ◌≤◌, Bool, true, false, not, cond, if◌then◌else◌, eqb, leb, ◌&&◌, ◌||◌, List, [], ◌∷◌, ◌++◌, length, filter, find, map, drop, slice_index_or, Option, Some, None, is_some, is_none, sym, refl, ap, subst, ◌∙◌, arith}
-use Rattle.std.specs.Bool.{IsTrue}
-use Rattle.std.specs.List.{list_any, list_all}
-use Rattle.std.proofs.lemmas.Bool.{eqb-true, and_parts}
+use Rattle.std.proofs.Common.{◌≡◌, ℕ, Bool, true, false, not, cond, if◌then◌else◌, eqb, ◌&&◌, ◌||◌, List, [], ◌∷◌, ◌++◌, length, filter, map, drop, slice_index_or, Option, Some, None, is_some, is_none, sym, refl, ap, subst, ◌∙◌}
+use Rattle.std.specs.List.{list_all}
+use Rattle.std.proofs.lemmas.Bool.{eqb-true}
 use Rattle.process_tree.specs.Order.{Each}
-use Rattle.process_tree.specs.Shape.{Shape, greatest, kind_of, can_be_refused}
+use Rattle.process_tree.specs.Shape.{greatest, kind_of, can_be_refused}
 use Rattle.process_tree.specs.Recovery.{class_of, forward}
 use Rattle.process_tree.specs.declared.entry.Entry.{Entry}
 use Rattle.schedule_model.specs.Course.{Course, course, shape}
 use Rattle.schedule_model.specs.Conflict.{ConflictRelation}
 use Rattle.process_tree.proofs.Every.{Each-weaker}
-use Rattle.schedule_model.specs.declared.event.Event.{Event}
 use Rattle.schedule_model.specs.declared.event.Event.TheVariants.{Act}
-use Rattle.schedule_model.specs.Histories.{active, is_active, is_in, net, net_of, net_steps, done_steps, doing, undoing}
+use Rattle.schedule_model.specs.Histories.{active, is_active, is_in, net, net_of, net_steps, done_steps, undoing}
 use Rattle.schedule_model.specs.Holdings.{Hold, Holdings}
-use Rattle.schedule_model.specs.Blocking.{against_step, against_undo, against_end}
+use Rattle.schedule_model.specs.Blocking.{against_step, against_undo}
 use Rattle.schedule_model.specs.Recovery.{owed, backward_entries}
 use Rattle.schedule_model.proofs.Active.{is_active-is_in}
 use Rattle.schedule_model.proofs.Counts.{filter_same-in}
 use Rattle.schedule_model.proofs.Courses.{SameCourse, doing-courses, hold-courses}
-use Rattle.machine_model.specs.declared.blocked.Blocked.{Blocked}
-use Rattle.machine_model.specs.declared.kept.Kept.{Kept}
-use Rattle.machine_model.specs.declared.kept.Kept.TheVariants.{Start, Hand, Effect, Refuse, Abort, Victim, Restart}
 use Rattle.machine_model.specs.declared.kept.Work.{Work}
 use Rattle.machine_model.specs.declared.kept.Work.TheVariants.{Forward, Undo, End}
 use Rattle.machine_model.specs.declared.began.Cause.{Cause}
-use Rattle.machine_model.specs.declared.began.Cause.TheVariants.{Refused, Abort as Aborted, Cascade, Victim as WasVictim}
+use Rattle.machine_model.specs.declared.began.Cause.TheVariants.{Refused, Cascade}
 use Rattle.machine_model.specs.Blocks.{blocks_of, least_block}
 use Rattle.machine_model.specs.Cascade.{cascade}
 use Rattle.machine_model.specs.Progress.{Progress, Task, above, is_only_try, next_task, staying, way_on}
-use Rattle.machine_model.specs.ProcessState.{ProcessState, has_used_up}
-use Rattle.machine_model.specs.Moment.{Moment, Piece, begins, begins_now, all_begin, has_begun}
+use Rattle.machine_model.specs.ProcessState.{has_used_up}
+use Rattle.machine_model.specs.Moment.{Moment, Piece, begins, all_begin, has_begun}
 use Rattle.machine_model.specs.Pieces.{refusals, refused_pieces, running_of}
 use Rattle.machine_model.specs.State.{against_work, block_of, entry_by, entry_of, hold_of, holdings, is_blocked, is_exhausted, is_free, is_stalled, next_of, owed_by_class, owed_by_work, owed_soon, pending_of, process_state, progress, victim_of}
-use Rattle.machine_model.specs.Advance.{cascade_of, drag_along, goes_back, step_refused, work_refused, event_by}
+use Rattle.machine_model.specs.Advance.{drag_along, goes_back, step_refused, work_refused, event_by}
 use Rattle.machine_model.proofs.CallsKept.{find-passes}
 use Rattle.machine_model.proofs.Snoc.{begins-still}
 use Rattle.machine_model.proofs.OpenCascade.{each_listed}

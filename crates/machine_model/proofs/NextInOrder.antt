@@ -1,41 +1,38 @@
 -- The next piece of an active process keeps own order.
-use Rattle.std.proofs.Common.{◌≡◌, ◌⊎◌, inl, inr, ℕ, zero, suc, ◌+◌, ◌-◌, ◌≤◌, ◌<◌, Bool, true, false, not, cond, if◌then◌else◌, eqb, ltb, leb, ◌&&◌, ◌||◌, List, [], ◌∷◌, ◌++◌, length, take, drop, map, filter, flat_map, Option, Some, None, is_some, sym, refl, ap, subst, ◌∙◌, add-one, arith}
+use Rattle.std.proofs.Common.{◌≡◌, inl, inr, ℕ, ◌+◌, ◌-◌, ◌≤◌, Bool, true, false, if◌then◌else◌, eqb, ltb, leb, ◌&&◌, List, [], ◌∷◌, ◌++◌, length, take, drop, map, filter, flat_map, Option, Some, None, sym, refl, ap, subst, ◌∙◌, add-one, arith}
 use Rattle.std.specs.Bool.{IsTrue}
 use Rattle.std.specs.List.{list_any, list_all}
-use Rattle.std.proofs.lemmas.Option.{none-some, same_Some}
-use Rattle.std.proofs.lemmas.Bool.{and_parts, and_from, or_left, or_right, eqb-true, eq-eqb, le-leb, false≢true}
+use Rattle.std.proofs.lemmas.Option.{none-some}
+use Rattle.std.proofs.lemmas.Bool.{and_parts, and_from, or_left, eq-eqb, le-leb, false≢true}
 use Rattle.std.proofs.lemmas.List.{length-take}
 use Rattle.std.proofs.lemmas.List.Folds.{list_all-append}
-use Rattle.process_tree.specs.Order.{Each}
 use Rattle.process_tree.specs.Blocks.{numbers_from}
 use Rattle.process_tree.specs.Shape.{Shape, first_of, fixed_len, goes_on_to, is_end, is_whole, last_of, least, next_steps}
 use Rattle.process_tree.specs.Play.{kept_prefixes, kept_for}
 use Rattle.process_tree.specs.Recovery.{forward}
 use Rattle.process_tree.proofs.Numbers.{least_some}
 use Rattle.process_tree.specs.declared.plan.Plan.{Plan}
-use Rattle.schedule_model.specs.declared.event.Event.TheVariants.{Act, End as Ended}
 use Rattle.schedule_model.specs.Course.{Course, courses_of, op_of, shape}
 use Rattle.schedule_model.specs.Conflict.{no_conflict}
-use Rattle.schedule_model.specs.Histories.{doing, done_steps, is_active, is_in, net, net_of, net_steps, steps_of, undoing}
+use Rattle.schedule_model.specs.Histories.{doing, done_steps, is_active, is_in, net, net_of, net_steps, undoing}
 use Rattle.schedule_model.specs.Laws.{AreGood}
 use Rattle.schedule_model.specs.Legal.{is_legal}
 use Rattle.schedule_model.specs.OwnOrder.{goes_on, is_at_end, is_of_last, keeps_order}
 use Rattle.schedule_model.specs.Recovery.{owed_steps, backward_entries}
 use Rattle.schedule_model.proofs.Active.{is_in-filter}
-use Rattle.schedule_model.proofs.GoodPlans.{HasGoodPlan, good_if_goes_on}
+use Rattle.schedule_model.proofs.GoodPlans.{good_if_goes_on}
 use Rattle.schedule_model.proofs.NetPaths.{IsBranch, net-branch, done-below_owed}
 use Rattle.schedule_model.proofs.OwedPaths.{first_owed, at_end, take_all}
-use Rattle.machine_model.specs.declared.kept.Work.{Work}
 use Rattle.machine_model.specs.declared.kept.Work.TheVariants.{Forward, Undo, End}
-use Rattle.machine_model.specs.Progress.{Progress, Task, next_forward, next_task, pending_steps, staying, staying_for, step_or_end, undo_or, way_on}
-use Rattle.machine_model.specs.Moment.{Moment, has_begun}
+use Rattle.machine_model.specs.Progress.{Progress, Task, next_forward, pending_steps, staying, staying_for, step_or_end, undo_or, way_on}
+use Rattle.machine_model.specs.Moment.{Moment}
 use Rattle.machine_model.specs.State.{next_of, progress, refused_steps}
 use Rattle.machine_model.specs.Advance.{event_by}
 use Rattle.machine_model.specs.PieceLaws.{with_begun}
-use Rattle.machine_model.proofs.Ends.{all_pass}
-use Rattle.machine_model.proofs.WaysOn.{IsWayOn, below_bound, is_in-flat, staying-least, undo_of_last, way_on-is}
+use Rattle.machine_model.proofs.LastElements.{all_pass}
+use Rattle.machine_model.proofs.WaysOn.{below_bound, is_in-flat, staying-least, undo_of_last, way_on-is}
 
-last_none : (xs : List ℕ) → last_of xs ≡ None → xs ≡ []
+pub last_none : (xs : List ℕ) → last_of xs ≡ None → xs ≡ []
 last_none [] is = refl
 last_none (x ∷ []) is = absurd (none-some x (sym is))
 last_none (x ∷ y ∷ xs) is = absurd (some_last y xs is)
@@ -55,9 +52,9 @@ whole_end t (b ∷ w) whole = whole
 first_numbers : (p : ℕ → Bool) (f : ℕ → List ℕ) (q : List ℕ → Bool) (lo n : ℕ) → q (f lo) ≡ true → list_any q (map f (numbers_from lo (n + 1))) ≡ true
 first_numbers p f q lo n is = ap (λ k. list_any q (map f (numbers_from lo k))) (add-one n) ∙ or_left (q (f lo)) (list_any q (map f (numbers_from (lo + 1) n))) is
 
--- While a process has not begun to complete, the first step that it owes is at its bound or above.
+-- The first step that a process owes is at the bound of its ways on or above.
 abbrev pub OwedIsAhead : Progress → Type 0
-OwedIsAhead s = s.begun ≡ false → (b : ℕ) (rest : List ℕ) → forward s.shape s.net ≡ b ∷ rest → s.onward ≤ b
+OwedIsAhead s = (b : ℕ) (rest : List ℕ) → forward s.shape s.net ≡ b ∷ rest → s.onward ≤ b
 
 -- so it has a way on, where it owes something
 owed_way_on : (s : Progress) (b : ℕ) (rest : List ℕ) → forward s.shape s.net ≡ b ∷ rest → s.onward ≤ b
@@ -129,7 +126,7 @@ module _ (plans : List Plan) (good : AreGood plans) (m : Moment) (legal : IsTrue
   no_way : s.begun ≡ false → is_whole t w ≡ false → way_on s ≡ None → drop (fixed_len t w) w ≡ [] → (bs : List ℕ) → forward t w ≡ bs → is_end t w ≡ true
   no_way fresh whole none fixed [] owes = ended w refl (net-branch cs i m.events legal) fixed owes
   no_way fresh whole none fixed (b ∷ rest) owes =
-      absurd (owed_way_on s b rest owes (ahead fresh b rest owes)
+      absurd (owed_way_on s b rest owes (ahead b rest owes)
       (sym (ap (λ x. if x then None else (if is_whole t w then None else least (filter (λ d. leb s.onward d) (flat_map (next_steps t) (kept_prefixes t w))))) fresh
       ∙ ap (λ x. if x then None else least (filter (λ d. leb s.onward d) (flat_map (next_steps t) (kept_prefixes t w)))) whole) ∙ none))
 

@@ -1,6 +1,5 @@
 -- The cascade by the holdings of the open processes alone.
-use Rattle.std.proofs.Common.{◌≡◌, ℕ, zero, suc, Bool, true, false, not, cond, if◌then◌else◌, eqb, ◌&&◌, ◌||◌, List, [], ◌∷◌, ◌++◌, length, filter, map, flat_map, drop, sym, refl, ap, ◌∙◌}
-use Rattle.std.specs.Bool.{IsTrue}
+use Rattle.std.proofs.Common.{◌≡◌, ℕ, zero, suc, Bool, true, false, if◌then◌else◌, eqb, ◌&&◌, ◌||◌, List, [], ◌∷◌, ◌++◌, length, map, flat_map, drop, sym, refl, ap, ◌∙◌}
 use Rattle.std.specs.List.{list_any}
 use Rattle.std.proofs.lemmas.Bool.{and_parts, or_left, or_right, eqb-true, eq-eqb}
 use Rattle.std.proofs.lemmas.List.Folds.{list_any-append}
@@ -10,8 +9,8 @@ use Rattle.process_tree.proofs.Every.{Each-weaker, Each-append}
 use Rattle.process_tree.specs.declared.entry.Entry.{Entry}
 use Rattle.schedule_model.specs.Course.{Course, shape}
 use Rattle.schedule_model.specs.Conflict.{ConflictRelation, conflict}
-use Rattle.schedule_model.specs.Graph.{Arrow, spread, spread_by, reached}
-use Rattle.schedule_model.specs.Histories.{active, is_active, is_in, net, net_of, net_steps, same_step}
+use Rattle.schedule_model.specs.Graph.{Arrow, spread, spread_by}
+use Rattle.schedule_model.specs.Histories.{active, is_active, is_in, net, net_of, net_steps}
 use Rattle.schedule_model.specs.Holdings.{Hold, Holdings, holders, active_net, running_steps, behind}
 use Rattle.schedule_model.specs.Recovery.{backward_entries}
 use Rattle.process_tree.specs.Shape.{fixed_len}
@@ -22,16 +21,13 @@ use Rattle.machine_model.specs.Progress.{staying}
 use Rattle.machine_model.specs.Moment.{Moment}
 use Rattle.machine_model.specs.State.{hold_of, holdings, pending_of, progress}
 use Rattle.machine_model.specs.Laws.{OpenHoldingsDragAlike, open_only}
-use Rattle.machine_model.proofs.Ends.{Each-drop, all_pass}
+use Rattle.machine_model.proofs.TidyMoments.{every}
+use Rattle.machine_model.proofs.LastElements.{Each-drop, all_pass}
 use Rattle.machine_model.proofs.OpenHoldings.{behind-filter, holds-active}
 
 any_same : {X : Type 0} (p q : X → Bool) (xs : List X) → Each (λ x. p x ≡ q x) xs → list_any p xs ≡ list_any q xs
 any_same p q [] each = refl
 any_same p q (x ∷ xs) each = rw (each.0, any_same p q xs each.1) refl
-
-every : {X : Type 0} (P : X → Type 0) (xs : List X) → ((x : X) → P x) → Each P xs
-every P [] all = tt
-every P (x ∷ xs) all = (all x, every P xs all)
 
 -- each of a list of numbers is listed
 pub each_listed : (xs : List ℕ) → Each (λ k. is_in k xs ≡ true) xs

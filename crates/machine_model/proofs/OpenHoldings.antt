@@ -1,18 +1,16 @@
 -- What blocks by the holdings of the open processes alone.
-use Rattle.std.proofs.Common.{◌≡◌, ℕ, ◌+◌, ◌<◌, Bool, true, false, not, cond, if◌then◌else◌, eqb, ◌&&◌, ◌||◌, List, [], ◌∷◌, ◌++◌, length, filter, map, flat_map, sym, refl, ap, ◌∙◌, arith}
-use Rattle.std.specs.Bool.{IsTrue}
+use Rattle.std.proofs.Common.{◌≡◌, ℕ, Bool, true, false, cond, if◌then◌else◌, eqb, ◌&&◌, List, [], ◌∷◌, ◌++◌, filter, map, flat_map, sym, refl, ap, ◌∙◌, arith}
 use Rattle.std.specs.List.{list_any, Contains}
 use Rattle.std.proofs.lemmas.List.Elements.{Contains-append_right}
 use Rattle.std.proofs.lemmas.Bool.{and_parts, eqb-true, false≢true}
 use Rattle.process_tree.specs.Order.{Each}
 use Rattle.process_tree.specs.Recovery.{StepClass, reserved, committing, undoable}
 use Rattle.process_tree.specs.declared.entry.Entry.{Entry}
-use Rattle.schedule_model.specs.declared.event.Event.{Event}
 use Rattle.schedule_model.specs.Course.{Course}
 use Rattle.schedule_model.specs.Conflict.{ConflictRelation, conflict}
 use Rattle.schedule_model.specs.Graph.{leads}
 use Rattle.schedule_model.specs.Histories.{active, is_active, is_in, net, same_step, doing}
-use Rattle.schedule_model.specs.Holdings.{Hold, Holdings, holders, active_net, all_running, all_reserved, all_pending, running_steps, behind}
+use Rattle.schedule_model.specs.Holdings.{Hold, Holdings, holders, active_net, all_running, all_reserved, running_steps, behind}
 use Rattle.schedule_model.specs.Blocking.{Clash, Clashes, against, against_step, against_undo, against_end, with_running, with_reserved}
 use Rattle.schedule_model.specs.Legal.{class_in}
 use Rattle.schedule_model.specs.Recovery.{owed_after}
@@ -22,7 +20,7 @@ use Rattle.machine_model.specs.declared.kept.Work.{Work}
 use Rattle.machine_model.specs.declared.kept.Work.TheVariants.{Forward, Undo, End}
 use Rattle.machine_model.specs.Moment.{Moment}
 use Rattle.machine_model.specs.State.{against_work, hold_of, holdings, next_of}
-use Rattle.machine_model.specs.Laws.{IsEndedFree, OpenHoldingsBlockAlike, open_only}
+use Rattle.machine_model.specs.Laws.{OpenHoldingsBlockAlike, open_only}
 
 pub head_contained : {X : Type 0} (x : X) (xs : List X) → Contains (x ∷ xs) x
 head_contained x xs = (0, omega arith, refl)

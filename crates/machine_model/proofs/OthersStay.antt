@@ -1,14 +1,12 @@
 -- An event leaves a process as it was, unless it is of its piece or makes it begin to complete.
-use Rattle.std.proofs.Common.{◌≡◌, ℕ, ◌+◌, ◌≤◌, Bool, true, false, not, cond, eqb, ◌&&◌, ◌||◌, List, [], ◌∷◌, ◌++◌, length, filter, find, map, drop, is_some, Option, Some, None, sym, refl, ap, subst, ◌∙◌, append-nil, arith}
-use Rattle.std.specs.Bool.{IsTrue}
+use Rattle.std.proofs.Common.{◌≡◌, ℕ, Bool, true, false, not, cond, eqb, ◌&&◌, ◌||◌, List, [], ◌∷◌, ◌++◌, length, filter, find, map, drop, is_some, Option, Some, None, sym, refl, ap, ◌∙◌, arith}
+use Rattle.std.proofs.Math.Bool.{or-false}
 use Rattle.std.specs.Option.{option_or}
-use Rattle.std.proofs.lemmas.Option.{none-some, same_Some}
-use Rattle.std.proofs.lemmas.Bool.{and_parts, and_left, or_left, eqb-true, eqb-false, eq-eqb, ne_eqb, not-true, false≢true, both_ways}
+use Rattle.std.proofs.lemmas.Bool.{and_parts, and_left, or_left, eqb-true, false≢true, both_ways}
 use Rattle.std.proofs.lemmas.List.Folds.{find-append}
 use Rattle.process_tree.specs.Order.{Each}
 use Rattle.process_tree.proofs.Every.{Each-weaker}
 use Rattle.process_tree.specs.declared.entry.Entry.{Entry}
-use Rattle.schedule_model.specs.declared.event.Event.{Event}
 use Rattle.schedule_model.specs.Course.{Course, shape}
 use Rattle.schedule_model.specs.Conflict.{ConflictRelation}
 use Rattle.schedule_model.specs.Histories.{net_of, net_steps, steps_of, doing}
@@ -20,21 +18,21 @@ use Rattle.machine_model.specs.declared.kept.Kept.{Kept}
 use Rattle.machine_model.specs.declared.kept.Kept.TheVariants.{Start, Hand, Effect, Refuse, Abort, Victim, Restart}
 use Rattle.machine_model.specs.declared.kept.Work.{Work}
 use Rattle.machine_model.specs.declared.kept.Work.TheVariants.{Forward, Undo, End}
-use Rattle.machine_model.specs.Progress.{Progress, Task, next_task, same_work, staying, is_only_try}
+use Rattle.machine_model.specs.Progress.{Progress, next_task, same_work, staying, is_only_try}
 use Rattle.machine_model.specs.ProcessState.{ProcessState}
-use Rattle.machine_model.specs.Moment.{Moment, Piece, noted, happened, without, has_begun, begins_now}
+use Rattle.machine_model.specs.Moment.{Moment, Piece, noted, happened, has_begun, begins_now}
 use Rattle.machine_model.specs.Pieces.{hands, piece_of, refusals, refused_pieces, is_refusal, is_try_of, running_of}
-use Rattle.machine_model.specs.State.{progress, process_state, next_of, tried, hold_of, entry_of, owed_soon, owed_by_work, owed_by_class, pending_of, refused_steps}
-use Rattle.machine_model.specs.Advance.{Machine, advance, with_piece, event_of}
-use Rattle.machine_model.specs.PieceLaws.{LeavesPieceOf, OthersStay, piece_ended, piece_touched}
-use Rattle.machine_model.specs.Runs.{is_run, now, may_be_kept, is_no_end}
+use Rattle.machine_model.specs.State.{progress, process_state, next_of, hold_of, entry_of, owed_soon, owed_by_work, owed_by_class, pending_of}
+use Rattle.machine_model.specs.Advance.{advance, with_piece, event_of}
+use Rattle.machine_model.specs.PieceLaws.{LeavesPieceOf, OthersStay, piece_touched}
+use Rattle.machine_model.specs.Runs.{now, may_be_kept, is_no_end}
 use Rattle.machine_model.proofs.Snoc.{now-kept}
-use Rattle.machine_model.proofs.Keeping.{IsKeptByBeginnings, entered, advance-keeps}
-use Rattle.machine_model.proofs.Begun.{begins_now-has, advance-begun}
-use Rattle.machine_model.proofs.PieceCounts.{Counted, is_number}
+use Rattle.machine_model.proofs.RunInduction.{IsKeptByBeginnings, entered, advance-keeps}
+use Rattle.machine_model.proofs.Begun.{begins_now-has}
+use Rattle.machine_model.proofs.PieceCounts.{Counted}
 use Rattle.machine_model.proofs.CallsKept.{find-passes}
 use Rattle.machine_model.proofs.RefusedPieces.{refused-plain, refused-hand, refused-others, unhanded-unrefused}
-use Rattle.machine_model.proofs.Linked.{Tidy, IsPieceOfItsNumber, run-tidy}
+use Rattle.machine_model.proofs.TidyMoments.{Tidy, IsPieceOfItsNumber, every, run-tidy}
 use Rattle.machine_model.proofs.Frames.{SameFor, same_history, same_progress, start-leaves, event-leaves, piece_of-plain}
 use Rattle.machine_model.proofs.RunningNext.{flipped, hand_parts}
 
@@ -52,17 +50,9 @@ pub find-filter : {X : Type 0} (q keep : X → Bool) (xs : List X) → Each (λ 
 find-filter q keep [] each = refl
 find-filter q keep (x ∷ xs) each = find_step q keep x xs (keep x) refl each.0 (find-filter q keep xs each.1)
 
-every : {X : Type 0} (P : X → Type 0) (xs : List X) → ((x : X) → P x) → Each P xs
-every P [] all = tt
-every P (x ∷ xs) all = (all x, every P xs all)
-
 or_none : {X : Type 0} (o : Option X) → option_or o None ≡ o
 or_none None = refl
 or_none (Some x) = refl
-
-or_false : (t : Bool) → (t || false) ≡ t
-or_false true = refl
-or_false false = refl
 
 -- what moment n has of process i beside who has begun is as moment m has it
 pub record StaysFor (courses : List Course) (m n : Moment) (i : ℕ) : Type 0 where
@@ -95,7 +85,7 @@ module _ (table : ConflictRelation) (courses : List Course) (m : Moment) (i : �
           find-filter (λ p. eqb p.process i) (λ p. not (eqb p.process k)) n.out
           (every (λ p. eqb p.process i ≡ true → not (eqb p.process k) ≡ true) n.out
           (λ p is. ap not (ap (λ j. eqb j k) (eqb-true p.process i is) ∙ flipped k i at)))
-          ∙ stays.running (sym (ap (λ t. has_begun n i || t) at ∙ or_false (has_begun n i)) ∙ same)
+          ∙ stays.running (sym (ap (λ t. has_begun n i || t) at ∙ or-false (has_begun n i)) ∙ same)
 
   same_refused : (ks : List Kept) → refused_pieces ks ≡ refused_pieces m.kept → (r : Piece → Bool) → ((q : Piece) → eqb q.process i ≡ false → r q ≡ false) → filter r (refused_pieces ks) ≡ filter r (refused_pieces m.kept)
   same_refused ks same r others = ap (filter r) same

@@ -1,11 +1,10 @@
 -- What the end of its own piece makes of the progress of a process, and what its beginning to complete does.
-use Rattle.std.proofs.Common.{◌≡◌, ◌⊎◌, inl, inr, ℕ, ◌+◌, ◌-◌, ◌≤◌, max, Bool, true, false, not, cond, if◌then◌else◌, eqb, ◌&&◌, ◌||◌, List, [], ◌∷◌, ◌++◌, length, take, filter, find, map, is_none, is_some, Option, Some, None, sym, refl, ap, subst, ◌∙◌, append-nil, append_assoc, arith}
-use Rattle.std.specs.Bool.{IsTrue}
+use Rattle.std.proofs.Common.{◌≡◌, ℕ, ◌+◌, ◌-◌, max, Bool, true, false, not, cond, eqb, ◌&&◌, ◌||◌, List, [], ◌∷◌, ◌++◌, length, take, filter, map, is_none, is_some, Option, Some, None, sym, refl, ap, subst, ◌∙◌, arith}
+use Rattle.std.proofs.Math.Bool.{or-false}
 use Rattle.std.specs.List.{list_any}
 use Rattle.std.proofs.lemmas.Option.{none-some, same_Some}
-use Rattle.std.proofs.lemmas.Bool.{and_parts, and_left, and_right, and_from, or_right, eqb-true, eq-eqb, false≢true, not_from_true}
+use Rattle.std.proofs.lemmas.Bool.{and_left, and_right, or_right, eqb-true, eq-eqb, false≢true, not_from_true}
 use Rattle.process_tree.specs.Order.{Each}
-use Rattle.process_tree.specs.Shape.{kind_of, can_be_refused}
 use Rattle.process_tree.proofs.Every.{Each-weaker}
 use Rattle.schedule_model.specs.Course.{Course, shape}
 use Rattle.schedule_model.specs.Conflict.{ConflictRelation}
@@ -17,25 +16,24 @@ use Rattle.machine_model.specs.declared.kept.Kept.{Kept}
 use Rattle.machine_model.specs.declared.kept.Kept.TheVariants.{Start, Hand, Effect, Refuse, Abort, Victim, Restart}
 use Rattle.machine_model.specs.declared.kept.Work.{Work}
 use Rattle.machine_model.specs.declared.kept.Work.TheVariants.{Forward, Undo, End}
-use Rattle.machine_model.specs.declared.began.Cause.{Cause}
 use Rattle.machine_model.specs.declared.began.Cause.TheVariants.{Cascade, Refused}
 use Rattle.machine_model.specs.Progress.{Progress, above, is_only_try, way_on}
 use Rattle.machine_model.specs.ProcessState.{work_done, step_done, past, completing, complete_unless_on}
 use Rattle.machine_model.specs.Moment.{Moment, Piece, noted, happened, has_begun, begins, begins_now}
-use Rattle.machine_model.specs.Pieces.{hands, piece_of, is_refusal, refused_pieces}
+use Rattle.machine_model.specs.Pieces.{hands, piece_of, is_refusal}
 use Rattle.machine_model.specs.State.{progress, refused_steps}
-use Rattle.machine_model.specs.Advance.{Machine, advance, with_piece, event_of, drag_along, cascade_of, step_refused, work_refused, piece_refused}
-use Rattle.machine_model.specs.Runs.{is_run, now, may_be_kept}
-use Rattle.machine_model.specs.PieceLaws.{ProgressGoesByTransitions, RefusedBeginsWithoutWayOn, IsUndoOf, piece_ended, piece_touched, progress_by_piece, with_begun}
+use Rattle.machine_model.specs.Advance.{advance, with_piece, event_of, drag_along, cascade_of, step_refused, work_refused, piece_refused}
+use Rattle.machine_model.specs.Runs.{now, may_be_kept}
+use Rattle.machine_model.specs.PieceLaws.{ProgressGoesByTransitions, RefusedBeginsWithoutWayOn, IsUndoOf, piece_ended, progress_by_piece, with_begun}
 use Rattle.machine_model.proofs.Counting.{found-any}
 use Rattle.machine_model.proofs.Snoc.{now-kept}
-use Rattle.machine_model.proofs.Keeping.{entered, advance-keeps, begins-keep, drag_along-keeps}
+use Rattle.machine_model.proofs.RunInduction.{entered, advance-keeps, begins-keep, drag_along-keeps}
 use Rattle.machine_model.proofs.Begun.{begins-has, all_begin-has}
 use Rattle.machine_model.proofs.PieceCounts.{Counted, is_number}
 use Rattle.machine_model.proofs.RefusedPieces.{refused-plain, refused-more, refused_with, refused-other, only_found}
-use Rattle.machine_model.proofs.Linked.{Tidy, run-tidy}
+use Rattle.machine_model.proofs.TidyMoments.{run-tidy}
 use Rattle.machine_model.proofs.Frames.{end-leaves, entered-leaves, piece_of-plain}
-use Rattle.machine_model.proofs.OthersStay.{StaysFor, advance-stays}
+use Rattle.machine_model.proofs.OthersStay.{StaysFor}
 
 -- the bound of two lists together
 pub above-append : (xs ys : List ℕ) → above (xs ++ ys) ≡ max (above xs) (above ys)
@@ -67,7 +65,7 @@ module _ (courses : List Course) (m : Moment) (n : ℕ) where
   abbrev done_by : Piece → Moment
   done_by p = happened (noted m (Effect n)) (event_of courses p)
 
-  still_refused : (i : ℕ) → refused_steps courses (noted m (Effect n)) i ≡ refused_steps courses m i
+  pub still_refused : (i : ℕ) → refused_steps courses (noted m (Effect n)) i ≡ refused_steps courses m i
   still_refused i = ap (λ ps. map (λ (p : Piece). p.step) (filter (λ (p : Piece). eqb p.process i && is_only_try (shape courses i) p.step p.work) ps)) (refused-plain m.kept (Effect n) refl (λ x. refl))
 
   -- a step is done
@@ -223,11 +221,7 @@ module _ (table : ConflictRelation) (courses : List Course) where
   drag-own m i =
       let others = filter (λ k. not (eqb k i)) (cascade_of table courses m i) in
       let none : is_in i others ≡ false = is_in-filter (λ k. not (eqb k i)) i (cascade_of table courses m i) ∙ and_right (is_in i (cascade_of table courses m i)) (not (eqb i i)) (not_from_true (eqb i i) (eq-eqb i i refl)) in
-      all_begin-has (Cascade i) m others i ∙ (ap (λ t. has_begun m i || t) none ∙ or_false (has_begun m i))
-    where
-      or_false : (t : Bool) → (t || false) ≡ t
-      or_false true = refl
-      or_false false = refl
+      all_begin-has (Cascade i) m others i ∙ (ap (λ t. has_begun m i || t) none ∙ or-false (has_begun m i))
 
   -- an only try is refused: its process begins to complete where no way on is left
   pub step_refused-progress : (m : Moment) (i b : ℕ) → progress courses (step_refused table courses m i b) i ≡ complete_unless_on (progress courses m i)

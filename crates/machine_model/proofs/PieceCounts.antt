@@ -1,22 +1,22 @@
 -- Each piece that was handed out is out, lost or finished, and only one of these.
-use Rattle.std.proofs.Common.{◌≡◌, ◌⊎◌, inl, inr, ℕ, ◌+◌, ◌≤◌, ◌<◌, Bool, true, false, not, cond, eqb, ◌&&◌, ◌||◌, List, [], ◌∷◌, ◌++◌, length, filter, map, Option, Some, None, sym, refl, ap, ◌∙◌, append-nil, arith, length-append}
+use Rattle.std.proofs.Common.{◌≡◌, ◌⊎◌, inl, inr, ℕ, ◌+◌, ◌≤◌, ◌<◌, Bool, true, false, cond, eqb, ◌||◌, List, [], ◌∷◌, ◌++◌, length, filter, Option, Some, None, sym, refl, ap, ◌∙◌, append-nil, arith, length-append}
+use Rattle.std.proofs.Math.Bool.{or-false}
 use Rattle.std.specs.Bool.{IsTrue}
 use Rattle.std.specs.List.{list_any}
-use Rattle.std.proofs.lemmas.Bool.{and_parts, eqb-true, eq-eqb, ne_eqb, cases_eq, false≢true}
+use Rattle.std.proofs.lemmas.Bool.{and_parts, eqb-true, eq-eqb, ne_eqb, cases_eq}
 use Rattle.schedule_model.specs.declared.event.Event.{Event}
 use Rattle.schedule_model.specs.declared.event.Event.TheVariants.{Start as Started}
 use Rattle.schedule_model.specs.Course.{Course}
 use Rattle.schedule_model.specs.Conflict.{ConflictRelation}
 use Rattle.machine_model.specs.declared.kept.Kept.{Kept}
 use Rattle.machine_model.specs.declared.kept.Kept.TheVariants.{Start, Hand, Effect, Refuse, Abort, Victim, Restart}
-use Rattle.machine_model.specs.declared.kept.Work.{Work}
-use Rattle.machine_model.specs.Moment.{Moment, Piece, Lost, noted, happened, without, of_others, losses, begins_now, has_begun, opening_moment, out_after}
-use Rattle.machine_model.specs.Pieces.{hands, handed, is_effect, is_refusal, is_finished, runs, piece_of}
+use Rattle.machine_model.specs.Moment.{Moment, Piece, Lost, noted, happened, without, of_others, losses, opening_moment, out_after}
+use Rattle.machine_model.specs.Pieces.{hands, is_effect, is_refusal, runs, piece_of}
 use Rattle.machine_model.specs.Advance.{Machine, advance, with_piece, event_of}
 use Rattle.machine_model.specs.Runs.{is_run, now, may_be_kept}
 use Rattle.machine_model.proofs.Counting.{count, count-append, count-push, count-map, count-split, count-without, count-some}
 use Rattle.machine_model.proofs.Snoc.{hands-append}
-use Rattle.machine_model.proofs.Keeping.{IsKeptByBeginnings, entered, advance-keeps, run-keeps}
+use Rattle.machine_model.proofs.RunInduction.{IsKeptByBeginnings, entered, advance-keeps, run-keeps}
 
 -- the piece has number n
 abbrev pub is_number : ℕ → Piece → Bool
@@ -160,11 +160,7 @@ module _ (table : ConflictRelation) (courses : List Course) where
   entered-counted m (Hand piece process step work) c may =
       handing m (record { number = piece; process = process; step = step; work = work })
       (eqb-true piece (length (hands m.kept) + 1) (and_parts _ _ (and_parts _ _ (and_parts _ _ may).0).0).0) c
-  entered-counted m (Effect n) c may = perhaps_happening (noted m (Effect n)) (piece_of (noted m (Effect n)).kept n) (ending m (Effect n) n refl (λ x. or_false (eqb x n)) refl may c)
-    where
-      or_false : (t : Bool) → (t || false) ≡ t
-      or_false true = refl
-      or_false false = refl
+  entered-counted m (Effect n) c may = perhaps_happening (noted m (Effect n)) (piece_of (noted m (Effect n)).kept n) (ending m (Effect n) n refl (λ x. or-false (eqb x n)) refl may c)
   entered-counted m (Refuse n) c may = ending m (Refuse n) n refl (λ x. refl) refl (and_parts _ _ may).0 c
   entered-counted m (Abort i) c may = plain m (Abort i) refl (λ n. refl) refl c
   entered-counted m (Victim i) c may = plain m (Victim i) refl (λ n. refl) refl c

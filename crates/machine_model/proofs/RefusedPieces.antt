@@ -1,32 +1,28 @@
 -- The refused pieces with one kept event more.
-use Rattle.std.proofs.Common.{◌≡◌, ℕ, ◌+◌, ◌≤◌, Bool, true, false, not, cond, eqb, ◌&&◌, ◌||◌, List, [], ◌∷◌, ◌++◌, length, filter, find, map, Option, Some, None, sym, refl, ap, ◌∙◌, append-nil, arith}
+use Rattle.std.proofs.Common.{◌≡◌, ℕ, ◌+◌, ◌≤◌, Bool, true, false, not, cond, eqb, ◌||◌, List, [], ◌∷◌, ◌++◌, filter, find, Some, sym, refl, ap, ◌∙◌, append-nil, arith}
+use Rattle.std.proofs.Math.Bool.{or-false}
 use Rattle.std.specs.List.{list_any}
-use Rattle.std.proofs.lemmas.Bool.{eqb-true, eqb-false, eq-eqb, ne_eqb, false≢true, or_parts, or_from}
-use Rattle.std.proofs.lemmas.Option.{none-some, same_Some}
+use Rattle.std.proofs.lemmas.Bool.{false≢true, or_parts, or_from}
+use Rattle.std.proofs.lemmas.Option.{same_Some}
 use Rattle.std.proofs.lemmas.List.Folds.{list_any-append}
 use Rattle.std.proofs.lemmas.List.Elements.{filter-append}
 use Rattle.process_tree.specs.Order.{Each}
 use Rattle.process_tree.proofs.Every.{Each-weaker}
-use Rattle.schedule_model.specs.Course.{Course, shape}
 use Rattle.schedule_model.proofs.Snoc.{filter_same}
 use Rattle.machine_model.specs.declared.kept.Kept.{Kept}
-use Rattle.machine_model.specs.declared.kept.Kept.TheVariants.{Start, Hand, Effect, Refuse, Abort, Victim, Restart}
+use Rattle.machine_model.specs.declared.kept.Kept.TheVariants.{Hand, Refuse}
 use Rattle.machine_model.specs.Moment.{Moment, Piece}
 use Rattle.machine_model.specs.Pieces.{hands, piece_of, is_effect, is_refusal, refused_pieces}
-use Rattle.machine_model.proofs.Counting.{count, count-none, none-count}
+use Rattle.machine_model.proofs.Counting.{count, none-count}
 use Rattle.machine_model.proofs.Snoc.{hands-append}
 use Rattle.machine_model.proofs.PieceCounts.{Counted, is_number, ends_piece}
-
-or_false : (t : Bool) → (t || false) ≡ t
-or_false true = refl
-or_false false = refl
 
 -- an event that neither hands out nor refuses changes nothing
 pub refused-plain : (ks : List Kept) (k : Kept) → hands (k ∷ []) ≡ [] → ((n : ℕ) → is_refusal n k ≡ false) → refused_pieces (ks ++ k ∷ []) ≡ refused_pieces ks
 refused-plain ks k none never =
     ap (filter (λ p. list_any (is_refusal p.number) (ks ++ k ∷ []))) (hands-append ks (k ∷ []) ∙ (ap (λ ps. hands ks ++ ps) none ∙ append-nil (hands ks)))
     ∙ filter_same (λ p. list_any (is_refusal p.number) (ks ++ k ∷ [])) (λ p. list_any (is_refusal p.number) ks) (hands ks)
-    (λ p. list_any-append (is_refusal p.number) ks (k ∷ []) ∙ (ap (λ t. list_any (is_refusal p.number) ks || (t || false)) (never p.number) ∙ or_false (list_any (is_refusal p.number) ks)))
+    (λ p. list_any-append (is_refusal p.number) ks (k ∷ []) ∙ (ap (λ t. list_any (is_refusal p.number) ks || (t || false)) (never p.number) ∙ or-false (list_any (is_refusal p.number) ks)))
 
 fresh_step : (p : Piece) (ks : List Kept) → list_any (is_refusal p.number) ks ≡ false → filter (λ q. list_any (is_refusal q.number) ks) (p ∷ []) ≡ []
 fresh_step p ks never = ap (λ t. cond t (p ∷ []) []) never
@@ -37,7 +33,7 @@ refused-hand ks p never =
     let k : Kept = Hand p.number p.process p.step p.work in
     ap (filter (λ q. list_any (is_refusal q.number) (ks ++ k ∷ []))) (hands-append ks (k ∷ []))
     ∙ (filter_same (λ q. list_any (is_refusal q.number) (ks ++ k ∷ [])) (λ q. list_any (is_refusal q.number) ks) (hands ks ++ p ∷ [])
-    (λ q. list_any-append (is_refusal q.number) ks (k ∷ []) ∙ or_false (list_any (is_refusal q.number) ks))
+    (λ q. list_any-append (is_refusal q.number) ks (k ∷ []) ∙ or-false (list_any (is_refusal q.number) ks))
     ∙ (filter-append (λ q. list_any (is_refusal q.number) ks) (hands ks) (p ∷ [])
     ∙ (ap (λ ps. refused_pieces ks ++ ps) (fresh_step p ks never) ∙ append-nil (refused_pieces ks))))
 
@@ -49,7 +45,7 @@ pub refused-more : (ks : List Kept) (n : ℕ) → refused_pieces (ks ++ Refuse n
 refused-more ks n =
     ap (filter (λ p. list_any (is_refusal p.number) (ks ++ Refuse n ∷ []))) (hands-append ks (Refuse n ∷ []) ∙ append-nil (hands ks))
     ∙ filter_same (λ p. list_any (is_refusal p.number) (ks ++ Refuse n ∷ [])) (λ p. list_any (is_refusal p.number) ks || eqb p.number n) (hands ks)
-    (λ p. list_any-append (is_refusal p.number) ks (Refuse n ∷ []) ∙ ap (λ t. list_any (is_refusal p.number) ks || t) (or_false (eqb p.number n)))
+    (λ p. list_any-append (is_refusal p.number) ks (Refuse n ∷ []) ∙ ap (λ t. list_any (is_refusal p.number) ks || t) (or-false (eqb p.number n)))
 
 other_step : (r : Piece → Bool) (p : Piece) (ys zs : List Piece) (t u : Bool) → (u ≡ true → r p ≡ false) → filter r ys ≡ filter r zs → filter r (cond (t || u) (p ∷ ys) ys) ≡ filter r (cond t (p ∷ zs) zs)
 other_step r p ys zs true u not same = rw same refl

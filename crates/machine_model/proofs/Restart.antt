@@ -1,5 +1,5 @@
 -- Once all have begun to complete, the next event is the head of the completion.
-use Rattle.std.proofs.Common.{◌≡◌, ◌⊎◌, inl, inr, ℕ, ◌+◌, ◌≤◌, ◌<◌, Bool, true, false, cond, if◌then◌else◌, eqb, ◌&&◌, List, [], ◌∷◌, ◌++◌, length, map, filter, flat_map, take, drop, reverse, Option, Some, None, sym, refl, ap, subst, ◌∙◌, append-nil, append_assoc}
+use Rattle.std.proofs.Common.{◌≡◌, ◌⊎◌, inl, inr, ℕ, Bool, true, false, cond, eqb, ◌&&◌, List, [], ◌∷◌, ◌++◌, map, filter, flat_map, take, drop, reverse, Option, Some, None, sym, refl, ap, subst, ◌∙◌, append-nil, append_assoc}
 use Rattle.std.specs.Bool.{IsTrue}
 use Rattle.std.specs.List.{list_any, All, Contains}
 use Rattle.std.specs.Option.{option_or}
@@ -9,14 +9,13 @@ use Rattle.std.proofs.lemmas.List.{drop-map, reverse-append, map-append, take-ap
 use Rattle.std.proofs.lemmas.List.Elements.{All-nil, All-cons, All-append, All-filter, All-contains, Contains-append_right, filter-append}
 use Rattle.process_tree.specs.Order.{Each}
 use Rattle.process_tree.specs.Shape.{first_of, last_of, fixed_len}
-use Rattle.process_tree.specs.Recovery.{forward}
 use Rattle.process_tree.specs.declared.entry.Entry.{Entry}
 use Rattle.schedule_model.specs.declared.event.Event.{Event}
 use Rattle.schedule_model.specs.declared.event.Event.TheVariants.{Start as Started, Act, End as Ended}
 use Rattle.schedule_model.specs.Course.{Course, shape}
 use Rattle.schedule_model.specs.Conflict.{ConflictRelation}
 use Rattle.schedule_model.specs.Histories.{acts, active, is_active, is_in, net, net_of, net_steps, same_step, doing, undoing, steps_of}
-use Rattle.schedule_model.specs.Recovery.{owed, owed_steps, backward_entries}
+use Rattle.schedule_model.specs.Recovery.{owed_steps, backward_entries}
 use Rattle.schedule_model.specs.Completion.{all_backward_entries, closing, completion, is_to_undo}
 use Rattle.schedule_model.proofs.Active.{is_active-is_in}
 use Rattle.schedule_model.proofs.Appends.{acts-append}
@@ -26,17 +25,17 @@ use Rattle.machine_model.specs.declared.kept.Kept.{Kept}
 use Rattle.machine_model.specs.declared.kept.Kept.TheVariants.{Start, Hand, Effect, Refuse, Abort, Victim, Restart}
 use Rattle.machine_model.specs.declared.kept.Work.{Work}
 use Rattle.machine_model.specs.declared.kept.Work.TheVariants.{Forward, Undo, End}
-use Rattle.machine_model.specs.Progress.{Progress, Task, next_task, next_forward, pending_steps, staying, step_or_end, undo_or}
-use Rattle.machine_model.specs.Moment.{Moment, Piece, noted, happened, has_begun, opening_moment}
+use Rattle.machine_model.specs.Progress.{Task, next_forward, pending_steps, staying, step_or_end, undo_or}
+use Rattle.machine_model.specs.Moment.{Moment, Piece, noted, happened, has_begun}
 use Rattle.machine_model.specs.Pieces.{piece_of}
 use Rattle.machine_model.specs.PieceLaws.{with_begun}
-use Rattle.machine_model.specs.State.{is_pending, next_of, pending_in_order, pending_of, progress, undo_next}
+use Rattle.machine_model.specs.State.{is_pending, next_of, pending_in_order, pending_of, progress}
 use Rattle.machine_model.specs.Advance.{Machine, advance, event_by, event_of, with_piece}
-use Rattle.machine_model.specs.Runs.{is_run, now, may_be_kept}
+use Rattle.machine_model.specs.Runs.{is_run, now}
 use Rattle.machine_model.specs.Laws.{AllHaveBegun, RestartFollowsCompletion, next_in_restart}
-use Rattle.machine_model.proofs.Ends.{HasEnd, has_end, last_of-push, same_end, Each-drop, Each-last, any_last, none_pass, all_pass}
-use Rattle.machine_model.proofs.Keeping.{entered, advance-keeps, run-keeps}
-use Rattle.machine_model.proofs.Linked.{Each-filter}
+use Rattle.machine_model.proofs.LastElements.{HasEnd, has_end, last_of-push, same_end, Each-drop, Each-last, any_last, none_pass, all_pass}
+use Rattle.machine_model.proofs.RunInduction.{entered, advance-keeps, run-keeps}
+use Rattle.machine_model.proofs.TidyMoments.{Each-filter}
 use Rattle.machine_model.proofs.OpenHoldings.{head_contained}
 
 -- The acts of a run have the operations of the plans.

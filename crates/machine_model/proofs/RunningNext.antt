@@ -1,30 +1,30 @@
 -- The running piece of a process is its next piece.
-use Rattle.std.proofs.Common.{◌≡◌, ◌⊎◌, inl, inr, ℕ, ◌+◌, ◌≤◌, Bool, true, false, not, cond, eqb, ◌&&◌, ◌||◌, List, [], ◌∷◌, ◌++◌, length, filter, find, Option, Some, None, sym, refl, ap, subst, ◌∙◌, arith}
+use Rattle.std.proofs.Common.{◌≡◌, ℕ, ◌+◌, Bool, true, false, not, cond, eqb, ◌&&◌, ◌||◌, List, [], ◌∷◌, ◌++◌, length, filter, Option, Some, None, sym, refl, ap, subst, ◌∙◌, arith}
+use Rattle.std.proofs.Math.Bool.{or-false}
 use Rattle.std.specs.Bool.{IsTrue}
 use Rattle.std.specs.List.{list_any}
 use Rattle.std.proofs.lemmas.Option.{none-some, same_Some}
-use Rattle.std.proofs.lemmas.Bool.{and_parts, and_from, or_parts, or_left, or_right, or_from, not-true, eqb-true, eqb-false, eq-eqb, ne_eqb, false≢true}
+use Rattle.std.proofs.lemmas.Bool.{and_parts, and_from, or_parts, or_left, not-true, eqb-true, eqb-false, eq-eqb, ne_eqb, false≢true}
 use Rattle.process_tree.specs.Order.{Each}
 use Rattle.process_tree.proofs.Every.{Each-weaker, Each-append, Each-both}
 use Rattle.schedule_model.specs.Course.{Course}
 use Rattle.schedule_model.specs.Conflict.{ConflictRelation}
 use Rattle.machine_model.specs.declared.kept.Kept.{Kept}
 use Rattle.machine_model.specs.declared.kept.Kept.TheVariants.{Start, Hand, Effect, Refuse, Abort, Victim, Restart}
-use Rattle.machine_model.specs.declared.kept.Work.{Work}
-use Rattle.machine_model.specs.Progress.{Progress, Task, same_task, same_work, next_task}
-use Rattle.machine_model.specs.Moment.{Moment, Piece, noted, happened, without, of_others, has_begun, begins_now, opening_moment}
-use Rattle.machine_model.specs.Pieces.{hands, piece_of, runs, running_of}
+use Rattle.machine_model.specs.Progress.{Task, same_task, same_work, next_task}
+use Rattle.machine_model.specs.Moment.{Moment, Piece, noted, happened, without, has_begun, begins_now}
+use Rattle.machine_model.specs.Pieces.{hands, piece_of, runs}
 use Rattle.machine_model.specs.State.{next_of, is_free, progress}
 use Rattle.machine_model.specs.Advance.{Machine, advance, with_piece, event_of}
 use Rattle.machine_model.specs.Runs.{is_run, now, may_be_kept, may_hand}
 use Rattle.machine_model.specs.PieceLaws.{RunningIsNext, piece_ended}
-use Rattle.machine_model.proofs.Counting.{count, count-split, count-some, none-count, some-count}
-use Rattle.machine_model.proofs.Keeping.{IsKeptByBeginnings, entered, advance-keeps, run-keeps}
+use Rattle.machine_model.proofs.Counting.{count, count-split, count-some, none-count}
+use Rattle.machine_model.proofs.RunInduction.{IsKeptByBeginnings, entered, advance-keeps, run-keeps}
 use Rattle.machine_model.proofs.Begun.{begins_now-has}
 use Rattle.machine_model.proofs.PieceCounts.{is_number}
 use Rattle.machine_model.proofs.CallsKept.{find-passes}
 use Rattle.machine_model.proofs.OneOut.{is_of}
-use Rattle.machine_model.proofs.Linked.{Tidy, IsPieceOfItsNumber, Each-filter, Each-find, advance-tidy, opening-tidy}
+use Rattle.machine_model.proofs.TidyMoments.{Tidy, IsPieceOfItsNumber, Each-filter, Each-find, advance-tidy, opening-tidy}
 use Rattle.machine_model.proofs.Frames.{IsOfOthers, entered-leaves, same_history, same_progress}
 
 -- what a piece does
@@ -104,12 +104,8 @@ module _ (table : ConflictRelation) (courses : List Course) where
       (λ p next other. still_next m (begins_now cause m k) p (same_progress courses m (begins_now cause m k) p.process (same_history m.events p.process) refl
       (begins_now-has cause m k p.process ∙ same_begun p k (not-true (eqb p.process k) other))) next) each
     where
-      or_false : (t : Bool) → (t || false) ≡ t
-      or_false true = refl
-      or_false false = refl
-
       same_begun : (p : Piece) (j : ℕ) → eqb p.process j ≡ false → (has_begun m p.process || eqb j p.process) ≡ has_begun m p.process
-      same_begun p j other = ap (λ t. has_begun m p.process || t) (flipped p.process j other) ∙ or_false (has_begun m p.process)
+      same_begun p j other = ap (λ t. has_begun m p.process || t) (flipped p.process j other) ∙ or-false (has_begun m p.process)
 
   leaves_all : (m : Moment) (k : Kept) (ps : List Piece) → Tidy m → may_be_kept table courses m k ≡ true → Each (λ p. IsOfOthers m.kept k p.process) ps → Each (IsNextPiece courses m) ps
       → Each (IsNextPiece courses (entered courses m k)) ps

@@ -1,33 +1,31 @@
 -- What a call keeps makes a longer session; a start adds its plan.
-use Rattle.std.proofs.Common.{◌≡◌, ◌⊎◌, inl, inr, ℕ, zero, suc, ◌+◌, ◌-◌, ◌≤◌, Bool, true, false, not, cond, eqb, ◌&&◌, List, [], ◌∷◌, ◌++◌, length, take, map, slice_index_or, Option, Some, None, is_none, sym, refl, ap, subst, ◌∙◌, append-nil, length-append, arith}
-use Rattle.std.specs.Bool.{IsTrue}
+use Rattle.std.proofs.Common.{◌≡◌, ◌⊎◌, inl, inr, ℕ, zero, suc, ◌+◌, ◌≤◌, Bool, true, false, cond, eqb, List, [], ◌∷◌, ◌++◌, length, slice_index_or, Option, Some, None, is_none, sym, refl, ap, subst, ◌∙◌, append-nil, length-append, arith}
 use Rattle.std.specs.List.{Contains}
-use Rattle.std.proofs.lemmas.Bool.{and_from, and_parts, eq-eqb, false≢true}
+use Rattle.std.proofs.lemmas.Bool.{and_from, eq-eqb}
 use Rattle.std.proofs.lemmas.List.{map-append, length-map}
 use Rattle.std.proofs.lemmas.List.Elements.{Contains-append_cases}
 use Rattle.std.proofs.Math.Seq.{take-append_seam}
 use Rattle.process_tree.specs.Order.{Each}
 use Rattle.process_tree.proofs.Every.{Each-append}
 use Rattle.process_tree.specs.declared.plan.Plan.{Plan}
-use Rattle.schedule_model.specs.Course.{Course, course, courses_of, course_of, no_course}
+use Rattle.schedule_model.specs.Course.{Course, course, course_of, no_course}
 use Rattle.schedule_model.specs.Conflict.{ConflictRelation}
 use Rattle.schedule_model.specs.Histories.{active, starts}
-use Rattle.schedule_model.specs.Legal.{is_legal}
-use Rattle.schedule_model.specs.Limits.{is_within_limits, limits}
+use Rattle.schedule_model.specs.Limits.{limits}
 use Rattle.schedule_model.specs.Laws.{IsGoodPlan}
 use Rattle.schedule_model.proofs.Courses.{SameCourse}
 use Rattle.schedule_model.proofs.Prefixes.{course-take, is_legal-courses, legal-numbered}
 use Rattle.machine_model.specs.declared.kept.Kept.{Kept}
-use Rattle.machine_model.specs.declared.kept.Kept.TheVariants.{Start, Hand, Effect, Refuse, Abort, Victim, Restart}
+use Rattle.machine_model.specs.declared.kept.Kept.TheVariants.{Start, Victim, Restart}
 use Rattle.machine_model.specs.declared.replies.StartWhy.{StartWhy}
 use Rattle.machine_model.specs.declared.replies.Aborted.{Aborted}
 use Rattle.machine_model.specs.declared.replies.Aborted.TheVariants.{Ok, Unknown, Ended, Exhausted, Already}
 use Rattle.machine_model.specs.Moment.{Moment, opening_moment}
 use Rattle.machine_model.specs.State.{victim_of}
 use Rattle.machine_model.specs.Advance.{Machine, advance, advance_all}
-use Rattle.machine_model.specs.Runs.{goes_on_from, history, is_run, may_be_kept, now, start_refusal}
+use Rattle.machine_model.specs.Runs.{goes_on_from, is_run, may_be_kept, now, start_refusal}
 use Rattle.machine_model.specs.Replies.{Admit, piece, blocked, running, unknown, ended, exhausted, Next, chosen, wait, all_ended, stuck, Finish, effected, refused, over, dropped, no_piece, no_refusal, finish_kept, victims, victim_then, all_victims, admit_reply, next_reply, finish_reply, abort_reply}
-use Rattle.machine_model.specs.Calls.{Answer, Call, start, admit, next, finish, abort, complete_all, IsNoStart, admit_kept, next_kept, abort_kept, answer, answer_at, answer_start, answered, start_unless}
+use Rattle.machine_model.specs.Calls.{Call, start, admit, next, finish, abort, complete_all, IsNoStart, admit_kept, next_kept, abort_kept, answer, answer_at, answered, start_unless}
 use Rattle.machine_model.specs.Laws.{CallsMakeRuns, IsSession}
 use Rattle.machine_model.proofs.Snoc.{advance_all-append, goes_on-append, keeping}
 use Rattle.machine_model.proofs.CallsKept.{call-makes_run, no_courses}

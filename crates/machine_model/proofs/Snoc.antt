@@ -3,7 +3,8 @@ use Rattle.std.specs.Bool.{IsTrue}
 use Rattle.std.proofs.lemmas.List.Folds.{list_any-append}
 use Rattle.process_tree.specs.Shape.{kind_of, can_be_refused}
 use Rattle.schedule_model.proofs.Legal.{both-left}
-use Rattle.std.proofs.Common.{◌≡◌, ℕ, Bool, true, false, not, cond, eqb, filter, is_none, ◌||◌, ◌&&◌, List, [], ◌∷◌, ◌++◌, length, Option, Some, None, sym, refl, ap, ◌∙◌, append_assoc, append-nil}
+use Rattle.std.proofs.Common.{◌≡◌, ℕ, Bool, true, false, not, cond, eqb, filter, is_none, ◌||◌, ◌&&◌, List, [], ◌∷◌, ◌++◌, Option, Some, None, sym, refl, ap, ◌∙◌, append_assoc, append-nil}
+use Rattle.std.proofs.Math.Bool.{and-true}
 use Rattle.schedule_model.specs.declared.event.Event.{Event}
 use Rattle.schedule_model.specs.declared.event.Event.TheVariants.{Start as Started}
 use Rattle.schedule_model.specs.Course.{Course, shape}
@@ -150,13 +151,9 @@ now-kept table s = advance_all-kept table s.courses (opening_moment s.opening) s
 pub now-push : (table : ConflictRelation) (s : Machine) (k : Kept) → now table (keeping s (k ∷ [])) ≡ advance table s.courses (now table s) k
 now-push table s k = advance_all-append table s.courses (opening_moment s.opening) s.kept (k ∷ [])
 
-and_true : (a : Bool) → (a && true) ≡ a
-and_true true = refl
-and_true false = refl
-
 -- a session with one more kept event is a run where it was and the event may be kept
 pub is_run-push : (table : ConflictRelation) (s : Machine) (k : Kept) → is_run table (keeping s (k ∷ [])) ≡ (is_run table s && may_be_kept table s.courses (now table s) k)
-is_run-push table s k = goes_on-append table s.courses (opening_moment s.opening) s.kept (k ∷ []) ∙ ap (λ b. is_run table s && b) (and_true (may_be_kept table s.courses (now table s) k))
+is_run-push table s k = goes_on-append table s.courses (opening_moment s.opening) s.kept (k ∷ []) ∙ ap (λ b. is_run table s && b) (and-true (may_be_kept table s.courses (now table s) k))
 
 -- each beginning of a run is one
 pub is_run-prefix : (table : ConflictRelation) (s : Machine) (ks : List Kept) → IsTrue (is_run table (keeping s ks)) → IsTrue (is_run table s)

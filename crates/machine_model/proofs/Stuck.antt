@@ -1,12 +1,10 @@
 -- A request for any piece answers that one is stuck exactly where nothing runs and nobody can go on or go back.
-use Rattle.std.proofs.Common.{◌≡◌, ◌≢◌, ◌↔◌, ◌⊎◌, inl, inr, ℕ, Bool, true, false, not, cond, eqb, ltb, leb, if◌then◌else◌, ◌&&◌, ◌||◌, List, [], ◌∷◌, ◌++◌, length, filter, find, slice_get, Option, Some, None, is_some, is_none, sym, refl, ap, ◌∙◌, arith}
+use Rattle.std.proofs.Common.{◌≡◌, ◌≢◌, ◌⊎◌, inl, inr, ℕ, Bool, true, false, not, cond, eqb, ltb, leb, if◌then◌else◌, ◌&&◌, ◌||◌, List, [], ◌∷◌, length, filter, find, Option, Some, None, is_some, is_none, sym, refl, ap, ◌∙◌, arith}
 use Rattle.std.specs.Bool.{IsTrue}
 use Rattle.std.specs.List.{list_any, list_all}
 use Rattle.std.proofs.lemmas.Option.{none-some}
-use Rattle.std.proofs.lemmas.Bool.{and_parts, and_from, and_left, and_right, or_left, or_right, or_cases, not-true, not-false, both_ways, eqb-true, eqb-false, eq-eqb, ne_eqb, false≢true, ltb-false, le-leb}
+use Rattle.std.proofs.lemmas.Bool.{and_parts, and_from, and_left, and_right, or_left, or_right, or_cases, eqb-true, eq-eqb, ne_eqb, false≢true, ltb-false, le-leb}
 use Rattle.process_tree.specs.Shape.{greatest, greater}
-use Rattle.process_tree.proofs.InTurn.{greatest_is}
-use Rattle.process_tree.proofs.LastPath.{greatest_of}
 use Rattle.schedule_model.specs.Course.{Course}
 use Rattle.schedule_model.specs.Conflict.{ConflictRelation}
 use Rattle.schedule_model.specs.Histories.{active, is_active, is_in}
@@ -14,11 +12,10 @@ use Rattle.schedule_model.proofs.Active.{is_in-filter, is_active-is_in}
 use Rattle.schedule_model.proofs.Appends.{is_in-append}
 use Rattle.machine_model.specs.declared.blocked.Blocked.{Blocked}
 use Rattle.machine_model.specs.Moment.{Moment, Piece, has_begun}
-use Rattle.machine_model.specs.Pieces.{running_of}
 use Rattle.machine_model.specs.State.{block_of, is_blocked, is_exhausted, is_free, is_stalled, victim_of}
 use Rattle.machine_model.specs.Advance.{advance_all}
-use Rattle.machine_model.specs.Replies.{Next, chosen, wait, all_ended, stuck, rotation, all_victims, least_exhausted, none_free_by_active, none_free_by_running, none_free_reply, piece_of_free, next_reply, hand_to, blocked_in_rotation}
-use Rattle.machine_model.specs.Calls.{answer_next, next_is}
+use Rattle.machine_model.specs.Replies.{Next, chosen, wait, all_ended, stuck, rotation, all_victims, least_exhausted, none_free_by_active, none_free_by_running, none_free_reply, piece_of_free, next_reply}
+use Rattle.machine_model.specs.Calls.{next_is}
 use Rattle.machine_model.specs.CallLaws.{IsStuck, StuckIsExact}
 use Rattle.machine_model.proofs.Victims.{victims_run_dry}
 

@@ -1,10 +1,8 @@
 -- The turns of several threads make a run.
-use Rattle.std.proofs.Common.{◌≡◌, ◌⊎◌, inl, inr, ℕ, ◌+◌, Bool, true, false, not, cond, if◌then◌else◌, eqb, ◌&&◌, ◌||◌, List, [], ◌∷◌, ◌++◌, length, filter, flat_map, Option, Some, None, sym, refl, ap, subst, ◌∙◌, append-nil}
-use Rattle.std.specs.Bool.{IsTrue}
+use Rattle.std.proofs.Common.{◌≡◌, ℕ, ◌+◌, Bool, true, false, not, if◌then◌else◌, eqb, ◌||◌, List, [], ◌∷◌, ◌++◌, length, Option, Some, None, sym, refl, ap, subst, ◌∙◌, append-nil}
 use Rattle.std.specs.List.{list_any}
 use Rattle.std.proofs.lemmas.Map.Views.{any-filter_same}
-use Rattle.std.proofs.lemmas.Bool.{and_from, and_parts, or_parts, or_left, or_right, eqb-true, eqb-false, eq-eqb, ne_eqb, not-true, false≢true, cases_eq}
-use Rattle.process_tree.specs.declared.play.Outcome.{Outcome}
+use Rattle.std.proofs.lemmas.Bool.{and_from, or_parts, or_left, or_right, eqb-true, eqb-false, eq-eqb, ne_eqb, false≢true}
 use Rattle.schedule_model.specs.Course.{Course}
 use Rattle.schedule_model.specs.Conflict.{ConflictRelation}
 use Rattle.schedule_model.specs.Histories.{is_in}
@@ -14,17 +12,16 @@ use Rattle.machine_model.specs.declared.kept.Kept.TheVariants.{Effect, Refuse}
 use Rattle.machine_model.specs.declared.replies.PieceState.{PieceState}
 use Rattle.machine_model.specs.declared.replies.PieceState.TheVariants.{Out, Dropped, Over}
 use Rattle.machine_model.specs.declared.replies.Refusal.{Refusal}
-use Rattle.machine_model.specs.Progress.{same_work}
 use Rattle.machine_model.specs.Moment.{Moment, Piece, noted, happened, without, opening_moment}
 use Rattle.machine_model.specs.Pieces.{hands, piece_of, runs, state_of, dropped_at}
-use Rattle.machine_model.specs.Advance.{Machine, advance, advance_all, with_piece, event_of}
-use Rattle.machine_model.specs.Runs.{is_run, now, may_be_kept, is_no_end, goes_on_from}
-use Rattle.machine_model.specs.Replies.{Next, Finish, all_victims, finish_reply, finish_kept, refusal_reply}
+use Rattle.machine_model.specs.Advance.{advance, with_piece, event_of}
+use Rattle.machine_model.specs.Runs.{is_run, now, is_no_end, goes_on_from}
+use Rattle.machine_model.specs.Replies.{Next, all_victims, finish_kept, refusal_reply}
 use Rattle.machine_model.specs.Calls.{next, finish, next_is, next_kept}
 use Rattle.machine_model.specs.Groups.{Subsystems, Taken, as_done, as_refused, as_barred, Queue, queued, full, over, dropped, no_piece, no_refusal, full_or, refused_unless_end as queue_refused, queue_reply, queue_kept, queue_adds, flush_kept, flush_reply, ended_then, kept_for_ended, queue_piece, queue_by, out_queue, is_full, is_end_piece}
-use Rattle.machine_model.specs.Turns.{Board, Turn, nexts, finishes, queues, flushes, Said, says, no_memory, disk_fault, is_closed, moved, after_said, after_next, after_finish, after_queue, after_flush, after_turn, after_turns, taken_as, SaysClosed, MaySayBy, MaySay, OpenMaySay, AllMaySay, AreTurns, IsTurn}
+use Rattle.machine_model.specs.Turns.{Board, Turn, nexts, finishes, queues, flushes, says, no_memory, disk_fault, is_closed, after_said, after_next, after_finish, after_queue, after_flush, after_turn, after_turns, taken_as, SaysClosed, MaySayBy, MaySay, OpenMaySay, AllMaySay}
 use Rattle.machine_model.specs.CallLaws.{TurnsMakeRuns}
-use Rattle.machine_model.proofs.Snoc.{keeping, goes_on-append, now-kept}
+use Rattle.machine_model.proofs.Snoc.{keeping, goes_on-append}
 use Rattle.machine_model.proofs.CallsKept.{call-makes_run, find-passes, out_runs}
 
 -- each number of the list stands in it once

@@ -1,23 +1,21 @@
 -- Victims run dry: each one has begun to complete, and there are only so many active processes.
-use Rattle.std.proofs.Common.{◌≡◌, ℕ, zero, suc, ◌+◌, ◌≤◌, ◌<◌, Bool, true, false, not, cond, if◌then◌else◌, ◌&&◌, List, [], ◌∷◌, ◌++◌, length, filter, Option, Some, None, sym, refl, ap, ◌∙◌, append-nil, arith}
-use Rattle.std.specs.List.{list_any}
+use Rattle.std.proofs.Common.{◌≡◌, ℕ, zero, suc, ◌≤◌, ◌<◌, Bool, true, false, not, if◌then◌else◌, ◌&&◌, List, ◌∷◌, length, filter, Option, Some, None, sym, refl, ap, ◌∙◌, append-nil, arith}
 use Rattle.std.proofs.lemmas.Option.{none-some}
-use Rattle.std.proofs.lemmas.Bool.{and_parts, and_from, not-true, not_from_true, both_ways}
+use Rattle.std.proofs.lemmas.Bool.{and_parts, and_from, not-true, both_ways}
 use Rattle.process_tree.specs.Shape.{greatest}
 use Rattle.process_tree.proofs.InTurn.{greatest_is}
 use Rattle.schedule_model.specs.Course.{Course}
 use Rattle.schedule_model.specs.Conflict.{ConflictRelation}
 use Rattle.schedule_model.specs.Histories.{active, is_in}
 use Rattle.schedule_model.proofs.Active.{is_in-filter}
-use Rattle.schedule_model.proofs.Counts.{length_filter-within, length_filter-more, length_filter-most}
+use Rattle.schedule_model.proofs.Counts.{length_filter-more, length_filter-most}
 use Rattle.schedule_model.proofs.Walks.{any-is_in}
-use Rattle.machine_model.specs.declared.kept.Kept.{Kept}
 use Rattle.machine_model.specs.declared.kept.Kept.TheVariants.{Victim}
 use Rattle.machine_model.specs.declared.began.Cause.TheVariants.{Victim as WasVictim}
 use Rattle.machine_model.specs.Moment.{Moment, has_begun, noted}
 use Rattle.machine_model.specs.State.{is_blocked, is_stalled, victim_of}
 use Rattle.machine_model.specs.Advance.{advance, advance_all}
-use Rattle.machine_model.specs.Replies.{victims, victim_then, all_victims}
+use Rattle.machine_model.specs.Replies.{victims, victim_then}
 use Rattle.machine_model.specs.CallLaws.{VictimsRunDry}
 use Rattle.machine_model.proofs.Snoc.{advances}
 use Rattle.machine_model.proofs.Begun.{advance-begun, goes_back-begun}

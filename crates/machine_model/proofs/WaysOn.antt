@@ -1,11 +1,10 @@
 -- Ways on: from which beginning of the net one goes on, and that what is pending is a tail of what can be undone.
-use Rattle.std.proofs.Common.{◌≡◌, ◌⊎◌, inl, inr, ℕ, zero, suc, ◌+◌, ◌-◌, ◌≤◌, ◌<◌, min, Bool, true, false, not, cond, if◌then◌else◌, eqb, ltb, leb, ◌&&◌, ◌||◌, List, [], ◌∷◌, ◌++◌, length, take, drop, map, filter, flat_map, find, Option, Some, None, is_some, sym, refl, ap, subst, ◌∙◌, length-append, arith}
+use Rattle.std.proofs.Common.{◌≡◌, ◌⊎◌, inl, inr, ℕ, zero, suc, ◌+◌, ◌-◌, ◌≤◌, ◌<◌, Bool, true, false, if◌then◌else◌, eqb, ltb, leb, ◌||◌, List, [], ◌∷◌, ◌++◌, length, take, drop, filter, flat_map, find, Option, Some, None, is_some, sym, refl, ap, subst, ◌∙◌, length-append, arith}
 use Rattle.std.specs.List.{list_any, list_all}
 use Rattle.std.specs.Option.{unwrap_or}
 use Rattle.std.proofs.lemmas.Option.{none-some, same_Some}
-use Rattle.std.proofs.lemmas.Bool.{and_parts, and_from, eqb-true, eq-eqb, leb-true, lt-ltb, cases_lt, false≢true}
-use Rattle.std.proofs.lemmas.List.{drop-append-le, length-take, length-drop, length-map, map-append, drop-map}
-use Rattle.std.proofs.lemmas.List.Folds.{list_any-append}
+use Rattle.std.proofs.lemmas.Bool.{and_parts, and_from, eq-eqb, leb-true, lt-ltb, cases_lt, false≢true}
+use Rattle.std.proofs.lemmas.List.{drop-append-le, length-take, length-map, map-append}
 use Rattle.process_tree.specs.Order.{Each}
 use Rattle.process_tree.specs.Blocks.{numbers_from}
 use Rattle.process_tree.specs.Shape.{Shape, is_whole, next_steps, goes_on_to, least, fixed_len, last_of}
@@ -13,19 +12,18 @@ use Rattle.process_tree.specs.Play.{kept_prefixes, kept_for}
 use Rattle.process_tree.proofs.Numbers.{least_is}
 use Rattle.process_tree.proofs.Every.{Each-map, Each-weaker}
 use Rattle.process_tree.specs.declared.entry.Entry.{Entry}
-use Rattle.schedule_model.specs.Course.{Course, shape}
-use Rattle.schedule_model.specs.Histories.{doing, undoing, is_in, net, net_of, net_steps, same_step, steps_of}
+use Rattle.schedule_model.specs.Course.{Course}
+use Rattle.schedule_model.specs.Histories.{doing, undoing, is_in, steps_of}
 use Rattle.schedule_model.specs.OwnOrder.{is_of_last}
-use Rattle.schedule_model.specs.Recovery.{backward_entries}
 use Rattle.schedule_model.proofs.Active.{is_in-filter}
 use Rattle.schedule_model.proofs.Appends.{is_in-append}
 use Rattle.schedule_model.proofs.Recoveries.{fixed_len-most}
 use Rattle.schedule_model.proofs.UndoPhase.{of_last}
-use Rattle.machine_model.specs.Progress.{Progress, above, pending_steps, staying, staying_for, way_on}
+use Rattle.machine_model.specs.Progress.{Progress, above, staying, staying_for, way_on}
 use Rattle.machine_model.proofs.Counting.{found-any}
 use Rattle.machine_model.proofs.CallsKept.{find-passes}
-use Rattle.machine_model.proofs.Ends.{HasEnd, has_end, last_of-push, Each-last, all_pass}
-use Rattle.machine_model.proofs.Linked.{Each-find}
+use Rattle.machine_model.proofs.LastElements.{HasEnd, has_end, last_of-push, Each-last}
+use Rattle.machine_model.proofs.TidyMoments.{Each-find}
 
 -- what is in some of these lists
 pub is_in-flat : {X : Type 0} (d : ℕ) (f : X → List ℕ) (xs : List X) → is_in d (flat_map f xs) ≡ list_any (λ x. is_in d (f x)) xs

@@ -1,5 +1,5 @@
 -- Worked examples, computed: pieces that are queued and take effect together.
-use Rattle.std.specs.Prelude.{ℕ, Bool, true, false, List, ◌≡◌, [], ◌∷◌, length, None, refl, IsTrue}
+use Rattle.std.specs.Prelude.{ℕ, false, List, ◌≡◌, [], ◌∷◌, length, None, refl}
 use Rattle.process_tree.specs.declared.play.Outcome.TheVariants.{Done}
 use Rattle.schedule_model.specs.Course.{Course}
 use Rattle.schedule_model.specs.Samples.{stock_table, line, addition, pay}

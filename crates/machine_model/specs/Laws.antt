@@ -16,7 +16,7 @@ use Rattle.schedule_model.specs.Recovery.{backward_entries}
 use Rattle.schedule_model.specs.Holdings.{Holdings, active_net, holders, reaches, behind}
 use Rattle.schedule_model.specs.Blocking.{Clashes, all_clashes}
 use Rattle.schedule_model.specs.Completion.{completion}
-use Rattle.schedule_model.specs.OwnOrder.{is_at_end}
+use Rattle.schedule_model.specs.OwnOrder.{is_at_end, is_in_own_order, keeps_order}
 use Rattle.schedule_model.specs.declared.event.Event.{Event}
 use Rattle.schedule_model.specs.Legal.{is_legal, class_in}
 use Rattle.schedule_model.specs.Limits.{is_within_limits}
@@ -154,6 +154,16 @@ BoundOnHands = (table : ConflictRelation) (plans : List Plan) (s : Machine) → 
 abbrev pub CascadeIsLeast : Type 0
 CascadeIsLeast = (table : ConflictRelation) (g : Holdings) (root : ℕ) (entries : List Entry) → IsTrue (is_in root (holders g))
     → IsCascade table g root entries (cascade table g root entries)
+
+-- The history of each run is in own order.
+abbrev pub RunsKeepOwnOrder : Type 0
+RunsKeepOwnOrder = (table : ConflictRelation) (plans : List Plan) (s : Machine) → IsSession table plans s → IsTrue (is_in_own_order s.courses (history table s))
+
+-- The next piece of an active process keeps own order.
+abbrev pub NextKeepsOwnOrder : Type 0
+NextKeepsOwnOrder = (table : ConflictRelation) (plans : List Plan) (s : Machine) → IsSession table plans s → (i : ℕ) → IsTrue (is_active (history table s) i)
+    → let t = next_of s.courses (now table s) i in
+    IsTrue (keeps_order s.courses (history table s) (event_by s.courses i t.step t.work))
 
 -- Each process that has ended is at an end.
 abbrev pub EndedAreAtEnds : Type 0

@@ -102,6 +102,13 @@ ProgressGoesByTransitions = (table : ConflictRelation) (s : Machine) (k : Kept) 
     (IsUndoOf i k (piece_ended s.kept k) → net_steps after.events i ≡ take (length (net_steps m.events i) - 1) (net_steps m.events i))
     → progress s.courses after i ≡ with_begun (has_begun after i) (progress_by_piece k i (progress s.courses m i) (piece_ended s.kept k))
 
+-- In a session an undo takes back the last step of the net.
+abbrev pub UndosTakeBackTheLast : Type 0
+UndosTakeBackTheLast = (table : ConflictRelation) (plans : List Plan) (s : Machine) (k : Kept) (i : ℕ) → IsSession table plans s
+    → IsTrue (may_be_kept table s.courses (now table s) k) → IsUndoOf i k (piece_ended s.kept k)
+    → let m = now table s in
+    net_steps (advance table s.courses m k).events i ≡ take (length (net_steps m.events i) - 1) (net_steps m.events i)
+
 -- A refusal of the one try of a step makes its process begin to complete exactly where no way on is left.
 abbrev pub RefusedBeginsWithoutWayOn : Type 0
 RefusedBeginsWithoutWayOn = (table : ConflictRelation) (s : Machine) (n : ℕ) (p : Piece) → IsTrue (is_run table s) → IsTrue (may_be_kept table s.courses (now table s) (Refuse n))

@@ -1,6 +1,6 @@
 // The laws of the machine that are proved: each function says one, and does nothing.
-ghost use Rattle.machine_model.specs.Laws.{BlockedWhereSomethingStands, CallsMakeRuns, CascadeIsLeast, OpenHoldingsBlockAlike, OpenHoldingsDragAlike, RestartFollowsCompletion, UndosWaitByA5};
-ghost use Rattle.machine_model.specs.PieceLaws.{DroppedIsExact, OneRuns, OthersStay, OverIsFinished, ProgressGoesByTransitions, RefusedBeginsWithoutWayOn, RunningIsNext};
+ghost use Rattle.machine_model.specs.Laws.{BlockedWhereSomethingStands, CallsMakeRuns, CascadeIsLeast, EndedAreAtEnds, NextKeepsOwnOrder, OpenHoldingsBlockAlike, OpenHoldingsDragAlike, RestartFollowsCompletion, RunsKeepOwnOrder, UndosWaitByA5};
+ghost use Rattle.machine_model.specs.PieceLaws.{DroppedIsExact, OneRuns, OthersStay, OverIsFinished, ProgressGoesByTransitions, RefusedBeginsWithoutWayOn, RunningIsNext, UndosTakeBackTheLast};
 ghost use Rattle.machine_model.specs.CallLaws.{BeginningsOfRunsAreRuns, CallsKeepRuns, StuckIsExact, TurnsMakeRuns, VictimsRunDry};
 
 /// The computed cascade of an active process is the least set.
@@ -96,4 +96,24 @@ pub fn open_holdings_drag_alike()
 /// What a call keeps makes a longer session; a start adds its plan, or keeps nothing.
 pub fn calls_make_runs()
     ensures { CallsMakeRuns }
+{}
+
+/// The history of each run is in own order.
+pub fn runs_keep_own_order()
+    ensures { RunsKeepOwnOrder }
+{}
+
+/// The next piece of an active process keeps own order.
+pub fn next_keeps_own_order()
+    ensures { NextKeepsOwnOrder }
+{}
+
+/// Each process that has ended is at an end.
+pub fn ended_are_at_ends()
+    ensures { EndedAreAtEnds }
+{}
+
+/// An undo takes back the last step of the net.
+pub fn undos_take_back_the_last()
+    ensures { UndosTakeBackTheLast }
 {}

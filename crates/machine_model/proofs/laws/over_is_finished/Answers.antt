@@ -1,4 +1,4 @@
-use Rattle.machine_model.proofs.Settled.{over_is_finished}
+use Rattle.machine_model.proofs.OverPieces.{over_is_finished}
 use Rattle.machine_model.proofs.laws.over_is_finished.Goals as goal
 
 pub returns : goal.returns

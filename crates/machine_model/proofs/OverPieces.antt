@@ -1,17 +1,12 @@
 -- What became of a piece is told by the kept events: it is over exactly where they end it.
-use Rattle.std.proofs.Common.{◌≡◌, ◌↔◌, ℕ, ◌+◌, ◌≤◌, Bool, true, false, cond, List, find, is_some, length, Option, Some, None, sym, refl, ap, ◌∙◌, arith, if◌then◌else◌}
-use Rattle.std.specs.Bool.{IsTrue}
+use Rattle.std.proofs.Common.{◌≡◌, ◌↔◌, ℕ, Bool, true, false, find, is_some, Option, Some, None, sym, refl, ap, ◌∙◌, arith, if◌then◌else◌}
 use Rattle.std.specs.List.{list_any}
-use Rattle.schedule_model.specs.Conflict.{ConflictRelation}
-use Rattle.machine_model.specs.declared.kept.Kept.{Kept}
-use Rattle.machine_model.specs.declared.replies.PieceState.{PieceState}
-use Rattle.machine_model.specs.declared.replies.PieceState.TheVariants.{Out, Dropped, Over}
-use Rattle.machine_model.specs.Moment.{Moment, Piece, Lost}
-use Rattle.machine_model.specs.Pieces.{hands, piece_of, is_finished, runs, dropped_or_over, event_of_lost, state_of}
-use Rattle.machine_model.specs.Advance.{Machine}
-use Rattle.machine_model.specs.Runs.{is_run, now}
+use Rattle.machine_model.specs.declared.replies.PieceState.TheVariants.{Out, Over}
+use Rattle.machine_model.specs.Moment.{Moment, Lost}
+use Rattle.machine_model.specs.Pieces.{hands, is_finished, runs, dropped_or_over, event_of_lost, state_of}
+use Rattle.machine_model.specs.Runs.{now}
 use Rattle.machine_model.specs.PieceLaws.{OverIsFinished}
-use Rattle.machine_model.proofs.Counting.{count, count-some, count-none, some-count, none-count, found-any}
+use Rattle.machine_model.proofs.Counting.{count-some, count-none, some-count, none-count, found-any}
 use Rattle.machine_model.proofs.Snoc.{now-kept}
 use Rattle.machine_model.proofs.PieceCounts.{Counted, is_number, is_lost_number, ends_piece, run-counted}
 

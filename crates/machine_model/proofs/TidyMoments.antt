@@ -1,7 +1,6 @@
 -- A piece that is out is the piece of its number.
-use Rattle.std.proofs.Common.{◌≡◌, ℕ, ◌+◌, ◌<◌, Bool, true, false, not, cond, eqb, ◌&&◌, ◌||◌, List, [], ◌∷◌, ◌++◌, length, filter, find, Option, Some, None, sym, refl, ap, subst, ◌∙◌, arith}
+use Rattle.std.proofs.Common.{◌≡◌, ℕ, ◌+◌, Bool, true, false, not, cond, eqb, List, [], ◌∷◌, ◌++◌, length, filter, find, Option, Some, None, refl, ap, subst, ◌∙◌, arith}
 use Rattle.std.specs.Bool.{IsTrue}
-use Rattle.std.specs.List.{list_any}
 use Rattle.std.specs.Option.{option_or}
 use Rattle.std.proofs.lemmas.Bool.{and_parts, eqb-true, eq-eqb}
 use Rattle.std.proofs.lemmas.Option.{none-some, same_Some}
@@ -9,19 +8,17 @@ use Rattle.std.proofs.lemmas.List.Folds.{find-append}
 use Rattle.process_tree.specs.Order.{Each}
 use Rattle.process_tree.proofs.Every.{Each-weaker, Each-append}
 use Rattle.schedule_model.specs.declared.event.Event.{Event}
-use Rattle.schedule_model.specs.declared.event.Event.TheVariants.{Start as Started}
 use Rattle.schedule_model.specs.Course.{Course}
 use Rattle.schedule_model.specs.Conflict.{ConflictRelation}
 use Rattle.machine_model.specs.declared.kept.Kept.{Kept}
 use Rattle.machine_model.specs.declared.kept.Kept.TheVariants.{Start, Hand, Effect, Refuse, Abort, Victim, Restart}
-use Rattle.machine_model.specs.declared.kept.Work.{Work}
-use Rattle.machine_model.specs.Moment.{Moment, Piece, noted, happened, without, of_others, begins_now, opening_moment}
-use Rattle.machine_model.specs.Pieces.{hands, piece_of, runs}
+use Rattle.machine_model.specs.Moment.{Moment, Piece, noted, happened, without, opening_moment}
+use Rattle.machine_model.specs.Pieces.{hands, piece_of}
 use Rattle.machine_model.specs.Advance.{Machine, advance, with_piece, event_of}
 use Rattle.machine_model.specs.Runs.{is_run, now, may_be_kept}
 use Rattle.machine_model.proofs.Counting.{count, none-count}
 use Rattle.machine_model.proofs.Snoc.{hands-append}
-use Rattle.machine_model.proofs.Keeping.{IsKeptByBeginnings, entered, advance-keeps, run-keeps}
+use Rattle.machine_model.proofs.RunInduction.{IsKeptByBeginnings, entered, advance-keeps, run-keeps}
 use Rattle.machine_model.proofs.PieceCounts.{Counted, is_number, advance-counted, entered-counted, opening-counted}
 use Rattle.machine_model.proofs.OneOut.{OneOut, advance-one, entered-one}
 use Rattle.machine_model.proofs.Stuck.{none_found}
@@ -29,6 +26,11 @@ use Rattle.machine_model.proofs.Stuck.{none_found}
 filter_step : {X : Type 0} (P : X → Type 0) (x : X) (ys : List X) (t : Bool) → P x → Each P ys → Each P (cond t (x ∷ ys) ys)
 filter_step P x ys true has each = (has, each)
 filter_step P x ys false has each = each
+
+-- what all have, each has
+pub every : {X : Type 0} (P : X → Type 0) (xs : List X) → ((x : X) → P x) → Each P xs
+every P [] all = tt
+every P (x ∷ xs) all = (all x, every P xs all)
 
 -- what each has, each of those that pass has
 pub Each-filter : {X : Type 0} (P : X → Type 0) (q : X → Bool) (xs : List X) → Each P xs → Each P (filter q xs)
