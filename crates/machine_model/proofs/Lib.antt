@@ -32,3 +32,4 @@ pub mod OwnOrderLaws
 pub mod GonePieces
 pub mod Restart
 pub mod TurnRuns
+pub mod QueuedPieces
