@@ -1,5 +1,5 @@
 // The laws of the machine that are proved: each function says one, and does nothing.
-ghost use Rattle.machine_model.specs.Laws.{BlockedWhereSomethingStands, CallsMakeRuns, CascadeIsLeast, EndedAreAtEnds, NextKeepsOwnOrder, OpenHoldingsBlockAlike, OpenHoldingsDragAlike, RestartFollowsCompletion, RunsKeepOwnOrder, UndosWaitByA5};
+ghost use Rattle.machine_model.specs.Laws.{BlockedWhereSomethingStands, CallsMakeRuns, CascadeIsLeast, EndedAreAtEnds, NextKeepsOwnOrder, OpenHoldingsBlockAlike, OpenHoldingsDragAlike, RestartBeginsAll, RestartFollowsCompletion, RunsKeepOwnOrder, UndosWaitByA5};
 ghost use Rattle.machine_model.specs.PieceLaws.{DroppedIsExact, OneRuns, OthersStay, OverIsFinished, ProgressGoesByTransitions, RefusedBeginsWithoutWayOn, RunningIsNext, UndosTakeBackTheLast};
 ghost use Rattle.machine_model.specs.CallLaws.{BeginningsOfRunsAreRuns, CallsKeepRuns, FlushesKeepWhatRuns, QueuedAreOutOrDropped, StuckIsExact, TurnsMakeRuns, VictimsRunDry};
 
@@ -126,4 +126,9 @@ pub fn flushes_keep_what_runs()
 /// Whatever is queued is out or was dropped.
 pub fn queued_are_out_or_dropped()
     ensures { QueuedAreOutOrDropped }
+{}
+
+/// At a restart all begin to complete.
+pub fn restart_begins_all()
+    ensures { RestartBeginsAll }
 {}
