@@ -30,6 +30,7 @@ pub mod Ahead
 pub mod OwnOrder
 pub mod OwnOrderLaws
 pub mod GonePieces
+pub mod RefusalCounts
 pub mod Restart
 pub mod TurnRuns
 pub mod QueuedPieces
