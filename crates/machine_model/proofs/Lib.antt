@@ -30,5 +30,8 @@ pub mod Ahead
 pub mod OwnOrder
 pub mod OwnOrderLaws
 pub mod GonePieces
+pub mod RefusalCounts
+pub mod OneCounter
 pub mod Restart
 pub mod TurnRuns
+pub mod QueuedPieces

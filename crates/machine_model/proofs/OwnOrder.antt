@@ -53,7 +53,7 @@ use Rattle.machine_model.proofs.NextInOrder.{OwedIsAhead, last_none, next_keeps}
 use Rattle.machine_model.proofs.Ahead.{done_ahead, refused_ahead}
 
 -- work that is the same is equal
-same_work-is : (a b : Work) → same_work a b ≡ true → a ≡ b
+pub same_work-is : (a b : Work) → same_work a b ≡ true → a ≡ b
 same_work-is Forward Forward is = refl
 same_work-is Forward Undo is = absurd (false≢true is)
 same_work-is Forward End is = absurd (false≢true is)
@@ -78,7 +78,7 @@ next_step s d is = by_pending (last_of (pending_steps s)) refl is
     by_pending (Some b) last same = absurd (false≢true same)
     by_pending None last same = (last_none (pending_steps s) last, by_way (if s.begun then first_of (forward s.shape s.net) else way_on s) same)
 
-first_listed : (bs : List ℕ) (d : ℕ) → first_of bs ≡ Some d → (rest : List ℕ) × (bs ≡ d ∷ rest)
+pub first_listed : (bs : List ℕ) (d : ℕ) → first_of bs ≡ Some d → (rest : List ℕ) × (bs ≡ d ∷ rest)
 first_listed [] d is = absurd (none-some d is)
 first_listed (b ∷ bs) d is = (bs, ap (λ x. x ∷ bs) (same_Some b d is))
 
@@ -216,7 +216,7 @@ module _ (table : ConflictRelation) (plans : List Plan) (good : AreGood plans) w
   nothing_ended m k own may none i = still_ahead m (entered cs m k) i (entered-leaves table cs m k i own.order.tidy.counted may (λ p is. absurd (none-some p (sym none ∙ is)))) (own.ahead i)
 
   -- a step that is next goes on
-  on_from : (m : Moment) (i d : ℕ) → keeps_order cs m.events (event_by cs i d Forward) ≡ true → goes_on_to (shape cs i) (net_steps m.events i) d ≡ true
+  pub on_from : (m : Moment) (i d : ℕ) → keeps_order cs m.events (event_by cs i d Forward) ≡ true → goes_on_to (shape cs i) (net_steps m.events i) d ≡ true
   on_from m i d keeps = (and_parts (goes_on_to (shape cs i) (net_steps m.events i) d) (list_all (λ x. ltb x d) (done_steps m.events i))
       (and_parts (is_active m.events i && eqb (op_of cs i d) (op_of cs i d)) (goes_on cs m.events i d) keeps).1).0
 

@@ -4,7 +4,7 @@ use Rattle.std.specs.Bool.{IsTrue}
 use Rattle.std.specs.List.{list_any, All, Contains}
 use Rattle.std.specs.Option.{option_or}
 use Rattle.std.proofs.lemmas.Option.{none-some, same_Some}
-use Rattle.std.proofs.lemmas.Bool.{and_parts, and_from, and_left, or_left, eqb-true, eq-eqb, false≢true}
+use Rattle.std.proofs.lemmas.Bool.{and_parts, and_from, and_left, or_left, or_right, eqb-true, eq-eqb, false≢true}
 use Rattle.std.proofs.lemmas.List.{drop-map, reverse-append, map-append, take-append-drop}
 use Rattle.std.proofs.lemmas.List.Elements.{All-nil, All-cons, All-append, All-filter, All-contains, Contains-append_right, filter-append}
 use Rattle.process_tree.specs.Order.{Each}
@@ -32,7 +32,10 @@ use Rattle.machine_model.specs.PieceLaws.{with_begun}
 use Rattle.machine_model.specs.State.{is_pending, next_of, pending_in_order, pending_of, progress}
 use Rattle.machine_model.specs.Advance.{Machine, advance, event_by, event_of, with_piece}
 use Rattle.machine_model.specs.Runs.{is_run, now}
-use Rattle.machine_model.specs.Laws.{AllHaveBegun, RestartFollowsCompletion, next_in_restart}
+use Rattle.machine_model.specs.Laws.{AllHaveBegun, RestartBeginsAll, RestartFollowsCompletion, next_in_restart}
+use Rattle.machine_model.specs.declared.began.Cause.TheVariants.{Restart as Restarted}
+use Rattle.machine_model.proofs.Snoc.{advances}
+use Rattle.machine_model.proofs.Begun.{all_begin-has}
 use Rattle.machine_model.proofs.LastElements.{HasEnd, has_end, last_of-push, same_end, Each-drop, Each-last, any_last, none_pass, all_pass}
 use Rattle.machine_model.proofs.RunInduction.{entered, advance-keeps, run-keeps}
 use Rattle.machine_model.proofs.TidyMoments.{Each-filter}
@@ -238,3 +241,8 @@ restart_follows_completion table plans s session all i next = by_end (has_end (a
         let same : ends.last.process ≡ i = same_Some ends.last.process i (sym (ap (λ o. option_or o (first_of (active (now table s).events))) last) ∙ at) in
         subst (λ j. let t = next_of s.courses (now table s) j in (rest : List Event) × (completion s.courses (now table s).events ≡ event_by s.courses j t.step t.work ∷ rest)) same
         (something_pending s.courses (now table s) all ends.front ends.last plans' ends.is)
+
+pub restart_begins_all : RestartBeginsAll
+restart_begins_all table courses m i active' =
+    let before : is_active m.events i ≡ true = ap (λ h. is_active h i) (sym ((advances table courses m Restart).events ∙ append-nil m.events)) ∙ active' in
+    all_begin-has Restarted (noted m Restart) (active m.events) i ∙ or_right (has_begun m i) (is_in i (active m.events)) (is_active-is_in m.events i ∙ before)

@@ -1,5 +1,5 @@
 -- The turns of several threads make a run.
-use Rattle.std.proofs.Common.{◌≡◌, ℕ, ◌+◌, Bool, true, false, not, if◌then◌else◌, eqb, ◌||◌, List, [], ◌∷◌, ◌++◌, length, Option, Some, None, sym, refl, ap, subst, ◌∙◌, append-nil}
+use Rattle.std.proofs.Common.{◌≡◌, ◌⊎◌, inl, inr, ℕ, ◌+◌, Bool, true, false, not, if◌then◌else◌, eqb, ◌||◌, List, [], ◌∷◌, ◌++◌, length, Option, Some, None, is_some, sym, refl, ap, subst, ◌∙◌, append-nil}
 use Rattle.std.specs.List.{list_any}
 use Rattle.std.proofs.lemmas.Map.Views.{any-filter_same}
 use Rattle.std.proofs.lemmas.Bool.{and_from, or_parts, or_left, or_right, eqb-true, eqb-false, eq-eqb, ne_eqb, false≢true}
@@ -68,19 +68,24 @@ module _ (table : ConflictRelation) (courses : List Course) where
 
 -- where nothing is queued as before: what the queueing of a piece keeps may be kept, and it is queued once
 module _ (table : ConflictRelation) (subsystems : Subsystems) (courses : List Course) (m : Moment) (group : List ℕ) (n : ℕ) where
-  record QueueKeeps (q : Queue) : Type 0 where
+  pub record QueueKeeps (q : Queue) : Type 0 where
     pub may : goes_on_from table courses m (queue_kept n q) ≡ true
     pub distinct : AreDistinct group → AreDistinct (group ++ queue_adds n q)
+    -- a piece that is refused or queued was out, and not queued before
+    pub apart : (queue_kept n q ≡ []) ⊎ (is_in n group ≡ false)
+    pub out : (queue_adds n q ≡ []) ⊎ ((queue_adds n q ≡ n ∷ []) × (runs m n ≡ true) × (is_some (piece_of m.kept n) ≡ true))
 
   nothing : (q : Queue) → queue_kept n q ≡ [] → queue_adds n q ≡ [] → QueueKeeps q
   nothing q none nobody = record {
     may = ap (goes_on_from table courses m) none;
     distinct = λ d. subst AreDistinct (sym (ap (λ ns. group ++ ns) nobody ∙ append-nil group)) d;
+    apart = inl none;
+    out = inl nobody;
   }
 
-  refusing : (p : Piece) (r : Refusal) (t : Bool) → piece_of m.kept n ≡ Some p → runs m n ≡ true → is_end_piece p ≡ t → QueueKeeps (queue_refused t r)
-  refusing p r true found is end = nothing no_refusal refl refl
-  refusing p r false found is end = record { may = and_from _ _ (and_from (runs m n) _ is (ap is_no_end found ∙ ap not end)) refl; distinct = λ d. subst AreDistinct (sym (append-nil group)) d }
+  refusing : (p : Piece) (r : Refusal) (t : Bool) → piece_of m.kept n ≡ Some p → runs m n ≡ true → is_in n group ≡ false → is_end_piece p ≡ t → QueueKeeps (queue_refused t r)
+  refusing p r true found is new end = nothing no_refusal refl refl
+  refusing p r false found is new end = record { may = and_from _ _ (and_from (runs m n) _ is (ap is_no_end found ∙ ap not end)) refl; distinct = λ d. subst AreDistinct (sym (append-nil group)) d; apart = inr new; out = inl refl }
 
   or_full : (full' : Bool) (q : Queue) → QueueKeeps q → QueueKeeps (full_or full' q)
   or_full true q keeps = nothing full refl refl
@@ -88,9 +93,9 @@ module _ (table : ConflictRelation) (subsystems : Subsystems) (courses : List Co
 
   by_taken : (p : Piece) (full' : Bool) (r : Refusal) (taken : Taken) → piece_of m.kept n ≡ Some p → runs m n ≡ true → is_in n group ≡ false
       → QueueKeeps (out_queue (is_end_piece p) full' r taken)
-  by_taken p full' r as_refused found is new = refusing p r (is_end_piece p) found is refl
-  by_taken p full' r as_barred found is new = or_full full' (queue_refused (is_end_piece p) r) (refusing p r (is_end_piece p) found is refl)
-  by_taken p full' r as_done found is new = or_full full' queued (record { may = refl; distinct = λ d. distinct-push n group d new })
+  by_taken p full' r as_refused found is new = refusing p r (is_end_piece p) found is new refl
+  by_taken p full' r as_barred found is new = or_full full' (queue_refused (is_end_piece p) r) (refusing p r (is_end_piece p) found is new refl)
+  by_taken p full' r as_done found is new = or_full full' queued (record { may = refl; distinct = λ d. distinct-push n group d new; apart = inl refl; out = inr (refl, is, ap is_some found) })
 
   by_state : (q : Queue) (s : PieceState) → (s ≡ Out → QueueKeeps q) → QueueKeeps (queue_by q s)
   by_state q Out keeps = keeps refl
@@ -110,7 +115,7 @@ module _ (table : ConflictRelation) (subsystems : Subsystems) (courses : List Co
   by_piece taken None found = nothing no_piece refl refl
   by_piece taken (Some p) found = by_group p taken (is_in p.number group) found refl
 
-  queue-keeps : (taken : Taken) → QueueKeeps (queue_reply table subsystems courses m group n taken)
+  pub queue-keeps : (taken : Taken) → QueueKeeps (queue_reply table subsystems courses m group n taken)
   queue-keeps taken = by_piece taken (piece_of m.kept n) refl
 
 -- a board whose kept events are a run, and in whose group no piece stands twice

@@ -1,17 +1,20 @@
 -- The laws of calls and of turns, as statements.
-use Rattle.std.specs.Prelude.{◌≡◌, ◌≢◌, ◌⊎◌, ◌↔◌, ◌≤◌, ℕ, List, [], ◌++◌, length, IsTrue, None}
+use Rattle.std.specs.Prelude.{◌≡◌, ◌≢◌, ◌⊎◌, ◌↔◌, ◌≤◌, ℕ, List, [], ◌++◌, length, map, filter, IsTrue, None}
 use Rattle.schedule_model.specs.declared.event.Event.{Event}
 use Rattle.schedule_model.specs.Course.{Course}
 use Rattle.schedule_model.specs.Conflict.{ConflictRelation}
-use Rattle.schedule_model.specs.Histories.{active, is_active}
+use Rattle.schedule_model.specs.Histories.{active, is_active, is_in}
 use Rattle.machine_model.specs.declared.kept.Kept.{Kept}
+use Rattle.machine_model.specs.declared.kept.Kept.TheVariants.{Effect}
+use Rattle.machine_model.specs.declared.replies.PieceState.TheVariants.{Over}
+use Rattle.machine_model.specs.Pieces.{runs, state_of}
 use Rattle.machine_model.specs.Moment.{Moment, has_begun}
 use Rattle.machine_model.specs.State.{is_blocked, is_exhausted, victim_of}
 use Rattle.machine_model.specs.Advance.{Machine, advance_all}
-use Rattle.machine_model.specs.Runs.{is_run}
+use Rattle.machine_model.specs.Runs.{is_run, now}
 use Rattle.machine_model.specs.Replies.{stuck, victims, all_victims, least_exhausted}
 use Rattle.machine_model.specs.Calls.{IsNoStart, Call, answer, answer_next, answered, next_is}
-use Rattle.machine_model.specs.Groups.{Subsystems}
+use Rattle.machine_model.specs.Groups.{Subsystems, flush_kept}
 use Rattle.machine_model.specs.Turns.{Board, Turn, AreTurns}
 
 -- Each beginning of a run is one.
@@ -47,3 +50,12 @@ StuckIsExact = (table : ConflictRelation) (courses : List Course) (m : Moment) (
 abbrev pub TurnsMakeRuns : Type 0
 TurnsMakeRuns = (table : ConflictRelation) (subsystems : Subsystems) (b last : Board) (ts : List Turn) → b.group ≡ [] → IsTrue (is_run table b.machine)
     → AreTurns table subsystems b ts last → IsTrue (is_run table last.machine)
+
+-- A flush keeps an effect for each piece of the group that runs, in order.
+abbrev pub FlushesKeepWhatRuns : Type 0
+FlushesKeepWhatRuns = (m : Moment) (group : List ℕ) → flush_kept m group ≡ map Effect (filter (runs m) group)
+
+-- Whatever is queued is out or was dropped, so that a flush tells of each piece where its event stands or when it was dropped.
+abbrev pub QueuedAreOutOrDropped : Type 0
+QueuedAreOutOrDropped = (table : ConflictRelation) (subsystems : Subsystems) (b last : Board) (ts : List Turn) → b.group ≡ [] → IsTrue (is_run table b.machine)
+    → AreTurns table subsystems b ts last → (n : ℕ) → IsTrue (is_in n last.group) → state_of (now table last.machine) n ≢ Over

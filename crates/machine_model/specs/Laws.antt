@@ -30,7 +30,7 @@ use Rattle.machine_model.specs.Cascade.{IsCascade, cascade}
 use Rattle.machine_model.specs.Moment.{Moment, Piece, has_begun}
 use Rattle.machine_model.specs.Pieces.{hands, running_of}
 use Rattle.machine_model.specs.State.{against_task, against_work, block_of, hold_of, holdings, is_exhausted, is_pending, next_of, pending_of, undo_next}
-use Rattle.machine_model.specs.Advance.{Machine, cascade_of, event_by}
+use Rattle.machine_model.specs.Advance.{Machine, advance, cascade_of, event_by}
 use Rattle.machine_model.specs.Runs.{history, is_run, now}
 use Rattle.machine_model.specs.Replies.{stuck}
 use Rattle.machine_model.specs.Calls.{IsNoStart, Call, start, answer, answer_next, answered, next_is}
@@ -169,6 +169,10 @@ NextKeepsOwnOrder = (table : ConflictRelation) (plans : List Plan) (s : Machine)
 abbrev pub EndedAreAtEnds : Type 0
 EndedAreAtEnds = (table : ConflictRelation) (plans : List Plan) (s : Machine) → IsSession table plans s → (i : ℕ) → Contains (ends (history table s)) i
     → IsTrue (is_at_end s.courses (history table s) i)
+
+-- At a restart all begin to complete.
+abbrev pub RestartBeginsAll : Type 0
+RestartBeginsAll = (table : ConflictRelation) (courses : List Course) (m : Moment) → AllHaveBegun (advance table courses m Restart)
 
 -- who comes next in a restart: the process of the last pending entry in joint order, and else the first active one
 abbrev pub next_in_restart : List Course → Moment → Option ℕ

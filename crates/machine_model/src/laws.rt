@@ -1,7 +1,7 @@
 // The laws of the machine that are proved: each function says one, and does nothing.
-ghost use Rattle.machine_model.specs.Laws.{BlockedWhereSomethingStands, CallsMakeRuns, CascadeIsLeast, EndedAreAtEnds, NextKeepsOwnOrder, OpenHoldingsBlockAlike, OpenHoldingsDragAlike, RestartFollowsCompletion, RunsKeepOwnOrder, UndosWaitByA5};
+ghost use Rattle.machine_model.specs.Laws.{BlockedWhereSomethingStands, CallsMakeRuns, CascadeIsLeast, EndedAreAtEnds, NextKeepsOwnOrder, OpenHoldingsBlockAlike, OpenHoldingsDragAlike, RestartBeginsAll, RestartFollowsCompletion, RunsKeepOwnOrder, UndosWaitByA5};
 ghost use Rattle.machine_model.specs.PieceLaws.{DroppedIsExact, OneRuns, OthersStay, OverIsFinished, ProgressGoesByTransitions, RefusedBeginsWithoutWayOn, RunningIsNext, UndosTakeBackTheLast};
-ghost use Rattle.machine_model.specs.CallLaws.{BeginningsOfRunsAreRuns, CallsKeepRuns, StuckIsExact, TurnsMakeRuns, VictimsRunDry};
+ghost use Rattle.machine_model.specs.CallLaws.{BeginningsOfRunsAreRuns, CallsKeepRuns, FlushesKeepWhatRuns, QueuedAreOutOrDropped, StuckIsExact, TurnsMakeRuns, VictimsRunDry};
 
 /// The computed cascade of an active process is the least set.
 pub fn cascade_is_least()
@@ -116,4 +116,19 @@ pub fn ended_are_at_ends()
 /// An undo takes back the last step of the net.
 pub fn undos_take_back_the_last()
     ensures { UndosTakeBackTheLast }
+{}
+
+/// A flush keeps an effect for each piece of the group that runs.
+pub fn flushes_keep_what_runs()
+    ensures { FlushesKeepWhatRuns }
+{}
+
+/// Whatever is queued is out or was dropped.
+pub fn queued_are_out_or_dropped()
+    ensures { QueuedAreOutOrDropped }
+{}
+
+/// At a restart all begin to complete.
+pub fn restart_begins_all()
+    ensures { RestartBeginsAll }
 {}

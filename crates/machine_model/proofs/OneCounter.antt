@@ -1,0 +1,175 @@
+-- All along a run whatever was refused is the next piece of its process, or never comes again.
+use Rattle.std.proofs.Common.{◌≡◌, ◌⊎◌, inl, inr, ℕ, ◌+◌, ◌-◌, ◌≤◌, ◌<◌, max, Bool, true, false, not, cond, if◌then◌else◌, eqb, ltb, ◌&&◌, ◌||◌, List, [], ◌∷◌, ◌++◌, length, take, filter, map, Option, Some, None, is_some, is_none, sym, refl, ap, subst, ◌∙◌, append-nil, arith}
+use Rattle.std.specs.Bool.{IsTrue}
+use Rattle.std.specs.List.{list_any, list_all}
+use Rattle.std.proofs.lemmas.Option.{none-some, same_Some}
+use Rattle.std.proofs.lemmas.Bool.{and_parts, and_from, and_left, and_right, or_parts, or_right, or_left, eqb-true, eq-eqb, false≢true}
+use Rattle.process_tree.specs.Order.{Each}
+use Rattle.process_tree.proofs.Every.{Each-weaker}
+use Rattle.process_tree.specs.Recovery.{forward}
+use Rattle.process_tree.specs.Shape.{Shape, can_be_refused, first_of, goes_on_to, kind_of}
+use Rattle.process_tree.specs.declared.entry.Entry.{Entry}
+use Rattle.process_tree.specs.declared.plan.Plan.{Plan}
+use Rattle.schedule_model.specs.declared.event.Event.{Event}
+use Rattle.schedule_model.specs.declared.event.Event.TheVariants.{Act, End as Ended}
+use Rattle.schedule_model.specs.Course.{Course, courses_of, op_of, shape}
+use Rattle.schedule_model.specs.Conflict.{ConflictRelation, no_conflict}
+use Rattle.schedule_model.specs.Histories.{doing, done_steps, ends, is_active, is_in, net_steps, steps_of, undoing, net_of}
+use Rattle.schedule_model.specs.Laws.{AreGood}
+use Rattle.schedule_model.specs.OwnOrder.{goes_on, keeps_order}
+use Rattle.schedule_model.specs.Recovery.{owed, owed_steps}
+use Rattle.schedule_model.proofs.Appends.{ends-append, is_in-append}
+use Rattle.schedule_model.proofs.GoodPlans.{good_if_goes_on}
+use Rattle.schedule_model.proofs.NetPaths.{steps_of-doing}
+use Rattle.schedule_model.proofs.NoConflict.{may_come-no_conflict}
+use Rattle.schedule_model.proofs.Rising.{Rising, net_steps-rising}
+use Rattle.schedule_model.proofs.Snoc.{done_steps-do, done_steps-undo}
+use Rattle.schedule_model.proofs.Undoing.{undoes}
+use Rattle.std.proofs.lemmas.List.{map-append}
+use Rattle.machine_model.specs.declared.kept.Kept.{Kept}
+use Rattle.machine_model.specs.declared.kept.Kept.TheVariants.{Start, Hand, Effect, Refuse, Abort, Victim, Restart}
+use Rattle.machine_model.specs.declared.kept.Work.{Work}
+use Rattle.machine_model.specs.declared.kept.Work.TheVariants.{Forward, Undo, End}
+use Rattle.machine_model.specs.Progress.{Progress, Task, above, is_only_try, next_task, same_task, same_work, way_on}
+use Rattle.machine_model.specs.ProcessState.{past, step_done}
+use Rattle.machine_model.specs.Moment.{Moment, Piece, noted, happened, has_begun}
+use Rattle.machine_model.specs.Pieces.{hands, is_try_of, piece_of, refusals, refused_pieces, runs}
+use Rattle.machine_model.specs.State.{next_of, progress, refused_steps}
+use Rattle.machine_model.specs.Advance.{advance, event_by, event_of, piece_refused, with_piece, work_refused, step_refused}
+use Rattle.machine_model.specs.Runs.{is_no_end, may_be_kept}
+use Rattle.machine_model.specs.PieceLaws.{LeavesPieceOf, piece_touched, with_begun}
+use Rattle.machine_model.proofs.Snoc.{advances, added, added_by_piece}
+use Rattle.machine_model.proofs.Begun.{advance-begun}
+use Rattle.machine_model.proofs.PieceCounts.{Counted, is_number}
+use Rattle.machine_model.proofs.RefusedPieces.{only_found, refused-hand, refused-other, refused-plain, unhanded-unrefused}
+use Rattle.machine_model.proofs.Frames.{entered-leaves, piece_of-plain}
+use Rattle.machine_model.proofs.OthersStay.{StaysFor, advance-stays}
+use Rattle.machine_model.proofs.OwnEvents.{advance-progress, only_try-refused, try-refused, step-effected, stays-but_begun, still_refused}
+use Rattle.machine_model.proofs.RunningNext.{IsNextPiece, hand_parts, task_of}
+use Rattle.machine_model.proofs.OwnOrder.{InOwnOrder, advance-own_order, first_listed, next_step, on_from, out_piece, piece_keeps, same_work-is}
+use Rattle.machine_model.proofs.GonePieces.{GoesThrough, IsGone, last_once, net_done, not_again, owed_shrinks, stays_gone}
+use Rattle.machine_model.proofs.RefusalCounts.{RefusedStand, stand_begun, stand_same}
+
+-- two pieces that are next are the same
+same_next : (w v : Work) (b d : ℕ) (t : Task) → same_task (record { work = w; step = b }) t ≡ true → same_task (record { work = v; step = d }) t ≡ true → (w ≡ v) × (b ≡ d)
+same_next w v b d t one two =
+    let p = and_parts (same_work w t.work) (eqb b t.step) one in
+    let q = and_parts (same_work v t.work) (eqb d t.step) two in
+    (same_work-is w t.work p.0 ∙ sym (same_work-is v t.work q.0), eqb-true b t.step p.1 ∙ sym (eqb-true d t.step q.1))
+
+-- the piece that an event refuses
+abbrev pub piece_refused_by : List Kept → Kept → Option Piece
+piece_refused_by ks (Refuse n) = piece_of ks n
+piece_refused_by ks (Start i) = None
+piece_refused_by ks (Hand a b c d) = None
+piece_refused_by ks (Effect n) = None
+piece_refused_by ks (Abort i) = None
+piece_refused_by ks (Victim i) = None
+piece_refused_by ks Restart = None
+
+module _ (table : ConflictRelation) (courses : List Course) where
+  refuse_by : (m : Moment) (n : ℕ) (o : Option Piece) (r : Piece → Bool) → Counted m → may_be_kept table courses m (Refuse n) ≡ true → piece_of m.kept n ≡ o → ((p : Piece) → o ≡ Some p → r p ≡ false)
+      → filter r (refused_pieces (m.kept ++ Refuse n ∷ [])) ≡ filter r (refused_pieces m.kept)
+  refuse_by m n None r c may found fails = absurd (false≢true (sym (ap is_no_end found) ∙ (and_parts (runs m n) (is_no_end (piece_of m.kept n)) may).1))
+  refuse_by m n (Some p) r c may found fails = refused-other r m.kept n
+      (Each-weaker (λ q. is_number n q ≡ true → q ≡ p) (λ q. is_number n q ≡ true → r q ≡ false) (λ q only is. ap r (only is) ∙ fails p refl) (hands m.kept) (only_found (is_number n) p (hands m.kept) (c.once n) found))
+
+  -- of those refused, only what an event refuses is new
+  refused_after : (m : Moment) (k : Kept) (r : Piece → Bool) → Counted m → may_be_kept table courses m k ≡ true → ((p : Piece) → piece_refused_by m.kept k ≡ Some p → r p ≡ false)
+      → filter r (refused_pieces (advance table courses m k).kept) ≡ filter r (refused_pieces m.kept)
+  refused_after m k r c may fails = ap (λ ks. filter r (refused_pieces ks)) (advances table courses m k).kept ∙ by_event k may fails
+    where
+      by_event : (k : Kept) → may_be_kept table courses m k ≡ true → ((p : Piece) → piece_refused_by m.kept k ≡ Some p → r p ≡ false) → filter r (refused_pieces (m.kept ++ k ∷ [])) ≡ filter r (refused_pieces m.kept)
+      by_event (Start i) may' fails' = ap (filter r) (refused-plain m.kept (Start i) refl (λ x. refl))
+      by_event (Hand a b d e) may' fails' =
+          let p : Piece = record { number = a; process = b; step = d; work = e } in
+          let next = (hand_parts table courses m p may').number in
+          ap (filter r) (refused-hand m.kept p (unhanded-unrefused m a c (c.fresh a (omega arith))))
+      by_event (Effect n) may' fails' = ap (filter r) (refused-plain m.kept (Effect n) refl (λ x. refl))
+      by_event (Refuse n) may' fails' = refuse_by m n (piece_of m.kept n) r c may' refl fails'
+      by_event (Abort i) may' fails' = ap (filter r) (refused-plain m.kept (Abort i) refl (λ x. refl))
+      by_event (Victim i) may' fails' = ap (filter r) (refused-plain m.kept (Victim i) refl (λ x. refl))
+      by_event Restart may' fails' = ap (filter r) (refused-plain m.kept Restart refl (λ x. refl))
+
+  -- a refusal that is no only try makes nobody begin to complete
+  not_try : (m : Moment) (p : Piece) → is_only_try (shape courses p.process) p.step p.work ≡ false → piece_refused table courses m p ≡ m
+  not_try m p is = by_work p.work is
+    where
+      by_work : (w : Work) → is_only_try (shape courses p.process) p.step w ≡ false → work_refused table courses m p.process p.step w ≡ m
+      by_work Forward at = ap (λ t. cond t (step_refused table courses m p.process p.step) m) at
+      by_work Undo at = refl
+      by_work End at = refl
+
+-- an only try is a step
+only_try_step : (t : Shape) (b : ℕ) (w : Work) → is_only_try t b w ≡ true → w ≡ Forward
+only_try_step t b Forward is = refl
+only_try_step t b Undo is = absurd (false≢true is)
+only_try_step t b End is = absurd (false≢true is)
+
+-- so is what it is a try of
+try_parts : (i b : ℕ) (w : Work) (p : Piece) → is_try_of i b w p ≡ true → (p.process ≡ i) × (p.step ≡ b) × (p.work ≡ w)
+try_parts i b w p is =
+    let x = and_parts (eqb p.process i && eqb p.step b) (same_work p.work w) is in
+    let y = and_parts (eqb p.process i) (eqb p.step b) x.0 in
+    (eqb-true p.process i y.0, eqb-true p.step b y.1, same_work-is p.work w x.1)
+
+module _ (table : ConflictRelation) (plans : List Plan) (good : AreGood plans) where
+  abbrev cs : List Course
+  cs = courses_of plans
+
+  pub record CountsStand (m : Moment) : Type 0 where
+    pub own : InOwnOrder table plans good m
+    pub no_end : (i b : ℕ) → refusals m.kept i b End ≡ 0
+    pub stand : (i : ℕ) → is_in i (ends m.events) ≡ false → RefusedStand (courses_of plans) m i
+
+  -- The effect of its own piece.
+  effect_gone : (m : Moment) (n number i b : ℕ) (w : Work) → CountsStand m → let p : Piece = record { number = number; process = i; step = b; work = w } in
+      IsNextPiece cs m p → keeps_order cs m.events (event_of cs p) ≡ true → is_in i (ends (m.events ++ event_by cs i b w ∷ [])) ≡ false
+      → let o = happened (noted m (Effect n)) (event_by cs i b w) in GoesThrough cs m o i × IsGone cs o i b w
+  effect_gone m n number i b Forward counts next keeps open' =
+      let s = progress cs m i in
+      let on = on_from table plans good m i b keeps in
+      let plan = good_if_goes_on plans i (net_steps m.events i) b good on in
+      let same = step-effected cs m n number i b in
+      let above' = (and_parts (goes_on_to (shape cs i) (net_steps m.events i) b) (list_all (λ x. ltb x b) (done_steps m.events i))
+          (and_parts (is_active m.events i && eqb (op_of cs i b) (op_of cs i b)) (goes_on cs m.events i b) keeps).1).1 in
+      let done = done_steps-do m.events (doing cs i b) refl in
+      let step = (next_step s b next).1 in
+      (record {
+        onward = let o = ap (λ (x : Progress). x.onward) same in omega arith;
+        begun = λ is. is;
+        owed = λ is c none.
+            let first = first_listed (owed_steps cs m.events i) b (sym (ap (λ t. if t then first_of (owed_steps cs m.events i) else way_on s) is) ∙ step) in
+            ap (λ (x : Progress). is_in c (forward x.shape x.net)) same ∙ owed_shrinks (shape cs i) (net_steps m.events i) c b first.0 plan.tree plan.well_formed on first.1 none;
+        done = λ c is. ap (is_in c) done ∙ (is_in-append c (done_steps m.events i) (b ∷ []) ∙ or_left (is_in c (done_steps m.events i)) (is_in c (b ∷ [])) is);
+        net = λ c is none. ap (λ (x : Progress). is_in c x.net) same ∙ not_again (net_steps m.events i) (done_steps m.events i) c b above' is none;
+      }, inl (let o = ap (λ (x : Progress). x.onward) same in omega arith))
+  effect_gone m n number i b Undo counts next keeps open' =
+      let e = undoing (doing cs i b) in
+      let o = happened (noted m (Effect n)) (Act e) in
+      let legal = counts.own.legal in
+      let taken = undoes no_conflict cs m.events e legal refl (may_come-no_conflict cs m.events (Act e) keeps) in
+      let owes : owed_steps cs o.events i ≡ owed_steps cs m.events i = sym (steps_of-doing cs i (owed_steps cs o.events i)) ∙ (ap steps_of taken.owed ∙ steps_of-doing cs i (owed_steps cs m.events i)) in
+      let done = done_steps-undo m.events e i refl in
+      let bound : (progress cs o i).onward ≡ (progress cs m i).onward = ap (λ ds. above (ds ++ refused_steps cs (noted m (Effect n)) i)) done ∙ ap (λ rs. above (done_steps m.events i ++ rs)) (still_refused cs m n i) in
+      let steps : net_steps m.events i ≡ net_steps o.events i ++ taken.last.step ∷ [] = ap steps_of taken.net ∙ map-append (λ (x : Entry). x.step) (net_of o.events i) (taken.last ∷ []) in
+      let its : taken.last.step ≡ b = eqb-true taken.last.step b (and_parts (eqb taken.last.process i) (eqb taken.last.step b) taken.same).1 in
+      let rising : Rising (net_steps o.events i ++ b ∷ []) = subst Rising (steps ∙ ap (λ x. net_steps o.events i ++ x ∷ []) its) (net_steps-rising no_conflict cs m.events i legal) in
+      let stood : is_in b (net_steps m.events i) ≡ true = ap (is_in b) (steps ∙ ap (λ x. net_steps o.events i ++ x ∷ []) its) ∙ (is_in-append b (net_steps o.events i) (b ∷ []) ∙ or_right (is_in b (net_steps o.events i)) (is_in b (b ∷ [])) (or_left (eqb b b) false (eq-eqb b b refl))) in
+      (record {
+        onward = omega arith;
+        begun = λ is. is;
+        owed = λ is c none. ap (is_in c) owes ∙ none;
+        done = λ c is. ap (is_in c) done ∙ is;
+        net = λ c is none. (or_parts (is_in c (net_steps o.events i)) (is_in c (taken.last.step ∷ [])) (sym (is_in-append c (net_steps o.events i) (taken.last.step ∷ [])) ∙ (sym (ap (is_in c) steps) ∙ none))).0;
+      }, (ap (is_in b) done ∙ net_done m.events i b stood, last_once (net_steps o.events i) b rising))
+  effect_gone m n number i b End counts next keeps open' =
+      absurd (false≢true (sym open' ∙ (ap (is_in i) (ends-append m.events (Ended i ∷ [])) ∙ (is_in-append i (ends m.events) (i ∷ []) ∙ or_right (is_in i (ends m.events)) (is_in i (i ∷ [])) (or_left (eqb i i) false (eq-eqb i i refl))))))
+
+  -- a refused piece is gone, or was so before
+  gone_by : (m o : Moment) (i b d : ℕ) (w v : Work) → GoesThrough cs m o i → IsGone cs o i d v → same_task (record { work = v; step = d }) (next_of cs m i) ≡ true
+      → (same_task (record { work = w; step = b }) (next_of cs m i) ≡ true) ⊎ IsGone cs m i b w → IsGone cs o i b w
+  gone_by m o i b d w v through gone next (inl same) =
+      let is = same_next w v b d (next_of cs m i) same next in
+      subst (λ x. IsGone cs o i x w) (sym is.1) (subst (λ x. IsGone cs o i d x) (sym is.0) gone)
+  gone_by m o i b d w v through gone next (inr old) = stays_gone cs m o i b w through old
