@@ -1,8 +1,6 @@
 // Events of a history.
-ghost use Rattle.std.specs.Prelude.{◌≡◌};
-
+use plain_list::Items;
 use process_tree::Entry;
-use std::marker::Model;
 
 /// What may happen in a history. Processes are numbered from 1 in the order of their starts.
 #[derive(Clone, Copy, Debug, PartialEq, Eq)]
@@ -16,36 +14,4 @@ pub enum Event {
 }
 
 /// A list of events.
-#[derive(Drop)]
-pub struct Events {
-    items: Vec<Event>,
-}
-
-impl Model for Events {
-    ghost use Rattle.std.specs.Prelude.{List};
-    ghost use Rattle.schedule_model.specs.declared.event.Event.{Event};
-
-    ghost Value = { List Event };
-
-    ghost view = { λ s. s.items.items };
-}
-
-impl Events {
-    pub fn new(items: Vec<Event>) -> Events
-        ensures { result ≡ items.items }
-    {
-        Events { items }
-    }
-
-    pub fn as_slice(&self) -> &[Event]
-        ensures { result.now ≡ self.now }
-    {
-        &self.items
-    }
-
-    pub fn into_items(self) -> Vec<Event>
-        ensures { result.items ≡ self }
-    {
-        self.items
-    }
-}
+pub type Events = Items<Event>;
