@@ -3,7 +3,7 @@ use Rattle.std.proofs.Common.{◌≡◌, ◌⊎◌, inl, inr, ℕ, ◌+◌, ◌-
 use Rattle.std.specs.Bool.{IsTrue}
 use Rattle.std.specs.List.{list_any, list_all}
 use Rattle.std.proofs.lemmas.Option.{none-some, same_Some}
-use Rattle.std.proofs.lemmas.Bool.{and_parts, and_from, and_left, and_right, or_parts, or_right, or_left, eqb-true, eq-eqb, false≢true}
+use Rattle.std.proofs.lemmas.Bool.{and_parts, and_from, and_left, and_right, or_parts, or_right, or_left, not-true, eqb-true, eq-eqb, false≢true}
 use Rattle.process_tree.specs.Order.{Each}
 use Rattle.process_tree.proofs.Every.{Each-weaker}
 use Rattle.process_tree.specs.Recovery.{forward}
@@ -48,7 +48,7 @@ use Rattle.machine_model.proofs.OwnEvents.{advance-progress, only_try-refused, t
 use Rattle.machine_model.proofs.RunningNext.{IsNextPiece, hand_parts, task_of}
 use Rattle.machine_model.proofs.OwnOrder.{InOwnOrder, advance-own_order, first_listed, next_step, on_from, out_piece, piece_keeps, same_work-is}
 use Rattle.machine_model.proofs.GonePieces.{GoesThrough, IsGone, last_once, net_done, not_again, owed_shrinks, stays_gone}
-use Rattle.machine_model.proofs.RefusalCounts.{RefusedStand, stand_begun, stand_same}
+use Rattle.machine_model.proofs.RefusalCounts.{RefusedStand, same_through, stand_begun, stand_same}
 
 -- two pieces that are next are the same
 same_next : (w v : Work) (b d : ℕ) (t : Task) → same_task (record { work = w; step = b }) t ≡ true → same_task (record { work = v; step = d }) t ≡ true → (w ≡ v) × (b ≡ d)
@@ -173,3 +173,142 @@ module _ (table : ConflictRelation) (plans : List Plan) (good : AreGood plans) w
       let is = same_next w v b d (next_of cs m i) same next in
       subst (λ x. IsGone cs o i x w) (sym is.1) (subst (λ x. IsGone cs o i d x) (sym is.0) gone)
   gone_by m o i b d w v through gone next (inr old) = stays_gone cs m o i b w through old
+
+  -- where no piece of process i is touched
+  counted_same : (m : Moment) (k : Kept) (i : ℕ) → StaysFor cs m (advance table cs m k) i → (b : ℕ) (w : Work) → refusals (advance table cs m k).kept i b w ≡ refusals m.kept i b w
+  counted_same m k i stays b w = ap length (stays.refused (is_try_of i b w) (λ q other. and_left (eqb q.process i && eqb q.step b) (same_work q.work w) (and_left (eqb q.process i) (eqb q.step b) other)))
+
+  untouched_stand : (m : Moment) (k : Kept) (i : ℕ) → CountsStand m → is_in i (ends m.events) ≡ false → StaysFor cs m (advance table cs m k) i → ((b : ℕ) → refusals (advance table cs m k).kept i b End ≡ 0)
+      → (s t : Bool) → has_begun m i ≡ s → has_begun (advance table cs m k) i ≡ t → RefusedStand cs (advance table cs m k) i
+  untouched_stand m k i counts open' stays no_end true false was is b w some = absurd (false≢true (sym is ∙ stays.begun was))
+  untouched_stand m k i counts open' stays no_end true true was is b w some =
+      stand_same cs m (advance table cs m k) i (stays-but_begun cs m (advance table cs m k) i stays ∙ ap (λ t. with_begun t (progress cs m i)) (is ∙ sym was)) stays.history.done (counted_same m k i stays) (counts.stand i open') b w some
+  untouched_stand m k i counts open' stays no_end false false was is b w some =
+      stand_same cs m (advance table cs m k) i (stays-but_begun cs m (advance table cs m k) i stays ∙ ap (λ t. with_begun t (progress cs m i)) (is ∙ sym was)) stays.history.done (counted_same m k i stays) (counts.stand i open') b w some
+  untouched_stand m k i counts open' stays no_end false true was is b w some =
+      let same = counted_same m k i stays b w in
+      stand_begun cs m (advance table cs m k) i was is (stays-but_begun cs m (advance table cs m k) i stays ∙ ap (λ t. with_begun t (progress cs m i)) is) stays.history.done
+      (λ d on. let plan = good_if_goes_on plans i (net_steps m.events i) d good on in (plan.tree, plan.well_formed)) b w
+      (λ end. let none = no_end b in let x = ap (λ v. refusals (advance table cs m k).kept i b v) end in absurd (omega arith))
+      (counts.stand i open' b w (omega arith))
+
+  -- the effect of its own piece
+  effect_stand : (m : Moment) (n : ℕ) (p : Piece) → CountsStand m → may_be_kept table cs m (Effect n) ≡ true → piece_of m.kept n ≡ Some p → IsNextPiece cs m p → keeps_order cs m.events (event_of cs p) ≡ true
+      → is_in p.process (ends (advance table cs m (Effect n)).events) ≡ false → is_in p.process (ends m.events) ≡ false → RefusedStand cs (advance table cs m (Effect n)) p.process
+  effect_stand m n p counts may found next keeps open_after open_before b w some =
+      let at : piece_of (m.kept ++ Effect n ∷ []) n ≡ Some p = piece_of-plain m.kept (Effect n) n refl ∙ found in
+      let moved = ap (λ o. with_piece (λ q. happened (noted m (Effect n)) (event_of cs q)) (noted m (Effect n)) o) at in
+      let facts = effect_gone m n p.number p.process p.step p.work counts next keeps (ap (λ (o : Moment). is_in p.process (ends o.events)) (sym moved) ∙ open_after) in
+      let same = ap length (refused_after table cs m (Effect n) (is_try_of p.process b w) counts.own.order.tidy.counted may (λ q is. absurd (none-some q is))) in
+      inr (subst (λ o. IsGone cs o p.process b w) (sym moved)
+      (gone_by m (happened (noted m (Effect n)) (event_of cs p)) p.process b p.step w p.work facts.0 facts.1 next (counts.stand p.process open_before b w (omega arith))))
+
+  -- the refusal of its own piece
+  refuse_stand : (m : Moment) (n : ℕ) (p : Piece) → CountsStand m → may_be_kept table cs m (Refuse n) ≡ true → piece_of m.kept n ≡ Some p → IsNextPiece cs m p
+      → is_in p.process (ends m.events) ≡ false → (t : Bool) → is_only_try (shape cs p.process) p.step p.work ≡ t → RefusedStand cs (advance table cs m (Refuse n)) p.process
+  refuse_stand m n p counts may found next open' t only b w some = by_try (is_try_of p.process b w p) refl t only
+    where
+      i : ℕ
+      i = p.process
+
+      done : done_steps (advance table cs m (Refuse n)).events p.process ≡ done_steps m.events p.process
+      done = ap (λ h. done_steps h p.process) ((advances table cs m (Refuse n)).events ∙ append-nil m.events)
+
+      at : piece_of (m.kept ++ Refuse n ∷ []) n ≡ Some p
+      at = piece_of-plain m.kept (Refuse n) n refl ∙ found
+
+      old : is_try_of p.process b w p ≡ false → refusals (advance table cs m (Refuse n)).kept p.process b w ≡ refusals m.kept p.process b w
+      old not_its = ap length (refused_after table cs m (Refuse n) (is_try_of p.process b w) counts.own.order.tidy.counted may (λ q is. ap (is_try_of p.process b w) (same_Some q p (sym is ∙ found)) ∙ not_its))
+
+      its_next : is_try_of p.process b w p ≡ true → same_task (record { work = w; step = b }) (next_of cs m p.process) ≡ true
+      its_next is =
+          let parts = try_parts p.process b w p is in
+          ap (λ v. same_task (record { work = v; step = b }) (next_of cs m p.process)) (sym parts.2) ∙ (ap (λ d. same_task (record { work = p.work; step = d }) (next_of cs m p.process)) (sym parts.1) ∙ next)
+
+      before : (u : Bool) → is_try_of p.process b w p ≡ u → (same_task (record { work = w; step = b }) (next_of cs m p.process) ≡ true) ⊎ IsGone cs m p.process b w
+      before true is = inl (its_next is)
+      before false is = let same = old is in counts.stand p.process open' b w (omega arith)
+
+      tried : is_only_try (shape cs p.process) p.step p.work ≡ true → progress cs (advance table cs m (Refuse n)) p.process ≡ with_begun (has_begun (advance table cs m (Refuse n)) p.process) (past (progress cs m p.process) p.step)
+      tried is = advance-progress table cs m (Refuse n) p.process ∙ ap (with_begun (has_begun (advance table cs m (Refuse n)) p.process)) (only_try-refused cs m n p counts.own.order.tidy.counted found is)
+
+      by_try : (u : Bool) → is_try_of p.process b w p ≡ u → (t : Bool) → is_only_try (shape cs p.process) p.step p.work ≡ t
+          → (same_task (record { work = w; step = b }) (next_of cs (advance table cs m (Refuse n)) p.process) ≡ true) ⊎ IsGone cs (advance table cs m (Refuse n)) p.process b w
+      by_try u its true is =
+          let same = tried is in
+          let work = only_try_step (shape cs p.process) p.step p.work is in
+          let through : GoesThrough cs m (advance table cs m (Refuse n)) p.process = record {
+            onward = let o = ap (λ (s : Progress). s.onward) same in omega arith;
+            begun = λ x. advance-begun table cs p.process m (Refuse n) x;
+            owed = λ x c none. ap (λ (s : Progress). is_in c (forward s.shape s.net)) same ∙ none;
+            done = λ c x. ap (is_in c) done ∙ x;
+            net = λ c x none. ap (λ (s : Progress). is_in c s.net) same ∙ none;
+          } in
+          let gone : IsGone cs (advance table cs m (Refuse n)) p.process p.step Forward = inl (let o = ap (λ (s : Progress). s.onward) same in omega arith) in
+          inr (gone_by m (advance table cs m (Refuse n)) p.process b p.step w p.work through (subst (λ v. IsGone cs (advance table cs m (Refuse n)) p.process p.step v) (sym work) gone) next (before u its))
+      by_try u its false is =
+          let moment : advance table cs m (Refuse n) ≡ noted m (Refuse n) = ap (λ o. with_piece (piece_refused table cs (noted m (Refuse n))) (noted m (Refuse n)) o) at ∙ not_try table cs (noted m (Refuse n)) p is in
+          let same : progress cs (advance table cs m (Refuse n)) p.process ≡ progress cs m p.process = ap (λ o. progress cs o p.process) moment ∙ try-refused cs m n p counts.own.order.tidy.counted found is in
+          by_before same (before u its)
+        where
+          by_before : progress cs (advance table cs m (Refuse n)) p.process ≡ progress cs m p.process → (same_task (record { work = w; step = b }) (next_of cs m p.process) ≡ true) ⊎ IsGone cs m p.process b w
+              → (same_task (record { work = w; step = b }) (next_of cs (advance table cs m (Refuse n)) p.process) ≡ true) ⊎ IsGone cs (advance table cs m (Refuse n)) p.process b w
+          by_before same (inl is') = inl (ap (λ s. same_task (record { work = w; step = b }) (next_task s)) same ∙ is')
+          by_before same (inr gone) = inr (stays_gone cs m (advance table cs m (Refuse n)) p.process b w (same_through cs m (advance table cs m (Refuse n)) p.process same done) gone)
+
+  -- nobody's end is refused
+  no_end_after : (m : Moment) (k : Kept) → CountsStand m → may_be_kept table cs m k ≡ true → (i b : ℕ) → refusals (advance table cs m k).kept i b End ≡ 0
+  no_end_after m k counts may i b = ap length (refused_after table cs m k (is_try_of i b End) counts.own.order.tidy.counted may (λ p is. and_right (eqb p.process i && eqb p.step b) (same_work p.work End) (by_event k may p is))) ∙ counts.no_end i b
+    where
+      by_event : (k : Kept) → may_be_kept table cs m k ≡ true → (p : Piece) → piece_refused_by m.kept k ≡ Some p → same_work p.work End ≡ false
+      by_event (Refuse n) may' p is = not-true (same_work p.work End) (ap is_no_end (sym is) ∙ (and_parts (runs m n) (is_no_end (piece_of m.kept n)) may').1)
+      by_event (Start j) may' p is = absurd (none-some p is)
+      by_event (Hand a c d e) may' p is = absurd (none-some p is)
+      by_event (Effect n) may' p is = absurd (none-some p is)
+      by_event (Abort j) may' p is = absurd (none-some p is)
+      by_event (Victim j) may' p is = absurd (none-some p is)
+      by_event Restart may' p is = absurd (none-some p is)
+
+  still_open : (m : Moment) (k : Kept) (i : ℕ) → is_in i (ends (advance table cs m k).events) ≡ false → is_in i (ends m.events) ≡ false
+  still_open m k i open' = (or_parts (is_in i (ends m.events)) (is_in i (ends (added table cs (m.kept ++ k ∷ []) k)))
+      (sym (is_in-append i (ends m.events) (ends (added table cs (m.kept ++ k ∷ []) k))) ∙ (sym (ap (is_in i) (ap ends (advances table cs m k).events ∙ ends-append m.events (added table cs (m.kept ++ k ∷ []) k))) ∙ open'))).0
+
+  -- by the piece that is touched
+  stand_after : (m : Moment) (k : Kept) (i : ℕ) → CountsStand m → may_be_kept table cs m k ≡ true → is_in i (ends (advance table cs m k).events) ≡ false
+      → (o : Option Piece) → piece_touched m.kept k ≡ o → (t : Bool) → ((p : Piece) → o ≡ Some p → eqb p.process i ≡ t) → RefusedStand cs (advance table cs m k) i
+  stand_after m k i counts may open' o touched false away =
+      untouched_stand m k i counts (still_open m k i open') (advance-stays table cs m i k counts.own.order.tidy may (λ p is. away p (sym touched ∙ is))) (no_end_after m k counts may i) (has_begun m i) (has_begun (advance table cs m k) i) refl refl
+  stand_after m k i counts may open' None touched true away =
+      untouched_stand m k i counts (still_open m k i open') (advance-stays table cs m i k counts.own.order.tidy may (λ p is. absurd (none-some p (sym touched ∙ is)))) (no_end_after m k counts may i) (has_begun m i) (has_begun (advance table cs m k) i) refl refl
+  stand_after m (Hand a c d e) i counts may open' (Some p) touched true away =
+      stand_same cs m (noted m (Hand a c d e)) i (entered-leaves table cs m (Hand a c d e) i counts.own.order.tidy.counted may (λ q is. absurd (none-some q is))) refl
+      (λ b w. ap length (refused_after table cs m (Hand a c d e) (is_try_of i b w) counts.own.order.tidy.counted may (λ q is. absurd (none-some q is)))) (counts.stand i (still_open m (Hand a c d e) i open'))
+  stand_after m (Effect n) i counts may open' (Some p) touched true away =
+      let out = out_piece table cs m n counts.own.order counts.own.active may in
+      let same : out.piece ≡ p = same_Some out.piece p (sym out.found ∙ touched) in
+      let its : p.process ≡ i = eqb-true p.process i (away p refl) in
+      let next = subst (IsNextPiece cs m) same out.next in
+      let keeps = ap (λ q. keeps_order cs m.events (event_of cs q)) (sym same) ∙ piece_keeps table plans good m out.piece counts.own out.next out.active in
+      subst (λ j. RefusedStand cs (advance table cs m (Effect n)) j) its
+      (effect_stand m n p counts may touched next keeps (ap (λ j. is_in j (ends (advance table cs m (Effect n)).events)) its ∙ open') (ap (λ j. is_in j (ends m.events)) its ∙ still_open m (Effect n) i open'))
+  stand_after m (Refuse n) i counts may open' (Some p) touched true away =
+      let out = out_piece table cs m n counts.own.order counts.own.active (and_parts (runs m n) (is_no_end (piece_of m.kept n)) may).0 in
+      let same : out.piece ≡ p = same_Some out.piece p (sym out.found ∙ touched) in
+      let its : p.process ≡ i = eqb-true p.process i (away p refl) in
+      subst (λ j. RefusedStand cs (advance table cs m (Refuse n)) j) its
+      (refuse_stand m n p counts may touched (subst (IsNextPiece cs m) same out.next) (ap (λ j. is_in j (ends m.events)) its ∙ still_open m (Refuse n) i open') (is_only_try (shape cs p.process) p.step p.work) refl)
+  stand_after m (Start j) i counts may open' (Some p) touched true away = absurd (none-some p touched)
+  stand_after m (Abort j) i counts may open' (Some p) touched true away = absurd (none-some p touched)
+  stand_after m (Victim j) i counts may open' (Some p) touched true away = absurd (none-some p touched)
+  stand_after m Restart i counts may open' (Some p) touched true away = absurd (none-some p touched)
+
+  by_own : (m : Moment) (k : Kept) (i : ℕ) → CountsStand m → may_be_kept table cs m k ≡ true → is_in i (ends (advance table cs m k).events) ≡ false → (o : Option Piece) → piece_touched m.kept k ≡ o → RefusedStand cs (advance table cs m k) i
+  by_own m k i counts may open' None touched = stand_after m k i counts may open' None touched false (λ p is. absurd (none-some p is))
+  by_own m k i counts may open' (Some q) touched = stand_after m k i counts may open' (Some q) touched (eqb q.process i) (λ p is. ap (λ (x : Piece). eqb x.process i) (same_Some p q (sym is)))
+
+  pub advance-counts : (m : Moment) (k : Kept) → CountsStand m → may_be_kept table cs m k ≡ true → CountsStand (advance table cs m k)
+  advance-counts m k counts may = record {
+    own = advance-own_order table plans good m k counts.own may;
+    no_end = no_end_after m k counts may;
+    stand = λ i open'. by_own m k i counts may open' (piece_touched m.kept k) refl;
+  }
