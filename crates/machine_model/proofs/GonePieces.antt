@@ -24,15 +24,10 @@ use Rattle.machine_model.specs.declared.kept.Work.TheVariants.{Forward, Undo, En
 use Rattle.machine_model.specs.Progress.{Progress, Task, next_forward, next_task, pending_steps, same_task, staying, step_or_end, undo_or, way_on}
 use Rattle.machine_model.specs.Moment.{Moment, has_begun}
 use Rattle.machine_model.specs.State.{next_of, progress}
+use Rattle.machine_model.specs.PieceLaws.{IsGone}
 use Rattle.machine_model.proofs.LastElements.{HasEnd, has_end, last_of-push, any_last}
 use Rattle.machine_model.proofs.NextInOrder.{OwedIsAhead}
 use Rattle.machine_model.proofs.OwnOrder.{next_step, next_step-bound}
-
--- this work on step b of process i never comes again
-abbrev pub IsGone : List Course → Moment → ℕ → ℕ → Work → Type 0
-IsGone courses m i b Forward = (b < (progress courses m i).onward) ⊎ ((has_begun m i ≡ true) × (is_in b (owed_steps courses m.events i) ≡ false))
-IsGone courses m i b Undo = (is_in b (done_steps m.events i) ≡ true) × (is_in b (net_steps m.events i) ≡ false)
-IsGone courses m i b End = ⊥
 
 -- a process whose next piece is an undo has that step pending last
 pub next_undo : (s : Progress) (b : ℕ) → same_task (record { work = Undo; step = b }) (next_task s) ≡ true → last_of (pending_steps s) ≡ Some b

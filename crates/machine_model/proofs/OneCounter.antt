@@ -32,13 +32,15 @@ use Rattle.machine_model.specs.declared.kept.Work.{Work}
 use Rattle.machine_model.specs.declared.kept.Work.TheVariants.{Forward, Undo, End}
 use Rattle.machine_model.specs.Progress.{Progress, Task, above, is_only_try, next_task, same_task, same_work, way_on}
 use Rattle.machine_model.specs.ProcessState.{past, step_done}
-use Rattle.machine_model.specs.Moment.{Moment, Piece, noted, happened, has_begun}
+use Rattle.machine_model.specs.Moment.{Moment, Piece, noted, happened, has_begun, opening_moment}
 use Rattle.machine_model.specs.Pieces.{hands, is_try_of, piece_of, refusals, refused_pieces, runs}
 use Rattle.machine_model.specs.State.{next_of, progress, refused_steps}
-use Rattle.machine_model.specs.Advance.{advance, event_by, event_of, piece_refused, with_piece, work_refused, step_refused}
-use Rattle.machine_model.specs.Runs.{is_no_end, may_be_kept}
-use Rattle.machine_model.specs.PieceLaws.{LeavesPieceOf, piece_touched, with_begun}
-use Rattle.machine_model.proofs.Snoc.{advances, added, added_by_piece}
+use Rattle.machine_model.specs.Advance.{Machine, advance, advance_all, event_by, event_of, piece_refused, with_piece, work_refused, step_refused}
+use Rattle.machine_model.specs.Runs.{goes_on_from, is_no_end, may_be_kept, now}
+use Rattle.machine_model.specs.PieceLaws.{IsGone, RefusedIsNextOrGone, LeavesPieceOf, piece_touched, with_begun}
+use Rattle.machine_model.proofs.Snoc.{advances, added, now-kept}
+use Rattle.machine_model.specs.Laws.{IsSession}
+use Rattle.machine_model.proofs.RunInduction.{goes_on-keeps}
 use Rattle.machine_model.proofs.Begun.{advance-begun}
 use Rattle.machine_model.proofs.PieceCounts.{Counted, is_number}
 use Rattle.machine_model.proofs.RefusedPieces.{only_found, refused-hand, refused-other, refused-plain, unhanded-unrefused}
@@ -46,8 +48,8 @@ use Rattle.machine_model.proofs.Frames.{entered-leaves, piece_of-plain}
 use Rattle.machine_model.proofs.OthersStay.{StaysFor, advance-stays}
 use Rattle.machine_model.proofs.OwnEvents.{advance-progress, only_try-refused, try-refused, step-effected, stays-but_begun, still_refused}
 use Rattle.machine_model.proofs.RunningNext.{IsNextPiece, hand_parts, task_of}
-use Rattle.machine_model.proofs.OwnOrder.{InOwnOrder, advance-own_order, first_listed, next_step, on_from, out_piece, piece_keeps, same_work-is}
-use Rattle.machine_model.proofs.GonePieces.{GoesThrough, IsGone, last_once, net_done, not_again, owed_shrinks, stays_gone}
+use Rattle.machine_model.proofs.OwnOrder.{InOwnOrder, advance-own_order, run-own_order, first_listed, next_step, on_from, out_piece, piece_keeps, same_work-is}
+use Rattle.machine_model.proofs.GonePieces.{GoesThrough, gone_not_next, last_once, net_done, not_again, owed_shrinks, stays_gone}
 use Rattle.machine_model.proofs.RefusalCounts.{RefusedStand, same_through, stand_begun, stand_same}
 
 -- two pieces that are next are the same
@@ -312,3 +314,21 @@ module _ (table : ConflictRelation) (plans : List Plan) (good : AreGood plans) w
     no_end = no_end_after m k counts may;
     stand = λ i open'. by_own m k i counts may open' (piece_touched m.kept k) refl;
   }
+
+  opening_counts : (h : List Event) → InOwnOrder table plans good (opening_moment h) → CountsStand (opening_moment h)
+  opening_counts h own = record { own = own; no_end = λ i b. refl; stand = λ i open' b w some. absurd (omega arith) }
+
+pub session-counts : (table : ConflictRelation) (plans : List Plan) (s : Machine) (session : IsSession table plans s) → CountsStand table plans session.good (now table s)
+session-counts table plans s session =
+    let opening = run-own_order table plans session.good (record { opening = s.opening; courses = s.courses; kept = []; served = 0 }) session.courses session.legal refl in
+    subst (λ xs. CountsStand table plans session.good (advance_all table xs (opening_moment s.opening) s.kept)) (sym session.courses)
+    (goes_on-keeps table (courses_of plans) (CountsStand table plans session.good) (advance-counts table plans session.good) (opening_moment s.opening) s.kept
+    (ap (λ xs. goes_on_from table xs (opening_moment s.opening) s.kept) (sym session.courses) ∙ session.run) (opening_counts table plans session.good s.opening opening))
+
+pub refused_is_next_or_gone : RefusedIsNextOrGone
+refused_is_next_or_gone table plans s session i b w open' =
+    let counts = session-counts table plans s session in
+    subst (λ xs. (1 ≤ refusals s.kept i b w → (same_task (record { work = w; step = b }) (next_of xs (now table s) i) ≡ true) ⊎ IsGone xs (now table s) i b w)
+    × (IsGone xs (now table s) i b w → same_task (record { work = w; step = b }) (next_of xs (now table s) i) ≡ true → ⊥)) (sym session.courses)
+    ((λ some. counts.stand i open' b w (let same = ap (λ ks. refusals ks i b w) (now-kept table s) in omega arith)),
+    gone_not_next (courses_of plans) (now table s) i b w (counts.own.ahead i))

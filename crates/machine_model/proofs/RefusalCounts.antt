@@ -25,13 +25,13 @@ use Rattle.machine_model.specs.Progress.{Progress, Task, next_forward, next_task
 use Rattle.machine_model.specs.Moment.{Moment, Piece, has_begun}
 use Rattle.machine_model.specs.Pieces.{hands, is_try_of, piece_of, refusals, refused_pieces}
 use Rattle.machine_model.specs.State.{next_of, progress}
-use Rattle.machine_model.specs.PieceLaws.{with_begun}
+use Rattle.machine_model.specs.PieceLaws.{IsGone, with_begun}
 use Rattle.machine_model.proofs.LastElements.{HasEnd, has_end, last_of-push}
 use Rattle.machine_model.proofs.PieceCounts.{Counted, is_number}
 use Rattle.machine_model.proofs.RefusedPieces.{only_found, refused-other}
 use Rattle.machine_model.proofs.WaysOn.{way_on-is, staying-least}
 use Rattle.machine_model.proofs.OwnOrder.{next_step}
-use Rattle.machine_model.proofs.GonePieces.{GoesThrough, IsGone, next_undo, stays_gone}
+use Rattle.machine_model.proofs.GonePieces.{GoesThrough, next_undo, stays_gone}
 
 -- a way on with nothing pending goes on from the whole net
 pub way_whole : (s : Progress) (d : ℕ) → s.begun ≡ false → pending_steps s ≡ [] → way_on s ≡ Some d → goes_on_to s.shape s.net d ≡ true
