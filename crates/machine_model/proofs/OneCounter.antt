@@ -1,13 +1,11 @@
 -- All along a run whatever was refused is the next piece of its process, or never comes again.
-use Rattle.std.proofs.Common.{◌≡◌, ◌⊎◌, inl, inr, ℕ, ◌+◌, ◌-◌, ◌≤◌, ◌<◌, max, Bool, true, false, not, cond, if◌then◌else◌, eqb, ltb, ◌&&◌, ◌||◌, List, [], ◌∷◌, ◌++◌, length, take, filter, map, Option, Some, None, is_some, is_none, sym, refl, ap, subst, ◌∙◌, append-nil, arith}
-use Rattle.std.specs.Bool.{IsTrue}
-use Rattle.std.specs.List.{list_any, list_all}
+use Rattle.std.proofs.Common.{◌≡◌, ◌⊎◌, inl, inr, ℕ, ◌≤◌, Bool, true, false, cond, if◌then◌else◌, eqb, ltb, ◌&&◌, List, [], ◌∷◌, ◌++◌, length, filter, Option, Some, None, sym, refl, ap, subst, ◌∙◌, append-nil, arith}
+use Rattle.std.specs.List.{list_all}
 use Rattle.std.proofs.lemmas.Option.{none-some, same_Some}
-use Rattle.std.proofs.lemmas.Bool.{and_parts, and_from, and_left, and_right, or_parts, or_right, or_left, not-true, eqb-true, eq-eqb, false≢true}
-use Rattle.process_tree.specs.Order.{Each}
+use Rattle.std.proofs.lemmas.Bool.{and_parts, and_left, and_right, or_parts, or_right, or_left, not-true, eqb-true, eq-eqb, false≢true}
 use Rattle.process_tree.proofs.Every.{Each-weaker}
 use Rattle.process_tree.specs.Recovery.{forward}
-use Rattle.process_tree.specs.Shape.{Shape, can_be_refused, first_of, goes_on_to, kind_of}
+use Rattle.process_tree.specs.Shape.{Shape, first_of, goes_on_to}
 use Rattle.process_tree.specs.declared.entry.Entry.{Entry}
 use Rattle.process_tree.specs.declared.plan.Plan.{Plan}
 use Rattle.schedule_model.specs.declared.event.Event.{Event}
@@ -17,7 +15,7 @@ use Rattle.schedule_model.specs.Conflict.{ConflictRelation, no_conflict}
 use Rattle.schedule_model.specs.Histories.{doing, done_steps, ends, is_active, is_in, net_steps, steps_of, undoing, net_of}
 use Rattle.schedule_model.specs.Laws.{AreGood}
 use Rattle.schedule_model.specs.OwnOrder.{goes_on, keeps_order}
-use Rattle.schedule_model.specs.Recovery.{owed, owed_steps}
+use Rattle.schedule_model.specs.Recovery.{owed_steps}
 use Rattle.schedule_model.proofs.Appends.{ends-append, is_in-append}
 use Rattle.schedule_model.proofs.GoodPlans.{good_if_goes_on}
 use Rattle.schedule_model.proofs.NetPaths.{steps_of-doing}
@@ -31,13 +29,13 @@ use Rattle.machine_model.specs.declared.kept.Kept.TheVariants.{Start, Hand, Effe
 use Rattle.machine_model.specs.declared.kept.Work.{Work}
 use Rattle.machine_model.specs.declared.kept.Work.TheVariants.{Forward, Undo, End}
 use Rattle.machine_model.specs.Progress.{Progress, Task, above, is_only_try, next_task, same_task, same_work, way_on}
-use Rattle.machine_model.specs.ProcessState.{past, step_done}
+use Rattle.machine_model.specs.ProcessState.{past}
 use Rattle.machine_model.specs.Moment.{Moment, Piece, noted, happened, has_begun, opening_moment}
 use Rattle.machine_model.specs.Pieces.{hands, is_try_of, piece_of, refusals, refused_pieces, runs}
 use Rattle.machine_model.specs.State.{next_of, progress, refused_steps}
 use Rattle.machine_model.specs.Advance.{Machine, advance, advance_all, event_by, event_of, piece_refused, with_piece, work_refused, step_refused}
 use Rattle.machine_model.specs.Runs.{goes_on_from, is_no_end, may_be_kept, now}
-use Rattle.machine_model.specs.PieceLaws.{IsGone, RefusedIsNextOrGone, LeavesPieceOf, piece_touched, with_begun}
+use Rattle.machine_model.specs.PieceLaws.{IsGone, RefusedIsNextOrGone, piece_touched, with_begun}
 use Rattle.machine_model.proofs.Snoc.{advances, added, now-kept}
 use Rattle.machine_model.specs.Laws.{IsSession}
 use Rattle.machine_model.proofs.RunInduction.{goes_on-keeps}
@@ -47,7 +45,7 @@ use Rattle.machine_model.proofs.RefusedPieces.{only_found, refused-hand, refused
 use Rattle.machine_model.proofs.Frames.{entered-leaves, piece_of-plain}
 use Rattle.machine_model.proofs.OthersStay.{StaysFor, advance-stays}
 use Rattle.machine_model.proofs.OwnEvents.{advance-progress, only_try-refused, try-refused, step-effected, stays-but_begun, still_refused}
-use Rattle.machine_model.proofs.RunningNext.{IsNextPiece, hand_parts, task_of}
+use Rattle.machine_model.proofs.RunningNext.{IsNextPiece, hand_parts}
 use Rattle.machine_model.proofs.OwnOrder.{InOwnOrder, advance-own_order, run-own_order, first_listed, next_step, on_from, out_piece, piece_keeps, same_work-is}
 use Rattle.machine_model.proofs.GonePieces.{GoesThrough, gone_not_next, last_once, net_done, not_again, owed_shrinks, stays_gone}
 use Rattle.machine_model.proofs.RefusalCounts.{RefusedStand, same_through, stand_begun, stand_same}
@@ -134,18 +132,20 @@ module _ (table : ConflictRelation) (plans : List Plan) (good : AreGood plans) w
       let plan = good_if_goes_on plans i (net_steps m.events i) b good on in
       let same = step-effected cs m n number i b in
       let above' = (and_parts (goes_on_to (shape cs i) (net_steps m.events i) b) (list_all (λ x. ltb x b) (done_steps m.events i))
-          (and_parts (is_active m.events i && eqb (op_of cs i b) (op_of cs i b)) (goes_on cs m.events i b) keeps).1).1 in
+      (and_parts (is_active m.events i && eqb (op_of cs i b) (op_of cs i b)) (goes_on cs m.events i b) keeps).1).1 in
       let done = done_steps-do m.events (doing cs i b) refl in
-      let step = (next_step s b next).1 in
-      (record {
-        onward = let o = ap (λ (x : Progress). x.onward) same in omega arith;
-        begun = λ is. is;
-        owed = λ is c none.
-            let first = first_listed (owed_steps cs m.events i) b (sym (ap (λ t. if t then first_of (owed_steps cs m.events i) else way_on s) is) ∙ step) in
-            ap (λ (x : Progress). is_in c (forward x.shape x.net)) same ∙ owed_shrinks (shape cs i) (net_steps m.events i) c b first.0 plan.tree plan.well_formed on first.1 none;
-        done = λ c is. ap (is_in c) done ∙ (is_in-append c (done_steps m.events i) (b ∷ []) ∙ or_left (is_in c (done_steps m.events i)) (is_in c (b ∷ [])) is);
-        net = λ c is none. ap (λ (x : Progress). is_in c x.net) same ∙ not_again (net_steps m.events i) (done_steps m.events i) c b above' is none;
-      }, inl (let o = ap (λ (x : Progress). x.onward) same in omega arith))
+      let step = (next_step s b next).1 in (
+        record {
+          onward = let o = ap (λ (x : Progress). x.onward) same in omega arith;
+          begun = λ is. is;
+          owed = λ is c none.
+              let first = first_listed (owed_steps cs m.events i) b (sym (ap (λ t. if t then first_of (owed_steps cs m.events i) else way_on s) is) ∙ step) in
+              ap (λ (x : Progress). is_in c (forward x.shape x.net)) same ∙ owed_shrinks (shape cs i) (net_steps m.events i) c b first.0 plan.tree plan.well_formed on first.1 none;
+          done = λ c is. ap (is_in c) done ∙ (is_in-append c (done_steps m.events i) (b ∷ []) ∙ or_left (is_in c (done_steps m.events i)) (is_in c (b ∷ [])) is);
+          net = λ c is none. ap (λ (x : Progress). is_in c x.net) same ∙ not_again (net_steps m.events i) (done_steps m.events i) c b above' is none;
+        },
+        inl (let o = ap (λ (x : Progress). x.onward) same in omega arith),
+      )
   effect_gone m n number i b Undo counts next keeps open' =
       let e = undoing (doing cs i b) in
       let o = happened (noted m (Effect n)) (Act e) in
@@ -157,14 +157,16 @@ module _ (table : ConflictRelation) (plans : List Plan) (good : AreGood plans) w
       let steps : net_steps m.events i ≡ net_steps o.events i ++ taken.last.step ∷ [] = ap steps_of taken.net ∙ map-append (λ (x : Entry). x.step) (net_of o.events i) (taken.last ∷ []) in
       let its : taken.last.step ≡ b = eqb-true taken.last.step b (and_parts (eqb taken.last.process i) (eqb taken.last.step b) taken.same).1 in
       let rising : Rising (net_steps o.events i ++ b ∷ []) = subst Rising (steps ∙ ap (λ x. net_steps o.events i ++ x ∷ []) its) (net_steps-rising no_conflict cs m.events i legal) in
-      let stood : is_in b (net_steps m.events i) ≡ true = ap (is_in b) (steps ∙ ap (λ x. net_steps o.events i ++ x ∷ []) its) ∙ (is_in-append b (net_steps o.events i) (b ∷ []) ∙ or_right (is_in b (net_steps o.events i)) (is_in b (b ∷ [])) (or_left (eqb b b) false (eq-eqb b b refl))) in
-      (record {
-        onward = omega arith;
-        begun = λ is. is;
-        owed = λ is c none. ap (is_in c) owes ∙ none;
-        done = λ c is. ap (is_in c) done ∙ is;
-        net = λ c is none. (or_parts (is_in c (net_steps o.events i)) (is_in c (taken.last.step ∷ [])) (sym (is_in-append c (net_steps o.events i) (taken.last.step ∷ [])) ∙ (sym (ap (is_in c) steps) ∙ none))).0;
-      }, (ap (is_in b) done ∙ net_done m.events i b stood, last_once (net_steps o.events i) b rising))
+      let stood : is_in b (net_steps m.events i) ≡ true = ap (is_in b) (steps ∙ ap (λ x. net_steps o.events i ++ x ∷ []) its) ∙ (is_in-append b (net_steps o.events i) (b ∷ []) ∙ or_right (is_in b (net_steps o.events i)) (is_in b (b ∷ [])) (or_left (eqb b b) false (eq-eqb b b refl))) in (
+        record {
+          onward = omega arith;
+          begun = λ is. is;
+          owed = λ is c none. ap (is_in c) owes ∙ none;
+          done = λ c is. ap (is_in c) done ∙ is;
+          net = λ c is none. (or_parts (is_in c (net_steps o.events i)) (is_in c (taken.last.step ∷ [])) (sym (is_in-append c (net_steps o.events i) (taken.last.step ∷ [])) ∙ (sym (ap (is_in c) steps) ∙ none))).0;
+        },
+        (ap (is_in b) done ∙ net_done m.events i b stood, last_once (net_steps o.events i) b rising),
+      )
   effect_gone m n number i b End counts next keeps open' =
       absurd (false≢true (sym open' ∙ (ap (is_in i) (ends-append m.events (Ended i ∷ [])) ∙ (is_in-append i (ends m.events) (i ∷ []) ∙ or_right (is_in i (ends m.events)) (is_in i (i ∷ [])) (or_left (eqb i i) false (eq-eqb i i refl))))))
 
@@ -329,6 +331,7 @@ pub refused_is_next_or_gone : RefusedIsNextOrGone
 refused_is_next_or_gone table plans s session i b w open' =
     let counts = session-counts table plans s session in
     subst (λ xs. (1 ≤ refusals s.kept i b w → (same_task (record { work = w; step = b }) (next_of xs (now table s) i) ≡ true) ⊎ IsGone xs (now table s) i b w)
-    × (IsGone xs (now table s) i b w → same_task (record { work = w; step = b }) (next_of xs (now table s) i) ≡ true → ⊥)) (sym session.courses)
-    ((λ some. counts.stand i open' b w (let same = ap (λ ks. refusals ks i b w) (now-kept table s) in omega arith)),
-    gone_not_next (courses_of plans) (now table s) i b w (counts.own.ahead i))
+    × (IsGone xs (now table s) i b w → same_task (record { work = w; step = b }) (next_of xs (now table s) i) ≡ true → ⊥)) (sym session.courses) (
+      (λ some. counts.stand i open' b w (let same = ap (λ ks. refusals ks i b w) (now-kept table s) in omega arith)),
+      gone_not_next (courses_of plans) (now table s) i b w (counts.own.ahead i),
+    )
