@@ -1,11 +1,14 @@
-# `make demo` builds the program and runs it on the examples; `make test` is what CI runs.
-.PHONY: demo test bench
+# `make` proves and builds the program; `make demo` runs it on the examples; `make test` is what CI runs.
+.PHONY: build demo test bench
+
+build:
+	./build
 
 demo:
 	./demo
 
 test:
-	rt ci
+	./gate
 
 # Times the reading of large texts, and the check of the worst text within 1 MiB; no part of the gate.
 bench:

@@ -1,7 +1,7 @@
 -- Where reading a catalog stops, some catalog's bytes begin so.
 use Rattle.std.proofs.Common.{◌≡◌, ℕ, zero, suc, ◌+◌, ◌<◌, ◌≤◌, Bool, true, false, not, ◌&&◌, List, [], ◌∷◌, ◌++◌, length, Result, Ok, Err, refl, sym, ap, ◌∙◌, subst, append_assoc, arith, inl, inr}
 use Rattle.std.specs.Prelude.{nat_lt, nat_le}
-use Rattle.std.proofs.lemmas.Bool.{and_parts, cases_Bool, leb-true, not-true}
+use Rattle.std.proofs.lemmas.Bool.{and_parts, cases_Bool, leb-true, not-true, and_from}
 use Rattle.std.proofs.lemmas.List.{length-append, append-nil}
 use Rattle.process_tree.specs.Name.{is_name}
 use Rattle.commute_table.specs.declared.op.Op.{Op}
@@ -10,7 +10,6 @@ use Rattle.commute_table.specs.Operations.{takes, has_name, is_good_op}
 use Rattle.commute_table.specs.Bytes.{op_bytes}
 use Rattle.commute_table.specs.Reading.{◌>>=◌, byte_at, is_new, can_be_new, length_at, name_at, verb_with, takes_code, op_at}
 use Rattle.commute_table.proofs.Stops.{bind_err}
-use Rattle.commute_table.proofs.Texts.{both_hold}
 use Rattle.commute_table.proofs.Fresh.{can_complete, op_named}
 use Rattle.commute_table.proofs.OpLaws.{byte_read, name_takes}
 
@@ -93,7 +92,7 @@ IsOpBytes earlier w = (op : Op) × (is_good_op op ≡ true) × (has_name op.name
 new_op : (earlier : List Op) (op : Op) → is_new earlier op.name ≡ true → takes op.subsystem op.verb ≡ true → IsOpBytes earlier (op_bytes op)
 new_op earlier op new verb =
     let is = and_parts (is_name op.name) (not (has_name op.name earlier)) new in
-    (op, both_hold _ _ is.0 verb, not-true _ is.1, refl)
+    (op, and_from _ _ is.0 verb, not-true _ is.1, refl)
 
 abbrev op_look : List ℕ → ℕ → Op
 op_look name q = record { name = name; subsystem = q; verb = Look }

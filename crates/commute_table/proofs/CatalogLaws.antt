@@ -2,7 +2,7 @@
 use Rattle.std.proofs.Common.{◌≡◌, ℕ, zero, suc, ◌+◌, ◌*◌, ◌<◌, ◌≤◌, Bool, true, false, not, cond, List, [], ◌∷◌, ◌++◌, length, get_or, Result, Ok, Err, refl, sym, ap, ◌∙◌, subst, append_assoc, arith}
 use Rattle.std.specs.Prelude.{nat_lt, nat_le, nat_eq, ◌==◌, ◌/◌, ◌%◌}
 use Rattle.std.specs.List.{list_all, flat_map}
-use Rattle.std.proofs.lemmas.Bool.{and_parts, leb-true, le-leb, ltb-true, eqb-true, eq-eqb}
+use Rattle.std.proofs.lemmas.Bool.{and_parts, leb-true, le-leb, ltb-true, eqb-true, eq-eqb, and_from}
 use Rattle.std.proofs.lemmas.List.{append-nil}
 use Rattle.std.proofs.lemmas.List.Concat.{flat_map-cons}
 use Rattle.process_tree.specs.Conflicts.{Table, is_table}
@@ -12,7 +12,6 @@ use Rattle.commute_table.specs.Operations.{has_name, is_good_op, differ_from, Is
 use Rattle.commute_table.specs.Bytes.{op_bytes, cell_byte, row_bytes, bytes_of, NoCatalogBeginsAnother}
 use Rattle.commute_table.specs.Reading.{◌>>=◌, byte_at, count_at, op_at, ops_at, cells_at, rows_at, front_at, catalog_at}
 use Rattle.commute_table.proofs.RowLoops.{bind_ok, ok_is}
-use Rattle.commute_table.proofs.Texts.{both_hold}
 use Rattle.commute_table.proofs.Fresh.{Follows, follows_more}
 use Rattle.commute_table.proofs.OpLaws.{byte_read, byte_again, op_takes, op_again}
 use Rattle.std.proofs.lemmas.Bool.{not-true}
@@ -117,7 +116,7 @@ rows_take (suc n) done bytes x e =
       rows_is = rest.rows_is ∙ append_assoc done (row.0.0 ∷ []) rest.rows;
       parts = first.parts ∙ ap (λ (r : List Bool). row_bytes r ++ row.0.1) (sym first.row_is) ∙ ap (λ (r : List ℕ). row_bytes row.0.0 ++ r) rest.parts ∙ sym (append_assoc (row_bytes row.0.0) (flat_map row_bytes rest.rows) x.1) ∙ ap (λ (w : List ℕ). w ++ x.1) (sym (flat_map-cons row_bytes row.0.0 rest.rows));
       count = ap suc rest.count;
-      table = both_hold _ _ (eq-eqb _ _ long) rest.table;
+      table = and_from _ _ (eq-eqb _ _ long) rest.table;
     }
 
 pub rows_again : (rows done : Table) (rest : List ℕ) → is_table rows ≡ true → rows_at (length rows) done (flat_map row_bytes rows ++ rest) ≡ Ok (done ++ rows, rest)

@@ -1,8 +1,8 @@
--- The place where reading a catalog stops is the first where no catalog's bytes go on so.
+-- The place where reading a catalog stops is the first that rules out every catalog.
 use Rattle.std.proofs.Common.{◌≡◌, ℕ, zero, suc, ◌+◌, ◌-◌, ◌*◌, ◌^◌, ◌<◌, ◌≤◌, Bool, true, false, cond, List, [], ◌∷◌, ◌++◌, length, get_or, take, drop, Result, Ok, Err, refl, sym, ap, ◌∙◌, subst, append_assoc, arith, inl, inr}
 use Rattle.std.specs.Prelude.{nat_lt, nat_le, nat_eq, ◌==◌, ◌/◌, ◌%◌, replicate, slice_get, IsErr}
 use Rattle.std.specs.List.{list_all, flat_map}
-use Rattle.std.proofs.lemmas.Bool.{and_parts, eqb-true, eq-eqb, ltb-true}
+use Rattle.std.proofs.lemmas.Bool.{and_parts, eqb-true, eq-eqb, ltb-true, and_from}
 use Rattle.std.proofs.lemmas.List.{length-append, append-nil, length-replicate, take_at, take-append-drop}
 use Rattle.std.proofs.lemmas.List.Concat.{flat_map-cons}
 use Rattle.std.proofs.Math.Dec.{eqb-suc-zero}
@@ -16,7 +16,6 @@ use Rattle.commute_table.specs.Operations.{has_name, is_good_op, IsCatalog}
 use Rattle.commute_table.specs.Bytes.{op_bytes, row_bytes, bytes_of, cell_byte, verb_code, GoesOn, IsFirstBad}
 use Rattle.commute_table.specs.Reading.{◌>>=◌, byte_at, count_at, op_at, ops_at, cells_at, rows_at, front_at, catalog_at}
 use Rattle.commute_table.proofs.Stops.{Stops, catalog_stops, head_of, bind_err}
-use Rattle.commute_table.proofs.Texts.{both_hold}
 use Rattle.commute_table.proofs.Fresh.{Follows, follows_more, fill}
 use Rattle.commute_table.proofs.OpLaws.{byte_read, op_takes, name_is_short}
 use Rattle.commute_table.proofs.CatalogLaws.{ops_take, cells_take, count_takes, front_takes, catalog_again, byte_of_cell}
@@ -79,7 +78,7 @@ abbrev pub AreRows : ℕ → List ℕ → Type 0
 AreRows n w = (rows : Table) × (length rows ≡ n) × (is_table rows ≡ true) × (w ≡ flat_map row_bytes rows)
 
 one_row : (n : ℕ) (row : List Bool) (w : List ℕ) → length row ≡ suc n → AreRows n w → AreRows (suc n) (row_bytes row ++ w)
-one_row n row w long h = (row ∷ h.0, ap suc h.1, both_hold _ _ (eq-eqb _ _ (long ∙ ap suc (sym h.1))) h.2, ap (λ (r : List ℕ). row_bytes row ++ r) h.3 ∙ sym (flat_map-cons row_bytes row h.0))
+one_row n row w long h = (row ∷ h.0, ap suc h.1, and_from _ _ (eq-eqb _ _ (long ∙ ap suc (sym h.1))) h.2, ap (λ (r : List ℕ). row_bytes row ++ r) h.3 ∙ sym (flat_map-cons row_bytes row h.0))
 
 no_rows : (n : ℕ) → AreRows n (flat_map row_bytes (no_conflicts n))
 no_rows n = (no_conflicts n, length-no_conflicts n, is_table-no_conflicts n, refl)
@@ -221,7 +220,7 @@ take_within [] xs ys k lt = absurd (omega arith)
 take_within (b ∷ front) xs ys zero lt = refl
 take_within (b ∷ front) xs ys (suc k) lt = ap (λ (w : List ℕ). b ∷ w) (take_within front xs ys k (omega arith))
 
--- before the place some catalog's bytes go on so
+-- what stands before the place begins some catalog
 goes_on_before : (bytes : List ℕ) (left : ℕ) (b : Begun IsCatalogBytes bytes left) (k : ℕ) → k < length b.front → GoesOn bytes k
 goes_on_before bytes left b k lt =
     let front_is = b.word.2 in (

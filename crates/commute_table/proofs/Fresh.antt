@@ -2,7 +2,7 @@
 use Rattle.std.proofs.Common.{◌≡◌, ℕ, zero, suc, ◌+◌, ◌<◌, ◌≤◌, Bool, true, false, not, List, [], ◌∷◌, ◌++◌, length, get_or, refl, sym, ap, ◌∙◌, arith, inl, inr}
 use Rattle.std.specs.Prelude.{replicate, ◌/◌, ◌%◌}
 use Rattle.std.specs.List.{list_any, list_all}
-use Rattle.std.proofs.lemmas.Bool.{and_parts, cases_Bool, le-leb, not-true}
+use Rattle.std.proofs.lemmas.Bool.{and_parts, cases_Bool, le-leb, not-true, and_from}
 use Rattle.std.proofs.lemmas.List.{length-append, append-nil, length-replicate}
 use Rattle.std.proofs.lemmas.List.Folds.{list_all-append}
 use Rattle.process_tree.specs.Name.{is_letter, is_name_byte, is_name}
@@ -10,7 +10,7 @@ use Rattle.commute_table.specs.declared.op.Op.{Op}
 use Rattle.commute_table.specs.declared.op.Verb.TheVariants.{Add}
 use Rattle.commute_table.specs.Operations.{has_name, is_good_op, differ_from}
 use Rattle.commute_table.specs.Reading.{is_new, begins_name, name_bytes, can_be_new}
-use Rattle.commute_table.proofs.Texts.{both_hold, name_parts, name_made, one_is_free}
+use Rattle.commute_table.proofs.Texts.{name_parts, name_made, one_is_free}
 
 -- some element passes
 any_found : (p : ℕ → Bool) (xs : List ℕ) → list_any p xs ≡ true → (b : ℕ) × (p b ≡ true)
@@ -29,7 +29,7 @@ letters_count : (bs : List ℕ) → list_all is_letter bs ≡ true → list_all 
 letters_count [] h = refl
 letters_count (b ∷ bs) h =
     let parts = and_parts (is_letter b) (list_all is_letter bs) h in
-    both_hold _ _ (letter_counts b parts.0) (letters_count bs parts.1)
+    and_from _ _ (letter_counts b parts.0) (letters_count bs parts.1)
 
 -- a beginning with letters behind it is a name
 name_with_letters : (text tail : List ℕ) → begins_name text ≡ true → list_all is_letter tail ≡ true → 0 < length tail → length (text ++ tail) ≤ 32 → is_name (text ++ tail) ≡ true
@@ -37,7 +37,7 @@ name_with_letters [] [] h t some le = absurd (omega arith)
 name_with_letters [] (c ∷ tail) h t some le = name_made c tail (and_parts (is_letter c) (list_all is_letter tail) t).0 (letters_count (c ∷ tail) t) le
 name_with_letters (b ∷ bs) tail h t some le =
     let parts = name_parts b bs h in
-    name_made b (bs ++ tail) parts.0 (list_all-append is_name_byte (b ∷ bs) tail ∙ both_hold _ _ parts.1 (letters_count tail t)) le
+    name_made b (bs ++ tail) parts.0 (list_all-append is_name_byte (b ∷ bs) tail ∙ and_from _ _ parts.1 (letters_count tail t)) le
 
 -- many tails of letters
 tail_of : ℕ → ℕ → List ℕ
@@ -48,11 +48,11 @@ all_a zero = refl
 all_a (suc more) = all_a more
 
 is_small : (b : ℕ) → 97 ≤ b → b ≤ 122 → is_letter b ≡ true
-is_small b low high = both_hold _ _ (le-leb 97 b low) (le-leb b 122 high)
+is_small b low high = and_from _ _ (le-leb 97 b low) (le-leb b 122 high)
 
 tail_has_letters : (more k : ℕ) → k < 256 → list_all is_letter (tail_of more k) ≡ true
 unfolding tail_of
-tail_has_letters more k lt = both_hold _ _ (is_small (97 + k / 26) (omega arith) (omega arith)) (both_hold _ _ (is_small (97 + k % 26) (omega arith) (omega arith)) (all_a more))
+tail_has_letters more k lt = and_from _ _ (is_small (97 + k / 26) (omega arith) (omega arith)) (and_from _ _ (is_small (97 + k % 26) (omega arith) (omega arith)) (all_a more))
 
 cancel_front : (text xs ys : List ℕ) → text ++ xs ≡ text ++ ys → xs ≡ ys
 cancel_front [] xs ys e = e
@@ -82,7 +82,7 @@ can_complete earlier (suc (suc more)) text h le few =
     let tail = tail_of more free.0 in
     let long = tail_length more free.0 in
     let name = name_with_letters text tail h (tail_has_letters more free.0 free.1) (omega (arith, long)) (omega (arith, long, length-append text tail)) in
-    (tail, long, both_hold _ _ name (rw free.2 refl))
+    (tail, long, and_from _ _ name (rw free.2 refl))
 
 -- an operation of a new name
 abbrev pub op_named : List ℕ → Op
@@ -98,8 +98,8 @@ pub record Follows (earlier ops : List Op) (count : ℕ) : Type 0 where
 pub follows_more : (earlier : List Op) (op : Op) (ops : List Op) (count : ℕ) → is_good_op op ≡ true → has_name op.name earlier ≡ false → Follows (earlier ++ op ∷ []) ops count → Follows earlier (op ∷ ops) (suc count)
 follows_more earlier op ops count good new rest = record {
   count_is = ap suc rest.count_is;
-  good = both_hold _ _ good rest.good;
-  own_names = both_hold _ _ (rw new refl) rest.own_names;
+  good = and_from _ _ good rest.good;
+  own_names = and_from _ _ (rw new refl) rest.own_names;
 }
 
 -- as many operations as there is room for can follow
@@ -111,4 +111,4 @@ fill (suc count) earlier le =
     let op = op_named name.0 in
     let is = and_parts (is_name name.0) (not (has_name name.0 earlier)) name.2 in
     let rest = fill count (earlier ++ op ∷ []) (omega (arith, length-append earlier (op ∷ []))) in
-    (op ∷ rest.0, follows_more earlier op rest.0 count (both_hold _ _ is.0 refl) (not-true _ is.1) rest.1)
+    (op ∷ rest.0, follows_more earlier op rest.0 count (and_from _ _ is.0 refl) (not-true _ is.1) rest.1)

@@ -1,7 +1,7 @@
 -- Operations: what is read is spelled so, what is spelled so is read, and where reading stops some operation begins so.
 use Rattle.std.proofs.Common.{◌≡◌, ℕ, zero, suc, ◌<◌, ◌≤◌, Bool, true, false, not, ◌&&◌, List, [], ◌∷◌, ◌++◌, length, Result, Ok, Err, refl, sym, ap, ◌∙◌, subst, append_assoc, arith, inl, inr}
 use Rattle.std.specs.Prelude.{nat_lt, nat_le}
-use Rattle.std.proofs.lemmas.Bool.{and_parts, cases_Bool, ltb-true, lt-ltb, le-leb, not-true}
+use Rattle.std.proofs.lemmas.Bool.{and_parts, cases_Bool, ltb-true, lt-ltb, le-leb, not-true, and_from}
 use Rattle.std.proofs.lemmas.List.{append-nil}
 use Rattle.process_tree.specs.Name.{is_name}
 use Rattle.commute_table.specs.declared.op.Op.{Op}
@@ -11,7 +11,7 @@ use Rattle.commute_table.specs.Operations.{takes, has_name, is_good_op}
 use Rattle.commute_table.specs.Bytes.{op_bytes, verb_code}
 use Rattle.commute_table.specs.Reading.{◌>>=◌, byte_at, is_new, can_be_new, length_at, name_at, verb_with, takes_code, op_at}
 use Rattle.commute_table.proofs.RowLoops.{bind_ok, ok_is}
-use Rattle.commute_table.proofs.Texts.{both_hold, name_parts, can_from_new}
+use Rattle.commute_table.proofs.Texts.{name_parts, can_from_new}
 
 -- a byte that was read stands at the front
 pub byte_read : (ok : ℕ → Bool) (bytes : List ℕ) (x : ℕ × List ℕ) → byte_at ok bytes ≡ Ok x → (bytes ≡ x.0 ∷ x.1) × (ok x.0 ≡ true)
@@ -94,7 +94,7 @@ code_is_small Hold = refl
 code_is_small Free = refl
 
 takes_its_code : (q : ℕ) (v : Verb) → takes q v ≡ true → takes_code q (verb_code v) ≡ true
-takes_its_code q v h = both_hold (nat_lt (verb_code v) 6) (takes q (verb_with (verb_code v))) (code_is_small v) (rw (verb_again v) h)
+takes_its_code q v h = and_from (nat_lt (verb_code v) 6) (takes q (verb_with (verb_code v))) (code_is_small v) (rw (verb_again v) h)
 
 is_subsystem : (q : ℕ) (v : Verb) → takes q v ≡ true → nat_lt q 8 ≡ true
 is_subsystem q Add h = lt-ltb q 8 (let lt = ltb-true q 4 h in omega (arith, lt))
@@ -133,7 +133,7 @@ op_takes earlier bytes x e =
     let op : Op = record { name = name.0.0; subsystem = q.0.0; verb = verb_with code.0.0 } in
     let made : Op × List ℕ = (op, code.0.1) in
     let spelled = op_spelled bytes n.0.1 name.0.1 q.0.1 code.0.1 n.0.0 q.0.0 code.0.0 name.0.0 text.more count.0 text.parts sub.0 verb.0 text.name_is text.count (ltb-true _ _ verb_is.0) in
-    subst (λ (y : Op × List ℕ). OpTakes earlier bytes y) (ok_is made x code.2) (record { parts = spelled; good = both_hold _ _ fresh.0 verb_is.1; new = not-true _ fresh.1 })
+    subst (λ (y : Op × List ℕ). OpTakes earlier bytes y) (ok_is made x code.2) (record { parts = spelled; good = and_from _ _ fresh.0 verb_is.1; new = not-true _ fresh.1 })
 
 pub name_is_short : (name : List ℕ) → is_name name ≡ true → (0 < length name) × (length name ≤ 32)
 name_is_short [] h = absurd cc
@@ -144,8 +144,8 @@ unfolding op_at length_at
 op_again earlier op rest good fresh =
     let is = and_parts (is_name op.name) (takes op.subsystem op.verb) good in
     let short = name_is_short op.name is.0 in
-    let new : is_new earlier op.name ≡ true = both_hold _ _ is.0 (rw fresh refl) in
-    let length_ok = both_hold _ _ (both_hold _ _ (lt-ltb 0 (length op.name) short.0) (le-leb (length op.name) 32 short.1)) (can_from_new earlier [] op.name new) in
+    let new : is_new earlier op.name ≡ true = and_from _ _ is.0 (rw fresh refl) in
+    let length_ok = and_from _ _ (and_from _ _ (lt-ltb 0 (length op.name) short.0) (le-leb (length op.name) 32 short.1)) (can_from_new earlier [] op.name new) in
     let regrouped : (op.name ++ op.subsystem ∷ verb_code op.verb ∷ []) ++ rest ≡ op.name ++ (op.subsystem ∷ verb_code op.verb ∷ rest) = append_assoc op.name (op.subsystem ∷ verb_code op.verb ∷ []) rest in
     rw (
       byte_again (λ n. nat_lt 0 n && nat_le n 32 && can_be_new earlier n []) (length op.name) ((op.name ++ op.subsystem ∷ verb_code op.verb ∷ []) ++ rest) length_ok,

@@ -2,7 +2,7 @@
 use Rattle.std.proofs.Common.{◌≡◌, ◌≢◌, ℕ, zero, suc, ◌+◌, ◌<◌, ◌≤◌, Bool, true, false, not, ◌&&◌, ◌||◌, cond, List, [], ◌∷◌, ◌++◌, length, refl, sym, ◌∙◌, arith, inl, inr, ◌⊎◌}
 use Rattle.std.specs.Prelude.{nat_eq, nat_le, nat_lt}
 use Rattle.std.specs.List.{list_any, list_all}
-use Rattle.std.proofs.lemmas.Bool.{and_parts, cases_Bool, eqb-true, eq-eqb, cases_eq, leb-true, le-leb, cases_lt, lt-ltb, le-ltb}
+use Rattle.std.proofs.lemmas.Bool.{and_parts, cases_Bool, eqb-true, eq-eqb, cases_eq, leb-true, le-leb, cases_lt, lt-ltb, le-ltb, and_from, or_right}
 use Rattle.std.proofs.lemmas.Bool.Decides.{nat_tests}
 use Rattle.std.proofs.lemmas.List.{length-append, append-nil}
 use Rattle.std.proofs.lemmas.List.Folds.{list_all-append}
@@ -12,11 +12,6 @@ use Rattle.process_tree.specs.Blocks.{numbers_from}
 use Rattle.commute_table.specs.declared.op.Op.{Op}
 use Rattle.commute_table.specs.Operations.{has_name}
 use Rattle.commute_table.specs.Reading.{is_new, begins_name, name_bytes, can_be_new}
-
-pub both_hold : (p q : Bool) → p ≡ true → q ≡ true → (p && q) ≡ true
-both_hold true true e f = refl
-both_hold true false e f = f
-both_hold false q e f = e
 
 -- ---- equal texts
 
@@ -32,7 +27,7 @@ same_text-true (x ∷ xs) (y ∷ ys) e =
 
 pub same_text-itself : (xs : List ℕ) → same_text xs xs ≡ true
 same_text-itself [] = refl
-same_text-itself (x ∷ xs) = both_hold (nat_eq x x) (same_text xs xs) (eq-eqb x x refl) (same_text-itself xs)
+same_text-itself (x ∷ xs) = and_from (nat_eq x x) (same_text xs xs) (eq-eqb x x refl) (same_text-itself xs)
 
 -- ---- what names begin with
 
@@ -48,10 +43,6 @@ some_name_byte p (x ∷ xs) b h e =
           let later : list_any (nat_eq b) xs ≡ true = sym (rw other refl) ∙ e in
           or_right (p x) (list_any p xs) (some_name_byte p xs b h later)
     ]
-  where
-    or_right : (p q : Bool) → q ≡ true → (p || q) ≡ true
-    or_right true q e = refl
-    or_right false q e = e
 
 -- each byte of names is listed
 are_listed : list_all (λ b. not (is_name_byte b) || list_any (nat_eq b) name_bytes) (numbers_from 0 123) ≡ true
@@ -86,7 +77,7 @@ name_parts b bs h =
     (more.0, more.1, leb-true _ _ parts.1)
 
 pub name_made : (b : ℕ) (bs : List ℕ) → is_letter b ≡ true → list_all is_name_byte (b ∷ bs) ≡ true → length (b ∷ bs) ≤ 32 → is_name (b ∷ bs) ≡ true
-name_made b bs l h le = both_hold _ _ (both_hold _ _ l h) (le-leb _ _ le)
+name_made b bs l h le = and_from _ _ (and_from _ _ l h) (le-leb _ _ le)
 
 -- what stands at the front of a name begins one
 pub begins_from_name : (text more : List ℕ) → is_name (text ++ more) ≡ true → begins_name text ≡ true

@@ -2,7 +2,7 @@
 use Rattle.std.proofs.Common.{◌≡◌, ℕ, suc, ◌+◌, ◌≤◌, Bool, true, false, cond, List, [], ◌∷◌, ◌++◌, length, Option, Some, None, Result, Ok, Err, refl, sym, ◌∙◌, subst, append_assoc, arith, inl, inr, codes}
 use Rattle.std.specs.Prelude.{nat_lt, option_and_then, IfOk}
 use Rattle.std.specs.List.{list_all}
-use Rattle.std.proofs.lemmas.Bool.{cases_Bool, ltb-false}
+use Rattle.std.proofs.lemmas.Bool.{cases_Bool, ltb-false, and_from}
 use Rattle.std.proofs.lemmas.List.{append-nil}
 use Rattle.toml.specs.Data.{Data, Items, no_items, item, Members, get_member, as_table, as_array}
 use Rattle.process_tree.specs.Name.{is_name}
@@ -17,7 +17,6 @@ use Rattle.commute_table.specs.declared.errors.ScenarioError.TheVariants.{BadKey
 use Rattle.commute_table.specs.declared.document.Keys.TheVariants.{OfDocument, OfOperation}
 use Rattle.commute_table.specs.Operations.{takes, has_name, is_good_op, differ_from, IsCatalog}
 use Rattle.commute_table.specs.Document.{Said, ◌>>=◌, Gives, known_keys, version_said, text_at, name_or_bad, name_said, subsystem_said, verb_named, verb_or_bad, verb_said, op_said, are_tables, items_length, table_said, ops_said, few_said, tables_or_bad, operations_by_key, operations_said, number_said, pair_in, pair_said, are_pairs, pairs_said, pairs_or_bad, conflicts_by_key, conflicts_said, processes_said, catalog_said, scenario_said}
-use Rattle.commute_table.proofs.Texts.{both_hold}
 use Rattle.commute_table.proofs.Fresh.{Follows, follows_more}
 
 -- what was said behind a step
@@ -76,7 +75,7 @@ op_is_good earlier ms op e =
     let last = said_unless (has_name name.0 earlier) (said (made name.0 q.0 v.0)) op _ v.2 in
     let named = name_is_good (text_at (codes "name") ms) name.0 name.1 in
     let takes_it = verb_is_good q.0 (option_and_then verb_named (text_at (codes "verb") ms)) v.0 v.1 in
-    subst (λ (o : Op). (is_good_op o ≡ true) × (has_name o.name earlier ≡ false)) (said_is _ _ last.1) (both_hold _ _ named takes_it, last.0)
+    subst (λ (o : Op). (is_good_op o ≡ true) × (has_name o.name earlier ≡ false)) (said_is _ _ last.1) (and_from _ _ named takes_it, last.0)
 
 table_is_good : (earlier : List Op) (o : Option Members) (op : Op) → table_said earlier o ≡ Ok op → (is_good_op op ≡ true) × (has_name op.name earlier ≡ false)
 table_is_good earlier None op e = absurd (refused _ op e)

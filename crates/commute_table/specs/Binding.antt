@@ -1,6 +1,7 @@
 -- The plan of a process under a catalog.
-use Rattle.std.specs.Prelude.{◌≡◌, ℕ, List, [], ◌∷◌, ◌++◌, Option, Some, None, Result, Ok, Err}
+use Rattle.std.specs.Prelude.{◌≡◌, ℕ, List, [], ◌∷◌, ◌++◌, ◌<◌, length, Option, Some, None, Result, Ok, Err}
 use Rattle.process_tree.specs.Blocks.{outline}
+use Rattle.process_tree.specs.Order.{Each}
 use Rattle.process_tree.specs.declared.step.Step.{Step}
 use Rattle.process_tree.specs.declared.tree.Named.{Named}
 use Rattle.process_tree.specs.declared.plan.Plan.{Plan}
@@ -44,6 +45,9 @@ pub record IsPlanOf (named : Named) (ops : List Op) (plan : Plan) : Type 0 where
   pub name : plan.name ≡ named.name
   pub tree : plan.tree ≡ named.tree
   pub numbers : numbers_bound ops [] (outline named.tree).steps ≡ Ok plan.ops
+  -- there is one number for each step, and each is that of an operation
+  pub count : length plan.ops ≡ length (outline named.tree).steps
+  pub within : Each (λ n. n < length ops) plan.ops
 
 -- what is answered of a process under these operations
 abbrev pub Binds : Named → List Op → Result Plan BindError → Type 0

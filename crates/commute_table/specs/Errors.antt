@@ -22,7 +22,7 @@ IsReadAs c (Err (catalog.BadCatalog n)) = ⊥
 
 -- how an error reads
 abbrev pub catalog_text : CatalogError → List ℕ
-catalog_text (catalog.BadCatalog n) = codes "no catalog goes on so at byte " ++ decimal n
+catalog_text (catalog.BadCatalog n) = codes "no catalog from byte " ++ decimal n ++ codes " on"
 catalog_text catalog.NoMemory = codes "out of memory"
 
 abbrev pub scenario_text : ScenarioError → List ℕ

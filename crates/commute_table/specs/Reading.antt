@@ -1,5 +1,5 @@
 -- Reading a catalog's bytes from left to right. What is read is a value and the bytes after it, or else how many bytes are
--- left at the first place where no catalog's bytes go on so.
+-- left at the first place that rules out every catalog.
 use Rattle.std.specs.Prelude.{◌≡◌, ℕ, zero, suc, ◌+◌, ◌*◌, Bool, true, not, ◌&&◌, List, [], ◌∷◌, ◌++◌, length, Result, Ok, Err, nat_lt, nat_le, ◌==◌, codes, if◌then◌else◌, slice_set}
 use Rattle.std.specs.List.{list_any}
 use Rattle.process_tree.specs.Name.{is_name}

@@ -6,7 +6,7 @@ ghost use Rattle.commute_table.specs.Binding.{Gives, Binds, number_bound, number
 
 use crate::scenario::number_of;
 use crate::{BindError, Catalog, Op};
-use process_tree::{Name, Named, Operations, Plan, Tree};
+use process_tree::{Name, NameError, Named, Operations, Plan, Tree};
 use std::alloc::Global;
 
 /// The plan of a process: its name, its tree, and the number of each step's operation.
@@ -42,8 +42,8 @@ fn number_bound(alloc: Global, ops: &[Op], name: &Name) -> Result<u16, BindError
         Some(number) => Ok(number as u16),
         None => match Name::new(alloc, name.bytes()) {
             Ok(name) => Err(BindError::UnknownOp(name)),
-            // It is a name, so memory alone can be wanting.
-            Err(_) => Err(BindError::NoMemory),
+            Err(NameError::NoMemory) => Err(BindError::NoMemory),
+            Err(NameError::BadName) => unreachable!(),
         },
     }
 }

@@ -14,7 +14,7 @@ use std::fmt;
 /// Why bytes made no catalog.
 #[derive(Clone, Copy, Debug, PartialEq, Eq)]
 pub enum CatalogError {
-    /// This byte, counted from 0, is the first where no catalog's bytes go on so.
+    /// This byte, counted from 0, is the first that rules out every catalog.
     BadCatalog(u32),
     NoMemory,
 }
@@ -24,7 +24,7 @@ impl fmt::Display for CatalogError {
 
     fn fmt<W: fmt::Write>(&self, f: &mut fmt::Formatter<W>) -> fmt::Result {
         match *self {
-            CatalogError::BadCatalog(n) => write!(f, "no catalog goes on so at byte {n}"),
+            CatalogError::BadCatalog(n) => write!(f, "no catalog from byte {n} on"),
             CatalogError::NoMemory => f.write_str("out of memory"),
         }
     }
@@ -64,6 +64,8 @@ impl fmt::Display for ScenarioError {
 }
 
 impl fmt::Debug for ScenarioError {
+    ghost debug_output = { λ e. Some (scenario_text e) };
+
     fn fmt<W: fmt::Write>(&self, f: &mut fmt::Formatter<W>) -> fmt::Result {
         fmt::Display::fmt(self, f)
     }
@@ -107,6 +109,8 @@ impl fmt::Display for BindError {
 }
 
 impl fmt::Debug for BindError {
+    ghost debug_output = { λ e. Some (bind_text e) };
+
     fn fmt<W: fmt::Write>(&self, f: &mut fmt::Formatter<W>) -> fmt::Result {
         fmt::Display::fmt(self, f)
     }

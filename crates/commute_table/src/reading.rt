@@ -19,7 +19,7 @@ const NAME_BYTES: [u8; 37] = *b"abcdefghijklmnopqrstuvwxyz0123456789_";
 #[derive(Drop)]
 pub enum Fault {
     Memory,
-    // So many bytes are left at the first place where no catalog's bytes go on so.
+    // So many bytes are left at the first place that rules out every catalog.
     Left(usize),
 }
 
@@ -300,7 +300,7 @@ pub fn read_catalog(alloc: Global, bytes: &[u8]) -> Result<Catalog, CatalogError
     ensures found { IfOk result (λ c. (bytes.now ≡ bytes_of c) × IsCatalog c) }
     // A catalog's bytes are read as that catalog, unless memory runs out.
     ensures only { (c : Catalog) → IsCatalog c → bytes.now ≡ bytes_of c → IsReadAs c result }
-    // The place is the first where no catalog's bytes go on so.
+    // The place is the first that rules out every catalog.
     ensures bad { IfErr result (TellsPlace bytes.now) }
 {
     match whole(alloc, bytes) {

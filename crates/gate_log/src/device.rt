@@ -18,6 +18,7 @@ pub fn write_and_sync<R: Rack>(rack: &mut R, file: u8, at: u64, bytes: &[u8]) ->
     ensures run { Told (R.disk rack.old) → RunBy (TornIn file at (length bytes.now)) (R.disk rack.old) (R.disk rack.new) }
     ensures tells { (R.disk rack.new).tells ≡ (R.disk rack.old).tells }
     ensures cause { HasCause (R.faults rack.old) (R.faults rack.new) result }
+    ensures quiet { OnOk result (R.faults rack.new ≡ R.faults rack.old) }
 {
     rack.write_at(file, at, bytes)?;
     rack.sync()
@@ -30,6 +31,7 @@ pub fn whole_file<R: Rack>(alloc: Global, rack: &mut R, file: u8) -> Result<Vec<
     ensures all { Told (R.disk rack.old) → AllAsBefore (R.disk rack.old) (R.disk rack.new) }
     ensures tells { (R.disk rack.new).tells ≡ (R.disk rack.old).tells }
     ensures later { R.faults rack.old ≤ R.faults rack.new }
+    ensures quiet { OnOk result (R.faults rack.new ≡ R.faults rack.old) }
     ensures fault { IsErrOf result LogError.DiskFault → Rose (R.faults rack.old) (R.faults rack.new) }
     ensures refused { IfErr result (λ e. (e ≡ LogError.DiskFault) ⊎ (e ≡ LogError.NoMemory)) }
 {

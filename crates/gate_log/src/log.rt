@@ -50,6 +50,8 @@ impl Log {
         ensures unwritten { IfErr result (λ e. e ≡ NoMemory → rack.new ≡ rack.old) }
         ensures tells { (R.disk rack.new).tells ≡ (R.disk rack.old).tells }
         ensures later { R.faults rack.old ≤ R.faults rack.new }
+        // No failed call of the rack is passed over.
+        ensures quiet { OnOk result (R.faults rack.new ≡ R.faults rack.old) }
         ensures refused { IfErr result (λ e. e ≢ NoMemory → (e ≡ LogError.DiskFault) × Rose (R.faults rack.old) (R.faults rack.new)) }
     {
         let buffer = Buffer::new(alloc)?;
@@ -76,6 +78,7 @@ impl Log {
         ensures all { Told (R.disk rack.old) → AllAsBefore (R.disk rack.old) (R.disk rack.new) }
         ensures tells { (R.disk rack.new).tells ≡ (R.disk rack.old).tells }
         ensures later { R.faults rack.old ≤ R.faults rack.new }
+        ensures quiet { OnOk result (R.faults rack.new ≡ R.faults rack.old) }
         ensures fault { IsErrOf result LogError.DiskFault → Rose (R.faults rack.old) (R.faults rack.new) }
     {
         let buffer = Buffer::new(alloc)?;
@@ -119,6 +122,7 @@ impl Log {
         ensures err { OnErr result (self.new ≡ self.old) }
         ensures tells { (R.disk rack.new).tells ≡ (R.disk rack.old).tells }
         ensures cause { HasCause (R.faults rack.old) (R.faults rack.new) result }
+        ensures quiet { OnOk result (R.faults rack.new ≡ R.faults rack.old) }
     {
         let size = self.buffer.fill(body);
         write_and_sync(rack, self.file, self.end + 1, self.buffer.part(1, size))?;

@@ -1,3 +1,5 @@
 pub mod Images
 mod Kept
+mod Marks
 mod Stops
+mod WholeCalls

@@ -1,4 +1,5 @@
 pub mod Disk
+pub mod Folder
 pub mod Images
 pub mod Memory
 pub mod MemoryLaws

@@ -1,196 +1,252 @@
-// Nine files of the current folder.
-ghost use Rattle.std.specs.Prelude.{◌≡◌, ◌<◌, ◌≤◌, ◌+◌, ◌-◌, ◌^◌, min, length, IfOk, IfSome, IfNone, OnOk, OnErr, IsErr, IsTrue, ℕ, true, false, slice_set, slice_index_or};
-ghost use Rattle.process_flow.specs.Causes.{HasCause};
+// A rack over the files of a folder.
+ghost use Rattle.std.specs.Prelude.{◌≡◌, ◌⊎◌, ◌<◌, ◌≤◌, ◌+◌, ◌-◌, ◌^◌, min, length, take, drop, IfOk, OnOk, OnErr, IsErr, IsTrue, ℕ, true, false, slice_set, slice_index_or};
+ghost use Rattle.process_flow.specs.Causes.{Rose, HasCause};
+ghost use Rattle.process_disk.specs.Disk.{Told, file_of, put, Only, Looks, Writes};
+ghost use Rattle.process_disk.specs.Folder.{AreKept, IsMarked, SomeMarked, NoneMarked, syncs_of, folder_place};
 
-use crate::Rack;
+use crate::transfers::{any_marked, read_whole, sync_marked, write_whole};
+use crate::{Folder, Rack};
 use process_flow::Failed;
-use std::fs::{OpenFile, OpenOptions};
-use std::io;
-use std::io::{Read, Seek, SeekFrom, Write};
-use std::rt::Files;
 
-pub(crate) const NAMES: [&str; 9] = [
-    "tps.0", "tps.1", "tps.2", "tps.3", "tps.4", "tps.5", "tps.6", "tps.7", "tps.8",
-];
-
-/// The files `tps.0` to `tps.8` of the current folder, of whose contents it tells nothing. A file is opened at the first
-/// call on it, and made where it is absent.
+/// A rack over the nine files of a folder, of which it tells what the folder tells.
+///
+/// Each file counts as unsynced from the making of the rack on, so that the first sync brings to the disk what earlier
+/// programs left. A rack that writes takes the folder before its first look. After a sync that failed it is broken: what the
+/// disk has then isn't known, and every write and sync fails until a rack is made anew.
 #[derive(Drop)]
-pub struct FileRack<F: Files + Drop> {
-    pub rt: F,
-    files: [Option<F::File>; 9],
-    /// Which may hold writes that no sync has finished.
+pub struct FileRack<D: Folder + Drop> {
+    pub folder: D,
+    /// Whether it may write.
+    pub writes: bool,
+    /// Whether it has looked, and has tried to take the folder before.
+    pub entered: bool,
+    /// Whether it has taken the folder.
+    pub taken: bool,
+    /// Which files a crash may leave otherwise than they read.
     pub unsynced: [bool; 9],
+    /// Whether a sync has failed.
+    pub broken: bool,
     pub faults: u64,
+    ghost has_taken: { IsTrue taken → IsTrue (D.taken folder) },
+    ghost broken_by: { IsTrue broken → ¬ NoneMarked unsynced },
+    ghost kept: { AreKept unsynced (D.disk folder) },
 }
 
-impl<F: Files + Drop> FileRack<F> {
-    pub fn new(rt: F) -> Self
-        ensures runtime { result.rt ≡ rt }
-        ensures unsynced { (k : ℕ) → slice_index_or result.unsynced k false ≡ false }
+impl<D: Folder + Drop> FileRack<D> {
+    /// A rack over a folder. One that doesn't write fails at each write.
+    pub fn over(folder: D, writes: bool) -> Self
+        ensures folder { result.folder ≡ folder }
+        ensures writes { result.writes ≡ writes }
+        ensures unsynced { (k : ℕ) → k < 9 → IsMarked result.unsynced k }
+        ensures whole { result.broken ≡ false }
         ensures faults { result.faults ≡ 0 }
     {
         FileRack {
-            rt,
-            files: [None, None, None, None, None, None, None, None, None],
-            unsynced: [false; 9],
+            folder,
+            writes,
+            entered: false,
+            taken: false,
+            unsynced: [true; 9],
+            broken: false,
             faults: 0,
         }
     }
 
+    // Counts a fault.
     fn failed<T>(&mut self) -> Result<T, Failed>
         ensures error { IsErr result }
         ensures cause { HasCause self.old.faults self.new.faults result }
         ensures by_one { self.new.faults ≡ min (self.old.faults + 1) (2 ^ 64 - 1) }
+        ensures folder { self.new.folder ≡ self.old.folder }
         ensures unsynced { self.new.unsynced ≡ self.old.unsynced }
+        ensures broken { self.new.broken ≡ self.old.broken }
+        ensures writes { self.new.writes ≡ self.old.writes }
+        ensures taken { self.new.taken ≡ self.old.taken }
     {
         self.faults = self.faults.saturating_add(1);
         Err(Failed)
     }
+
+    // Takes the folder before the first look, if it may write and file 0 is there.
+    fn enter(&mut self) -> Result<(), Failed>
+        ensures looks { Told (D.disk self.old.folder) → Looks (D.disk self.old.folder) (D.disk self.new.folder) }
+        ensures tells { (D.disk self.new.folder).tells ≡ (D.disk self.old.folder).tells }
+        ensures syncs { D.syncs self.new.folder ≡ D.syncs self.old.folder }
+        ensures cause { HasCause (D.faults self.old.folder) (D.faults self.new.folder) result }
+        ensures quiet { OnOk result (D.faults self.new.folder ≡ D.faults self.old.folder) }
+        ensures unsynced { self.new.unsynced ≡ self.old.unsynced }
+        ensures broken { self.new.broken ≡ self.old.broken }
+        ensures writes { self.new.writes ≡ self.old.writes }
+        ensures faults { self.new.faults ≡ self.old.faults }
+    {
+        if self.writes && !self.entered {
+            self.taken = self.folder.take(false)?;
+            self.entered = true;
+        }
+        Ok(())
+    }
+
+    // Takes the folder, which is made one with a file 0 where it had none at the first look.
+    fn take(&mut self) -> Result<(), Failed>
+        ensures taken { OnOk result (IsTrue self.new.taken) }
+        ensures looks { Told (D.disk self.old.folder) → Looks (D.disk self.old.folder) (D.disk self.new.folder) }
+        ensures tells { (D.disk self.new.folder).tells ≡ (D.disk self.old.folder).tells }
+        ensures syncs { D.syncs self.new.folder ≡ D.syncs self.old.folder }
+        ensures cause { HasCause (D.faults self.old.folder) (D.faults self.new.folder) result }
+        ensures quiet { OnOk result (D.faults self.new.folder ≡ D.faults self.old.folder) }
+        ensures unsynced { self.new.unsynced ≡ self.old.unsynced }
+        ensures broken { self.new.broken ≡ self.old.broken }
+        ensures writes { self.new.writes ≡ self.old.writes }
+        ensures faults { self.new.faults ≡ self.old.faults }
+    {
+        if !self.taken {
+            self.taken = self.folder.take(true)?;
+        }
+        Ok(())
+    }
+
+    // Brings all to the disk that may not be there.
+    fn sync_all(&mut self) -> Result<(), Failed>
+        requires { self.old.broken ≡ false }
+        ensures kept { Told (D.disk self.old.folder) → OnOk result (Only (D.disk self.new.folder).files (D.disk self.new.folder).may_leave) }
+        ensures all_synced { OnOk result ((k : ℕ) → slice_index_or self.new.unsynced k false ≡ false) }
+        ensures synced { OnOk result ((k : ℕ) → IsMarked self.old.unsynced k → Rose (syncs_of (D.syncs self.old.folder) k) (syncs_of (D.syncs self.new.folder) k)) }
+        ensures names { OnOk result (SomeMarked self.old.unsynced → Rose (syncs_of (D.syncs self.old.folder) folder_place) (syncs_of (D.syncs self.new.folder) folder_place)) }
+        ensures left { OnErr result (SomeMarked self.new.unsynced) }
+        ensures unsynced { OnErr result (self.new.unsynced ≡ self.old.unsynced) }
+        ensures looks { Told (D.disk self.old.folder) → Looks (D.disk self.old.folder) (D.disk self.new.folder) }
+        ensures tells { (D.disk self.new.folder).tells ≡ (D.disk self.old.folder).tells }
+        ensures cause { HasCause (D.faults self.old.folder) (D.faults self.new.folder) result }
+        ensures quiet { OnOk result (D.faults self.new.folder ≡ D.faults self.old.folder) }
+        ensures broken { self.new.broken ≡ self.old.broken }
+        ensures writes { self.new.writes ≡ self.old.writes }
+        ensures faults { self.new.faults ≡ self.old.faults }
+    {
+        if !any_marked(&self.unsynced) {
+            return Ok(());
+        }
+        self.enter()?;
+        self.folder.sync_names()?;
+        sync_marked(&mut self.folder, &self.unsynced)?;
+        self.unsynced = [false; 9];
+        Ok(())
+    }
 }
 
-impl<F: Files + Drop> Rack for FileRack<F> {
-    ghost use Rattle.std.specs.Prelude.{false, []};
-    ghost use Rattle.std.proofs.Common.{rules};
-
-    ghost disk = { λ rack. record { tells = false; files = []; may_leave = λ c. ⊥; moment = 0; left_since = λ t c. ⊥ } };
+impl<D: Folder + Drop> Rack for FileRack<D> {
+    ghost disk = { λ rack. D.disk rack.folder };
 
     ghost faults = { λ rack. rack.faults };
 
-    ghost honest = { λ rack told. Prim.search rules };
+    ghost honest = { λ rack told. D.honest rack.folder told };
 
     fn len(&mut self, file: u8) -> Result<u64, Failed>
         requires { file < 9 }
+        ensures len { Told (D.disk self.old.folder) → IfOk result (λ n. n ≡ length (file_of (D.disk self.old.folder).files file)) }
+        ensures looks { Told (D.disk self.old.folder) → Looks (D.disk self.old.folder) (D.disk self.new.folder) }
+        ensures tells { (D.disk self.new.folder).tells ≡ (D.disk self.old.folder).tells }
         ensures cause { HasCause self.old.faults self.new.faults result }
-        ensures each_err { OnOk result (self.new.faults ≡ self.old.faults) }
+        ensures quiet { OnOk result (self.new.faults ≡ self.old.faults) }
         ensures by_one { OnErr result (self.new.faults ≡ min (self.old.faults + 1) (2 ^ 64 - 1)) }
+        // No failed call of the folder is passed over, and it doesn't give up by itself.
+        ensures told { OnOk result (D.faults self.new.folder ≡ D.faults self.old.folder) }
+        ensures failed { OnErr result (Rose (D.faults self.old.folder) (D.faults self.new.folder)) }
         ensures unsynced { self.new.unsynced ≡ self.old.unsynced }
+        ensures broken { self.new.broken ≡ self.old.broken }
     {
-        let found = match opened(&self.rt, &mut self.files, file) {
-            Ok(opened) => opened.metadata(),
-            Err(error) => Err(error),
-        };
-        match found {
-            Ok(metadata) => Ok(metadata.len()),
-            Err(_) => self.failed(),
+        if self.enter().is_err() {
+            return self.failed();
+        }
+        match self.folder.len(file) {
+            Ok(len) => Ok(len),
+            Err(Failed) => self.failed(),
         }
     }
 
     fn read(&mut self, file: u8, at: u64, buf: &mut [u8]) -> Result<usize, Failed>
         requires { file < 9 }
+        ensures count { Told (D.disk self.old.folder) → IfOk result (λ n. n ≡ min (length buf.old) (length (drop at (file_of (D.disk self.old.folder).files file)))) }
+        ensures bytes { Told (D.disk self.old.folder) → IfOk result (λ n. take n buf.new ≡ take n (drop at (file_of (D.disk self.old.folder).files file))) }
         ensures bound { IfOk result (λ n. n ≤ length buf.old) }
+        ensures looks { Told (D.disk self.old.folder) → Looks (D.disk self.old.folder) (D.disk self.new.folder) }
+        ensures tells { (D.disk self.new.folder).tells ≡ (D.disk self.old.folder).tells }
         ensures cause { HasCause self.old.faults self.new.faults result }
-        ensures each_err { OnOk result (self.new.faults ≡ self.old.faults) }
+        ensures quiet { OnOk result (self.new.faults ≡ self.old.faults) }
         ensures by_one { OnErr result (self.new.faults ≡ min (self.old.faults + 1) (2 ^ 64 - 1)) }
+        ensures told { OnOk result (D.faults self.new.folder ≡ D.faults self.old.folder) }
+        ensures failed { OnErr result (Rose (D.faults self.old.folder) (D.faults self.new.folder) ⊎ (2 ^ 64 < at + length buf.old)) }
         ensures unsynced { self.new.unsynced ≡ self.old.unsynced }
+        ensures broken { self.new.broken ≡ self.old.broken }
     {
-        let found = match opened(&self.rt, &mut self.files, file) {
-            Ok(opened) => read_from(opened, at, buf),
-            Err(error) => Err(error),
-        };
-        match found {
+        if self.enter().is_err() {
+            return self.failed();
+        }
+        match read_whole(&mut self.folder, file, at, buf) {
             Ok(count) => Ok(count),
-            Err(_) => self.failed(),
+            Err(Failed) => self.failed(),
         }
     }
 
     fn write_at(&mut self, file: u8, at: u64, bytes: &[u8]) -> Result<(), Failed>
-        requires { file < 9 }
+        requires file { file < 9 }
+        requires place { Told (D.disk self.old.folder) → at ≤ length (file_of (D.disk self.old.folder).files file) }
+        ensures written { Told (D.disk self.old.folder) → OnOk result ((D.disk self.new.folder).files ≡ put (D.disk self.old.folder).files file at bytes.now) }
+        ensures writes { Told (D.disk self.old.folder) → Writes file at (length bytes.now) (D.disk self.old.folder) (D.disk self.new.folder) }
+        ensures tells { (D.disk self.new.folder).tells ≡ (D.disk self.old.folder).tells }
         ensures cause { HasCause self.old.faults self.new.faults result }
-        ensures each_err { OnOk result (self.new.faults ≡ self.old.faults) }
+        ensures quiet { OnOk result (self.new.faults ≡ self.old.faults) }
         ensures by_one { OnErr result (self.new.faults ≡ min (self.old.faults + 1) (2 ^ 64 - 1)) }
+        ensures told { OnOk result (D.faults self.new.folder ≡ D.faults self.old.folder) }
+        ensures failed { OnErr result ((Rose (D.faults self.old.folder) (D.faults self.new.folder) ⊎ (2 ^ 64 < at + length bytes.now)) ⊎ (IsTrue self.old.broken ⊎ (self.old.writes ≡ false))) }
         ensures unsynced { self.new.unsynced ≡ slice_set self.old.unsynced file true }
+        ensures broken { self.new.broken ≡ self.old.broken }
+        // A rack that is broken, or that doesn't write, leaves the folder as it is.
+        ensures shut { IsTrue self.old.broken ⊎ (self.old.writes ≡ false) → IsErr result × (self.new.folder ≡ self.old.folder) }
+        ensures taken { OnOk result (IsTrue (D.taken self.new.folder)) }
     {
         self.unsynced[usize::from(file)] = true;
-        let found = match opened(&self.rt, &mut self.files, file) {
-            Ok(opened) => write_to(opened, at, bytes),
-            Err(error) => Err(error),
-        };
-        match found {
+        if self.broken || !self.writes {
+            return self.failed();
+        }
+        if self.enter().is_err() || self.take().is_err() {
+            return self.failed();
+        }
+        match write_whole(&mut self.folder, file, at, bytes) {
             Ok(()) => Ok(()),
-            Err(_) => self.failed(),
+            Err(Failed) => self.failed(),
         }
     }
 
     fn sync(&mut self) -> Result<(), Failed>
+        ensures durable { Told (D.disk self.old.folder) → OnOk result (Only (D.disk self.new.folder).files (D.disk self.new.folder).may_leave) }
+        ensures looks { Told (D.disk self.old.folder) → Looks (D.disk self.old.folder) (D.disk self.new.folder) }
+        ensures tells { (D.disk self.new.folder).tells ≡ (D.disk self.old.folder).tells }
         ensures cause { HasCause self.old.faults self.new.faults result }
-        ensures each_err { OnOk result (self.new.faults ≡ self.old.faults) }
+        ensures quiet { OnOk result (self.new.faults ≡ self.old.faults) }
         ensures by_one { OnErr result (self.new.faults ≡ min (self.old.faults + 1) (2 ^ 64 - 1)) }
+        ensures told { OnOk result (D.faults self.new.folder ≡ D.faults self.old.folder) }
+        ensures failed { OnErr result (Rose (D.faults self.old.folder) (D.faults self.new.folder) ⊎ IsTrue self.old.broken) }
         ensures all_synced { OnOk result ((k : ℕ) → slice_index_or self.new.unsynced k false ≡ false) }
+        // Of each file that was unsynced a sync was finished, and one of the names.
+        ensures synced { OnOk result ((k : ℕ) → IsMarked self.old.unsynced k → Rose (syncs_of (D.syncs self.old.folder) k) (syncs_of (D.syncs self.new.folder) k)) }
+        ensures names { OnOk result (SomeMarked self.old.unsynced → Rose (syncs_of (D.syncs self.old.folder) folder_place) (syncs_of (D.syncs self.new.folder) folder_place)) }
         // After a failure some file has unsynced writes still.
         ensures left { OnErr result ((k : ℕ) × (slice_index_or self.new.unsynced k false ≡ true)) }
         ensures none_written { (k : ℕ) → slice_index_or self.old.unsynced k false ≡ false → slice_index_or self.new.unsynced k false ≡ false }
+        // It is broken by a failure, and then fails for good and leaves the folder as it is.
+        ensures broken { OnErr result (self.new.broken ≡ true) }
+        ensures whole { OnOk result (self.new.broken ≡ false) }
+        ensures shut { IsTrue self.old.broken → IsErr result × (self.new.folder ≡ self.old.folder) }
     {
-        for file in 0..9 {
-            if self.unsynced[file] && sync_one(&self.files[file]) {
-                self.unsynced[file] = false;
+        if self.broken {
+            return self.failed();
+        }
+        match self.sync_all() {
+            Ok(()) => Ok(()),
+            Err(Failed) => {
+                self.broken = true;
+                self.failed()
             }
         }
-        match unsynced_file(&self.unsynced) {
-            None => Ok(()),
-            Some(_) => self.failed(),
-        }
-    }
-}
-
-// The first file that may hold unsynced writes.
-fn unsynced_file(unsynced: &[bool]) -> Option<usize>
-    ensures some { IfSome result (λ k. slice_index_or unsynced.now k false ≡ true) }
-    ensures none { IfNone result ((k : ℕ) → slice_index_or unsynced.now k false ≡ false) }
-{
-    for (file, flag) in unsynced.iter().enumerate() {
-        if *flag {
-            return Some(file);
-        }
-    }
-    None
-}
-
-// The file, opened and where it is absent made, if no call did so before.
-fn opened<'a, F: Files>(
-    rt: &F,
-    files: &'a mut [Option<F::File>; 9],
-    file: u8,
-) -> io::Result<&'a mut F::File>
-    requires { file < 9 }
-{
-    let slot = &mut files[usize::from(file)];
-    if slot.is_none() {
-        let mut how = OpenOptions::new();
-        how.read(true).write(true).create(true).truncate(false);
-        *slot = Some(how.open(rt, NAMES[usize::from(file)])?);
-    }
-    match slot {
-        Some(opened) => Ok(opened),
-        None => Err(io::Error::from(io::ErrorKind::NotFound)),
-    }
-}
-
-// Reads from a place on until the buffer is full or the file ends.
-fn read_from<T: Read + Seek>(file: &mut T, at: u64, buf: &mut [u8]) -> io::Result<usize>
-    ensures { IfOk result (λ n. n ≤ length buf.old) }
-{
-    file.seek(SeekFrom::Start(at))?;
-    let mut count = 0;
-    while count < buf.len() {
-        let more = file.read(&mut buf[count..])?;
-        if more == 0 {
-            break;
-        }
-        count += more;
-    }
-    Ok(count)
-}
-
-fn write_to<T: Write + Seek>(file: &mut T, at: u64, bytes: &[u8]) -> io::Result<()> {
-    file.seek(SeekFrom::Start(at))?;
-    file.write_all(bytes)
-}
-
-// Whether what was written is on the disk now. Of a file that was never opened nothing was written.
-fn sync_one<T: OpenFile>(file: &Option<T>) -> bool {
-    match file {
-        Some(opened) => opened.sync_all().is_ok(),
-        None => true,
     }
 }

@@ -19,7 +19,8 @@ pub trait Rack {
         ensures len { Told (disk self.old) → IfOk result (λ n. n ≡ length (file_of (disk self.old).files file)) }
         ensures looks { Told (disk self.old) → Looks (disk self.old) (disk self.new) }
         ensures tells { (disk self.new).tells ≡ (disk self.old).tells }
-        ensures cause { HasCause (faults self.old) (faults self.new) result };
+        ensures cause { HasCause (faults self.old) (faults self.new) result }
+        ensures quiet { OnOk result (faults self.new ≡ faults self.old) };
 
     /// Reads a file's bytes from a place on into the buffer's front, and says how many there were, at most the buffer.
     fn read(&mut self, file: u8, at: u64, buf: &mut [u8]) -> Result<usize, Failed>
@@ -30,7 +31,8 @@ pub trait Rack {
         ensures bound { IfOk result (λ n. n ≤ length buf.old) }
         ensures looks { Told (disk self.old) → Looks (disk self.old) (disk self.new) }
         ensures tells { (disk self.new).tells ≡ (disk self.old).tells }
-        ensures cause { HasCause (faults self.old) (faults self.new) result };
+        ensures cause { HasCause (faults self.old) (faults self.new) result }
+        ensures quiet { OnOk result (faults self.new ≡ faults self.old) };
 
     /// Writes over what is there, and past the end. Until a sync is finished a crash may leave any bytes in the range; after
     /// an `Err` a read too may give any.
@@ -40,14 +42,16 @@ pub trait Rack {
         ensures written { Told (disk self.old) → OnOk result ((disk self.new).files ≡ put (disk self.old).files file at bytes.now) }
         ensures writes { Told (disk self.old) → Writes file at (length bytes.now) (disk self.old) (disk self.new) }
         ensures tells { (disk self.new).tells ≡ (disk self.old).tells }
-        ensures cause { HasCause (faults self.old) (faults self.new) result };
+        ensures cause { HasCause (faults self.old) (faults self.new) result }
+        ensures quiet { OnOk result (faults self.new ≡ faults self.old) };
 
     /// After it a crash leaves what a read gives. After an `Err` what was not on the disk before may still not be.
     fn sync(&mut self) -> Result<(), Failed>
         ensures durable { Told (disk self.old) → OnOk result (Only (disk self.new).files (disk self.new).may_leave) }
         ensures looks { Told (disk self.old) → Looks (disk self.old) (disk self.new) }
         ensures tells { (disk self.new).tells ≡ (disk self.old).tells }
-        ensures cause { HasCause (faults self.old) (faults self.new) result };
+        ensures cause { HasCause (faults self.old) (faults self.new) result }
+        ensures quiet { OnOk result (faults self.new ≡ faults self.old) };
 
     ghost honest: { (rack : Self) → Told (disk rack) → IsHonest (disk rack) };
 }

@@ -1,8 +1,6 @@
-// What no clause says: stops against tables made by hand, and files of the system.
+// What no clause says: stops against tables made by hand.
 use super::*;
-use crate::file_rack::NAMES;
 use std::alloc::Global;
-use std::fs;
 use std::process::Abort;
 use std::test::Fail;
 
@@ -266,39 +264,6 @@ fn a_stop_leaves_what_the_table_says(rt: HostRuntime) -> Result<(), Fail> {
         }
         assert_eq!(rt; left.calls(), 0);
         assert_eq!(rt; left.starved(), 0);
-    }
-    Ok(())
-}
-
-#[test]
-fn real_files_hold_what_was_written_for_the_next_rack_too(rt: HostRuntime) -> Result<(), Fail> {
-    for name in NAMES {
-        let _absent = fs::remove_file(&rt, name);
-    }
-    let mut rack = FileRack::new(rt);
-    let mut buf = [0; 8];
-    assert_eq!(rt; rack.len(8), Ok(0));
-    assert_eq!(rt; rack.write_at(8, 0, b"gate"), Ok(()));
-    assert_eq!(rt; rack.write_at(8, 2, b"cdef"), Ok(()));
-    assert_eq!(rt; rack.sync(), Ok(()));
-    assert_eq!(rt; rack.len(8), Ok(6));
-    assert_eq!(rt; rack.read(8, 1, &mut buf), Ok(5));
-    assert_eq!(rt; buf.as_slice(), b"acdef\0\0\0".as_slice());
-    assert_eq!(rt; rack.read(0, 0, &mut buf), Ok(0));
-    for file in 0..9 {
-        assert_eq!(rt; rack.write_at(file, 0, &[file, b'.']), Ok(()));
-    }
-    assert_eq!(rt; rack.sync(), Ok(()));
-    assert_eq!(rt; rack.faults, 0);
-    // Another rack finds the nine files as they were left.
-    let mut again = FileRack::new(rt);
-    for file in 0..9 {
-        assert_eq!(rt; again.read(file, 0, &mut buf[..2]), Ok(2));
-        assert_eq!(rt; buf[0], file);
-        assert_eq!(rt; again.len(file), Ok(if file == 8 { 6 } else { 2 }));
-    }
-    for name in NAMES {
-        let _absent = fs::remove_file(&rt, name);
     }
     Ok(())
 }

@@ -25,7 +25,8 @@ pub trait Sink {
         ensures some { IfOk result (λ n. 0 < n) }
         ensures bound { IfOk result (λ n. n ≤ length bytes.now) }
         ensures bytes { WriteAppends (taken self.old) (taken self.new) result bytes.now }
-        ensures cause { HasCause (faults self.old) (faults self.new) result };
+        ensures cause { HasCause (faults self.old) (faults self.new) result }
+        ensures quiet { OnOk result (faults self.new ≡ faults self.old) };
 }
 
 /// A sink in memory, of which the listed calls fail, numbered from 0.
@@ -89,7 +90,7 @@ impl Sink for MemorySink {
         ensures bound { IfOk result (λ n. n ≤ length bytes.now) }
         ensures bytes { WriteAppends (Some self.old.taken) (Some self.new.taken) result bytes.now }
         ensures cause { HasCause self.old.faults self.new.faults result }
-        ensures each_err { OnOk result (self.new.faults ≡ self.old.faults) }
+        ensures quiet { OnOk result (self.new.faults ≡ self.old.faults) }
         ensures by_one { OnErr result (self.new.faults ≡ min (self.old.faults + 1) (2 ^ 64 - 1)) }
         ensures listed { Contains self.old.fails self.old.calls → IsErr result }
         ensures failed { IsErr result → Contains self.old.fails self.old.calls ⊎ Rose self.old.starved self.new.starved }
@@ -143,7 +144,7 @@ impl<T: Write + Drop> Sink for StdSink<T> {
         ensures bound { IfOk result (λ n. n ≤ length bytes.now) }
         ensures bytes { WriteAppends (T.contents self.old.inner) (T.contents self.new.inner) result bytes.now }
         ensures cause { HasCause self.old.faults self.new.faults result }
-        ensures each_err { OnOk result (self.new.faults ≡ self.old.faults) }
+        ensures quiet { OnOk result (self.new.faults ≡ self.old.faults) }
         ensures by_one { OnErr result (self.new.faults ≡ min (self.old.faults + 1) (2 ^ 64 - 1)) }
     {
         match self.inner.write(bytes) {
@@ -181,6 +182,8 @@ pub fn write_all<K: Sink>(sink: &mut K, bytes: &[u8]) -> Result<(), WriteFault>
     ensures sent { IfErr result (λ e. Appends (K.taken sink.old) (K.taken sink.new) (take e.sent bytes.now)) }
     ensures within { IfErr result (λ e. e.sent < length bytes.now) }
     ensures cause { HasCause (K.faults sink.old) (K.faults sink.new) result }
+    // No failed call is passed over.
+    ensures quiet { OnOk result (K.faults sink.new ≡ K.faults sink.old) }
 {
     let mut sent = 0;
     while sent < bytes.len() {

@@ -27,7 +27,8 @@ pub trait Source {
         requires { 0 < length buf.old }
         ensures bound { ReadsAtMost result buf.new }
         ensures bytes { ReadConsumes (left self.old) (left self.new) result buf.new }
-        ensures cause { HasCause (faults self.old) (faults self.new) result };
+        ensures cause { HasCause (faults self.old) (faults self.new) result }
+        ensures quiet { OnOk result (faults self.new ≡ faults self.old) };
 }
 
 /// A source over bytes in memory, of which the listed calls fail, numbered from 0.
@@ -79,7 +80,7 @@ impl Source for MemorySource {
         ensures bound { ReadsAtMost result buf.new }
         ensures bytes { ReadConsumes (Some self.old.left) (Some self.new.left) result buf.new }
         ensures cause { HasCause self.old.faults self.new.faults result }
-        ensures each_err { OnOk result (self.new.faults ≡ self.old.faults) }
+        ensures quiet { OnOk result (self.new.faults ≡ self.old.faults) }
         ensures by_one { OnErr result (self.new.faults ≡ min (self.old.faults + 1) (2 ^ 64 - 1)) }
         ensures fails_where_listed { IsErr result ↔ Contains self.old.fails self.old.calls }
         ensures most { IfOk result (λ n. n ≡ min (length self.old.left) (length buf.old)) }
@@ -134,7 +135,7 @@ impl<T: Read + Drop> Source for StdSource<T> {
         ensures bound { ReadsAtMost result buf.new }
         ensures bytes { ReadConsumes (T.remaining self.old.inner) (T.remaining self.new.inner) result buf.new }
         ensures cause { HasCause self.old.faults self.new.faults result }
-        ensures each_err { OnOk result (self.new.faults ≡ self.old.faults) }
+        ensures quiet { OnOk result (self.new.faults ≡ self.old.faults) }
         ensures by_one { OnErr result (self.new.faults ≡ min (self.old.faults + 1) (2 ^ 64 - 1)) }
     {
         match self.inner.read(buf) {
@@ -187,6 +188,8 @@ pub fn read_all<S: Source>(alloc: Global, source: &mut S, limit: u32) -> Result<
         × AnswersFor limit given result }
     ensures read_fault { IsErrOf result ReadError.ReadFault → Rose (S.faults source.old) (S.faults source.new) }
     ensures faults { S.faults source.old ≤ S.faults source.new }
+    // No failed call is passed over.
+    ensures quiet { OnOk result (S.faults source.new ≡ S.faults source.old) }
 {
     let mut bytes = Vec::new(alloc);
     let mut chunk = [0; 1024];

@@ -4,9 +4,7 @@ use process_flow::{MemorySink, MemorySource};
 use process_top::{Finished, top};
 use std::alloc::{AllocError, Global};
 use std::process::Abort;
-use std::sync::Wait;
 use std::test::Fail;
-use std::thread::Threads;
 
 pub fn words_of(alloc: Global, words: &[&str]) -> Result<Vec<String>, AllocError> {
     let mut list = Vec::new(alloc);
@@ -17,7 +15,7 @@ pub fn words_of(alloc: Global, words: &[&str]) -> Result<Vec<String>, AllocError
 }
 
 // The status of `top` over an empty rack.
-fn answered<H: Threads + Wait + Sync>(
+fn answered<H>(
     rt: &H,
     alloc: Global,
     words: &[String],
@@ -31,7 +29,7 @@ fn answered<H: Threads + Wait + Sync>(
 }
 
 // Runs `top` on an input and compares the status and the whole output.
-fn expect<H: Threads + Wait + Sync + Abort>(
+fn expect<H: Abort>(
     rt: &H,
     alloc: Global,
     words: &[&str],

@@ -4,6 +4,8 @@
 #[cfg(test)]
 mod check;
 #[cfg(test)]
+mod program;
+#[cfg(test)]
 mod run;
 #[cfg(test)]
 mod show;

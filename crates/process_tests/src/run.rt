@@ -5,14 +5,12 @@ use process_flow::{MemorySink, MemorySource};
 use process_top::{Finished, top};
 use std::alloc::Global;
 use std::process::Abort;
-use std::sync::Wait;
 use std::test::Fail;
-use std::thread::Threads;
 
 pub const TEXT: &[u8] = b"process a c x add 1 5 c y add 1 6 end";
 
 // What is told of a text and a rack, and the rack after it.
-pub fn run_on<H: Threads + Wait + Sync + Abort>(
+pub fn run_on<H: Abort>(
     rt: &H,
     alloc: Global,
     text: &[u8],
@@ -63,7 +61,7 @@ fn processes_are_run(rt: HostRuntime) -> Result<(), Fail> {
 }
 
 // The journal of that text: the header, five records behind open gates, and a closed gate.
-const JOURNAL: &[u8] = b"tpsl\x01\x00\x00\x00\
+pub const JOURNAL: &[u8] = b"tpsl\x01\x00\x00\x00\
     \x01\x0b\x00\x00\x01\x01\x00\x03add\x00\x00\x00\
     \x01\x2b\x00\x01\x01\x00\x00\x00process a c x add 1 5 c y add 1 6 end\n\
     \x01\x08\x00\x02\x01\x00\x00\x00\x00\x00\x00\

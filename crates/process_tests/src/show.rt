@@ -6,12 +6,10 @@ use process_flow::{MemorySink, MemorySource};
 use process_top::{Finished, top};
 use std::alloc::Global;
 use std::process::Abort;
-use std::sync::Wait;
 use std::test::Fail;
-use std::thread::Threads;
 
 // What is shown of a rack, and the rack after it.
-fn show_on<H: Threads + Wait + Sync + Abort>(
+fn show_on<H: Abort>(
     rt: &H,
     alloc: Global,
     rack: MemoryRack,
@@ -28,7 +26,7 @@ fn show_on<H: Threads + Wait + Sync + Abort>(
     Ok(rack)
 }
 
-const LINES: &[u8] = b"start 1 a\ndo 1.x add\ndo 1.y add\nend 1\n";
+pub const LINES: &[u8] = b"start 1 a\ndo 1.x add\ndo 1.y add\nend 1\n";
 
 // Where the line of each record ends: none for the catalog.
 const ENDS: [usize; 6] = [0, 0, 10, 21, 32, 38];

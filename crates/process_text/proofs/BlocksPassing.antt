@@ -1,7 +1,7 @@
 -- That blocks within their limits lead to what is told behind them.
-use Rattle.std.proofs.Common.{◌≡◌, ◌≤◌, ◌<◌, ◌+◌, ℕ, List, [], ◌∷◌, ◌++◌, length, Bool, true, false, ◌||◌, nat_lt, None, refl, sym, ap, arith, ◌∙◌, append_assoc, append-nil, length-append, suc, subst, add-one}
+use Rattle.std.proofs.Common.{◌≡◌, ◌≤◌, ◌<◌, ◌+◌, ℕ, List, [], ◌∷◌, ◌++◌, length, Bool, true, false, nat_lt, None, refl, sym, ap, arith, ◌∙◌, append_assoc, append-nil, length-append, suc, subst, add-one}
 use Rattle.std.specs.List.{list_any}
-use Rattle.std.proofs.lemmas.Bool.{lt-ltb}
+use Rattle.std.proofs.lemmas.Bool.{lt-ltb, or_parts}
 use Rattle.std.proofs.lemmas.List.{map-append, length-map}
 use Rattle.process_tree.specs.declared.step.Step.{Step}
 use Rattle.process_tree.specs.declared.block.Tail.{Tail, End, Choice', Row_of-Block, end_of-Block, more_of-Block}
@@ -69,7 +69,7 @@ pub word_leads : (b : Before) (at : At) (k : ℕ) (m : Mark) (before after : Lis
 word_leads b at k m before after same means is = rw (is, same, means) refl
 
 -- the names of steps that stand one after another
-names_of_both : (ss ts : List Step) → step_names (ss ++ ts) ≡ step_names ss ++ step_names ts
+pub names_of_both : (ss ts : List Step) → step_names (ss ++ ts) ≡ step_names ss ++ step_names ts
 names_of_both ss ts = map-append (λ (s : Step). s.name) ss ts
 
 -- What is asked of a block's outline, behind these names and within these choices.
@@ -88,14 +88,10 @@ pub record RowFits (names : List (List ℕ)) (choices : List ℕ) (os : List Out
   pub even : first_odd os ≡ None
   pub new : are_new names (step_names (all_steps os)) ≡ true
 
-or_false_parts : (a b : Bool) → (a || b) ≡ false → (a ≡ false) × (b ≡ false)
-or_false_parts true b e = absurd (cc)
-or_false_parts false b e = (refl, e)
-
 -- the first alternative fits
 first_fits : (names : List (List ℕ)) (choices : List ℕ) (k : ℕ) (o : Outline) (os : List Outline) → RowFits names choices (o ∷ os) → BlockFits names (k ∷ choices) o
 first_fits names choices k o os fits = record {
-  full = (or_false_parts o.has_empty (list_any (λ o. o.has_empty) os) fits.full).0;
+  full = (or_parts o.has_empty (list_any (λ o. o.has_empty) os) fits.full).0;
   few = let few = fits.few in omega (arith, length-append o.steps (all_steps os));
   flat = let flat = fits.flat in omega arith;
   even = (odd_parts o os fits.even).0;
@@ -105,7 +101,7 @@ first_fits names choices k o os fits = record {
 -- and so do the others behind it
 others_fit : (names : List (List ℕ)) (choices : List ℕ) (o : Outline) (os : List Outline) → RowFits names choices (o ∷ os) → RowFits (names ++ step_names o.steps) choices os
 others_fit names choices o os fits = record {
-  full = (or_false_parts o.has_empty (list_any (λ o. o.has_empty) os) fits.full).1;
+  full = (or_parts o.has_empty (list_any (λ o. o.has_empty) os) fits.full).1;
   few = let few = fits.few in omega (arith, length-append o.steps (all_steps os), length-append names (step_names o.steps), length-map o.steps (λ s. s.name));
   flat = let flat = fits.flat in omega arith;
   even = (odd_parts o os fits.even).1;

@@ -1,13 +1,13 @@
 -- Pieces tell the processes that they are of.
+use Rattle.process_text.proofs.Within.{odd_parts}
+use Rattle.process_tree.proofs.Trees.{none_odd}
 use Rattle.std.proofs.Common.{◌≡◌, ◌<◌, ◌||◌, ℕ, List, [], ◌∷◌, ◌++◌, length, Bool, true, false, Option, Some, None, Result, Ok, Err, IfOk, if◌then◌else◌, nat_lt, refl, sym, ap, ◌∙◌, append_assoc, arith}
 use Rattle.process_tree.specs.declared.step.Step.{Step}
 use Rattle.process_tree.specs.declared.block.Block.{Block}
 use Rattle.process_tree.specs.declared.block.Tail.{Tail, End, Choice', Row_of-Block, end_of-Block, more_of-Block}
 use Rattle.process_tree.specs.declared.tree.Named.{Named}
-use Rattle.process_tree.specs.declared.tree.TreeError.{TreeError}
-use Rattle.process_tree.specs.declared.tree.TreeError.TheVariants.{Empty, Steps, Nesting, Alternatives}
-use Rattle.process_tree.specs.Blocks.{Outline, outline, outline_of, outlines_of, first_odd}
-use Rattle.process_tree.specs.Making.{tree_fault, refused_at}
+use Rattle.process_tree.specs.Blocks.{Outline, outline_of, outlines_of, first_odd}
+use Rattle.process_tree.specs.Making.{tree_fault}
 use Rattle.process_tree.specs.Form.{ending, form_at, forms_at}
 use Rattle.process_tree.proofs.Forms.{same_outline}
 use Rattle.process_text.specs.declared.marks.Mark.{Mark}
@@ -36,14 +36,6 @@ behind a b xs ys e = cc
 
 apart : (m n : Mark) (xs ys : List Piece) → (m ≡ n → ⊥) → mark m ∷ xs ≡ mark n ∷ ys → ⊥
 apart m n xs ys differ e = differ (cc)
-
--- the first of these has no odd choice, and the others have none
-odd_first : (o : Outline) (os : List Outline) → first_odd (o ∷ os) ≡ None → (o.odd_choice ≡ None) × (first_odd os ≡ None)
-odd_first o os none = by o.odd_choice refl none
-  where
-    by : (odd : Option ℕ) → o.odd_choice ≡ odd → first_odd (o ∷ os) ≡ None → (o.odd_choice ≡ None) × (first_odd os ≡ None)
-    by None is h = (is, rw is at h)
-    by (Some n) is h = let odd : Some n ≡ None = rw is at h in absurd (cc)
 
 not_odd : (n : ℕ) (odd : Bool) (later : Option ℕ) → (if odd then Some n else later) ≡ None → later ≡ None
 not_odd n true later none = absurd (cc)
@@ -89,44 +81,30 @@ mutual
   rows_alike (more_of-Block s t end_of-Block) end_of-Block m n xs ys some1 some2 even1 even2 e = absurd (omega arith)
   rows_alike (more_of-Block s t (more_of-Block s' t' rest)) end_of-Block m n xs ys some1 some2 even1 even2 e = absurd (omega arith)
   rows_alike (more_of-Block s t end_of-Block) (more_of-Block z u end_of-Block) m n xs ys some1 some2 even1 even2 e =
-      let alike = block_alike s t z u marks.Done marks.Done (mark m ∷ xs) (mark n ∷ ys) (λ is. absurd (cc)) (λ is. absurd (cc)) (odd_first (outline_of s t) [] even1).0 (odd_first (outline_of z u) [] even2).0
+      let alike = block_alike s t z u marks.Done marks.Done (mark m ∷ xs) (mark n ∷ ys) (λ is. absurd (cc)) (λ is. absurd (cc)) (odd_parts (outline_of s t) [] even1).0 (odd_parts (outline_of z u) [] even2).0
       (sym (append_assoc (pieces_of s t) (mark marks.Done ∷ []) (mark m ∷ xs)) ∙ e ∙ append_assoc (pieces_of z u) (mark marks.Done ∷ []) (mark n ∷ ys)) in
       (rw alike.0 refl, behind _ _ _ _ alike.1)
   rows_alike (more_of-Block s t end_of-Block) (more_of-Block z u (more_of-Block z' u' rest)) m n xs ys some1 some2 even1 even2 e =
       let others = pieces_in (more_of-Block z' u' rest) in
       let alike = block_alike s t z u marks.Done marks.Or (mark m ∷ xs) (alternatives others ++ mark n ∷ ys) (λ is. absurd (cc)) (λ is. absurd (cc))
-      (odd_first (outline_of s t) [] even1).0 (odd_first (outline_of z u) (outlines_of (more_of-Block z' u' rest)) even2).0
+      (odd_parts (outline_of s t) [] even1).0 (odd_parts (outline_of z u) (outlines_of (more_of-Block z' u' rest)) even2).0
       (sym (append_assoc (pieces_of s t) (mark marks.Done ∷ []) (mark m ∷ xs)) ∙ e ∙ append_assoc (pieces_of z u) (mark marks.Or ∷ alternatives others) (mark n ∷ ys)) in
       absurd (apart marks.Done marks.Or _ _ (λ is. absurd (cc)) alike.1)
   rows_alike (more_of-Block s t (more_of-Block s' t' rest)) (more_of-Block z u end_of-Block) m n xs ys some1 some2 even1 even2 e =
       let others = pieces_in (more_of-Block s' t' rest) in
       let alike = block_alike s t z u marks.Or marks.Done (alternatives others ++ mark m ∷ xs) (mark n ∷ ys) (λ is. absurd (cc)) (λ is. absurd (cc))
-      (odd_first (outline_of s t) (outlines_of (more_of-Block s' t' rest)) even1).0 (odd_first (outline_of z u) [] even2).0
+      (odd_parts (outline_of s t) (outlines_of (more_of-Block s' t' rest)) even1).0 (odd_parts (outline_of z u) [] even2).0
       (sym (append_assoc (pieces_of s t) (mark marks.Or ∷ alternatives others) (mark m ∷ xs)) ∙ e ∙ append_assoc (pieces_of z u) (mark marks.Done ∷ []) (mark n ∷ ys)) in
       absurd (apart marks.Or marks.Done _ _ (λ is. absurd (cc)) alike.1)
   rows_alike (more_of-Block s t (more_of-Block s' t' rest)) (more_of-Block z u (more_of-Block z' u' left)) m n xs ys some1 some2 even1 even2 e =
       let others = pieces_in (more_of-Block s' t' rest) in
       let more = pieces_in (more_of-Block z' u' left) in
-      let first = odd_first (outline_of s t) (outlines_of (more_of-Block s' t' rest)) even1 in
-      let second = odd_first (outline_of z u) (outlines_of (more_of-Block z' u' left)) even2 in
+      let first = odd_parts (outline_of s t) (outlines_of (more_of-Block s' t' rest)) even1 in
+      let second = odd_parts (outline_of z u) (outlines_of (more_of-Block z' u' left)) even2 in
       let alike = block_alike s t z u marks.Or marks.Or (alternatives others ++ mark m ∷ xs) (alternatives more ++ mark n ∷ ys) (λ is. absurd (cc)) (λ is. absurd (cc)) first.0 second.0
       (sym (append_assoc (pieces_of s t) (mark marks.Or ∷ alternatives others) (mark m ∷ xs)) ∙ e ∙ append_assoc (pieces_of z u) (mark marks.Or ∷ alternatives more) (mark n ∷ ys)) in
       let rows = rows_alike (more_of-Block s' t' rest) (more_of-Block z' u' left) m n xs ys (omega arith) (omega arith) first.1 second.1 (behind _ _ _ _ alike.1) in
       (rw (alike.0, rows.0) refl, rows.1)
-
-even_by : (empty many deep : Bool) (k d : ℕ) (odd : Option ℕ) (next : Option TreeError)
-    → (if empty then Some Empty else (if many then Some (Steps k) else (if deep then Some (Nesting d) else refused_at Alternatives odd next))) ≡ None → odd ≡ None
-even_by true many deep k d odd next none = absurd (cc)
-even_by false true deep k d odd next none = absurd (cc)
-even_by false false true k d odd next none = absurd (cc)
-even_by false false false k d None next none = refl
-even_by false false false k d (Some n) next none = absurd (cc)
-
--- a tree within its limits has no odd choice
-even_tree : (root : Block) → tree_fault root ≡ None → (outline root).odd_choice ≡ None
-even_tree root none =
-    let o = outline root in
-    even_by o.has_empty (nat_lt 256 (length o.steps)) (nat_lt 16 o.nesting) (length o.steps) o.nesting o.odd_choice _ none
 
 no_more : (ps : List Named) → text_pieces ps ≡ [] → ps ≡ []
 no_more [] none = refl
@@ -138,7 +116,7 @@ read_as_one [] name root trees good e = absurd (cc)
 read_as_one (p ∷ ps) name root trees good e =
     let named : p.name ≡ name = cc in
     let rest : block_pieces p.tree ++ mark marks.End ∷ [] ++ text_pieces ps ≡ block_pieces root ++ mark marks.End ∷ [] = cc in
-    let alike = block_alike p.tree.steps p.tree.tail root.steps root.tail marks.End marks.End (text_pieces ps) [] (λ is. absurd (cc)) (λ is. absurd (cc)) (even_tree p.tree trees.0) (even_tree root good)
+    let alike = block_alike p.tree.steps p.tree.tail root.steps root.tail marks.End marks.End (text_pieces ps) [] (λ is. absurd (cc)) (λ is. absurd (cc)) (none_odd p.tree trees.0) (none_odd root good)
     (sym (append_assoc (block_pieces p.tree) (mark marks.End ∷ []) (text_pieces ps)) ∙ rest) in
     let none : text_pieces ps ≡ [] = behind _ _ _ _ alike.1 in
     (p, ap (λ qs. p ∷ qs) (no_more ps none), named, alike.0, same_outline p.tree root alike.0)
@@ -157,6 +135,6 @@ all_alike (p ∷ ps) [] trees good e = absurd (cc)
 all_alike (p ∷ ps) (q ∷ qs) trees good e =
     let named : p.name ≡ q.name = cc in
     let rest : (block_pieces p.tree ++ mark marks.End ∷ []) ++ text_pieces ps ≡ (block_pieces q.tree ++ mark marks.End ∷ []) ++ text_pieces qs = cc in
-    let alike = block_alike p.tree.steps p.tree.tail q.tree.steps q.tree.tail marks.End marks.End (text_pieces ps) (text_pieces qs) (λ is. absurd (cc)) (λ is. absurd (cc)) (even_tree p.tree trees.0) (even_tree q.tree good.0)
+    let alike = block_alike p.tree.steps p.tree.tail q.tree.steps q.tree.tail marks.End marks.End (text_pieces ps) (text_pieces qs) (λ is. absurd (cc)) (λ is. absurd (cc)) (none_odd p.tree trees.0) (none_odd q.tree good.0)
     (sym (append_assoc (block_pieces p.tree) (mark marks.End ∷ []) (text_pieces ps)) ∙ rest ∙ append_assoc (block_pieces q.tree) (mark marks.End ∷ []) (text_pieces qs)) in
     (named, alike.0, all_alike ps qs trees.1 good.1 (behind _ _ _ _ alike.1))

@@ -9,6 +9,11 @@ pub mod Passing
 pub mod Within
 pub mod BlocksPassing
 pub mod ProcessesPassing
+pub mod Fitting
+pub mod StepsFound
+pub mod WordsMean
+pub mod BlocksFound
+pub mod TextFound
 pub mod Unique
 pub mod Printed
 pub mod Lines

@@ -1,5 +1,5 @@
 -- That a text that can be read has no fault.
-use Rattle.std.proofs.Common.{◌≡◌, ◌≤◌, ◌<◌, ◌+◌, ℕ, List, [], ◌∷◌, ◌++◌, length, true, false, not, Some, None, refl, ap, arith, ◌∙◌, append_assoc, append-nil, length-append, Result, Ok, Err, IfErr, ◌⊎◌, inl, inr}
+use Rattle.std.proofs.Common.{◌≡◌, ◌≤◌, ◌<◌, ◌+◌, ℕ, List, [], ◌∷◌, ◌++◌, length, true, false, not, Some, None, refl, ap, arith, ◌∙◌, append_assoc, append-nil, length-append, Result, Ok, Err, IfOk, OnOk, IfErr, ◌⊎◌, inl, inr}
 use Rattle.std.specs.List.{list_any}
 use Rattle.std.proofs.lemmas.Bool.{and_parts, lt-ltb, not-true}
 use Rattle.process_tree.specs.Making.{same_text, tree_fault}
@@ -71,3 +71,8 @@ error_has_no_reading (Err e) bytes (inr fault) = inr (λ ps reading.
     let none = reading_has_no_fault (words_of bytes) ps reading in
     let other : text_error bytes ≡ None = rw none refl in
     absurd (cc))
+
+-- where processes are read, no error is told
+pub reading_has_no_error : {T : Type 0} (f : T → List Named) (r : Result T TextError) (bytes : List ℕ) → IfOk r (λ t. IsReading (words_of bytes) (f t)) → OnOk r (text_error bytes ≡ None)
+reading_has_no_error f (Ok t) bytes reading = rw (reading_has_no_fault (words_of bytes) (f t) reading) refl
+reading_has_no_error f (Err e) bytes reading = tt

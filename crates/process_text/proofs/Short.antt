@@ -1,8 +1,8 @@
 -- That a canonical text is short.
-use Rattle.std.proofs.Common.{◌≡◌, ◌≤◌, ◌<◌, ◌+◌, ◌*◌, ℕ, ℤ, pos, negsuc, List, [], ◌∷◌, ◌++◌, length, Bool, true, false, ◌||◌, nat_le, nat_eq, decimal, None, refl, ap, arith, ◌∙◌, length-append}
+use Rattle.std.proofs.Common.{◌≡◌, ◌≤◌, ◌<◌, ◌+◌, ◌*◌, ℕ, ℤ, pos, negsuc, List, [], ◌∷◌, ◌++◌, length, Bool, true, false, nat_le, nat_eq, decimal, None, refl, ap, arith, ◌∙◌, length-append}
 use Rattle.std.specs.List.{list_any, list_all}
 use Rattle.std.specs.Fmt.{signed_decimal}
-use Rattle.std.proofs.lemmas.Bool.{and_parts, leb-true, ltb-true, ltb-false}
+use Rattle.std.proofs.lemmas.Bool.{and_parts, leb-true, ltb-true, ltb-false, or_parts}
 use Rattle.std.proofs.lemmas.Grind.{flat_map-append}
 use Rattle.std.proofs.lemmas.Fmt.{length-decimal-le, length_signed_le}
 use Rattle.process_tree.specs.Name.{is_letter, is_name_byte, is_name}
@@ -127,10 +127,6 @@ good_split (process name ∷ ps) qs good = good_split ps qs good
 good_split (step s ∷ ps) qs good = let rest = good_split ps qs good.1 in ((good.0, rest.0), rest.1)
 good_split (mark m ∷ ps) qs good = good_split ps qs good
 
-or_false_parts : (a b : Bool) → (a || b) ≡ false → (a ≡ false) × (b ≡ false)
-or_false_parts true b e = absurd (cc)
-or_false_parts false b e = (refl, e)
-
 mutual
   -- a block has fewer than 138 for each of its steps
   block_size : (steps : List Step) (tail : Tail) → AreNamed (pieces_of steps tail) → AreGood (pieces_of steps tail) → (outline_of steps tail).has_empty ≡ false → (outline_of steps tail).odd_choice ≡ None
@@ -159,7 +155,7 @@ mutual
       let last = mark marks.Done ∷ [] in
       let n = named_split (pieces_of steps tail) last named in
       let g = good_split (pieces_of steps tail) last good in
-      let f = or_false_parts (outline_of steps tail).has_empty false full in
+      let f = or_parts (outline_of steps tail).has_empty false full in
       let o = odd_parts (outline_of steps tail) [] even in
       omega (arith, block_size steps tail n.0 g.0 f.0 o.0, size_both (pieces_of steps tail) last, length-append (outline_of steps tail).steps [])
   row_size (more_of-Block steps tail (more_of-Block steps2 tail2 rest)) named good full even some =
@@ -167,7 +163,7 @@ mutual
       let behind = mark marks.Or ∷ alternatives (pieces_in others) in
       let n = named_split (pieces_of steps tail) behind named in
       let g = good_split (pieces_of steps tail) behind good in
-      let f = or_false_parts (outline_of steps tail).has_empty (list_any (λ o. o.has_empty) (outlines_of others)) full in
+      let f = or_parts (outline_of steps tail).has_empty (list_any (λ o. o.has_empty) (outlines_of others)) full in
       let o = odd_parts (outline_of steps tail) (outlines_of others) even in
       omega (
         arith,

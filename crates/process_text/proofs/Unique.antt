@@ -95,7 +95,7 @@ settings_are (x ∷ xs) s t a b c first second es et =
     ((one.0, rest.0), rest.1)
 
 -- the step with these fields
-abbrev step_of : StepKind → List ℕ → List ℕ → ℕ → ℤ → ℕ → ℕ → ℕ → ℕ → Step
+abbrev pub step_of : StepKind → List ℕ → List ℕ → ℕ → ℤ → ℕ → ℕ → ℕ → ℕ → Step
 step_of kind name op key amount tries undo_tries refuse undo_refuse =
     record { kind = kind; name = name; op = op; key = key; amount = amount; tries = tries; undo_tries = undo_tries; refuse = refuse; undo_refuse = undo_refuse }
 

@@ -24,18 +24,20 @@ or_comm true false = refl
 or_comm false true = refl
 or_comm false false = refl
 
+-- a name in front is as good as one behind
+pub also_behind : (n : List ℕ) (back earlier : List (List ℕ)) → ((w : List ℕ) → list_any (same_text w) back ≡ list_any (same_text w) earlier)
+    → (w : List ℕ) → list_any (same_text w) (n ∷ back) ≡ list_any (same_text w) (earlier ++ n ∷ [])
+also_behind n back earlier same w =
+    ap (λ b. same_text w n || b) (same w)
+    ∙ sym (or_comm (list_any (same_text w) earlier) (same_text w n))
+    ∙ sym (list_any-append (same_text w) earlier (n ∷ []))
+
 -- names of which none is an earlier one's are new
 pub new_names : (n : ℕ) (back earlier : List (List ℕ)) (ss : List Step) → ((w : List ℕ) → list_any (same_text w) back ≡ list_any (same_text w) earlier)
     → first_same_name n back ss ≡ None → are_new earlier (step_names ss) ≡ true
 new_names n back earlier [] same none = refl
-new_names n back earlier (s ∷ ss) same none = by_test (list_any (same_text s.name) back) refl (λ e. new_names (n + 1) (s.name ∷ back) (earlier ++ s.name ∷ []) ss more (rest e))
+new_names n back earlier (s ∷ ss) same none = by_test (list_any (same_text s.name) back) refl (λ e. new_names (n + 1) (s.name ∷ back) (earlier ++ s.name ∷ []) ss (also_behind s.name back earlier same) (rest e))
   where
-    more : (w : List ℕ) → list_any (same_text w) (s.name ∷ back) ≡ list_any (same_text w) (earlier ++ s.name ∷ [])
-    more w =
-        ap (λ b. same_text w s.name || b) (same w)
-        ∙ sym (or_comm (list_any (same_text w) earlier) (same_text w s.name))
-        ∙ sym (list_any-append (same_text w) earlier (s.name ∷ []))
-
     rest : list_any (same_text s.name) back ≡ false → first_same_name (n + 1) (s.name ∷ back) ss ≡ None
     rest e = sym (ap (λ b. if b then Some n else first_same_name (n + 1) (s.name ∷ back) ss) e) ∙ none
 

@@ -10,14 +10,18 @@ use Rattle.process_text.specs.declared.marks.Next.TheVariants as next
 abbrev pub with_names : List (List ℕ) → List (List ℕ) → List ℕ → Before
 with_names names earlier choices = record { earlier = earlier; names = names; choices = choices }
 
+-- so many more choices may be open
+abbrev pub MayOpen : ℕ → List ℕ → Type 0
+MayOpen left choices = length choices + left ≡ 16
+
 -- what is told at a place is what is told behind a word
 abbrev pub LeadsTo : (left begun : ℕ) (names : List (List ℕ)) (before : List (List ℕ)) (names' : List (List ℕ)) (mark : Mark) (after : List (List ℕ)) → Type 0
 LeadsTo left begun names before names' mark after =
-    (earlier : List (List ℕ)) (choices : List ℕ) → length choices + left ≡ 16 → begun_in choices ≡ begun
+    (earlier : List (List ℕ)) (choices : List ℕ) → MayOpen left choices → begun_in choices ≡ begun
     → told_from (with_names names earlier choices) (in_block Begin) before ≡ told_behind (with_names names' earlier choices) (next.Mark mark) after
 
 -- a fault is told
 abbrev pub Fails : (left begun : ℕ) (names : List (List ℕ)) (before : List (List ℕ)) (fault : Fault) (after : List (List ℕ)) → Type 0
 Fails left begun names before fault after =
-    (earlier : List (List ℕ)) (choices : List ℕ) → length choices + left ≡ 16 → begun_in choices ≡ begun
+    (earlier : List (List ℕ)) (choices : List ℕ) → MayOpen left choices → begun_in choices ≡ begun
     → told_from (with_names names earlier choices) (in_block Begin) before ≡ told fault after

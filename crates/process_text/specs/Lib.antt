@@ -6,6 +6,7 @@ pub mod FirstFault
 pub mod Places
 pub mod Texts
 pub mod Leading
+pub mod Limits
 pub mod Canonical
 pub mod Examples
 pub mod Again

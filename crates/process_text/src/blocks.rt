@@ -4,7 +4,9 @@ ghost use Rattle.process_tree.specs.declared.step.Step.{Step};
 ghost use Rattle.process_text.specs.Marks.{mark_word, closes, ends_steps, meaning};
 ghost use Rattle.process_text.specs.Grammar.{IsStep, Writes, step_pieces, block_pieces, alternatives};
 ghost use Rattle.process_text.specs.FirstFault.{Before, told, told_from, told_behind, begun_in, in_block};
-ghost use Rattle.process_text.specs.Leading.{with_names, LeadsTo, Fails};
+ghost use Rattle.process_text.specs.Leading.{with_names, MayOpen, LeadsTo, Fails};
+ghost use Rattle.process_text.specs.Limits.{StepsFit, BlockFits, AlternativesFit};
+ghost use Rattle.process_tree.specs.Blocks.{outline};
 
 use crate::{
     At, Expected, Fault, Mark, Names, Next, What, Words, add_step, closing, expected_at, meaning,
@@ -21,6 +23,8 @@ fn read_steps<'a>(
 ) -> Result<(Vec<Step>, Mark), Fault>
     ensures written { IfOk result (λ r. Writes (step_pieces r.0.items) words.old (mark_word r.1 ∷ words.new)) }
     ensures ends { IfOk result (λ r. ends_steps begun r.1 ≡ true) }
+    ensures fits { IfOk result (λ r. StepsFit names.old r.0.items names.new) }
+    ensures some { IfOk result (λ r. (r.1 ≡ Mark.Choose) ⊎ (0 < length r.0.items)) }
     ensures leads { IfOk result (λ r. (left : ℕ) → LeadsTo left begun names.old words.old names.new r.1 words.new) }
     ensures err { IfErr result (λ e. (e ≡ Fault.NoMemory) ⊎ ((left : ℕ) → Fails left begun names.old words.old e words.new)) }
 {
@@ -67,6 +71,7 @@ pub fn read_block<'a>(
 ) -> Result<(Block, Mark), Fault>
     ensures written { IfOk result (λ r. Writes (block_pieces r.0) words.old (mark_word r.1 ∷ words.new)) }
     ensures closes { IfOk result (λ r. closes begun r.1 ≡ true) }
+    ensures fits { IfOk result (λ r. BlockFits left names.old (outline r.0) names.new) }
     ensures leads { IfOk result (λ r. LeadsTo left begun names.old words.old names.new r.1 words.new) }
     ensures err { IfErr result (λ e. (e ≡ Fault.NoMemory) ⊎ Fails left begun names.old words.old e words.new) }
 {
@@ -101,11 +106,13 @@ fn read_choice<'a>(
     left: usize,
 ) -> Result<Vec<Block>, Fault>
     ensures written { IfOk result (λ blocks. Writes (alternatives (map block_pieces blocks.items)) words.old words.new) }
-    ensures leads { OnOk result ((earlier : List (List ℕ)) (choices : List ℕ) → length choices + left ≡ 16
+    ensures fits { IfOk result (λ blocks. AlternativesFit left names.old (map outline blocks.items) names.new) }
+    ensures number { IfOk result (λ blocks. (2 ≤ length blocks.items) × (length blocks.items ≤ 8)) }
+    ensures leads { OnOk result ((earlier : List (List ℕ)) (choices : List ℕ) → MayOpen left choices
         → told_behind (with_names names.old earlier choices) (Next.Mark Mark.Choose) words.old
         ≡ told_from (with_names names.new earlier choices) (in_block At.BehindChoice) words.new) }
     ensures err { IfErr result (λ e. (e ≡ Fault.NoMemory)
-        ⊎ ((earlier : List (List ℕ)) (choices : List ℕ) → length choices + left ≡ 16
+        ⊎ ((earlier : List (List ℕ)) (choices : List ℕ) → MayOpen left choices
         → told_behind (with_names names.old earlier choices) (Next.Mark Mark.Choose) words.old ≡ told e words.new)) }
 {
     if left == 0 {

@@ -24,7 +24,7 @@ use blocks::read_block;
 pub use error::TextError;
 use fault::Fault;
 pub use fault::{Expected, What};
-pub use laws::readings_are_alike;
+pub use laws::{each_text_has_a_reading_or_a_fault, readings_are_alike};
 use marks::{At, Mark, Next, Setting, closing, expected_at, kind_of_word, meaning};
 use names::Names;
 use numbers::{amount, key, number};

@@ -10,7 +10,7 @@ ghost use Rattle.process_text.specs.FirstFault.{told, told_from, at_process_name
 ghost use Rattle.process_text.specs.Leading.{with_names};
 
 use crate::{At, Expected, Fault, Names, What, Words, is_word, name_of, read_block, same_name};
-use process_tree::{Block, MOST_NESTING, Name, Named, Tree, is_name};
+use process_tree::{Block, MOST_NESTING, Name, Named, Tree, TreeError, is_name};
 use std::alloc::Global;
 
 const MOST_PROCESSES: usize = 256;
@@ -46,6 +46,7 @@ fn read_process_name<'a>(
 // The root block of a process, up to `end`.
 fn read_root<'a>(alloc: Global, words: &mut Words<'a>) -> Result<Block, Fault>
     ensures written { IfOk result (λ root. Writes (block_pieces root) words.old (codes "end" ∷ words.new)) }
+    ensures good { IfOk result (λ root. tree_fault root ≡ None) }
     ensures leads { OnOk result ((earlier : List (List ℕ))
         → told_from (with_names [] earlier []) (in_block At.Begin) words.old
         ≡ told_from (with_names [] earlier []) between_processes words.new) }
@@ -57,15 +58,16 @@ fn read_root<'a>(alloc: Global, words: &mut Words<'a>) -> Result<Block, Fault>
     Ok(root)
 }
 
-// The tree of a block.
+// The tree of a block that is within the limits: memory alone can be wanting.
 fn tree_of(alloc: Global, root: Block) -> Result<Tree, Fault>
+    requires { tree_fault root ≡ None }
     ensures tree { IfOk result (λ tree. tree ≡ root) }
-    ensures good { OnOk result (tree_fault root ≡ None) }
     ensures memory { IfErr result (λ e. e ≡ Fault.NoMemory) }
 {
     match Tree::build(alloc, root) {
         Ok(tree) => Ok(tree),
-        Err(_) => Err(Fault::NoMemory),
+        Err(TreeError::NoMemory) => Err(Fault::NoMemory),
+        Err(_) => unreachable!(),
     }
 }
 

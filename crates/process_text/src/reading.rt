@@ -1,5 +1,5 @@
 // Reading a text.
-ghost use Rattle.std.specs.Prelude.{◌≡◌, ◌⊎◌, List, Some, IfOk, IfErr};
+ghost use Rattle.std.specs.Prelude.{◌≡◌, ◌⊎◌, List, Some, None, IfOk, IfErr, OnOk};
 ghost use Rattle.process_tree.specs.declared.tree.Named.{Named};
 ghost use Rattle.process_text.specs.Again.{IsAgain};
 ghost use Rattle.process_text.specs.Words.{words_of};
@@ -16,6 +16,8 @@ use std::alloc::Global;
 pub fn read(alloc: Global, bytes: &[u8]) -> Result<Vec<Named>, TextError>
     // At `Ok` the words are those of these processes, within the limits.
     ensures reading { IfOk result (λ found. IsReading (words_of bytes.now) found.items) }
+    // Then the text has no fault: one without a fault is read, but for want of memory.
+    ensures no_fault { OnOk result (text_error bytes.now ≡ None) }
     // An error is the first fault, with its place.
     ensures fault { IfErr result (λ e. (e ≡ TextError.NoMemory) ⊎ (text_error bytes.now ≡ Some e)) }
     // Then the words are of no processes within the limits.
@@ -25,7 +27,7 @@ pub fn read(alloc: Global, bytes: &[u8]) -> Result<Vec<Named>, TextError>
     read_text(alloc, bytes)
 }
 
-// The same without the last clause.
+// The same without what follows of it.
 fn read_text(alloc: Global, bytes: &[u8]) -> Result<Vec<Named>, TextError>
     ensures reading { IfOk result (λ found. IsReading (words_of bytes.now) found.items) }
     ensures fault { IfErr result (λ e. (e ≡ TextError.NoMemory) ⊎ (text_error bytes.now ≡ Some e)) }

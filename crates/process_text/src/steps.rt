@@ -1,8 +1,9 @@
 // Steps of a text.
-ghost use Rattle.std.specs.Prelude.{◌≡◌, ◌∷◌, ◌++◌, [], ◌⊎◌, ◌≤◌, ℕ, List, true, false, not, Some, IfOk, IfErr, IfSome, OnOk, is_some, decimal};
+ghost use Rattle.std.specs.Prelude.{◌≡◌, ◌∷◌, ◌++◌, [], ◌⊎◌, ◌≤◌, ◌<◌, ℕ, length, List, true, false, not, Some, IfOk, IfErr, IfSome, OnOk, is_some, decimal};
 ghost use Rattle.std.specs.Fmt.{signed_decimal};
+ghost use Rattle.std.specs.List.{list_any};
 ghost use Rattle.process_tree.specs.Name.{is_name};
-ghost use Rattle.process_tree.specs.Making.{is_amount, has_good_options};
+ghost use Rattle.process_tree.specs.Making.{same_text, is_amount, has_good_options};
 ghost use Rattle.process_tree.specs.declared.step.Step.{Step};
 ghost use Rattle.process_tree.specs.declared.step.StepKind.{StepKind};
 ghost use Rattle.process_text.specs.declared.marks.Setting.{Setting};
@@ -13,7 +14,7 @@ ghost use Rattle.process_text.specs.Leading.{with_names};
 
 use crate::{At, Expected, Fault, Names, Next, Setting, What, Words, amount, key, number};
 use process_tree::{
-    DEFAULT_TRIES, MOST_REFUSALS, MOST_STEPS, MOST_TRIES, Name, Step, StepKind, is_name,
+    DEFAULT_TRIES, MOST_REFUSALS, MOST_STEPS, MOST_TRIES, Name, NameError, Step, StepKind, is_name,
 };
 use std::alloc::Global;
 
@@ -25,7 +26,8 @@ pub fn name_of(alloc: Global, word: &[u8]) -> Result<Name, Fault>
 {
     match Name::new(alloc, word) {
         Ok(name) => Ok(name),
-        Err(_) => Err(Fault::NoMemory),
+        Err(NameError::NoMemory) => Err(Fault::NoMemory),
+        Err(NameError::BadName) => unreachable!(),
     }
 }
 
@@ -48,6 +50,7 @@ fn read_step_name<'a>(
 ) -> Result<Name, Fault>
     ensures word { IfOk result (λ name. words.old ≡ name ∷ words.new) }
     ensures name { IfOk result (λ name. is_name name ≡ true) }
+    ensures new { IfOk result (λ name. list_any (same_text name) names.old ≡ false) }
     ensures taken { IfOk result (λ name. names.new ≡ names.old ++ name ∷ []) }
     ensures leads { OnOk result ((earlier : List (List ℕ)) (choices : List ℕ) (k : StepKind)
         → told_from (with_names names.old earlier choices) (at_step_name k) words.old
@@ -276,6 +279,7 @@ fn read_step<'a>(
     names: &mut Names<'a>,
 ) -> Result<Step, Fault>
     ensures step { IfOk result (λ s. IsStep s (kind_word kind ∷ words.old) words.new) }
+    ensures new { IfOk result (λ s. list_any (same_text s.name) names.old ≡ false) }
     ensures taken { IfOk result (λ s. names.new ≡ names.old ++ s.name ∷ []) }
     ensures leads { OnOk result ((earlier : List (List ℕ)) (choices : List ℕ)
         → told_from (with_names names.old earlier choices) (at_step_name kind) words.old
@@ -308,8 +312,11 @@ pub fn add_step<'a>(
     names: &mut Names<'a>,
     steps: &mut Vec<Step>,
 ) -> Result<(), Fault>
+    ensures room { OnOk result (length names.old < 256) }
     ensures added { OnOk result ((s : Step) × (steps.new.items ≡ steps.old.items ++ s ∷ [])
-        × (names.new ≡ names.old ++ s.name ∷ []) × IsStep s (kind_word kind ∷ words.old) words.new) }
+        × (names.new ≡ names.old ++ s.name ∷ [])
+        × (list_any (same_text s.name) names.old ≡ false)
+        × IsStep s (kind_word kind ∷ words.old) words.new) }
     ensures leads { OnOk result ((earlier : List (List ℕ)) (choices : List ℕ)
         → told_behind (with_names names.old earlier choices) (Next.Step kind) words.old
         ≡ told_from (with_names names.new earlier choices) (in_block At.BehindStep) words.new) }

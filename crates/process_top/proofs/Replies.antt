@@ -24,9 +24,12 @@ use Rattle.process_top.specs.Journal.{IsRun, IsRefusedRun, life, IsAddProcess}
 use Rattle.process_top.specs.Story.{AreBegun}
 use Rattle.process_top.proofs.Stories.{adds_again}
 use Rattle.process_top.specs.Commands.{IsCheckAnswered, IsRunOf, IsNotRun, IsOnlyRun, IsOnlyRefused, IsRunAnswered, IsShowAnswered}
+use Rattle.program_words.specs.Commands.{asked}
+use Rattle.program_words.specs.declared.reading.Command.{Command}
+use Rattle.program_words.specs.declared.reading.Command.TheVariants as commands
 use Rattle.process_top.specs.Told.{Output, IsTold}
 use Rattle.process_top.specs.Verdict.{any_fault}
-use Rattle.process_top.specs.Reply.{IsCheckWord, IsRunWord, IsShowWord, most_input, Reply, checked, bad_words, unread, no_add_process, not_run, ran, shown, not_shown, status_of, text_of, Input, Files, AreUntouched, IsRead, IsUnread, IsBadRecord, IsNotShown, IsDue, IsAnswered, IsShowComplete, IsComplete}
+use Rattle.process_top.specs.Reply.{AsksCheck, AsksRun, AsksShow, most_input, Reply, checked, bad_words, no_words, unread, no_add_process, not_run, ran, shown, not_shown, status_of, text_of, Input, Files, AreUntouched, IsRead, IsUnread, IsBadRecord, IsNotShown, IsDue, IsAnswered, IsShowComplete, IsComplete}
 
 -- what is known of the text that was read is known of the input
 pub on_input : (left : Option (List ℕ)) (text : List ℕ) (P : List ℕ → Type 0) → IfSome left (λ given. text ≡ given) → length text ≤ most_input → P text
@@ -66,28 +69,31 @@ unread_on NotBegun text faults after ps why quiet within reading = absurd why
 unread_on CutOff text faults after ps why quiet within reading = absurd why
 unread_on NoMemory text faults after ps why quiet within reading = refl
 
-not_both : (words : List (List ℕ)) (w v : List ℕ) → ¬ (w ≡ v) → words ≡ w ∷ [] → words ≡ v ∷ [] → ⊥
-not_both words w v differ one two = let both : w ∷ [] ≡ v ∷ [] = sym one ∙ two in differ (cc)
+check_or_run : (words : List (List ℕ)) → AsksCheck words → AsksRun words → ⊥
+check_or_run words one two = let both : Some commands.Check ≡ Some commands.Run = sym one ∙ two in cc
 
-check_or_run : (words : List (List ℕ)) → IsCheckWord words → IsRunWord words → ⊥
-check_or_run words one two = not_both words (codes "check") (codes "run") (λ e. absurd (cc)) one two
+check_or_show : (words : List (List ℕ)) → AsksCheck words → AsksShow words → ⊥
+check_or_show words one two = let both : Some commands.Check ≡ Some commands.Show = sym one ∙ two in cc
 
-check_or_show : (words : List (List ℕ)) → IsCheckWord words → IsShowWord words → ⊥
-check_or_show words one two = not_both words (codes "check") (codes "show") (λ e. absurd (cc)) one two
+run_or_show : (words : List (List ℕ)) → AsksRun words → AsksShow words → ⊥
+run_or_show words one two = let both : Some commands.Run ≡ Some commands.Show = sym one ∙ two in cc
 
-run_or_show : (words : List (List ℕ)) → IsRunWord words → IsShowWord words → ⊥
-run_or_show words one two = not_both words (codes "run") (codes "show") (λ e. absurd (cc)) one two
+-- words that ask for nothing ask for no command
+asks_nothing : (words : List (List ℕ)) (c : Command) → asked words ≡ None → asked words ≡ Some c → ⊥
+asks_nothing words c none some = let both : None ≡ Some c = sym none ∙ some in cc
 
-neither : (words : List (List ℕ)) → IsCheckWord words ⊎ IsRunWord words → IsShowWord words → ⊥
+neither : (words : List (List ℕ)) → AsksCheck words ⊎ AsksRun words → AsksShow words → ⊥
 neither words (inl check) show = check_or_show words check show
 neither words (inr run) show = run_or_show words run show
 
 -- a check that is due and told completes
 check_done : (words : List (List ℕ)) (text : List ℕ) (faults : ℕ) (after : Input) (files files_after : Files) (output output_after : Output) (result : ℕ) (reply : Reply)
     → IsDue words (record { left = Some text; faults = faults }) after files files_after reply → IsTold (status_of reply) (text_of reply) output output_after result
-    → IsCheckWord words → ¬ Rose faults after.faults → ¬ Rose output.faults output_after.faults
+    → AsksCheck words → ¬ Rose faults after.faults → ¬ Rose output.faults output_after.faults
     → (ps : List Named) → length text ≤ most_input → IsReading (words_of text) ps → (result ≡ 0) ⊎ ((result ≡ 3) ⊎ (result ≡ 13))
-check_done words text faults after files files_after output output_after result bad_words due told is_check in_quiet out_quiet ps within reading = absurd (due.0 is_check)
+check_done words text faults after files files_after output output_after result bad_words due told is_check in_quiet out_quiet ps within reading = absurd (asks_nothing words _ due.0 is_check)
+check_done words text faults after files files_after output output_after result no_words due told is_check in_quiet out_quiet ps within reading =
+    inr (inr (told_well _ _ output output_after result told out_quiet))
 check_done words text faults after files files_after output output_after result (unread r) due told is_check in_quiet out_quiet ps within reading =
     inr (inr (told_well _ _ output output_after result told out_quiet ∙ unread_on r text faults after ps due.1 in_quiet within reading))
 check_done words text faults after files files_after output output_after result (checked qs vs) due told is_check in_quiet out_quiet ps within reading =
@@ -120,9 +126,11 @@ not_run_on NoMemory p before after faults faults_after why quiet told empty = re
 -- a run that is due and told completes
 run_done : (words : List (List ℕ)) (text : List ℕ) (faults : ℕ) (after : Input) (files files_after : Files) (output output_after : Output) (result : ℕ) (reply : Reply)
     → IsDue words (record { left = Some text; faults = faults }) after files files_after reply → IsTold (status_of reply) (text_of reply) output output_after result
-    → IsRunWord words → ¬ Rose faults after.faults → ¬ Rose output.faults output_after.faults → ¬ Rose files.faults files_after.faults
+    → AsksRun words → ¬ Rose faults after.faults → ¬ Rose output.faults output_after.faults → ¬ Rose files.faults files_after.faults
     → (p : Named) → length text ≤ most_input → IsReading (words_of text) (p ∷ []) → is_add_process p.tree ≡ true → Told files.disk → file_of files.disk.files 0 ≡ [] → (result ≡ 0) ⊎ (result ≡ 13)
-run_done words text faults after files files_after output output_after result bad_words due told is_run in_quiet out_quiet quiet p within reading adds tells empty = absurd (due.1 is_run)
+run_done words text faults after files files_after output output_after result bad_words due told is_run in_quiet out_quiet quiet p within reading adds tells empty = absurd (asks_nothing words _ due.0 is_run)
+run_done words text faults after files files_after output output_after result no_words due told is_run in_quiet out_quiet quiet p within reading adds tells empty =
+    inr (told_well _ _ output output_after result told out_quiet)
 run_done words text faults after files files_after output output_after result (unread r) due told is_run in_quiet out_quiet quiet p within reading adds tells empty =
     inr (told_well _ _ output output_after result told out_quiet ∙ unread_on r text faults after (p ∷ []) due.1 in_quiet within reading)
 run_done words text faults after files files_after output output_after result (checked qs vs) due told is_run in_quiet out_quiet quiet p within reading adds tells empty =
@@ -183,8 +191,10 @@ not_shown_on NoMemory files files_after p k why quiet adds within told log = ref
 -- a show that is due and told completes
 show_done : (words : List (List ℕ)) (input input_after : Input) (files files_after : Files) (output output_after : Output) (result : ℕ) (reply : Reply)
     → IsDue words input input_after files files_after reply → IsTold (status_of reply) (text_of reply) output output_after result
-    → IsShowWord words → ¬ Rose output.faults output_after.faults → ¬ Rose files.faults files_after.faults → IsShowComplete files.disk result
-show_done words input input_after files files_after output output_after result bad_words due told is_show out_quiet quiet p k adds within tells log = absurd (due.2 is_show)
+    → AsksShow words → ¬ Rose output.faults output_after.faults → ¬ Rose files.faults files_after.faults → IsShowComplete files.disk result
+show_done words input input_after files files_after output output_after result bad_words due told is_show out_quiet quiet p k adds within tells log = absurd (asks_nothing words _ due.0 is_show)
+show_done words input input_after files files_after output output_after result no_words due told is_show out_quiet quiet p k adds within tells log =
+    inr (told_well _ _ output output_after result told out_quiet)
 show_done words input input_after files files_after output output_after result (unread r) due told is_show out_quiet quiet p k adds within tells log = absurd (neither words due.0 is_show)
 show_done words input input_after files files_after output output_after result (checked ps vs) due told is_show out_quiet quiet p k adds within tells log = absurd (check_or_show words due.0 is_show)
 show_done words input input_after files files_after output output_after result (no_add_process ps) due told is_show out_quiet quiet p k adds within tells log = absurd (run_or_show words due.0 is_show)
@@ -211,11 +221,11 @@ answered_is_complete words (Some text) faults after files files_after output out
 }
 
 -- there was no memory for the line of a text's fault
-no_memory_answers : (words : List (List ℕ)) (input input_after : Input) (files files_after : Files) (output output_after : Output) (result : ℕ) → IsCheckWord words ⊎ IsRunWord words → AreUntouched files files_after
+no_memory_answers : (words : List (List ℕ)) (input input_after : Input) (files files_after : Files) (output output_after : Output) (result : ℕ) → AsksCheck words ⊎ AsksRun words → AreUntouched files files_after
     → IsTold 13 (codes "no memory\n") output output_after result → IsAnswered words input input_after files files_after output output_after result
 no_memory_answers words input input_after files files_after output output_after result is untouched told = (unread NoMemory, (is, tt, untouched), told)
 
-unread_answers : (words : List (List ℕ)) (input input_after : Input) (files files_after : Files) (output output_after : Output) (result : ℕ) (r : Refusal) → IsCheckWord words ⊎ IsRunWord words
+unread_answers : (words : List (List ℕ)) (input input_after : Input) (files files_after : Files) (output output_after : Output) (result : ℕ) (r : Refusal) → AsksCheck words ⊎ AsksRun words
     → IsUnread r input input_after → AreUntouched files files_after → IsRefusalTold r output output_after result
     → IsAnswered words input input_after files files_after output output_after result
 unread_answers words input input_after files files_after output output_after result r is why untouched (inl told) = (unread r, (is, why, untouched), told)
@@ -223,7 +233,7 @@ unread_answers words input input_after files files_after output output_after res
     no_memory_answers words input input_after files files_after output output_after result is untouched told.1
 
 -- what the check answers is an answer
-pub check_answers : (words : List (List ℕ)) (input input_after : Input) (files files_after : Files) (output output_after : Output) (result : ℕ) → IsCheckWord words → AreUntouched files files_after
+pub check_answers : (words : List (List ℕ)) (input input_after : Input) (files files_after : Files) (output output_after : Output) (result : ℕ) → AsksCheck words → AreUntouched files files_after
     → IsCheckAnswered input input_after output output_after result → IsAnswered words input input_after files files_after output output_after result
 check_answers words input input_after files files_after output output_after result is untouched (inl found) =
     let said = found.2 in
@@ -250,7 +260,7 @@ no_memory_needed NotBegun p before after faults faults_after why needs = absurd 
 no_memory_needed CutOff p before after faults faults_after why needs = absurd (cc)
 no_memory_needed NoMemory p before after faults faults_after why needs = absurd (cc)
 
-not_run_answers : (words : List (List ℕ)) (input input_after : Input) (files files_after : Files) (output output_after : Output) (result : ℕ) (r : Refusal) → IsRunWord words
+not_run_answers : (words : List (List ℕ)) (input input_after : Input) (files files_after : Files) (output output_after : Output) (result : ℕ) (r : Refusal) → AsksRun words
     → IsNotRun r input input_after files files_after → IsRefusalTold r output output_after result → IsAnswered words input input_after files files_after output output_after result
 not_run_answers words input input_after files files_after output output_after result r is (inl why) told =
     unread_answers words input input_after files files_after output output_after result r (inr is) why.0 why.1 told
@@ -264,7 +274,7 @@ not_run_answers words input input_after files files_after output output_after re
     absurd (no_memory_needed r why.0 files.disk files_after.disk files.faults files_after.faults why.3 told.0)
 
 -- what the run answers is an answer
-pub run_answers : (words : List (List ℕ)) (input input_after : Input) (files files_after : Files) (output output_after : Output) (result : ℕ) → IsRunWord words
+pub run_answers : (words : List (List ℕ)) (input input_after : Input) (files files_after : Files) (output output_after : Output) (result : ℕ) → AsksRun words
     → IsRunAnswered input input_after files files_after output output_after result → IsAnswered words input input_after files files_after output output_after result
 run_answers words input input_after files files_after output output_after result is (inl found) =
     let said = found.1 in
@@ -273,7 +283,7 @@ run_answers words input input_after files files_after output output_after result
     not_run_answers words input input_after files files_after output output_after result refused.0 is refused.1 refused.2
 
 -- what the show answers is an answer
-pub show_answers : (words : List (List ℕ)) (input input_after : Input) (files files_after : Files) (output output_after : Output) (result : ℕ) → IsShowWord words → AreUntouched files files_after
+pub show_answers : (words : List (List ℕ)) (input input_after : Input) (files files_after : Files) (output output_after : Output) (result : ℕ) → AsksShow words → AreUntouched files files_after
     → IsShowAnswered files files_after output output_after result → IsAnswered words input input_after files files_after output output_after result
 show_answers words input input_after files files_after output output_after result is untouched (inl found) =
     let said = found.1 in
@@ -284,15 +294,15 @@ show_answers words input input_after files files_after output output_after resul
     by_memory (inl told) = (not_shown refused.0, (is, refused.1, untouched), told)
     by_memory (inr told) = (not_shown NoMemory, (is, tt, untouched), told.1)
 
--- words that are no command
-pub other_answers : (words : List (List ℕ)) (input input_after : Input) (files files_after : Files) (output output_after : Output) (result : ℕ) (check run show : Bool)
-    → check ≡ false → run ≡ false → show ≡ false → IsTrue check ↔ IsCheckWord words → IsTrue run ↔ IsRunWord words → IsTrue show ↔ IsShowWord words → AreUntouched files files_after
+-- words that ask for nothing
+pub bad_words_answer : (words : List (List ℕ)) (input input_after : Input) (files files_after : Files) (output output_after : Output) (result : ℕ) → asked words ≡ None → AreUntouched files files_after
     → IsTold 1 (codes "bad words\n") output output_after result → IsAnswered words input input_after files files_after output output_after result
-other_answers words input input_after files files_after output output_after result check run show no_check no_run no_show is_check is_run is_show untouched told =
-    (bad_words, (isnt check (IsCheckWord words) no_check is_check, isnt run (IsRunWord words) no_run is_run, isnt show (IsShowWord words) no_show is_show, untouched), told)
-  where
-    isnt : (b : Bool) (P : Type 0) → b ≡ false → IsTrue b ↔ P → ¬ P
-    isnt b P false_is both p = let true_is : b ≡ true = both.1 p in absurd (cc)
+bad_words_answer words input input_after files files_after output output_after result none untouched told = (bad_words, (none, untouched), told)
+
+-- words for which memory was wanting
+pub no_words_answer : (words : List (List ℕ)) (input input_after : Input) (files files_after : Files) (output output_after : Output) (result : ℕ) → AreUntouched files files_after
+    → IsTold 13 (codes "no memory\n") output output_after result → IsAnswered words input input_after files files_after output output_after result
+no_words_answer words input input_after files files_after output output_after result untouched told = (no_words, untouched, told)
 
 -- the only process was run, or why it was not
 pub only_ran : (ps : List Named) (p : Named) (before after : Disk) (r : Result (Vec ℕ Global) Refusal) → ps ≡ p ∷ [] → IfOk r (λ lines. IsAddProcess p)

@@ -1,7 +1,10 @@
 -- What the program answers on a list of words, an input and a rack.
-use Rattle.std.specs.Prelude.{◌≡◌, ◌≤◌, ◌<◌, ◌⊎◌, ℕ, List, [], ◌∷◌, length, take, codes, true, Option, Some, IfSome, Ok, Err, if◌then◌else◌, ⊤}
+use Rattle.std.specs.Prelude.{◌≡◌, ◌≤◌, ◌<◌, ◌⊎◌, ℕ, List, [], ◌∷◌, length, take, codes, true, false, Bool, Option, Some, None, IfSome, Ok, Err, if◌then◌else◌, ⊤}
 use Rattle.std.specs.List.{concat}
+use Rattle.std.specs.Str.{bytes_eq}
 use Rattle.std.specs.Io.KnownBytes.{IsAtEnd}
+use Rattle.program_words.specs.Commands.{asked}
+use Rattle.program_words.specs.declared.reading.Command.TheVariants as commands
 use Rattle.process_flow.specs.Causes.{Rose}
 use Rattle.process_disk.specs.Disk.{Disk, Told, file_of}
 use Rattle.process_disk.specs.Images.{EachImage, AllAsBefore}
@@ -23,15 +26,20 @@ use Rattle.process_top.specs.Life.{is_add_process, lines_of}
 use Rattle.process_top.specs.Journal.{IsRun, IsRefusedRun, life, IsAddProcess}
 use Rattle.process_top.specs.Story.{IsOddAt}
 
--- the words are the one word `check`, or `run`, or `show`
-abbrev pub IsCheckWord : List (List ℕ) → Type 0
-IsCheckWord words = words ≡ codes "check" ∷ []
+-- the words ask for a check, or a run, or a show
+abbrev pub AsksCheck : List (List ℕ) → Type 0
+AsksCheck words = asked words ≡ Some commands.Check
 
-abbrev pub IsRunWord : List (List ℕ) → Type 0
-IsRunWord words = words ≡ codes "run" ∷ []
+abbrev pub AsksRun : List (List ℕ) → Type 0
+AsksRun words = asked words ≡ Some commands.Run
 
-abbrev pub IsShowWord : List (List ℕ) → Type 0
-IsShowWord words = words ≡ codes "show" ∷ []
+abbrev pub AsksShow : List (List ℕ) → Type 0
+AsksShow words = asked words ≡ Some commands.Show
+
+-- the first word is `show`
+abbrev pub first_is_show : List (List ℕ) → Bool
+first_is_show [] = false
+first_is_show (word ∷ words) = bytes_eq word (codes "show")
 
 -- the greatest size of an input, in bytes
 abbrev pub most_input : ℕ
@@ -94,6 +102,8 @@ IsNotShown r before after = ⊥
 -- what there is to say
 pub data Reply : Type 0 where
   bad_words : Reply
+  -- memory was wanting for the words
+  no_words : Reply
   -- a text was not read
   unread : Refusal → Reply
   -- the verdicts on these processes
@@ -111,6 +121,7 @@ pub data Reply : Type 0 where
 
 abbrev pub status_of : Reply → ℕ
 status_of bad_words = 1
+status_of no_words = 13
 status_of (unread r) = refusal_status r
 status_of (checked ps verdicts) = if any_fault verdicts then 3 else 0
 status_of (no_add_process ps) = 2
@@ -121,6 +132,7 @@ status_of (not_shown r) = refusal_status r
 
 abbrev pub text_of : Reply → List ℕ
 text_of bad_words = codes "bad words\n"
+text_of no_words = codes "no memory\n"
 text_of (unread r) = refusal_text r
 text_of (checked ps verdicts) = verdict_lines ps verdicts
 text_of (no_add_process ps) = codes "not yet\n"
@@ -132,16 +144,17 @@ text_of (not_shown r) = refusal_text r
 -- when each reply is due, on these words, over a source and a rack that were so before and are so after
 abbrev pub IsDue : List (List ℕ) → Input → Input → Files → Files → Reply → Type 0
 IsDue words input input_after files files_after bad_words =
-    (¬ IsCheckWord words) × (¬ IsRunWord words) × (¬ IsShowWord words) × AreUntouched files files_after
-IsDue words input input_after files files_after (unread r) = (IsCheckWord words ⊎ IsRunWord words) × IsUnread r input input_after × AreUntouched files files_after
-IsDue words input input_after files files_after (checked ps verdicts) = IsCheckWord words × IsRead input input_after ps × AreVerdicts ps verdicts × AreUntouched files files_after
-IsDue words input input_after files files_after (no_add_process ps) = IsRunWord words × IsRead input input_after ps × (¬ IsOneAddProcess ps) × AreUntouched files files_after
+    (asked words ≡ None) × AreUntouched files files_after
+IsDue words input input_after files files_after no_words = AreUntouched files files_after
+IsDue words input input_after files files_after (unread r) = (AsksCheck words ⊎ AsksRun words) × IsUnread r input input_after × AreUntouched files files_after
+IsDue words input input_after files files_after (checked ps verdicts) = AsksCheck words × IsRead input input_after ps × AreVerdicts ps verdicts × AreUntouched files files_after
+IsDue words input input_after files files_after (no_add_process ps) = AsksRun words × IsRead input input_after ps × (¬ IsOneAddProcess ps) × AreUntouched files files_after
 IsDue words input input_after files files_after (not_run p r) =
-    IsRunWord words × IsRead input input_after (p ∷ []) × IsOneAddProcess (p ∷ []) × IsRefusedRun r p files.disk files_after.disk files.faults files_after.faults
+    AsksRun words × IsRead input input_after (p ∷ []) × IsOneAddProcess (p ∷ []) × IsRefusedRun r p files.disk files_after.disk files.faults files_after.faults
 IsDue words input input_after files files_after (ran p) =
-    IsRunWord words × IsRead input input_after (p ∷ []) × IsAddProcess p × (Told files.disk → IsRun p files.disk files_after.disk)
-IsDue words input input_after files files_after (shown p n) = IsShowWord words × IsShown p n files files_after × AreUntouched files files_after
-IsDue words input input_after files files_after (not_shown r) = IsShowWord words × IsNotShown r files files_after × AreUntouched files files_after
+    AsksRun words × IsRead input input_after (p ∷ []) × IsAddProcess p × (Told files.disk → IsRun p files.disk files_after.disk)
+IsDue words input input_after files files_after (shown p n) = AsksShow words × IsShown p n files files_after × AreUntouched files files_after
+IsDue words input input_after files files_after (not_shown r) = AsksShow words × IsNotShown r files files_after × AreUntouched files files_after
 
 -- the status of an answer: some reply was due, and it was told
 abbrev pub IsAnswered : List (List ℕ) → Input → Input → Files → Files → Output → Output → ℕ → Type 0
@@ -166,6 +179,6 @@ IsShowComplete disk result =
 
 -- with no fault of the source, the sink and the rack, a command has the status of what it is for, or of want of memory
 pub record IsComplete (words : List (List ℕ)) (input input_after : Input) (files files_after : Files) (output output_after : Output) (result : ℕ) : Type 0 where
-  pub check : IsCheckWord words → ¬ Rose input.faults input_after.faults → ¬ Rose output.faults output_after.faults → IsCheckComplete input result
-  pub run : IsRunWord words → ¬ Rose input.faults input_after.faults → ¬ Rose output.faults output_after.faults → ¬ Rose files.faults files_after.faults → IsRunComplete input files.disk result
-  pub show : IsShowWord words → ¬ Rose output.faults output_after.faults → ¬ Rose files.faults files_after.faults → IsShowComplete files.disk result
+  pub check : AsksCheck words → ¬ Rose input.faults input_after.faults → ¬ Rose output.faults output_after.faults → IsCheckComplete input result
+  pub run : AsksRun words → ¬ Rose input.faults input_after.faults → ¬ Rose output.faults output_after.faults → ¬ Rose files.faults files_after.faults → IsRunComplete input files.disk result
+  pub show : AsksShow words → ¬ Rose output.faults output_after.faults → ¬ Rose files.faults files_after.faults → IsShowComplete files.disk result

@@ -1,18 +1,27 @@
 // Answers to lists of words.
-ghost use Rattle.std.specs.Prelude.{◌≤◌, ◌≡◌, ◌⊎◌, map, string_bytes, true};
+ghost use Rattle.std.specs.Prelude.{◌≤◌, ◌≡◌, ◌⊎◌, ◌↔◌, IsTrue, map, string_bytes, true};
 ghost use Rattle.process_disk.specs.Disk.{Told};
 ghost use Rattle.process_disk.specs.Images.{OthersAsBefore};
 ghost use Rattle.process_top.specs.Refused.{is_before_files};
-ghost use Rattle.process_top.specs.Reply.{IsCheckWord, IsRunWord, IsShowWord, IsAnswered, IsComplete};
+ghost use Rattle.process_top.specs.Reply.{AsksCheck, AsksRun, AsksShow, first_is_show, IsAnswered, IsComplete};
 
-use crate::commands::{check, is_only, run};
+use crate::commands::{check, run};
 use crate::show::show;
 use crate::tell::tell;
 use process_disk::Rack;
 use process_flow::{Sink, Source};
+use program_words::{Command, WordsError, read_words};
 use std::alloc::Global;
-use std::sync::Wait;
-use std::thread::Threads;
+
+/// Whether a list of words can only read files: its first word is `show`.
+pub fn only_reads(words: &[String]) -> bool
+    ensures { result ≡ first_is_show (map string_bytes words.now) }
+{
+    match words {
+        [first, ..] => first.as_str() == "show",
+        _ => false,
+    }
+}
 
 /// The status of an answer, and the rack after it.
 pub struct Finished<R> {
@@ -36,20 +45,18 @@ fn reply<S: Source, K: Sink, R: Rack>(
         (record { taken = K.taken sink.old; faults = K.faults sink.old })
         (record { taken = K.taken sink.new; faults = K.faults sink.new }) result }
     ensures others { Told (R.disk rack.old) → OthersAsBefore 0 (R.disk rack.old) (R.disk rack.new) }
-    ensures untouched { (IsRunWord (map string_bytes words.now)) ⊎ (IsShowWord (map string_bytes words.now)) ⊎ (rack.new ≡ rack.old) }
-    ensures unread { (IsCheckWord (map string_bytes words.now)) ⊎ (IsRunWord (map string_bytes words.now)) ⊎ (source.new ≡ source.old) }
+    ensures untouched { (AsksRun (map string_bytes words.now)) ⊎ (AsksShow (map string_bytes words.now)) ⊎ (rack.new ≡ rack.old) }
+    ensures unread { (AsksCheck (map string_bytes words.now)) ⊎ (AsksRun (map string_bytes words.now)) ⊎ (source.new ≡ source.old) }
     ensures tells { (R.disk rack.new).tells ≡ (R.disk rack.old).tells }
     ensures later { R.faults rack.old ≤ R.faults rack.new }
     ensures early { is_before_files result ≡ true → rack.new ≡ rack.old }
 {
-    if is_only(words, "check") {
-        check(alloc, source, sink)
-    } else if is_only(words, "run") {
-        run(alloc, source, sink, rack)
-    } else if is_only(words, "show") {
-        show(alloc, sink, rack)
-    } else {
-        tell(sink, b"bad words\n", 1)
+    match read_words(alloc, words) {
+        Ok(Command::Check) => check(alloc, source, sink),
+        Ok(Command::Run) => run(alloc, source, sink, rack),
+        Ok(Command::Show) => show(alloc, sink, rack),
+        Err(WordsError::BadWords) => tell(sink, b"bad words\n", 1),
+        Err(WordsError::NoMemory) => tell(sink, b"no memory\n", 13),
     }
 }
 
@@ -80,10 +87,10 @@ pub fn answer<S: Source, K: Sink, R: Rack>(
         (record { taken = K.taken sink.new; faults = K.faults sink.new }) result.status }
     // The files but file 0 stay as they are, and stand together in each crash image as a crash at the start may leave them.
     ensures others { Told (R.disk rack) → OthersAsBefore 0 (R.disk rack) (R.disk result.rack) }
-    // But for `run` and `show` the rack is left as it is.
-    ensures untouched { (IsRunWord (map string_bytes words.now)) ⊎ (IsShowWord (map string_bytes words.now)) ⊎ (result.rack ≡ rack) }
-    // But for `check` and `run` the source is left as it is.
-    ensures unread { (IsCheckWord (map string_bytes words.now)) ⊎ (IsRunWord (map string_bytes words.now)) ⊎ (source.new ≡ source.old) }
+    // But for a run and a show the rack is left as it is.
+    ensures untouched { (AsksRun (map string_bytes words.now)) ⊎ (AsksShow (map string_bytes words.now)) ⊎ (result.rack ≡ rack) }
+    // But for a check and a run the source is left as it is.
+    ensures unread { (AsksCheck (map string_bytes words.now)) ⊎ (AsksRun (map string_bytes words.now)) ⊎ (source.new ≡ source.old) }
     // The rack tells as before, and its count of faults didn't fall.
     ensures tells { (R.disk result.rack).tells ≡ (R.disk rack).tells }
     ensures later { R.faults rack ≤ R.faults result.rack }
@@ -96,7 +103,7 @@ pub fn answer<S: Source, K: Sink, R: Rack>(
 }
 
 /// Answers a list of words, as `answer` does.
-pub fn top<H: Threads + Wait + Sync, S: Source, K: Sink, R: Rack>(
+pub fn top<H, S: Source, K: Sink, R: Rack>(
     _rt: &H,
     alloc: Global,
     words: &[String],
@@ -119,8 +126,8 @@ pub fn top<H: Threads + Wait + Sync, S: Source, K: Sink, R: Rack>(
         (record { taken = K.taken sink.old; faults = K.faults sink.old })
         (record { taken = K.taken sink.new; faults = K.faults sink.new }) result.status }
     ensures others { Told (R.disk rack) → OthersAsBefore 0 (R.disk rack) (R.disk result.rack) }
-    ensures untouched { (IsRunWord (map string_bytes words.now)) ⊎ (IsShowWord (map string_bytes words.now)) ⊎ (result.rack ≡ rack) }
-    ensures unread { (IsCheckWord (map string_bytes words.now)) ⊎ (IsRunWord (map string_bytes words.now)) ⊎ (source.new ≡ source.old) }
+    ensures untouched { (AsksRun (map string_bytes words.now)) ⊎ (AsksShow (map string_bytes words.now)) ⊎ (result.rack ≡ rack) }
+    ensures unread { (AsksCheck (map string_bytes words.now)) ⊎ (AsksRun (map string_bytes words.now)) ⊎ (source.new ≡ source.old) }
     ensures tells { (R.disk result.rack).tells ≡ (R.disk rack).tells }
     ensures later { R.faults rack ≤ R.faults result.rack }
     ensures early { is_before_files result.status ≡ true → result.rack ≡ rack }

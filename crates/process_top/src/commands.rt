@@ -19,22 +19,6 @@ use std::alloc::Global;
 
 const MOST_INPUT: u32 = 1048576;
 
-fn is_the_word(word: &str, wanted: &str) -> bool
-    ensures { IsTrue result ↔ (word.now ≡ wanted.now) }
-{
-    word == wanted
-}
-
-/// Whether the words are this one alone.
-pub fn is_only(words: &[String], wanted: &str) -> bool
-    ensures { IsTrue result ↔ (map string_bytes words.now ≡ wanted.now ∷ []) }
-{
-    match words {
-        [word] => is_the_word(word.as_str(), wanted),
-        _ => false,
-    }
-}
-
 // The whole text of the source.
 fn text_of<S: Source>(alloc: Global, source: &mut S) -> Result<Vec<u8>, Refusal>
     ensures text { IfOk result (λ text. IsWholeText

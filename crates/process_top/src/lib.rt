@@ -12,4 +12,4 @@ mod story;
 mod tell;
 mod verdicts;
 
-pub use answers::{Finished, answer, top};
+pub use answers::{Finished, answer, only_reads, top};

@@ -1,4 +1,5 @@
 -- The steps of ways next to each other are an interval.
+use Rattle.plain_list.proofs.Lasts.{last_cases}
 use Rattle.std.proofs.Common.{◌≡◌, ◌⊎◌, inl, inr, ⊎_elim, subst, ℕ, ◌<◌, ◌≤◌, true, List, [], ◌∷◌, ◌++◌, length, refl, sym, ap, ◌∙◌, arith}
 use Rattle.process_tree.specs.Order.{IsRising, PartsBelow, has, IsLaidOut}
 use Rattle.process_tree.specs.Shape.{Shape, branch_to}
@@ -56,15 +57,6 @@ part_low (u ∷ v) (y ∷ p) (z ∷ q) d f x rise pq bp bq on le =
     (has_cases x y p on))
     (λ below. let lt : y < z = below.0 in let a : u ≡ y = bp.0 in let b : u ≡ z = bq.0 in absurd (omega arith))
     pq
-
--- a list is empty, or has a last
-snoc_view : (v : List ℕ) → (v ≡ []) ⊎ ((w : List ℕ) × (d : ℕ) × (v ≡ w ++ d ∷ []))
-snoc_view [] = inl refl
-snoc_view (x ∷ v) =
-    ⊎_elim
-    (λ none. inr ([], x, ap (λ w. x ∷ w) none))
-    (λ more. inr (x ∷ more.0, more.1, ap (λ w. x ∷ w) more.2))
-    (snoc_view v)
 
 -- the steps of the ways from d to e behind v
 pub between_ways : (t : Shape) (v : List ℕ) (d e first b last : ℕ) → IsLaidOut (length t.kinds) t.paths → OnSomePath first t.paths → OnSomePath b t.paths → OnSomePath last t.paths
@@ -140,7 +132,7 @@ between_ways t v d e first b last laid on_p on_q on_r way_p way_r le ge =
         (subst (λ w. Begins w (branch_to t last ++ last ∷ [])) more.2 (shorter v e (branch_to t last ++ last ∷ []) (begins_from (v ++ e ∷ []) (branch_to t last ++ last ∷ []) way_r))) in
         let way = in_between t more.0 more.1 first b last laid on_p on_q on_r in_first in_last le ge in
         subst (λ w. Begins w here) (sym more.2) (begins_from (more.0 ++ more.1 ∷ []) here way))
-        (snoc_view v)
+        (last_cases v)
 
     -- and not its last
     not_v : here ≡ v → ⊥

@@ -1,41 +1,25 @@
 -- A step determines the branch to it.
-use Rattle.std.proofs.Common.{◌≡◌, ◌⊎◌, inl, inr, ⊎_elim, subst, ℕ, ◌<◌, Bool, true, false, ◌||◌, List, [], ◌∷◌, refl, sym, ap, ◌∙◌, arith, nat_eq, if◌then◌else◌}
-use Rattle.std.proofs.lemmas.Bool.Decides.{eqb_tells}
+use Rattle.std.proofs.Math.Bool.{or-true}
+use Rattle.std.proofs.lemmas.Bool.{eq-eqb, ne_eqb, cases_eq, cases_Bool}
+use Rattle.std.proofs.Common.{◌≡◌, ◌⊎◌, inl, inr, ⊎_elim, subst, ℕ, ◌<◌, true, false, ◌||◌, List, [], ◌∷◌, refl, sym, ap, ◌∙◌, arith, nat_eq, if◌then◌else◌}
 use Rattle.process_tree.specs.Order.{Each, IsRising, PartsBelow, AreInOrder, has}
 use Rattle.process_tree.specs.Shape.{Shape, path_through, steps_before, branch_to}
-
-pub eq_true : (a b : ℕ) → a ≡ b → nat_eq a b ≡ true
-eq_true a b e = ⊎_elim (λ t. t.0) (λ f. absurd (f.1 e)) (eqb_tells a b)
-
-pub eq_false : (a b : ℕ) → (a ≡ b → ⊥) → nat_eq a b ≡ false
-eq_false a b n = ⊎_elim (λ t. absurd (n t.1)) (λ f. f.0) (eqb_tells a b)
-
-pub same_or_not : (a b : ℕ) → (a ≡ b) ⊎ (a ≡ b → ⊥)
-same_or_not a b = ⊎_elim (λ t. inl t.1) (λ f. inr f.1) (eqb_tells a b)
-
-pub is_or_not : (b : Bool) → (b ≡ true) ⊎ (b ≡ false)
-is_or_not true = inl refl
-is_or_not false = inr refl
 
 -- b is the first step, or one behind it
 pub has_cases : (b x : ℕ) (p : List ℕ) → has b (x ∷ p) ≡ true → (b ≡ x) ⊎ ((b ≡ x → ⊥) × (has b p ≡ true))
 has_cases b x p h =
-    ⊎_elim (λ e. inl e) (λ n. inr (n, sym (ap (λ t. t || has b p) (eq_false b x n)) ∙ h)) (same_or_not b x)
+    ⊎_elim (λ e. inl e) (λ n. inr (n, sym (ap (λ t. t || has b p) (ne_eqb b x n)) ∙ h)) (cases_eq b x)
 
 pub has_here : (b x : ℕ) (p : List ℕ) → b ≡ x → has b (x ∷ p) ≡ true
-has_here b x p e = ap (λ t. t || has b p) (eq_true b x e)
+has_here b x p e = ap (λ t. t || has b p) (eq-eqb b x e)
 
 pub has_there : (b x : ℕ) (p : List ℕ) → has b p ≡ true → has b (x ∷ p) ≡ true
-has_there b x p h = ap (λ t. nat_eq b x || t) h ∙ or_true (nat_eq b x)
-  where
-    or_true : (a : Bool) → (a || true) ≡ true
-    or_true true = refl
-    or_true false = refl
+has_there b x p h = ap (λ t. nat_eq b x || t) h ∙ or-true (nat_eq b x)
 
 has_not_here : (b x : ℕ) (p : List ℕ) → has b (x ∷ p) ≡ false → (b ≡ x → ⊥) × (has b p ≡ false)
 has_not_here b x p h = (
   λ e. let t = has_here b x p e in cc,
-  ⊎_elim (λ t. let u = has_there b x p t in absurd (cc)) (λ f. f) (is_or_not (has b p)),
+  ⊎_elim (λ t. let u = has_there b x p t in absurd (cc)) (λ f. f) (cases_Bool (has b p)),
 )
 
 -- what each step of the path has, b has
@@ -58,10 +42,10 @@ Each-among P [] p h on = absurd on
 Each-among P (q ∷ qs) p h on = ⊎_elim (λ e. subst P (sym e) h.0) (λ rest. Each-among P qs p h.1 rest) on
 
 pub before_here : (b x : ℕ) (p : List ℕ) → b ≡ x → steps_before b (x ∷ p) ≡ []
-before_here b x p e = ap (λ t. if t then [] else x ∷ steps_before b p) (eq_true x b (sym e))
+before_here b x p e = ap (λ t. if t then [] else x ∷ steps_before b p) (eq-eqb x b (sym e))
 
 pub before_there : (b x : ℕ) (p : List ℕ) → (b ≡ x → ⊥) → steps_before b (x ∷ p) ≡ x ∷ steps_before b p
-before_there b x p n = ap (λ t. if t then [] else x ∷ steps_before b p) (eq_false x b (λ e. n (sym e)))
+before_there b x p n = ap (λ t. if t then [] else x ∷ steps_before b p) (ne_eqb x b (λ e. n (sym e)))
 
 -- of two paths that part, a step on both has one branch
 same_before : (b : ℕ) (p q : List ℕ) → PartsBelow p q → IsRising q → has b p ≡ true → has b q ≡ true → steps_before b p ≡ steps_before b q
@@ -110,7 +94,7 @@ path_through-has b (q ∷ qs) p inp on =
     let e : path_through b (q ∷ qs) ≡ path_through b qs = ap (λ t. if t then q else path_through b qs) not_here in
     let rest = ⊎_elim (λ f. absurd (let g = ap (has b) f in cc)) (λ later. path_through-has b qs p later on) inp in
     (inr (subst (λ z. Among z qs) (sym e) rest.0), ap (has b) e ∙ rest.1))
-    (is_or_not (has b q))
+    (cases_Bool (has b q))
 
 -- the branch to b is what stands before it on any path that has it
 pub branch_is : (t : Shape) (b : ℕ) (p : List ℕ) → AreInOrder t.paths → Each IsRising t.paths → Among p t.paths → has b p ≡ true → branch_to t b ≡ steps_before b p

@@ -1,4 +1,5 @@
 -- The classes of next steps in a well-formed process.
+use Rattle.std.proofs.lemmas.Bool.{eq-eqb, ne_eqb, cases_eq, cases_Bool}
 use Rattle.std.proofs.Common.{◌≡◌, ⊎_elim, ℕ, ◌+◌, Bool, true, false, List, [], ◌∷◌, ◌++◌, length, take, Some, None, refl, sym, ap, ◌∙◌, arith, append-nil, length-append, length-take, nat_eq, if◌then◌else◌}
 use Rattle.std.proofs.lemmas.List.{drop_all}
 use Rattle.std.specs.List.{list_any}
@@ -12,7 +13,7 @@ use Rattle.process_tree.specs.Play.{ended, answered, go_on, go_back, end_of, fal
 use Rattle.process_tree.specs.Recovery.{forward, last_after, class_of, class_by_kind, reserved, committing, undoable}
 use Rattle.process_tree.specs.Termination.{IsWellFormed}
 use Rattle.process_tree.specs.Laws.{HasClass}
-use Rattle.process_tree.proofs.Branches.{eq_true, eq_false, same_or_not, is_or_not, Each-of}
+use Rattle.process_tree.proofs.Branches.{Each-of}
 use Rattle.process_tree.proofs.Kept.{fixed_le}
 use Rattle.process_tree.proofs.Onward.{branch_from}
 use Rattle.process_tree.proofs.LastPath.{on_last, no_way_on, greatest_of}
@@ -33,9 +34,9 @@ retriable_commits k e = ap commits e
 owed_after : (t : Shape) (w : List ℕ) (b : ℕ) → has b (forward t w) ≡ true → (fixed_len t w ≡ 0 → ⊥) × (has b (last_after t (take (fixed_len t w) w)) ≡ true)
 owed_after t w b on =
     ⊎_elim
-    (λ none. let e = sym (ap (λ c. has b (if c then [] else last_after t (take (fixed_len t w) w))) (eq_true (fixed_len t w) 0 none)) ∙ on in absurd (cc))
-    (λ some. (some, sym (ap (λ c. has b (if c then [] else last_after t (take (fixed_len t w) w))) (eq_false (fixed_len t w) 0 some)) ∙ on))
-    (same_or_not (fixed_len t w) 0)
+    (λ none. let e = sym (ap (λ c. has b (if c then [] else last_after t (take (fixed_len t w) w))) (eq-eqb (fixed_len t w) 0 none)) ∙ on in absurd (cc))
+    (λ some. (some, sym (ap (λ c. has b (if c then [] else last_after t (take (fixed_len t w) w))) (ne_eqb (fixed_len t w) 0 some)) ∙ on))
+    (cases_eq (fixed_len t w) 0)
 
 -- as many steps are fixed as stand up to the last commit point
 length-kept : (t : Shape) (w : List ℕ) → length (take (fixed_len t w) w) ≡ fixed_len t w
@@ -50,7 +51,7 @@ stuck_if_refused t u b laid well on fixed none tried =
     stand_more t (go_on t []) come.0 Refused
     ∙ ap (λ s. answered t s Refused) (come.1 ∙ asks_there t u b tried)
     ∙ ap (go_back t u b) none
-    ∙ ap (λ c. ended (if c then played.Nothing else played.Stuck b)) (eq_false (fixed_len t u) 0 fixed)))
+    ∙ ap (λ c. ended (if c then played.Nothing else played.Stuck b)) (ne_eqb (fixed_len t u) 0 fixed)))
 
 -- all that is owed is retriable
 pub owed_retriable : (t : Shape) → IsLaidOut (length t.kinds) t.paths → IsWellFormed t → (w : List ℕ) (b : ℕ) → has b (forward t w) ≡ true → kind_of t b ≡ R
@@ -66,7 +67,7 @@ owed_retriable t laid well w b on =
     ⊎_elim
     (λ tried. absurd (stuck_if_refused t (v ++ l.part) b laid well l.on (λ z. owed.0 (omega arith)) none tried))
     (λ never. never_refused (kind_of t b) never)
-    (is_or_not (can_be_refused (kind_of t b)))
+    (cases_Bool (can_be_refused (kind_of t b)))
 
 -- where the next step is owed, all is fixed
 pub owed_all_fixed : (t : Shape) → IsLaidOut (length t.kinds) t.paths → IsWellFormed t → (w : List ℕ) (d : ℕ) → goes_on_to t w d ≡ true → has d (forward t w) ≡ true → fixed_len t w ≡ length w
@@ -80,7 +81,7 @@ owed_all_fixed t laid well w d on owed =
     by_part l.part same each
   where
     is_owed : (c : ℕ) → has c (last_after t (take (fixed_len t w) w)) ≡ true → (fixed_len t w ≡ 0 → ⊥) → has c (forward t w) ≡ true
-    is_owed c h some = ap (λ b. has c (if b then [] else last_after t (take (fixed_len t w) w))) (eq_false (fixed_len t w) 0 some) ∙ h
+    is_owed c h some = ap (λ b. has c (if b then [] else last_after t (take (fixed_len t w) w))) (ne_eqb (fixed_len t w) 0 some) ∙ h
 
     by_part : (part : List ℕ) → w ≡ take (fixed_len t w) w ++ part → Each (λ b. commits (kind_of t b) ≡ true) part → fixed_len t w ≡ length w
     by_part [] same each =
@@ -110,7 +111,7 @@ owed_shrinks t laid well w d on owed =
     here ∙ last_step t (length t.kinds) w d laid.rising laid.within next ∙ ap (λ xs. d ∷ xs) (sym (forward_is (w ++ d ∷ []) (λ z. omega arith) kept'))
   where
     forward_is : (u : List ℕ) → (fixed_len t u ≡ 0 → ⊥) → take (fixed_len t u) u ≡ u → forward t u ≡ last_after t u
-    forward_is u some kept = ap (λ c. if c then [] else last_after t (take (fixed_len t u) u)) (eq_false (fixed_len t u) 0 some) ∙ ap (last_after t) kept
+    forward_is u some kept = ap (λ c. if c then [] else last_after t (take (fixed_len t u) u)) (ne_eqb (fixed_len t u) 0 some) ∙ ap (last_after t) kept
 
     first_owed : forward t w ≡ last_after t w → greatest (next_steps t w) ≡ Some d
     first_owed here =

@@ -20,19 +20,19 @@ pub record IsCovered (o : Outline) : Type 0 where
   pub one : Among path o.paths
   pub each : (b : ℕ) → b < length o.steps → OnSomePath b o.paths
 
-among_map : (f : List ℕ → List ℕ) (p : List ℕ) (ps : List (List ℕ)) → Among p ps → Among (f p) (map f ps)
+pub among_map : (f : List ℕ → List ℕ) (p : List ℕ) (ps : List (List ℕ)) → Among p ps → Among (f p) (map f ps)
 among_map f p [] inp = absurd inp
 among_map f p (q ∷ qs) inp = ⊎_elim (λ e. inl (ap f e)) (λ later. inr (among_map f p qs later)) inp
 
-among_left : (p : List ℕ) (ps qs : List (List ℕ)) → Among p ps → Among p (ps ++ qs)
+pub among_left : (p : List ℕ) (ps qs : List (List ℕ)) → Among p ps → Among p (ps ++ qs)
 among_left p [] qs inp = absurd inp
 among_left p (r ∷ ps) qs inp = ⊎_elim (λ e. inl e) (λ later. inr (among_left p ps qs later)) inp
 
-among_right : (p : List ℕ) (ps qs : List (List ℕ)) → Among p qs → Among p (ps ++ qs)
+pub among_right : (p : List ℕ) (ps qs : List (List ℕ)) → Among p qs → Among p (ps ++ qs)
 among_right p [] qs inq = inq
 among_right p (r ∷ ps) qs inq = inr (among_right p ps qs inq)
 
-has_moved : (m k : ℕ) (p : List ℕ) → has k p ≡ true → has (m + k) (map (λ j. m + j) p) ≡ true
+pub has_moved : (m k : ℕ) (p : List ℕ) → has k p ≡ true → has (m + k) (map (λ j. m + j) p) ≡ true
 has_moved m k [] on = on
 has_moved m k (x ∷ p) on =
     ⊎_elim
@@ -86,12 +86,12 @@ end_covered steps = record {
 }
 
 -- the first odd choice of several, if none of them has one
-none_first : (a b : Option ℕ) → earlier a b ≡ None → (a ≡ None) × (b ≡ None)
+pub none_first : (a b : Option ℕ) → earlier a b ≡ None → (a ≡ None) × (b ≡ None)
 none_first None b e = (refl, e)
 none_first (Some n) b e = absurd (cc)
 
 -- no choice here is odd
-not_odd : (os : List Outline) → (outline_at_choice [] os).odd_choice ≡ None → (nat_lt (length os) 2 ≡ false) × (first_odd os ≡ None)
+pub not_odd : (os : List Outline) → (outline_at_choice [] os).odd_choice ≡ None → (nat_lt (length os) 2 ≡ false) × (first_odd os ≡ None)
 not_odd os e = by_test (nat_lt (length os) 2) (nat_lt 8 (length os)) refl refl
   where
     by_test : (a b : Bool) → nat_lt (length os) 2 ≡ a → nat_lt 8 (length os) ≡ b → (nat_lt (length os) 2 ≡ false) × (first_odd os ≡ None)
@@ -111,7 +111,7 @@ mutual
   tail_covered steps End e = end_covered steps
   tail_covered steps (Choice' shape row) e = by_alternatives steps (outlines_of row) e (row_covered row (not_odd (outlines_of row) e).1)
 
-  row_covered : {m : _} (row : Row_of-Block m) → first_odd (outlines_of row) ≡ None → Each IsCovered (outlines_of row)
+  pub row_covered : {m : _} (row : Row_of-Block m) → first_odd (outlines_of row) ≡ None → Each IsCovered (outlines_of row)
   row_covered end_of-Block e = tt
   row_covered (more_of-Block steps tail rest) e =
       let both = none_first (outline_of steps tail).odd_choice (first_odd (outlines_of rest)) e in

@@ -1,4 +1,5 @@
 -- Where a refused step of a tree falls back to.
+use Rattle.std.proofs.lemmas.Bool.{eq-eqb, ne_eqb}
 use Rattle.std.proofs.Common.{◌≡◌, ℕ, ◌≤◌, true, List, [], ◌∷◌, length, Option, Some, None, sym, ap, ◌∙◌, arith, if◌then◌else◌}
 use Rattle.std.specs.Option.{IfSome}
 use Rattle.std.specs.List.{filter_map}
@@ -10,7 +11,6 @@ use Rattle.process_tree.specs.Order.{Each, has}
 use Rattle.process_tree.specs.Paths.{way_from, kept_len}
 use Rattle.process_tree.specs.Shape.{shape_of, branch_to, path_through, steps_before, fixed_len, last_commit, least}
 use Rattle.process_tree.specs.Play.{fallback_of, fallback_by, fallback_place, kept_for}
-use Rattle.process_tree.proofs.Branches.{eq_true, eq_false}
 use Rattle.process_tree.proofs.Onward.{branch_from}
 use Rattle.process_tree.proofs.Kept.{fallback_is, fixed_le, kept_is, last_commit_on, branch_below, branch_rises, branch_within, rising_short, kept_goes_on}
 use Rattle.process_tree.proofs.Trees.{tree_laid_out, few_steps}
@@ -75,7 +75,7 @@ falls_to_nothing root n commit branch kept way l none free =
     let w = branch_to t n in
     let falls = sym (way_falls root n commit branch kept way l) ∙ none in
     let zero : fixed_len t w ≡ 0 = sym (kept_fixed root n commit branch kept way l) ∙ l.kept_is ∙ ap (kept_len branch) free in
-    sym (ap (fallback_by t w) falls ∙ ap (λ b. if b then fallback.All else fallback.Stuck) (eq_true (fixed_len t w) 0 zero))
+    sym (ap (fallback_by t w) falls ∙ ap (λ b. if b then fallback.All else fallback.Stuck) (eq-eqb (fixed_len t w) 0 zero))
 
 -- there is none, and a commit point stands
 pub falls_nowhere : (root : Block) (n c : ℕ) (commit : Option ℕ) (branch : List ℕ) (kept : ℕ) (way : Option ℕ) → Looked root n commit branch kept way → way ≡ None → commit ≡ Some c → fallback.Stuck ≡ fallback_place (shape_of root) n
@@ -84,7 +84,7 @@ falls_nowhere root n c commit branch kept way l none fixed =
     let w = branch_to t n in
     let falls = sym (way_falls root n commit branch kept way l) ∙ none in
     let some : fixed_len t w ≡ kept_len branch (Some c) = sym (kept_fixed root n commit branch kept way l) ∙ l.kept_is ∙ ap (kept_len branch) fixed in
-    sym (ap (fallback_by t w) falls ∙ ap (λ b. if b then fallback.All else fallback.Stuck) (eq_false (fixed_len t w) 0 (λ e. omega arith)))
+    sym (ap (fallback_by t w) falls ∙ ap (λ b. if b then fallback.All else fallback.Stuck) (ne_eqb (fixed_len t w) 0 (λ e. omega arith)))
 
 -- a branch is short
 pub branch_short : (root : Block) (n : ℕ) → tree_fault root ≡ None → length (branch_to (shape_of root) n) ≤ 256

@@ -12,7 +12,7 @@ fixed_from-append t (x ∷ v) w i last =
     fixed_from-append t v w (i + 1) next ∙ ap (λ n. fixed_from t w n (fixed_from t v (i + 1) next)) e
 
 -- no fewer are fixed than before
-fixed_from-ge : (t : Shape) (w : List ℕ) (i last : ℕ) → last ≤ i → last ≤ fixed_from t w i last
+pub fixed_from-ge : (t : Shape) (w : List ℕ) (i last : ℕ) → last ≤ i → last ≤ fixed_from t w i last
 fixed_from-ge t [] i last le = omega arith
 fixed_from-ge t (x ∷ w) i last le = by_kind (commits (kind_of t x)) (λ last le. fixed_from-ge t w (i + 1) last le)
   where
@@ -20,7 +20,8 @@ fixed_from-ge t (x ∷ w) i last le = by_kind (commits (kind_of t x)) (λ last l
     by_kind true below = omega (arith, below (i + 1) (omega arith))
     by_kind false below = below last (omega arith)
 
-fixed_from-le : (t : Shape) (w : List ℕ) (i last : ℕ) → last ≤ i → fixed_from t w i last ≤ i + length w
+-- and no more than there are
+pub fixed_from-le : (t : Shape) (w : List ℕ) (i last : ℕ) → last ≤ i → fixed_from t w i last ≤ i + length w
 fixed_from-le t [] i last le = omega arith
 fixed_from-le t (x ∷ w) i last le = by_kind (commits (kind_of t x)) (λ last le. fixed_from-le t w (i + 1) last le)
   where

@@ -1,5 +1,6 @@
 -- Forms of choices between blocks that stand in a vector, and what blocks of equal forms say.
-use Rattle.std.proofs.Common.{◌≡◌, ℕ, ◌+◌, ◌<◌, List, [], ◌∷◌, ◌++◌, length, get_or, take, map, refl, sym, ap, ◌∙◌}
+use Rattle.process_tree.specs.Making.{tree_fault, outline_fault}
+use Rattle.std.proofs.Common.{◌≡◌, ℕ, ◌+◌, ◌<◌, List, [], ◌∷◌, ◌++◌, length, get_or, take, map, refl, sym, ap, ◌∙◌, None}
 use Rattle.std.proofs.lemmas.List.{take_more, map-append}
 use Rattle.std.specs.declared.vec.Vec.{Vec}
 use Rattle.std.specs.declared.alloc.Global.{Global}
@@ -50,3 +51,7 @@ mutual
 -- blocks of equal forms say the same
 pub same_outline : (a b : Block) → form_of a ≡ form_of b → outline a ≡ outline b
 same_outline a b e = by_form a.steps a.tail ∙ ap outline_by e ∙ sym (by_form b.steps b.tail)
+
+-- and the same is refused of them
+pub same_fault : (a b : Block) → form_of a ≡ form_of b → tree_fault b ≡ None → tree_fault a ≡ None
+same_fault a b e none = ap outline_fault (same_outline a b e) ∙ none

@@ -1,4 +1,5 @@
 -- Play goes back from a refused step.
+use Rattle.std.proofs.lemmas.Bool.{cases_Bool}
 use Rattle.std.proofs.Common.{◌≡◌, ⊎_elim, subst, ℕ, ◌+◌, ◌-◌, ◌<◌, zero, suc, Bool, true, List, [], ◌∷◌, length, map, take, find, cond, unwrap_or, Option, Some, None, Result, Ok, Err, refl, sym, ap, ◌∙◌, nat_eq, if◌then◌else◌}
 use Rattle.std.specs.Result.{IfOk}
 use Rattle.std.specs.declared.alloc.AllocError.{AllocError}
@@ -13,7 +14,6 @@ use Rattle.process_tree.specs.Making.{tree_fault}
 use Rattle.process_tree.specs.Order.{Each}
 use Rattle.process_tree.specs.Shape.{Shape, shape_of, goes_on_to, branch_to, fixed_len, last_commit, last_of}
 use Rattle.process_tree.specs.Play.{Stand, ended, arrive, go_back, fallback_of, fallback_by, fallback_place, kept_for}
-use Rattle.process_tree.proofs.Branches.{is_or_not}
 use Rattle.process_tree.proofs.Onward.{branch_from}
 use Rattle.process_tree.proofs.Kept.{branch_within, kept_goes_on}
 use Rattle.process_tree.proofs.Trees.{tree_laid_out}
@@ -47,7 +47,7 @@ kept_take test w (k ∷ ks) =
     ⊎_elim
     (λ yes'. let e = ap (λ t. unwrap_or (cond t (Some (take k w)) (find test (map (λ k. take k w) ks))) []) yes' in ap (λ v. take (length v) w) e ∙ take_take k w ∙ sym e)
     (λ no'. let e = ap (λ t. unwrap_or (cond t (Some (take k w)) (find test (map (λ k. take k w) ks))) []) no' in ap (λ v. take (length v) w) e ∙ kept_take test w ks ∙ sym e)
-    (is_or_not (test (take k w)))
+    (cases_Bool (test (take k w)))
 
 -- what the answer of a fallback says
 pub record FallsTo (t : Shape) (w : List ℕ) (b keep d : ℕ) : Type 0 where
@@ -71,7 +71,7 @@ falls_alternative root w b keep d answer good on is alternative =
         ⊎_elim
         (λ t'. let g : fallback.Alternative keep d ≡ fallback.All = e ∙ ap (λ b. if b then fallback.All else fallback.Stuck) t' in absurd (cc))
         (λ f'. let g : fallback.Alternative keep d ≡ fallback.Stuck = e ∙ ap (λ b. if b then fallback.All else fallback.Stuck) f' in absurd (cc))
-        (is_or_not (nat_eq (fixed_len t w) 0))
+        (cases_Bool (nat_eq (fixed_len t w) 0))
     by_way (Some x) f =
         let e : fallback.Alternative keep d ≡ fallback.Alternative (length (kept_for t w x)) x = sym alternative ∙ is ∙ place ∙ ap (fallback_by t w) f in
         let same : d ≡ x = cc in
@@ -108,7 +108,7 @@ all_undone root w b answer good on is all = by_way (fallback_of t w b) refl
         ⊎_elim
         (λ t'. sym (ap (go_back t w b) f ∙ ap (λ c. ended (if c then played.Nothing else played.Stuck b)) t'))
         (λ f'. let g : fallback.All ≡ fallback.Stuck = e ∙ ap (λ b. if b then fallback.All else fallback.Stuck) f' in absurd (cc))
-        (is_or_not (nat_eq (fixed_len t w) 0))
+        (cases_Bool (nat_eq (fixed_len t w) 0))
     by_way (Some x) f =
         let e : fallback.All ≡ fallback.Alternative (length (kept_for t w x)) x = sym all ∙ is ∙ place ∙ ap (fallback_by t w) f in
         absurd (cc)
@@ -129,7 +129,7 @@ stuck_there root w b answer good on is stuck = by_way (fallback_of t w b) refl
         ⊎_elim
         (λ t'. let g : fallback.Stuck ≡ fallback.All = e ∙ ap (λ b. if b then fallback.All else fallback.Stuck) t' in absurd (cc))
         (λ f'. sym (ap (go_back t w b) f ∙ ap (λ c. ended (if c then played.Nothing else played.Stuck b)) f'))
-        (is_or_not (nat_eq (fixed_len t w) 0))
+        (cases_Bool (nat_eq (fixed_len t w) 0))
     by_way (Some x) f =
         let e : fallback.Stuck ≡ fallback.Alternative (length (kept_for t w x)) x = sym stuck ∙ is ∙ place ∙ ap (fallback_by t w) f in
         absurd (cc)

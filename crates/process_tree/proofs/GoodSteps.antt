@@ -1,5 +1,6 @@
 -- Loops over steps: the first bad one, and the first with the name of an earlier one.
-use Rattle.std.proofs.Common.{◌≡◌, ℕ, ◌+◌, ◌<◌, Bool, true, false, ◌||◌, List, [], ◌∷◌, ◌++◌, length, map, take, drop, drop-cons, reverse, get_or, add-one, Option, Some, ap, ◌∙◌, sym, refl, if◌then◌else◌}
+use Rattle.std.proofs.Math.Bool.{or-false, or_comm}
+use Rattle.std.proofs.Common.{◌≡◌, ℕ, ◌+◌, ◌<◌, true, false, ◌||◌, List, [], ◌∷◌, ◌++◌, length, map, take, drop, drop-cons, reverse, get_or, add-one, Option, Some, ap, ◌∙◌, sym, refl, if◌then◌else◌}
 use Rattle.std.proofs.lemmas.List.{take_more, reverse-append, map-append}
 use Rattle.std.proofs.lemmas.List.Folds.{list_any-append}
 use Rattle.std.specs.List.{list_any}
@@ -33,16 +34,6 @@ bad_here rs n r w lt is bad inv =
 abbrev pub names_back : List (Bor Step) → List (List ℕ)
 names_back rs = reverse (map (λ s. s.now.name) rs)
 
-or_comm : (a b : Bool) → (a || b) ≡ (b || a)
-or_comm true true = refl
-or_comm true false = refl
-or_comm false true = refl
-or_comm false false = refl
-
-or_false : (a : Bool) → (a || false) ≡ a
-or_false true = refl
-or_false false = refl
-
 -- whether one of them is this name doesn't depend on the order
 any_back : (name : List ℕ) (rs : List (Bor Step)) → list_any (same_text name) (names_back rs) ≡ list_any (λ s. same_text name s.now.name) rs
 any_back name [] = refl
@@ -51,7 +42,7 @@ any_back name (r ∷ rs) =
     ap (list_any (same_text name)) (reverse-append (r.now.name ∷ []) names)
     ∙ list_any-append (same_text name) (reverse names) (r.now.name ∷ [])
     ∙ ap (λ b. b || (same_text name r.now.name || false)) (any_back name rs)
-    ∙ ap (λ b. list_any (λ s. same_text name s.now.name) rs || b) (or_false (same_text name r.now.name))
+    ∙ ap (λ b. list_any (λ s. same_text name s.now.name) rs || b) (or-false (same_text name r.now.name))
     ∙ or_comm (list_any (λ s. same_text name s.now.name) rs) (same_text name r.now.name)
 
 -- one name more

@@ -24,7 +24,7 @@ goes_within t c v d within on =
     Each-has (λ b. b < c) along.0 d (Each-among (Each (λ b. b < c)) t.paths along.0 within along.1) (onward_has v along.0 d along.2)
 
 -- what holds of each holds of the last
-Each-last : (P : ℕ → Type 0) (w : List ℕ) (d : ℕ) → Each P (w ++ d ∷ []) → P d
+pub Each-last : (P : ℕ → Type 0) (w : List ℕ) (d : ℕ) → Each P (w ++ d ∷ []) → P d
 Each-last P [] d h = h.0
 Each-last P (x ∷ w) d h = Each-last P w d h.1
 

@@ -72,7 +72,7 @@ begins_low (x ∷ v) (y ∷ w) [] d b rise on in_way = absurd on
 begins_low (x ∷ v) (y ∷ w) (z ∷ p) d b rise on in_way = begins_low v w p d b rise.1 on.1 in_way.1
 
 -- a later step of the path is in the way
-later_in_way : (v p : List ℕ) (d c : ℕ) → IsRising p → Begins (v ++ d ∷ []) p → has c p ≡ true → d ≤ c → Begins (v ++ d ∷ []) (steps_before c p ++ c ∷ [])
+pub later_in_way : (v p : List ℕ) (d c : ℕ) → IsRising p → Begins (v ++ d ∷ []) p → has c p ≡ true → d ≤ c → Begins (v ++ d ∷ []) (steps_before c p ++ c ∷ [])
 later_in_way [] [] d c rise b on le = absurd b
 later_in_way [] (y ∷ p) d c rise b on le =
     ⊎_elim

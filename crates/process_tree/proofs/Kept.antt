@@ -1,14 +1,15 @@
 -- What is kept at a fallback, and the way on from it.
+use Rattle.process_tree.proofs.Fixed.{fixed_from-le}
 use Rattle.std.proofs.Common.{◌≡◌, inl, inr, ⊎_elim, subst, ℕ, ◌+◌, ◌-◌, ◌<◌, ◌≤◌, zero, suc, Bool, true, false, List, [], ◌∷◌, length, map, take, filter, find, flat_map, cond, unwrap_or, Option, Some, None, refl, sym, ap, ◌∙◌, arith, nat_eq, nat_lt, if◌then◌else◌}
-use Rattle.std.proofs.lemmas.Bool.{ltb-true, ltb-false, lt-ltb}
+use Rattle.std.proofs.lemmas.Bool.{ltb-true, ltb-false, lt-ltb, eq-eqb, ne_eqb, cases_eq, cases_Bool}
 use Rattle.std.specs.List.{filter_map, slice_get}
 use Rattle.process_tree.specs.Blocks.{numbers_from}
 use Rattle.process_tree.specs.Order.{Each, IsRising, has}
 use Rattle.process_tree.specs.Paths.{shared, if_later, way_from, kept_len}
-use Rattle.process_tree.specs.Shape.{Shape, next_steps, goes_on_to, path_through, steps_before, branch_to, fixed_len, fixed_from, last_commit, last_of, kind_of, commits, least}
+use Rattle.process_tree.specs.Shape.{Shape, next_steps, goes_on_to, path_through, steps_before, branch_to, fixed_len, last_commit, last_of, least}
 use Rattle.process_tree.specs.Play.{kept_prefixes, fallback_of, kept_for}
 use Rattle.process_tree.proofs.Every.{Each-weaker}
-use Rattle.process_tree.proofs.Branches.{eq_true, eq_false, same_or_not, is_or_not, has_cases, has_here, has_there, Each-has, Among, Each-among, before_here, before_there}
+use Rattle.process_tree.proofs.Branches.{has_cases, has_here, has_there, Each-has, Among, Each-among, before_here, before_there}
 use Rattle.process_tree.proofs.Numbers.{numbers_has, numbers_between, in_flat, to_flat, in_filter, to_filter, least_is, least_same}
 use Rattle.process_tree.proofs.Onward.{onward, onward_both, onward_above, onward_self, given, gives, next_is, goes_along}
 
@@ -19,14 +20,14 @@ leaves zero [] (y ∷ p) d le above e = (refl, e)
 leaves zero (x ∷ w) [] d le above e = absurd (cc)
 leaves zero (x ∷ w) (y ∷ p) d le above e =
     let same : y ≡ d = (let f : Some y ≡ Some d = e in cc) in
-    let apart : shared (x ∷ w) (y ∷ p) ≡ 0 = ap (λ t. if t then shared w p + 1 else 0) (eq_false x y (λ f. let lt : x < d = above.0 in omega arith)) in
+    let apart : shared (x ∷ w) (y ∷ p) ≡ 0 = ap (λ t. if t then shared w p + 1 else 0) (ne_eqb x y (λ f. let lt : x < d = above.0 in omega arith)) in
     (apart, ap (slice_get (y ∷ p)) apart ∙ ap Some same)
 leaves (suc k) [] p d le above e = absurd (omega arith)
 leaves (suc k) (x ∷ w) [] d le above e = absurd (cc)
 leaves (suc k) (x ∷ w) (y ∷ p) d le above e =
     let both = onward_both x y d (take k w) p e in
     let rest = leaves k w p d (omega arith) above.1 both.1 in
-    let one : shared (x ∷ w) (y ∷ p) ≡ suc (shared w p) = ap (λ t. if t then shared w p + 1 else 0) (eq_true x y both.0) ∙ (omega arith) in
+    let one : shared (x ∷ w) (y ∷ p) ≡ suc (shared w p) = ap (λ t. if t then shared w p + 1 else 0) (eq-eqb x y both.0) ∙ (omega arith) in
     (one ∙ ap suc rest.0, ap (slice_get (y ∷ p)) one ∙ rest.1)
 
 -- a path goes on from what it shares with w
@@ -37,15 +38,15 @@ shared_onward (x ∷ w) [] = refl
 shared_onward (x ∷ w) (y ∷ p) =
     ⊎_elim
     (λ same.
-    let one : shared (x ∷ w) (y ∷ p) ≡ suc (shared w p) = ap (λ t. if t then shared w p + 1 else 0) (eq_true x y same) ∙ (omega arith) in
+    let one : shared (x ∷ w) (y ∷ p) ≡ suc (shared w p) = ap (λ t. if t then shared w p + 1 else 0) (eq-eqb x y same) ∙ (omega arith) in
     ap (λ n. onward (take n (x ∷ w)) (y ∷ p)) one
-    ∙ ap (λ t. if t then onward (take (shared w p) w) p else None) (eq_true x y same)
+    ∙ ap (λ t. if t then onward (take (shared w p) w) p else None) (eq-eqb x y same)
     ∙ shared_onward w p
     ∙ sym (ap (slice_get (y ∷ p)) one))
     (λ apart.
-    let none : shared (x ∷ w) (y ∷ p) ≡ 0 = ap (λ t. if t then shared w p + 1 else 0) (eq_false x y apart) in
+    let none : shared (x ∷ w) (y ∷ p) ≡ 0 = ap (λ t. if t then shared w p + 1 else 0) (ne_eqb x y apart) in
     ap (λ n. onward (take n (x ∷ w)) (y ∷ p)) none ∙ sym (ap (slice_get (y ∷ p)) none))
-    (same_or_not x y)
+    (cases_eq x y)
 
 pub shared_le : (w p : List ℕ) → shared w p ≤ length w
 shared_le [] p = omega arith
@@ -54,7 +55,7 @@ shared_le (x ∷ w) (y ∷ p) =
     ⊎_elim
     (λ t. let e : shared (x ∷ w) (y ∷ p) ≡ shared w p + 1 = ap (λ t. if t then shared w p + 1 else 0) t in omega (arith, shared_le w p))
     (λ f. let e : shared (x ∷ w) (y ∷ p) ≡ 0 = ap (λ t. if t then shared w p + 1 else 0) f in omega arith)
-    (is_or_not (nat_eq x y))
+    (cases_Bool (nat_eq x y))
 
 -- a way is a later step that the path gives behind what it shares
 way_is : (fixed b d : ℕ) (w p : List ℕ) → way_from fixed w b p ≡ Some d → (fixed ≤ shared w p) × (slice_get p (shared w p) ≡ Some d) × (b < d)
@@ -84,7 +85,7 @@ is_way fixed b d w p le e lt =
     ∙ ap (λ t. if t then Some d else None) (lt-ltb b d lt)
   where
     not_lt : (m n : ℕ) → n ≤ m → nat_lt m n ≡ false
-    not_lt m n le = ⊎_elim (λ t. let lt = ltb-true m n t in absurd (omega arith)) (λ f. f) (is_or_not (nat_lt m n))
+    not_lt m n le = ⊎_elim (λ t. let lt = ltb-true m n t in absurd (omega arith)) (λ f. f) (cases_Bool (nat_lt m n))
 
 -- the least later step that goes on from what is kept of w is the least way that leaves w
 pub fallback_is : (t : Shape) (w : List ℕ) (b : ℕ) → fixed_len t w ≤ length w → Each (λ x. x < b) w → fallback_of t w b ≡ least (filter_map (way_from (fixed_len t w) w b) t.paths)
@@ -125,7 +126,7 @@ found test h k (j ∷ ks) on passes =
     (λ not_here.
     ap (λ o. test (unwrap_or o [])) (ap (λ t. cond t (Some (h j)) (find test (map h ks))) not_here)
     ∙ found test h k ks (⊎_elim (λ e. absurd (let f = ap (λ i. test (h i)) e in cc)) (λ rest. rest.1) (has_cases k j ks on)) passes)
-    (is_or_not (test (h j)))
+    (cases_Bool (test (h j)))
 
 -- the way on goes on from what is kept for it
 pub kept_goes_on : (t : Shape) (w : List ℕ) (b d : ℕ) → fallback_of t w b ≡ Some d → goes_on_to t (kept_for t w d) d ≡ true
@@ -140,17 +141,8 @@ kept_goes_on t w b d is =
 pub way_is_later : (t : Shape) (w : List ℕ) (b d : ℕ) → fallback_of t w b ≡ Some d → b < d
 way_is_later t w b d is = (in_filter b d (flat_map (next_steps t) (kept_prefixes t w)) (least_is (filter (λ d. nat_lt b d) (flat_map (next_steps t) (kept_prefixes t w))) d is).0).1
 
--- no more is fixed than is done
-fixed_within : (t : Shape) (w : List ℕ) (i last : ℕ) → last ≤ i → fixed_from t w i last ≤ i + length w
-fixed_within t [] i last le = omega arith
-fixed_within t (x ∷ w) i last le = by_kind (commits (kind_of t x)) (λ last le. fixed_within t w (i + 1) last le)
-  where
-    by_kind : (c : Bool) → ((last : ℕ) → last ≤ i + 1 → fixed_from t w (i + 1) last ≤ i + 1 + length w) → fixed_from t w (i + 1) (if c then i + 1 else last) ≤ i + length (x ∷ w)
-    by_kind true below = omega (arith, below (i + 1) (omega arith))
-    by_kind false below = omega (arith, below last (omega arith))
-
 pub fixed_le : (t : Shape) (w : List ℕ) → fixed_len t w ≤ length w
-fixed_le t w = omega (arith, fixed_within t w 0 0 (omega arith))
+fixed_le t w = omega (arith, fixed_from-le t w 0 0 (omega arith))
 
 -- the last of the first f steps tells how many these are
 has_last : (x : ℕ) (xs : List ℕ) (c : ℕ) → last_of (x ∷ xs) ≡ Some c → has c (x ∷ xs) ≡ true
@@ -198,7 +190,7 @@ path_through-has b (p ∷ ps) on =
     (λ not_here.
     let e : path_through b (p ∷ ps) ≡ path_through b ps = ap (λ t. if t then p else path_through b ps) not_here in
     inr (subst (λ q. Among q ps) (sym e) (path_through-has b ps (sym (ap (has b) e) ∙ on))))
-    (is_or_not (has b p))
+    (cases_Bool (has b p))
 
 path_through-off : (b : ℕ) (ps : List (List ℕ)) → has b (path_through b ps) ≡ false → path_through b ps ≡ []
 path_through-off b [] off = refl
@@ -208,7 +200,7 @@ path_through-off b (p ∷ ps) off =
     (λ not_here.
     let e : path_through b (p ∷ ps) ≡ path_through b ps = ap (λ t. if t then p else path_through b ps) not_here in
     e ∙ path_through-off b ps (sym (ap (has b) e) ∙ off))
-    (is_or_not (has b p))
+    (cases_Bool (has b p))
 
 -- what holds of the steps before b on a path through it holds of the branch to it
 on_branch : (P : List ℕ → Type 0) (t : Shape) (b : ℕ) → P [] → ((p : List ℕ) → Among p t.paths → has b p ≡ true → P (steps_before b p)) → P (branch_to t b)
@@ -216,7 +208,7 @@ on_branch P t b none some =
     ⊎_elim
     (λ on. some (path_through b t.paths) (path_through-has b t.paths on) on)
     (λ off. subst (λ q. P (steps_before b q)) (sym (path_through-off b t.paths off)) none)
-    (is_or_not (has b (path_through b t.paths)))
+    (cases_Bool (has b (path_through b t.paths)))
 
 before_each : (P : ℕ → Type 0) (b : ℕ) (p : List ℕ) → Each P p → Each P (steps_before b p)
 before_each P b [] h = tt
@@ -224,7 +216,7 @@ before_each P b (x ∷ p) h =
     ⊎_elim
     (λ e. subst (Each P) (sym (before_here b x p e)) tt)
     (λ n. subst (Each P) (sym (before_there b x p n)) (h.0, before_each P b p h.1))
-    (same_or_not b x)
+    (cases_eq b x)
 
 before_rises : (b : ℕ) (p : List ℕ) → IsRising p → IsRising (steps_before b p)
 before_rises b [] h = tt
@@ -232,7 +224,7 @@ before_rises b (x ∷ p) h =
     ⊎_elim
     (λ e. subst IsRising (sym (before_here b x p e)) tt)
     (λ n. subst IsRising (sym (before_there b x p n)) (before_each (λ y. x < y) b p h.0, before_rises b p h.1))
-    (same_or_not b x)
+    (cases_eq b x)
 
 pub branch_below : (t : Shape) (b : ℕ) → Each IsRising t.paths → Each (λ x. x < b) (branch_to t b)
 branch_below t b rise =

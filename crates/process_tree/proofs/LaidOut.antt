@@ -9,7 +9,7 @@ use Rattle.process_tree.specs.Blocks.{Outline, numbers_from, all_paths, all_step
 use Rattle.process_tree.specs.Order.{Each, IsRising, PartsBelow, AreInOrder, IsLaidOut}
 use Rattle.process_tree.proofs.Every.{Each-weaker, Each-append, Each-map}
 
-abbrev LaidOutline : Outline → Type 0
+abbrev pub LaidOutline : Outline → Type 0
 LaidOutline o = IsLaidOut (length o.steps) o.paths
 
 -- numbers in a row
@@ -162,11 +162,11 @@ end_laid_out steps e =
     length-numbers n zero = refl
     length-numbers n (suc k) = ap suc (length-numbers (n + 1) k)
 
-or_first : (a b : Bool) → (a || b) ≡ false → a ≡ false
+pub or_first : (a b : Bool) → (a || b) ≡ false → a ≡ false
 or_first true b e = e
 or_first false b e = refl
 
-or_second : (a b : Bool) → (a || b) ≡ false → b ≡ false
+pub or_second : (a b : Bool) → (a || b) ≡ false → b ≡ false
 or_second true b e = absurd (cc)
 or_second false b e = e
 
@@ -175,7 +175,7 @@ mutual
   tail_laid_out steps End e = end_laid_out steps e
   tail_laid_out steps (Choice' shape row) e = choice_laid_out steps (outlines_of row) (row_laid_out row e)
 
-  row_laid_out : {m : _} (row : Row_of-Block m) → list_any (λ o. o.has_empty) (outlines_of row) ≡ false → Each LaidOutline (outlines_of row)
+  pub row_laid_out : {m : _} (row : Row_of-Block m) → list_any (λ o. o.has_empty) (outlines_of row) ≡ false → Each LaidOutline (outlines_of row)
   row_laid_out end_of-Block e = tt
   row_laid_out (more_of-Block steps tail rest) e =
       (tail_laid_out steps tail (or_first (outline_of steps tail).has_empty (list_any (λ o. o.has_empty) (outlines_of rest)) e), row_laid_out rest (or_second (outline_of steps tail).has_empty (list_any (λ o. o.has_empty) (outlines_of rest)) e))

@@ -6,24 +6,16 @@ use Rattle.process_tree.specs.Order.{Each, IsRising, has}
 use Rattle.process_tree.specs.Shape.{Shape, next_steps, goes_on_to, greatest, greater, fixed_len}
 use Rattle.process_tree.specs.Play.{fallback_of, kept_prefixes}
 use Rattle.process_tree.specs.Recovery.{last_path, with_rest}
-use Rattle.process_tree.proofs.Branches.{is_or_not, has_cases, has_here, has_there, Each-among}
-use Rattle.process_tree.proofs.Numbers.{numbers_between, in_flat, in_filter, least_is}
+use Rattle.process_tree.proofs.Branches.{has_cases, has_here, has_there, Each-among}
+use Rattle.process_tree.proofs.Numbers.{numbers_between, in_flat, in_filter, least_is, some_greater}
 use Rattle.process_tree.proofs.Onward.{onward_above, goes_along}
-use Rattle.process_tree.proofs.InTurn.{greatest_is}
+use Rattle.process_tree.proofs.InTurn.{greatest_is, Each-last}
 
 -- no other of a list is greater than its greatest
 pub greatest_ge : (xs : List ℕ) (d e : ℕ) → greatest xs ≡ Some d → has e xs ≡ true → e ≤ d
 greatest_ge [] d e is on = absurd (cc)
 greatest_ge (x ∷ xs) d e is on = by_rest (greatest xs) refl (λ y z f h. greatest_ge xs y z f h) (λ f h. nothing xs f h)
   where
-    some_greater : (y : ℕ) (o : Option ℕ) → greater y o ≡ None → ⊥
-    some_greater y None f = cc
-    some_greater y (Some z) f = by_lt (nat_lt z y) refl
-      where
-        by_lt : (b : Bool) → nat_lt z y ≡ b → ⊥
-        by_lt true u = let g : Some y ≡ None = sym (ap (λ b. if b then Some y else Some z) u) ∙ f in cc
-        by_lt false u = let g : Some z ≡ None = sym (ap (λ b. if b then Some y else Some z) u) ∙ f in cc
-
     nothing : (ys : List ℕ) → greatest ys ≡ None → has e ys ≡ true → ⊥
     nothing [] f h = cc
     nothing (y ∷ ys) f h = some_greater y (greatest ys) f
@@ -48,13 +40,6 @@ greatest_ge (x ∷ xs) d e is on = by_rest (greatest xs) refl (λ y z f h. great
 pub greatest_of : (xs : List ℕ) (d : ℕ) → has d xs ≡ true → ((e : ℕ) → has e xs ≡ true → e ≤ d) → greatest xs ≡ Some d
 greatest_of xs d on high = by_greatest (greatest xs) refl
   where
-    some_greater : (y : ℕ) (o : Option ℕ) → greater y o ≡ None → ⊥
-    some_greater y None f = cc
-    some_greater y (Some z) f = ⊎_elim
-        (λ u. let g : Some y ≡ None = sym (ap (λ b. if b then Some y else Some z) u) ∙ f in cc)
-        (λ u. let g : Some z ≡ None = sym (ap (λ b. if b then Some y else Some z) u) ∙ f in cc)
-        (is_or_not (nat_lt z y))
-
     nothing : (ys : List ℕ) → greatest ys ≡ None → has d ys ≡ true → ⊥
     nothing [] f h = cc
     nothing (y ∷ ys) f h = some_greater y (greatest ys) f
@@ -92,10 +77,6 @@ Each-front : (P : ℕ → Type 0) (xs ys : List ℕ) → Each P (xs ++ ys) → E
 Each-front P [] ys h = tt
 Each-front P (x ∷ xs) ys h = (h.0, Each-front P xs ys h.1)
 
-Each-end : (P : ℕ → Type 0) (xs : List ℕ) (d : ℕ) → Each P (xs ++ d ∷ []) → P d
-Each-end P [] d h = h.0
-Each-end P (x ∷ xs) d h = Each-end P xs d h.1
-
 -- the greatest next step itself
 next_on_last : (t : Shape) (k : ℕ) (v : List ℕ) (b d : ℕ) → greatest (next_steps t v) ≡ Some d → b ≡ d → OnLast t (suc k) v b
 next_on_last t k v b d is same =
@@ -117,7 +98,7 @@ later_on_last t k v b d rise is rest =
     let whole : v ++ d ∷ part ≡ (v ++ d ∷ []) ++ part = sym (append_assoc v (d ∷ []) part) in
     let along = goes_along t ((v ++ d ∷ []) ++ part) b rest.on in
     let above = onward_above ((v ++ d ∷ []) ++ part) along.0 b (Each-among IsRising t.paths along.0 rise along.1) along.2 in
-    let up : d < b = Each-end (λ x. x < b) v d (Each-front (λ x. x < b) (v ++ d ∷ []) part above) in
+    let up : d < b = Each-last (λ x. x < b) v d (Each-front (λ x. x < b) (v ++ d ∷ []) part above) in
     let path : last_path (suc k) t v ≡ d ∷ last_path k t (v ++ d ∷ []) = ap (with_rest (λ d. last_path k t (v ++ d ∷ []))) is in
     record {
       part = d ∷ part;

@@ -25,3 +25,7 @@ pub mod Between
 pub mod TreeLaws
 pub mod Tables
 pub mod Forms
+pub mod Entries
+pub mod NameBytes
+pub mod Alternatives
+pub mod LaterWays

@@ -1,4 +1,5 @@
 -- How large a choice is, alternative by alternative.
+use Rattle.std.proofs.Math.Bool.{or-false}
 use Rattle.std.proofs.Common.{◌≡◌, ℕ, ◌+◌, min, Bool, true, false, ◌||◌, List, [], ◌∷◌, length, map, Option, Some, None, ap, ◌∙◌, sym, refl, arith, length-append, ◌<◌, ◌≤◌, get_or, drop, drop-cons, add-one, nat_lt, suc}
 use Rattle.std.proofs.lemmas.List.{drop_all, length-map}
 use Rattle.std.specs.List.{list_any}
@@ -47,12 +48,8 @@ joined-measure_of_all all o os =
 -- none are left
 pub joined-measure_of_none : (all : Measure) → all.steps ≤ 4294967295 → joined all (measure_of_all []) ≡ all
 joined-measure_of_none all le =
-    same_measure {h' = all.has_empty} {s' = all.steps} {n' = all.nesting} {o' = all.odd_choice} (or_false all.has_empty) (omega arith) (omega arith) (earlier_None all.odd_choice)
+    same_measure {h' = all.has_empty} {s' = all.steps} {n' = all.nesting} {o' = all.odd_choice} (or-false all.has_empty) (omega arith) (omega arith) (earlier_None all.odd_choice)
   where
-    or_false : (a : Bool) → (a || false) ≡ a
-    or_false true = refl
-    or_false false = refl
-
     earlier_None : (a : Option ℕ) → earlier a None ≡ a
     earlier_None None = refl
     earlier_None (Some n) = refl

@@ -1,16 +1,16 @@
 -- What stands in a list of numbers, and the least of it.
 use Rattle.std.proofs.Common.{◌≡◌, ◌⊎◌, inl, inr, ⊎_elim, subst, ℕ, ◌+◌, ◌<◌, ◌≤◌, zero, suc, Bool, true, false, List, [], ◌∷◌, ◌++◌, map, filter, flat_map, cond, Option, Some, None, refl, sym, ap, ◌∙◌, arith, nat_lt, if◌then◌else◌}
-use Rattle.std.proofs.lemmas.Bool.{ltb-true, ltb-false}
+use Rattle.std.proofs.lemmas.Bool.{ltb-true, ltb-false, cases_eq}
 use Rattle.process_tree.specs.Blocks.{numbers_from}
 use Rattle.process_tree.specs.Order.{has}
-use Rattle.process_tree.specs.Shape.{least, lesser}
-use Rattle.process_tree.proofs.Branches.{same_or_not, has_cases, has_here, has_there}
+use Rattle.process_tree.specs.Shape.{least, lesser, greater}
+use Rattle.process_tree.proofs.Branches.{has_cases, has_here, has_there}
 
 -- numbers in a row
 pub numbers_has : (k n m : ℕ) → n ≤ k → k < n + m → has k (numbers_from n m) ≡ true
 numbers_has k n zero from to = absurd (omega arith)
 numbers_has k n (suc m) from to =
-    ⊎_elim (λ e. has_here k n (numbers_from (n + 1) m) e) (λ apart. has_there k n (numbers_from (n + 1) m) (numbers_has k (n + 1) m (omega arith) (omega arith))) (same_or_not k n)
+    ⊎_elim (λ e. has_here k n (numbers_from (n + 1) m) e) (λ apart. has_there k n (numbers_from (n + 1) m) (numbers_has k (n + 1) m (omega arith) (omega arith))) (cases_eq k n)
 
 pub numbers_between : (k n m : ℕ) → has k (numbers_from n m) ≡ true → (n ≤ k) × (k < n + m)
 numbers_between k n zero on = absurd (cc)
@@ -143,3 +143,12 @@ least_same (x ∷ xs) (y ∷ ys) to back =
     let ge = q.1 a.0 (to a.0 p.0) in
     let same : a.0 ≡ b.0 = omega arith in
     a.1 ∙ ap Some same ∙ sym b.1
+
+-- the greater of two is there
+pub some_greater : (y : ℕ) (o : Option ℕ) → greater y o ≡ None → ⊥
+some_greater y None f = cc
+some_greater y (Some z) f = by_lt (nat_lt z y) f
+  where
+    by_lt : (t : Bool) → (if t then Some y else Some z) ≡ None → ⊥
+    by_lt true f = cc
+    by_lt false f = cc

@@ -1,10 +1,11 @@
 -- The steps that go on from a beginning of a whole path.
+use Rattle.std.proofs.lemmas.Bool.{eq-eqb, ne_eqb, cases_eq, cases_Bool}
 use Rattle.std.proofs.Common.{◌≡◌, inl, inr, ⊎_elim, ℕ, ◌<◌, Bool, true, false, ◌&&◌, List, [], ◌∷◌, ◌++◌, length, drop, Option, Some, None, refl, sym, ap, ◌∙◌, arith, nat_eq, if◌then◌else◌}
 use Rattle.std.specs.List.{starts_with, filter_map, cons_option}
 use Rattle.process_tree.specs.Order.{Each, IsRising, AreInOrder, has}
 use Rattle.process_tree.specs.Paths.{behind, step_behind}
 use Rattle.process_tree.specs.Shape.{Shape, first_of, next_steps, goes_on_to, steps_before, branch_to}
-use Rattle.process_tree.proofs.Branches.{eq_true, eq_false, same_or_not, is_or_not, has_cases, has_here, has_there, Each-has, Among, Each-among, before_here, before_there, branch_is}
+use Rattle.process_tree.proofs.Branches.{has_cases, has_here, has_there, Each-has, Among, Each-among, before_here, before_there, branch_is}
 
 -- the step with which a path goes on from w
 abbrev pub onward : List ℕ → List ℕ → Option ℕ
@@ -19,7 +20,7 @@ onward_is (x ∷ w) (y ∷ p) =
     ⊎_elim
     (λ t. ap (λ b. if (b && starts_with nat_eq p w) then first_of (drop (length w) p) else None) t ∙ onward_is w p ∙ sym (ap (λ b. if b then onward w p else None) t))
     (λ f. ap (λ b. if (b && starts_with nat_eq p w) then first_of (drop (length w) p) else None) f ∙ sym (ap (λ b. if b then onward w p else None) f))
-    (is_or_not (nat_eq x y))
+    (cases_Bool (nat_eq x y))
 
 -- where two functions agree on these paths, they give the same
 pub filter_map-same : (f g : List ℕ → Option ℕ) (ps : List (List ℕ)) → ((p : List ℕ) → Among p ps → f p ≡ g p) → filter_map f ps ≡ filter_map g ps
@@ -68,15 +69,15 @@ onward_has (x ∷ v) (y ∷ p) d e =
     ⊎_elim
     (λ t. has_there d y p (onward_has v p d (sym (ap (λ b. if b then onward v p else None) t) ∙ e)))
     (λ f. let none : None ≡ Some d = sym (ap (λ b. if b then onward v p else None) f) ∙ e in absurd (cc))
-    (is_or_not (nat_eq x y))
+    (cases_Bool (nat_eq x y))
 
 -- both are the same step, and the rest goes on
 pub onward_both : (x y d : ℕ) (v p : List ℕ) → onward (x ∷ v) (y ∷ p) ≡ Some d → (x ≡ y) × (onward v p ≡ Some d)
 onward_both x y d v p e =
     ⊎_elim
-    (λ same. (same, sym (ap (λ b. if b then onward v p else None) (eq_true x y same)) ∙ e))
-    (λ apart. let none : None ≡ Some d = sym (ap (λ b. if b then onward v p else None) (eq_false x y apart)) ∙ e in absurd (cc))
-    (same_or_not x y)
+    (λ same. (same, sym (ap (λ b. if b then onward v p else None) (eq-eqb x y same)) ∙ e))
+    (λ apart. let none : None ≡ Some d = sym (ap (λ b. if b then onward v p else None) (ne_eqb x y apart)) ∙ e in absurd (cc))
+    (cases_eq x y)
 
 -- it stands right behind the beginning
 pub onward_before : (v p : List ℕ) (d : ℕ) → IsRising p → onward v p ≡ Some d → steps_before d p ≡ v
@@ -105,7 +106,7 @@ onward_self b (x ∷ p) on =
     (λ e. ap (λ v. onward v (x ∷ p)) (before_here b x p e) ∙ ap Some (sym e))
     (λ rest.
     ap (λ v. onward v (x ∷ p)) (before_there b x p rest.0)
-    ∙ ap (λ t. if t then onward (steps_before b p) p else None) (eq_true x x refl)
+    ∙ ap (λ t. if t then onward (steps_before b p) p else None) (eq-eqb x x refl)
     ∙ onward_self b p rest.1)
     (has_cases b x p on)
 
@@ -116,22 +117,22 @@ onward_behind b (x ∷ p) on =
     ⊎_elim
     (λ e.
     ap (λ v. onward (v ++ b ∷ []) (x ∷ p)) (before_here b x p e)
-    ∙ ap (λ t. if t then first_of p else None) (eq_true b x e)
-    ∙ sym (ap (λ t. if t then first_of p else behind b p) (eq_true x b (sym e))))
+    ∙ ap (λ t. if t then first_of p else None) (eq-eqb b x e)
+    ∙ sym (ap (λ t. if t then first_of p else behind b p) (eq-eqb x b (sym e))))
     (λ rest.
     ap (λ v. onward (v ++ b ∷ []) (x ∷ p)) (before_there b x p rest.0)
-    ∙ ap (λ t. if t then onward (steps_before b p ++ b ∷ []) p else None) (eq_true x x refl)
+    ∙ ap (λ t. if t then onward (steps_before b p ++ b ∷ []) p else None) (eq-eqb x x refl)
     ∙ onward_behind b p rest.1
-    ∙ sym (ap (λ t. if t then first_of p else behind b p) (eq_false x b (λ e. rest.0 (sym e)))))
+    ∙ sym (ap (λ t. if t then first_of p else behind b p) (ne_eqb x b (λ e. rest.0 (sym e)))))
     (has_cases b x p on)
 
 -- a path doesn't go on behind a step that isn't on it
 pub onward_off : (b : ℕ) (v p : List ℕ) → has b p ≡ false → onward (v ++ b ∷ []) p ≡ None
 onward_off b [] [] off = refl
-onward_off b [] (y ∷ p) off = ap (λ t. if t then first_of p else None) (eq_false b y (λ e. let t = has_here b y p e in cc))
+onward_off b [] (y ∷ p) off = ap (λ t. if t then first_of p else None) (ne_eqb b y (λ e. let t = has_here b y p e in cc))
 onward_off b (x ∷ v) [] off = refl
 onward_off b (x ∷ v) (y ∷ p) off =
-    let off' = ⊎_elim (λ t. let u = has_there b y p t in absurd (cc)) (λ f. f) (is_or_not (has b p)) in
+    let off' = ⊎_elim (λ t. let u = has_there b y p t in absurd (cc)) (λ f. f) (cases_Bool (has b p)) in
     ap (λ o. if nat_eq x y then o else None) (onward_off b v p off') ∙ same (nat_eq x y)
   where
     same : (t : Bool) → (if t then None else None) ≡ (let none : Option ℕ = None in none)
@@ -141,8 +142,8 @@ onward_off b (x ∷ v) (y ∷ p) off =
 pub behind_off : (b : ℕ) (p : List ℕ) → has b p ≡ false → behind b p ≡ None
 behind_off b [] off = refl
 behind_off b (x ∷ p) off =
-    let off' = ⊎_elim (λ t. let u = has_there b x p t in absurd (cc)) (λ f. f) (is_or_not (has b p)) in
-    ap (λ t. if t then first_of p else behind b p) (eq_false x b (λ e. let t = has_here b x p (sym e) in cc)) ∙ behind_off b p off'
+    let off' = ⊎_elim (λ t. let u = has_there b x p t in absurd (cc)) (λ f. f) (cases_Bool (has b p)) in
+    ap (λ t. if t then first_of p else behind b p) (ne_eqb x b (λ e. let t = has_here b x p (sym e) in cc)) ∙ behind_off b p off'
 
 -- the steps that go on behind b
 pub next_behind : (t : Shape) (b : ℕ) → AreInOrder t.paths → Each IsRising t.paths → next_steps t (branch_to t b ++ b ∷ []) ≡ filter_map (step_behind (Some b)) t.paths
@@ -154,7 +155,7 @@ next_behind t b order rise =
         ⊎_elim
         (λ on. ap (λ v. onward (v ++ b ∷ []) p) (branch_is t b p order rise inp on) ∙ onward_behind b p on)
         (λ off. onward_off b (branch_to t b) p off ∙ sym (behind_off b p off))
-        (is_or_not (has b p))
+        (cases_Bool (has b p))
 
 -- the first steps
 pub next_first : (t : Shape) → next_steps t [] ≡ filter_map (step_behind None) t.paths

@@ -1,6 +1,7 @@
 -- In a process whose later alternatives can all be fallen to, play can come to each step.
-use Rattle.std.proofs.Common.{◌≡◌, ◌⊎◌, inl, inr, ⊎_elim, subst, ℕ, ◌<◌, ◌≤◌, zero, suc, Bool, true, false, ◌&&◌, List, [], ◌∷◌, ◌++◌, length, filter, cond, Some, None, refl, sym, ap, ◌∙◌, arith, nat_lt, nat_eq, if◌then◌else◌}
-use Rattle.std.proofs.lemmas.Bool.{ltb-false, cases_lt}
+use Rattle.plain_list.proofs.Lasts.{last_cases}
+use Rattle.std.proofs.Common.{◌≡◌, ⊎_elim, subst, ℕ, ◌<◌, ◌≤◌, zero, suc, Bool, true, false, ◌&&◌, List, [], ◌∷◌, ◌++◌, length, filter, cond, Some, None, refl, sym, ap, ◌∙◌, arith, nat_lt, nat_eq, if◌then◌else◌}
+use Rattle.std.proofs.lemmas.Bool.{ltb-false, cases_lt, eq-eqb, cases_Bool}
 use Rattle.std.specs.Bool.{IsTrue}
 use Rattle.std.specs.List.{list_any}
 use Rattle.process_tree.specs.declared.play.Outcome.{Outcome}
@@ -9,7 +10,7 @@ use Rattle.process_tree.specs.Order.{has, IsLaidOut}
 use Rattle.process_tree.specs.Shape.{Shape, next_steps, goes_on_to, branch_to, least, kind_of, can_be_refused}
 use Rattle.process_tree.specs.Play.{Stand, asks, follow, come_to, arrive, go_on, go_back, answered, stand, stand_from, kept_for}
 use Rattle.process_tree.specs.Termination.{once, ways_before, is_later_way, IsFallenTo}
-use Rattle.process_tree.proofs.Branches.{eq_true, is_or_not, has_cases, has_here, has_there}
+use Rattle.process_tree.proofs.Branches.{has_cases, has_here, has_there}
 use Rattle.process_tree.proofs.Numbers.{least_is, least_some}
 use Rattle.process_tree.proofs.Kept.{kept_goes_on}
 use Rattle.process_tree.proofs.Onward.{onward, onward_both, goes_along, goes_on, branch_from}
@@ -20,15 +21,6 @@ pub stand_more : (t : Shape) (s : Stand) (os : List Outcome) (o : Outcome) → s
 stand_more t s [] o = refl
 stand_more t s (x ∷ os) o = stand_more t (answered t s x) os o
 
--- a list is empty, or has a last
-pub last_cases : (v : List ℕ) → (v ≡ []) ⊎ ((w : List ℕ) × (a : ℕ) × (v ≡ w ++ a ∷ []))
-last_cases [] = inl refl
-last_cases (x ∷ v) =
-    ⊎_elim
-    (λ none. inr ([], x, ap (λ xs. x ∷ xs) none))
-    (λ some. inr (x ∷ some.0, some.1, ap (λ xs. x ∷ xs) some.2))
-    (last_cases v)
-
 -- what goes on from a list with a last goes through that last
 onward_front : (w p : List ℕ) (a d : ℕ) → onward (w ++ a ∷ []) p ≡ Some d → onward w p ≡ Some a
 onward_front [] [] a d e = absurd (cc)
@@ -36,7 +28,7 @@ onward_front [] (y ∷ p) a d e = ap Some (sym (onward_both a y d [] p e).0)
 onward_front (x ∷ w) [] a d e = absurd (cc)
 onward_front (x ∷ w) (y ∷ p) a d e =
     let both = onward_both x y d (w ++ a ∷ []) p e in
-    ap (λ b. if b then onward w p else None) (eq_true x y both.0) ∙ onward_front w p a d both.1
+    ap (λ b. if b then onward w p else None) (eq-eqb x y both.0) ∙ onward_front w p a d both.1
 
 pub goes_before : (t : Shape) (w : List ℕ) (a d : ℕ) → goes_on_to t (w ++ a ∷ []) d ≡ true → goes_on_to t w a ≡ true
 goes_before t w a d on =
@@ -44,7 +36,7 @@ goes_before t w a d on =
     goes_on t w a along.0 along.1 (onward_front w along.0 a d along.2)
 
 -- each number once, none lost
-has_once : (e : ℕ) (xs : List ℕ) → has e xs ≡ true → has e (once xs) ≡ true
+pub has_once : (e : ℕ) (xs : List ℕ) → has e xs ≡ true → has e (once xs) ≡ true
 has_once e [] on = on
 has_once e (x ∷ xs) on = by_test (list_any (nat_eq x) xs) refl (λ h. has_once e xs h)
   where
@@ -56,7 +48,7 @@ has_once e (x ∷ xs) on = by_test (list_any (nat_eq x) xs) refl (λ h. has_once
         ap (λ b. has e (if b then once xs else x ∷ once xs)) is
         ∙ ⊎_elim (λ same. has_here e x (once xs) same) (λ rest. has_there e x (once xs) (below rest.1)) (has_cases e x xs on)
 
-nonempty : (e : ℕ) (xs : List ℕ) → has e xs ≡ true → 0 < length xs
+pub nonempty : (e : ℕ) (xs : List ℕ) → has e xs ≡ true → 0 < length xs
 nonempty e [] on = absurd (cc)
 nonempty e (x ∷ xs) on = omega arith
 
@@ -126,7 +118,7 @@ comes_after t w a b laid on next come =
           ∙ ap (follow (arrive t) (w ++ a ∷ [])) next,
     ))
     (λ done. (come.0, come.1 ∙ arrive_on t (length t.kinds) w a refl laid.rising laid.within on done ∙ ap (follow (arrive t) (w ++ a ∷ [])) next))
-    (is_or_not (can_be_refused (kind_of t a)))
+    (cases_Bool (can_be_refused (kind_of t a)))
 
 -- play falls back to a later alternative
 comes_back : (t : Shape) (v : List ℕ) (b : ℕ) → IsLaidOut (length t.kinds) t.paths → branch_to t b ≡ v → IsFallenTo t b → ComesTo t v b
@@ -162,4 +154,4 @@ comes_to (suc n) t laid reached v b lt on =
     let come = comes_to n t laid reached w a (omega arith) before in
     subst (λ u. ComesTo t u b) (sym some.2) (comes_after t w a b laid before (ap (λ u. least (next_steps t u)) (sym some.2) ∙ next) come))
     (last_cases v))
-    (is_or_not (is_later_way t b))
+    (cases_Bool (is_later_way t b))

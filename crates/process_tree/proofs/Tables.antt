@@ -1,16 +1,12 @@
 -- Tables of conflicts: what they begin with, and what a set changes.
-use Rattle.std.proofs.Common.{◌≡◌, ◌≢◌, ℕ, zero, suc, ◌+◌, ◌-◌, ◌<◌, ◌≤◌, min, max, Bool, true, false, ◌&&◌, ◌||◌, List, [], ◌∷◌, ◌++◌, length, get_or, refl, sym, ap, ◌∙◌, arith, append_assoc, inl, inr}
+use Rattle.std.proofs.Math.Bool.{or-false, or-true}
+use Rattle.std.proofs.Common.{◌≡◌, ◌≢◌, ℕ, zero, suc, ◌+◌, ◌-◌, ◌<◌, ◌≤◌, min, max, Bool, true, false, ◌||◌, List, [], ◌∷◌, ◌++◌, length, get_or, refl, sym, ap, ◌∙◌, arith, append_assoc, inl, inr}
 use Rattle.std.specs.Prelude.{replicate, slice_set}
-use Rattle.std.proofs.lemmas.Bool.{and_parts, eqb-true, cases_eq}
+use Rattle.std.proofs.lemmas.Bool.{and_parts, eqb-true, cases_eq, and_from}
 use Rattle.std.proofs.lemmas.Bool.Decides.{nat_tests}
 use Rattle.std.proofs.lemmas.List.{get_or-set_same, get_or-set_other, length-set, length-replicate, append-nil, get_or_default}
 use Rattle.std.proofs.Common.{eq-eqb}
 use Rattle.process_tree.specs.Conflicts.{is_table, no_conflicts, do_conflict, with_conflict, is_same_pair}
-
-both_hold : (p q : Bool) → p ≡ true → q ≡ true → (p && q) ≡ true
-both_hold true true e f = refl
-both_hold true false e f = f
-both_hold false q e f = e
 
 -- the first of the rows that are left
 pub first_left : (ops first : ℕ) → first < ops → no_conflicts (ops - first) ≡ replicate (ops - first) false ∷ no_conflicts (ops - (first + 1))
@@ -29,7 +25,7 @@ length-no_conflicts (suc n) = ap suc (length-no_conflicts n)
 -- without a conflict it is a table
 pub is_table-no_conflicts : (n : ℕ) → is_table (no_conflicts n) ≡ true
 is_table-no_conflicts zero = refl
-is_table-no_conflicts (suc n) = rw (length-replicate (suc n) false, length-no_conflicts n) (both_hold _ _ (eq-eqb (suc n) _ refl) (is_table-no_conflicts n))
+is_table-no_conflicts (suc n) = rw (length-replicate (suc n) false, length-no_conflicts n) (and_from _ _ (eq-eqb (suc n) _ refl) (is_table-no_conflicts n))
 
 -- a row has a cell for its own operation and for each later one
 pub row_length : (t : List (List Bool)) (i : ℕ) → is_table t ≡ true → i < length t → length (get_or t i []) ≡ length t - i
@@ -45,7 +41,7 @@ is_table-set [] i row h e = refl
 is_table-set (r ∷ rows) zero row h e = rw e h
 is_table-set (r ∷ rows) (suc i) row h e =
     let parts = and_parts _ _ h in
-    both_hold _ _ (rw (length-set rows i row) parts.0) (is_table-set rows i row parts.1 e)
+    and_from _ _ (rw (length-set rows i row) parts.0) (is_table-set rows i row parts.1 e)
 
 -- a pair that has the least and the distance of another is that one
 pair_is : (a b c d : ℕ) → min c d ≡ min a b → max c d - min c d ≡ max a b - min a b → is_same_pair a b c d ≡ true
@@ -56,14 +52,6 @@ pair_is_other a b c d e = grind (arith, nat_tests)
 
 pair_is_further : (a b c d : ℕ) → max c d - min c d ≢ max a b - min a b → is_same_pair a b c d ≡ false
 pair_is_further a b c d e = grind (arith, nat_tests)
-
-or_false : (p : Bool) → (p || false) ≡ p
-or_false true = refl
-or_false false = refl
-
-or_true : (p : Bool) → (p || true) ≡ true
-or_true true = refl
-or_true false = refl
 
 -- the cell that is set
 at_cell : (t : List (List Bool)) (i k : ℕ) → i < length t → k < length (get_or t i []) → get_or (get_or (slice_set t i (slice_set (get_or t i []) k true)) i []) k false ≡ true
@@ -82,10 +70,10 @@ in_row t a b c d h la lb same =
     elim (cases_eq (max c d - min c d) (max a b - min a b)) [
       | inl near ↦
           let near_here : max c d - min a b ≡ max a b - min a b = omega arith in
-          rw (pair_is a b c d same near, or_true (do_conflict t c d), same, near_here) (at_cell t (min a b) (max a b - min a b) within room)
+          rw (pair_is a b c d same near, or-true (do_conflict t c d), same, near_here) (at_cell t (min a b) (max a b - min a b) within room)
       | inr far ↦
           let far_here : max c d - min a b ≢ max a b - min a b = omega arith in
-          rw (pair_is_further a b c d far, or_false (do_conflict t c d), same) (beside_cell t (min a b) (max a b - min a b) (max c d - min a b) within far_here)
+          rw (pair_is_further a b c d far, or-false (do_conflict t c d), same) (beside_cell t (min a b) (max a b - min a b) (max c d - min a b) within far_here)
     ]
 
 -- a set adds its own pair and no other
@@ -93,7 +81,7 @@ pub with_conflict-pairs : (t : List (List Bool)) (a b c d : ℕ) → is_table t 
 with_conflict-pairs t a b c d h la lb =
     elim (cases_eq (min c d) (min a b)) [
       | inl same ↦ in_row t a b c d h la lb same
-      | inr other ↦ rw (get_or-set_other t (min a b) (min c d) (slice_set (get_or t (min a b) []) (max a b - min a b) true) [] other, pair_is_other a b c d other) (sym (or_false (do_conflict t c d)))
+      | inr other ↦ rw (get_or-set_other t (min a b) (min c d) (slice_set (get_or t (min a b) []) (max a b - min a b) true) [] other, pair_is_other a b c d other) (sym (or-false (do_conflict t c d)))
     ]
 
 -- all rows stand

@@ -15,7 +15,7 @@ use Rattle.process_tree.proofs.LaidOut.{laid_out}
 use Rattle.process_tree.proofs.Onward.{next_behind}
 
 -- no block of a tree is empty
-not_empty : (root : Block) → tree_fault root ≡ None → (outline root).has_empty ≡ false
+pub not_empty : (root : Block) → tree_fault root ≡ None → (outline root).has_empty ≡ false
 not_empty root good = by_test (outline root).has_empty refl
   where
     by_test : (b : Bool) → (outline root).has_empty ≡ b → (outline root).has_empty ≡ false

@@ -1,10 +1,12 @@
 -- Whole paths: none begins another, and what nothing goes on from is one.
+use Rattle.std.proofs.Math.Bool.{or-true}
+use Rattle.std.proofs.lemmas.Bool.{eq-eqb, ne_eqb, cases_Bool}
 use Rattle.std.proofs.Common.{◌≡◌, ◌⊎◌, inl, inr, ⊎_elim, subst, ℕ, ◌<◌, Bool, true, false, ◌||◌, List, [], ◌∷◌, ◌++◌, Option, Some, None, refl, sym, ap, ◌∙◌, arith, nat_eq, if◌then◌else◌}
 use Rattle.std.proofs.lemmas.Slice.Eq.{bytes_eq-Decides}
 use Rattle.std.specs.List.{list_any, filter_map, cons_option}
 use Rattle.process_tree.specs.Order.{PartsBelow, AreInOrder, has}
 use Rattle.process_tree.specs.Shape.{Shape, first_of, same_steps, is_whole, next_steps, goes_on_to}
-use Rattle.process_tree.proofs.Branches.{eq_true, eq_false, is_or_not, Among, Each-among}
+use Rattle.process_tree.proofs.Branches.{Among, Each-among}
 use Rattle.process_tree.proofs.Onward.{onward, onward_both, next_is, goes_along, goes_on}
 
 -- the same steps are the same list
@@ -21,19 +23,15 @@ whole_among w (p ∷ ps) e =
     ⊎_elim
     (λ t. inl (same_is w p t))
     (λ f. inr (whole_among w ps (sym (ap (λ c. c || list_any (same_steps w) ps) f) ∙ e)))
-    (is_or_not (same_steps w p))
+    (cases_Bool (same_steps w p))
 
 pub among_whole : (w : List ℕ) (ps : List (List ℕ)) → Among w ps → list_any (same_steps w) ps ≡ true
 among_whole w [] inw = absurd inw
 among_whole w (p ∷ ps) inw =
     ⊎_elim
     (λ e. ap (λ c. c || list_any (same_steps w) ps) (ap (same_steps w) (sym e) ∙ is_same w))
-    (λ later. ap (λ c. same_steps w p || c) (among_whole w ps later) ∙ or_true (same_steps w p))
+    (λ later. ap (λ c. same_steps w p || c) (among_whole w ps later) ∙ or-true (same_steps w p))
     inw
-  where
-    or_true : (a : Bool) → (a || true) ≡ true
-    or_true true = refl
-    or_true false = refl
 
 -- of two paths, they are the same or one parts below the other
 pub paths_part : (ps : List (List ℕ)) (p q : List ℕ) → AreInOrder ps → Among p ps → Among q ps → (p ≡ q) ⊎ (PartsBelow p q ⊎ PartsBelow q p)
@@ -53,7 +51,7 @@ paths_part (r ∷ ps) p q order inp inq =
 -- nothing goes on from a path along itself, nor along one that parts from it
 onward_none : (p : List ℕ) → onward p p ≡ None
 onward_none [] = refl
-onward_none (x ∷ p) = ap (λ c. if c then onward p p else None) (eq_true x x refl) ∙ onward_none p
+onward_none (x ∷ p) = ap (λ c. if c then onward p p else None) (eq-eqb x x refl) ∙ onward_none p
 
 none_either : (c : Bool) (o : Option ℕ) → o ≡ None → (if c then o else None) ≡ None
 none_either true o e = e
@@ -65,7 +63,7 @@ onward_below (x ∷ p) [] part = absurd part
 onward_below (x ∷ p) (y ∷ q) part =
     ⊎_elim
     (λ same. none_either (nat_eq x y) (onward p q) (onward_below p q same.1))
-    (λ below. ap (λ c. if c then onward p q else None) (eq_false x y (λ e. let lt : x < y = below.0 in omega arith)))
+    (λ below. ap (λ c. if c then onward p q else None) (ne_eqb x y (λ e. let lt : x < y = below.0 in omega arith)))
     part
 
 onward_above : (p q : List ℕ) → PartsBelow p q → onward q p ≡ None
@@ -74,7 +72,7 @@ onward_above (x ∷ p) [] part = absurd part
 onward_above (x ∷ p) (y ∷ q) part =
     ⊎_elim
     (λ same. none_either (nat_eq y x) (onward q p) (onward_above p q same.1))
-    (λ below. ap (λ c. if c then onward q p else None) (eq_false y x (λ e. let lt : x < y = below.0 in omega arith)))
+    (λ below. ap (λ c. if c then onward q p else None) (ne_eqb y x (λ e. let lt : x < y = below.0 in omega arith)))
     part
 
 filter_map-none : (f : List ℕ → Option ℕ) (ps : List (List ℕ)) → ((p : List ℕ) → Among p ps → f p ≡ None) → filter_map f ps ≡ []
@@ -97,12 +95,12 @@ ends_there [] [] b on none = absurd (cc)
 ends_there [] (y ∷ []) b on none = let same : y ≡ b = cc in ap (λ z. z ∷ []) same
 ends_there [] (y ∷ z ∷ p) b on none =
     let same : y ≡ b = cc in
-    let some : Some z ≡ None = sym (ap (λ c. if c then first_of (z ∷ p) else None) (eq_true b y (sym same))) ∙ none in
+    let some : Some z ≡ None = sym (ap (λ c. if c then first_of (z ∷ p) else None) (eq-eqb b y (sym same))) ∙ none in
     absurd (cc)
 ends_there (x ∷ v) [] b on none = absurd (cc)
 ends_there (x ∷ v) (y ∷ p) b on none =
     let both = onward_both x y b v p on in
-    let rest : onward (v ++ b ∷ []) p ≡ None = sym (ap (λ c. if c then onward (v ++ b ∷ []) p else None) (eq_true x y both.0)) ∙ none in
+    let rest : onward (v ++ b ∷ []) p ≡ None = sym (ap (λ c. if c then onward (v ++ b ∷ []) p else None) (eq-eqb x y both.0)) ∙ none in
     ap (λ z. z ∷ p) (sym both.0) ∙ ap (λ zs. x ∷ zs) (ends_there v p b both.1 rest)
 
 no_step : (o : Option ℕ) (d : ℕ) → ((d : ℕ) → o ≡ Some d → ⊥) → o ≡ None

@@ -1,8 +1,11 @@
 -- The laws of trees that everything above stands on.
-use Rattle.std.specs.Prelude.{◌≡◌, ◌⊎◌, ℕ, ◌+◌, ◌<◌, ◌≤◌, true, List, [], ◌∷◌, ◌++◌, length, None, nat_eq, if◌then◌else◌}
+use Rattle.std.specs.Prelude.{◌≡◌, ◌⊎◌, ℕ, ◌+◌, ◌<◌, ◌≤◌, true, false, List, [], ◌∷◌, ◌++◌, length, None, nat_eq, if◌then◌else◌}
 use Rattle.std.specs.List.{starts_with}
 use Rattle.process_tree.specs.declared.block.Block.{Block}
 use Rattle.process_tree.specs.declared.step.StepKind.TheVariants.{C, R}
+use Rattle.process_tree.specs.declared.entry.Entry.{Entry}
+use Rattle.process_tree.specs.declared.plan.Plan.{Plan}
+use Rattle.process_tree.specs.Entries.{Test, IsSymmetric, conflict, entry_of, undo_of, IsOfStep}
 use Rattle.process_tree.specs.Conflicts.{Table, do_conflict}
 use Rattle.process_tree.specs.Making.{tree_fault}
 use Rattle.process_tree.specs.Order.{IsLaidOut, PartsBelow, has}
@@ -101,3 +104,22 @@ CommitPointsGrow =
 -- the table holds each pair both ways
 abbrev pub ConflictIsSymmetric : Type 0
 ConflictIsSymmetric = (t : Table) (a b : ℕ) → do_conflict t a b ≡ do_conflict t b a
+
+-- two entries conflict in either order or in none
+abbrev pub EntriesConflictBothWays : Type 0
+EntriesConflictBothWays = (test : Test) → IsSymmetric test → (a b : Entry) → conflict test a b ≡ conflict test b a
+
+-- entries of one process don't conflict
+abbrev pub ConflictIsBetweenProcesses : Type 0
+ConflictIsBetweenProcesses = (test : Test) (a b : Entry) → a.process ≡ b.process → conflict test a b ≡ false
+
+-- an entry and its undo conflict with the same entries
+abbrev pub UndoConflictsAsItsStep : Type 0
+UndoConflictsAsItsStep =
+    (test : Test) (a b : Entry) → (conflict test (undo_of a) b ≡ conflict test a b) × (conflict test b (undo_of a) ≡ conflict test b a)
+
+-- and so does its step, while it is reserved, pending or running
+abbrev pub EntryConflictsAsItsStep : Type 0
+EntryConflictsAsItsStep =
+    (test : Test) (plan : Plan) (i b : ℕ) (e other : Entry) → IsOfStep plan i b e →
+    (conflict test e other ≡ conflict test (entry_of plan i b) other) × (conflict test other e ≡ conflict test other (entry_of plan i b))

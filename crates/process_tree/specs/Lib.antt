@@ -13,3 +13,5 @@ pub mod Stands
 pub mod Laws
 pub mod Conflicts
 pub mod Form
+pub mod Entries
+pub mod Alternatives

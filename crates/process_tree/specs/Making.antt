@@ -8,7 +8,7 @@ use Rattle.process_tree.specs.declared.step.StepKind.TheVariants.{C, P, R}
 use Rattle.process_tree.specs.declared.block.Block.{Block}
 use Rattle.process_tree.specs.declared.tree.TreeError.{TreeError}
 use Rattle.process_tree.specs.declared.tree.TreeError.TheVariants.{Empty, Steps, Nesting, Alternatives, SameName, Number, NoMemory}
-use Rattle.process_tree.specs.Blocks.{outline}
+use Rattle.process_tree.specs.Blocks.{Outline, outline}
 
 -- an amount is within a thousand million of 0
 abbrev pub is_amount : ℤ → Bool
@@ -53,15 +53,18 @@ abbrev pub refused_at : (ℕ → TreeError) → Option ℕ → Option TreeError 
 refused_at error None next = next
 refused_at error (Some n) next = Some (error n)
 
--- what is refused of a block first, if anything
-abbrev pub tree_fault : Block → Option TreeError
-tree_fault root =
-    let o = outline root in
+-- what is refused first of a block that says this, if anything
+abbrev pub outline_fault : Outline → Option TreeError
+outline_fault o =
     let names = refused_at SameName (first_same_name 0 [] o.steps) (refused_at Number (first_bad_step 0 o.steps) None) in
     if o.has_empty then Some Empty
     else (if nat_lt 256 (length o.steps) then Some (Steps (length o.steps))
     else (if nat_lt 16 o.nesting then Some (Nesting o.nesting)
     else refused_at Alternatives o.odd_choice names))
+
+-- the same of the block
+abbrev pub tree_fault : Block → Option TreeError
+tree_fault root = outline_fault (outline root)
 
 -- how an error reads
 abbrev pub text_of : TreeError → List ℕ

@@ -1,7 +1,9 @@
 // Tables of conflicts.
 ghost use Rattle.std.specs.Prelude.{◌≡◌, ◌<◌, ◌-◌, ◌||◌, ℕ, min, max, IfOk, false, true};
 ghost use Rattle.process_tree.specs.Conflicts.{is_table, operations_in, do_conflict, no_conflicts, with_conflict, is_same_pair};
+ghost use Rattle.process_tree.specs.Entries.{conflict};
 
+use crate::Entry;
 use std::alloc::{AllocError, Global};
 use std::marker::Model;
 
@@ -65,6 +67,15 @@ impl Conflicts {
         row.cells[cell]
     }
 
+    /// Whether two entries conflict.
+    pub fn between(&self, a: Entry, b: Entry) -> bool
+        requires a_is_one { a.op < operations_in self.now }
+        requires b_is_one { b.op < operations_in self.now }
+        ensures { result ≡ conflict (do_conflict self.now) a b }
+    {
+        a.process != b.process && self.holds(a.op, b.op)
+    }
+
     /// Makes two operations conflict.
     pub fn set(&mut self, a: u16, b: u16)
         requires a_is_one { a < operations_in self.old }
@@ -81,6 +92,7 @@ impl Conflicts {
     /// An equal table.
     pub fn copy(&self, alloc: Global) -> Result<Conflicts, AllocError>
         ensures copy { IfOk result (λ t. t ≡ self.now) }
+        ensures table { IfOk result (λ t. is_table t ≡ true) }
     {
         let mut rows = Vec::new(alloc);
         for row in &self.rows {

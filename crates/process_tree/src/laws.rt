@@ -1,5 +1,6 @@
 // The laws of trees: each function says one, and does nothing.
-ghost use Rattle.process_tree.specs.Laws.{PathsLieInOrder, PathsPart, EachStepHasAPath, OneBranchToAStep, StepsGoUp, WholePathsEnd, EndsAreWhole, WaysAreIntervals, AlternativesAreIntervals, ConflictIsSymmetric, NextStepsHaveAClass, OwedStepsAreRetriable, CommitPointsStay, CommitPointsGrow};
+ghost use Rattle.process_tree.specs.Alternatives.{AlternativesAreWays, AlternativesFallInTurn, LaterWaysAreLaterAlternatives};
+ghost use Rattle.process_tree.specs.Laws.{PathsLieInOrder, PathsPart, EachStepHasAPath, OneBranchToAStep, StepsGoUp, WholePathsEnd, EndsAreWhole, WaysAreIntervals, AlternativesAreIntervals, ConflictIsSymmetric, EntriesConflictBothWays, ConflictIsBetweenProcesses, UndoConflictsAsItsStep, EntryConflictsAsItsStep, NextStepsHaveAClass, OwedStepsAreRetriable, CommitPointsStay, CommitPointsGrow};
 
 /// The whole paths of a tree go upward, and lie in order.
 pub fn paths_lie_in_order()
@@ -42,9 +43,30 @@ pub fn alternatives_are_intervals()
     ensures alternatives { AlternativesAreIntervals }
 {}
 
-/// Two operations conflict in either order or in none.
+/// The ways of a tree say of its alternatives what its blocks say: each step of an alternative is in a way that begins in it, a
+/// refusal that falls to an alternative is of a step of the one just before it, and the later ways are those that begin an
+/// alternative other than a first one.
+pub fn alternatives_are_ways()
+    ensures ways { AlternativesAreWays }
+    ensures falls { AlternativesFallInTurn }
+    ensures later { LaterWaysAreLaterAlternatives }
+{}
+
+/// Two operations conflict in either order or in none, and so do two entries.
 pub fn conflict_is_symmetric()
-    ensures { ConflictIsSymmetric }
+    ensures operations { ConflictIsSymmetric }
+    ensures entries { EntriesConflictBothWays }
+{}
+
+/// Entries of one process don't conflict.
+pub fn conflict_is_between_processes()
+    ensures { ConflictIsBetweenProcesses }
+{}
+
+/// An entry conflicts with what its undo conflicts with, and with what its step does while it is reserved, pending or running.
+pub fn conflict_is_of_steps()
+    ensures undo { UndoConflictsAsItsStep }
+    ensures step { EntryConflictsAsItsStep }
 {}
 
 /// Each next step of a well-formed process is reserved, committing or undoable.

@@ -28,7 +28,8 @@ pub use block::{Block, Tail};
 pub use conflicts::Conflicts;
 pub use entry::Entry;
 pub use laws::{
-    alternatives_are_intervals, commit_points_grow, commit_points_stay, conflict_is_symmetric,
+    alternatives_are_intervals, alternatives_are_ways, commit_points_grow, commit_points_stay,
+    conflict_is_between_processes, conflict_is_of_steps, conflict_is_symmetric,
     each_step_has_a_path, ends_are_whole, next_steps_have_a_class, one_branch_to_a_step,
     owed_steps_are_retriable, paths_lie_in_order, paths_part, steps_go_up, whole_paths_end,
 };
@@ -41,7 +42,7 @@ pub use plan::{Operations, Plan};
 pub use play::{Fallback, Outcome, Place, Places, Played};
 pub use step::{Step, StepKind, Steps};
 pub use tree::{Named, Tree, TreeError};
-pub use ways::branch_to;
+pub use ways::{branch_to, greater_of, shared};
 
 #[cfg(test)]
 mod tests;

@@ -7,13 +7,24 @@ ghost use Rattle.process_tree.specs.declared.name.NameError.TheVariants.{NoMemor
 use crate::MOST_NAME_BYTES;
 use std::alloc::{AllocError, Global};
 use std::error::Error;
-use std::fmt;
 use std::marker::Model;
+use std::{fmt, str};
 
 /// A name: 1 to 32 of `a-z0-9_`, beginning with a letter.
 #[derive(Drop)]
 pub struct Name {
     bytes: Vec<u8>,
+}
+
+impl fmt::Display for Name {
+    ghost output = { λ n. Some n };
+
+    fn fmt<W: fmt::Write>(&self, f: &mut fmt::Formatter<W>) -> fmt::Result {
+        match str::from_utf8(&self.bytes) {
+            Ok(text) => f.write_str(text),
+            Err(_) => unreachable!(),
+        }
+    }
 }
 
 impl Model for Name {

@@ -2,37 +2,12 @@
 ghost use Rattle.std.specs.Prelude.{◌≡◌, IfOk};
 ghost use Rattle.process_tree.specs.Form.{form_of, AreEqualPlans};
 
-use crate::{Block, Name, Step, Steps, Tail, Tree};
+use crate::{Block, Name, NameError, Step, Steps, Tail, Tree, TreeError};
+use plain_list::Items;
 use std::alloc::{AllocError, Global};
-use std::marker::Model;
 
 /// A list of operation numbers.
-#[derive(Drop)]
-pub struct Operations {
-    items: Vec<u16>,
-}
-
-impl Model for Operations {
-    ghost use Rattle.std.specs.Prelude.{List, ℕ};
-
-    ghost Value = { List ℕ };
-
-    ghost view = { λ s. s.items.items };
-}
-
-impl Operations {
-    pub fn new(items: Vec<u16>) -> Operations
-        ensures { result ≡ items.items }
-    {
-        Operations { items }
-    }
-
-    pub fn as_slice(&self) -> &[u16]
-        ensures { result.now ≡ self.now }
-    {
-        &self.items
-    }
-}
+pub type Operations = Items<u16>;
 
 /// A process with the number of each step's operation.
 #[derive(Drop)]
@@ -60,8 +35,8 @@ fn copy_name(alloc: Global, name: &Name) -> Result<Name, AllocError>
 {
     match Name::new(alloc, name.bytes()) {
         Ok(copy) => Ok(copy),
-        // It is a name, so memory alone can be wanting.
-        Err(_) => Err(AllocError),
+        Err(NameError::NoMemory) => Err(AllocError),
+        Err(NameError::BadName) => unreachable!(),
     }
 }
 
@@ -71,8 +46,8 @@ fn copy_tree(alloc: Global, tree: &Tree) -> Result<Tree, AllocError>
     let root = copy_block(alloc, tree.root())?;
     match Tree::build(alloc, root) {
         Ok(copy) => Ok(copy),
-        // It is a tree, so memory alone can be wanting.
-        Err(_) => Err(AllocError),
+        Err(TreeError::NoMemory) => Err(AllocError),
+        Err(_) => unreachable!(),
     }
 }
 

@@ -1,7 +1,5 @@
 // What play is given and what it answers.
-ghost use Rattle.std.specs.Prelude.{◌≡◌};
-
-use std::marker::Model;
+use plain_list::Items;
 
 /// How a try of a step ended.
 #[derive(Clone, Copy, Debug, PartialEq, Eq)]
@@ -29,38 +27,7 @@ pub enum Fallback {
 }
 
 /// A list of step numbers.
-#[derive(Drop)]
-pub struct Places {
-    items: Vec<u16>,
-}
-
-impl Model for Places {
-    ghost use Rattle.std.specs.Prelude.{List, ℕ};
-
-    ghost Value = { List ℕ };
-
-    ghost view = { λ s. s.items.items };
-}
-
-impl Places {
-    pub fn new(items: Vec<u16>) -> Places
-        ensures { result ≡ items.items }
-    {
-        Places { items }
-    }
-
-    pub fn as_slice(&self) -> &[u16]
-        ensures { result.now ≡ self.now }
-    {
-        &self.items
-    }
-
-    pub fn into_items(self) -> Vec<u16>
-        ensures { result.items ≡ self }
-    {
-        self.items
-    }
-}
+pub type Places = Items<u16>;
 
 /// How a play ended.
 #[derive(Drop)]

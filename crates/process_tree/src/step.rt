@@ -1,8 +1,9 @@
 // Steps of a process.
 ghost use Rattle.std.specs.Prelude.{◌≡◌};
+ghost use Rattle.process_tree.specs.Shape.{commits, can_be_refused};
 
 use crate::Name;
-use std::marker::Model;
+use plain_list::Items;
 
 /// How a step can be taken back.
 #[derive(Clone, Copy, Debug, PartialEq, Eq)]
@@ -13,6 +14,28 @@ pub enum StepKind {
     P,
     /// Retriable: it succeeds within its tries, and it can't be undone.
     R,
+}
+
+impl StepKind {
+    /// Whether a step of this kind is a commit point once it took effect.
+    pub fn commits(self) -> bool
+        ensures { result ≡ commits self }
+    {
+        match self {
+            StepKind::C => false,
+            StepKind::P | StepKind::R => true,
+        }
+    }
+
+    /// Whether a step of this kind can be refused.
+    pub fn can_be_refused(self) -> bool
+        ensures { result ≡ can_be_refused self }
+    {
+        match self {
+            StepKind::C | StepKind::P => true,
+            StepKind::R => false,
+        }
+    }
 }
 
 /// A step. A field that its kind doesn't have holds its default.
@@ -34,36 +57,4 @@ pub struct Step {
 }
 
 /// A list of steps.
-#[derive(Drop)]
-pub struct Steps {
-    items: Vec<Step>,
-}
-
-impl Model for Steps {
-    ghost use Rattle.std.specs.Prelude.{List};
-    ghost use Rattle.process_tree.specs.declared.step.Step.{Step};
-
-    ghost Value = { List Step };
-
-    ghost view = { λ s. s.items.items };
-}
-
-impl Steps {
-    pub fn new(items: Vec<Step>) -> Steps
-        ensures { result ≡ items.items }
-    {
-        Steps { items }
-    }
-
-    pub fn as_slice(&self) -> &[Step]
-        ensures { result.now ≡ self.now }
-    {
-        &self.items
-    }
-
-    pub fn into_items(self) -> Vec<Step>
-        ensures { result.items ≡ self }
-    {
-        self.items
-    }
-}
+pub type Steps = Items<Step>;

@@ -20,26 +20,6 @@ pub enum Standing {
     Stuck(u16),
 }
 
-/// Whether a step of this kind is a commit point once it took effect.
-fn commits(kind: StepKind) -> bool
-    ensures { result ≡ commits kind }
-{
-    match kind {
-        StepKind::C => false,
-        StepKind::P | StepKind::R => true,
-    }
-}
-
-/// Whether a step of this kind can be refused.
-fn can_be_refused(kind: StepKind) -> bool
-    ensures { result ≡ can_be_refused kind }
-{
-    match kind {
-        StepKind::C | StepKind::P => true,
-        StepKind::R => false,
-    }
-}
-
 /// The kind of a step.
 fn kind_of(tree: &Tree, n: u16) -> StepKind
     requires { n < length (outline tree.now).steps }
@@ -55,7 +35,7 @@ fn fixed_len(tree: &Tree, done: &[u16]) -> usize
 {
     let mut fixed = 0;
     for (place, step) in done.iter().enumerate() {
-        if commits(kind_of(tree, *step)) {
+        if kind_of(tree, *step).commits() {
             fixed = place + 1;
         }
     }
@@ -84,7 +64,7 @@ fn come_to(tree: &Tree, done: &mut Vec<u16>, place: Place) -> Result<Standing, A
 {
     let mut at = place;
     while let Place::Step(step) = at {
-        if can_be_refused(kind_of(tree, step)) {
+        if kind_of(tree, step).can_be_refused() {
             return Ok(Standing::Asks(step));
         }
         done.push(step)?;

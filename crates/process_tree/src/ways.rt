@@ -40,6 +40,7 @@ fn step_behind(path: &[u16], last: Option<u16>) -> Option<u16>
     }
 }
 
+/// The lesser of two, where they are there.
 fn lesser_of(found: Option<u16>, next: Option<u16>) -> Option<u16>
     ensures { result ≡ lesser_of found next }
 {
@@ -50,7 +51,8 @@ fn lesser_of(found: Option<u16>, next: Option<u16>) -> Option<u16>
     }
 }
 
-fn greater_of(found: Option<u16>, next: Option<u16>) -> Option<u16>
+/// The greater of two, where they are there.
+pub fn greater_of(found: Option<u16>, next: Option<u16>) -> Option<u16>
     ensures { result ≡ greater_of found next }
 {
     match (found, next) {
@@ -110,8 +112,9 @@ pub fn branch_to(paths: &[Places], step: u16) -> &[u16]
 }
 
 /// How many steps a path and a branch have in common.
-fn shared(branch: &[u16], path: &[u16]) -> usize
-    ensures { result ≡ shared branch.now path.now }
+pub fn shared(branch: &[u16], path: &[u16]) -> usize
+    ensures count { result ≡ shared branch.now path.now }
+    ensures same { take result branch.now ≡ take result path.now }
 {
     let mut count = 0;
     while count < branch.len() && count < path.len() && branch[count] == path[count] {

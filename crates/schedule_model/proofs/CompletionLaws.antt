@@ -15,7 +15,7 @@ use Rattle.schedule_model.specs.Histories.{active, is_active, is_in, starts, end
 use Rattle.schedule_model.specs.Completion.{completion, completed}
 use Rattle.schedule_model.specs.OwnOrder.{keeps_order, is_in_own_order, is_at_end}
 use Rattle.schedule_model.specs.Legal.{may_come, is_legal}
-use Rattle.schedule_model.specs.Laws.{AreGood, AllAtEnds, OwnOrderCompletionLaw, CompletionIsStable}
+use Rattle.schedule_model.specs.Laws.{AreGood, AllAtEnds, EndedAreAtEnds, OwnOrderCompletionLaw, CompletionIsStable}
 use Rattle.schedule_model.proofs.Induction.{by_legal, passes-push}
 use Rattle.schedule_model.proofs.Appends.{ends-append, is_in-append}
 use Rattle.schedule_model.proofs.Snoc.{net_of-other, net_of-start, net_of-end}
@@ -117,6 +117,9 @@ module _ (plans : List Plan) (good : AreGood plans) where
       ap (completion cs) (sym (append_assoc h (e ∷ []) part) ∙ ap (λ x. (h ++ x ∷ []) ++ part) (sym same))
       ∙ stable_on part rest (h ++ f.event ∷ []) (passes-push (keeps_order cs) h f.event own f.keeps) later)
       (completes plans good h (legal-from_own_order cs h own))
+
+pub ended-are_at_ends : EndedAreAtEnds
+ended-are_at_ends courses h i own is = ended-at_ends courses h (legal-from_own_order courses h own) i is
 
 pub own_order-completion : OwnOrderCompletionLaw
 own_order-completion plans h good own =

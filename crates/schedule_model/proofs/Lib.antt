@@ -24,6 +24,7 @@ pub mod GoodPlans
 pub mod ClassFacts
 pub mod Chains
 pub mod Behind
+pub mod FewActs
 pub mod WithinLimits
 pub mod PlannedShop
 pub mod Aside
@@ -43,3 +44,4 @@ pub mod CancelPhase
 pub mod SerialPhase
 pub mod ReductionLaws
 pub mod Acyclic
+pub mod Frames

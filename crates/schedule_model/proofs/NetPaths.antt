@@ -10,7 +10,8 @@ use Rattle.process_tree.specs.declared.entry.Entry.{Entry}
 use Rattle.process_tree.specs.declared.plan.Plan.{Plan}
 use Rattle.process_tree.specs.Shape.{Shape, kind_of, commits, fixed_len, goes_on_to}
 use Rattle.process_tree.specs.Recovery.{forward}
-use Rattle.process_tree.proofs.Reached.{goes_before, last_cases}
+use Rattle.process_tree.proofs.Reached.{goes_before}
+use Rattle.plain_list.proofs.Lasts.{last_cases}
 use Rattle.process_tree.proofs.InTurn.{goes_up}
 use Rattle.process_tree.proofs.TreeLaws.{paths_lie_in_order}
 use Rattle.schedule_model.specs.declared.event.Event.{Event}
@@ -31,7 +32,7 @@ use Rattle.schedule_model.proofs.Apart.{list_all-weaker}
 use Rattle.schedule_model.proofs.Undoing.{undoes, owed_without}
 use Rattle.schedule_model.proofs.GoodPlans.{HasGoodPlan, good_if_goes_on}
 use Rattle.schedule_model.proofs.OwedPaths.{first_owed, below_owed}
-use Rattle.schedule_model.proofs.WithinLimits.{done_other}
+use Rattle.schedule_model.proofs.FewActs.{done_other}
 
 -- w is nothing, or goes along a whole path
 abbrev pub IsBranch : Shape → List ℕ → Type 0

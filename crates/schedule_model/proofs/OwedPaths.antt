@@ -1,13 +1,13 @@
 -- The path that is owed: its first step goes on from what is fixed, and is above each step that can be undone.
 use Rattle.std.proofs.Common.{◌≡◌, ◌⊎◌, inl, inr, ⊎_elim, ℕ, zero, suc, ◌+◌, ◌<◌, ◌≤◌, Bool, true, false, cond, List, [], ◌∷◌, ◌++◌, length, take, drop, Option, Some, None, sym, refl, ap, ◌∙◌, subst, arith, append-nil, append_assoc, length-append, length-drop, nat_lt, ◌-◌, if◌then◌else◌}
-use Rattle.std.proofs.lemmas.Bool.{eq-eqb, ne_eqb, false≢true}
+use Rattle.std.proofs.lemmas.Bool.{eq-eqb, ne_eqb, false≢true, cases_eq}
 use Rattle.std.proofs.lemmas.List.{take-append-drop, drop-append-le}
 use Rattle.process_tree.specs.Order.{Each, PartsBelow, IsLaidOut, has}
 use Rattle.process_tree.specs.Shape.{Shape, kind_of, commits, fixed_len, goes_on_to, next_steps, greater, greatest, is_end, is_whole}
 use Rattle.process_tree.specs.Recovery.{class_of, class_by_kind, forward, last_after, last_path, with_rest, reserved}
 use Rattle.process_tree.specs.Termination.{IsWellFormed}
 use Rattle.process_tree.specs.Laws.{IsTreeShape}
-use Rattle.process_tree.proofs.Branches.{Each-has, has_here, same_or_not}
+use Rattle.process_tree.proofs.Branches.{Each-has, has_here}
 use Rattle.process_tree.proofs.Onward.{onward, onward_both, onward_has, goes_along, goes_on}
 use Rattle.process_tree.proofs.InTurn.{greatest_is, goes_within}
 use Rattle.process_tree.proofs.LastPath.{greatest_ge}
@@ -77,7 +77,7 @@ module _ (t : Shape) where
           some ∙ ap Some first
 
   pub first_owed : (w : List ℕ) (b : ℕ) (rest : List ℕ) → forward t w ≡ b ∷ rest → FirstOwed w b
-  first_owed w b rest is = by_fixed (same_or_not (fixed_len t w) 0)
+  first_owed w b rest is = by_fixed (cases_eq (fixed_len t w) 0)
     where
       by_fixed : (fixed_len t w ≡ 0) ⊎ (fixed_len t w ≡ 0 → ⊥) → FirstOwed w b
       by_fixed (inl none) =
@@ -153,7 +153,7 @@ module _ (t : Shape) (laid : IsLaidOut (length t.kinds) t.paths) where
         let on_v : goes_on_to t (take (fixed_len t w) w) d ≡ true = ap (λ v. goes_on_to t v d) whole ∙ on in
         let le = greatest_ge (next_steps t (take (fixed_len t w) w)) b d first.greatest on_v in
         let apart : d ≡ b → ⊥ = λ e. false≢true (sym not_commit ∙ (ap (λ x. commits (kind_of t x)) e ∙ owed_commits w b rest is)) in
-        ⊎_elim (λ same. absurd (apart same)) (λ differ. omega arith) (same_or_not d b)
+        ⊎_elim (λ same. absurd (apart same)) (λ differ. omega arith) (cases_eq d b)
     by_tail w (x ∷ u) b d rest tail none is on not_commit =
         let v = take (fixed_len t w) w in
         let first = first_owed t w b rest is in
@@ -163,7 +163,7 @@ module _ (t : Shape) (laid : IsLaidOut (length t.kinds) t.paths) where
         let on_x = goes_on t v x q.0 q.1 (onward_first v u q.0 x d q.2) in
         let le = greatest_ge (next_steps t v) b x first.greatest on_x in
         let apart : x ≡ b → ⊥ = λ e. false≢true (sym none.0 ∙ (ap (λ y. commits (kind_of t y)) e ∙ owed_commits w b rest is)) in
-        ⊎_elim (λ same. absurd (apart same)) (λ differ. below_next v u x b d on' first.on (omega arith)) (same_or_not x b)
+        ⊎_elim (λ same. absurd (apart same)) (λ differ. below_next v u x b d on' first.on (omega arith)) (cases_eq x b)
 
     -- a next step that isn't a commit point is below the first that is owed
     pub below_owed : (w : List ℕ) (b d : ℕ) (rest : List ℕ) → forward t w ≡ b ∷ rest → goes_on_to t w d ≡ true → commits (kind_of t d) ≡ false → d < b

@@ -1,8 +1,7 @@
 -- The standing facts of legal histories, as they are stated; what has ended doesn't block; and the completion law.
-use Rattle.std.proofs.Common.{◌≡◌, ◌⊎◌, inl, inr, ⊎_elim, ℕ, Bool, true, false, not, eqb, ◌&&◌, ◌||◌, List, [], ◌∷◌, ◌++◌, length, map, filter, sym, refl, ap, ◌∙◌, subst}
-use Rattle.std.proofs.Math.Bool.{and-false}
+use Rattle.std.proofs.Common.{◌≡◌, ◌⊎◌, inl, inr, ⊎_elim, ℕ, Bool, true, false, not, eqb, ◌&&◌, ◌||◌, List, [], ◌∷◌, ◌++◌, length, sym, refl, ap, ◌∙◌, subst}
 use Rattle.std.specs.Bool.{IsTrue}
-use Rattle.std.proofs.lemmas.Bool.{and_parts, and_from, eqb-true, or_left, not-true}
+use Rattle.std.proofs.lemmas.Bool.{and_parts, and_from, eqb-true, or_left, not-true, false≢true}
 use Rattle.process_tree.specs.declared.entry.Entry.{Entry}
 use Rattle.process_tree.specs.declared.plan.Plan.{Plan}
 use Rattle.schedule_model.specs.declared.event.Event.{Event}
@@ -17,10 +16,9 @@ use Rattle.schedule_model.specs.OwnOrder.{keeps_order}
 use Rattle.schedule_model.specs.Legal.{is_clear, is_legal, may_come}
 use Rattle.schedule_model.specs.Laws.{AreGood, StandingFacts, StandingFactsHold, CompletionLaw, EndedDontBlockUndos}
 use Rattle.schedule_model.proofs.Induction.{passes-push}
-use Rattle.schedule_model.proofs.Members.{Among, among-append, among-filter, in_filter, among-any, among-from_contains, filter-agree, among_there}
+use Rattle.schedule_model.proofs.Members.{Among, among-append, among-filter, in_filter, among-any, among-from_contains, among_there}
 use Rattle.schedule_model.proofs.Behind.{has_step, among_behind, behind-filter, behind-none, behind-split, same_step-process, same_step-symmetric}
 use Rattle.schedule_model.proofs.Apart.{Apart, Apart-filter, Apart-last, net-apart}
-use Rattle.schedule_model.proofs.Snoc.{filter_twice}
 use Rattle.schedule_model.proofs.Conflicts.{conflict-symmetric}
 use Rattle.schedule_model.proofs.Clear.{LaterApart, EntriesApart, OwedApart, clear-undo, clear-reserved, clear-end, is_holder, among_active_net}
 use Rattle.schedule_model.proofs.NoConflict.{own_order-legal, legal-from_own_order, reducible-legal}
@@ -29,6 +27,7 @@ use Rattle.schedule_model.proofs.OwedFree.{OwedFree, owed-free}
 use Rattle.schedule_model.proofs.FixedFree.{FixedFree, fixed-free}
 use Rattle.schedule_model.proofs.EndedFree.{EndedFree, ended-free}
 use Rattle.schedule_model.proofs.Orders.{same_step-through, behind-same_step}
+use Rattle.schedule_model.proofs.Aside.{undo-aside}
 use Rattle.schedule_model.proofs.CompletionFirst.{First, net-of_plans}
 use Rattle.schedule_model.proofs.CompletionLaws.{along_completion, all-at_ends}
 use Rattle.schedule_model.proofs.Members.{not_any, all-among}
@@ -152,9 +151,6 @@ module _ (table : ConflictRelation) (plans : List Plan) (h : List Event) (symmet
 
   -- A later entry of an ended process doesn't stand against an undo.
   module _ (x : Entry) (goes : IsTrue (is_active h x.process)) (op : x.op ≡ op_of cs x.process x.step) where
-    abbrev holds : Entry → Bool
-    holds f = is_in f.process (holders (at_rest cs h))
-
     by_ended : (y : Entry) → Among y (behind x (net h)) → IsTrue (is_in y.process (ends h)) → conflict table x y ≡ false
     by_ended y back ended = by_there (has_step x (net h)) refl
       where
@@ -172,22 +168,15 @@ module _ (table : ConflictRelation) (plans : List Plan) (h : List Event) (symmet
             ∙ (ap (λ o. not (eqb z.process y.process) && table o y.op) same_op
             ∙ ended_facts z y ended (outlives-active z.process y.process (ap (is_active h) (sym own) ∙ goes)) found.1 (subst (Among y) same_behind back))
 
-    conflicts_same : (y : Entry) → Among y (behind x (net h)) → (holds y && conflict table x y) ≡ conflict table x y
-    conflicts_same y back = by_process (ended_or_active y (among_behind x y (net h) back))
-      where
-        by_process : IsTrue (is_in y.process (ends h)) ⊎ IsTrue (is_active h y.process) → (is_in y.process (holders (at_rest cs h)) && conflict table x y) ≡ conflict table x y
-        by_process (inl ended) =
-            let none = by_ended y back ended in
-            ap (λ t. is_in y.process (holders (at_rest cs h)) && t) none ∙ (and-false (is_in y.process (holders (at_rest cs h))) ∙ sym none)
-        by_process (inr active) = ap (λ t. t && conflict table x y) (is_holder cs h y.process ∙ active)
-
     pub aside_undo : against_undo table (of_active (at_rest cs h)) x ≡ against_undo table (at_rest cs h) x
-    aside_undo =
-        let p : Entry → Bool = λ (f : Entry). is_in f.process (holders (at_rest cs h)) in
-        let same : filter (conflict table x) (behind x (filter p (net h))) ≡ filter (conflict table x) (behind x (net h)) =
-        ap (filter (conflict table x)) (behind-filter p x (net h) (λ f same. is_holder cs h f.process ∙ (ap (is_active h) (sym (same_step-process x f same)) ∙ goes)))
-        ∙ (filter_twice p (conflict table x) (behind x (net h)) ∙ filter-agree (λ y. p y && conflict table x y) (conflict table x) (behind x (net h)) conflicts_same) in
-        ap (λ ys. record { a0 = []; a1 = []; a2 = []; a3 = []; a4 = []; a5 = map (λ y. record { own = x; other = y }) ys }) same
+    aside_undo = undo-aside table (at_rest cs h) x (is_holder cs h x.process ∙ goes) conflicting_active
+      where
+        conflicting_active : (y : Entry) → Among y (behind x (net h)) → conflict table x y ≡ true → IsTrue (is_in y.process (holders (at_rest cs h)))
+        conflicting_active y back conflicts =
+            ⊎_elim
+            (λ ended. absurd (false≢true (sym (by_ended y back ended) ∙ conflicts)))
+            (λ acts. is_holder cs h y.process ∙ acts)
+            (ended_or_active y (among_behind x y (net h) back))
 
 pub standing-facts : StandingFactsHold
 standing-facts table plans h good = standing_facts table plans h good.symmetric good.good good.legal

@@ -1,21 +1,21 @@
 -- What stands in a legal history, and what is owed, is of processes that started.
-use Rattle.std.proofs.Common.{◌≡◌, inl, inr, ⊎_elim, ℕ, Bool, true, false, not, eqb, ◌||◌, List, [], ◌∷◌, ◌++◌, map, sym, refl, ap, ◌∙◌, subst, append-nil}
+use Rattle.std.proofs.Common.{◌≡◌, ◌⊎◌, inl, inr, ⊎_elim, ℕ, Bool, true, false, not, eqb, ◌||◌, List, [], ◌∷◌, ◌++◌, map, sym, refl, ap, ◌∙◌, subst, append-nil}
 use Rattle.std.specs.Bool.{IsTrue}
-use Rattle.std.proofs.lemmas.Bool.{and_parts, and_from, or_left, eqb-true, eq-eqb}
+use Rattle.std.proofs.lemmas.Bool.{and_parts, and_from, or_left, eqb-true, eq-eqb, or_cases, false≢true}
 use Rattle.process_tree.specs.declared.entry.Entry.{Entry}
 use Rattle.process_tree.specs.Recovery.{forward}
 use Rattle.schedule_model.specs.declared.event.Event.{Event}
 use Rattle.schedule_model.specs.declared.event.Event.TheVariants.{Start, Act, End}
 use Rattle.schedule_model.specs.Course.{Course, shape}
 use Rattle.schedule_model.specs.Conflict.{ConflictRelation}
-use Rattle.schedule_model.specs.Histories.{ends, is_active, is_in, net, net_of, same_step, starts, doing, steps_of}
+use Rattle.schedule_model.specs.Histories.{acts, ends, is_active, is_in, net, net_of, same_step, starts, doing, steps_of}
 use Rattle.schedule_model.specs.Recovery.{owed}
 use Rattle.schedule_model.specs.Legal.{may_come, is_legal}
 use Rattle.schedule_model.proofs.Induction.{by_legal}
 use Rattle.schedule_model.proofs.Members.{Among, among-append, among-filter, in_filter}
-use Rattle.schedule_model.proofs.Appends.{starts-append, ends-append, is_in-append}
+use Rattle.schedule_model.proofs.Appends.{acts-append, starts-append, ends-append, is_in-append}
 use Rattle.schedule_model.proofs.Snoc.{net-start, net-end, net-do, net-undo}
-use Rattle.schedule_model.proofs.Acting.{act_active}
+use Rattle.schedule_model.proofs.Acting.{act_active, end_active}
 
 -- an entry of a process is in the net, and of that process
 pub among_net_of : (h : List Event) (i : ℕ) (e : Entry) → Among e (net_of h i) → Among e (net h) × (e.process ≡ i)
@@ -54,6 +54,44 @@ module _ (table : ConflictRelation) (courses : List Course) where
   -- each net entry is of a process that started
   pub net-started : (h : List Event) → IsTrue (is_legal table courses h) → NetStarted h
   net-started h legal = by_legal table courses NetStarted (λ g e before may was. started_more g e may was) (λ f is. absurd is) h legal
+
+  -- each act is of a process that started
+  pub acts-started : (h : List Event) → IsTrue (is_legal table courses h) → (e : Entry) → Among e (acts h) → IsTrue (is_in e.process (starts h))
+  acts-started h legal =
+      by_legal table courses (λ g. (e : Entry) → Among e (acts g) → IsTrue (is_in e.process (starts g))) (λ g e before may was. acts_more g e may was) (λ e is. absurd is) h legal
+    where
+      acts_more : (h : List Event) (a : Event) → IsTrue (may_come table courses h a) → ((e : Entry) → Among e (acts h) → IsTrue (is_in e.process (starts h)))
+          → (e : Entry) → Among e (acts (h ++ a ∷ [])) → IsTrue (is_in e.process (starts (h ++ a ∷ [])))
+      acts_more h (Start k) may was e is = still_started h (Start k) e.process (was e (subst (Among e) (acts-append h (Start k ∷ []) ∙ append-nil (acts h)) is))
+      acts_more h (End k) may was e is = still_started h (End k) e.process (was e (subst (Among e) (acts-append h (End k ∷ []) ∙ append-nil (acts h)) is))
+      acts_more h (Act a) may was e is =
+          still_started h (Act a) e.process
+          (⊎_elim (λ before. was e before) (λ now. by_now now) (among-append e (acts h) (a ∷ []) (subst (Among e) (acts-append h (Act a ∷ [])) is)))
+        where
+          by_now : Among e (a ∷ []) → IsTrue (is_in e.process (starts h))
+          by_now (inl same) =
+              ap (λ (g : Entry). is_in g.process (starts h)) (sym same)
+              ∙ (and_parts (is_in a.process (starts h)) (not (is_in a.process (ends h))) (act_active table courses h a may)).0
+          by_now (inr none) = absurd none
+
+  -- each process that ended had started
+  pub ends-started : (h : List Event) → IsTrue (is_legal table courses h) → (i : ℕ) → IsTrue (is_in i (ends h)) → IsTrue (is_in i (starts h))
+  ends-started h legal =
+      by_legal table courses (λ g. (i : ℕ) → IsTrue (is_in i (ends g)) → IsTrue (is_in i (starts g))) (λ g e before may was. ends_more g e may was) (λ i is. absurd (false≢true is)) h legal
+    where
+      ends_more : (h : List Event) (a : Event) → IsTrue (may_come table courses h a) → ((i : ℕ) → IsTrue (is_in i (ends h)) → IsTrue (is_in i (starts h)))
+          → (i : ℕ) → IsTrue (is_in i (ends (h ++ a ∷ []))) → IsTrue (is_in i (starts (h ++ a ∷ [])))
+      ends_more h (Start k) may was i is = still_started h (Start k) i (was i (sym (ap (is_in i) (ends-append h (Start k ∷ []) ∙ append-nil (ends h))) ∙ is))
+      ends_more h (Act a) may was i is = still_started h (Act a) i (was i (sym (ap (is_in i) (ends-append h (Act a ∷ []) ∙ append-nil (ends h))) ∙ is))
+      ends_more h (End k) may was i is =
+          still_started h (End k) i
+          (⊎_elim (λ before. was i before) (λ now. by_now (or_cases (eqb i k) false now))
+          (or_cases (is_in i (ends h)) (is_in i (k ∷ [])) (sym (ap (is_in i) (ends-append h (End k ∷ [])) ∙ is_in-append i (ends h) (k ∷ [])) ∙ is)))
+        where
+          by_now : (eqb i k ≡ true) ⊎ (false ≡ true) → IsTrue (is_in i (starts h))
+          by_now (inl same) =
+              ap (λ j. is_in j (starts h)) (eqb-true i k same) ∙ (and_parts (is_in k (starts h)) (not (is_in k (ends h))) (end_active table courses h k may)).0
+          by_now (inr none) = absurd (false≢true none)
 
   -- one that owes has started
   pub owed-started : (h : List Event) → IsTrue (is_legal table courses h) → (i : ℕ) (s : Entry) → Among s (owed courses h i) → IsTrue (is_in i (starts h))

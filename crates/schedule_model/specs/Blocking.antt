@@ -35,27 +35,28 @@ in_front table g i =
     let es = active_net g in
     flat_map (λ x. flat_map (λ y. if nat_eq y.process i then against table y (x ∷ []) else []) (behind x es)) es
 
--- A0
+-- A0: what is under way elsewhere and conflicts with b
 abbrev pub with_running : ConflictRelation → Holdings → Entry → List Clash
 with_running table g b = against table b (all_running g)
 
--- A1
+-- A1: what another process has reserved, or has to undo, and conflicts with b
 abbrev pub with_reserved : ConflictRelation → Holdings → Entry → List Clash
 with_reserved table g b = against table b (all_reserved g ++ all_pending g)
 
--- A2
+-- A2: what conflicts with b and stands of an active process to which a walk leads from that of b
 abbrev pub in_a_circle : ConflictRelation → Holdings → Entry → List Clash
 in_a_circle table g b = filter (λ c. reaches table g b.process c.other.process) (against table b (active_net g))
 
--- A3, of a step: also what conflicts with the step itself
+-- A3, of a step: what stands of an active process and conflicts with b, or stands in front of an entry of its process and
+-- conflicts with that
 abbrev pub with_active : ConflictRelation → Holdings → Entry → List Clash
 with_active table g b = against table b (active_net g) ++ in_front table g b.process
 
--- A4; owed are the steps that it would reserve
+-- A4: what stands, is under way or is reserved elsewhere and conflicts with one of the steps that would be owed
 abbrev pub with_owed : ConflictRelation → Holdings → List Entry → List Clash
 with_owed table g owed = flat_map (λ s. against table s (active_net g ++ all_running g ++ all_reserved g)) owed
 
--- A5
+-- A5: what stands behind x and conflicts with it
 abbrev pub with_later : ConflictRelation → Holdings → Entry → List Clash
 with_later table g x = against table x (behind x g.net)
 

@@ -90,6 +90,11 @@ LimitsOfBeginnings = (l : Limits) (table : ConflictRelation) (plans : List Plan)
 abbrev pub CompletionKeepsLimits : Type 0
 CompletionKeepsLimits = (l : Limits) (courses : List Course) (h : List Event) → IsTrue (keeps_limits l courses h) → IsTrue (keeps_limits l courses (completed courses h))
 
+-- And it stands within them: what is added was counted when its processes started.
+abbrev pub CompletedStandsWithin : Type 0
+CompletedStandsWithin = (l : Limits) (plans : List Plan) (h : List Event) → AreGood plans → IsTrue (is_in_own_order (courses_of plans) h)
+    → IsTrue (keeps_limits l (courses_of plans) h) → IsTrue (stands_within l (courses_of plans) (completed (courses_of plans) h))
+
 -- In own order a process has at most twice as many acts as steps.
 abbrev pub ActsAreFew : Type 0
 ActsAreFew = (plans : List Plan) (h : List Event) (i : ℕ) → AreGood plans → IsTrue (is_in_own_order (courses_of plans) h)
@@ -105,6 +110,10 @@ LimitsHold = (l : Limits) (plans : List Plan) (h : List Event) → AreGood plans
 -- every process that started has done a whole path, or nothing of it is left
 abbrev pub AllAtEnds : List Course → List Event → Type 0
 AllAtEnds courses h = (i : ℕ) → IsTrue (is_in i (starts h)) → IsTrue (is_at_end courses h i)
+
+-- In own order each process that ended is at an end.
+abbrev pub EndedAreAtEnds : Type 0
+EndedAreAtEnds = (courses : List Course) (h : List Event) (i : ℕ) → IsTrue (is_in_own_order courses h) → IsTrue (is_in i (ends h)) → IsTrue (is_at_end courses h i)
 
 -- Completion law of own order: of a history in own order, the completed one is in own order, nobody is active in it, and
 -- each process is at an end.

@@ -1,5 +1,5 @@
 // The laws of histories: each function says one, and does nothing.
-ghost use Rattle.schedule_model.specs.Laws.{PrefixLaw, BeginningsArePlanned, FirstIllegalIsExact, BeginningsKeepLimits, CompletionKeepsLimits, ActsAreFew, LimitsHold, OwnOrderCompletionLaw, CompletionLaw, CompletionIsStable, StandingFactsHold, OpeningsAreAcyclic, LimitsOfBeginnings, EndedDontBlockUndos, AppliedStepsReduce, ReductionLaw, PrefixReducibility, ClassFactsHold, EndedDontBlockSteps};
+ghost use Rattle.schedule_model.specs.Laws.{PrefixLaw, BeginningsArePlanned, FirstIllegalIsExact, BeginningsKeepLimits, CompletionKeepsLimits, CompletedStandsWithin, ActsAreFew, LimitsHold, EndedAreAtEnds, OwnOrderCompletionLaw, CompletionLaw, CompletionIsStable, StandingFactsHold, OpeningsAreAcyclic, LimitsOfBeginnings, EndedDontBlockUndos, AppliedStepsReduce, ReductionLaw, PrefixReducibility, ClassFactsHold, EndedDontBlockSteps};
 ghost use Rattle.schedule_model.specs.PlannedExample.{ShopIsPlanned};
 
 /// Each beginning of a legal history is legal, with the plans of those that started in it.
@@ -28,9 +28,10 @@ pub fn beginnings_keep_limits()
     ensures planned { LimitsOfBeginnings }
 {}
 
-/// The completion of a history within limits is within them.
+/// The completion of a history within limits is within them, and stands within them at its end.
 pub fn completion_keeps_limits()
-    ensures { CompletionKeepsLimits }
+    ensures judged { CompletionKeepsLimits }
+    ensures counted { CompletedStandsWithin }
 {}
 
 /// A process has at most twice as many acts as steps.
@@ -41,6 +42,11 @@ pub fn acts_are_few()
 /// Nothing but a start adds to what limits count.
 pub fn limits_hold()
     ensures { LimitsHold }
+{}
+
+/// Each process that ended has done a whole path, or nothing of it is left.
+pub fn ended_are_at_ends()
+    ensures { EndedAreAtEnds }
 {}
 
 /// A completed history is in own order, nobody is active in it, and each process is at an end.

@@ -18,7 +18,7 @@ pub use history::{History, Plans};
 pub use laws::{
     acts_are_few, applied_steps_reduce, beginnings_are_legal, beginnings_are_planned,
     beginnings_keep_limits, beginnings_reduce, class_facts_hold, completion_is_stable,
-    completion_keeps_limits, ended_dont_block_steps, ended_dont_block_undos,
+    completion_keeps_limits, ended_are_at_ends, ended_dont_block_steps, ended_dont_block_undos,
     first_illegal_is_exact, legal_histories_are_completed, limits_hold, openings_are_acyclic,
     own_order_is_completed, reducible_histories_reduce, standing_facts_hold, the_shop_is_planned,
 };

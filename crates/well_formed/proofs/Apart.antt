@@ -1,27 +1,14 @@
 -- How two whole paths lie to each other.
-use Rattle.std.proofs.Common.{◌≡◌, ◌⊎◌, inl, inr, ⊎_elim, subst, ℕ, ◌<◌, ◌≤◌, zero, suc, false, List, [], ◌∷◌, length, take, Some, None, refl, sym, ap, ◌∙◌, arith, if◌then◌else◌, slice_index}
-use Rattle.process_tree.specs.Order.{Each, PartsBelow, AreInOrder, has}
+use Rattle.std.proofs.lemmas.Bool.{eq-eqb, cases_eq, cases_Bool}
+use Rattle.std.proofs.Common.{◌≡◌, ◌⊎◌, inl, inr, ⊎_elim, ℕ, ◌<◌, ◌≤◌, zero, suc, false, List, [], ◌∷◌, length, take, Some, None, refl, sym, ap, ◌∙◌, arith, if◌then◌else◌, slice_index}
+use Rattle.process_tree.specs.Order.{Each, PartsBelow, has}
 use Rattle.process_tree.proofs.Every.{Each-weaker}
-use Rattle.process_tree.proofs.Branches.{eq_true, same_or_not, is_or_not, has_here, has_there, Each-has, Among, Each-among}
+use Rattle.process_tree.proofs.Branches.{has_here, has_there, Each-has}
 use Rattle.process_tree.proofs.Onward.{onward, onward_both, onward_has}
 
 -- they are the same, or one parts below the other
 abbrev pub Apart : List ℕ → List ℕ → Type 0
 Apart p q = (p ≡ q) ⊎ (PartsBelow p q ⊎ PartsBelow q p)
-
-pub apart : (ps : List (List ℕ)) (p q : List ℕ) → AreInOrder ps → Among p ps → Among q ps → Apart p q
-apart [] p q order inp inq = absurd inp
-apart (r ∷ ps) p q order inp inq =
-    ⊎_elim
-    (λ e. ⊎_elim
-    (λ f. inl (e ∙ sym f))
-    (λ later. inr (inl (subst (λ z. PartsBelow z q) (sym e) (Each-among (PartsBelow r) ps q order.0 later))))
-    inq)
-    (λ later. ⊎_elim
-    (λ f. inr (inr (subst (λ z. PartsBelow z p) (sym f) (Each-among (PartsBelow r) ps p order.0 later))))
-    (λ too. apart ps p q order.1 later too)
-    inq)
-    inp
 
 -- what follows the first step
 tail : List ℕ → List ℕ
@@ -94,12 +81,12 @@ leaves (y ∷ w) (z ∷ p) (u ∷ q) b apart below on off =
     let same : y ≡ z = both.0 in
     ⊎_elim
     (λ e.
-    let off' = ⊎_elim (λ t. let h = has_there b u q t in absurd (cc)) (λ f. f) (is_or_not (has b q)) in
+    let off' = ⊎_elim (λ t. let h = has_there b u q t in absurd (cc)) (λ f. f) (cases_Bool (has b q)) in
     let r = leaves w p q b (rests z u p q e apart) below.1 both.1 off' in (
       suc r.0,
       r.1,
       omega (arith, r.2),
-      ap (λ t. if t then onward (take r.0 w) q else None) (eq_true y u (same ∙ e)) ∙ r.3,
+      ap (λ t. if t then onward (take r.0 w) q else None) (eq-eqb y u (same ∙ e)) ∙ r.3,
       ⊎_elim (λ lt. inl lt) (λ all. inr ((omega arith), all)) r.4,
     ))
     (λ n. (
@@ -112,7 +99,7 @@ leaves (y ∷ w) (z ∷ p) (u ∷ q) b apart below on off =
           (λ under. inr (Each-weaker (λ x. x < z) (λ x. x < b) (λ x lt. omega arith) (u ∷ q) under))
           (differ z u p q n apart),
     ))
-    (same_or_not z u)
+    (cases_eq z u)
 
 -- a path with b has the steps before it
 pub onward_at : (w p : List ℕ) (b k : ℕ) → onward w p ≡ Some b → k < length w → onward (take k w) p ≡ Some (slice_index w k)
@@ -121,4 +108,4 @@ onward_at (x ∷ w) [] b k on lt = absurd (cc)
 onward_at (x ∷ w) (y ∷ p) b zero on lt = ap Some (sym (onward_both x y b w p on).0)
 onward_at (x ∷ w) (y ∷ p) b (suc k) on lt =
     let both = onward_both x y b w p on in
-    ap (λ t. if t then onward (take k w) p else None) (eq_true x y both.0) ∙ onward_at w p b k both.1 (omega arith)
+    ap (λ t. if t then onward (take k w) p else None) (eq-eqb x y both.0) ∙ onward_at w p b k both.1 (omega arith)

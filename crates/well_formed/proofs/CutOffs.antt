@@ -1,4 +1,6 @@
 -- Nothing falls back to a step that is cut off.
+use Rattle.process_tree.proofs.Wholes.{paths_part}
+use Rattle.process_tree.proofs.Fixed.{fixed_from-ge}
 use Rattle.std.proofs.Common.{◌≡◌, ⊎_elim, subst, ℕ, ◌+◌, ◌-◌, ◌<◌, ◌≤◌, zero, suc, Bool, true, false, List, [], ◌∷◌, length, take, filter, flat_map, Option, Some, None, refl, sym, ap, ◌∙◌, arith, nat_lt, if◌then◌else◌, take_all, slice_index, not}
 use Rattle.std.proofs.lemmas.Bool.{cases_lt}
 use Rattle.process_tree.specs.declared.step.StepKind.{StepKind}
@@ -11,26 +13,17 @@ use Rattle.process_tree.specs.Termination.{IsFallenTo}
 use Rattle.process_tree.proofs.Numbers.{numbers_between, in_flat, to_flat, in_filter, to_filter, least_is}
 use Rattle.process_tree.proofs.Onward.{goes_along, goes_on}
 use Rattle.well_formed.specs.Flaws.{IsOrderly, is_sure, is_cut_off}
-use Rattle.well_formed.proofs.Apart.{apart, beyond, onward_at}
+use Rattle.well_formed.proofs.Apart.{beyond, onward_at}
 use Rattle.well_formed.proofs.Once.{below, has_below, below_has, greatest_is}
 use Rattle.well_formed.proofs.Standing.{IsStand, stands, on_above}
 use Rattle.well_formed.proofs.Reach.{Each-at, before_is}
-
--- no commit point is forgotten
-fixed_ge : (t : Shape) (w : List ℕ) (i last : ℕ) → last ≤ i → last ≤ fixed_from t w i last
-fixed_ge t [] i last le = omega arith
-fixed_ge t (b ∷ w) i last le = by_kind (commits (kind_of t b)) (λ l ok. fixed_ge t w (i + 1) l ok)
-  where
-    by_kind : (c : Bool) → ((l : ℕ) → l ≤ i + 1 → l ≤ fixed_from t w (i + 1) l) → last ≤ fixed_from t w (i + 1) (if c then i + 1 else last)
-    by_kind true rest = omega (arith, rest (i + 1) (omega arith))
-    by_kind false rest = rest last (omega arith)
 
 -- what stands up to a commit point is fixed
 commit_from : (t : Shape) (w : List ℕ) (k i last : ℕ) → k < length w → commits (kind_of t (slice_index w k)) ≡ true → i + k + 1 ≤ fixed_from t w i last
 commit_from t [] k i last lt is = absurd (omega arith)
 commit_from t (b ∷ w) zero i last lt is =
     let e = ap (λ c. fixed_from t w (i + 1) (if c then i + 1 else last)) is in
-    let ge = fixed_ge t w (i + 1) (i + 1) (omega arith) in
+    let ge = fixed_from-ge t w (i + 1) (i + 1) (omega arith) in
     let P : ℕ → Type 0 = λ n. i + 0 + 1 ≤ n in
     subst P (sym e) (omega (arith, ge))
 commit_from t (b ∷ w) (suc k) i last lt is = omega (arith, commit_from t w k (i + 1) (if commits (kind_of t b) then i + 1 else last) (omega arith) is)
@@ -85,7 +78,7 @@ before_fails t w b d k e o f before sure =
     let le = most.1 x (below_has d x (next_steps t (take k w)) (goes_on t (take k w) x p.0 p.1 at) (omega arith)) in
     ⊎_elim
     (λ less.
-    let far = beyond w p.0 q.0 k b e (apart t.paths p.0 q.0 o.in_order p.1 q.1) p.2 q.2 lt less in
+    let far = beyond w p.0 q.0 k b e (paths_part t.paths p.0 q.0 o.in_order p.1 q.1) p.2 q.2 lt less in
     let no = nearer far in
     let yes = under.1 in
     omega arith)

@@ -1,18 +1,18 @@
 -- What is wrong first with the steps of a process is the first fault of it.
+use Rattle.process_tree.proofs.Reached.{asks_there}
 use Rattle.std.proofs.Common.{◌≡◌, ⊎_elim, ℕ, ◌+◌, ◌*◌, ◌≤◌, ◌&&◌, Bool, true, false, List, [], ◌∷◌, length, Option, Some, None, refl, sym, ap, ◌∙◌, arith, nat_lt, if◌then◌else◌}
-use Rattle.std.proofs.lemmas.Bool.{cases_lt, ltb-true, lt-ltb}
+use Rattle.std.proofs.lemmas.Bool.{cases_lt, ltb-true, lt-ltb, ne_eqb}
 use Rattle.process_tree.specs.declared.play.Outcome.TheVariants.{Refused}
 use Rattle.process_tree.specs.declared.play.Played.TheVariants.{Nothing, Stuck}
 use Rattle.process_tree.specs.Shape.{Shape, kind_of, can_be_refused, next_steps, goes_on_to, greatest, fixed_len, branch_to}
 use Rattle.process_tree.specs.Play.{ended, go_on, go_back, answered, end_of, play, arrive, fallback_of}
 use Rattle.process_tree.specs.Termination.{once, ways_before, is_later_way, IsFallenTo, IsWellFormed, outcomes_to, Fault, stuck_at, unreachable_at, IsFault, IsFirstFault, rank}
-use Rattle.process_tree.proofs.Branches.{eq_false}
 use Rattle.process_tree.proofs.Onward.{branch_from}
 use Rattle.well_formed.specs.declared.flaw.Flaw.TheVariants.{CutOff, DeadEnd}
 use Rattle.well_formed.specs.Flaws.{IsOrderly, is_cut_off, is_dead_end, is_nowhere, is_sure, flaw_at, IsSound, IsOn, IsSoundBelow}
 use Rattle.well_formed.proofs.Once.{below, has_below, greatest_is, greatest_none}
 use Rattle.well_formed.proofs.Standing.{on_branch, stuck_is_dead_end}
-use Rattle.well_formed.proofs.Reach.{NoneCutOff, nearest, may_fail, arrive_asks, reaches, stand_append, ways_are, before_is, one_more}
+use Rattle.well_formed.proofs.Reach.{NoneCutOff, nearest, may_fail, reaches, stand_append, ways_are, before_is, one_more}
 use Rattle.well_formed.proofs.CutOffs.{never_fallen_to}
 
 pub both_true : (a b : Bool) → (a && b) ≡ true → (a ≡ true) × (b ≡ true)
@@ -68,7 +68,7 @@ fallen_to t d o later whole = by_before (greatest (below d (next_steps t v))) re
         let on_e = on_branch t v e o under.0 in
         let r = reaches t e o on_e (λ y lt. whole y (let less = under.1 in omega arith)) in
         let may = may_fail t v e d o is.0 before (whole d (omega arith) is.0) in
-        (r.0, v, e, r.2 ∙ ap (λ w. arrive t w e) (branch_from t v e o.in_order o.rising under.0) ∙ arrive_asks t v e may, nearest t v e d o is.0 before)
+        (r.0, v, e, r.2 ∙ ap (λ w. arrive t w e) (branch_from t v e o.in_order o.rising under.0) ∙ asks_there t v e may, nearest t v e d o is.0 before)
 
 -- there is no way on
 nowhere : (o : Option ℕ) → is_nowhere o ≡ true → o ≡ None
@@ -85,9 +85,9 @@ dead_end_is_stuck t b o on dead whole =
     let some = ltb-true 0 (fixed_len t w) rest.1 in
     ap (play t) r.1
     ∙ ap end_of (stand_append t (go_on t []) r.0 (Refused ∷ []))
-    ∙ ap (λ s. end_of (answered t s Refused)) (r.2 ∙ arrive_asks t w b rest.0)
+    ∙ ap (λ s. end_of (answered t s Refused)) (r.2 ∙ asks_there t w b rest.0)
     ∙ ap (λ n. end_of (go_back t w b n)) (nowhere (fallback_of t w b) parts.1)
-    ∙ ap (λ c. end_of (ended (if c then Nothing else Stuck b))) (eq_false (fixed_len t w) 0 (λ e. omega arith))
+    ∙ ap (λ c. end_of (ended (if c then Nothing else Stuck b))) (ne_eqb (fixed_len t w) 0 (λ e. omega arith))
 
 -- where each step is sound, the process is well-formed
 pub all_sound : (t : Shape) → IsOrderly t → ((b : ℕ) → IsOn t b → IsSound t b) → IsWellFormed t

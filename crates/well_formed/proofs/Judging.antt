@@ -1,9 +1,9 @@
 -- What the tests of a step answer, in terms of the shape.
-use Rattle.std.proofs.Common.{◌≡◌, ◌⊎◌, inl, inr, ⊎_elim, ℕ, ◌+◌, ◌-◌, ◌<◌, ◌≤◌, ◌&&◌, zero, suc, Bool, true, false, List, [], ◌∷◌, ◌++◌, length, Option, Some, None, refl, sym, ap, ◌∙◌, arith, nat_lt, not, if◌then◌else◌}
+use Rattle.std.proofs.Common.{◌≡◌, ◌⊎◌, inl, inr, ⊎_elim, ℕ, ◌-◌, ◌<◌, ◌≤◌, ◌&&◌, zero, suc, Bool, true, false, List, [], ◌∷◌, length, Option, Some, None, refl, sym, ap, ◌∙◌, arith, nat_lt, not}
 use Rattle.std.proofs.lemmas.Bool.{lt-ltb}
 use Rattle.std.specs.Option.{IfSome}
 use Rattle.std.specs.List.{list_any, filter_map, slice_get}
-use Rattle.process_tree.specs.Shape.{Shape, kind_of, can_be_refused, commits, next_steps, goes_on_to, greatest, fixed_len, fixed_from, last_of}
+use Rattle.process_tree.specs.Shape.{Shape, kind_of, can_be_refused, next_steps, goes_on_to, greatest, fixed_len, last_of}
 use Rattle.process_tree.specs.Play.{fallback_of}
 use Rattle.process_tree.proofs.Onward.{branch_from}
 use Rattle.process_tree.proofs.Kept.{fixed_le}
@@ -62,23 +62,6 @@ not_dead false some on is = refl
 -- no more is fixed than there is
 pub fixed_inside : (t : Shape) (w : List ℕ) (fixed : ℕ) → fixed ≡ fixed_len t w → fixed ≤ length w
 fixed_inside t w fixed is = omega (arith, is, fixed_le t w)
-
--- one step more
-fixed_next : (t : Shape) (w : List ℕ) (x i last : ℕ) → fixed_from t (w ++ x ∷ []) i last ≡ (if commits (kind_of t x) then i + length w + 1 else fixed_from t w i last)
-fixed_next t [] x i last = by_kind (commits (kind_of t x))
-  where
-    by_kind : (c : Bool) → (if c then i + 1 else last) ≡ (if c then i + 0 + 1 else last)
-    by_kind true = omega arith
-    by_kind false = refl
-fixed_next t (y ∷ w) x i last =
-    let l = if commits (kind_of t y) then i + 1 else last in
-    let n : i + 1 + length w + 1 ≡ i + length (y ∷ w) + 1 = omega arith in
-    fixed_next t w x (i + 1) l ∙ ap (λ m. if commits (kind_of t x) then m else fixed_from t w (i + 1) l) n
-
-pub fixed_append : (t : Shape) (w : List ℕ) (x : ℕ) → fixed_len t (w ++ x ∷ []) ≡ (if commits (kind_of t x) then length w + 1 else fixed_len t w)
-fixed_append t w x =
-    let n : 0 + length w + 1 ≡ length w + 1 = omega arith in
-    fixed_next t w x 0 0 ∙ ap (λ m. if commits (kind_of t x) then m else fixed_len t w) n
 
 -- nothing is fixed: no dead end
 pub dead_free : (t : Shape) (w : List ℕ) (b fixed : ℕ) → IsOrderly t → goes_on_to t w b ≡ true → fixed ≡ fixed_len t w → fixed ≡ 0 → false ≡ is_dead_end t b

@@ -1,11 +1,11 @@
 -- Each number of a list counted once.
 use Rattle.std.proofs.Common.{◌≡◌, ◌||◌, ⊎_elim, ℕ, ◌+◌, ◌<◌, ◌≤◌, suc, Bool, true, false, List, [], ◌∷◌, length, filter, Option, Some, None, refl, sym, ap, ◌∙◌, arith, nat_lt, if◌then◌else◌}
-use Rattle.std.proofs.lemmas.Bool.{lt-ltb, le-ltb, cases_lt}
+use Rattle.std.proofs.lemmas.Bool.{lt-ltb, le-ltb, cases_lt, ne_eqb, cases_Bool}
 use Rattle.process_tree.specs.Order.{has}
-use Rattle.process_tree.specs.Shape.{greatest, greater, least}
+use Rattle.process_tree.specs.Shape.{greatest, greater}
 use Rattle.process_tree.specs.Termination.{once}
-use Rattle.process_tree.proofs.Branches.{eq_false, is_or_not, has_cases, has_here, has_there}
-use Rattle.process_tree.proofs.Numbers.{least_is, least_some}
+use Rattle.process_tree.proofs.Branches.{has_cases, has_here, has_there}
+use Rattle.process_tree.proofs.Numbers.{some_greater}
 
 -- those below a number
 abbrev pub below : ℕ → List ℕ → List ℕ
@@ -55,14 +55,6 @@ greatest_is (x ∷ xs) d is = by_rest (greatest xs) refl (λ g e. greatest_is xs
         none_has : (e : ℕ) (xs : List ℕ) → greatest xs ≡ None → has e xs ≡ true → ⊥
         none_has e [] r on = cc
         none_has e (y ∷ ys) r on = some_greater y (greatest ys) r
-          where
-            some_greater : (y : ℕ) (o : Option ℕ) → greater y o ≡ None → ⊥
-            some_greater y None f = cc
-            some_greater y (Some z) f = by_lt (nat_lt z y) f
-              where
-                by_lt : (t : Bool) → (if t then Some y else Some z) ≡ None → ⊥
-                by_lt true f = cc
-                by_lt false f = cc
     by_rest (Some g) r rec =
         let rest = rec g r in
         ⊎_elim
@@ -78,24 +70,6 @@ greatest_is (x ∷ xs) d is = by_rest (greatest xs) refl (λ g e. greatest_is xs
 pub greatest_none : (xs : List ℕ) → greatest xs ≡ None → xs ≡ []
 greatest_none [] is = refl
 greatest_none (x ∷ xs) is = absurd (some_greater x (greatest xs) is)
-  where
-    some_greater : (y : ℕ) (o : Option ℕ) → greater y o ≡ None → ⊥
-    some_greater y None f = cc
-    some_greater y (Some z) f = by_lt (nat_lt z y) f
-      where
-        by_lt : (t : Bool) → (if t then Some y else Some z) ≡ None → ⊥
-        by_lt true f = cc
-        by_lt false f = cc
-
--- a number that is there and above none is the least
-pub is_least : (xs : List ℕ) (d : ℕ) → has d xs ≡ true → ((e : ℕ) → has e xs ≡ true → d ≤ e) → least xs ≡ Some d
-is_least [] d on le = absurd (cc)
-is_least (x ∷ xs) d on le =
-    let some = least_some x xs in
-    let is = least_is (x ∷ xs) some.0 some.1 in
-    let up = le some.0 is.0 in
-    let down = is.1 d on in
-    some.1 ∙ ap Some (omega arith)
 
 -- how often a number counts among these
 abbrev pub here : ℕ → List ℕ → ℕ
@@ -115,7 +89,7 @@ at_greatest x e n ns lt same rest =
         ∙ rest
         ∙ ap (λ t. length (once (below e ns)) + (if t then 1 else 0)) on
     by_seen false off =
-        let none = ⊎_elim (λ t. absurd (let h = (has_below x n ns t).0 in let g = ap (λ z. has z ns) same in cc)) (λ f. f) (is_or_not (has n (below x ns))) in
+        let none = ⊎_elim (λ t. absurd (let h = (has_below x n ns t).0 in let g = ap (λ z. has z ns) same in cc)) (λ f. f) (cases_Bool (has n (below x ns))) in
         ap (λ t. length (if t then once (below x ns) else n ∷ once (below x ns))) none
         ∙ ap suc (rest ∙ ap (λ t. length (once (below e ns)) + (if t then 1 else 0)) off)
         ∙ (omega arith)
@@ -127,11 +101,11 @@ under_greatest x e n ns lt less rest =
     ∙ ap (λ t. length (if t then once (below x ns) else n ∷ once (below x ns))) (both (has n (below x ns)) refl)
     ∙ more (has n (below e ns))
     ∙ sym (ap (λ l. length (once l) + here e ns) (below-in e n ns less))
-    ∙ sym (ap (λ t. length (once (below e (n ∷ ns))) + (if t then 1 else 0)) (ap (λ t. t || has e ns) (eq_false e n (λ f. omega arith))))
+    ∙ sym (ap (λ t. length (once (below e (n ∷ ns))) + (if t then 1 else 0)) (ap (λ t. t || has e ns) (ne_eqb e n (λ f. omega arith))))
   where
     both : (t : Bool) → has n (below x ns) ≡ t → has n (below x ns) ≡ has n (below e ns)
     both true is = is ∙ sym (below_has e n ns (has_below x n ns is).0 less)
-    both false is = is ∙ sym (⊎_elim (λ t. absurd (let h = below_has x n ns (has_below e n ns t).0 (omega arith) in cc)) (λ f. f) (is_or_not (has n (below e ns))))
+    both false is = is ∙ sym (⊎_elim (λ t. absurd (let h = below_has x n ns (has_below e n ns t).0 (omega arith) in cc)) (λ f. f) (cases_Bool (has n (below e ns))))
 
     more : (t : Bool) → length (if t then once (below x ns) else n ∷ once (below x ns)) ≡ length (if t then once (below e ns) else n ∷ once (below e ns)) + here e ns
     more true = rest
@@ -143,7 +117,7 @@ over_greatest x e n ns lt up rest =
     ap (λ l. length (once l)) (below-out x n ns up)
     ∙ rest
     ∙ sym (ap (λ l. length (once l) + here e ns) (below-out e n ns (omega arith)))
-    ∙ sym (ap (λ t. length (once (below e (n ∷ ns))) + (if t then 1 else 0)) (ap (λ t. t || has e ns) (eq_false e n (λ f. omega arith))))
+    ∙ sym (ap (λ t. length (once (below e (n ∷ ns))) + (if t then 1 else 0)) (ap (λ t. t || has e ns) (ne_eqb e n (λ f. omega arith))))
 
 -- of those below x, e is the greatest: there is one more of them than below e
 pub counted : (x e : ℕ) (ns : List ℕ) → e < x → ((n : ℕ) → has n ns ≡ true → n < x → n ≤ e) → length (once (below x ns)) ≡ length (once (below e ns)) + here e ns

@@ -1,6 +1,8 @@
 -- Play reaches each step of a process in which nothing before it is cut off.
+use Rattle.process_tree.proofs.Wholes.{paths_part}
+use Rattle.process_tree.proofs.Reached.{least_of, asks_there}
 use Rattle.std.proofs.Common.{◌≡◌, ⊎_elim, ℕ, ◌+◌, ◌<◌, ◌≤◌, zero, suc, Bool, true, false, List, [], ◌∷◌, ◌++◌, length, take, filter, flat_map, ◌-◌, Option, Some, None, refl, sym, ap, ◌∙◌, arith, nat_lt, if◌then◌else◌, append_assoc, append-nil, take_all, slice_index, replicate, not}
-use Rattle.std.proofs.lemmas.Bool.{cases_lt}
+use Rattle.std.proofs.lemmas.Bool.{cases_lt, eq-eqb}
 use Rattle.std.proofs.lemmas.List.{replicate-append-replicate}
 use Rattle.process_tree.specs.declared.play.Outcome.{Outcome}
 use Rattle.process_tree.specs.declared.play.Outcome.TheVariants.{Done, Refused}
@@ -9,13 +11,12 @@ use Rattle.process_tree.specs.Order.{Each, IsRising, AreInOrder, has}
 use Rattle.process_tree.specs.Shape.{Shape, kind_of, can_be_refused, next_steps, goes_on_to, least, greatest, fixed_len, branch_to}
 use Rattle.process_tree.specs.Play.{Stand, asks, follow, come_to, arrive, go_on, go_back, answered, stand_from, stand, kept_prefixes, fallback_of, kept_for}
 use Rattle.process_tree.specs.Termination.{once, ways_before, outcomes_along, outcomes_to}
-use Rattle.process_tree.proofs.Branches.{eq_true}
 use Rattle.process_tree.proofs.Numbers.{numbers_has, in_flat, to_flat, in_filter, to_filter, least_is}
 use Rattle.process_tree.proofs.Onward.{onward, onward_both, goes_along, goes_on, branch_from}
 use Rattle.process_tree.proofs.Kept.{kept_goes_on, fixed_le}
 use Rattle.well_formed.specs.Flaws.{IsOrderly, IsOn, way_before, is_sure, is_cut_off}
-use Rattle.well_formed.proofs.Apart.{apart, beyond}
-use Rattle.well_formed.proofs.Once.{below, has_below, below_has, greatest_is, greatest_none, is_least, counted}
+use Rattle.well_formed.proofs.Apart.{beyond}
+use Rattle.well_formed.proofs.Once.{below, has_below, below_has, greatest_is, greatest_none, counted}
 use Rattle.well_formed.proofs.Standing.{on_branch, on_within, on_above, last_below}
 
 -- the ways that lie before that of x where it goes on from v
@@ -33,7 +34,7 @@ Each-at P (x ∷ v) (suc k) h lt = Each-at P v k h.1 (omega arith)
 
 -- a refused step falls back to the next way at the same choice, if there is one
 pub nearest : (t : Shape) (v : List ℕ) (e x : ℕ) → IsOrderly t → goes_on_to t v x ≡ true → greatest (below x (next_steps t v)) ≡ Some e → fallback_of t v e ≡ Some x
-nearest t v e x o on before = is_least (filter (λ d. nat_lt e d) (flat_map (next_steps t) (kept_prefixes t v))) x at least_of
+nearest t v e x o on before = least_of (filter (λ d. nat_lt e d) (flat_map (next_steps t) (kept_prefixes t v))) x at none_nearer
   where
     most : (has e (below x (next_steps t v)) ≡ true) × ((d : ℕ) → has d (below x (next_steps t v)) ≡ true → d ≤ e)
     most = greatest_is (below x (next_steps t v)) e before
@@ -49,8 +50,8 @@ nearest t v e x o on before = is_least (filter (λ d. nat_lt e d) (flat_map (nex
         (ap (λ w. has x (next_steps t w)) (take_all (length v) v (omega arith)) ∙ on))
         under.1
 
-    least_of : (d : ℕ) → has d (filter (λ d. nat_lt e d) (flat_map (next_steps t) (kept_prefixes t v))) ≡ true → x ≤ d
-    least_of d on_d =
+    none_nearer : (d : ℕ) → has d (filter (λ d. nat_lt e d) (flat_map (next_steps t) (kept_prefixes t v))) ≡ true → x ≤ d
+    none_nearer d on_d =
         let f = fixed_len t v in
         let passed = in_filter e d (flat_map (next_steps t) (kept_prefixes t v)) on_d in
         let prefix = in_flat (next_steps t) (λ k. take k v) d (numbers_from f (length v - f + 1)) passed.0 in
@@ -60,7 +61,7 @@ nearest t v e x o on before = is_least (filter (λ d. nat_lt e d) (flat_map (nex
         let p = goes_along t v x on in
         let q = goes_along t (take k v) d prefix.2 in
         let up : slice_index v k < e = Each-at (λ b. b < e) v k (on_above t v e o under.0) lt in
-        let far : x < d = beyond v p.0 q.0 k x d (apart t.paths p.0 q.0 o.in_order p.1 q.1) p.2 q.2 lt (omega (arith, passed.1)) in
+        let far : x < d = beyond v p.0 q.0 k x d (paths_part t.paths p.0 q.0 o.in_order p.1 q.1) p.2 q.2 lt (omega (arith, passed.1)) in
         omega arith)
         (λ le.
         let same : has d (next_steps t v) ≡ true = sym (ap (λ w. has d (next_steps t w)) (take_all k v le)) ∙ prefix.2 in
@@ -74,14 +75,6 @@ kept_there t v e x o on falls = sym (branch_from t (kept_for t v x) x o.in_order
 -- none of the steps below n is cut off
 abbrev pub NoneCutOff : Shape → ℕ → Type 0
 NoneCutOff t n = (y : ℕ) → y < n → IsOn t y → is_cut_off t y ≡ false
-
--- play comes to a step that can be refused, and asks
-asks_at : (n : ℕ) (t : Shape) (v : List ℕ) (e : ℕ) → can_be_refused (kind_of t e) ≡ true → come_to n t v e ≡ asks v e
-asks_at zero t v e may = refl
-asks_at (suc n) t v e may = ap (λ b. if b then asks v e else follow (come_to n t) (v ++ e ∷ []) (least (next_steps t (v ++ e ∷ [])))) may
-
-pub arrive_asks : (t : Shape) (v : List ℕ) (e : ℕ) → can_be_refused (kind_of t e) ≡ true → arrive t v e ≡ asks v e
-arrive_asks t v e may = asks_at (length t.kinds) t v e may
 
 -- the way before one that isn't cut off may be refused
 pub may_fail : (t : Shape) (v : List ℕ) (e x : ℕ) → IsOrderly t → goes_on_to t v x ≡ true → greatest (below x (next_steps t v)) ≡ Some e → is_cut_off t x ≡ false → can_be_refused (kind_of t e) ≡ true
@@ -100,7 +93,7 @@ stand_append t s (x ∷ xs) ys = stand_append t (answered t s x) xs ys
 pub pass : (t : Shape) (v : List ℕ) (e x : ℕ) → IsOrderly t → goes_on_to t v x ≡ true → greatest (below x (next_steps t v)) ≡ Some e → can_be_refused (kind_of t e) ≡ true → answered t (arrive t v e) Refused ≡ arrive t v x
 pass t v e x o on before may =
     let falls = nearest t v e x o on before in
-    ap (λ s. answered t s Refused) (arrive_asks t v e may)
+    ap (λ s. answered t s Refused) (asks_there t v e may)
     ∙ ap (go_back t v e) falls
     ∙ ap (λ w. arrive t w x) (kept_there t v e x o on falls)
 
@@ -122,7 +115,7 @@ passes (suc n) t v x o on whole lt = by_before (greatest (below x (next_steps t 
     by_before : (g : Option ℕ) → greatest (below x (next_steps t v)) ≡ g → ((e : ℕ) → goes_on_to t v e ≡ true → e < x → stand_from t (go_on t v) (replicate (length (ways_before t e)) Refused) ≡ arrive t v e) → stand_from t (go_on t v) (replicate (length (ways_before t x)) Refused) ≡ arrive t v x
     by_before None is rest =
         let none = greatest_none (below x (next_steps t v)) is in
-        let first = is_least (next_steps t v) x on (λ e on_e. ⊎_elim (λ less. absurd (let h = sym (ap (has e) none) ∙ below_has x e (next_steps t v) on_e less in cc)) (λ le. le) (cases_lt e x)) in
+        let first = least_of (next_steps t v) x on (λ e on_e. ⊎_elim (λ less. absurd (let h = sym (ap (has e) none) ∙ below_has x e (next_steps t v) on_e less in cc)) (λ le. le) (cases_lt e x)) in
         ap (λ l. stand_from t (go_on t v) (replicate (length l) Refused)) (ways_are t v x o.in_order o.rising on ∙ ap once none) ∙ ap (follow (arrive t) v) first
     by_before (Some e) is rest =
         let under = has_below x e (next_steps t v) (greatest_is (below x (next_steps t v)) e is).0 in
@@ -168,7 +161,7 @@ done : (t : Shape) (v : List ℕ) (x : ℕ) → IsOrderly t → goes_on_to t v x
 done t v x o on = by_kind (can_be_refused (kind_of t x)) refl
   where
     by_kind : (b : Bool) → can_be_refused (kind_of t x) ≡ b → stand_from t (arrive t v x) (if b then Done ∷ [] else []) ≡ go_on t (v ++ x ∷ [])
-    by_kind true may = ap (λ s. answered t s Done) (arrive_asks t v x may)
+    by_kind true may = ap (λ s. answered t s Done) (asks_there t v x may)
     by_kind false sure = done_at_once t v x o on sure
 
 -- a beginning of the branch to a step goes on with the next step of it
@@ -178,7 +171,7 @@ onward_prefix [] x xs (y ∷ p) b on = ap Some (sym (onward_both x y b xs p on).
 onward_prefix (z ∷ v) x xs [] b on = absurd (cc)
 onward_prefix (z ∷ v) x xs (y ∷ p) b on =
     let both = onward_both z y b (v ++ x ∷ xs) p on in
-    ap (λ t. if t then onward v p else None) (eq_true z y both.0) ∙ onward_prefix v x xs p b both.1
+    ap (λ t. if t then onward v p else None) (eq-eqb z y both.0) ∙ onward_prefix v x xs p b both.1
 
 -- one of the steps of a list is below what all of it is below
 mid_below : (v : List ℕ) (x : ℕ) (xs : List ℕ) (d : ℕ) → Each (λ y. y < d) (v ++ x ∷ xs) → x < d

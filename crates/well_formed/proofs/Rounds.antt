@@ -1,14 +1,15 @@
 -- Paths are judged one after another, and on each the steps from its beginning.
+use Rattle.process_tree.proofs.Fixed.{fixed_more}
+use Rattle.std.proofs.lemmas.Bool.{eq-eqb}
 use Rattle.std.proofs.Common.{◌≡◌, ◌⊎◌, inl, inr, ⊎_elim, subst, ℕ, ◌+◌, ◌<◌, ◌≤◌, zero, suc, true, List, [], ◌∷◌, length, take, Some, None, refl, sym, ap, ◌∙◌, arith, if◌then◌else◌, slice_index, slice_index_or, take_all, add-one}
 use Rattle.std.proofs.Math.Seq.{take-suc}
 use Rattle.std.proofs.lemmas.List.{length-take-le}
 use Rattle.process_tree.specs.Order.{Each, IsRising, PartsBelow, AreInOrder, has}
 use Rattle.process_tree.specs.Shape.{Shape, goes_on_to, branch_to, kind_of, commits, fixed_len}
 use Rattle.process_tree.proofs.Every.{Each-append}
-use Rattle.process_tree.proofs.Branches.{eq_true, has_cases, has_here, has_there, Each-has, Among, Each-among}
+use Rattle.process_tree.proofs.Branches.{has_cases, has_here, has_there, Each-has, Among, Each-among}
 use Rattle.process_tree.proofs.Onward.{onward, onward_has, goes_along, goes_on}
 use Rattle.well_formed.specs.Flaws.{IsOrderly, IsSound, IsSoundBelow}
-use Rattle.well_formed.proofs.Judging.{fixed_append}
 
 -- what each of a list has, each of its beginnings has
 pub Each-take : {A : Type 0} (P : A → Type 0) (n : ℕ) (xs : List A) → Each P xs → Each P (take n xs)
@@ -51,7 +52,7 @@ split_at (p ∷ ps) (suc at) q lt order inq =
 pub self_onward : (p : List ℕ) (k : ℕ) → k < length p → onward (take k p) p ≡ Some (slice_index p k)
 self_onward [] k lt = absurd (omega arith)
 self_onward (x ∷ p) zero lt = refl
-self_onward (x ∷ p) (suc k) lt = ap (λ t. if t then onward (take k p) p else None) (eq_true x x refl) ∙ self_onward p k (omega arith)
+self_onward (x ∷ p) (suc k) lt = ap (λ t. if t then onward (take k p) p else None) (eq-eqb x x refl) ∙ self_onward p k (omega arith)
 
 -- each step of a path goes on from those before it
 pub on_at : (t : Shape) (at k : ℕ) (p : List ℕ) → at < length t.paths → p ≡ slice_index_or t.paths at [] → k < length p → goes_on_to t (take k p) (slice_index p k) ≡ true
@@ -127,5 +128,5 @@ fixed_on t p k fixed lt is =
     let n : k + 1 ≡ length (take k p) + 1 = ap (λ m. m + 1) (sym (length-take-le k p (omega arith))) in
     ap (λ f. if commits (kind_of t x) then k + 1 else f) is
     ∙ ap (λ m. if commits (kind_of t x) then m else fixed_len t (take k p)) n
-    ∙ sym (fixed_append t (take k p) x)
+    ∙ sym (fixed_more t (take k p) x)
     ∙ sym (ap (λ n. fixed_len t (take n p)) (add-one k) ∙ ap (fixed_len t) (take-suc p k 0 lt))

@@ -1,4 +1,5 @@
 -- A step at a place of a path stands behind the same steps on all paths, so its place tells whether a path goes on from them.
+use Rattle.std.proofs.lemmas.Bool.{eq-eqb, ne_eqb, cases_Bool}
 use Rattle.std.proofs.Common.{◌≡◌, ⊎_elim, ℕ, ◌<◌, zero, suc, Bool, true, false, List, [], ◌∷◌, ◌++◌, length, take, Option, Some, None, refl, sym, ap, ◌∙◌, arith, nat_lt, if◌then◌else◌, slice_index}
 use Rattle.std.proofs.lemmas.Bool.Decides.{eqb_tells}
 use Rattle.std.proofs.lemmas.List.{length-take-le}
@@ -6,7 +7,7 @@ use Rattle.std.specs.List.{filter_map, cons_option, slice_get}
 use Rattle.process_tree.specs.Order.{Each, IsRising, AreInOrder, has}
 use Rattle.process_tree.specs.Paths.{behind}
 use Rattle.process_tree.specs.Shape.{Shape, first_of, next_steps, goes_on_to, steps_before}
-use Rattle.process_tree.proofs.Branches.{is_or_not, eq_true, eq_false, has_cases, has_here, has_there, before_here, before_there, Each-has, Among, Each-among, branch_is}
+use Rattle.process_tree.proofs.Branches.{has_cases, has_here, has_there, before_here, before_there, Each-has, Among, Each-among, branch_is}
 use Rattle.process_tree.proofs.Onward.{onward, onward_has, onward_before, onward_behind, onward_off, filter_map-same, next_is, goes_along}
 use Rattle.well_formed.specs.Spots.{is_step, stands_at, step_on, if_earlier, earlier_way}
 use Rattle.well_formed.proofs.Apart.{onward_at}
@@ -18,7 +19,7 @@ step_is c None is = absurd (cc)
 step_is c (Some x) is = ⊎_elim (λ t. ap Some t.1) (λ f. absurd (let g = f.0 in cc)) (eqb_tells x c)
 
 pub is_that : (c : ℕ) (o : Option ℕ) → o ≡ Some c → is_step c o ≡ true
-is_that c o is = ap (is_step c) is ∙ eq_true c c refl
+is_that c o is = ap (is_step c) is ∙ eq-eqb c c refl
 
 -- the steps before a place of a path
 pub at_place : (c k : ℕ) (p : List ℕ) → IsRising p → slice_get p k ≡ Some c → (has c p ≡ true) × (steps_before c p ≡ take k p)
@@ -48,11 +49,11 @@ behind_is c [] on = absurd (cc)
 behind_is c (x ∷ p) on =
     ⊎_elim
     (λ e.
-    ap (λ t. if t then first_of p else behind c p) (eq_true x c (sym e))
+    ap (λ t. if t then first_of p else behind c p) (eq-eqb x c (sym e))
     ∙ first_is p
     ∙ sym (ap (λ v. slice_get (x ∷ p) (suc (length v))) (before_here c x p e)))
     (λ rest.
-    ap (λ t. if t then first_of p else behind c p) (eq_false x c (λ e. rest.0 (sym e)))
+    ap (λ t. if t then first_of p else behind c p) (ne_eqb x c (λ e. rest.0 (sym e)))
     ∙ behind_is c p rest.1
     ∙ sym (ap (λ v. slice_get (x ∷ p) (suc (length v))) (before_there c x p rest.0)))
     (has_cases c x p on)
@@ -69,7 +70,7 @@ pub step_on_is : (k : ℕ) (t : Shape) (w : List ℕ) (b : ℕ) (q : List ℕ) �
 step_on_is zero t [] b q order rise on inq is = refl
 step_on_is zero t (x ∷ w) b q order rise on inq is = absurd (omega arith)
 step_on_is (suc k) t w b q order rise on inq is =
-    ⊎_elim at (λ off. not_at (has c q) refl off) (is_or_not (stands_at c k q))
+    ⊎_elim at (λ off. not_at (has c q) refl off) (cases_Bool (stands_at c k q))
   where
     c : ℕ
     c = slice_index w k

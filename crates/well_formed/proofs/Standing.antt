@@ -1,13 +1,13 @@
 -- Where play stands: at a step that may be refused, on the branch to it; and it gets stuck at dead ends only.
 use Rattle.std.proofs.Common.{◌≡◌, subst, ℕ, ◌+◌, ◌<◌, ◌≤◌, ◌&&◌, zero, suc, Bool, true, false, List, [], ◌∷◌, ◌++◌, length, Option, Some, None, refl, ap, ◌∙◌, arith, nat_eq, nat_lt, if◌then◌else◌}
-use Rattle.std.proofs.lemmas.Bool.{lt-ltb}
+use Rattle.std.proofs.lemmas.Bool.{lt-ltb, eq-eqb}
 use Rattle.process_tree.specs.declared.play.Outcome.{Outcome}
 use Rattle.process_tree.specs.declared.play.Outcome.TheVariants.{Done, Refused}
 use Rattle.process_tree.specs.declared.play.Played.TheVariants.{Path, Nothing, Stuck, Unfinished}
 use Rattle.process_tree.specs.Order.{Each}
 use Rattle.process_tree.specs.Shape.{Shape, kind_of, can_be_refused, next_steps, goes_on_to, least, fixed_len, branch_to}
 use Rattle.process_tree.specs.Play.{Stand, asks, ended, follow, come_to, arrive, go_on, go_back, answered, stand_from, stand, fallback_of, kept_for, end_of, play}
-use Rattle.process_tree.proofs.Branches.{eq_true, Each-has, Each-among}
+use Rattle.process_tree.proofs.Branches.{Each-has, Each-among}
 use Rattle.process_tree.proofs.Numbers.{least_is}
 use Rattle.process_tree.proofs.Onward.{onward_has, onward_above, goes_along, branch_from}
 use Rattle.process_tree.proofs.Kept.{kept_goes_on}
@@ -83,7 +83,7 @@ back_stands t w b o on may = by_way (fallback_of t w b) refl
       where
         by_fixed : (f : Bool) → nat_eq (fixed_len t w) 0 ≡ f → IsStand t (ended (if f then Nothing else Stuck b))
         by_fixed true is = tt
-        by_fixed false is = (on_branch t w b o on, stuck_there t w b o on may e (λ z. let f = eq_true (fixed_len t w) 0 z in cc))
+        by_fixed false is = (on_branch t w b o on, stuck_there t w b o on may e (λ z. let f = eq-eqb (fixed_len t w) 0 z in cc))
 
 -- one outcome
 pub answer_stands : (t : Shape) (s : Stand) (o : Outcome) → IsOrderly t → IsStand t s → IsStand t (answered t s o)

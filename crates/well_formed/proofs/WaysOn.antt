@@ -1,18 +1,20 @@
 -- Whether a refused step behind a commit point has a way on, as it is looked up: by the last step of each path.
+use Rattle.process_tree.proofs.Wholes.{paths_part}
+use Rattle.std.proofs.Math.Bool.{or-true}
 use Rattle.std.proofs.Common.{◌≡◌, ◌⊎◌, inl, inr, ⊎_elim, ℕ, ◌+◌, ◌-◌, ◌<◌, ◌≤◌, ◌&&◌, ◌||◌, zero, suc, Bool, true, false, List, [], ◌∷◌, length, take, filter, flat_map, Option, Some, None, refl, sym, ap, ◌∙◌, arith, nat_lt, if◌then◌else◌, slice_index, not, take_all}
-use Rattle.std.proofs.lemmas.Bool.{ltb-true, lt-ltb, cases_lt}
+use Rattle.std.proofs.lemmas.Bool.{ltb-true, lt-ltb, cases_lt, eq-eqb, cases_Bool}
 use Rattle.std.specs.List.{list_any, slice_get}
 use Rattle.process_tree.specs.Blocks.{numbers_from}
 use Rattle.process_tree.specs.Order.{Each, IsRising, has}
 use Rattle.process_tree.specs.Shape.{Shape, last_of, next_steps, goes_on_to, fixed_len, least}
 use Rattle.process_tree.specs.Play.{kept_prefixes, fallback_of}
-use Rattle.process_tree.proofs.Branches.{is_or_not, eq_true, has_cases, has_here, has_there, Each-has, Among, Each-among, branch_is}
+use Rattle.process_tree.proofs.Branches.{has_cases, has_here, has_there, Each-has, Among, Each-among, branch_is}
 use Rattle.process_tree.proofs.Numbers.{numbers_has, numbers_between, in_flat, to_flat, in_filter, to_filter, least_is, least_some}
 use Rattle.process_tree.proofs.Onward.{onward, onward_both, onward_has, onward_before, onward_self, goes_along, goes_on}
 use Rattle.process_tree.proofs.Kept.{fixed_le}
 use Rattle.well_formed.specs.Flaws.{IsOrderly, is_nowhere}
 use Rattle.well_formed.specs.Spots.{stands_at, is_later, leaves_later}
-use Rattle.well_formed.proofs.Apart.{apart, leaves, onward_at}
+use Rattle.well_formed.proofs.Apart.{leaves, onward_at}
 use Rattle.well_formed.proofs.Firsts.{both_true}
 use Rattle.well_formed.proofs.Reach.{Each-at}
 use Rattle.well_formed.proofs.Spots.{step_is, is_that, at_place, place_is}
@@ -58,7 +60,7 @@ along_w (x ∷ w) (y ∷ q) zero (suc j) lt le on = absurd (omega arith)
 along_w (x ∷ w) (y ∷ q) (suc k) zero lt le on = ap Some (sym (onward_both x y (slice_index w k) (take k w) q on).0)
 along_w (x ∷ w) (y ∷ q) (suc k) (suc j) lt le on =
     let both = onward_both x y (slice_index w k) (take k w) q on in
-    ap (λ t. if t then onward (take j w) q else None) (eq_true x y both.0) ∙ along_w w q k j (omega arith) (omega arith) both.1
+    ap (λ t. if t then onward (take j w) q else None) (eq-eqb x y both.0) ∙ along_w w q k j (omega arith) (omega arith) both.1
 
 -- what some path is, and that one is
 pub any_among : (f : List ℕ → Bool) (ps : List (List ℕ)) → list_any f ps ≡ true → (q : List ℕ) × Among q ps × (f q ≡ true)
@@ -74,12 +76,8 @@ among_any f [] q inq is = absurd inq
 among_any f (p ∷ ps) q inq is =
     ⊎_elim
     (λ e. ap (λ b. b || list_any f ps) (sym (ap f e) ∙ is))
-    (λ later. ap (λ b. f p || b) (among_any f ps q later is) ∙ or_true (f p))
+    (λ later. ap (λ b. f p || b) (among_any f ps q later is) ∙ or-true (f p))
     inq
-  where
-    or_true : (a : Bool) → (a || true) ≡ true
-    or_true true = refl
-    or_true false = refl
 
 not_true : (b : Bool) → not b ≡ true → b ≡ false
 not_true true is = absurd (cc)
@@ -120,7 +118,7 @@ leaves_is_way t w b k q o on fixed inq is =
     last = later_is b (last_of q) parts.1
 
     off : has b q ≡ false
-    off = ⊎_elim (λ on_q. absurd (not_both on_q)) (λ f. f) (is_or_not (has b q))
+    off = ⊎_elim (λ on_q. absurd (not_both on_q)) (λ f. f) (cases_Bool (has b q))
       where
         not_both : has b q ≡ true → ⊥
         not_both on_q =
@@ -139,7 +137,7 @@ leaves_is_way t w b k q o on fixed inq is =
         sym (ap (λ v. onward v q) before) ∙ onward_self c q at.0
 
     left : (j : ℕ) × (d : ℕ) × (j ≤ length w) × (onward (take j w) q ≡ Some d) × ((b < d) ⊎ Each (λ z. z < b) q)
-    left = leaves w p q b (apart t.paths p q o.in_order along.1 inq) (on_above t w b o on) along.2 off
+    left = leaves w p q b (paths_part t.paths p q o.in_order along.1 inq) (on_above t w b o on) along.2 off
 
     up : b < left.1
     up = ⊎_elim (λ lt. lt) (λ all. absurd (let less : last.0 < b = Each-has (λ z. z < b) q last.0 all (last_has q last.0 last.1) in let more = last.2 in omega arith)) left.4
@@ -197,7 +195,7 @@ way_leaves t w b d k o on fixed falls =
 
     -- b isn't on it, since it goes on from w with a later step
     off : stands_at b (length w) q ≡ false
-    off = ⊎_elim (λ here. absurd (not_here here)) (λ f. f) (is_or_not (stands_at b (length w) q))
+    off = ⊎_elim (λ here. absurd (not_here here)) (λ f. f) (cases_Bool (stands_at b (length w) q))
       where
         not_here : stands_at b (length w) q ≡ true → ⊥
         not_here here =

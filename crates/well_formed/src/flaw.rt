@@ -7,7 +7,7 @@ ghost use Rattle.process_tree.specs.Paths.{greater_of};
 ghost use Rattle.well_formed.specs.Flaws.{shape_by, IsOrderly, flaw_at, IsSound, is_sure};
 ghost use Rattle.well_formed.specs.Spots.{stands_at, step_on, earlier_way, is_later, leaves_later};
 
-use process_tree::{Places, StepKind};
+use process_tree::{Places, greater_of};
 
 /// What can be wrong with a step.
 #[derive(Clone, Copy, Debug, PartialEq, Eq)]
@@ -16,26 +16,6 @@ pub enum Flaw {
     CutOff,
     /// If it is refused, the process is stuck.
     DeadEnd,
-}
-
-pub fn can_be_refused(kind: StepKind) -> bool
-    ensures { result ≡ can_be_refused kind }
-{
-    match kind {
-        StepKind::C => true,
-        StepKind::P => true,
-        StepKind::R => false,
-    }
-}
-
-pub fn commits(kind: StepKind) -> bool
-    ensures { result ≡ commits kind }
-{
-    match kind {
-        StepKind::C => false,
-        StepKind::P => true,
-        StepKind::R => true,
-    }
 }
 
 fn stands_at(path: &[u16], place: usize, step: u16) -> bool
@@ -67,16 +47,6 @@ fn earlier_way(path: &[u16], branch: &[u16], step: u16) -> Option<u16>
     match step_on(path, branch) {
         None => None,
         Some(other) => { if other < step { Some(other) } else { None } }
-    }
-}
-
-fn greater_of(found: Option<u16>, next: Option<u16>) -> Option<u16>
-    ensures { result ≡ greater_of found next }
-{
-    match (found, next) {
-        (None, _) => next,
-        (Some(step), None) => Some(step),
-        (Some(step), Some(other)) => Some(if other < step { step } else { other }),
     }
 }
 

@@ -5,8 +5,8 @@ ghost use Rattle.process_tree.specs.Order.{Each};
 ghost use Rattle.process_tree.specs.Shape.{goes_on_to, fixed_len, commits};
 ghost use Rattle.well_formed.specs.Flaws.{shape_by, IsOrderly, is_sure, is_cut_off, is_dead_end, flaw_at, IsSound, AreJudged, IsJudged};
 
-use crate::flaw::{Flaw, can_be_refused, commits, has_way_on, way_before};
-use process_tree::{Places, StepKind};
+use crate::flaw::{Flaw, has_way_on, way_before};
+use process_tree::{Places, StepKind, shared};
 
 /// A step with what is wrong with it.
 #[derive(Clone, Copy)]
@@ -22,7 +22,7 @@ fn is_sure(kinds: &[StepKind], way: Option<u16>) -> bool
 {
     match way {
         None => false,
-        Some(step) => !can_be_refused(kinds[usize::from(step)]),
+        Some(step) => !kinds[usize::from(step)].can_be_refused(),
     }
 }
 
@@ -52,7 +52,7 @@ fn is_dead_end(
     if fixed == 0 {
         return false;
     }
-    if !can_be_refused(kinds[usize::from(step)]) {
+    if !kinds[usize::from(step)].can_be_refused() {
         return false;
     }
     !has_way_on(paths, branch, fixed, step)
@@ -91,7 +91,7 @@ fn fixed_behind(kinds: &[StepKind], fixed: usize, place: usize, step: u16) -> us
     requires place { place < 18446744073709551615 }
     ensures { result ≡ (if commits (slice_index_or kinds.now step C) then place + 1 else fixed) }
 {
-    if commits(kinds[usize::from(step)]) {
+    if kinds[usize::from(step)].commits() {
         place + 1
     } else {
         fixed
@@ -116,17 +116,6 @@ fn flaw_on(paths: &[Places], kinds: &[StepKind], at: usize, skip: usize) -> Opti
         fixed = fixed_behind(kinds, fixed, place, step);
     }
     None
-}
-
-/// How many steps two paths have in common.
-fn shared(earlier: &[u16], path: &[u16]) -> usize
-    ensures { take result earlier.now ≡ take result path.now }
-{
-    let mut count = 0;
-    while count < earlier.len() && count < path.len() && earlier[count] == path[count] {
-        count += 1;
-    }
-    count
 }
 
 /// What is wrong first with a process with these whole paths and kinds.

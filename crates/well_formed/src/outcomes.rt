@@ -7,7 +7,7 @@ ghost use Rattle.process_tree.specs.Termination.{ways_before, outcomes_to};
 ghost use Rattle.well_formed.specs.Flaws.{shape_by, IsOrderly, IsOn};
 
 use crate::Outcomes;
-use crate::flaw::{can_be_refused, way_before};
+use crate::flaw::way_before;
 use process_tree::{Outcome, Places, StepKind, branch_to};
 use std::alloc::{AllocError, Global};
 
@@ -35,7 +35,7 @@ fn pass_ways(
 fn pass_step(kind: StepKind, outcomes: &mut Vec<Outcome>) -> Result<(), AllocError>
     ensures { OnOk result (outcomes.new.items ≡ outcomes.old.items ++ (if can_be_refused kind then Done ∷ [] else [])) }
 {
-    if can_be_refused(kind) {
+    if kind.can_be_refused() {
         outcomes.push(Outcome::Done)?;
     }
     Ok(())

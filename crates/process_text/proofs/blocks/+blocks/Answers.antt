@@ -8,6 +8,7 @@ use Rattle.process_text.specs.FirstFault.{told_behind}
 use Rattle.process_text.specs.Leading.{with_names}
 use Rattle.process_text.proofs.Pieces.{writes_choice, writes_or, writes_done}
 use Rattle.process_text.proofs.Turns.{is_or}
+use Rattle.process_text.proofs.Fitting.{end_fits, choice_fits, alternative_fits, some_if}
 use Rattle.process_text.proofs.blocks.+blocks.Goals as goal
 
 pub read_block-returns-in_err-steps-clause-err : goal.read_block-returns-in_err-steps-clause-err
@@ -72,6 +73,8 @@ read_choice-loop-alloc-preserved t c =
     let room : nat_lt (length c.loop-alloc.blocks.items) 8 ≡ true = lt-ltb (length c.loop-alloc.blocks.items) 8 (omega arith) in
     record {
       few = omega arith;
+      fits = rw c.in_ok-push.ensures.items (alternative_fits c.args.left c.args.names.now c.loop-alloc.names c.read_block.new.names c.loop-alloc.blocks.items c.in_ok-block.block
+          c.loop-alloc.invariant.fits c.in_ok-block.ensures.fits (omega arith));
       written = rw c.in_ok-push.ensures.items (writes_or c.loop-alloc.blocks.items c.in_ok-block.block c.args.words.now c.loop-alloc.words _ c.read_block.new.words
           c.loop-alloc.invariant.written c.in_ok-block.ensures.written (ap (λ m. mark_word m ∷ c.read_block.new.words) is));
       leads = λ earlier choices deep.
@@ -81,3 +84,19 @@ read_choice-loop-alloc-preserved t c =
           ∙ ap (λ m. told_behind (with_names c.read_block.new.names earlier ((length c.loop-alloc.blocks.items + 1) ∷ choices)) (next.Mark m) c.read_block.new.words) is
           ∙ ap (λ k. told_behind (with_names c.read_block.new.names earlier (k ∷ choices)) (next.Mark Or) c.read_block.new.words) (sym more);
     }
+
+pub read_block-returns-then-ne-clause-fits : goal.read_block-returns-then-ne-clause-fits
+read_block-returns-then-ne-clause-fits t c =
+    let other : c.in_ok-steps.mark ≢ Choose = λ e. search rules in
+    rw c.new-steps.ensures (end_fits c.args.left c.args.names.now c.read_steps.new.names c.in_ok-steps.steps.items c.in_ok-steps.ensures.fits
+    (some_if c.in_ok-steps.mark c.in_ok-steps.steps.items c.in_ok-steps.ensures.some other))
+
+pub read_block-returns-clause-fits : goal.read_block-returns-clause-fits
+read_block-returns-clause-fits t c =
+    rw c.new-steps.ensures (choice_fits c.args.left c.args.names.now c.read_steps.new.names c.read_choice.new.names c.in_ok-steps.steps.items c.in_ok-blocks.blocks
+    c.in_ok-steps.ensures.fits c.in_ok-blocks.ensures.fits c.in_ok-blocks.ensures.number.0 c.in_ok-blocks.ensures.number.1)
+
+pub read_choice-returns-then-eq-clause-fits : goal.read_choice-returns-then-eq-clause-fits
+read_choice-returns-then-eq-clause-fits t c =
+    rw c.in_ok-push.ensures.items (alternative_fits c.args.left c.args.names.now c.loop-alloc.names c.read_block.new.names c.loop-alloc.blocks.items c.in_ok-block.block
+    c.loop-alloc.invariant.fits c.in_ok-block.ensures.fits (omega arith))

@@ -1,7 +1,9 @@
 use Rattle.std.proofs.Common.{◌≡◌, ◌≤◌, ◌+◌, ◌*◌, ◌-◌, ◌∷◌, ℕ, List, length, map}
 use Rattle.process_text.specs.Grammar.{Writes, block_pieces}
 use Rattle.process_text.specs.FirstFault.{told_behind}
-use Rattle.process_text.specs.Leading.{with_names}
+use Rattle.process_text.specs.Leading.{with_names, MayOpen}
+use Rattle.process_text.specs.Limits.{AlternativesFit}
+use Rattle.process_tree.specs.Blocks.{outline}
 use Rattle.process_text.specs.declared.marks.Next.TheVariants as next
 use Rattle.process_text.specs.declared.marks.Mark.TheVariants.{Choose, Or}
 use Rattle.process_text.proofs.Pieces.{with_or}
@@ -16,9 +18,10 @@ decreases-read_choice l = 2 * l.left
 abbrev pub invariant-read_choice-loop-alloc : goal.invariant-read_choice-loop-alloc
 invariant-read_choice-loop-alloc l = record {
   few : length l.blocks.items ≤ 8;
+  fits : AlternativesFit l.left l.fn.names (map outline l.blocks.items) l.names;
   -- each alternative so far has `or` behind it
   written : Writes (with_or (map block_pieces l.blocks.items)) l.fn.words l.words;
-  leads : (earlier : List (List ℕ)) (choices : List ℕ) → length choices + l.left ≡ 16
+  leads : (earlier : List (List ℕ)) (choices : List ℕ) → MayOpen l.left choices
       → told_behind (with_names l.fn.names earlier choices) (next.Mark Choose) l.fn.words
       ≡ told_behind (with_names l.names earlier (length l.blocks.items ∷ choices)) (next.Mark Or) l.words;
 }

@@ -1,8 +1,0 @@
-use Rattle.std.proofs.Common.{◌≤◌, ◌-◌, length}
-use Rattle.process_disk.proofs.file_rack.read_from.Given as goal
-
-abbrev pub invariant-loop-count : goal.invariant-loop-count
-invariant-loop-count g l = l.count ≤ length l.buf
-
-abbrev pub decreases-loop-count : goal.decreases-loop-count
-decreases-loop-count g l = length l.initial.buf - l.count

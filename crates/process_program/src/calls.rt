@@ -1,0 +1,105 @@
+// A call of the program.
+ghost use Rattle.std.specs.Prelude.{◌≡◌, ◌⊎◌, drop, map, string_bytes, IfOk};
+ghost use Rattle.std.specs.Process.{exit_status};
+ghost use Rattle.std.specs.Vec.Iter.{into_iter_items, into_iter_len};
+ghost use Rattle.process_top.specs.Reply.{IsAnswered, IsComplete};
+ghost use Rattle.process_program.specs.Words.{words_behind};
+
+use process_disk::{FileRack, Folder, SystemFolder};
+use process_flow::{Sink, Source, StdSink, StdSource};
+use process_top::{Finished, only_reads, top};
+use std::alloc::{AllocError, Global};
+use std::env::Args;
+use std::fs::File;
+use std::io::{Read, Write};
+use std::process::ExitCode;
+use std::rt::{Env, Files};
+use std::{env, io};
+
+const NO_MEMORY: u8 = 13;
+
+/// What a call of the program ends with, and the rack that it leaves.
+pub struct Ended<D: Folder + Drop> {
+    pub code: ExitCode,
+    pub rack: FileRack<D>,
+}
+
+// The words behind the first.
+fn rest(alloc: Global, args: Args) -> Result<Vec<String>, AllocError>
+    ensures { IfOk result (λ words. words.items ≡ drop 1 (into_iter_items args)) }
+{
+    let mut args = args;
+    let _name = args.next();
+    let mut words = Vec::new(alloc);
+    while let Some(word) = args.next() {
+        words.push(word)?;
+    }
+    Ok(words)
+}
+
+// The words of a call; none where the system's words are no text.
+fn words(alloc: Global, args: io::Result<Args>) -> Result<Vec<String>, AllocError>
+    ensures { IfOk result (λ words. map string_bytes words.items ≡ words_behind args) }
+{
+    match args {
+        Ok(args) => rest(alloc, args),
+        Err(_) => Ok(Vec::new(alloc)),
+    }
+}
+
+/// Answers the words behind the first over a source, a sink and the files of a folder, by the code that is the status.
+pub fn program<H, S: Source, K: Sink, D: Folder + Drop>(
+    rt: &H,
+    alloc: Global,
+    args: io::Result<Args>,
+    source: &mut S,
+    sink: &mut K,
+    folder: D,
+) -> Ended<D>
+    // What `top` answers to these words; or there is no memory for the words, and nothing is touched.
+    ensures answered { IsAnswered (words_behind args)
+        (record { left = S.left source.old; faults = S.faults source.old })
+        (record { left = S.left source.new; faults = S.faults source.new })
+        (record { disk = D.disk folder; faults = 0 })
+        (record { disk = D.disk result.rack.folder; faults = result.rack.faults })
+        (record { taken = K.taken sink.old; faults = K.faults sink.old })
+        (record { taken = K.taken sink.new; faults = K.faults sink.new }) (exit_status result.code)
+        ⊎ ((exit_status result.code ≡ 13) × (source.new ≡ source.old) × (sink.new ≡ sink.old) × (result.rack.folder ≡ folder)) }
+    ensures complete { IsComplete (words_behind args)
+        (record { left = S.left source.old; faults = S.faults source.old })
+        (record { left = S.left source.new; faults = S.faults source.new })
+        (record { disk = D.disk folder; faults = 0 })
+        (record { disk = D.disk result.rack.folder; faults = result.rack.faults })
+        (record { taken = K.taken sink.old; faults = K.faults sink.old })
+        (record { taken = K.taken sink.new; faults = K.faults sink.new }) (exit_status result.code)
+        ⊎ (exit_status result.code ≡ 13) }
+{
+    let Ok(words) = words(alloc, args) else {
+        return Ended {
+            code: ExitCode::from(NO_MEMORY),
+            rack: FileRack::over(folder, false),
+        };
+    };
+    // A rack that only reads takes no lock, and works on files that may only be read.
+    let rack = FileRack::over(folder, !only_reads(&words));
+    let Finished { status, rack } = top(rt, alloc, &words, source, sink, rack);
+    Ended {
+        code: ExitCode::from(status),
+        rack,
+    }
+}
+
+/// The same over what the system gives: its words, and the files of the current folder, which are given up at the end.
+pub fn program_of_system<
+    H: Env + Files<File = File> + AllocGlobal,
+    R: Read + Drop,
+    W: Write + Drop,
+>(rt: &H, input: R, output: W) -> ExitCode {
+    let mut source = StdSource::new(input);
+    let mut sink = StdSink::new(output);
+    let args = env::args(rt);
+    let folder = SystemFolder::new(rt);
+    let Ended { code, rack } = program(rt, rt.alloc(), args, &mut source, &mut sink, folder);
+    drop(rack);
+    code
+}

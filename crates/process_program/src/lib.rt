@@ -1,0 +1,10 @@
+//! The program, but for what only the system's runtime can give: its words, its files and its exit code over a source, a sink
+//! and a folder.
+//!
+//! `program` is what the programs run; its contract is that of `top` on a rack over that folder. The programs of
+//! `process_main` and of the crates beside it hand it standard input, standard output and the files of the current folder.
+#![tactic(auto)]
+
+mod calls;
+
+pub use calls::{Ended, program, program_of_system};

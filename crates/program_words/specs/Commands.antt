@@ -1,0 +1,25 @@
+-- The command that words ask for.
+use Rattle.std.specs.Prelude.{List, [], ◌∷◌, Option, None, option_and_then, option_map, codes}
+use Rattle.clap.specs.Walk.{Text}
+use Rattle.program_words.specs.Apps.{plain_app}
+use Rattle.program_words.specs.Asked.{nothing_asked}
+use Rattle.program_words.specs.Names.{named}
+use Rattle.program_words.specs.declared.names.Name.{Name}
+use Rattle.program_words.specs.declared.names.Name.TheVariants as name
+use Rattle.program_words.specs.declared.reading.Command.{Command}
+use Rattle.program_words.specs.declared.reading.Command.TheVariants as command
+
+-- a command without arguments, where `clap` takes the words after its name
+abbrev pub plain_asked : Text → Command → List Text → Option Command
+plain_asked word found rest = option_map (λ _. found) (nothing_asked (plain_app word) rest)
+
+-- what the words after a command's name ask for, or nothing where `clap` refuses them
+abbrev pub asked_after : Name → List Text → Option Command
+asked_after name.Check rest = plain_asked (codes "check") command.Check rest
+asked_after name.Run rest = plain_asked (codes "run") command.Run rest
+asked_after name.Show rest = plain_asked (codes "show") command.Show rest
+
+-- what words ask for, or nothing where the first names no command, or `clap` refuses the others
+abbrev pub asked : List Text → Option Command
+asked [] = None
+asked (word ∷ rest) = option_and_then (λ name. asked_after name rest) (named word)

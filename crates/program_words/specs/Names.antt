@@ -1,0 +1,13 @@
+-- The names of the commands.
+use Rattle.std.specs.Prelude.{Option, Some, None, codes, if◌then◌else◌}
+use Rattle.std.specs.Str.{bytes_eq}
+use Rattle.clap.specs.Walk.{Text}
+use Rattle.program_words.specs.declared.names.Name.{Name}
+use Rattle.program_words.specs.declared.names.Name.TheVariants as name
+
+-- the command that a word names
+abbrev pub named : Text → Option Name
+named word = if bytes_eq word (codes "check") then Some name.Check
+    else (if bytes_eq word (codes "run") then Some name.Run
+    else (if bytes_eq word (codes "show") then Some name.Show
+    else None))

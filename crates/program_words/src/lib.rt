@@ -1,0 +1,21 @@
+//! Reads the words after the program's name into a command. `clap` decides on the words behind a command's name, so a faulty command
+//! line is exactly one that `clap` refuses. The contracts cite `specs/Commands`: the command that words ask for, or none.
+//!
+//! Commands without arguments are read by `read_words`. The arguments of commands that come with their crates have readers of
+//! their own: `read_workers` and `read_number_and_count`.
+#![tactic(auto)]
+
+mod arguments;
+mod names;
+mod numbers;
+mod reading;
+mod refusals;
+mod workers;
+
+pub use numbers::read_number_and_count;
+pub use reading::{Command, read_words};
+pub use refusals::WordsError;
+pub use workers::read_workers;
+
+#[cfg(test)]
+mod tests;

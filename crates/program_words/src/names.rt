@@ -1,0 +1,23 @@
+//! The names of the commands.
+ghost use Rattle.std.specs.Prelude.{◌≡◌};
+ghost use Rattle.program_words.specs.Names.{named};
+
+/// Which command a first word names.
+#[derive(Clone, Copy, Debug, PartialEq, Eq, Drop)]
+pub(crate) enum Name {
+    Check,
+    Run,
+    Show,
+}
+
+/// The command that the word names, if it names one.
+pub(crate) fn name_of(word: &str) -> Option<Name>
+    ensures { result ≡ named word.now }
+{
+    match word {
+        "check" => Some(Name::Check),
+        "run" => Some(Name::Run),
+        "show" => Some(Name::Show),
+        _ => None,
+    }
+}

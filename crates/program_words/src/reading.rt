@@ -1,0 +1,55 @@
+//! A list of words as a command.
+ghost use Rattle.std.specs.Prelude.{◌≡◌, ◌⊎◌, Ok, Err, map, string_bytes};
+ghost use Rattle.program_words.specs.Asked.{Answers};
+ghost use Rattle.program_words.specs.Commands.{asked, asked_after};
+ghost use Rattle.program_words.specs.Forms.{written};
+
+use crate::arguments::read_no_argument;
+use crate::names::{Name, name_of};
+use crate::refusals::WordsError;
+use std::alloc::Global;
+
+/// What the program is asked to do.
+#[derive(Clone, Copy, Debug, PartialEq, Eq, Drop)]
+pub enum Command {
+    Check,
+    Run,
+    Show,
+}
+
+/// Reads the words after the program's name.
+pub fn read_words(alloc: Global, words: &[String]) -> Result<Command, WordsError>
+    // Ok has the command that the words ask for. The words are bad exactly where they ask for none.
+    ensures asked { Answers (asked (map string_bytes words.now)) result }
+    // A command as it is written is taken, unless memory is wanting.
+    ensures complete { (command : Command) → map string_bytes words.now ≡ written command
+        → (result ≡ Ok command) ⊎ (result ≡ Err WordsError.NoMemory) }
+{
+    let [first, rest @ ..] = words else {
+        return Err(WordsError::BadWords);
+    };
+    match name_of(first.as_str()) {
+        Some(name) => read_after(alloc, name, rest),
+        None => Err(WordsError::BadWords),
+    }
+}
+
+// Reads the words after the name of a command.
+fn read_after(alloc: Global, name: Name, rest: &[String]) -> Result<Command, WordsError>
+    ensures { Answers (asked_after name (map string_bytes rest.now)) result }
+{
+    match name {
+        Name::Check => {
+            read_no_argument(alloc, "check", rest)?;
+            Ok(Command::Check)
+        }
+        Name::Run => {
+            read_no_argument(alloc, "run", rest)?;
+            Ok(Command::Run)
+        }
+        Name::Show => {
+            read_no_argument(alloc, "show", rest)?;
+            Ok(Command::Show)
+        }
+    }
+}

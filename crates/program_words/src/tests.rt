@@ -1,0 +1,96 @@
+use crate::{Command, WordsError, read_number_and_count, read_words, read_workers};
+use std::alloc::{AllocError, Global};
+use std::test::Fail;
+
+// The words of a line, with one space between two; an empty line has none.
+fn words_of(alloc: Global, line: &str) -> Result<Vec<String>, AllocError> {
+    let mut words = Vec::new(alloc);
+    for word in line.split(' ') {
+        if !word.is_empty() {
+            words.push(String::from_str(alloc, word)?)?;
+        }
+    }
+    Ok(words)
+}
+
+#[test]
+fn words_are_read_as_commands(rt: HostRuntime) -> Result<(), Fail> {
+    let alloc = rt.alloc();
+    let rows = [
+        ("check", Ok(Command::Check)),
+        ("run", Ok(Command::Run)),
+        ("show", Ok(Command::Show)),
+        ("check --", Ok(Command::Check)),
+        ("", Err(WordsError::BadWords)),
+        ("Check", Err(WordsError::BadWords)),
+        ("check check", Err(WordsError::BadWords)),
+        ("check --help", Err(WordsError::BadWords)),
+        ("check -h", Err(WordsError::BadWords)),
+        ("show --version", Err(WordsError::BadWords)),
+        ("show -V", Err(WordsError::BadWords)),
+        ("run 4", Err(WordsError::BadWords)),
+        ("run --workers 4", Err(WordsError::BadWords)),
+        ("run -- 4", Err(WordsError::BadWords)),
+        ("gen 1 1", Err(WordsError::BadWords)),
+        ("help", Err(WordsError::BadWords)),
+        ("--help", Err(WordsError::BadWords)),
+        ("-- check", Err(WordsError::BadWords)),
+    ];
+    for (line, expected) in rows {
+        let words = words_of(alloc, line)?;
+        assert_eq!(rt; read_words(alloc, &words), expected);
+    }
+    Ok(())
+}
+
+#[test]
+fn workers_are_read(rt: HostRuntime) -> Result<(), Fail> {
+    let alloc = rt.alloc();
+    let rows = [
+        ("", Ok(1)),
+        ("--workers 1", Ok(1)),
+        ("--workers 16", Ok(16)),
+        ("--workers=4", Ok(4)),
+        ("--workers 04", Ok(4)),
+        ("--workers +4", Ok(4)),
+        ("--", Ok(1)),
+        ("4", Err(WordsError::BadWords)),
+        ("--workers", Err(WordsError::BadWords)),
+        ("--workers 0", Err(WordsError::BadWords)),
+        ("--workers 17", Err(WordsError::BadWords)),
+        ("--workers -1", Err(WordsError::BadWords)),
+        ("--workers four", Err(WordsError::BadWords)),
+        ("--workers 4 --workers 4", Err(WordsError::BadWords)),
+        ("--worker 4", Err(WordsError::BadWords)),
+        ("--help", Err(WordsError::BadWords)),
+    ];
+    for (line, expected) in rows {
+        let words = words_of(alloc, line)?;
+        assert_eq!(rt; read_workers(alloc, "run", &words), expected);
+    }
+    Ok(())
+}
+
+#[test]
+fn a_number_and_a_count_are_read(rt: HostRuntime) -> Result<(), Fail> {
+    let alloc = rt.alloc();
+    let rows = [
+        ("0 1", Ok((0, 1))),
+        ("18446744073709551615 256", Ok((18446744073709551615, 256))),
+        ("+7 -- 08", Ok((7, 8))),
+        ("", Err(WordsError::BadWords)),
+        ("1", Err(WordsError::BadWords)),
+        ("1 0", Err(WordsError::BadWords)),
+        ("1 257", Err(WordsError::BadWords)),
+        ("-1 1", Err(WordsError::BadWords)),
+        ("1 -1", Err(WordsError::BadWords)),
+        ("18446744073709551616 1", Err(WordsError::BadWords)),
+        ("1 2 3", Err(WordsError::BadWords)),
+        ("--help", Err(WordsError::BadWords)),
+    ];
+    for (line, expected) in rows {
+        let words = words_of(alloc, line)?;
+        assert_eq!(rt; read_number_and_count(alloc, "gen", &words), expected);
+    }
+    Ok(())
+}
