@@ -1,18 +1,16 @@
 -- Pieces that never come again: a step below the bound, or one that isn't owed once its process has begun to complete, and the undo
 -- of a step that was undone.
-use Rattle.std.proofs.Common.{◌≡◌, ◌⊎◌, inl, inr, ℕ, zero, suc, ◌+◌, ◌-◌, ◌≤◌, ◌<◌, max, Bool, true, false, not, cond, if◌then◌else◌, eqb, ltb, ◌&&◌, ◌||◌, List, [], ◌∷◌, ◌++◌, length, take, drop, Option, Some, None, sym, refl, ap, subst, ◌∙◌, arith}
-use Rattle.std.specs.Bool.{IsTrue}
-use Rattle.std.specs.List.{list_all, list_any}
+use Rattle.std.proofs.Common.{◌≡◌, ◌⊎◌, inl, inr, ℕ, ◌≤◌, ◌<◌, Bool, true, false, not, if◌then◌else◌, eqb, ltb, ◌||◌, List, [], ◌∷◌, ◌++◌, take, drop, Option, Some, None, sym, refl, ap, ◌∙◌, arith}
+use Rattle.std.specs.List.{list_all}
 use Rattle.std.proofs.lemmas.Option.{none-some, same_Some}
-use Rattle.std.proofs.lemmas.Bool.{and_parts, and_from, or_parts, or_cases, or_left, or_right, or_from, not-true, eqb-true, eqb-false, eq-eqb, ne_eqb, ltb-true, false≢true}
+use Rattle.std.proofs.lemmas.Bool.{and_parts, and_from, or_parts, or_cases, or_left, or_right, or_from, not-true, eqb-true, eq-eqb, ne_eqb, ltb-true, false≢true}
 use Rattle.std.proofs.lemmas.List.{take-append-drop}
-use Rattle.process_tree.specs.Recovery.{forward, reserved}
-use Rattle.process_tree.specs.Shape.{Shape, first_of, fixed_len, goes_on_to, last_of}
+use Rattle.process_tree.specs.Recovery.{forward}
+use Rattle.process_tree.specs.Shape.{Shape, first_of, goes_on_to, last_of}
 use Rattle.process_tree.specs.Laws.{IsTreeShape}
 use Rattle.process_tree.specs.Termination.{IsWellFormed}
 use Rattle.process_tree.proofs.TreeLaws.{next_steps_have_a_class, paths_lie_in_order}
-use Rattle.process_tree.specs.declared.plan.Plan.{Plan}
-use Rattle.schedule_model.specs.Course.{Course, shape}
+use Rattle.schedule_model.specs.Course.{Course}
 use Rattle.schedule_model.specs.Histories.{done_steps, is_in, net_steps}
 use Rattle.schedule_model.specs.Recovery.{owed_steps}
 use Rattle.schedule_model.specs.declared.event.Event.{Event}
@@ -21,18 +19,13 @@ use Rattle.schedule_model.proofs.OwedPaths.{owed_is_reserved}
 use Rattle.schedule_model.proofs.Rising.{Rising, all_net_steps}
 use Rattle.machine_model.specs.declared.kept.Work.{Work}
 use Rattle.machine_model.specs.declared.kept.Work.TheVariants.{Forward, Undo, End}
-use Rattle.machine_model.specs.Progress.{Progress, Task, next_forward, next_task, pending_steps, same_task, staying, step_or_end, undo_or, way_on}
+use Rattle.machine_model.specs.Progress.{Progress, next_forward, next_task, pending_steps, same_task, staying, step_or_end, undo_or, way_on}
 use Rattle.machine_model.specs.Moment.{Moment, has_begun}
 use Rattle.machine_model.specs.State.{next_of, progress}
+use Rattle.machine_model.specs.PieceLaws.{IsGone}
 use Rattle.machine_model.proofs.LastElements.{HasEnd, has_end, last_of-push, any_last}
 use Rattle.machine_model.proofs.NextInOrder.{OwedIsAhead}
 use Rattle.machine_model.proofs.OwnOrder.{next_step, next_step-bound}
-
--- this work on step b of process i never comes again
-abbrev pub IsGone : List Course → Moment → ℕ → ℕ → Work → Type 0
-IsGone courses m i b Forward = (b < (progress courses m i).onward) ⊎ ((has_begun m i ≡ true) × (is_in b (owed_steps courses m.events i) ≡ false))
-IsGone courses m i b Undo = (is_in b (done_steps m.events i) ≡ true) × (is_in b (net_steps m.events i) ≡ false)
-IsGone courses m i b End = ⊥
 
 -- a process whose next piece is an undo has that step pending last
 pub next_undo : (s : Progress) (b : ℕ) → same_task (record { work = Undo; step = b }) (next_task s) ≡ true → last_of (pending_steps s) ≡ Some b

@@ -3,7 +3,7 @@ use Rattle.std.proofs.Common.{◌≡◌, ℕ, ◌≤◌, Bool, true, false, not,
 use Rattle.std.specs.Bool.{IsTrue}
 use Rattle.std.specs.List.{list_all}
 use Rattle.std.proofs.lemmas.Option.{none-some, same_Some}
-use Rattle.std.proofs.lemmas.Bool.{and_parts, and_from, or_left, or_from, or_parts, not-true, eqb-true, ltb-true, false≢true}
+use Rattle.std.proofs.lemmas.Bool.{and_parts, and_from, or_left, or_from, not-true, eqb-true, ltb-true, false≢true}
 use Rattle.process_tree.specs.Order.{Each}
 use Rattle.process_tree.proofs.Every.{Each-weaker, Each-append, Each-both}
 use Rattle.process_tree.specs.Recovery.{forward}
@@ -33,7 +33,7 @@ use Rattle.machine_model.specs.declared.kept.Work.TheVariants.{Forward, Undo, En
 use Rattle.machine_model.specs.declared.began.Cause.{Cause}
 use Rattle.machine_model.specs.Progress.{Progress, above, is_only_try, next_forward, next_task, pending_steps, same_task, same_work, step_or_end, undo_or, way_on}
 use Rattle.machine_model.specs.ProcessState.{past}
-use Rattle.machine_model.specs.Moment.{Moment, Piece, noted, happened, has_begun, begins_now, without, opening_moment}
+use Rattle.machine_model.specs.Moment.{Moment, Piece, noted, happened, begins_now, without, opening_moment}
 use Rattle.machine_model.specs.Pieces.{piece_of, running_of, runs}
 use Rattle.machine_model.specs.State.{is_exhausted, block_of, next_of, progress, refused_steps}
 use Rattle.machine_model.specs.Advance.{Machine, advance, advance_all, event_by, event_of, with_piece}
@@ -42,7 +42,6 @@ use Rattle.machine_model.specs.PieceLaws.{piece_ended}
 use Rattle.machine_model.proofs.Counting.{found-any}
 use Rattle.machine_model.proofs.CallsKept.{find-passes}
 use Rattle.machine_model.proofs.RunInduction.{entered, advance-keeps, goes_on-keeps}
-use Rattle.machine_model.proofs.Begun.{begins_now-has}
 use Rattle.machine_model.proofs.PieceCounts.{is_number}
 use Rattle.machine_model.proofs.TidyMoments.{Each-filter, Each-find, IsPieceOfItsNumber, opening-tidy}
 use Rattle.machine_model.proofs.Frames.{entered-leaves, piece_of-plain}

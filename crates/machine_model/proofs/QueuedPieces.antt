@@ -1,33 +1,28 @@
 -- What is queued is out or was dropped, and a flush keeps an effect for what runs.
-use Rattle.std.proofs.Common.{◌≡◌, ◌≢◌, ◌⊎◌, inl, inr, ℕ, zero, suc, ◌+◌, ◌≤◌, Bool, true, false, not, cond, eqb, ◌||◌, List, [], ◌∷◌, ◌++◌, length, filter, map, Option, Some, None, is_some, sym, refl, ap, subst, ◌∙◌, arith}
+use Rattle.std.proofs.Common.{◌≡◌, ◌⊎◌, inl, inr, ℕ, zero, suc, ◌+◌, Bool, true, false, cond, eqb, List, [], ◌∷◌, ◌++◌, length, filter, map, Option, Some, None, is_some, sym, refl, ap, subst, ◌∙◌, arith}
 use Rattle.std.proofs.Math.Bool.{or-false}
-use Rattle.std.specs.Bool.{IsTrue}
-use Rattle.std.specs.List.{list_any}
-use Rattle.std.proofs.lemmas.Option.{none-some}
 use Rattle.std.proofs.lemmas.Bool.{or_parts, or_from, or_cases, eqb-true, eqb-false, ne_eqb, false≢true}
 use Rattle.process_tree.specs.Order.{Each}
 use Rattle.process_tree.proofs.Every.{Each-weaker, Each-append, Each-both}
-use Rattle.process_tree.specs.declared.play.Outcome.{Outcome}
 use Rattle.schedule_model.specs.Course.{Course}
 use Rattle.schedule_model.specs.Conflict.{ConflictRelation}
 use Rattle.schedule_model.specs.Histories.{active, is_in}
 use Rattle.machine_model.specs.declared.kept.Kept.{Kept}
-use Rattle.machine_model.specs.declared.kept.Kept.TheVariants.{Effect, Refuse, Victim}
-use Rattle.machine_model.specs.declared.replies.PieceState.TheVariants.{Over}
+use Rattle.machine_model.specs.declared.kept.Kept.TheVariants.{Effect, Victim}
 use Rattle.machine_model.specs.Moment.{Moment, Piece}
-use Rattle.machine_model.specs.Pieces.{is_effect, is_finished, is_refusal, piece_of, runs, state_of}
+use Rattle.machine_model.specs.Pieces.{is_finished, piece_of, runs}
 use Rattle.machine_model.specs.State.{victim_of}
-use Rattle.machine_model.specs.Advance.{Machine, advance}
+use Rattle.machine_model.specs.Advance.{advance}
 use Rattle.machine_model.specs.Runs.{is_run, now}
 use Rattle.machine_model.specs.Replies.{Next, finish_kept, chosen, wait, all_ended, stuck, all_victims, victims, victim_then}
 use Rattle.machine_model.specs.Calls.{next_kept}
-use Rattle.machine_model.specs.Groups.{Subsystems, Queue, queued, full, refused, over, dropped, no_piece, no_refusal, flush_kept, flush_reply, ended_then, kept_for_ended, queue_kept, queue_adds, queue_reply}
-use Rattle.machine_model.specs.Turns.{Board, Turn, nexts, finishes, queues, flushes, Said, says, no_memory, disk_fault, is_closed, AllMaySay, MaySay, MaySayBy, OpenMaySay, SaysClosed, after_flush, after_finish, after_next, after_queue, after_said, after_turn, after_turns}
+use Rattle.machine_model.specs.Groups.{Subsystems, Queue, queued, full, refused, over, dropped, no_piece, no_refusal, flush_reply, ended_then, kept_for_ended, queue_kept, queue_adds, queue_reply}
+use Rattle.machine_model.specs.Turns.{Board, Turn, nexts, finishes, queues, flushes, says, no_memory, disk_fault, is_closed, AllMaySay, MaySayBy, OpenMaySay, SaysClosed, after_flush, after_finish, after_next, after_queue, after_said, after_turn, after_turns}
 use Rattle.machine_model.specs.CallLaws.{FlushesKeepWhatRuns, QueuedAreOutOrDropped}
-use Rattle.machine_model.proofs.Counting.{count, count-some, none-count}
+use Rattle.machine_model.proofs.Counting.{count-some, none-count}
 use Rattle.machine_model.proofs.Snoc.{is_finished-append, now-kept}
 use Rattle.machine_model.proofs.OverPieces.{over_is_finished}
-use Rattle.machine_model.proofs.PieceCounts.{Counted, ends_piece, is_number, run-counted}
+use Rattle.machine_model.proofs.PieceCounts.{ends_piece, is_number, run-counted}
 use Rattle.machine_model.proofs.TidyMoments.{every, piece_of-more}
 use Rattle.machine_model.proofs.TurnRuns.{AreDistinct, IsGoodBoard, QueueKeeps, queue-keeps, turn-good}
 

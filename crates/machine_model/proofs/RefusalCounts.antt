@@ -1,37 +1,27 @@
 -- Whatever was refused is the next piece of its process, or never comes again.
-use Rattle.std.proofs.Common.{◌≡◌, ◌⊎◌, inl, inr, ℕ, zero, suc, ◌+◌, ◌-◌, ◌≤◌, ◌<◌, max, Bool, true, false, not, cond, if◌then◌else◌, eqb, ltb, ◌&&◌, ◌||◌, List, [], ◌∷◌, ◌++◌, length, take, drop, map, filter, flat_map, leb, Option, Some, None, is_some, sym, refl, ap, subst, ◌∙◌, append-nil, length-append, arith}
-use Rattle.std.specs.Bool.{IsTrue}
-use Rattle.std.specs.List.{list_any, list_all}
-use Rattle.std.proofs.lemmas.Option.{none-some, same_Some}
-use Rattle.std.proofs.lemmas.Bool.{and_parts, and_from, and_left, or_parts, or_left, or_right, eqb-true, eq-eqb, false≢true}
+use Rattle.std.proofs.Common.{◌≡◌, ◌⊎◌, inl, inr, ℕ, zero, suc, ◌≤◌, Bool, true, false, if◌then◌else◌, List, [], ◌∷◌, length, take, drop, filter, flat_map, leb, Some, None, sym, refl, ap, ◌∙◌, arith}
+use Rattle.std.proofs.lemmas.Option.{none-some}
+use Rattle.std.proofs.lemmas.Bool.{eq-eqb, false≢true}
 use Rattle.std.proofs.lemmas.List.{length-take}
-use Rattle.process_tree.specs.Order.{Each}
-use Rattle.process_tree.proofs.Every.{Each-weaker}
 use Rattle.process_tree.specs.Laws.{IsTreeShape}
 use Rattle.process_tree.specs.Play.{kept_for, kept_prefixes}
 use Rattle.process_tree.specs.Recovery.{class_by_kind, class_of, forward, reserved}
-use Rattle.process_tree.specs.Shape.{Shape, first_of, fixed_len, goes_on_to, is_whole, kind_of, last_of, least, next_steps}
+use Rattle.process_tree.specs.Shape.{first_of, fixed_len, goes_on_to, is_whole, kind_of, last_of, least, next_steps}
 use Rattle.process_tree.specs.Termination.{IsWellFormed}
 use Rattle.process_tree.proofs.TreeLaws.{next_steps_have_a_class}
 use Rattle.schedule_model.specs.Course.{Course, shape}
 use Rattle.schedule_model.specs.Histories.{done_steps, is_in, net_steps}
-use Rattle.schedule_model.specs.Recovery.{owed_steps}
 use Rattle.schedule_model.proofs.OwedPaths.{take_all}
-use Rattle.machine_model.specs.declared.kept.Kept.{Kept}
-use Rattle.machine_model.specs.declared.kept.Kept.TheVariants.{Refuse}
 use Rattle.machine_model.specs.declared.kept.Work.{Work}
 use Rattle.machine_model.specs.declared.kept.Work.TheVariants.{Forward, Undo, End}
-use Rattle.machine_model.specs.Progress.{Progress, Task, next_forward, next_task, pending_steps, same_task, same_work, staying, staying_for, step_or_end, undo_or, way_on}
-use Rattle.machine_model.specs.Moment.{Moment, Piece, has_begun}
-use Rattle.machine_model.specs.Pieces.{hands, is_try_of, piece_of, refusals, refused_pieces}
+use Rattle.machine_model.specs.Progress.{Progress, next_task, pending_steps, same_task, staying, staying_for, step_or_end, undo_or, way_on}
+use Rattle.machine_model.specs.Moment.{Moment, has_begun}
+use Rattle.machine_model.specs.Pieces.{refusals}
 use Rattle.machine_model.specs.State.{next_of, progress}
-use Rattle.machine_model.specs.PieceLaws.{with_begun}
-use Rattle.machine_model.proofs.LastElements.{HasEnd, has_end, last_of-push}
-use Rattle.machine_model.proofs.PieceCounts.{Counted, is_number}
-use Rattle.machine_model.proofs.RefusedPieces.{only_found, refused-other}
+use Rattle.machine_model.specs.PieceLaws.{IsGone, with_begun}
 use Rattle.machine_model.proofs.WaysOn.{way_on-is, staying-least}
 use Rattle.machine_model.proofs.OwnOrder.{next_step}
-use Rattle.machine_model.proofs.GonePieces.{GoesThrough, IsGone, next_undo, stays_gone}
+use Rattle.machine_model.proofs.GonePieces.{GoesThrough, next_undo, stays_gone}
 
 -- a way on with nothing pending goes on from the whole net
 pub way_whole : (s : Progress) (d : ℕ) → s.begun ≡ false → pending_steps s ≡ [] → way_on s ≡ Some d → goes_on_to s.shape s.net d ≡ true

@@ -1,20 +1,22 @@
 -- The laws of pieces and of one process alone, as statements.
-use Rattle.std.specs.Prelude.{◌≡◌, ◌↔◌, ◌≤◌, ℕ, Bool, true, false, not, ◌&&◌, List, length, take, filter, ◌-◌, nat_eq, IsTrue, Option, Some, None, is_some, if◌then◌else◌}
+use Rattle.std.specs.Prelude.{◌≡◌, ◌⊎◌, ◌↔◌, ◌≤◌, ◌<◌, ℕ, Bool, true, false, not, ◌&&◌, List, length, take, filter, ◌-◌, nat_eq, IsTrue, Option, Some, None, is_some, if◌then◌else◌}
 use Rattle.process_tree.specs.declared.plan.Plan.{Plan}
 use Rattle.schedule_model.specs.Conflict.{ConflictRelation}
-use Rattle.schedule_model.specs.Histories.{is_active, net_steps}
-use Rattle.schedule_model.specs.Course.{shape}
-use Rattle.machine_model.specs.declared.kept.Work.TheVariants.{Undo}
+use Rattle.schedule_model.specs.Histories.{done_steps, ends, is_active, is_in, net_steps}
+use Rattle.schedule_model.specs.Recovery.{owed_steps}
+use Rattle.schedule_model.specs.Course.{Course, shape}
+use Rattle.machine_model.specs.declared.kept.Work.{Work}
+use Rattle.machine_model.specs.declared.kept.Work.TheVariants.{Forward, Undo, End}
 use Rattle.machine_model.specs.declared.kept.Kept.{Kept}
 use Rattle.machine_model.specs.declared.kept.Kept.TheVariants.{Start, Hand, Effect, Refuse, Abort, Victim, Restart}
 use Rattle.machine_model.specs.declared.replies.PieceState.TheVariants.{Dropped, Over}
-use Rattle.machine_model.specs.Progress.{Progress, is_only_try, same_task}
+use Rattle.machine_model.specs.Progress.{Progress, Task, is_only_try, same_task}
 use Rattle.machine_model.specs.ProcessState.{ProcessState, effected, was_refused, begun, work_done, past, complete_unless_on}
 use Rattle.machine_model.specs.Moment.{Moment, Piece, Beginning, beginning_of, has_begun}
-use Rattle.machine_model.specs.Pieces.{is_finished, piece_of, running_of, state_of}
+use Rattle.machine_model.specs.Pieces.{is_finished, piece_of, refusals, running_of, state_of}
 use Rattle.machine_model.specs.State.{hold_of, next_of, process_state, progress}
 use Rattle.machine_model.specs.Advance.{Machine, advance}
-use Rattle.machine_model.specs.Runs.{is_run, may_be_kept, now}
+use Rattle.machine_model.specs.Runs.{history, is_run, may_be_kept, now}
 use Rattle.machine_model.specs.Laws.{IsSession}
 
 -- A piece that was handed out is over exactly where the kept events have its effect or its refusal.
@@ -124,6 +126,20 @@ state_by_piece k i s None = s
 state_by_piece (Effect n) i s (Some p) = if nat_eq p.process i then effected s else s
 state_by_piece (Refuse n) i s (Some p) = if nat_eq p.process i then was_refused s else s
 state_by_piece k i s (Some p) = s
+
+-- this work on step b of process i never comes again
+abbrev pub IsGone : List Course → Moment → ℕ → ℕ → Work → Type 0
+IsGone courses m i b Forward = (b < (progress courses m i).onward) ⊎ ((has_begun m i ≡ true) × (is_in b (owed_steps courses m.events i) ≡ false))
+IsGone courses m i b Undo = (is_in b (done_steps m.events i) ≡ true) × (is_in b (net_steps m.events i) ≡ false)
+IsGone courses m i b End = ⊥
+
+-- Whatever was refused of a process that hasn't ended is its next piece or never comes again; and what never comes again isn't next.
+abbrev pub RefusedIsNextOrGone : Type 0
+RefusedIsNextOrGone = (table : ConflictRelation) (plans : List Plan) (s : Machine) → IsSession table plans s
+    → (i b : ℕ) (w : Work) → is_in i (ends (history table s)) ≡ false
+    → let t : Task = record { work = w; step = b } in
+    (1 ≤ refusals s.kept i b w → (same_task t (next_of s.courses (now table s) i) ≡ true) ⊎ IsGone s.courses (now table s) i b w)
+    × (IsGone s.courses (now table s) i b w → same_task t (next_of s.courses (now table s) i) ≡ true → ⊥)
 
 -- it begins to complete, where it has now and had not
 abbrev pub begun_where : Bool → ProcessState → ProcessState

@@ -1,6 +1,6 @@
 // The laws of the machine that are proved: each function says one, and does nothing.
 ghost use Rattle.machine_model.specs.Laws.{BlockedWhereSomethingStands, CallsMakeRuns, CascadeIsLeast, EndedAreAtEnds, NextKeepsOwnOrder, OpenHoldingsBlockAlike, OpenHoldingsDragAlike, RestartBeginsAll, RestartFollowsCompletion, RunsKeepOwnOrder, UndosWaitByA5};
-ghost use Rattle.machine_model.specs.PieceLaws.{DroppedIsExact, OneRuns, OthersStay, OverIsFinished, ProgressGoesByTransitions, RefusedBeginsWithoutWayOn, RunningIsNext, UndosTakeBackTheLast};
+ghost use Rattle.machine_model.specs.PieceLaws.{DroppedIsExact, OneRuns, OthersStay, OverIsFinished, ProgressGoesByTransitions, RefusedBeginsWithoutWayOn, RefusedIsNextOrGone, RunningIsNext, UndosTakeBackTheLast};
 ghost use Rattle.machine_model.specs.CallLaws.{BeginningsOfRunsAreRuns, CallsKeepRuns, FlushesKeepWhatRuns, QueuedAreOutOrDropped, StuckIsExact, TurnsMakeRuns, VictimsRunDry};
 
 /// The computed cascade of an active process is the least set.
@@ -131,4 +131,9 @@ pub fn queued_are_out_or_dropped()
 /// At a restart all begin to complete.
 pub fn restart_begins_all()
     ensures { RestartBeginsAll }
+{}
+
+/// Whatever was refused is the next piece of its process, or never comes again.
+pub fn refused_is_next_or_gone()
+    ensures { RefusedIsNextOrGone }
 {}
