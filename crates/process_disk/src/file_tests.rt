@@ -14,6 +14,12 @@ fn fresh_folder<R: Files + Env + Alloc>(rt: &R, name: &str) -> io::Result<()> {
     env::set_current_dir(rt, name)
 }
 
+// Takes it away again.
+fn leave<R: Files + Env + Alloc>(rt: &R, name: &str) -> io::Result<()> {
+    env::set_current_dir(rt, "..")?;
+    fs::remove_dir_all(rt, name)
+}
+
 #[test]
 fn real_files_hold_what_was_written_for_the_next_rack_too(rt: HostRuntime) -> Result<(), Fail> {
     fresh_folder(&rt, "written")?;
@@ -39,6 +45,7 @@ fn real_files_hold_what_was_written_for_the_next_rack_too(rt: HostRuntime) -> Re
         assert_eq!(rt; buf[0], file);
         assert_eq!(rt; again.len(file), Ok(if file == 8 { 6 } else { 2 }));
     }
+    leave(&rt, "written")?;
     Ok(())
 }
 
@@ -63,6 +70,7 @@ fn a_look_makes_no_file(rt: HostRuntime) -> Result<(), Fail> {
     assert!(rt; fs::exists(&rt, "tps.0")?);
     assert!(rt; !fs::exists(&rt, "tps.1")?);
     assert_eq!(rt; reader.read(0, 0, &mut buf), Ok(1));
+    leave(&rt, "looked")?;
     Ok(())
 }
 
@@ -87,6 +95,7 @@ fn a_folder_has_one_writer(rt: HostRuntime) -> Result<(), Fail> {
     let mut third = FileRack::new(&rt);
     assert_eq!(rt; third.len(0), Ok(3));
     assert_eq!(rt; third.write_at(0, 0, b"two"), Ok(()));
+    leave(&rt, "taken")?;
     Ok(())
 }
 
@@ -103,6 +112,7 @@ fn a_file_made_by_another_since_the_look_is_not_written_over(rt: HostRuntime) ->
     assert_eq!(rt; slow.write_at(0, 0, b"two"), Err(Failed));
     assert_eq!(rt; slow.read(0, 0, &mut buf), Ok(3));
     assert_eq!(rt; &buf[..3], b"one".as_slice());
+    leave(&rt, "raced")?;
     Ok(())
 }
 
@@ -120,6 +130,7 @@ fn a_failed_call_of_the_system_is_told(rt: HostRuntime) -> Result<(), Fail> {
     assert_eq!(rt; rack.write_at(5, 0, b"x"), Err(Failed));
     assert_eq!(rt; rack.write_at(7, 0, b"x"), Err(Failed));
     assert_eq!(rt; rack.faults, 4);
+    leave(&rt, "failing")?;
     Ok(())
 }
 
@@ -143,6 +154,7 @@ fn after_a_failed_sync_a_rack_is_broken(rt: HostRuntime) -> Result<(), Fail> {
     drop(rack);
     let mut again = FileRack::new(&rt);
     assert_eq!(rt; again.sync(), Ok(()));
+    leave(&rt, "broken")?;
     Ok(())
 }
 

@@ -20,6 +20,12 @@ fn fresh_folder<R: Files + Env + Alloc>(rt: &R, name: &str) -> io::Result<()> {
     env::set_current_dir(rt, name)
 }
 
+// Takes it away again.
+fn leave<R: Files + Env + Alloc>(rt: &R, name: &str) -> io::Result<()> {
+    env::set_current_dir(rt, "..")?;
+    fs::remove_dir_all(rt, name)
+}
+
 // What the program says to a word and a text over a folder, and the rack that it leaves.
 fn said<H: Abort, D: Folder + Drop>(
     rt: &H,
@@ -75,6 +81,7 @@ fn what_is_run_on_real_files_is_shown_and_not_run_over(rt: HostRuntime) -> Resul
     let written = fs::read(&rt, "tps.0")?;
     assert_eq!(rt; written.as_slice(), JOURNAL);
     assert!(rt; !fs::exists(&rt, "tps.1")?);
+    leave(&rt, "run")?;
     Ok(())
 }
 
@@ -109,6 +116,7 @@ fn a_second_program_on_the_folder_changes_nothing(rt: HostRuntime) -> Result<(),
         6,
         b"not empty file 0\n",
     )?);
+    leave(&rt, "second")?;
     Ok(())
 }
 
