@@ -1,0 +1,5 @@
+pub mod Standing
+pub mod Turned
+pub mod Moves
+pub mod Cancels
+pub mod OutOfPlace
