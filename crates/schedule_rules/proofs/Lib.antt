@@ -3,3 +3,5 @@ pub mod Turned
 pub mod Moves
 pub mod Cancels
 pub mod OutOfPlace
+pub mod Branches
+pub mod Completing

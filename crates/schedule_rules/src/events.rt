@@ -61,7 +61,7 @@ pub fn net(alloc: Global, h: &History) -> Result<Vec<Entry>, AllocError>
 }
 
 /// Whether two entries are of one step of one process.
-fn is_same_step(a: &Entry, b: &Entry) -> bool
+pub fn is_same_step(a: &Entry, b: &Entry) -> bool
     ensures { result ≡ same_step a.now b.now }
 {
     a.process == b.process && a.step == b.step

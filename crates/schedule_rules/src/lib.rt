@@ -6,11 +6,13 @@
 #![tactic(auto)]
 
 mod applying;
+mod completion;
 mod events;
 mod laws;
 mod serial;
 
 pub use applying::apply;
+pub use completion::completed;
 pub use events::{active, net};
 pub use laws::beginnings_are_good;
 pub use schedule_model::{Event, Events, History, Plans, TraceStep};
