@@ -149,12 +149,7 @@ fn steps_of(alloc: Global, entries: &[Entry]) -> Result<Vec<u16>, AllocError>
 }
 
 /// The backward recovery of a process among those that stand.
-fn backward(
-    alloc: Global,
-    plan: &Plan,
-    entries: &[Entry],
-    i: u32,
-) -> Result<Vec<Entry>, AllocError>
+fn backward(alloc: Global, plan: &Plan, entries: &[Entry], i: u32) -> Result<Vec<Entry>, AllocError>
     requires good { tree_fault plan.now.tree ≡ None }
     requires branch { IsBranch (shape_of plan.now.tree) (steps_of (of_process i entries.now)) }
     ensures { IfOk result (λ found. found.items ≡ backward_among (course_of plan.now) entries.now i) }
@@ -224,10 +219,17 @@ fn undos(
     ensures { IfOk result (λ added. added.items ≡ map (λ e. Act (undoing e)) (reverse (filter (λ e. list_any (same_step e) (all_backward (courses_of plans.now) entries.now processes.now)) entries.now))) }
 {
     let backward = backward_of_all(alloc, plans, entries, processes)?;
+    undos_among(alloc, entries, &backward)
+}
+
+/// The undos of those of these entries that are listed, the last entry first.
+fn undos_among(alloc: Global, entries: &[Entry], listed: &[Entry]) -> Result<Vec<Event>, AllocError>
+    ensures { IfOk result (λ added. added.items ≡ map (λ e. Act (undoing e)) (reverse (filter (λ e. list_any (same_step e) listed.now) entries.now))) }
+{
     let mut added = Vec::new(alloc);
     let mut rest = entries;
     while let [before @ .., entry] = rest {
-        if has_same_step(&backward, entry) {
+        if has_same_step(listed, entry) {
             added.push(Event::Act(undo_of(entry)))?;
         }
         rest = before;
@@ -281,12 +283,7 @@ fn op_of(ops: &[u16], step: u16) -> u16
 }
 
 /// Adds these steps of a process.
-fn add_steps(
-    ops: &[u16],
-    steps: &[u16],
-    i: u32,
-    added: &mut Vec<Event>,
-) -> Result<(), AllocError>
+fn add_steps(ops: &[u16], steps: &[u16], i: u32, added: &mut Vec<Event>) -> Result<(), AllocError>
     ensures { OnOk result (added.new.items ≡ added.old.items ++ map Act (owed_by ops.now i steps.now)) }
 {
     let mut rest = steps;

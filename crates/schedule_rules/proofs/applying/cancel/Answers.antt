@@ -10,11 +10,17 @@ returns-then-at-eq0 c =
     let xs = c.args.list.now.items in
     let at = c.args.at in
     let long = c.args.list.now.ok.0 in
-    elim c.then-at-eq0.branch [ then-at-eq0-via-then-at-eq0 w ↦ (ap (λ n. cancelled n xs) w.if-at-eq0.true ∙ cancelled-zero xs, refl) | then-at-eq0-via-else-at-eq0+then-len-at w ↦ (cancelled-past at xs (omega (arith, w.len.ensures, w.if-len-at.true, long)), refl) | then-at-eq0-via-else-at-eq0+else-len-at+then-not-is_pair w ↦ (
-      let next : suc (at - 1) ≡ at = omega (arith, w.if-at-eq0.false) in
-      (ap (λ n. cancelled n xs) (sym next)
-      ∙ cancelled-refused (at - 1) xs w.index.result.now w.index-else-len-at.result.now (omega (arith, next, w.len.ensures, w.if-len-at.false, long)) w.index.ensures
-      (w.index-else-len-at.ensures ∙ ap (λ n. get_or xs n w.index-else-len-at.result.now) (sym next)) (sym w.is_pair.ensures ∙ w.if-not-is_pair.true), refl)) ]
+    elim c.then-at-eq0.branch [
+      | then-at-eq0-via-then-at-eq0 w ↦ (ap (λ n. cancelled n xs) w.if-at-eq0.true ∙ cancelled-zero xs, refl)
+      | then-at-eq0-via-else-at-eq0+then-len-at w ↦ (cancelled-past at xs (omega (arith, w.len.ensures, w.if-len-at.true, long)), refl)
+      | then-at-eq0-via-else-at-eq0+else-len-at+then-not-is_pair w ↦ (
+          let next : suc (at - 1) ≡ at = omega (arith, w.if-at-eq0.false) in (
+            ap (λ n. cancelled n xs) (sym next)
+                ∙ cancelled-refused (at - 1) xs w.index.result.now w.index-else-len-at.result.now (omega (arith, next, w.len.ensures, w.if-len-at.false, long)) w.index.ensures
+                (w.index-else-len-at.ensures ∙ ap (λ n. get_or xs n w.index-else-len-at.result.now) (sym next)) (sym w.is_pair.ensures ∙ w.if-not-is_pair.true),
+            refl,
+          ))
+    ]
 
 pub returns : goal.returns
 returns c =

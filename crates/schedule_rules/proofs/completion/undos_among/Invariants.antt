@@ -2,12 +2,12 @@ use Rattle.std.proofs.Common.{◌≡◌, ◌≤◌, ◌++◌, filter, length, ma
 use Rattle.std.specs.List.{list_any}
 use Rattle.schedule_model.specs.declared.event.Event.TheVariants.{Act}
 use Rattle.schedule_model.specs.Histories.{same_step, undoing}
-use Rattle.schedule_rules.proofs.completion.undos.Given as goal
+use Rattle.schedule_rules.proofs.completion.undos_among.Given as goal
 
 abbrev pub invariant-loop-rest : goal.invariant-loop-rest
 invariant-loop-rest l = record {
-  added : l.added.items ++ map (λ e. Act (undoing e)) (reverse (filter (λ e. list_any (same_step e) l.backward.items) l.rest))
-      ≡ map (λ e. Act (undoing e)) (reverse (filter (λ e. list_any (same_step e) l.backward.items) l.entries));
+  added : l.added.items ++ map (λ e. Act (undoing e)) (reverse (filter (λ e. list_any (same_step e) l.listed) l.rest))
+      ≡ map (λ e. Act (undoing e)) (reverse (filter (λ e. list_any (same_step e) l.listed) l.entries));
   within : length l.rest ≤ length l.entries;
 }
 
