@@ -1,5 +1,5 @@
 -- The branch that what stands of a process goes along.
-use Rattle.std.proofs.Common.{◌≡◌, inl, inr, ⊎_elim, ℕ, zero, suc, ◌+◌, ◌-◌, ◌<◌, ◌≤◌, Bool, true, false, cond, nat_eq, if◌then◌else◌, List, [], ◌∷◌, ◌++◌, length, take, drop, get_or, map, Option, Some, None, sym, refl, ap, ◌∙◌, subst, arith, append-nil, append_assoc, length-append, length-take}
+use Rattle.std.proofs.Common.{◌≡◌, inl, inr, ℕ, zero, suc, ◌-◌, ◌<◌, ◌≤◌, true, if◌then◌else◌, List, [], ◌∷◌, ◌++◌, length, take, drop, get_or, Some, None, sym, refl, ap, ◌∙◌, subst, arith, append_assoc, length-append, length-take}
 use Rattle.std.proofs.Math.Seq.{split_at}
 use Rattle.std.proofs.lemmas.Bool.{eq-eqb, ne_eqb}
 use Rattle.process_tree.specs.declared.block.Block.{Block}
@@ -8,11 +8,11 @@ use Rattle.process_tree.specs.Blocks.{outline}
 use Rattle.process_tree.specs.Making.{tree_fault}
 use Rattle.process_tree.specs.Order.{Each}
 use Rattle.process_tree.specs.Recovery.{forward, last_after}
-use Rattle.process_tree.specs.Shape.{Shape, shape_of, fixed_len, goes_on_to, branch_to, first_of}
+use Rattle.process_tree.specs.Shape.{Shape, shape_of, fixed_len, goes_on_to, branch_to}
 use Rattle.process_tree.proofs.InTurn.{step_within}
 use Rattle.process_tree.proofs.GoesBack.{done_is, done_within}
 use Rattle.process_tree.proofs.Onward.{onward, onward_both, goes_along, goes_on}
-use Rattle.schedule_model.specs.Course.{Course, course_of, courses_of, no_course}
+use Rattle.schedule_model.specs.Course.{course_of, courses_of, no_course}
 use Rattle.schedule_model.proofs.Recoveries.{fixed_len-most}
 use Rattle.schedule_rules.specs.Recovering.{IsBranch}
 

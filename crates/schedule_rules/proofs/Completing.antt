@@ -1,5 +1,5 @@
 -- The completion, said of the net and of who is active.
-use Rattle.std.proofs.Common.{◌≡◌, ◌⊎◌, inl, inr, ⊎_elim, ℕ, zero, suc, ◌+◌, ◌<◌, ◌≤◌, Bool, true, false, eqb, ◌&&◌, ◌||◌, List, [], ◌∷◌, ◌++◌, length, drop, map, filter, reverse, sym, refl, ap, ◌∙◌, subst, arith, append-nil, length-append}
+use Rattle.std.proofs.Common.{◌≡◌, inl, inr, ⊎_elim, ℕ, zero, suc, ◌+◌, ◌<◌, ◌≤◌, Bool, true, false, eqb, List, [], ◌∷◌, ◌++◌, length, drop, map, filter, reverse, sym, refl, ap, ◌∙◌, subst, arith, append-nil, length-append}
 use Rattle.std.specs.Bool.{IsTrue}
 use Rattle.std.specs.List.{list_any, flat_map}
 use Rattle.std.proofs.lemmas.Bool.{and_parts, and_from, or_cases, eqb-true, false≢true}
@@ -9,19 +9,18 @@ use Rattle.process_tree.specs.Order.{Each}
 use Rattle.process_tree.specs.Shape.{fixed_len}
 use Rattle.schedule_model.specs.declared.event.Event.{Event}
 use Rattle.schedule_model.specs.declared.event.Event.TheVariants.{Start, Act, End}
-use Rattle.schedule_model.specs.Completion.{is_to_undo, all_backward_entries, completion}
+use Rattle.schedule_model.specs.Completion.{is_to_undo, completion}
 use Rattle.schedule_model.specs.Conflict.{no_conflict}
-use Rattle.schedule_model.specs.Course.{Course, course, courses_of, shape}
-use Rattle.schedule_model.specs.Histories.{active, is_active, is_in, net, net_of, net_steps, of_process, same_step, starts, steps_of, undoing}
-use Rattle.schedule_model.specs.Laws.{AreGood, IsPlanned}
-use Rattle.schedule_model.specs.Legal.{is_clear, is_legal, may_come}
-use Rattle.schedule_model.specs.OwnOrder.{is_in_own_order, keeps_order}
+use Rattle.schedule_model.specs.Course.{Course, courses_of, shape}
+use Rattle.schedule_model.specs.Histories.{active, is_active, is_in, net, net_of, net_steps, same_step, starts, undoing}
+use Rattle.schedule_model.specs.Laws.{IsPlanned}
+use Rattle.schedule_model.specs.Legal.{is_legal, may_come}
+use Rattle.schedule_model.specs.OwnOrder.{is_in_own_order}
 use Rattle.schedule_model.specs.Recovery.{backward_entries}
 use Rattle.schedule_model.proofs.Active.{is_active-is_in}
 use Rattle.schedule_model.proofs.Acting.{order_of}
 use Rattle.schedule_model.proofs.Appends.{starts-append, is_in-append}
 use Rattle.schedule_model.proofs.Induction.{by_legal}
-use Rattle.schedule_model.proofs.Legal.{both-left}
 use Rattle.schedule_model.proofs.Members.{Among, among-any, any-among, among-flat_map, in_flat_map, among-filter, among-is_in, is_in-among, filter-agree}
 use Rattle.schedule_model.proofs.NetPaths.{net-branch}
 use Rattle.schedule_model.proofs.NoConflict.{legal-from_own_order}

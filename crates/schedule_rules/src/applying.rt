@@ -1,5 +1,5 @@
 // Reduction steps applied to a list.
-ghost use Rattle.std.specs.Prelude.{◌≡◌, ◌<◌, ◌≤◌, ◌-◌, ◌+◌, suc, ◌∷◌, ◌++◌, length, Option, Some, None, MatchOption, List};
+ghost use Rattle.std.specs.Prelude.{◌≡◌, ◌<◌, ◌≤◌, ◌-◌, ◌+◌, suc, ◌∷◌, ◌++◌, length, Option, Some, None, MatchOption, List, vec_capacity};
 ghost use Rattle.std.specs.List.{list_all};
 ghost use Rattle.process_tree.specs.declared.entry.Entry.{Entry};
 ghost use Rattle.process_tree.specs.Conflicts.{operations_in, do_conflict};
@@ -14,7 +14,8 @@ use schedule_model::TraceStep;
 /// The list after a reduction step, where that applies; else it stays as it is.
 pub fn apply(list: &mut Vec<Entry>, c: &Conflicts, step: TraceStep) -> Option<()>
     requires known { AreKnown c.now list.old.items }
-    ensures { Answers (applied (do_conflict c.now) step list.old.items) list.old.items list.new.items result }
+    ensures answers { Answers (applied (do_conflict c.now) step list.old.items) list.old.items list.new.items result }
+    ensures no_memory { vec_capacity list.new ≡ vec_capacity list.old }
 {
     match step {
         TraceStep::Move(from, to) => {
@@ -137,7 +138,8 @@ fn is_pair(a: &Entry, b: &Entry) -> bool
 
 /// Removes the entries at a place and the next, where they are a step and its undo.
 fn cancel(list: &mut Vec<Entry>, at: usize) -> Option<()>
-    ensures { Answers (cancelled at list.old.items) list.old.items list.new.items result }
+    ensures answers { Answers (cancelled at list.old.items) list.old.items list.new.items result }
+    ensures capacity { vec_capacity list.new ≡ vec_capacity list.old }
 {
     if at == 0 || list.len() <= at || !is_pair(&list[at - 1], &list[at]) {
         return None;

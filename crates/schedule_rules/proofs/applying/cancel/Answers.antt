@@ -1,12 +1,12 @@
-use Rattle.std.proofs.Common.{◌≡◌, ◌-◌, ◌<◌, ◌≤◌, length, get_or, ℕ, suc, Some, refl, sym, ap, ◌∙◌, arith}
+use Rattle.std.proofs.Common.{◌≡◌, ◌-◌, get_or, suc, Some, refl, sym, ap, ◌∙◌, arith}
 use Rattle.std.specs.List.{remove}
 use Rattle.schedule_model.specs.Reduction.{cancelled}
 use Rattle.schedule_rules.proofs.Cancels.{cancelled-zero, cancelled-past, cancelled-refused, cancelled-pair}
 use Rattle.schedule_rules.proofs.applying.cancel.Goals.{then-at-eq0-via-then-at-eq0, then-at-eq0-via-else-at-eq0+then-len-at, then-at-eq0-via-else-at-eq0+else-len-at+then-not-is_pair}
 use Rattle.schedule_rules.proofs.applying.cancel.Goals as goal
 
-pub returns-then-at-eq0 : goal.returns-then-at-eq0
-returns-then-at-eq0 c =
+pub returns-then-at-eq0-clause-answers : goal.returns-then-at-eq0-clause-answers
+returns-then-at-eq0-clause-answers c =
     let xs = c.args.list.now.items in
     let at = c.args.at in
     let long = c.args.list.now.ok.0 in
@@ -22,8 +22,8 @@ returns-then-at-eq0 c =
           ))
     ]
 
-pub returns : goal.returns
-returns c =
+pub returns-clause-answers : goal.returns-clause-answers
+returns-clause-answers c =
     let xs = c.args.list.now.items in
     let at = c.args.at in
     let long = c.args.list.now.ok.0 in

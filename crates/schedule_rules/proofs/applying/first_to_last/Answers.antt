@@ -1,6 +1,5 @@
-use Rattle.std.proofs.Common.{◌≡◌, ◌-◌, ◌+◌, ℕ, suc, List, ◌∷◌, ◌++◌, length, sym, ap, ◌∙◌, arith}
+use Rattle.std.proofs.Common.{◌≡◌, ◌-◌, suc, ◌∷◌, ◌++◌, length, ap, ◌∙◌, arith}
 use borrow.Rule.Slice.PartMut.{put_mid}
-use Rattle.process_tree.specs.declared.entry.Entry.{Entry}
 use Rattle.schedule_rules.proofs.Turned.{first_to_last, turned_on}
 use Rattle.schedule_rules.proofs.applying.first_to_last.Goals as goal
 

@@ -1,6 +1,6 @@
-use Rattle.std.proofs.Common.{◌≡◌, not, filter, rules, sym, ap, ◌∙◌}
+use Rattle.std.proofs.Common.{not, filter, rules, ap, ◌∙◌}
 use Rattle.std.proofs.lemmas.Fn.{filter_same}
-use Rattle.schedule_model.specs.Histories.{is_in, ends, starts}
+use Rattle.schedule_model.specs.Histories.{is_in, starts}
 use Rattle.schedule_rules.proofs.completion.active_processes.Goals as goal
 
 pub returns : goal.returns

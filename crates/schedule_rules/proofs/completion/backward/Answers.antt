@@ -1,4 +1,4 @@
-use Rattle.std.proofs.Common.{◌≡◌, ℕ, ◌<◌, length, sym, ap, ◌∙◌, subst, arith}
+use Rattle.std.proofs.Common.{◌≡◌, length, sym, ap, ◌∙◌, subst, arith}
 use Rattle.process_tree.specs.Shape.{shape_of}
 use Rattle.schedule_model.specs.Histories.{steps_of}
 use Rattle.schedule_model.proofs.Recoveries.{fixed_len-most, steps_count}

@@ -1,5 +1,5 @@
 use Rattle.std.proofs.Common.{ap, ◌∙◌}
-use Rattle.schedule_model.specs.Histories.{active, net}
+use Rattle.schedule_model.specs.Histories.{active}
 use Rattle.schedule_rules.proofs.Completing.{stand_there, completed_there}
 use Rattle.schedule_rules.proofs.completion.completed.Goals as goal
 

@@ -1,5 +1,4 @@
-use Rattle.std.proofs.Common.{◌≡◌, ◌≤◌, ◌<◌, ◌-◌, ℕ, List, length, get_or, sym, ap, ◌∙◌, subst, arith}
-use Rattle.process_tree.specs.Blocks.{outline}
+use Rattle.std.proofs.Common.{◌∙◌, arith}
 use Rattle.process_tree.specs.Shape.{shape_of}
 use Rattle.schedule_model.proofs.Recoveries.{fixed_len-most}
 use Rattle.schedule_rules.proofs.Branches.{steps_within, last_within_of, owed_behind_of}

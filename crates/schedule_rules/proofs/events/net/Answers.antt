@@ -1,6 +1,6 @@
-use Rattle.std.proofs.Common.{◌∙◌, sym, ap}
+use Rattle.std.proofs.Common.{◌∙◌, ap}
 use Rattle.schedule_model.specs.Histories.{net}
-use Rattle.schedule_rules.proofs.Standing.{stands_after_all, stands-net}
+use Rattle.schedule_rules.proofs.Standing.{stands-net}
 use Rattle.schedule_rules.proofs.events.net.Goals as goal
 
 pub loop-rest-init : goal.loop-rest-init

@@ -1,4 +1,4 @@
-use Rattle.std.proofs.Common.{◌≡◌, not, filter, rules, sym, ap, ◌∙◌, ◌++◌, ◌∷◌, [], if◌then◌else◌}
+use Rattle.std.proofs.Common.{not, filter, rules, sym, ap, ◌∙◌, ◌++◌, ◌∷◌, [], if◌then◌else◌}
 use Rattle.std.proofs.lemmas.Fn.{filter_same}
 use Rattle.schedule_model.specs.Histories.{same_step}
 use Rattle.schedule_rules.proofs.events.take_effect.Goals as goal
