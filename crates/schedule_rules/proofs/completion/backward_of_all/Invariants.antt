@@ -1,0 +1,13 @@
+use Rattle.std.proofs.Common.{◌≡◌, ◌++◌, length}
+use Rattle.schedule_model.specs.Course.{courses_of}
+use Rattle.schedule_rules.specs.Recovering.{StandsOnBranches, all_backward}
+use Rattle.schedule_rules.proofs.completion.backward_of_all.Given as goal
+
+abbrev pub invariant-loop-rest : goal.invariant-loop-rest
+invariant-loop-rest l = record {
+  found : l.found.items ++ all_backward (courses_of l.plans) l.entries l.rest ≡ all_backward (courses_of l.plans) l.entries l.processes;
+  branches : StandsOnBranches l.plans l.entries l.rest;
+}
+
+abbrev pub decreases-loop-rest : goal.decreases-loop-rest
+decreases-loop-rest l = length l.rest

@@ -1,0 +1,43 @@
+-- Recovery, said of the entries that stand: the net of a history alone.
+use Rattle.std.specs.Prelude.{◌≡◌, ◌⊎◌, ◌<◌, ◌≤◌, ℕ, true, false, List, [], ◌∷◌, ◌++◌, length, drop, map, flat_map, slice_index_or}
+use Rattle.process_tree.specs.declared.entry.Entry.{Entry}
+use Rattle.process_tree.specs.declared.plan.Plan.{Plan}
+use Rattle.process_tree.specs.Order.{Each}
+use Rattle.process_tree.specs.Recovery.{forward}
+use Rattle.process_tree.specs.Shape.{Shape, fixed_len, goes_on_to}
+use Rattle.schedule_model.specs.declared.event.Event.{Event}
+use Rattle.schedule_model.specs.declared.event.Event.TheVariants.{Act, End}
+use Rattle.schedule_model.specs.Course.{Course, course, courses_of, shape}
+use Rattle.schedule_model.specs.Histories.{of_process, steps_of}
+
+-- w is nothing, or goes along a whole path
+abbrev pub IsBranch : Shape → List ℕ → Type 0
+IsBranch t w = (w ≡ []) ⊎ ((v : List ℕ) × (a : ℕ) × (w ≡ v ++ a ∷ []) × (goes_on_to t v a ≡ true))
+
+-- there is a plan for process i, and what stands of it goes along a whole path
+abbrev pub StandsOnBranch : List Plan → List Entry → ℕ → Type 0
+StandsOnBranch plans es i = (0 < i) × (i ≤ length plans) × IsBranch (shape (courses_of plans) i) (steps_of (of_process i es))
+
+-- so it is for each of these processes
+abbrev pub StandsOnBranches : List Plan → List Entry → List ℕ → Type 0
+StandsOnBranches plans es processes = Each (StandsOnBranch plans es) processes
+
+-- the backward recovery of a process of this course
+abbrev pub backward_among : Course → List Entry → ℕ → List Entry
+backward_among c es i = drop (fixed_len c.shape (steps_of (of_process i es))) (of_process i es)
+
+-- those of these processes, one after another
+abbrev pub all_backward : List Course → List Entry → List ℕ → List Entry
+all_backward courses es processes = flat_map (λ i. backward_among (course courses i) es i) processes
+
+-- these steps of process i, with these operations
+abbrev pub owed_by : List ℕ → ℕ → List ℕ → List Entry
+owed_by ops i bs = map (λ b. record { process = i; step = b; op = slice_index_or ops b 0; undo = false }) bs
+
+-- what a process of this course owes, and its end
+abbrev pub closing_among : Course → List Entry → ℕ → List Event
+closing_among c es i = map Act (owed_by c.ops i (forward c.shape (steps_of (of_process i es)))) ++ End i ∷ []
+
+-- that of these processes, one after another
+abbrev pub closed_by : List Course → List Entry → List ℕ → List Event
+closed_by courses es processes = flat_map (λ i. closing_among (course courses i) es i) processes
