@@ -1,12 +1,12 @@
 -- What the writes of an append make of a disk.
-use Rattle.std.proofs.Common.{◌≡◌, inl, ℕ, ◌+◌, ◌<◌, ◌≤◌, List, [], ◌∷◌, ◌++◌, length, drop, Ok, sym, ◌∙◌, ap, subst, arith, length-append}
+use Rattle.std.proofs.Common.{◌≡◌, inl, ℕ, ◌+◌, ◌<◌, ◌≤◌, List, [], ◌∷◌, ◌++◌, length, drop, Ok, None, Some, sym, ◌∙◌, ap, subst, arith, length-append}
 use Rattle.std.proofs.lemmas.List.{get_or-set_same}
 use Rattle.process_disk.specs.Disk.{FileSet, Disk, IsHonest, TornIn, Only, file_of, put, written}
 use Rattle.process_disk.specs.Images.{EachImage, RunBy, AllAsBefore}
 use Rattle.process_disk.proofs.Images.{counts_now, each_now, now_each, each_so, each_then, each_of_run}
-use Rattle.gate_log.specs.LogFile.{IsLog, header, end_of, framed, most_records, read_log}
+use Rattle.gate_log.specs.LogFile.{IsLog, header, end_of, framed, most_records, read_log, last_size}
 use Rattle.gate_log.specs.Standing.{LogState, Logs, LogsBeforeOrWith, StandsFor}
-use Rattle.gate_log.proofs.Logs.{length-before, records_size-push}
+use Rattle.gate_log.proofs.Logs.{length-before, records_size-push, last_size-push, is_last}
 use Rattle.gate_log.proofs.Reading.{logs_are_read}
 use Rattle.gate_log.proofs.Crash.{IsStaged, log_torn_behind, staged_by_write, log_torn_gate, log_by_gate, log_of_none}
 
@@ -24,7 +24,7 @@ gate_within q bodies file log =
     omega (arith, ap length log.is, length-before q bodies log.opened log.records, length-append log.opened (0 ∷ log.free))
 
 -- each image now is the log
-image_is_log : (log : LogState) (bodies : List (List ℕ)) (disk : Disk) → IsHonest disk → StandsFor log bodies disk → (d : FileSet) → disk.may_leave d → Logs log.file bodies d
+pub image_is_log : (log : LogState) (bodies : List (List ℕ)) (disk : Disk) → IsHonest disk → StandsFor log bodies disk → (d : FileSet) → disk.may_leave d → Logs log.file bodies d
 image_is_log log bodies disk honest stands d image = now_each disk disk.moment (Logs log.file bodies) honest (omega arith) stands.each d image
 
 -- while the record is written, each image is the log
@@ -80,8 +80,8 @@ images_of_append log bodies body bytes gate old mid new honest below stands room
 -- once the gate is open, the log stands for the list with the body
 pub body_appended : (log new_log : LogState) (bodies : List (List ℕ)) (body bytes gate : List ℕ) (old mid new : Disk) → IsHonest old → IsHonest mid → IsHonest new → log.file < 9 → StandsFor log bodies old → length bodies + 1 ≤ most_records
     → RecordDone log body bytes old mid → gate ≡ 1 ∷ [] → new.files ≡ put mid.files log.file log.end gate → Only new.files new.may_leave
-    → new_log.file ≡ log.file → new_log.count ≡ log.count + 1 → new_log.end ≡ log.end + (length body + 3) → StandsFor new_log (bodies ++ body ∷ []) new
-body_appended log new_log bodies body bytes gate old mid new honest honest_mid honest_new below stands room done gate_is is only same_file one_more further =
+    → new_log.file ≡ log.file → new_log.count ≡ log.count + 1 → new_log.end ≡ log.end + (length body + 3) → new_log.last ≡ Some (length body) → StandsFor new_log (bodies ++ body ∷ []) new
+body_appended log new_log bodies body bytes gate old mid new honest honest_mid honest_new below stands room done gate_is is only same_file one_more further last =
     let q = log.file in
     let after = bodies ++ body ∷ [] in
     let staged = staged_by log bodies body bytes old mid honest below stands done in
@@ -94,6 +94,7 @@ body_appended log new_log bodies body bytes gate old mid new honest honest_mid h
     record {
       count = omega (arith, one_more, stands.count, length-append bodies (body ∷ []));
       end = omega (arith, further, stands.end, records_size-push bodies body);
+      last = is_last new_log.last after (last ∙ sym (last_size-push bodies body));
       read = logs_of;
       each = each_now new (Logs new_log.file after) honest_new (λ c image. subst (Logs new_log.file after) (sym (only.only c image)) logs_of);
     }
@@ -105,8 +106,8 @@ room_left log bodies disk stands room = omega (arith, stands.count)
 
 -- what is written into an empty file stands for no bodies
 pub log_created : (log : LogState) (q : ℕ) (bytes : List ℕ) (old new : Disk) → IsHonest old → IsHonest new → q < 9 → bytes ≡ header q ++ 0 ∷ [] → new.files ≡ put old.files q 0 bytes → Only new.files new.may_leave
-    → log.file ≡ q → log.count ≡ 0 → log.end ≡ 8 → StandsFor log [] new
-log_created log q bytes old new honest_old honest below of_header is only file_is none at_end =
+    → log.file ≡ q → log.count ≡ 0 → log.end ≡ 8 → log.last ≡ None → StandsFor log [] new
+log_created log q bytes old new honest_old honest below of_header is only file_is none at_end last =
     let first = subst (λ bs. new.files ≡ put old.files q 0 bs) of_header is in
     let file : file_of new.files q ≡ header q ++ 0 ∷ drop 9 (file_of old.files q) =
     ap (λ files. file_of files q) first ∙ file_of_put old.files q 0 (header q ++ 0 ∷ []) (omega (arith, nine_files old honest_old)) in
@@ -115,19 +116,21 @@ log_created log q bytes old new honest_old honest below of_header is only file_i
     record {
       count = none;
       end = at_end;
+      last = is_last log.last [] last;
       read = logs_of;
       each = each_now new (Logs log.file []) honest (λ c image. subst (Logs log.file []) (sym (only.only c image)) logs_of);
     }
 
 -- what is read from a file that is on the disk stands for the list that was read
 pub log_opened : (log : LogState) (q : ℕ) (file : List ℕ) (bodies : List (List ℕ)) (synced new : Disk) → IsHonest new → file ≡ file_of synced.files q → read_log q file ≡ Ok bodies
-    → Only synced.files synced.may_leave → AllAsBefore synced new → log.file ≡ q → log.count ≡ length bodies → log.end ≡ end_of bodies → StandsFor log bodies new
-log_opened log q file bodies synced new honest of_file read only run file_is count end =
+    → Only synced.files synced.may_leave → AllAsBefore synced new → log.file ≡ q → log.count ≡ length bodies → log.end ≡ end_of bodies → log.last ≡ last_size bodies → StandsFor log bodies new
+log_opened log q file bodies synced new honest of_file read only run file_is count end last =
     let in_synced : Logs q bodies synced.files = subst (IsLog q bodies) of_file ((logs_are_read q bodies file).1 read) in
     let logs : Logs log.file bodies synced.files = subst (λ k. Logs k bodies synced.files) (sym file_is) in_synced in
     record {
       count = count;
       end = end;
+      last = is_last log.last bodies last;
       read = subst (Logs log.file bodies) (sym run.read) logs;
       each = each_now new (Logs log.file bodies) honest (λ c image.
           let from = run.images c (counts_now new honest synced.moment c run.follow.later image) in

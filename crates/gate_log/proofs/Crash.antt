@@ -11,7 +11,7 @@ pub record Round (at : ℕ) (before : List ℕ) (x : ℕ) (after list : List ℕ
   pub length_is : length before ≡ at
   pub is : list ≡ before ++ x ∷ after
 
-front : (at : ℕ) (before : List ℕ) (x : ℕ) (after list : List ℕ) → Round at before x after list → take at list ≡ before
+pub front : (at : ℕ) (before : List ℕ) (x : ℕ) (after list : List ℕ) → Round at before x after list → take at list ≡ before
 front at before x after list round = ap (take at) round.is ∙ take_at before (x ∷ after) at round.length_is
 
 split_one : (before : List ℕ) (x : ℕ) (after : List ℕ) → before ++ x ∷ after ≡ (before ++ x ∷ []) ++ after

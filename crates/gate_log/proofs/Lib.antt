@@ -4,4 +4,5 @@ mod Framing
 pub mod Logs
 mod Plain
 pub mod Reading
+mod Retracting
 pub mod Standing

@@ -1,7 +1,9 @@
 -- Records, and the files that are logs.
-use Rattle.std.proofs.Common.{◌≡◌, ℕ, ◌+◌, ◌*◌, ◌<◌, List, [], ◌∷◌, ◌++◌, length, refl, sym, ◌∙◌, ap, arith, append_assoc, length-append}
-use Rattle.std.proofs.lemmas.List.{append-nil}
-use Rattle.gate_log.specs.LogFile.{AreRecords, header, records_size, end_of}
+use Rattle.std.proofs.Common.{◌≡◌, ℕ, ◌+◌, ◌*◌, ◌^◌, ◌<◌, ◌≤◌, List, [], ◌∷◌, ◌++◌, length, take, get_or, ◌-◌, Option, None, Some, IfSome, All, refl, sym, ◌∙◌, ap, subst, arith, add-one, append_assoc, length-append}
+use Rattle.std.proofs.lemmas.List.{append-nil, take_at}
+use Rattle.std.proofs.lemmas.List.Elements.{All-head, All-tail, All-take}
+use Rattle.gate_log.specs.LogFile.{AreRecords, header, records_size, end_of, last_size}
+use Rattle.gate_log.specs.Standing.{IsLast}
 
 -- how many bytes records take
 pub length-records : (bodies : List (List ℕ)) (opened : List ℕ) → AreRecords bodies opened → length opened ≡ records_size bodies
@@ -25,3 +27,50 @@ records-push (first ∷ bodies) opened gate low high body (g, l, h, rest, first_
 -- all that stands before the closed gate
 pub length-before : (q : ℕ) (bodies : List (List ℕ)) (opened : List ℕ) → AreRecords bodies opened → length (header q ++ opened) ≡ end_of bodies
 length-before q bodies opened are = omega (arith, length-records bodies opened are)
+
+-- the last body's size, with one more
+pub last_size-push : (bodies : List (List ℕ)) (body : List ℕ) → last_size (bodies ++ body ∷ []) ≡ Some (length body)
+last_size-push [] body = refl
+last_size-push (first ∷ []) body = refl
+last_size-push (first ∷ next ∷ bodies) body = last_size-push (next ∷ bodies) body
+
+-- bodies whose last has a size end with one of that size
+pub last_of : (bodies : List (List ℕ)) (size : ℕ) → last_size bodies ≡ Some size → (before : List (List ℕ)) × (body : List ℕ) × (bodies ≡ before ++ body ∷ []) × (length body ≡ size)
+last_of [] size is = absurd cc
+last_of (body ∷ []) size is = let same : length body ≡ size = cc in ([], body, refl, same)
+last_of (first ∷ next ∷ bodies) size is =
+    let (before, body, all, same) = last_of (next ∷ bodies) size is in
+    (first ∷ before, body, ap (λ (bs : List (List ℕ)). first ∷ bs) all, same)
+
+-- a size that is told is that of the last body
+pub is_last : (last : Option ℕ) (bodies : List (List ℕ)) → last ≡ last_size bodies → IsLast last bodies
+is_last None bodies is = tt
+is_last (Some size) bodies is = sym is
+
+-- how many bytes records take at most, where no body is longer than fits
+pub size_of_short : (bodies : List (List ℕ)) → All (λ body. length body < 2 ^ 16) bodies → records_size bodies ≤ 65538 * length bodies
+size_of_short [] short = omega arith
+size_of_short (body ∷ bodies) short =
+    let Short : List ℕ → Type 0 = λ b. length b < 2 ^ 16 in
+    omega (arith, All-head Short body bodies short, size_of_short bodies (All-tail Short body bodies short))
+
+-- and what that leaves for the last
+pub last_room : (last : Option ℕ) (bodies : List (List ℕ)) (total count : ℕ) → last ≡ last_size bodies → total ≡ records_size bodies → count ≡ length bodies → All (λ body. length body < 2 ^ 16) bodies
+    → IfSome last (λ size. (11 + size ≤ 8 + total) × (1 ≤ count) × (8 + total + 65535 ≤ 8 + 65538 * count + size))
+last_room None bodies total count is total_is count_is short = tt
+last_room (Some size) bodies total count is total_is count_is short =
+    let (before, body, all, same) = last_of bodies size (sym is) in
+    let Short : List ℕ → Type 0 = λ b. length b < 2 ^ 16 in
+    let front : take (length before) bodies ≡ before = ap (take (length before)) all ∙ take_at before (body ∷ []) (length before) refl in
+    let shorter = size_of_short before (subst (All Short) front (All-take Short (length before) bodies short)) in
+    let sum = total_is ∙ ap records_size all ∙ records_size-push before body in
+    let number = count_is ∙ ap length all ∙ length-append before (body ∷ []) in
+    (omega (arith, sum, same), omega (arith, number), omega (arith, sum, number, same, shorter))
+
+-- the last body is at the last place
+pub last_at : (bodies : List (List ℕ)) (d : List ℕ) → 1 ≤ length bodies → last_size bodies ≡ Some (length (get_or bodies (length bodies - 1) d))
+last_at [] d some = absurd (omega arith)
+last_at (body ∷ []) d some = refl
+last_at (first ∷ next ∷ bodies) d some =
+    let place : length (first ∷ next ∷ bodies) - 1 ≡ (length (next ∷ bodies) - 1) + 1 = omega arith in
+    last_at (next ∷ bodies) d (omega arith) ∙ rw (place, add-one) refl

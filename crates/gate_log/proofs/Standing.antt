@@ -29,6 +29,7 @@ pub stands_still : (q : ℕ) (log : LogState) (bodies : List (List ℕ)) (old ne
 stands_still q log bodies old new honest honest_new other run stands = record {
   count = stands.count;
   end = stands.end;
+  last = stands.last;
   read = subst (IsLog log.file bodies) (sym (run.read.others log.file other)) stands.read;
   each = each_now new (Logs log.file bodies) honest_new (λ c image.
       now_each new old.moment (Logs log.file bodies) honest_new run.follow.later (images_still q log bodies old new honest other run stands) c image);

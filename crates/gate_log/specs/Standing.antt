@@ -1,17 +1,26 @@
 -- What an open log stands for, on a disk that tells.
-use Rattle.std.specs.Prelude.{◌≡◌, ◌⊎◌, ⊤, ℕ, List, [], ◌∷◌, ◌++◌, length, Result, Ok, Err, Vec}
+use Rattle.std.specs.Prelude.{◌≡◌, ◌⊎◌, ⊤, ℕ, List, [], ◌∷◌, ◌++◌, length, Option, Some, IsSome, IfSome, Result, Ok, Err, Vec}
 use Rattle.std.specs.declared.alloc.Global.{Global}
 use Rattle.process_disk.specs.Disk.{FileSet, Disk, file_of}
 use Rattle.process_disk.specs.Images.{EachImage}
-use Rattle.gate_log.specs.LogFile.{IsLog, end_of}
+use Rattle.gate_log.specs.LogFile.{IsLog, end_of, last_size}
 use Rattle.gate_log.specs.declared.errors.LogError.{LogError}
 use Rattle.gate_log.specs.declared.errors.LogError.TheVariants.{DiskFault, BadHeader, BadRecord, NoMemory}
 
--- What a log is seen as: its file, how many records it has, and where its closed gate stands.
+-- What a log is seen as: its file, how many records it has, where its closed gate stands, and how many bytes the last body has, while it can be retracted.
 pub record LogState : Type 0 where
   pub file : ℕ
   pub count : ℕ
   pub end : ℕ
+  pub last : Option ℕ
+
+-- the last body can be retracted
+abbrev pub CanRetract : LogState → Type 0
+CanRetract log = IsSome log.last
+
+-- a last body of so many bytes, if any is told, is the last of these
+abbrev pub IsLast : Option ℕ → List (List ℕ) → Type 0
+IsLast last bodies = IfSome last (λ size. last_size bodies ≡ Some size)
 
 -- file q of the set is the log of this list
 abbrev pub Logs : ℕ → List (List ℕ) → FileSet → Type 0
@@ -25,6 +34,7 @@ LogsBeforeOrWith q bodies body files = Logs q bodies files ⊎ Logs q (bodies ++
 pub record StandsFor (log : LogState) (bodies : List (List ℕ)) (disk : Disk) : Type 0 where
   pub count : log.count ≡ length bodies
   pub end : log.end ≡ end_of bodies
+  pub last : IsLast log.last bodies
   pub read : Logs log.file bodies disk.files
   pub each : EachImage disk disk.moment (Logs log.file bodies)
 

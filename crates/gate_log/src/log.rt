@@ -1,15 +1,15 @@
 // An open log.
-ghost use Rattle.std.specs.Prelude.{◌≡◌, ◌≢◌, ◌<◌, ◌≤◌, ◌+◌, ◌*◌, ◌^◌, ◌++◌, ◌∷◌, [], ℕ, List, length, IfOk, IfErr, OnOk, OnErr, IsErrOf};
+ghost use Rattle.std.specs.Prelude.{◌≡◌, ◌≢◌, ◌<◌, ◌≤◌, ◌+◌, ◌*◌, ◌^◌, ◌++◌, ◌∷◌, [], ℕ, List, length, None, IfOk, IfErr, OnOk, OnErr, IsErrOf, IsTrue, ◌↔◌};
 ghost use Rattle.process_flow.specs.Causes.{Rose, HasCause};
 ghost use Rattle.process_disk.specs.Disk.{Told, TornIn, file_of};
 ghost use Rattle.process_disk.specs.Images.{EachImage, RunBy, OthersAsBefore, AllAsBefore};
-ghost use Rattle.gate_log.specs.LogFile.{read_log, plain_log};
-ghost use Rattle.gate_log.specs.Standing.{StandsFor, IsOpen, LogsBeforeOrWith, OpensAs};
+ghost use Rattle.gate_log.specs.LogFile.{read_log, plain_log, last_size};
+ghost use Rattle.gate_log.specs.Standing.{StandsFor, IsOpen, LogsBeforeOrWith, OpensAs, CanRetract};
 ghost use Rattle.gate_log.specs.declared.errors.LogError.TheVariants.{NoMemory};
 
 use crate::buffer::Buffer;
 use crate::device::{whole_file, write_and_sync};
-use crate::records::{after_header, bodies_in, first_bytes};
+use crate::records::{after_header, bodies_in, first_bytes, last_size};
 use crate::{Body, DiskFault, LogError};
 use process_disk::Rack;
 use std::alloc::Global;
@@ -22,18 +22,21 @@ pub struct Log {
     count: u32,
     // where the closed gate stands
     end: u64,
+    // how many bytes the last body has, while it can be retracted
+    last: Option<u32>,
     buffer: Buffer,
 }
 
 impl Model for Log {
-    ghost use Rattle.std.specs.Prelude.{◌<◌, ◌≤◌, ◌+◌, ◌*◌};
+    ghost use Rattle.std.specs.Prelude.{◌<◌, ◌≤◌, ◌+◌, ◌*◌, IfSome};
     ghost use Rattle.gate_log.specs.Standing.{LogState};
 
     ghost Value = { LogState };
 
-    ghost view = { λ log. record { file = log.file; count = log.count; end = log.end } };
+    ghost view = { λ log. record { file = log.file; count = log.count; end = log.end; last = log.last } };
 
-    ghost invariant = { λ log. (log.file < 9) × (log.count ≤ 65536) × (log.end ≤ 8 + 65538 * log.count) };
+    ghost invariant = { λ log. (log.file < 9) × (log.count ≤ 65536) × (log.end ≤ 8 + 65538 * log.count) × (8 ≤ log.end)
+        × IfSome log.last (λ size. (11 + size ≤ log.end) × (1 ≤ log.count) × (log.end + 65535 ≤ 8 + 65538 * log.count + size)) };
 }
 
 impl Log {
@@ -60,6 +63,7 @@ impl Log {
             file,
             count: 0,
             end: 8,
+            last: None,
             buffer,
         })
     }
@@ -75,6 +79,7 @@ impl Log {
         ensures stands { Told (R.disk rack.old) → IfOk result (λ opened. StandsFor opened.0 opened.1.items (R.disk rack.new)) }
         ensures log { IfOk result (λ opened. (opened.0.file ≡ file) × (opened.0.count ≡ length opened.1.items)) }
         ensures few { IfOk result (λ opened. length opened.1.items ≤ 65536) }
+        ensures last { IfOk result (λ opened. opened.0.last ≡ last_size opened.1.items) }
         ensures all { Told (R.disk rack.old) → AllAsBefore (R.disk rack.old) (R.disk rack.new) }
         ensures tells { (R.disk rack.new).tells ≡ (R.disk rack.old).tells }
         ensures later { R.faults rack.old ≤ R.faults rack.new }
@@ -92,6 +97,7 @@ impl Log {
             file,
             count: read.bodies.len() as u32,
             end: 8 + read.size as u64,
+            last: last_size(&read.bodies),
             buffer,
         };
         Ok((log, read.bodies))
@@ -119,6 +125,7 @@ impl Log {
             EachImage (R.disk rack.new) (R.disk rack.old).moment (LogsBeforeOrWith self.old.file bodies body.now) }
         ensures others { Told (R.disk rack.old) → OthersAsBefore self.old.file (R.disk rack.old) (R.disk rack.new) }
         ensures ok { OnOk result ((self.new.file ≡ self.old.file) × (self.new.count ≡ self.old.count + 1)) }
+        ensures last { OnOk result (CanRetract self.new) }
         ensures err { OnErr result (self.new ≡ self.old) }
         ensures tells { (R.disk rack.new).tells ≡ (R.disk rack.old).tells }
         ensures cause { HasCause (R.faults rack.old) (R.faults rack.new) result }
@@ -129,6 +136,39 @@ impl Log {
         write_and_sync(rack, self.file, self.end, self.buffer.part(0, 1))?;
         self.end += size as u64 - 1;
         self.count += 1;
+        self.last = Some(body.len() as u32);
+        Ok(())
+    }
+
+    /// Whether the last body can be retracted: after an `append`, and after an `open` that found a record, until a `retract`.
+    pub fn can_retract(&self) -> bool
+        ensures { IsTrue result ↔ CanRetract self.now }
+    {
+        self.last.is_some()
+    }
+
+    /// Removes the last body, by closing its gate. A crash leaves the list with it or without.
+    pub fn retract<R: Rack>(&mut self, rack: &mut R) -> Result<(), DiskFault>
+        requires last { CanRetract self.old }
+        requires open { Told (R.disk rack.old) → IsOpen self.old (R.disk rack.old) }
+        ensures acknowledged { Told (R.disk rack.old) → (bodies : List (List ℕ)) (body : List ℕ) → StandsFor self.old (bodies ++ body ∷ []) (R.disk rack.old) →
+            OnOk result (StandsFor self.new bodies (R.disk rack.new)) }
+        ensures any_moment { Told (R.disk rack.old) → (bodies : List (List ℕ)) (body : List ℕ) → StandsFor self.old (bodies ++ body ∷ []) (R.disk rack.old) →
+            EachImage (R.disk rack.new) (R.disk rack.old).moment (LogsBeforeOrWith self.old.file bodies body) }
+        ensures others { Told (R.disk rack.old) → OthersAsBefore self.old.file (R.disk rack.old) (R.disk rack.new) }
+        ensures ok { OnOk result ((self.new.file ≡ self.old.file) × (self.new.count + 1 ≡ self.old.count) × (self.new.last ≡ None)) }
+        ensures err { OnErr result (self.new ≡ self.old) }
+        ensures tells { (R.disk rack.new).tells ≡ (R.disk rack.old).tells }
+        ensures cause { HasCause (R.faults rack.old) (R.faults rack.new) result }
+    {
+        let Some(size) = self.last else {
+            unreachable!();
+        };
+        let gate = self.end - (3 + u64::from(size));
+        write_and_sync(rack, self.file, gate, &[0])?;
+        self.end = gate;
+        self.count -= 1;
+        self.last = None;
         Ok(())
     }
 }

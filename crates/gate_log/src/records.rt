@@ -1,6 +1,6 @@
 // The bytes of a log's file.
-ghost use Rattle.std.specs.Prelude.{◌≡◌, ◌≢◌, ◌<◌, ◌≤◌, ◌+◌, ◌*◌, ◌^◌, ◌++◌, ◌∷◌, [], length, take, None, Some, Ok, Err, IfOk, IfErr, IfSome, MatchOption};
-ghost use Rattle.gate_log.specs.LogFile.{header, after_header, first_record, is_closed, bodies_in, most_records, records_size};
+ghost use Rattle.std.specs.Prelude.{◌≡◌, ◌≢◌, ◌<◌, ◌≤◌, ◌+◌, ◌*◌, ◌^◌, ◌++◌, ◌∷◌, [], length, take, None, Some, Ok, Err, IfOk, IfErr, IfSome, MatchOption, All};
+ghost use Rattle.gate_log.specs.LogFile.{header, after_header, first_record, is_closed, bodies_in, most_records, records_size, last_size};
 ghost use Rattle.gate_log.specs.declared.errors.LogError.TheVariants.{NoMemory};
 
 use crate::{Body, LogError};
@@ -69,6 +69,7 @@ pub fn bodies_in(alloc: Global, bytes: &[u8]) -> Result<Bodies, LogError>
     ensures size { IfOk result (λ read. read.size ≡ records_size read.bodies.items) }
     ensures count { IfOk result (λ read. length read.bodies.items ≤ 65536) }
     ensures bound { IfOk result (λ read. read.size ≤ 65538 * length read.bodies.items) }
+    ensures short { IfOk result (λ read. All (λ body. length body < 2 ^ 16) read.bodies.items) }
     ensures no_fault { IfErr result (λ e. e ≢ LogError.DiskFault) }
     ensures bad { IfErr result (λ e. e ≢ NoMemory → bodies_in most_records 1 bytes.now ≡ Err e) }
 {
@@ -86,5 +87,16 @@ pub fn bodies_in(alloc: Global, bytes: &[u8]) -> Result<Bodies, LogError>
         Ok(Bodies { bodies, size })
     } else {
         Err(LogError::BadRecord(bodies.len() as u32 + 1))
+    }
+}
+
+/// How many bytes the last body has, if there is one.
+pub fn last_size(bodies: &[Body]) -> Option<u32>
+    requires short { All (λ body. length body < 2 ^ 16) bodies.now }
+    ensures size { result ≡ last_size bodies.now }
+{
+    match bodies {
+        [.., body] => Some(body.bytes().len() as u32),
+        [] => None,
     }
 }

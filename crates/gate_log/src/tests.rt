@@ -1,4 +1,4 @@
-// What no clause says: the bytes of a file written by hand, files that are cut or damaged, and stops within an append.
+// What no clause says: the bytes of a file written by hand, files that are cut or damaged, and stops within an append or a retract.
 use super::*;
 use process_disk::{MemoryRack, Rack};
 use std::alloc::Global;
@@ -149,6 +149,41 @@ fn a_stop_within_an_append_leaves_the_list_before_or_with_the_body(
         let within = *call;
         assert_eq!(rt; count(alloc, &mut left), Ok(*want), "call {within}");
     }
+    Ok(())
+}
+
+// A stop within the two calls of a `retract`, calls 10 and 11, and how many bodies it leaves.
+const RETRACTS: [(u32, u32, u8, u32); 5] = [
+    (10, 0, 0x00, 1),
+    (10, 0, 0x07, 2),
+    (10, 1, 0x07, 1),
+    (11, 0, 0xff, 2),
+    (11, 1, 0xff, 1),
+];
+
+#[test]
+fn a_stop_within_a_retract_leaves_the_last_body_or_not(rt: HostRuntime) -> Result<(), Fail> {
+    let alloc = rt.alloc();
+    let mut rack = MemoryRack::new(alloc, Vec::new(alloc))?;
+    let mut log = Log::create(alloc, &mut rack, 3)?;
+    log.append(&mut rack, b"one")?;
+    log.append(&mut rack, b"three")?;
+    log.retract(&mut rack)?;
+    assert_eq!(rt; rack.calls(), 12);
+    assert!(rt; !log.can_retract());
+    for (call, keep, fill, want) in &RETRACTS {
+        assert!(rt; u64::from(*call) < rack.calls());
+        let mut left = rack.stopped(alloc, *call, *keep, *fill)?;
+        let within = *call;
+        assert_eq!(rt; count(alloc, &mut left), Ok(*want), "call {within}");
+    }
+    let (mut again, one) = Log::open(alloc, &mut rack, 3)?;
+    assert_eq!(rt; again.count(), 1);
+    again.append(&mut rack, b"other")?;
+    let (last, bodies) = Log::open(alloc, &mut rack, 3)?;
+    assert_eq!(rt; bodies.len(), 2);
+    assert_eq!(rt; bodies[1].bytes(), b"other".as_slice());
+    assert!(rt; last.can_retract());
     Ok(())
 }
 

@@ -1,4 +1,5 @@
-use Rattle.std.proofs.Common.{◌≡◌, ◌⊎◌, inl, inr, ◌≤◌, ◌<◌, ◌+◌, ◌++◌, ◌∷◌, [], length, None, Err, sym, ◌∙◌, ap, arith, length-append}
+use Rattle.std.proofs.Common.{◌≡◌, ◌⊎◌, inl, inr, ◌≤◌, ◌<◌, ◌+◌, ◌++◌, ◌∷◌, [], ◌^◌, length, None, Err, All, subst, sym, ◌∙◌, ap, arith, length-append}
+use Rattle.std.proofs.lemmas.List.Elements.{All-nil, All-push}
 use Rattle.gate_log.specs.LogFile.{first_record, records_size}
 use Rattle.gate_log.specs.declared.errors.LogError.TheVariants.{BadRecord}
 use Rattle.gate_log.proofs.Logs.{records_size-push}
@@ -13,6 +14,7 @@ records-init c =
       few = omega (arith, ap length none);
       read = read_start _ c.args.bytes.now none;
       size = omega (arith, ap records_size none);
+      short = subst (All (λ body. length body < 2 ^ 16)) (sym none) (All-nil (λ body. length body < 2 ^ 16));
       bound = omega (arith, ap records_size none);
     }
 
@@ -28,6 +30,7 @@ records-preserved c =
       few = omega (arith, few, count);
       read = read_step bodies _ body c.args.bytes.now c.records.rest.now _ few c.in-Some.ensures.first is c.records.invariant.read;
       size = omega (arith, size, c.in-Some.ensures.size, c.records.invariant.size);
+      short = subst (All (λ b. length b < 2 ^ 16)) (sym is) (All-push (λ b. length b < 2 ^ 16) bodies body c.records.invariant.short c.in-Some.ensures.short);
       bound = omega (arith, size, count, c.in-Some.ensures.short, c.records.invariant.bound);
     }
 

@@ -1,4 +1,4 @@
-use Rattle.std.proofs.Common.{◌≡◌, ◌≤◌, ◌+◌, ◌-◌, ◌*◌, length, vec_len}
+use Rattle.std.proofs.Common.{◌≡◌, ◌≤◌, ◌+◌, ◌-◌, ◌*◌, ◌<◌, ◌^◌, length, vec_len, All}
 use Rattle.gate_log.specs.LogFile.{bodies_in, most_records, records_size}
 use Rattle.gate_log.proofs.Reading.{behind}
 use Rattle.gate_log.proofs.records.bodies_in.Given as goal
@@ -8,6 +8,7 @@ invariant-records l = record {
   few : length l.bodies.items ≤ 65536;
   read : behind l.bodies.items (bodies_in (most_records - length l.bodies.items) (length l.bodies.items + 1) l.rest) ≡ bodies_in most_records 1 l.bytes;
   size : records_size l.bodies.items + length l.rest ≡ length l.bytes;
+  short : All (λ body. length body < 2 ^ 16) l.bodies.items;
   bound : records_size l.bodies.items ≤ 65538 * length l.bodies.items;
 }
 

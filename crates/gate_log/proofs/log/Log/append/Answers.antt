@@ -60,7 +60,7 @@ returns-clause-acknowledged g c = rw (← c.self.view_is) (λ told bodies stands
     let gate = c.part-2.ensures ∙ gate_alone c.fill-size.result _ _ (omega (arith, c.fill-size.ensures.size)) c.fill-size.ensures.bytes in
     let further : c.self.inside.end + (c.fill-size.result - 1) ≡ c.self.inside.end + (length c.args.body.now + 3) = omega (arith, c.fill-size.ensures.size) in
     body_appended _ _ bodies c.args.body.now _ _ old mid new honest (g.met.R.Rack.honest c.write_and_sync.new.rack told_mid) (g.met.R.Rack.honest c.write_and_sync-2.new.rack told_new) c.self.invariant.0 stands room done gate
-    (c.in_ok-write_and_sync-2.ensures.written told_mid) (c.in_ok-write_and_sync-2.ensures.durable told_mid) refl refl further)
+    (c.in_ok-write_and_sync-2.ensures.written told_mid) (c.in_ok-write_and_sync-2.ensures.durable told_mid) refl refl further refl)
 
 pub returns-clause-bytes : goal.returns-clause-bytes
 returns-clause-bytes g c = rw (← c.self.view_is) (λ told bodies stands plain.
@@ -94,3 +94,15 @@ returns-clause-others g c = rw (← c.self.view_is) (λ told.
     others_then q old mid new (g.met.R.Rack.honest c.write_and_sync.new.rack told_mid) (g.met.R.Rack.honest c.write_and_sync-2.new.rack told_new)
     (run_so _ (SameBut q) old mid (same_but_torn q _ _) (c.write_and_sync.ensures.run told))
     (run_so _ (SameBut q) mid new (same_but_torn q _ _) (c.write_and_sync-2.ensures.run told_mid)))
+
+pub invariant_of-self-2 : goal.invariant_of-self-2
+invariant_of-self-2 g c =
+    let was = c.self.invariant in
+    let size = c.fill-size.ensures.size in
+    let room : c.self.inside.count < 65536 = subst (λ l. l.count < 65536) (sym c.self.view_is) c.requires.room in (
+      was.0,
+      omega (arith, room),
+      omega (arith, was.2, size, c.requires.size),
+      omega (arith, was.3),
+      (omega (arith, was.3, size), omega arith, omega (arith, was.2, size)),
+    )

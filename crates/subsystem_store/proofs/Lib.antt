@@ -1,0 +1,5 @@
+mod Fitting
+mod Places
+mod Records
+mod Reading
+mod StoreFiles

@@ -1,0 +1,10 @@
+use Rattle.std.proofs.Common.{refl, sym, subst}
+use Rattle.subsystem_store.specs.Opened.{Fits}
+use Rattle.subsystem_store.proofs.Fitting.{fits_still}
+use Rattle.subsystem_store.proofs.account.Account.release.Goals as goal
+
+pub returns-clause-fits : goal.returns-clause-fits
+returns-clause-fits g c =
+    let meaning = g.B.Resource.meaning in
+    let sort = g.B.Resource.sort in
+    fits_still meaning sort _ _ (subst (Fits meaning sort) (sym c.self.view_is) c.requires.fits) refl refl refl (λ key. refl) (λ key had. had) tt

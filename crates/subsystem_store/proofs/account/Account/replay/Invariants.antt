@@ -1,0 +1,19 @@
+use Rattle.std.proofs.Common.{◌≡◌, ◌+◌, ◌≤◌, ◌++◌, length}
+use Rattle.subsystem_store.specs.Bodies.{store_bodies}
+use Rattle.subsystem_store.specs.Order.{read_bodies, no_book}
+use Rattle.subsystem_store.specs.Opened.{Fits, book_of}
+use Rattle.subsystem_store.proofs.account.Account.replay.Given as goal
+
+abbrev pub invariant-bodies : goal.invariant-bodies
+invariant-bodies g l = record {
+  fits : Fits g.B.Resource.meaning g.B.Resource.sort l.account;
+  kind : l.account.kind ≡ l.fn.self.kind;
+  sort : g.B.Resource.sort l.account.resource ≡ g.B.Resource.sort l.fn.self.resource;
+  read : read_bodies l.fn.self.kind l.number l.rest (book_of l.account) ≡ read_bodies l.fn.self.kind 1 l.bodies no_book;
+  bodies : store_bodies l.account.book l.account.doubt ++ l.rest ≡ l.bodies;
+  few : l.number ≤ 32769;
+  number : l.number + length l.rest ≡ 1 + length l.bodies;
+}
+
+abbrev pub decreases-bodies : goal.decreases-bodies
+decreases-bodies g l = length l.rest

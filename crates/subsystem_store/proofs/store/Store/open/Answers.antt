@@ -1,0 +1,10 @@
+use Rattle.std.proofs.Common.{◌∙◌, ap, length, arith}
+use Rattle.subsystem_store.proofs.StoreFiles.{opened_room}
+use Rattle.subsystem_store.proofs.store.Store.open.Goals as goal
+
+pub invariant_of-result : goal.invariant_of-result
+invariant_of-result g c =
+    let account = c.in_ok-account-in-Ok.account in
+    let bodies = c.in-Ok.bodies.items in
+    let is = c.in_ok-account-in-Ok.ensures.bodies ∙ c.deref.ensures.value in
+    opened_room account.book account.doubt bodies _ _ is c.in-Ok.ensures.log.1 (omega (arith, c.in_ok-account-in-Ok.ensures.small, ap length c.deref.ensures.value)) c.in-Ok.ensures.last

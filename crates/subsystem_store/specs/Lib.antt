@@ -1,0 +1,9 @@
+pub mod Answers
+pub mod Bodies
+pub mod Errors
+mod Examples
+pub mod Matching
+pub mod Opened
+pub mod Order
+pub mod Room
+pub mod Values

@@ -1,0 +1,83 @@
+-- The order of a store's records.
+use Rattle.std.specs.Prelude.{ℕ, ◌+◌, Bool, true, false, not, ◌&&◌, ◌||◌, ◌==◌, nat_lt, nat_le, List, [], ◌∷◌, ◌++◌, Option, Some, None, Result, Ok, Err, if◌then◌else◌, is_none}
+use Rattle.resource_box.specs.declared.call.Kind.{Kind}
+use Rattle.gate_log.specs.LogFile.{read_log}
+use Rattle.gate_log.specs.declared.errors.LogError.{LogError}
+use Rattle.gate_log.specs.declared.errors.LogError.TheVariants.{DiskFault as LogFault, BadHeader as NoHeader, BadRecord as NoRecord, NoMemory as LogMemory}
+use Rattle.subsystem_store.specs.declared.effect.Effect.{Effect}
+use Rattle.subsystem_store.specs.declared.errors.StoreError.{StoreError}
+use Rattle.subsystem_store.specs.declared.errors.StoreError.TheVariants.{DiskFault, BadHeader, BadRecord, BadBook, NoMemory}
+use Rattle.subsystem_store.specs.Values.{can_undo}
+use Rattle.subsystem_store.specs.Bodies.{record_of}
+use Rattle.subsystem_store.specs.declared.effect.Record.{Record}
+use Rattle.subsystem_store.specs.declared.effect.Record.TheVariants.{Prepared, Committed}
+
+-- the most records of a store
+abbrev pub most_records : ℕ
+most_records = 32768
+
+-- Committed effects in order, and the one that is in doubt.
+pub record Book : Type 0 where
+  pub book : List Effect
+  pub doubt : Option Effect
+
+-- a number is above that of the last committed effect
+abbrev pub is_above : List Effect → ℕ → Bool
+is_above [] number = true
+is_above (e ∷ []) number = nat_lt e.number number
+is_above (e ∷ next ∷ book) number = is_above (next ∷ book) number
+
+-- an effect may be prepared after these: its number is above theirs, and an undo is of a forward effect that isn't undone
+abbrev pub may_follow : Kind → List Effect → Effect → Bool
+may_follow kind book e = is_above book e.number && (not e.undo || can_undo kind book e)
+
+-- after one record more; or none where it is out of place
+abbrev pub after_prepared : Kind → Book → Effect → Option Book
+after_prepared kind b e = if is_none b.doubt && may_follow kind b.book e then Some (record { book = b.book; doubt = Some e }) else None
+
+abbrev pub after_committed : List Effect → Option Effect → ℕ → Option Book
+after_committed book None number = None
+after_committed book (Some e) number = if e.number == number then Some (record { book = book ++ e ∷ []; doubt = None }) else None
+
+-- this commits what is in doubt
+abbrev pub commits : Option Effect → ℕ → Bool
+commits None number = false
+commits (Some e) number = e.number == number
+
+abbrev pub after_record : Kind → Book → Record → Option Book
+after_record kind b (Prepared e) = after_prepared kind b e
+after_record kind b (Committed number) = after_committed b.book b.doubt number
+
+-- after record n, whose body is read first
+abbrev pub placed : ℕ → Option Book → Result Book StoreError
+placed n (Some b) = if nat_le n most_records then Ok b else Err (BadBook n)
+placed n None = Err (BadBook n)
+
+abbrev pub after_body : Kind → ℕ → Book → Option Record → Result Book StoreError
+after_body kind n b None = Err (BadRecord n)
+after_body kind n b (Some r) = placed n (after_record kind b r)
+
+-- after these bodies, the first of which is record n
+abbrev pub read_on : (Book → Result Book StoreError) → Result Book StoreError → Result Book StoreError
+read_on more (Ok b) = more b
+read_on more (Err e) = Err e
+
+abbrev pub read_bodies : Kind → ℕ → List (List ℕ) → Book → Result Book StoreError
+read_bodies kind n [] b = Ok b
+read_bodies kind n (body ∷ bodies) b = read_on (read_bodies kind (n + 1) bodies) (after_body kind n b (record_of body))
+
+-- no effect
+abbrev pub no_book : Book
+no_book = record { book = []; doubt = None }
+
+-- what a file's log says
+abbrev pub of_log : Kind → Result (List (List ℕ)) LogError → Result Book StoreError
+of_log kind (Ok bodies) = read_bodies kind 1 bodies no_book
+of_log kind (Err LogFault) = Err DiskFault
+of_log kind (Err NoHeader) = Err BadHeader
+of_log kind (Err (NoRecord n)) = Err (BadRecord n)
+of_log kind (Err LogMemory) = Err NoMemory
+
+-- the book of file q and what is in doubt in it; or the first place where it is no store
+abbrev pub read_store : Kind → ℕ → List ℕ → Result Book StoreError
+read_store kind q file = of_log kind (read_log q file)

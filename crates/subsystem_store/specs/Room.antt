@@ -1,0 +1,18 @@
+-- How much room an effect in doubt takes.
+use Rattle.std.specs.Prelude.{ℕ, ◌+◌, ◌*◌, Option, Some, None, if◌then◌else◌}
+use Rattle.subsystem_store.specs.declared.effect.Effect.{Effect}
+
+-- places in the book: a forward effect needs its own and its undo's, which an undo has already
+abbrev pub room_of : Option Effect → ℕ
+room_of None = 0
+room_of (Some e) = if e.undo then 0 else 2
+
+-- places among the forward effects that aren't undone
+abbrev pub undos_of : Option Effect → ℕ
+undos_of None = 0
+undos_of (Some e) = if e.undo then 0 else 1
+
+-- how many records a store of this book has, with this in doubt
+abbrev pub records_of : ℕ → Option Effect → ℕ
+records_of committed None = 2 * committed
+records_of committed (Some e) = 2 * committed + 1

@@ -1,0 +1,317 @@
+// A box, its book, and what may be undone.
+ghost use Rattle.std.specs.Prelude.{◌≡◌, ◌≢◌, ◌<◌, ◌≤◌, ◌+◌, ◌++◌, ◌∷◌, [], List, ℕ, length, None, Some, true, false, not, ◌||◌, ◌&&◌, nat_le, Ok, Err, IfOk, IfErr, OnOk, OnErr, IsOk, IsTrue, vec_len, vec_capacity, IsSome, IfSome, option_copied, is_some, is_none, ◌-◌, if◌then◌else◌};
+ghost use Rattle.resource_box.specs.Meaning.{Pairs, value_at, has_key};
+ghost use Rattle.resource_box.specs.Table.{bars};
+ghost use Rattle.subsystem_store.specs.Values.{values, take_last, can_undo, settle, undone, beside};
+ghost use Rattle.subsystem_store.specs.Order.{is_above, may_follow, commits, placed, after_prepared, after_committed, after_body, read_bodies, no_book};
+ghost use Rattle.subsystem_store.specs.Bodies.{record_of, store_bodies};
+ghost use Rattle.subsystem_store.specs.Answers.{RefusedAs};
+ghost use Rattle.subsystem_store.specs.Opened.{Fits, book_of};
+
+use crate::bodies::record_of;
+use crate::effect::{Record, Undoable};
+use crate::matching::{is_above, last_place};
+use crate::{Effect, StoreError, StoreRefused};
+use gate_log::Body;
+use resource_box::{Kind, Resource};
+use std::alloc::{AllocError, Global};
+use std::marker::Model;
+
+/// The values of a subsystem beside the effects that made them.
+#[derive(Drop)]
+pub struct Account<B: Drop> {
+    kind: Kind,
+    resource: B,
+    book: Vec<Effect>,
+    // the forward effects that are not undone, with the values before them
+    undoable: Vec<Undoable>,
+    doubt: Option<Effect>,
+}
+
+impl<B: Drop> Model for Account<B> {
+    ghost use Rattle.std.specs.Prelude.{◌≡◌, ◌≤◌, ◌+◌, length, vec_capacity, IfSome, true};
+    ghost use Rattle.subsystem_store.specs.Opened.{Account};
+    ghost use Rattle.subsystem_store.specs.Values.{settled, can_undo};
+    ghost use Rattle.subsystem_store.specs.Room.{room_of, undos_of};
+
+    ghost Value = { Account B };
+
+    ghost view = { λ a. record { kind = a.kind; resource = a.resource; book = a.book.items; doubt = a.doubt } };
+
+    ghost invariant = { λ a. (a.undoable.items ≡ (settled a.kind a.book.items).undoable)
+        × (length a.book.items + length a.undoable.items + room_of a.doubt ≤ vec_capacity a.book)
+        × (length a.undoable.items + undos_of a.doubt ≤ vec_capacity a.undoable)
+        × IfSome a.doubt (λ e. e.undo ≡ true → can_undo a.kind a.book.items e ≡ true) };
+}
+
+impl<B: Resource> Account<B> {
+    /// Clears the box, beside an empty book.
+    pub fn new(alloc: Global, resource: B) -> Self
+        ensures fits { Fits B.meaning B.sort result }
+        ensures kind { result.kind ≡ B.sort resource }
+        ensures empty { (result.book ≡ []) × (result.doubt ≡ None) }
+    {
+        let mut resource = resource;
+        resource.clear();
+        Account {
+            kind: resource.kind(),
+            resource,
+            book: Vec::new(alloc),
+            undoable: Vec::new(alloc),
+            doubt: None,
+        }
+    }
+
+    /// Whether an effect may be prepared next.
+    pub fn may_follow(&self, effect: &Effect) -> bool
+        ensures { result ≡ may_follow self.now.kind self.now.book effect.now }
+    {
+        is_above(&self.book, effect.number)
+            && (!effect.undo || last_place(effect, &self.undoable).is_some())
+    }
+
+    /// The value at a key.
+    pub fn look(&self, key: u32) -> i64
+        requires fits { Fits B.meaning B.sort self.now }
+        ensures { result ≡ value_at (values self.now.kind self.now.book) key }
+    {
+        self.resource.look(key)
+    }
+
+    /// The box without its values.
+    pub fn cleared(self) -> B
+        ensures empty { (B.meaning result).items ≡ [] }
+        ensures kind { B.sort result ≡ B.sort self.resource }
+    {
+        let mut resource = self.resource;
+        resource.clear();
+        resource
+    }
+
+    /// Whether the values bar a forward effect.
+    pub fn bars(&self, effect: &Effect) -> bool
+        requires fits { Fits B.meaning B.sort self.now }
+        ensures { result ≡ (if effect.now.undo then false else bars self.now.kind effect.now.call (value_at (values self.now.kind self.now.book) effect.now.call.key)) }
+    {
+        !effect.undo && self.resource.bars(&effect.call)
+    }
+
+    /// Takes an effect in doubt, with the room that it and its undo need.
+    pub fn hold(&mut self, effect: Effect) -> Result<(), AllocError>
+        requires fits { Fits B.meaning B.sort self.old }
+        requires settled { self.old.doubt ≡ None }
+        requires follows { may_follow self.old.kind self.old.book effect ≡ true }
+        ensures fits { Fits B.meaning B.sort self.new }
+        ensures same { (self.new.kind ≡ self.old.kind) × (self.new.book ≡ self.old.book) }
+        ensures ok { OnOk result (self.new.doubt ≡ Some effect) }
+        ensures err { OnErr result (self.new.doubt ≡ None) }
+        ensures undo { effect.undo ≡ true → IsOk result }
+        ensures sort { B.sort self.new.resource ≡ B.sort self.old.resource }
+    {
+        if effect.undo {
+            self.doubt = Some(effect);
+            return Ok(());
+        }
+        reserve(&mut self.book, &mut self.undoable)?;
+        self.resource.ready(effect.call.key)?;
+        self.doubt = Some(effect);
+        Ok(())
+    }
+
+    /// Takes the records of these bodies, in order.
+    pub fn replay(self, bodies: &[Body]) -> Result<Self, StoreRefused<B>>
+        requires fits { Fits B.meaning B.sort self }
+        requires few { length bodies.now ≤ 65536 }
+        requires unused { (self.book ≡ []) × (self.doubt ≡ None) }
+        ensures read { IfOk result (λ a. read_bodies self.kind 1 bodies.now no_book ≡ Ok (book_of a)) }
+        ensures fits { IfOk result (λ a. Fits B.meaning B.sort a) }
+        ensures kind { IfOk result (λ a. a.kind ≡ self.kind) }
+        ensures bodies { IfOk result (λ a. store_bodies a.book a.doubt ≡ bodies.now) }
+        ensures refused { IfErr result (λ r. RefusedAs (read_bodies self.kind 1 bodies.now no_book) r.why × (r.why ≢ StoreError.DiskFault)) }
+        ensures cleared { IfErr result (λ r. ((B.meaning r.resource).items ≡ []) × (B.sort r.resource ≡ B.sort self.resource)) }
+        ensures small { OnOk result (length bodies.now ≤ 32768) }
+    {
+        let mut account = self;
+        let mut rest = bodies;
+        let mut number = 1;
+        'bodies: while let Some((body, after)) = rest.split_first() {
+            if let Err(why) = account.take(number, body.bytes()) {
+                return Err(StoreRefused {
+                    resource: account.cleared(),
+                    why,
+                });
+            }
+            rest = after;
+            number += 1;
+        }
+        Ok(account)
+    }
+
+    /// Takes the record of one body, which is the one of this number.
+    fn take(&mut self, number: u32, body: &[u8]) -> Result<(), StoreError>
+        requires fits { Fits B.meaning B.sort self.old }
+        ensures read { OnOk result (after_body self.old.kind number (book_of self.old) (record_of body.now) ≡ Ok (book_of self.new)) }
+        ensures bodies { OnOk result (store_bodies self.new.book self.new.doubt ≡ store_bodies self.old.book self.old.doubt ++ body.now ∷ []) }
+        ensures refused { IfErr result (λ e. RefusedAs (after_body self.old.kind number (book_of self.old) (record_of body.now)) e × (e ≢ StoreError.DiskFault)) }
+        ensures few { OnOk result (number ≤ 32768) }
+        ensures fits { Fits B.meaning B.sort self.new }
+        ensures same { self.new.kind ≡ self.old.kind }
+        ensures sort { B.sort self.new.resource ≡ B.sort self.old.resource }
+    {
+        match record_of(body) {
+            None => Err(StoreError::BadRecord(number)),
+            Some(Record::Prepared(effect)) => {
+                self.take_prepared(number, effect)?;
+                Ok(())
+            }
+            Some(Record::Committed(committed)) => {
+                self.take_committed(number, committed)?;
+                Ok(())
+            }
+        }
+    }
+
+    fn take_prepared(&mut self, number: u32, effect: Effect) -> Result<(), StoreError>
+        requires fits { Fits B.meaning B.sort self.old }
+        ensures ok { OnOk result ((placed number (after_prepared self.old.kind (book_of self.old) effect) ≡ Ok (book_of self.new)) × (self.old.doubt ≡ None) × (self.new.doubt ≡ Some effect) × (self.new.book ≡ self.old.book)) }
+        ensures refused { IfErr result (λ e. e ≢ StoreError.NoMemory → (e ≡ StoreError.BadBook number) × (placed number (after_prepared self.old.kind (book_of self.old) effect) ≡ Err (StoreError.BadBook number))) }
+        ensures few { OnOk result (number ≤ 32768) }
+        ensures fits { Fits B.meaning B.sort self.new }
+        ensures same { self.new.kind ≡ self.old.kind }
+        ensures sort { B.sort self.new.resource ≡ B.sort self.old.resource }
+    {
+        if !self.is_in_place(number, &effect) {
+            return Err(StoreError::BadBook(number));
+        }
+        match self.hold(effect) {
+            Ok(()) => Ok(()),
+            Err(_) => Err(StoreError::NoMemory),
+        }
+    }
+
+    fn take_committed(&mut self, number: u32, committed: u32) -> Result<(), StoreError>
+        requires fits { Fits B.meaning B.sort self.old }
+        ensures ok { OnOk result ((placed number (after_committed self.old.book self.old.doubt committed) ≡ Ok (book_of self.new)) × IfSome self.old.doubt (λ e. (e.number ≡ committed) × (self.new.book ≡ self.old.book ++ e ∷ [])) × IsSome self.old.doubt × (self.new.doubt ≡ None)) }
+        ensures refused { IfErr result (λ e. (e ≡ StoreError.BadBook number) × (placed number (after_committed self.old.book self.old.doubt committed) ≡ Err (StoreError.BadBook number))) }
+        ensures few { OnOk result (number ≤ 32768) }
+        ensures fits { Fits B.meaning B.sort self.new }
+        ensures same { self.new.kind ≡ self.old.kind }
+        ensures sort { B.sort self.new.resource ≡ B.sort self.old.resource }
+    {
+        if !self.is_due(number, committed) {
+            return Err(StoreError::BadBook(number));
+        }
+        self.commit();
+        Ok(())
+    }
+
+    fn is_in_place(&self, number: u32, effect: &Effect) -> bool
+        ensures place { result ≡ (is_none self.now.doubt && may_follow self.now.kind self.now.book effect.now && nat_le number 32768) }
+        ensures few { IsTrue result → number ≤ 32768 }
+    {
+        self.doubt.is_none() && self.may_follow(effect) && number <= 32_768
+    }
+
+    fn is_due(&self, number: u32, committed: u32) -> bool
+        ensures place { result ≡ (commits self.now.doubt committed && nat_le number 32768) }
+        ensures few { IsTrue result → number ≤ 32768 }
+    {
+        match self.doubt {
+            Some(effect) => effect.number == committed && number <= 32_768,
+            None => false,
+        }
+    }
+
+    /// Forgets what is in doubt.
+    pub fn release(&mut self)
+        requires fits { Fits B.meaning B.sort self.old }
+        ensures fits { Fits B.meaning B.sort self.new }
+        ensures same { (self.new.kind ≡ self.old.kind) × (self.new.book ≡ self.old.book) × (self.new.doubt ≡ None) }
+    {
+        self.doubt = None;
+    }
+
+    /// Commits what is in doubt.
+    pub fn commit(&mut self)
+        requires fits { Fits B.meaning B.sort self.old }
+        requires doubt { IsSome self.old.doubt }
+        ensures fits { Fits B.meaning B.sort self.new }
+        ensures same { self.new.kind ≡ self.old.kind }
+        ensures sort { B.sort self.new.resource ≡ B.sort self.old.resource }
+        ensures book { IfSome self.old.doubt (λ e. self.new.book ≡ self.old.book ++ e ∷ []) }
+        ensures settled { self.new.doubt ≡ None }
+    {
+        let Some(effect) = self.doubt else {
+            unreachable!();
+        };
+        self.doubt = None;
+        settle(&mut self.resource, &mut self.undoable, effect);
+        self.book.push_reserved(effect);
+    }
+}
+
+impl<B: Drop> Account<B> {
+    pub fn book(&self) -> &[Effect]
+        ensures { result.now ≡ self.now.book }
+    {
+        &self.book
+    }
+
+    pub fn in_doubt(&self) -> Option<&Effect>
+        ensures { option_copied result ≡ self.now.doubt }
+    {
+        self.doubt.as_ref()
+    }
+
+    pub fn into_resource(self) -> B
+        ensures { result ≡ self.resource }
+    {
+        self.resource
+    }
+}
+
+// Room for an effect, for its undo, and for the undos of the others.
+fn reserve(book: &mut Vec<Effect>, undoable: &mut Vec<Undoable>) -> Result<(), AllocError>
+    requires few { vec_len undoable.old ≤ vec_capacity book.old }
+    ensures same { (book.new.items ≡ book.old.items) × (undoable.new.items ≡ undoable.old.items) }
+    ensures keeps { (vec_capacity book.old ≤ vec_capacity book.new) × (vec_capacity undoable.old ≤ vec_capacity undoable.new) }
+    ensures room { OnOk result ((vec_len book.new + vec_len undoable.new + 2 ≤ vec_capacity book.new) × (vec_len undoable.new + 1 ≤ vec_capacity undoable.new)) }
+{
+    book.reserve(undoable.len() + 2)?;
+    undoable.reserve(1)
+}
+
+// Changes the box by an effect, and what may be undone.
+fn settle<B: Resource>(resource: &mut B, undoable: &mut Vec<Undoable>, effect: Effect)
+    requires ready { IsTrue (has_key (B.meaning resource.old).items effect.call.key) }
+    requires room { effect.undo ≡ false → vec_len undoable.old < vec_capacity undoable.old }
+    requires found { effect.undo ≡ true → IsTrue (is_some (take_last effect undoable.old.items)) }
+    ensures pairs { (B.meaning resource.new).items ≡ (settle (B.sort resource.old) (beside (B.meaning resource.old).items undoable.old.items) effect).pairs }
+    ensures undoable { undoable.new.items ≡ (settle (B.sort resource.old) (beside (B.meaning resource.old).items undoable.old.items) effect).undoable }
+    ensures kind { B.sort resource.new ≡ B.sort resource.old }
+    ensures capacity { vec_capacity undoable.old ≤ vec_capacity undoable.new }
+    ensures size { vec_len undoable.new ≡ (if effect.undo then vec_len undoable.old - 1 else vec_len undoable.old + 1) }
+{
+    if effect.undo {
+        undo(resource, undoable, &effect);
+    } else {
+        let before = resource.apply(&effect.call);
+        undoable.push_reserved(Undoable { effect, before });
+    }
+}
+
+fn undo<B: Resource>(resource: &mut B, undoable: &mut Vec<Undoable>, effect: &Effect)
+    requires ready { IsTrue (has_key (B.meaning resource.old).items effect.now.call.key) }
+    requires found { IsTrue (is_some (take_last effect.now undoable.old.items)) }
+    ensures pairs { (B.meaning resource.new).items ≡ (undone (B.sort resource.old) (beside (B.meaning resource.old).items undoable.old.items) effect.now (take_last effect.now undoable.old.items)).pairs }
+    ensures undoable { undoable.new.items ≡ (undone (B.sort resource.old) (beside (B.meaning resource.old).items undoable.old.items) effect.now (take_last effect.now undoable.old.items)).undoable }
+    ensures kind { B.sort resource.new ≡ B.sort resource.old }
+    ensures capacity { vec_capacity undoable.old ≤ vec_capacity undoable.new }
+    ensures size { vec_len undoable.new + 1 ≡ vec_len undoable.old }
+{
+    let Some(place) = last_place(effect, undoable) else {
+        unreachable!();
+    };
+    let found = undoable.remove(place);
+    resource.revert(&effect.call, found.before);
+}

@@ -1,0 +1,21 @@
+//! Durable stores: the effects on a subsystem in a file, and their values in a box.
+//!
+//! An effect is prepared, and then committed or rolled back; a crash leaves the store before or after each of these. The
+//! committed effects are the book, and the box of an open store has the values of its book (`specs/Values`). `specs/Bodies`
+//! says which bytes stand for each record, `specs/Order` in which order they come and what is refused of a file first, and
+//! `specs/Opened` what an open store stands for. The layer above decides what becomes of an effect that is in doubt.
+#![tactic(auto)]
+
+mod account;
+mod bodies;
+mod effect;
+mod errors;
+mod matching;
+mod store;
+
+pub use effect::Effect;
+pub use errors::{Prepare, StoreError, StoreRefused};
+pub use store::Store;
+
+#[cfg(test)]
+mod tests;

@@ -1,0 +1,49 @@
+// Which effects belong together.
+ghost use Rattle.std.specs.Prelude.{◌≡◌, ◌<◌, length, take, Some, None, MatchOption, remove, get_or};
+ghost use Rattle.subsystem_store.specs.Values.{take_last, same_call, is_of};
+ghost use Rattle.subsystem_store.specs.Order.{is_above};
+ghost use Rattle.subsystem_store.specs.Matching.{last_place};
+
+use crate::Effect;
+use crate::bodies::code_of;
+use crate::effect::Undoable;
+use resource_box::Call;
+
+fn same_call(a: &Call, b: &Call) -> bool
+    ensures { result ≡ same_call a.now b.now }
+{
+    code_of(a.verb) == code_of(b.verb) && a.key == b.key && a.amount == b.amount
+}
+
+/// Whether an undo is of a forward effect.
+pub fn is_of(undo: &Effect, forward: &Effect) -> bool
+    ensures { result ≡ is_of undo.now forward.now }
+{
+    undo.process == forward.process
+        && undo.step == forward.step
+        && same_call(&undo.call, &forward.call)
+}
+
+/// The place of the last forward effect that an undo can be of.
+pub fn last_place(undo: &Effect, undoable: &[Undoable]) -> Option<usize>
+    ensures { result ≡ last_place undo.now undoable.now }
+{
+    let mut rest = undoable;
+    'places: while let Some((last, front)) = rest.split_last() {
+        if is_of(undo, &last.effect) {
+            return Some(front.len());
+        }
+        rest = front;
+    }
+    None
+}
+
+/// Whether a number is above that of the last effect.
+pub fn is_above(book: &[Effect], number: u32) -> bool
+    ensures { result ≡ is_above book.now number }
+{
+    match book {
+        [.., last] => last.number < number,
+        [] => true,
+    }
+}

@@ -1,0 +1,217 @@
+// An open store.
+ghost use Rattle.std.specs.Prelude.{◌≡◌, ◌≢◌, ◌↔◌, ◌⊎◌, ◌<◌, ◌≤◌, ◌+◌, ◌++◌, ◌∷◌, [], List, ℕ, length, None, Some, true, false, OnOk, OnErr, IfOk, IfErr, IfSome, IsSome, if◌then◌else◌, option_copied};
+ghost use Rattle.process_flow.specs.Causes.{Rose, HasCause};
+ghost use Rattle.process_disk.specs.Disk.{Told, file_of};
+ghost use Rattle.process_disk.specs.Images.{EachImage, OthersAsBefore, AllAsBefore};
+ghost use Rattle.resource_box.specs.Meaning.{value_at};
+ghost use Rattle.resource_box.specs.Table.{bars};
+ghost use Rattle.subsystem_store.specs.declared.effect.Effect.{Effect};
+ghost use Rattle.subsystem_store.specs.Bodies.{is_amount};
+ghost use Rattle.subsystem_store.specs.Values.{values};
+ghost use Rattle.subsystem_store.specs.Order.{may_follow, read_store};
+ghost use Rattle.subsystem_store.specs.Answers.{OpensAs, doubt_after};
+ghost use Rattle.subsystem_store.specs.Opened.{Opened, Fits, Stands, account_of, IsStoreOf, IsStoreOfEither};
+
+use crate::account::Account;
+use crate::bodies::{committed_bytes, prepared_bytes};
+use crate::{Effect, Prepare, StoreError, StoreRefused};
+use gate_log::{DiskFault, Log};
+use process_disk::Rack;
+use resource_box::Resource;
+use std::alloc::Global;
+use std::marker::Model;
+
+/// A subsystem's effects in a file, and their values in a box. After a `DiskFault` it is opened again before any other call.
+#[derive(Drop)]
+pub struct Store<B: Drop = Box<dyn Resource + Send>> {
+    log: Log,
+    account: Account<B>,
+}
+
+impl<B: Drop> Model for Store<B> {
+    ghost use Rattle.std.specs.Prelude.{◌≡◌, ◌≤◌, ◌<◌, length, IsSome};
+    ghost use Rattle.gate_log.specs.Standing.{CanRetract};
+    ghost use Rattle.subsystem_store.specs.Opened.{Opened};
+    ghost use Rattle.subsystem_store.specs.Room.{records_of};
+
+    ghost Value = { Opened B };
+
+    ghost view = { λ s. record { log = s.log; kind = s.account.kind; resource = s.account.resource; book = s.account.book; doubt = s.account.doubt } };
+
+    ghost invariant = { λ s. (s.log.count ≡ records_of (length s.account.book) s.account.doubt)
+        × (length s.account.book ≤ 16384)
+        × (IsSome s.account.doubt → (length s.account.book < 16384) × CanRetract s.log) };
+}
+
+impl<B: Resource> Store<B> {
+    /// Makes an empty file a store without an effect, beside a box that it clears.
+    pub fn create<R: Rack>(
+        alloc: Global,
+        rack: &mut R,
+        file: u8,
+        resource: B,
+    ) -> Result<Self, StoreRefused<B>>
+        requires file { file < 9 }
+        requires empty { Told (R.disk rack.old) → file_of (R.disk rack.old).files file ≡ [] }
+        ensures stands { Told (R.disk rack.old) → IfOk result (λ s. Stands s (R.disk rack.new)) }
+        ensures fits { IfOk result (λ s. Fits B.meaning B.sort (account_of s)) }
+        ensures unused { IfOk result (λ s. (s.log.file ≡ file) × (s.kind ≡ B.sort resource) × (s.book ≡ []) × (s.doubt ≡ None)) }
+        ensures cleared { IfErr result (λ r. ((B.meaning r.resource).items ≡ []) × (B.sort r.resource ≡ B.sort resource)) }
+        ensures refused { IfErr result (λ r. r.why ≢ StoreError.NoMemory → (r.why ≡ StoreError.DiskFault) × Rose (R.faults rack.old) (R.faults rack.new)) }
+        ensures others { Told (R.disk rack.old) → OthersAsBefore file (R.disk rack.old) (R.disk rack.new) }
+        ensures tells { (R.disk rack.new).tells ≡ (R.disk rack.old).tells }
+        ensures later { R.faults rack.old ≤ R.faults rack.new }
+    {
+        let account = Account::new(alloc, resource);
+        match Log::create(alloc, rack, file) {
+            Ok(log) => Ok(Store { log, account }),
+            Err(error) => Err(StoreRefused {
+                resource: account.cleared(),
+                why: error.into(),
+            }),
+        }
+    }
+
+    /// The store of a file, beside a box that gets the values of its book.
+    pub fn open<R: Rack>(
+        alloc: Global,
+        rack: &mut R,
+        file: u8,
+        resource: B,
+    ) -> Result<Self, StoreRefused<B>>
+        requires file { file < 9 }
+        ensures answer { Told (R.disk rack.old) → OpensAs (read_store (B.sort resource) file (file_of (R.disk rack.old).files file)) result }
+        ensures stands { Told (R.disk rack.old) → IfOk result (λ s. Stands s (R.disk rack.new)) }
+        ensures fits { IfOk result (λ s. Fits B.meaning B.sort (account_of s)) }
+        ensures store { IfOk result (λ s. (s.log.file ≡ file) × (s.kind ≡ B.sort resource)) }
+        ensures cleared { IfErr result (λ r. ((B.meaning r.resource).items ≡ []) × (B.sort r.resource ≡ B.sort resource)) }
+        ensures fault { IfErr result (λ r. r.why ≡ StoreError.DiskFault → Rose (R.faults rack.old) (R.faults rack.new)) }
+        ensures all { Told (R.disk rack.old) → AllAsBefore (R.disk rack.old) (R.disk rack.new) }
+        ensures tells { (R.disk rack.new).tells ≡ (R.disk rack.old).tells }
+        ensures later { R.faults rack.old ≤ R.faults rack.new }
+    {
+        let account = Account::new(alloc, resource);
+        match Log::open(alloc, rack, file) {
+            Ok((log, bodies)) => {
+                let account = account.replay(&bodies)?;
+                Ok(Store { log, account })
+            }
+            Err(error) => Err(StoreRefused {
+                resource: account.cleared(),
+                why: error.into(),
+            }),
+        }
+    }
+
+    /// Prepares an effect: from then on it is in doubt.
+    pub fn prepare<R: Rack>(&mut self, rack: &mut R, effect: Effect) -> Prepare
+        requires settled { self.old.doubt ≡ None }
+        requires few { length self.old.book < 16384 }
+        requires follows { may_follow self.old.kind self.old.book effect ≡ true }
+        requires amount { is_amount effect.call.amount ≡ true }
+        requires fits { Fits B.meaning B.sort (account_of self.old) }
+        requires stands { Told (R.disk rack.old) → Stands self.old (R.disk rack.old) }
+        ensures acknowledged { Told (R.disk rack.old) → result ≡ Prepare.Prepared → Stands self.new (R.disk rack.new) }
+        ensures any_moment { Told (R.disk rack.old) →
+            EachImage (R.disk rack.new) (R.disk rack.old).moment (IsStoreOfEither self.old.log.file (self.old.book, None) (self.old.book, Some effect)) }
+        ensures fits { Fits B.meaning B.sort (account_of self.new) }
+        ensures doubt { self.new.doubt ≡ doubt_after result effect }
+        ensures barred { (result ≡ Prepare.Barred) ↔ ((if effect.undo then false else bars self.old.kind effect.call (value_at (values self.old.kind self.old.book) effect.call.key)) ≡ true) }
+        ensures undo { effect.undo ≡ true → (result ≡ Prepare.Prepared) ⊎ (result ≡ Prepare.DiskFault) }
+        ensures untouched { ((result ≡ Prepare.Barred) ⊎ (result ≡ Prepare.NoMemory)) → (rack.new ≡ rack.old) × (self.new.log ≡ self.old.log) }
+        ensures same { (self.new.log.file ≡ self.old.log.file) × (self.new.kind ≡ self.old.kind) × (self.new.book ≡ self.old.book) }
+        ensures others { Told (R.disk rack.old) → OthersAsBefore self.old.log.file (R.disk rack.old) (R.disk rack.new) }
+        ensures tells { (R.disk rack.new).tells ≡ (R.disk rack.old).tells }
+        ensures later { R.faults rack.old ≤ R.faults rack.new }
+        ensures fault { result ≡ Prepare.DiskFault → Rose (R.faults rack.old) (R.faults rack.new) }
+    {
+        if self.account.bars(&effect) {
+            return Prepare::Barred;
+        }
+        if self.account.hold(effect).is_err() {
+            return Prepare::NoMemory;
+        }
+        match self.log.append(rack, &prepared_bytes(&effect)) {
+            Ok(()) => Prepare::Prepared,
+            Err(_) => {
+                self.account.release();
+                Prepare::DiskFault
+            }
+        }
+    }
+
+    /// Commits the effect in doubt.
+    pub fn commit<R: Rack>(&mut self, rack: &mut R) -> Result<(), DiskFault>
+        requires doubt { IsSome self.old.doubt }
+        requires fits { Fits B.meaning B.sort (account_of self.old) }
+        requires stands { Told (R.disk rack.old) → Stands self.old (R.disk rack.old) }
+        ensures acknowledged { Told (R.disk rack.old) → OnOk result (Stands self.new (R.disk rack.new)) }
+        ensures any_moment { Told (R.disk rack.old) → (e : Effect) → self.old.doubt ≡ Some e →
+            EachImage (R.disk rack.new) (R.disk rack.old).moment (IsStoreOfEither self.old.log.file (self.old.book, Some e) (self.old.book ++ e ∷ [], None)) }
+        ensures fits { Fits B.meaning B.sort (account_of self.new) }
+        ensures ok { OnOk result ((self.new.doubt ≡ None) × IfSome self.old.doubt (λ e. self.new.book ≡ self.old.book ++ e ∷ [])) }
+        ensures err { OnErr result ((self.new.book ≡ self.old.book) × (self.new.doubt ≡ self.old.doubt)) }
+        ensures same { (self.new.log.file ≡ self.old.log.file) × (self.new.kind ≡ self.old.kind) }
+        ensures others { Told (R.disk rack.old) → OthersAsBefore self.old.log.file (R.disk rack.old) (R.disk rack.new) }
+        ensures tells { (R.disk rack.new).tells ≡ (R.disk rack.old).tells }
+        ensures cause { HasCause (R.faults rack.old) (R.faults rack.new) result }
+    {
+        let number = match self.account.in_doubt() {
+            Some(effect) => effect.number,
+            None => unreachable!(),
+        };
+        self.log.append(rack, &committed_bytes(number))?;
+        self.account.commit();
+        Ok(())
+    }
+
+    /// Takes the effect in doubt back.
+    pub fn roll_back<R: Rack>(&mut self, rack: &mut R) -> Result<(), DiskFault>
+        requires doubt { IsSome self.old.doubt }
+        requires fits { Fits B.meaning B.sort (account_of self.old) }
+        requires stands { Told (R.disk rack.old) → Stands self.old (R.disk rack.old) }
+        ensures acknowledged { Told (R.disk rack.old) → OnOk result (Stands self.new (R.disk rack.new)) }
+        ensures any_moment { Told (R.disk rack.old) →
+            EachImage (R.disk rack.new) (R.disk rack.old).moment (IsStoreOfEither self.old.log.file (self.old.book, None) (self.old.book, self.old.doubt)) }
+        ensures fits { Fits B.meaning B.sort (account_of self.new) }
+        ensures ok { OnOk result (self.new.doubt ≡ None) }
+        ensures err { OnErr result (self.new.doubt ≡ self.old.doubt) }
+        ensures same { (self.new.log.file ≡ self.old.log.file) × (self.new.kind ≡ self.old.kind) × (self.new.book ≡ self.old.book) }
+        ensures others { Told (R.disk rack.old) → OthersAsBefore self.old.log.file (R.disk rack.old) (R.disk rack.new) }
+        ensures tells { (R.disk rack.new).tells ≡ (R.disk rack.old).tells }
+        ensures cause { HasCause (R.faults rack.old) (R.faults rack.new) result }
+    {
+        self.log.retract(rack)?;
+        self.account.release();
+        Ok(())
+    }
+
+    /// The value at a key.
+    pub fn look(&self, key: u32) -> i64
+        requires fits { Fits B.meaning B.sort (account_of self.now) }
+        ensures { result ≡ value_at (values self.now.kind self.now.book) key }
+    {
+        self.account.look(key)
+    }
+
+    /// The effect that is prepared and not committed.
+    pub fn in_doubt(&self) -> Option<&Effect>
+        ensures { option_copied result ≡ self.now.doubt }
+    {
+        self.account.in_doubt()
+    }
+
+    /// The committed effects in order.
+    pub fn book(&self) -> &[Effect]
+        ensures { result.now ≡ self.now.book }
+    {
+        self.account.book()
+    }
+
+    /// The box, with the values of the book.
+    pub fn into_resource(self) -> B
+        ensures { result ≡ self.resource }
+    {
+        self.account.into_resource()
+    }
+}
