@@ -12,65 +12,14 @@ ghost use Rattle.process_text.specs.Grammar.{IsSetting, IsWithSettings, IsStep};
 ghost use Rattle.process_text.specs.FirstFault.{Before, told, told_from, told_behind, at_step_name, at_operation, at_key, at_amount, at_settings, at_number, in_block};
 ghost use Rattle.process_text.specs.Leading.{with_names};
 
-use crate::{At, Expected, Fault, Names, Next, Setting, What, Words, amount, key, number};
+use crate::{
+    At, Expected, Fault, Names, Next, Setting, What, Words, amount, key, name_of, number,
+    read_new_name,
+};
 use process_tree::{
-    DEFAULT_TRIES, MOST_REFUSALS, MOST_STEPS, MOST_TRIES, Name, NameError, Step, StepKind, is_name,
+    DEFAULT_TRIES, MOST_REFUSALS, MOST_STEPS, MOST_TRIES, Name, Step, StepKind, is_name,
 };
 use std::alloc::Global;
-
-/// The name that a word is.
-pub fn name_of(alloc: Global, word: &[u8]) -> Result<Name, Fault>
-    requires { is_name word.now ≡ true }
-    ensures name { IfOk result (λ name. name ≡ word.now) }
-    ensures memory { IfErr result (λ e. e ≡ Fault.NoMemory) }
-{
-    match Name::new(alloc, word) {
-        Ok(name) => Ok(name),
-        Err(NameError::NoMemory) => Err(Fault::NoMemory),
-        Err(NameError::BadName) => unreachable!(),
-    }
-}
-
-/// The fault that a name is taken.
-pub fn same_name(alloc: Global, word: &[u8]) -> Fault
-    requires { is_name word.now ≡ true }
-    ensures { (result ≡ Fault.NoMemory) ⊎ (result ≡ Fault.SameName word.now) }
-{
-    match name_of(alloc, word) {
-        Ok(name) => Fault::SameName(name),
-        Err(fault) => fault,
-    }
-}
-
-// The name of a step, which is taken from then on.
-fn read_step_name<'a>(
-    alloc: Global,
-    words: &mut Words<'a>,
-    names: &mut Names<'a>,
-) -> Result<Name, Fault>
-    ensures word { IfOk result (λ name. words.old ≡ name ∷ words.new) }
-    ensures name { IfOk result (λ name. is_name name ≡ true) }
-    ensures new { IfOk result (λ name. list_any (same_text name) names.old ≡ false) }
-    ensures taken { IfOk result (λ name. names.new ≡ names.old ++ name ∷ []) }
-    ensures leads { OnOk result ((earlier : List (List ℕ)) (choices : List ℕ) (k : StepKind)
-        → told_from (with_names names.old earlier choices) (at_step_name k) words.old
-        ≡ told_from (with_names names.new earlier choices) (at_operation k) words.new) }
-    ensures err { IfErr result (λ e. (e ≡ Fault.NoMemory)
-        ⊎ ((earlier : List (List ℕ)) (choices : List ℕ) (k : StepKind)
-        → told_from (with_names names.old earlier choices) (at_step_name k) words.old ≡ told e words.new)) }
-{
-    let Some(word) = words.next_word() else {
-        return Err(Fault::Missing(Expected::Name));
-    };
-    if !is_name(word) {
-        return Err(Fault::Misfit(Expected::Name));
-    }
-    if names.has(word) {
-        return Err(same_name(alloc, word));
-    }
-    names.add(word)?;
-    name_of(alloc, word)
-}
 
 // An operation.
 fn read_operation(alloc: Global, words: &mut Words<'_>) -> Result<Name, Fault>
@@ -288,7 +237,7 @@ fn read_step<'a>(
         ⊎ ((earlier : List (List ℕ)) (choices : List ℕ)
         → told_from (with_names names.old earlier choices) (at_step_name kind) words.old ≡ told e words.new)) }
 {
-    let name = read_step_name(alloc, words, names)?;
+    let name = read_new_name(alloc, words, names)?;
     let call = read_call(alloc, words)?;
     let step = Step {
         kind,
