@@ -129,70 +129,35 @@ fn read_setting(setting: Setting, words: &mut Words<'_>) -> Result<u8, Fault>
     read_number(setting, words)
 }
 
-// A compensatable step with its options.
-fn compensatable(step: Step, words: &mut Words<'_>) -> Result<Step, Fault>
-    requires { step.kind ≡ StepKind.C }
-    ensures step { IfOk result (λ s. IsWithSettings step s words.old words.new) }
-    ensures leads { OnOk result ((b : Before) → told_from b (at_settings (settings step.kind)) words.old ≡ told_from b (at_settings []) words.new) }
-    ensures err { IfErr result (λ e. (b : Before) → told_from b (at_settings (settings step.kind)) words.old ≡ told e words.new) }
-{
-    let undo_tries = read_setting(Setting::Undo, words)?;
-    let refuse = read_setting(Setting::Refuse, words)?;
-    let undo_refuse = read_setting(Setting::UndoRefuse, words)?;
-    Ok(Step {
-        tries: DEFAULT_TRIES,
-        undo_tries,
-        refuse,
-        undo_refuse,
-        ..step
-    })
-}
-
-// A pivot with its options.
-fn pivot(step: Step, words: &mut Words<'_>) -> Result<Step, Fault>
-    requires { step.kind ≡ StepKind.P }
-    ensures step { IfOk result (λ s. IsWithSettings step s words.old words.new) }
-    ensures leads { OnOk result ((b : Before) → told_from b (at_settings (settings step.kind)) words.old ≡ told_from b (at_settings []) words.new) }
-    ensures err { IfErr result (λ e. (b : Before) → told_from b (at_settings (settings step.kind)) words.old ≡ told e words.new) }
-{
-    let refuse = read_setting(Setting::Refuse, words)?;
-    Ok(Step {
-        tries: DEFAULT_TRIES,
-        undo_tries: DEFAULT_TRIES,
-        refuse,
-        undo_refuse: 0,
-        ..step
-    })
-}
-
-// A retriable step with its options.
-fn retriable(step: Step, words: &mut Words<'_>) -> Result<Step, Fault>
-    requires { step.kind ≡ StepKind.R }
-    ensures step { IfOk result (λ s. IsWithSettings step s words.old words.new) }
-    ensures leads { OnOk result ((b : Before) → told_from b (at_settings (settings step.kind)) words.old ≡ told_from b (at_settings []) words.new) }
-    ensures err { IfErr result (λ e. (b : Before) → told_from b (at_settings (settings step.kind)) words.old ≡ told e words.new) }
-{
-    let tries = read_setting(Setting::Tries, words)?;
-    let refuse = read_setting(Setting::Refuse, words)?;
-    Ok(Step {
-        tries,
-        undo_tries: DEFAULT_TRIES,
-        refuse,
-        undo_refuse: 0,
-        ..step
-    })
-}
-
-// A step with its options.
+// A step with the options that its kind has, and the defaults of the others.
 fn with_settings(step: Step, words: &mut Words<'_>) -> Result<Step, Fault>
     ensures step { IfOk result (λ s. IsWithSettings step s words.old words.new) }
     ensures leads { OnOk result ((b : Before) → told_from b (at_settings (settings step.kind)) words.old ≡ told_from b (at_settings []) words.new) }
     ensures err { IfErr result (λ e. (b : Before) → told_from b (at_settings (settings step.kind)) words.old ≡ told e words.new) }
 {
-    match step.kind {
-        StepKind::C => compensatable(step, words),
-        StepKind::P => pivot(step, words),
-        StepKind::R => retriable(step, words),
+    let default = Step {
+        tries: DEFAULT_TRIES,
+        undo_tries: DEFAULT_TRIES,
+        refuse: 0,
+        undo_refuse: 0,
+        ..step
+    };
+    match default.kind {
+        StepKind::C => Ok(Step {
+            undo_tries: read_setting(Setting::Undo, words)?,
+            refuse: read_setting(Setting::Refuse, words)?,
+            undo_refuse: read_setting(Setting::UndoRefuse, words)?,
+            ..default
+        }),
+        StepKind::P => Ok(Step {
+            refuse: read_setting(Setting::Refuse, words)?,
+            ..default
+        }),
+        StepKind::R => Ok(Step {
+            tries: read_setting(Setting::Tries, words)?,
+            refuse: read_setting(Setting::Refuse, words)?,
+            ..default
+        }),
     }
 }
 
