@@ -79,7 +79,7 @@ pub fn bodies_in(alloc: Global, bytes: &[u8]) -> Result<Bodies, LogError>
         let Some((body, after)) = first_record(rest) else {
             break 'records;
         };
-        bodies.push(Body::copy_of(alloc, body)?)?;
+        bodies.push(Body::new(body.to_vec(alloc)?))?;
         rest = after;
     }
     if is_closed(rest) {

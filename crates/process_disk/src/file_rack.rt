@@ -67,8 +67,10 @@ impl<D: Folder + Drop> FileRack<D> {
         Err(Failed)
     }
 
-    // Takes the folder before the first look, if it may write and file 0 is there.
-    fn enter(&mut self) -> Result<(), Failed>
+    // Takes the folder: before the first look, if it may write and file 0 is there; or, to write, with a file 0 that is made
+    // where it had none at the first look.
+    fn take(&mut self, make: bool) -> Result<(), Failed>
+        ensures taken { IsTrue make → OnOk result (IsTrue self.new.taken) }
         ensures looks { Told (D.disk self.old.folder) → Looks (D.disk self.old.folder) (D.disk self.new.folder) }
         ensures tells { (D.disk self.new.folder).tells ≡ (D.disk self.old.folder).tells }
         ensures syncs { D.syncs self.new.folder ≡ D.syncs self.old.folder }
@@ -79,28 +81,14 @@ impl<D: Folder + Drop> FileRack<D> {
         ensures writes { self.new.writes ≡ self.old.writes }
         ensures faults { self.new.faults ≡ self.old.faults }
     {
-        if self.writes && !self.entered {
-            self.taken = self.folder.take(false)?;
+        let done = if make {
+            self.taken
+        } else {
+            self.entered || !self.writes
+        };
+        if !done {
+            self.taken = self.folder.take(make)?;
             self.entered = true;
-        }
-        Ok(())
-    }
-
-    // Takes the folder, which is made one with a file 0 where it had none at the first look.
-    fn take(&mut self) -> Result<(), Failed>
-        ensures taken { OnOk result (IsTrue self.new.taken) }
-        ensures looks { Told (D.disk self.old.folder) → Looks (D.disk self.old.folder) (D.disk self.new.folder) }
-        ensures tells { (D.disk self.new.folder).tells ≡ (D.disk self.old.folder).tells }
-        ensures syncs { D.syncs self.new.folder ≡ D.syncs self.old.folder }
-        ensures cause { HasCause (D.faults self.old.folder) (D.faults self.new.folder) result }
-        ensures quiet { OnOk result (D.faults self.new.folder ≡ D.faults self.old.folder) }
-        ensures unsynced { self.new.unsynced ≡ self.old.unsynced }
-        ensures broken { self.new.broken ≡ self.old.broken }
-        ensures writes { self.new.writes ≡ self.old.writes }
-        ensures faults { self.new.faults ≡ self.old.faults }
-    {
-        if !self.taken {
-            self.taken = self.folder.take(true)?;
         }
         Ok(())
     }
@@ -125,7 +113,7 @@ impl<D: Folder + Drop> FileRack<D> {
         if !any_marked(&self.unsynced) {
             return Ok(());
         }
-        self.enter()?;
+        self.take(false)?;
         self.folder.sync_names()?;
         sync_marked(&mut self.folder, &self.unsynced)?;
         self.unsynced = [false; 9];
@@ -154,7 +142,7 @@ impl<D: Folder + Drop> Rack for FileRack<D> {
         ensures unsynced { self.new.unsynced ≡ self.old.unsynced }
         ensures broken { self.new.broken ≡ self.old.broken }
     {
-        if self.enter().is_err() {
+        if self.take(false).is_err() {
             return self.failed();
         }
         match self.folder.len(file) {
@@ -178,7 +166,7 @@ impl<D: Folder + Drop> Rack for FileRack<D> {
         ensures unsynced { self.new.unsynced ≡ self.old.unsynced }
         ensures broken { self.new.broken ≡ self.old.broken }
     {
-        if self.enter().is_err() {
+        if self.take(false).is_err() {
             return self.failed();
         }
         match read_whole(&mut self.folder, file, at, buf) {
@@ -208,7 +196,7 @@ impl<D: Folder + Drop> Rack for FileRack<D> {
         if self.broken || !self.writes {
             return self.failed();
         }
-        if self.enter().is_err() || self.take().is_err() {
+        if self.take(false).is_err() || self.take(true).is_err() {
             return self.failed();
         }
         match write_whole(&mut self.folder, file, at, bytes) {

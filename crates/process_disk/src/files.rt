@@ -3,52 +3,24 @@ ghost use Rattle.std.specs.Prelude.{◌≡◌, ◌≤◌, length, IfOk, OnOk, On
 ghost use Rattle.process_disk.specs.Disk.{file_of, written, put};
 ghost use Rattle.process_disk.specs.Memory.{nine_empty};
 
+use plain_list::Items;
 use std::alloc::{AllocError, Global};
 use std::marker::Model;
+use std::mem;
 
 /// A list of bytes.
-#[derive(Drop)]
-pub struct Bytes {
-    bytes: Vec<u8>,
-}
+pub type Bytes = Items<u8>;
 
-impl Model for Bytes {
-    ghost use Rattle.std.specs.Prelude.{List, ℕ};
-
-    ghost Value = { List ℕ };
-
-    ghost view = { λ b. b.bytes.items };
-}
-
-impl Bytes {
-    pub fn new(bytes: Vec<u8>) -> Self
-        ensures { result ≡ bytes.items }
-    {
-        Bytes { bytes }
-    }
-
-    pub fn copy_of(alloc: Global, bytes: &[u8]) -> Result<Self, AllocError>
-        ensures { IfOk result (λ copy. copy ≡ bytes.now) }
-    {
-        let mut copy = Vec::new(alloc);
-        copy.extend_from_slice(bytes)?;
-        Ok(Bytes { bytes: copy })
-    }
-
-    pub fn as_slice(&self) -> &[u8]
-        ensures { result.now ≡ self.now }
-    {
-        &self.bytes
-    }
-
-    /// Writes over what is there, and past the end.
-    pub fn put(&mut self, at: u64, bytes: &[u8]) -> Result<(), AllocError>
-        ensures ok { OnOk result (self.new ≡ written self.old at bytes.now) }
-        ensures err { OnErr result (self.new ≡ self.old) }
-    {
-        let at = self.bytes.len().min(at as usize);
-        put_within(&mut self.bytes, at, bytes)
-    }
+// Writes over what is there, and past the end.
+fn put_in(alloc: Global, file: &mut Bytes, at: u64, bytes: &[u8]) -> Result<(), AllocError>
+    ensures ok { OnOk result (file.new ≡ written file.old at bytes.now) }
+    ensures err { OnErr result (file.new ≡ file.old) }
+{
+    let mut held = mem::replace(file, Bytes::new(Vec::new(alloc))).into_items();
+    let at = held.len().min(at as usize);
+    let done = put_within(&mut held, at, bytes);
+    *file = Bytes::new(held);
+    done
 }
 
 fn put_within(file: &mut Vec<u8>, at: usize, bytes: &[u8]) -> Result<(), AllocError>
@@ -87,7 +59,7 @@ impl Files {
     {
         let mut files = Vec::new(alloc);
         for _ in 0..9_u8 {
-            files.push(Bytes::copy_of(alloc, &[])?)?;
+            files.push(Bytes::new(Vec::new(alloc)))?;
         }
         Ok(Files { files })
     }
@@ -97,7 +69,7 @@ impl Files {
     {
         let mut files = Vec::new(alloc);
         for file in &self.files {
-            files.push(Bytes::copy_of(alloc, file.as_slice())?)?;
+            files.push(Bytes::new(file.bytes().to_vec(alloc)?))?;
         }
         Ok(Files { files })
     }
@@ -107,18 +79,18 @@ impl Files {
         ensures { result.now ≡ file_of self.now file }
     {
         match self.files.get(usize::from(file)) {
-            Some(bytes) => bytes.as_slice(),
+            Some(bytes) => bytes.bytes(),
             None => &[],
         }
     }
 
     /// Writes into a file, if there is one of that number.
-    pub fn put(&mut self, file: u8, at: u64, bytes: &[u8]) -> Result<(), AllocError>
+    pub fn put(&mut self, alloc: Global, file: u8, at: u64, bytes: &[u8]) -> Result<(), AllocError>
         ensures ok { OnOk result (self.new ≡ put self.old file at bytes.now) }
         ensures err { OnErr result (self.new ≡ self.old) }
     {
         match self.files.get_mut(usize::from(file)) {
-            Some(old) => old.put(at, bytes),
+            Some(old) => put_in(alloc, old, at, bytes),
             None => Ok(()),
         }
     }

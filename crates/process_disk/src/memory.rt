@@ -144,9 +144,9 @@ impl MemoryRack {
         ensures err { OnErr result ((memory self.new).made ≡ (memory self.old).made) }
         ensures same { SameCounts (memory self.old) (memory self.new) }
     {
-        let copy = Bytes::copy_of(self.alloc, bytes)?;
+        let copy = Bytes::new(bytes.to_vec(self.alloc)?);
         self.made.reserve(1)?;
-        self.files.put(file, at, bytes)?;
+        self.files.put(self.alloc, file, at, bytes)?;
         let change = Change::Written(Write {
             file,
             at,

@@ -111,10 +111,10 @@ impl Stop {
     {
         match change {
             Change::Written(write) => {
-                let bytes = write.bytes.as_slice();
+                let bytes = write.bytes.bytes();
                 let part = kept(alloc, bytes, self.room, fill)?;
-                self.files.put(write.file, write.at, bytes)?;
-                self.left.put(write.file, write.at, part.as_slice())?;
+                self.files.put(alloc, write.file, write.at, bytes)?;
+                self.left.put(alloc, write.file, write.at, part.bytes())?;
                 self.room = self.room.saturating_sub(bytes.len() as u64);
             }
             Change::Synced => {

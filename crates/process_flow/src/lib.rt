@@ -7,10 +7,12 @@
 //! knows of processes.
 #![tactic(auto)]
 
+mod counted;
 mod faults;
 mod sink;
 mod source;
 
+pub use counted::Counted;
 pub use faults::{Failed, is_listed};
 pub use sink::{MemorySink, Sink, StdSink, WriteFault, write_all};
 pub use source::{MemorySource, ReadError, Source, StdSource, read_all};

@@ -4,7 +4,7 @@ ghost use Rattle.std.specs.declared.option.Option.{Option};
 ghost use Rattle.std.specs.Io.KnownBytes.{WriteAppends, Appends};
 ghost use Rattle.process_flow.specs.Causes.{Rose, HasCause};
 
-use crate::{Failed, is_listed};
+use crate::{Counted, Failed, is_listed};
 use std::alloc::Global;
 use std::error::Error;
 use std::fmt;
@@ -119,21 +119,9 @@ impl Sink for MemorySink {
 
 /// A sink over a writer. Of contents it tells what the writer tells, which is nothing where that is a stream of the
 /// system.
-#[derive(Drop)]
-pub struct StdSink<T: Write + Drop> {
-    pub inner: T,
-    pub faults: u64,
-}
+pub type StdSink<T> = Counted<T>;
 
-impl<T: Write + Drop> StdSink<T> {
-    pub fn new(inner: T) -> Self
-        ensures { result ≡ record { inner = inner; faults = 0 } }
-    {
-        StdSink { inner, faults: 0 }
-    }
-}
-
-impl<T: Write + Drop> Sink for StdSink<T> {
+impl<T: Write + Drop> Sink for Counted<T> {
     ghost taken = { λ s. T.contents s.inner };
 
     ghost faults = { λ s. s.faults };

@@ -7,7 +7,7 @@ ghost use Rattle.process_flow.specs.Causes.{Rose, HasCause};
 ghost use Rattle.process_flow.specs.Reading.{AnswersFor, text_of};
 ghost use Rattle.process_flow.specs.declared.source.ReadError.TheVariants.{NoMemory};
 
-use crate::{Failed, is_listed};
+use crate::{Counted, Failed, is_listed};
 use std::alloc::{AllocError, Global};
 use std::error::Error;
 use std::fmt;
@@ -111,21 +111,9 @@ fn copy_front(from: &[u8], to: &mut [u8]) -> usize
 
 /// A source over a reader. Of contents it tells what the reader tells, which is nothing where that is a stream of the
 /// system.
-#[derive(Drop)]
-pub struct StdSource<T: Read + Drop> {
-    pub inner: T,
-    pub faults: u64,
-}
+pub type StdSource<T> = Counted<T>;
 
-impl<T: Read + Drop> StdSource<T> {
-    pub fn new(inner: T) -> Self
-        ensures { result ≡ record { inner = inner; faults = 0 } }
-    {
-        StdSource { inner, faults: 0 }
-    }
-}
-
-impl<T: Read + Drop> Source for StdSource<T> {
+impl<T: Read + Drop> Source for Counted<T> {
     ghost left = { λ s. T.remaining s.inner };
 
     ghost faults = { λ s. s.faults };

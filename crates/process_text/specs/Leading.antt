@@ -1,7 +1,9 @@
 -- What a part of a text that is read leads to, whatever stands before the process.
-use Rattle.std.specs.Prelude.{◌≡◌, ◌+◌, ℕ, List, length}
-use Rattle.process_text.specs.FirstFault.{Before, told_from, told_behind, told, begun_in, in_block}
+use Rattle.std.specs.Prelude.{◌≡◌, ◌+◌, ℕ, List, [], ◌∷◌, length, Option}
+use Rattle.process_text.specs.FirstFault.{Before, Turn, Told, told_from, told_behind, told_after, told, new_name, begun_in, in_block}
 use Rattle.process_text.specs.declared.fault.Fault.{Fault}
+use Rattle.process_text.specs.declared.fault.Fault.TheVariants.{Missing}
+use Rattle.process_text.specs.declared.fault.Expected.TheVariants as expects
 use Rattle.process_text.specs.declared.marks.At.TheVariants.{Begin}
 use Rattle.process_text.specs.declared.marks.Mark.{Mark}
 use Rattle.process_text.specs.declared.marks.Next.TheVariants as next
@@ -25,3 +27,8 @@ abbrev pub Fails : (left begun : ℕ) (names : List (List ℕ)) (before : List (
 Fails left begun names before fault after =
     (earlier : List (List ℕ)) (choices : List ℕ) → MayOpen left choices → begun_in choices ≡ begun
     → told_from (with_names names earlier choices) (in_block Begin) before ≡ told fault after
+
+-- what is told of words where a new name is wanted, these names are taken, and a new name turns the text
+abbrev pub told_of_new : List (List ℕ) → (List ℕ → Turn) → List (List ℕ) → Option Told
+told_of_new taken turn [] = told (Missing expects.Name) []
+told_of_new taken turn (w ∷ ws) = told_after (new_name taken w (turn w)) ws (λ c q. told_from c q ws)

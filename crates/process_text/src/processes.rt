@@ -9,39 +9,11 @@ ghost use Rattle.process_text.specs.Grammar.{Writes, block_pieces, process_piece
 ghost use Rattle.process_text.specs.FirstFault.{told, told_from, at_process_name, between_processes, in_block, first_fault};
 ghost use Rattle.process_text.specs.Leading.{with_names};
 
-use crate::{At, Expected, Fault, Names, What, Words, is_word, name_of, read_block, same_name};
-use process_tree::{Block, MOST_NESTING, Name, Named, Tree, TreeError, is_name};
+use crate::{At, Expected, Fault, Names, What, Words, is_word, read_block, read_new_name};
+use process_tree::{Block, MOST_NESTING, Named, Tree, TreeError};
 use std::alloc::Global;
 
 const MOST_PROCESSES: usize = 256;
-
-// The name of a process, which is taken from then on.
-fn read_process_name<'a>(
-    alloc: Global,
-    words: &mut Words<'a>,
-    names: &mut Names<'a>,
-) -> Result<Name, Fault>
-    ensures word { IfOk result (λ name. words.old ≡ name ∷ words.new) }
-    ensures name { IfOk result (λ name. is_name name ≡ true) }
-    ensures new { IfOk result (λ name. list_any (same_text name) names.old ≡ false) }
-    ensures taken { IfOk result (λ name. names.new ≡ names.old ++ name ∷ []) }
-    ensures leads { OnOk result (told_from (with_names [] names.old []) at_process_name words.old
-        ≡ told_from (with_names [] names.new []) (in_block At.Begin) words.new) }
-    ensures err { IfErr result (λ e. (e ≡ Fault.NoMemory)
-        ⊎ (told_from (with_names [] names.old []) at_process_name words.old ≡ told e words.new)) }
-{
-    let Some(word) = words.next_word() else {
-        return Err(Fault::Missing(Expected::Name));
-    };
-    if !is_name(word) {
-        return Err(Fault::Misfit(Expected::Name));
-    }
-    if names.has(word) {
-        return Err(same_name(alloc, word));
-    }
-    names.add(word)?;
-    name_of(alloc, word)
-}
 
 // The root block of a process, up to `end`.
 fn read_root<'a>(alloc: Global, words: &mut Words<'a>) -> Result<Block, Fault>
@@ -86,7 +58,7 @@ fn read_process<'a>(
     ensures err { IfErr result (λ e. (e ≡ Fault.NoMemory)
         ⊎ (told_from (with_names [] names.old []) at_process_name words.old ≡ told e words.new)) }
 {
-    let name = read_process_name(alloc, words, names)?;
+    let name = read_new_name(alloc, words, names)?;
     let root = read_root(alloc, words)?;
     let tree = tree_of(alloc, root)?;
     Ok(Named { name, tree })

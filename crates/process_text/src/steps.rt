@@ -12,65 +12,14 @@ ghost use Rattle.process_text.specs.Grammar.{IsSetting, IsWithSettings, IsStep};
 ghost use Rattle.process_text.specs.FirstFault.{Before, told, told_from, told_behind, at_step_name, at_operation, at_key, at_amount, at_settings, at_number, in_block};
 ghost use Rattle.process_text.specs.Leading.{with_names};
 
-use crate::{At, Expected, Fault, Names, Next, Setting, What, Words, amount, key, number};
+use crate::{
+    At, Expected, Fault, Names, Next, Setting, What, Words, amount, key, name_of, number,
+    read_new_name,
+};
 use process_tree::{
-    DEFAULT_TRIES, MOST_REFUSALS, MOST_STEPS, MOST_TRIES, Name, NameError, Step, StepKind, is_name,
+    DEFAULT_TRIES, MOST_REFUSALS, MOST_STEPS, MOST_TRIES, Name, Step, StepKind, is_name,
 };
 use std::alloc::Global;
-
-/// The name that a word is.
-pub fn name_of(alloc: Global, word: &[u8]) -> Result<Name, Fault>
-    requires { is_name word.now ≡ true }
-    ensures name { IfOk result (λ name. name ≡ word.now) }
-    ensures memory { IfErr result (λ e. e ≡ Fault.NoMemory) }
-{
-    match Name::new(alloc, word) {
-        Ok(name) => Ok(name),
-        Err(NameError::NoMemory) => Err(Fault::NoMemory),
-        Err(NameError::BadName) => unreachable!(),
-    }
-}
-
-/// The fault that a name is taken.
-pub fn same_name(alloc: Global, word: &[u8]) -> Fault
-    requires { is_name word.now ≡ true }
-    ensures { (result ≡ Fault.NoMemory) ⊎ (result ≡ Fault.SameName word.now) }
-{
-    match name_of(alloc, word) {
-        Ok(name) => Fault::SameName(name),
-        Err(fault) => fault,
-    }
-}
-
-// The name of a step, which is taken from then on.
-fn read_step_name<'a>(
-    alloc: Global,
-    words: &mut Words<'a>,
-    names: &mut Names<'a>,
-) -> Result<Name, Fault>
-    ensures word { IfOk result (λ name. words.old ≡ name ∷ words.new) }
-    ensures name { IfOk result (λ name. is_name name ≡ true) }
-    ensures new { IfOk result (λ name. list_any (same_text name) names.old ≡ false) }
-    ensures taken { IfOk result (λ name. names.new ≡ names.old ++ name ∷ []) }
-    ensures leads { OnOk result ((earlier : List (List ℕ)) (choices : List ℕ) (k : StepKind)
-        → told_from (with_names names.old earlier choices) (at_step_name k) words.old
-        ≡ told_from (with_names names.new earlier choices) (at_operation k) words.new) }
-    ensures err { IfErr result (λ e. (e ≡ Fault.NoMemory)
-        ⊎ ((earlier : List (List ℕ)) (choices : List ℕ) (k : StepKind)
-        → told_from (with_names names.old earlier choices) (at_step_name k) words.old ≡ told e words.new)) }
-{
-    let Some(word) = words.next_word() else {
-        return Err(Fault::Missing(Expected::Name));
-    };
-    if !is_name(word) {
-        return Err(Fault::Misfit(Expected::Name));
-    }
-    if names.has(word) {
-        return Err(same_name(alloc, word));
-    }
-    names.add(word)?;
-    name_of(alloc, word)
-}
 
 // An operation.
 fn read_operation(alloc: Global, words: &mut Words<'_>) -> Result<Name, Fault>
@@ -180,70 +129,35 @@ fn read_setting(setting: Setting, words: &mut Words<'_>) -> Result<u8, Fault>
     read_number(setting, words)
 }
 
-// A compensatable step with its options.
-fn compensatable(step: Step, words: &mut Words<'_>) -> Result<Step, Fault>
-    requires { step.kind ≡ StepKind.C }
-    ensures step { IfOk result (λ s. IsWithSettings step s words.old words.new) }
-    ensures leads { OnOk result ((b : Before) → told_from b (at_settings (settings step.kind)) words.old ≡ told_from b (at_settings []) words.new) }
-    ensures err { IfErr result (λ e. (b : Before) → told_from b (at_settings (settings step.kind)) words.old ≡ told e words.new) }
-{
-    let undo_tries = read_setting(Setting::Undo, words)?;
-    let refuse = read_setting(Setting::Refuse, words)?;
-    let undo_refuse = read_setting(Setting::UndoRefuse, words)?;
-    Ok(Step {
-        tries: DEFAULT_TRIES,
-        undo_tries,
-        refuse,
-        undo_refuse,
-        ..step
-    })
-}
-
-// A pivot with its options.
-fn pivot(step: Step, words: &mut Words<'_>) -> Result<Step, Fault>
-    requires { step.kind ≡ StepKind.P }
-    ensures step { IfOk result (λ s. IsWithSettings step s words.old words.new) }
-    ensures leads { OnOk result ((b : Before) → told_from b (at_settings (settings step.kind)) words.old ≡ told_from b (at_settings []) words.new) }
-    ensures err { IfErr result (λ e. (b : Before) → told_from b (at_settings (settings step.kind)) words.old ≡ told e words.new) }
-{
-    let refuse = read_setting(Setting::Refuse, words)?;
-    Ok(Step {
-        tries: DEFAULT_TRIES,
-        undo_tries: DEFAULT_TRIES,
-        refuse,
-        undo_refuse: 0,
-        ..step
-    })
-}
-
-// A retriable step with its options.
-fn retriable(step: Step, words: &mut Words<'_>) -> Result<Step, Fault>
-    requires { step.kind ≡ StepKind.R }
-    ensures step { IfOk result (λ s. IsWithSettings step s words.old words.new) }
-    ensures leads { OnOk result ((b : Before) → told_from b (at_settings (settings step.kind)) words.old ≡ told_from b (at_settings []) words.new) }
-    ensures err { IfErr result (λ e. (b : Before) → told_from b (at_settings (settings step.kind)) words.old ≡ told e words.new) }
-{
-    let tries = read_setting(Setting::Tries, words)?;
-    let refuse = read_setting(Setting::Refuse, words)?;
-    Ok(Step {
-        tries,
-        undo_tries: DEFAULT_TRIES,
-        refuse,
-        undo_refuse: 0,
-        ..step
-    })
-}
-
-// A step with its options.
+// A step with the options that its kind has, and the defaults of the others.
 fn with_settings(step: Step, words: &mut Words<'_>) -> Result<Step, Fault>
     ensures step { IfOk result (λ s. IsWithSettings step s words.old words.new) }
     ensures leads { OnOk result ((b : Before) → told_from b (at_settings (settings step.kind)) words.old ≡ told_from b (at_settings []) words.new) }
     ensures err { IfErr result (λ e. (b : Before) → told_from b (at_settings (settings step.kind)) words.old ≡ told e words.new) }
 {
-    match step.kind {
-        StepKind::C => compensatable(step, words),
-        StepKind::P => pivot(step, words),
-        StepKind::R => retriable(step, words),
+    let default = Step {
+        tries: DEFAULT_TRIES,
+        undo_tries: DEFAULT_TRIES,
+        refuse: 0,
+        undo_refuse: 0,
+        ..step
+    };
+    match default.kind {
+        StepKind::C => Ok(Step {
+            undo_tries: read_setting(Setting::Undo, words)?,
+            refuse: read_setting(Setting::Refuse, words)?,
+            undo_refuse: read_setting(Setting::UndoRefuse, words)?,
+            ..default
+        }),
+        StepKind::P => Ok(Step {
+            refuse: read_setting(Setting::Refuse, words)?,
+            ..default
+        }),
+        StepKind::R => Ok(Step {
+            tries: read_setting(Setting::Tries, words)?,
+            refuse: read_setting(Setting::Refuse, words)?,
+            ..default
+        }),
     }
 }
 
@@ -288,7 +202,7 @@ fn read_step<'a>(
         ⊎ ((earlier : List (List ℕ)) (choices : List ℕ)
         → told_from (with_names names.old earlier choices) (at_step_name kind) words.old ≡ told e words.new)) }
 {
-    let name = read_step_name(alloc, words, names)?;
+    let name = read_new_name(alloc, words, names)?;
     let call = read_call(alloc, words)?;
     let step = Step {
         kind,

@@ -29,9 +29,10 @@ fn shown_error(alloc: Global, error: &ScenarioError) -> Result<Vec<u8>, Fail> {
     }
 }
 
-// Documents behind `version = 1`, and what is said of each: the keys at the top.
-fn keys_said() -> [(&'static [u8], &'static [u8]); 8] {
+// Documents behind `version = 1`, and what is said of each.
+fn said() -> [(&'static [u8], &'static [u8]); 40] {
     [
+        // The keys at the top.
         (b"", b"good"),
         (b"op = []", b"good"),
         (
@@ -43,12 +44,7 @@ fn keys_said() -> [(&'static [u8], &'static [u8]); 8] {
         (b"op = ", b"bad toml"),
         (b"colour = 1", b"bad key colour"),
         (b"zebra = 1\n'' = 2\ncolour = 3", b"bad key "),
-    ]
-}
-
-// Documents behind `version = 1`, and what is said of each: the array of operations.
-fn operations_said() -> [(&'static [u8], &'static [u8]); 7] {
-    [
+        // The array of operations.
         (b"op = 1", b"bad key op"),
         (b"op = [1]", b"bad key op"),
         (b"op = [{}, 1]", b"bad key op"),
@@ -56,12 +52,7 @@ fn operations_said() -> [(&'static [u8], &'static [u8]); 7] {
         (b"op = [{}]", b"bad key name"),
         (b"op = [{size = 1}]", b"bad key size"),
         (b"op = [{zoo = 1, age = 2, name = 3}]", b"bad key age"),
-    ]
-}
-
-// Documents behind `version = 1`, and what is said of each: the fields of an operation.
-fn fields_said() -> [(&'static [u8], &'static [u8]); 12] {
-    [
+        // The fields of an operation.
         (b"op = [{name = 3}]", b"bad key name"),
         (b"op = [{name = 'A'}]", b"bad key name"),
         (b"op = [{name = ''}]", b"bad key name"),
@@ -89,12 +80,7 @@ fn fields_said() -> [(&'static [u8], &'static [u8]); 12] {
             b"op = [{name = 'a', subsystem = 7, verb = 'free'}]",
             b"good",
         ),
-    ]
-}
-
-// Documents behind `version = 1`, and what is said of each: the names of operations.
-fn names_said() -> [(&'static [u8], &'static [u8]); 3] {
-    [
+        // The names of operations.
         (
             b"op = [{name = 'a', subsystem = 0, verb = 'add'}, {name = 'a', subsystem = 1, verb = 'add'}]",
             b"same operation a",
@@ -107,12 +93,7 @@ fn names_said() -> [(&'static [u8], &'static [u8]); 3] {
             b"op = [{name = 'a', subsystem = 8}, {size = 1}]",
             b"bad key subsystem",
         ),
-    ]
-}
-
-// Documents behind `version = 1`, and what is said of each: conflicts.
-fn conflicts_said() -> [(&'static [u8], &'static [u8]); 7] {
-    [
+        // Conflicts.
         (b"conflicts = 1", b"bad key conflicts"),
         (b"conflicts = [['a']]", b"bad key conflicts"),
         (b"conflicts = [['a', 'b', 'c']]", b"bad key conflicts"),
@@ -123,12 +104,7 @@ fn conflicts_said() -> [(&'static [u8], &'static [u8]); 7] {
             b"conflicts = [['a', 'No Name']]\nop = [{name = 'a', subsystem = 0, verb = 'add'}]",
             b"unknown operation No Name",
         ),
-    ]
-}
-
-// Documents behind `version = 1`, and what is said of each: processes.
-fn processes_said() -> [(&'static [u8], &'static [u8]); 3] {
-    [
+        // Processes.
         (b"processes = 1", b"bad key processes"),
         (
             b"processes = 1\nconflicts = [['x', 'y']]",
@@ -137,6 +113,7 @@ fn processes_said() -> [(&'static [u8], &'static [u8]); 3] {
         (b"processes = 1\nop = [{}]\ncolour = 1", b"bad key colour"),
     ]
 }
+
 // The first document of which something else is said.
 fn first_other(alloc: Global, rows: &[(&[u8], &[u8])]) -> Result<Option<usize>, Fail> {
     for (number, row) in rows.iter().enumerate() {
@@ -153,12 +130,7 @@ fn first_other(alloc: Global, rows: &[(&[u8], &[u8])]) -> Result<Option<usize>, 
 #[test]
 fn each_refusal_comes_in_its_order(rt: HostRuntime) -> Result<(), Fail> {
     let alloc = rt.alloc();
-    assert_eq!(rt; first_other(alloc, &keys_said())?, None);
-    assert_eq!(rt; first_other(alloc, &operations_said())?, None);
-    assert_eq!(rt; first_other(alloc, &fields_said())?, None);
-    assert_eq!(rt; first_other(alloc, &names_said())?, None);
-    assert_eq!(rt; first_other(alloc, &conflicts_said())?, None);
-    assert_eq!(rt; first_other(alloc, &processes_said())?, None);
+    assert_eq!(rt; first_other(alloc, &said())?, None);
     Ok(())
 }
 

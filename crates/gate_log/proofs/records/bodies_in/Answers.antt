@@ -22,7 +22,7 @@ pub records-preserved : goal.records-preserved
 records-preserved c =
     let bodies = c.records.bodies.items in
     let body = c.in-Some.body.now in
-    let is : c.push.new.self.items ≡ bodies ++ body ∷ [] = c.in_ok-push.ensures.items ∙ ap (λ b. bodies ++ b ∷ []) c.in_ok-copy_of.ensures in
+    let is : c.push.new.self.items ≡ bodies ++ body ∷ [] = c.in_ok-push.ensures.items ∙ ap (λ b. bodies ++ b ∷ []) (c.new.ensures ∙ c.in_ok-to_vec.ensures.items_if_clones_equal (λ x y h. h)) in
     let few : length bodies < 65536 = omega (arith, c.records-test.true, c.len.ensures) in
     let count = ap length is ∙ length-append bodies (body ∷ []) in
     let size = ap records_size is ∙ records_size-push bodies body in
