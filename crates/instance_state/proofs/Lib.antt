@@ -1,0 +1,12 @@
+pub mod Lists
+pub mod NextWays
+pub mod RowFacts
+pub mod NextPieces
+pub mod Undone
+pub mod States
+pub mod Forward
+pub mod Replays
+pub mod OwedAbove
+pub mod Placed
+pub mod ProcessLaws
+pub mod AfterSteps
