@@ -1,19 +1,10 @@
--- Lines of verdicts and refusals, part by part.
+-- Lines of verdicts, part by part.
 use Rattle.std.proofs.Common.{◌≡◌, ℕ, List, [], ◌∷◌, ◌++◌, ◌||◌, Bool, Option, Some, None, Result, Ok, Err, IfOk, is_some, refl, sym, ap, ◌∙◌, append_assoc, append-nil}
 use Rattle.std.specs.declared.alloc.AllocError.{AllocError}
 use Rattle.process_tree.specs.declared.tree.Named.{Named}
 use Rattle.process_tree.specs.Shape.{shape_of}
 use Rattle.process_tree.specs.Termination.{Fault}
 use Rattle.process_top.specs.Verdict.{IsVerdict, AreVerdicts, fault_text, verdict_line, verdict_lines, any_fault, IsFaultAdded, IsLineAdded, AreLines}
-
--- a line of three parts
-pub joined : (fresh one two three first number second word third last end : List ℕ) → fresh ≡ [] → one ≡ fresh ++ (first ++ number) → two ≡ one ++ (second ++ word) → three ≡ two ++ (third ++ (last ++ end))
-    → three ≡ first ++ number ++ second ++ word ++ third ++ last ++ end
-joined fresh one two three first number second word third last end none is1 is2 is3 =
-    let one_is : one ≡ first ++ number = is1 ∙ ap (λ t. t ++ (first ++ number)) none in
-    let two_is : two ≡ first ++ number ++ second ++ word = is2 ∙ ap (λ t. t ++ (second ++ word)) one_is ∙ sym (append_assoc (first ++ number) second word) in
-    let front = first ++ number ++ second ++ word in
-    is3 ∙ ap (λ t. t ++ (third ++ (last ++ end))) two_is ∙ sym (append_assoc front third (last ++ end)) ∙ sym (append_assoc (front ++ third) last end)
 
 -- the name in front of what is said
 pub line_added : (p : Named) (r : Result Bool AllocError) (old mid new : List ℕ) → mid ≡ old ++ p.name → IfOk r (λ any. IsFaultAdded p.tree any mid new) → IfOk r (λ any. IsLineAdded p any old new)

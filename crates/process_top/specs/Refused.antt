@@ -2,7 +2,7 @@
 use Rattle.std.specs.Prelude.{◌≡◌, ◌⊎◌, ℕ, Bool, true, false, ◌||◌, nat_eq, List, ◌++◌, codes, decimal}
 use Rattle.process_text.specs.declared.error.TextError.{TextError}
 use Rattle.process_text.specs.declared.error.TextError.TheVariants as errors
-use Rattle.process_text.specs.Texts.{expected_word, what_word}
+use Rattle.process_text.specs.Texts.{error_text}
 use Rattle.process_top.specs.Told.{Output, IsTold}
 use Rattle.process_top.specs.declared.refusal.Refusal.{Refusal}
 use Rattle.process_top.specs.declared.refusal.Refusal.TheVariants.{NotYet, Text, TooLong, NotEmpty, BadHeader, BadRecord, ReadFault, NotBegun, CutOff, NoMemory}
@@ -13,13 +13,6 @@ error_status (errors.BadText line column expected) = 2
 error_status (errors.Limit what n) = 4
 error_status (errors.SameName line name) = 2
 error_status errors.NoMemory = 13
-
-abbrev pub error_text : TextError → List ℕ
-error_text (errors.BadText line column expected) =
-    codes "bad text at line " ++ decimal line ++ codes " column " ++ decimal column ++ codes ": expected " ++ expected_word expected ++ codes "\n"
-error_text (errors.Limit what n) = codes "limit " ++ what_word what ++ codes " " ++ decimal n ++ codes "\n"
-error_text (errors.SameName line name) = codes "same name at line " ++ decimal line ++ codes ": " ++ name ++ codes "\n"
-error_text errors.NoMemory = codes "no memory\n"
 
 abbrev pub refusal_status : Refusal → ℕ
 refusal_status NotYet = 2
@@ -35,7 +28,7 @@ refusal_status NoMemory = 13
 
 abbrev pub refusal_text : Refusal → List ℕ
 refusal_text NotYet = codes "not yet\n"
-refusal_text (Text e) = error_text e
+refusal_text (Text e) = error_text e ++ codes "\n"
 refusal_text TooLong = codes "limit input 1048577\n"
 refusal_text NotEmpty = codes "not empty file 0\n"
 refusal_text BadHeader = codes "bad header file 0\n"
