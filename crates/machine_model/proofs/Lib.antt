@@ -32,6 +32,7 @@ pub mod OwnOrderLaws
 pub mod GonePieces
 pub mod RefusalCounts
 pub mod OneCounter
+pub mod StateSteps
 pub mod Restart
 pub mod TurnRuns
 pub mod QueuedPieces

@@ -1,6 +1,6 @@
 // The laws of the machine that are proved: each function says one, and does nothing.
 ghost use Rattle.machine_model.specs.Laws.{BlockedWhereSomethingStands, CallsMakeRuns, CascadeIsLeast, EndedAreAtEnds, NextKeepsOwnOrder, OpenHoldingsBlockAlike, OpenHoldingsDragAlike, RestartBeginsAll, RestartFollowsCompletion, RunsKeepOwnOrder, UndosWaitByA5};
-ghost use Rattle.machine_model.specs.PieceLaws.{DroppedIsExact, OneRuns, OthersStay, OverIsFinished, ProgressGoesByTransitions, RefusedBeginsWithoutWayOn, RefusedIsNextOrGone, RunningIsNext, UndosTakeBackTheLast};
+ghost use Rattle.machine_model.specs.PieceLaws.{DroppedIsExact, OneRuns, OthersStay, OverIsFinished, ProgressGoesByTransitions, RefusedBeginsWithoutWayOn, RefusedIsNextOrGone, RunningIsNext, StatesGoByTransitions, UndosTakeBackTheLast};
 ghost use Rattle.machine_model.specs.CallLaws.{BeginningsOfRunsAreRuns, CallsKeepRuns, FlushesKeepWhatRuns, QueuedAreOutOrDropped, StuckIsExact, TurnsMakeRuns, VictimsRunDry};
 
 /// The computed cascade of an active process is the least set.
@@ -136,4 +136,9 @@ pub fn restart_begins_all()
 /// Whatever was refused is the next piece of its process, or never comes again.
 pub fn refused_is_next_or_gone()
     ensures { RefusedIsNextOrGone }
+{}
+
+/// One counter of refusals is enough: the state of an active process goes by the transitions of one process alone.
+pub fn states_go_by_transitions()
+    ensures { StatesGoByTransitions }
 {}

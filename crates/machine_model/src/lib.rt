@@ -23,7 +23,7 @@ pub use laws::{
     next_keeps_own_order, one_runs, open_holdings_block_alike, open_holdings_drag_alike,
     others_stay, over_is_finished, progress_goes_by_transitions, queued_are_out_or_dropped,
     refused_begins_without_way_on, refused_is_next_or_gone, restart_begins_all,
-    restart_follows_completion, running_is_next, runs_keep_own_order, stuck_is_exact,
-    turns_make_runs, undos_take_back_the_last, undos_wait_by_a5, victims_run_dry,
+    restart_follows_completion, running_is_next, runs_keep_own_order, states_go_by_transitions,
+    stuck_is_exact, turns_make_runs, undos_take_back_the_last, undos_wait_by_a5, victims_run_dry,
 };
 pub use replies::{Aborted, PieceState, Recovery, Refusal, StartWhy, Todo};
