@@ -33,6 +33,8 @@ pub mod GonePieces
 pub mod RefusalCounts
 pub mod OneCounter
 pub mod StateSteps
+pub mod HoldSteps
 pub mod Restart
 pub mod TurnRuns
 pub mod QueuedPieces
+pub mod HoldChanges
