@@ -1,50 +1,45 @@
 -- What each kept event does to the hold of its own process.
-use Rattle.std.proofs.Common.{◌≡◌, ℕ, ◌≤◌, Bool, true, false, not, cond, eqb, ◌&&◌, ◌||◌, List, [], ◌∷◌, ◌++◌, filter, find, drop, Option, Some, None, is_some, sym, refl, ap, subst, ◌∙◌, append-nil}
+use Rattle.std.proofs.Common.{◌≡◌, ℕ, Bool, true, false, not, cond, eqb, ◌&&◌, List, [], ◌∷◌, ◌++◌, find, drop, Option, Some, None, is_some, sym, refl, ap, subst, ◌∙◌, append-nil}
 use Rattle.std.specs.List.{list_any}
 use Rattle.std.proofs.lemmas.Option.{none-some, same_Some}
 use Rattle.std.proofs.lemmas.Bool.{and_parts, or_parts, eqb-true, eq-eqb, false≢true}
 use Rattle.process_tree.specs.Order.{Each}
 use Rattle.process_tree.specs.declared.entry.Entry.{Entry}
 use Rattle.process_tree.specs.declared.plan.Plan.{Plan}
-use Rattle.process_tree.specs.Shape.{fixed_len}
 use Rattle.process_tree.specs.Recovery.{StepClass, reserved, committing, undoable}
 use Rattle.schedule_model.specs.declared.event.Event.{Event}
-use Rattle.schedule_model.specs.declared.event.Event.TheVariants.{Act, End as Ended}
-use Rattle.schedule_model.specs.Course.{Course, courses_of, op_of, shape}
+use Rattle.schedule_model.specs.declared.event.Event.TheVariants.{Act}
+use Rattle.schedule_model.specs.Course.{Course, courses_of, op_of}
 use Rattle.schedule_model.specs.Conflict.{ConflictRelation, no_conflict}
-use Rattle.schedule_model.specs.Histories.{active, doing, is_active, net_of, net_steps, same_step, undoing}
-use Rattle.schedule_model.specs.Holdings.{Hold}
-use Rattle.schedule_model.specs.Laws.{AreGood, ClassFacts}
+use Rattle.schedule_model.specs.Histories.{active, doing, is_active, net_of, undoing}
+use Rattle.schedule_model.specs.Laws.{AreGood}
 use Rattle.schedule_model.specs.Legal.{class_in}
 use Rattle.schedule_model.specs.OwnOrder.{goes_on, keeps_order}
 use Rattle.schedule_model.specs.Recovery.{backward_entries, owed, owed_after}
 use Rattle.schedule_model.proofs.ClassFacts.{class-facts}
 use Rattle.schedule_model.proofs.NoConflict.{may_come-no_conflict}
 use Rattle.schedule_model.proofs.Snoc.{active-end}
-use Rattle.schedule_model.proofs.Undoing.{Undoes, undoes}
+use Rattle.schedule_model.proofs.Undoing.{undoes}
 use Rattle.machine_model.specs.declared.kept.Kept.{Kept}
 use Rattle.machine_model.specs.declared.kept.Kept.TheVariants.{Start, Hand, Effect, Refuse, Abort, Victim, Restart}
-use Rattle.machine_model.specs.declared.kept.Work.{Work}
 use Rattle.machine_model.specs.declared.kept.Work.TheVariants.{Forward, Undo, End}
 use Rattle.machine_model.specs.Progress.{Progress, staying}
 use Rattle.machine_model.specs.Moment.{Moment, Piece, noted, happened, has_begun, without}
 use Rattle.machine_model.specs.Pieces.{piece_of, running_of, runs}
 use Rattle.machine_model.specs.State.{entry_by, entry_of, hold_of, owed_by_class, owed_by_work, owed_soon, pending_of, progress}
-use Rattle.machine_model.specs.Advance.{Machine, advance, event_by, event_of, with_piece}
-use Rattle.machine_model.specs.Runs.{may_be_kept, now}
-use Rattle.machine_model.specs.Laws.{IsSession}
+use Rattle.machine_model.specs.Advance.{advance, event_of, with_piece}
+use Rattle.machine_model.specs.Runs.{now}
 use Rattle.machine_model.specs.HoldLaws.{BegunUndoAll, BeginningsStop, EndsGo, HandsReserve, StepTakesEffect, StepsTakeEffect, UndoTakesEffect, UndosTakeEffect, running_by_piece}
 use Rattle.machine_model.specs.PieceLaws.{piece_touched, with_begun}
 use Rattle.machine_model.proofs.CallsKept.{find-passes}
 use Rattle.machine_model.proofs.Counting.{found-any}
 use Rattle.machine_model.proofs.Frames.{entered-leaves, piece_of-plain}
 use Rattle.machine_model.proofs.HoldSteps.{advance-running, effect_out, entered-begun, find_none, free_runs_none}
-use Rattle.machine_model.proofs.OneCounter.{CountsStand, session-counts}
+use Rattle.machine_model.proofs.OneCounter.{session-counts}
 use Rattle.machine_model.proofs.OwnOrder.{InOwnOrder, out_piece, piece_keeps}
 use Rattle.machine_model.proofs.PieceCounts.{is_number}
 use Rattle.machine_model.proofs.RefusedPieces.{only_found}
-use Rattle.machine_model.proofs.RunInduction.{entered}
-use Rattle.machine_model.proofs.RunningNext.{IsNextPiece, others-out}
+use Rattle.machine_model.proofs.RunningNext.{others-out}
 use Rattle.machine_model.proofs.Snoc.{advances, now-kept}
 use Rattle.machine_model.proofs.TidyMoments.{Each-find, IsPieceOfItsNumber, Tidy, run-tidy}
 
@@ -61,12 +56,13 @@ hands_reserve table s n i b w run may =
     let none = free_runs_none table cs m p may in
     let now' : running_of (noted m (Hand n i b w)) i ≡ Some p =
     advance-running table cs m (Hand n i b w) i tidy may ∙ (never_both (has_begun m i) None (cond (eqb i i) (Some p) (running_of m i)) ∙ ap (λ t. cond t (Some p) (running_of m i)) (eq-eqb i i refl)) in
-    let same = entered-leaves table cs m (Hand n i b w) i tidy.counted may (λ q is. absurd (none-some q is)) in
-    (ap (entry_of cs) none,
-    ap (λ (o : Option Piece). record { process = i; running = entry_of cs o; reserved = owed cs m.events i ++ owed_soon cs m.events o; pending = drop (staying (progress cs (noted m (Hand n i b w)) i)) (net_of m.events i); backward_entries = backward_entries cs m.events i }) now'
-    ∙ (ap (λ (x : Progress). record { process = i; running = entry_by cs i b w; reserved = owed cs m.events i ++ owed_by_work cs m.events i b w; pending = drop (staying x) (net_of m.events i); backward_entries = backward_entries cs m.events i }) same
-    ∙ ap (λ (r : List Entry). record { process = i; running = entry_by cs i b w; reserved = r ++ owed_by_work cs m.events i b w; pending = pending_of cs m i; backward_entries = backward_entries cs m.events i })
-    (sym (ap (λ o. owed cs m.events i ++ owed_soon cs m.events o) none ∙ append-nil (owed cs m.events i)))))
+    let same = entered-leaves table cs m (Hand n i b w) i tidy.counted may (λ q is. absurd (none-some q is)) in (
+      ap (entry_of cs) none,
+      ap (λ (o : Option Piece). record { process = i; running = entry_of cs o; reserved = owed cs m.events i ++ owed_soon cs m.events o; pending = drop (staying (progress cs (noted m (Hand n i b w)) i)) (net_of m.events i); backward_entries = backward_entries cs m.events i }) now'
+          ∙ (ap (λ (x : Progress). record { process = i; running = entry_by cs i b w; reserved = owed cs m.events i ++ owed_by_work cs m.events i b w; pending = drop (staying x) (net_of m.events i); backward_entries = backward_entries cs m.events i }) same
+          ∙ ap (λ (r : List Entry). record { process = i; running = entry_by cs i b w; reserved = r ++ owed_by_work cs m.events i b w; pending = pending_of cs m i; backward_entries = backward_entries cs m.events i })
+          (sym (ap (λ o. owed cs m.events i ++ owed_soon cs m.events o) none ∙ append-nil (owed cs m.events i)))),
+    )
   where
     never_both : {X : Type 0} (t : Bool) (x y : X) → cond (t && not t) x y ≡ y
     never_both true x y = refl

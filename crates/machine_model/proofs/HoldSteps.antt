@@ -1,45 +1,28 @@
 -- What each kept event does to the net, and to what its own process has under way, owes and has to undo.
-use Rattle.std.proofs.Common.{◌≡◌, ℕ, ◌≤◌, Bool, true, false, not, cond, eqb, ◌&&◌, ◌||◌, List, [], ◌∷◌, ◌++◌, filter, find, drop, Option, Some, None, is_some, is_none, sym, refl, ap, subst, ◌∙◌, append-nil}
+use Rattle.std.proofs.Common.{◌≡◌, ℕ, Bool, true, false, not, cond, eqb, ◌&&◌, ◌||◌, List, [], ◌∷◌, ◌++◌, filter, find, Option, Some, None, is_none, sym, refl, ap, subst, ◌∙◌, append-nil}
 use Rattle.std.proofs.Math.Bool.{or-false}
-use Rattle.std.specs.List.{list_any}
 use Rattle.std.specs.Option.{option_or}
 use Rattle.std.proofs.lemmas.Option.{none-some, same_Some}
 use Rattle.std.proofs.lemmas.List.Folds.{find-append}
-use Rattle.std.proofs.lemmas.Bool.{and_parts, or_left, or_right, or_parts, not-true, both_ways, eqb-true, eq-eqb, false≢true}
+use Rattle.std.proofs.lemmas.Bool.{and_parts, or_left, or_right, both_ways, eqb-true, eq-eqb, false≢true}
 use Rattle.process_tree.specs.Order.{Each}
-use Rattle.process_tree.proofs.Every.{Each-weaker}
-use Rattle.process_tree.specs.declared.entry.Entry.{Entry}
-use Rattle.process_tree.specs.declared.plan.Plan.{Plan}
-use Rattle.process_tree.specs.Shape.{fixed_len}
-use Rattle.process_tree.specs.Recovery.{StepClass, reserved, committing, undoable}
 use Rattle.schedule_model.specs.declared.event.Event.{Event}
-use Rattle.schedule_model.specs.declared.event.Event.TheVariants.{Start as Started, Act, End as Ended}
-use Rattle.schedule_model.specs.Course.{Course, courses_of, shape}
-use Rattle.schedule_model.specs.Conflict.{ConflictRelation, no_conflict}
-use Rattle.schedule_model.specs.Histories.{active, doing, is_active, net, net_of, net_steps, same_step, undoing}
-use Rattle.schedule_model.specs.Holdings.{Hold}
-use Rattle.schedule_model.specs.Laws.{AreGood, ClassFacts}
-use Rattle.schedule_model.specs.Legal.{class_in}
-use Rattle.schedule_model.specs.OwnOrder.{goes_on, keeps_order}
-use Rattle.schedule_model.specs.Recovery.{backward_entries, owed, owed_after}
-use Rattle.schedule_model.proofs.ClassFacts.{class-facts}
-use Rattle.schedule_model.proofs.NoConflict.{may_come-no_conflict}
-use Rattle.schedule_model.proofs.Snoc.{active-end, net-do, net-end, net-start, net-undo}
-use Rattle.schedule_model.proofs.Undoing.{undoes}
+use Rattle.schedule_model.specs.Course.{Course}
+use Rattle.schedule_model.specs.Conflict.{ConflictRelation}
+use Rattle.schedule_model.specs.Histories.{doing, is_active, net, undoing}
+use Rattle.schedule_model.proofs.Snoc.{net-do, net-end, net-start, net-undo}
 use Rattle.machine_model.specs.declared.kept.Kept.{Kept}
 use Rattle.machine_model.specs.declared.kept.Kept.TheVariants.{Start, Hand, Effect, Refuse, Abort, Victim, Restart}
 use Rattle.machine_model.specs.declared.kept.Work.{Work}
 use Rattle.machine_model.specs.declared.kept.Work.TheVariants.{Forward, Undo, End}
-use Rattle.machine_model.specs.Progress.{Progress, staying}
-use Rattle.machine_model.specs.Moment.{Moment, Piece, noted, happened, has_begun, begins_now, of_others, without}
+use Rattle.machine_model.specs.Moment.{Moment, Piece, noted, happened, has_begun, begins_now, without}
 use Rattle.machine_model.specs.Pieces.{piece_of, running_of, runs}
-use Rattle.machine_model.specs.State.{block_of, entry_by, entry_of, hold_of, is_exhausted, owed_by_class, owed_by_work, owed_soon, pending_of, progress}
-use Rattle.machine_model.specs.Advance.{Machine, advance, event_by, event_of, with_piece}
+use Rattle.machine_model.specs.State.{block_of, is_exhausted}
+use Rattle.machine_model.specs.Advance.{advance, event_by, event_of, with_piece}
 use Rattle.machine_model.specs.Runs.{is_no_end, may_be_kept, now}
-use Rattle.machine_model.specs.HoldLaws.{BegunUndoAll, BeginningsStop, EndsGo, HandsReserve, NetGoesByPieces, RunningGoesByPieces, net_by_piece, running_by_piece}
-use Rattle.machine_model.specs.PieceLaws.{LeavesPieceOf, piece_ended, piece_touched, with_begun}
+use Rattle.machine_model.specs.HoldLaws.{NetGoesByPieces, RunningGoesByPieces, net_by_piece, running_by_piece}
+use Rattle.machine_model.specs.PieceLaws.{LeavesPieceOf, piece_ended, piece_touched}
 use Rattle.machine_model.proofs.Begun.{begins_now-has}
-use Rattle.machine_model.proofs.Counting.{found-any}
 use Rattle.machine_model.proofs.Frames.{piece_of-plain}
 use Rattle.machine_model.proofs.OthersStay.{entered-stays, find-filter}
 use Rattle.machine_model.proofs.RunInduction.{IsKeptByBeginnings, entered, advance-keeps}
