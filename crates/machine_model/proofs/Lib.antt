@@ -38,3 +38,5 @@ pub mod Restart
 pub mod TurnRuns
 pub mod QueuedPieces
 pub mod HoldChanges
+pub mod HandedPieces
+pub mod RunningFree

@@ -126,6 +126,11 @@ pub record StandingFacts (table : ConflictRelation) (s : Machine) : Type 0 where
 abbrev pub StandingFactsHold : Type 0
 StandingFactsHold = (table : ConflictRelation) (plans : List Plan) (s : Machine) → IsSession table plans s → StandingFacts table s
 
+-- Of these: steps that run don't conflict.
+abbrev pub RunningStepsAreFree : Type 0
+RunningStepsAreFree = (table : ConflictRelation) (plans : List Plan) (s : Machine) → IsSession table plans s
+    → (i k : ℕ) (d e : Entry) → IsRunningStep (now table s) s.courses i d → IsRunningStep (now table s) s.courses k e → conflict table d e ≡ false
+
 -- Progress law: where no active process is exhausted, a request for any piece isn't answered that one is stuck.
 abbrev pub ProgressLaw : Type 0
 ProgressLaw = (table : ConflictRelation) (plans : List Plan) (s : Machine) → IsSession table plans s
