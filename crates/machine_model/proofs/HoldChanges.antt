@@ -102,7 +102,7 @@ ends_go table s n number i b found =
     ap (λ o. active (with_piece (λ q. happened (noted m (Effect n)) (event_of s.courses q)) (noted m (Effect n)) o).events) at ∙ active-end m.events i
 
 -- What is out runs.
-out_runs : (m : Moment) (n : ℕ) (p : Piece) → Tidy m → runs m n ≡ true → piece_of m.kept n ≡ Some p → running_of m p.process ≡ Some p
+pub out_runs : (m : Moment) (n : ℕ) (p : Piece) → Tidy m → runs m n ≡ true → piece_of m.kept n ≡ Some p → running_of m p.process ≡ Some p
 out_runs m n p tidy is found = by_out (find (is_number n) m.out) refl (found-any (is_number n) m.out ∙ is)
   where
     of_process : Piece → Bool
@@ -152,13 +152,13 @@ module _ (table : ConflictRelation) (plans : List Plan) (good : AreGood plans) w
   abbrev cs : List Course
   cs = courses_of plans
 
-  keeps_at : (m : Moment) (n : ℕ) (p : Piece) → InOwnOrder table plans good m → runs m n ≡ true → piece_of m.kept n ≡ Some p → keeps_order cs m.events (event_of cs p) ≡ true
+  pub keeps_at : (m : Moment) (n : ℕ) (p : Piece) → InOwnOrder table plans good m → runs m n ≡ true → piece_of m.kept n ≡ Some p → keeps_order cs m.events (event_of cs p) ≡ true
   keeps_at m n p own is found =
       let out = out_piece table cs m n own.order own.active is in
       let same : out.piece ≡ p = same_Some out.piece p (sym out.found ∙ found) in
       ap (λ q. keeps_order cs m.events (event_of cs q)) (sym same) ∙ piece_keeps table plans good m out.piece own out.next out.active
 
-  step_takes_effect : (m : Moment) (n number i b : ℕ) → InOwnOrder table plans good m → runs m n ≡ true → piece_of m.kept n ≡ Some (record { number = number; process = i; step = b; work = Forward })
+  pub step_takes_effect : (m : Moment) (n number i b : ℕ) → InOwnOrder table plans good m → runs m n ≡ true → piece_of m.kept n ≡ Some (record { number = number; process = i; step = b; work = Forward })
       → StepTakesEffect cs m (advance table cs m (Effect n)) i b (hold_of cs m i) (hold_of cs (advance table cs m (Effect n)) i)
   step_takes_effect m n number i b own is found =
       let p : Piece = record { number = number; process = i; step = b; work = Forward } in
@@ -183,7 +183,7 @@ module _ (table : ConflictRelation) (plans : List Plan) (good : AreGood plans) w
         still_reserved = λ class. owes ∙ (facts.undoable_owes class ∙ sym (plain undoable class ∙ append-nil (owed cs m.events i)));
       }
 
-  undo_takes_effect : (m : Moment) (n number i b : ℕ) → InOwnOrder table plans good m → runs m n ≡ true → piece_of m.kept n ≡ Some (record { number = number; process = i; step = b; work = Undo })
+  pub undo_takes_effect : (m : Moment) (n number i b : ℕ) → InOwnOrder table plans good m → runs m n ≡ true → piece_of m.kept n ≡ Some (record { number = number; process = i; step = b; work = Undo })
       → UndoTakesEffect cs i b (hold_of cs m i) (hold_of cs (advance table cs m (Effect n)) i)
   undo_takes_effect m n number i b own is found =
       let p : Piece = record { number = number; process = i; step = b; work = Undo } in

@@ -40,3 +40,5 @@ pub mod QueuedPieces
 pub mod HoldChanges
 pub mod HandedPieces
 pub mod RunningFree
+pub mod ReservedBefore
+pub mod ReservedFree
