@@ -42,3 +42,4 @@ pub mod HandedPieces
 pub mod RunningFree
 pub mod ReservedBefore
 pub mod ReservedFree
+pub mod OwedSteps

@@ -138,6 +138,12 @@ ReservedIsFree = (table : ConflictRelation) (plans : List Plan) (s : Machine) �
     → Contains (hold_of s.courses (now table s) i).reserved r
     → Contains (net_of (history table s) k ++ (hold_of s.courses (now table s) k).reserved) e ⊎ IsRunningStep (now table s) s.courses k e → conflict table r e ≡ false
 
+-- A step that its process owes is never blocked.
+abbrev pub OwedStepsAreFree : Type 0
+OwedStepsAreFree = (table : ConflictRelation) (plans : List Plan) (s : Machine) → IsSession table plans s → (i : ℕ) → IsTrue (is_active (history table s) i)
+    → (next_of s.courses (now table s) i).work ≡ Forward → class_in s.courses (history table s) i (next_of s.courses (now table s) i).step ≡ reserved
+    → block_of table s.courses (now table s) i ≡ None
+
 -- Progress law: where no active process is exhausted, a request for any piece isn't answered that one is stuck.
 abbrev pub ProgressLaw : Type 0
 ProgressLaw = (table : ConflictRelation) (plans : List Plan) (s : Machine) → IsSession table plans s

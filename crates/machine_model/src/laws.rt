@@ -1,5 +1,5 @@
 // The laws of the machine that are proved: each function says one, and does nothing.
-ghost use Rattle.machine_model.specs.Laws.{BlockedWhereSomethingStands, CallsMakeRuns, CascadeIsLeast, EndedAreAtEnds, NextKeepsOwnOrder, OpenHoldingsBlockAlike, OpenHoldingsDragAlike, ReservedIsFree, RestartBeginsAll, RestartFollowsCompletion, RunningStepsAreFree, RunsKeepOwnOrder, UndosWaitByA5};
+ghost use Rattle.machine_model.specs.Laws.{BlockedWhereSomethingStands, CallsMakeRuns, CascadeIsLeast, EndedAreAtEnds, NextKeepsOwnOrder, OpenHoldingsBlockAlike, OpenHoldingsDragAlike, OwedStepsAreFree, ReservedIsFree, RestartBeginsAll, RestartFollowsCompletion, RunningStepsAreFree, RunsKeepOwnOrder, UndosWaitByA5};
 ghost use Rattle.machine_model.specs.PieceLaws.{DroppedIsExact, OneRuns, OthersStay, OverIsFinished, ProgressGoesByTransitions, RefusedBeginsWithoutWayOn, RefusedIsNextOrGone, RunningIsNext, StatesGoByTransitions, UndosTakeBackTheLast};
 ghost use Rattle.machine_model.specs.HoldLaws.{BeginningsStop, BegunUndoAll, EndsGo, HandsReserve, NetGoesByPieces, RunningGoesByPieces, StepsTakeEffect, UndosTakeEffect};
 ghost use Rattle.machine_model.specs.CallLaws.{BeginningsOfRunsAreRuns, CallsKeepRuns, FlushesKeepWhatRuns, QueuedAreOutOrDropped, StuckIsExact, TurnsMakeRuns, VictimsRunDry};
@@ -192,4 +192,9 @@ pub fn running_steps_are_free()
 /// What is reserved conflicts with nothing that another active process has done, runs or reserves.
 pub fn reserved_is_free()
     ensures { ReservedIsFree }
+{}
+
+/// A step that its process owes is never blocked.
+pub fn owed_steps_are_free()
+    ensures { OwedStepsAreFree }
 {}
