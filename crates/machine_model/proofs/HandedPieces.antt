@@ -1,14 +1,12 @@
 -- What is known of a step when it is handed out, and where what runs comes from.
-use Rattle.std.proofs.Common.{◌≡◌, ◌⊎◌, inl, inr, ℕ, Bool, true, false, not, cond, eqb, ◌&&◌, List, [], ◌∷◌, ◌++◌, length, map, Option, Some, None, is_none, sym, refl, ap, subst, ◌∙◌}
-use Rattle.std.specs.Bool.{IsTrue}
-use Rattle.std.specs.List.{flat_map}
+use Rattle.std.proofs.Common.{◌≡◌, ◌⊎◌, inl, inr, ℕ, Bool, true, false, not, cond, eqb, ◌&&◌, List, ◌++◌, length, Option, Some, None, is_none, sym, refl, ap, subst, ◌∙◌}
 use Rattle.std.specs.Option.{option_to_list}
 use Rattle.std.proofs.lemmas.Option.{none-some, same_Some}
 use Rattle.std.proofs.lemmas.Bool.{and_parts, eqb-true, eq-eqb, false≢true}
 use Rattle.process_tree.specs.declared.entry.Entry.{Entry}
 use Rattle.schedule_model.specs.Course.{Course}
 use Rattle.schedule_model.specs.Conflict.{ConflictRelation}
-use Rattle.schedule_model.specs.Histories.{active, doing, is_active, is_in}
+use Rattle.schedule_model.specs.Histories.{active, doing, is_active}
 use Rattle.schedule_model.specs.Holdings.{Hold, all_pending, all_reserved, all_running}
 use Rattle.schedule_model.specs.Blocking.{against_step, all_clashes}
 use Rattle.schedule_model.specs.Legal.{class_in}
@@ -19,8 +17,7 @@ use Rattle.schedule_model.proofs.Members.{Among, among-is_in, in_flat_map, in_ma
 use Rattle.process_tree.specs.Recovery.{StepClass, reserved, committing, undoable}
 use Rattle.machine_model.specs.declared.kept.Kept.{Kept}
 use Rattle.machine_model.specs.declared.kept.Kept.TheVariants.{Start, Hand, Effect, Refuse, Abort, Victim, Restart}
-use Rattle.machine_model.specs.declared.kept.Work.{Work}
-use Rattle.machine_model.specs.declared.kept.Work.TheVariants.{Forward, Undo, End}
+use Rattle.machine_model.specs.declared.kept.Work.TheVariants.{Forward}
 use Rattle.machine_model.specs.Progress.{same_work}
 use Rattle.machine_model.specs.Moment.{Moment, Piece}
 use Rattle.machine_model.specs.Pieces.{piece_of, running_of}

@@ -1,15 +1,14 @@
 -- A step that its process owes is never blocked: it is reserved, and what is reserved is free of all others.
-use Rattle.std.proofs.Common.{◌≡◌, ◌⊎◌, inl, inr, ℕ, Bool, true, false, not, eqb, ◌&&◌, List, [], ◌∷◌, ◌++◌, length, map, take, drop, Option, Some, None, sym, refl, ap, subst, ◌∙◌}
-use Rattle.std.specs.Bool.{IsTrue}
+use Rattle.std.proofs.Common.{◌≡◌, ◌⊎◌, inl, inr, ℕ, true, false, not, eqb, ◌&&◌, List, ◌++◌, length, take, drop, Option, Some, None, sym, refl, ap, subst, ◌∙◌}
 use Rattle.std.specs.Option.{option_to_list}
-use Rattle.std.proofs.lemmas.Bool.{and_parts, eqb-true, eq-eqb}
+use Rattle.std.proofs.lemmas.Bool.{and_parts, eqb-true}
 use Rattle.std.proofs.lemmas.List.{take-append-drop}
 use Rattle.process_tree.specs.declared.entry.Entry.{Entry}
 use Rattle.process_tree.specs.declared.plan.Plan.{Plan}
-use Rattle.process_tree.specs.Recovery.{StepClass, reserved, committing, undoable}
+use Rattle.process_tree.specs.Recovery.{reserved}
 use Rattle.schedule_model.specs.Course.{Course, courses_of, op_of}
 use Rattle.schedule_model.specs.Conflict.{ConflictRelation, IsSymmetric, conflict}
-use Rattle.schedule_model.specs.Histories.{active, doing, is_active, net_of, net_steps, undoing}
+use Rattle.schedule_model.specs.Histories.{active, doing, is_active, net_of, net_steps}
 use Rattle.schedule_model.specs.Holdings.{Hold, Holdings, all_pending, all_reserved, all_running}
 use Rattle.schedule_model.specs.Blocking.{against_step, all_clashes}
 use Rattle.schedule_model.specs.Laws.{AreGood}
@@ -27,7 +26,7 @@ use Rattle.machine_model.specs.declared.kept.Work.TheVariants.{Forward, Undo, En
 use Rattle.machine_model.specs.Progress.{pending_steps, staying}
 use Rattle.machine_model.specs.Moment.{Moment, Piece}
 use Rattle.machine_model.specs.Pieces.{running_of}
-use Rattle.machine_model.specs.State.{against_work, block_of, entry_by, entry_of, hold_of, holdings, next_of, pending_of, progress}
+use Rattle.machine_model.specs.State.{against_work, block_of, entry_by, entry_of, hold_of, holdings, next_of, progress}
 use Rattle.machine_model.specs.Advance.{event_by}
 use Rattle.machine_model.specs.Runs.{now}
 use Rattle.machine_model.specs.Laws.{OwedStepsAreFree}
@@ -35,7 +34,6 @@ use Rattle.machine_model.proofs.Clear.{clear-none}
 use Rattle.machine_model.proofs.GonePieces.{dropped_listed, last_listed, next_undo}
 use Rattle.machine_model.proofs.HandedPieces.{runs_active}
 use Rattle.machine_model.proofs.NextInOrder.{next_keeps}
-use Rattle.machine_model.proofs.OwnOrder.{InOwnOrder}
 use Rattle.machine_model.proofs.ReservedFree.{ReservedFree, session-reserved_free}
 use Rattle.machine_model.proofs.RunningNext.{IsNextPiece}
 use Rattle.machine_model.proofs.TidyMoments.{Each-find}

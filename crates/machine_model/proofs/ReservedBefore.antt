@@ -1,23 +1,18 @@
 -- Where what a process reserves, runs and has done comes from: it was there before, or its piece is handed out now.
 use Rattle.std.proofs.Common.{◌≡◌, ◌⊎◌, inl, inr, ℕ, Bool, true, false, eqb, List, [], ◌∷◌, ◌++◌, map, Option, Some, None, sym, refl, ap, subst, ◌∙◌, append-nil}
-use Rattle.std.specs.Bool.{IsTrue}
-use Rattle.std.proofs.lemmas.Option.{none-some}
 use Rattle.std.proofs.lemmas.Bool.{eqb-true, false≢true}
 use Rattle.process_tree.specs.declared.entry.Entry.{Entry}
 use Rattle.process_tree.specs.declared.plan.Plan.{Plan}
 use Rattle.process_tree.specs.Recovery.{StepClass, class_of, forward, reserved, committing, undoable}
 use Rattle.schedule_model.specs.declared.event.Event.{Event}
 use Rattle.schedule_model.specs.Course.{Course, courses_of, shape}
-use Rattle.schedule_model.specs.Conflict.{ConflictRelation, no_conflict}
-use Rattle.schedule_model.specs.Histories.{doing, is_active, net_of, steps_of, undoing}
+use Rattle.schedule_model.specs.Conflict.{ConflictRelation}
+use Rattle.schedule_model.specs.Histories.{doing, net_of, steps_of, undoing}
 use Rattle.schedule_model.specs.Laws.{AreGood}
 use Rattle.schedule_model.specs.Legal.{class_in}
 use Rattle.schedule_model.specs.Recovery.{owed, owed_after}
 use Rattle.schedule_model.proofs.Members.{Among, among-append, among-left, among-right}
-use Rattle.schedule_model.proofs.NoConflict.{may_come-no_conflict}
-use Rattle.schedule_model.proofs.Snoc.{net_of-do, net_of-end, net_of-other, net_of-start, owed-by_net}
-use Rattle.schedule_model.proofs.Undoing.{undoes}
-use Rattle.schedule_model.specs.declared.event.Event.TheVariants.{Act}
+use Rattle.schedule_model.proofs.Snoc.{net_of-end, net_of-other, net_of-start, owed-by_net}
 use Rattle.machine_model.specs.declared.kept.Kept.{Kept}
 use Rattle.machine_model.specs.declared.kept.Kept.TheVariants.{Start, Hand, Effect, Refuse, Abort, Victim, Restart}
 use Rattle.machine_model.specs.declared.kept.Work.{Work}
@@ -31,7 +26,7 @@ use Rattle.machine_model.specs.HoldLaws.{StepTakesEffect}
 use Rattle.machine_model.proofs.CallsKept.{find-passes}
 use Rattle.machine_model.proofs.Frames.{piece_of-plain}
 use Rattle.machine_model.proofs.HandedPieces.{RanOrHanded, ran_before}
-use Rattle.machine_model.proofs.HoldChanges.{effect_events, keeps_at, out_runs, step_takes_effect, undo_takes_effect}
+use Rattle.machine_model.proofs.HoldChanges.{step_takes_effect, undo_takes_effect}
 use Rattle.machine_model.proofs.OwnOrder.{InOwnOrder}
 use Rattle.machine_model.proofs.Snoc.{added, added_by_piece, advances}
 

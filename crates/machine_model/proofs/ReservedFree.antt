@@ -1,9 +1,9 @@
 -- What is reserved conflicts with nothing that another active process has done, runs or reserves.
-use Rattle.std.proofs.Common.{◌≡◌, ◌⊎◌, inl, inr, ℕ, Bool, true, false, eqb, List, [], ◌∷◌, ◌++◌, map, Option, Some, None, sym, refl, ap, subst, ◌∙◌, append-nil}
+use Rattle.std.proofs.Common.{◌≡◌, ◌⊎◌, inl, inr, ℕ, Bool, true, false, List, [], ◌∷◌, ◌++◌, Option, Some, None, sym, refl, ap, subst, ◌∙◌, append-nil}
 use Rattle.std.specs.Bool.{IsTrue}
 use Rattle.std.specs.List.{Contains}
 use Rattle.std.proofs.lemmas.Option.{none-some}
-use Rattle.std.proofs.lemmas.Bool.{and_parts, eqb-true, false≢true}
+use Rattle.std.proofs.lemmas.Bool.{and_parts, false≢true}
 use Rattle.process_tree.specs.declared.entry.Entry.{Entry}
 use Rattle.process_tree.specs.declared.plan.Plan.{Plan}
 use Rattle.process_tree.specs.Recovery.{StepClass, forward, reserved, committing, undoable}
@@ -11,13 +11,13 @@ use Rattle.schedule_model.specs.declared.event.Event.{Event}
 use Rattle.schedule_model.specs.declared.event.Event.TheVariants.{Act}
 use Rattle.schedule_model.specs.Course.{Course, courses_of, shape}
 use Rattle.schedule_model.specs.Conflict.{ConflictRelation, IsSymmetric, conflict, no_conflict}
-use Rattle.schedule_model.specs.Histories.{doing, ends, is_active, is_in, net, net_of, net_steps, starts, undoing}
+use Rattle.schedule_model.specs.Histories.{doing, is_active, is_in, net, net_of, net_steps, starts, undoing}
 use Rattle.schedule_model.specs.Holdings.{active_net, all_pending, all_reserved, all_running, holders}
 use Rattle.schedule_model.specs.Blocking.{against, against_step}
-use Rattle.schedule_model.specs.Laws.{AreGood, IsGood}
+use Rattle.schedule_model.specs.Laws.{AreGood}
 use Rattle.schedule_model.specs.Legal.{class_in, is_legal}
 use Rattle.schedule_model.specs.Recovery.{owed, owed_after}
-use Rattle.schedule_model.proofs.Clear.{ApartFrom, Nothing, none_against}
+use Rattle.schedule_model.proofs.Clear.{Nothing, none_against}
 use Rattle.schedule_model.proofs.Conflicts.{conflict-flipped, conflict-itself}
 use Rattle.schedule_model.proofs.Members.{Among, among-append, among-from_contains, among-left, among-map, among-right, in_filter, none_mapped}
 use Rattle.schedule_model.proofs.NoConflict.{may_come-no_conflict}

@@ -1,10 +1,8 @@
 -- Steps that run don't conflict: whatever is handed out is held against all that runs.
-use Rattle.std.proofs.Common.{◌≡◌, ◌⊎◌, inl, inr, ℕ, Bool, true, false, List, [], Option, Some, None, sym, refl, ap, subst, ◌∙◌}
-use Rattle.std.specs.Bool.{IsTrue}
+use Rattle.std.proofs.Common.{◌≡◌, ◌⊎◌, inl, inr, ℕ, true, false, List, [], Some, sym, refl, ap, subst, ◌∙◌}
 use Rattle.std.proofs.lemmas.Option.{none-some}
 use Rattle.process_tree.specs.declared.entry.Entry.{Entry}
 use Rattle.process_tree.specs.declared.plan.Plan.{Plan}
-use Rattle.schedule_model.specs.declared.event.Event.{Event}
 use Rattle.schedule_model.specs.Course.{Course, courses_of}
 use Rattle.schedule_model.specs.Conflict.{ConflictRelation, IsSymmetric, conflict}
 use Rattle.schedule_model.specs.Histories.{doing}
@@ -12,13 +10,12 @@ use Rattle.schedule_model.specs.Laws.{AreGood}
 use Rattle.schedule_model.proofs.Conflicts.{conflict-flipped, conflict-itself}
 use Rattle.machine_model.specs.declared.kept.Kept.{Kept}
 use Rattle.machine_model.specs.declared.kept.Kept.TheVariants.{Hand}
-use Rattle.machine_model.specs.declared.kept.Work.{Work}
 use Rattle.machine_model.specs.declared.kept.Work.TheVariants.{Forward}
-use Rattle.machine_model.specs.Moment.{Moment, Piece, opening_moment}
+use Rattle.machine_model.specs.Moment.{Moment, opening_moment}
 use Rattle.machine_model.specs.Pieces.{running_of}
-use Rattle.machine_model.specs.Advance.{Machine, advance, advance_all}
-use Rattle.machine_model.specs.Runs.{goes_on_from, may_be_kept, now}
-use Rattle.machine_model.specs.Laws.{IsRunningStep, IsSession, RunningStepsAreFree}
+use Rattle.machine_model.specs.Advance.{advance, advance_all}
+use Rattle.machine_model.specs.Runs.{goes_on_from, may_be_kept}
+use Rattle.machine_model.specs.Laws.{IsRunningStep, RunningStepsAreFree}
 use Rattle.machine_model.proofs.HandedPieces.{among_running, handed_apart, ran_before}
 use Rattle.machine_model.proofs.OwnOrder.{InOwnOrder, advance-own_order, run-own_order}
 use Rattle.machine_model.proofs.RunInduction.{goes_on-keeps}
