@@ -26,7 +26,7 @@ use Rattle.machine_model.specs.Calls.{IsNoStart, Call, start, admit, next, finis
 use Rattle.machine_model.specs.CallLaws.{CallsKeepRuns}
 use Rattle.machine_model.proofs.Snoc.{goes_on-append, keeping}
 
-same_work-itself : (w : Work) → same_work w w ≡ true
+pub same_work-itself : (w : Work) → same_work w w ≡ true
 same_work-itself Forward = refl
 same_work-itself Undo = refl
 same_work-itself End = refl

@@ -39,7 +39,7 @@ next_undo s b is = by_pending (last_of (pending_steps s)) refl is
     by_pending (Some d) last same = last ∙ ap Some (sym (eqb-true b d same))
     by_pending None last same = by_step (if s.begun then first_of (forward s.shape s.net) else way_on s) same
 
-last_listed : (xs : List ℕ) (b : ℕ) → last_of xs ≡ Some b → is_in b xs ≡ true
+pub last_listed : (xs : List ℕ) (b : ℕ) → last_of xs ≡ Some b → is_in b xs ≡ true
 last_listed xs b last = by_end (has_end xs)
   where
     by_end : (xs ≡ []) ⊎ HasEnd xs → is_in b xs ≡ true
@@ -48,7 +48,7 @@ last_listed xs b last = by_end (has_end xs)
         let same : ends.last ≡ b = same_Some ends.last b (sym (ap last_of ends.is ∙ last_of-push ends.front ends.last) ∙ last) in
         ap (is_in b) ends.is ∙ any_last (eqb b) ends.front ends.last (eq-eqb b ends.last (sym same))
 
-dropped_listed : (n : ℕ) (xs : List ℕ) (b : ℕ) → is_in b (drop n xs) ≡ true → is_in b xs ≡ true
+pub dropped_listed : (n : ℕ) (xs : List ℕ) (b : ℕ) → is_in b (drop n xs) ≡ true → is_in b xs ≡ true
 dropped_listed n xs b is = ap (is_in b) (sym (take-append-drop n xs)) ∙ (is_in-append b (take n xs) (drop n xs) ∙ or_right (is_in b (take n xs)) (is_in b (drop n xs)) is)
 
 taken_unlisted : (n : ℕ) (xs : List ℕ) (b : ℕ) → is_in b xs ≡ false → is_in b (take n xs) ≡ false

@@ -32,6 +32,14 @@ pub mod OwnOrderLaws
 pub mod GonePieces
 pub mod RefusalCounts
 pub mod OneCounter
+pub mod StateSteps
+pub mod HoldSteps
 pub mod Restart
 pub mod TurnRuns
 pub mod QueuedPieces
+pub mod HoldChanges
+pub mod HandedPieces
+pub mod RunningFree
+pub mod ReservedBefore
+pub mod ReservedFree
+pub mod OwedSteps

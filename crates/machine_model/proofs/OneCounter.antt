@@ -51,7 +51,7 @@ use Rattle.machine_model.proofs.GonePieces.{GoesThrough, gone_not_next, last_onc
 use Rattle.machine_model.proofs.RefusalCounts.{RefusedStand, same_through, stand_begun, stand_same}
 
 -- two pieces that are next are the same
-same_next : (w v : Work) (b d : ℕ) (t : Task) → same_task (record { work = w; step = b }) t ≡ true → same_task (record { work = v; step = d }) t ≡ true → (w ≡ v) × (b ≡ d)
+pub same_next : (w v : Work) (b d : ℕ) (t : Task) → same_task (record { work = w; step = b }) t ≡ true → same_task (record { work = v; step = d }) t ≡ true → (w ≡ v) × (b ≡ d)
 same_next w v b d t one two =
     let p = and_parts (same_work w t.work) (eqb b t.step) one in
     let q = and_parts (same_work v t.work) (eqb d t.step) two in
@@ -75,7 +75,7 @@ module _ (table : ConflictRelation) (courses : List Course) where
       (Each-weaker (λ q. is_number n q ≡ true → q ≡ p) (λ q. is_number n q ≡ true → r q ≡ false) (λ q only is. ap r (only is) ∙ fails p refl) (hands m.kept) (only_found (is_number n) p (hands m.kept) (c.once n) found))
 
   -- of those refused, only what an event refuses is new
-  refused_after : (m : Moment) (k : Kept) (r : Piece → Bool) → Counted m → may_be_kept table courses m k ≡ true → ((p : Piece) → piece_refused_by m.kept k ≡ Some p → r p ≡ false)
+  pub refused_after : (m : Moment) (k : Kept) (r : Piece → Bool) → Counted m → may_be_kept table courses m k ≡ true → ((p : Piece) → piece_refused_by m.kept k ≡ Some p → r p ≡ false)
       → filter r (refused_pieces (advance table courses m k).kept) ≡ filter r (refused_pieces m.kept)
   refused_after m k r c may fails = ap (λ ks. filter r (refused_pieces ks)) (advances table courses m k).kept ∙ by_event k may fails
     where
@@ -92,7 +92,7 @@ module _ (table : ConflictRelation) (courses : List Course) where
       by_event Restart may' fails' = ap (filter r) (refused-plain m.kept Restart refl (λ x. refl))
 
   -- a refusal that is no only try makes nobody begin to complete
-  not_try : (m : Moment) (p : Piece) → is_only_try (shape courses p.process) p.step p.work ≡ false → piece_refused table courses m p ≡ m
+  pub not_try : (m : Moment) (p : Piece) → is_only_try (shape courses p.process) p.step p.work ≡ false → piece_refused table courses m p ≡ m
   not_try m p is = by_work p.work is
     where
       by_work : (w : Work) → is_only_try (shape courses p.process) p.step w ≡ false → work_refused table courses m p.process p.step w ≡ m
@@ -101,17 +101,21 @@ module _ (table : ConflictRelation) (courses : List Course) where
       by_work End at = refl
 
 -- an only try is a step
-only_try_step : (t : Shape) (b : ℕ) (w : Work) → is_only_try t b w ≡ true → w ≡ Forward
+pub only_try_step : (t : Shape) (b : ℕ) (w : Work) → is_only_try t b w ≡ true → w ≡ Forward
 only_try_step t b Forward is = refl
 only_try_step t b Undo is = absurd (false≢true is)
 only_try_step t b End is = absurd (false≢true is)
 
 -- so is what it is a try of
-try_parts : (i b : ℕ) (w : Work) (p : Piece) → is_try_of i b w p ≡ true → (p.process ≡ i) × (p.step ≡ b) × (p.work ≡ w)
+pub try_parts : (i b : ℕ) (w : Work) (p : Piece) → is_try_of i b w p ≡ true → (p.process ≡ i) × (p.step ≡ b) × (p.work ≡ w)
 try_parts i b w p is =
     let x = and_parts (eqb p.process i && eqb p.step b) (same_work p.work w) is in
     let y = and_parts (eqb p.process i) (eqb p.step b) x.0 in
     (eqb-true p.process i y.0, eqb-true p.step b y.1, same_work-is p.work w x.1)
+
+-- each refused piece of process i is gone
+abbrev pub RefusedAreGone : List Course → Moment → ℕ → Type 0
+RefusedAreGone courses m i = (b : ℕ) (w : Work) → 1 ≤ refusals m.kept i b w → IsGone courses m i b w
 
 module _ (table : ConflictRelation) (plans : List Plan) (good : AreGood plans) where
   abbrev cs : List Course
@@ -123,7 +127,7 @@ module _ (table : ConflictRelation) (plans : List Plan) (good : AreGood plans) w
     pub stand : (i : ℕ) → is_in i (ends m.events) ≡ false → RefusedStand (courses_of plans) m i
 
   -- The effect of its own piece.
-  effect_gone : (m : Moment) (n number i b : ℕ) (w : Work) → CountsStand m → let p : Piece = record { number = number; process = i; step = b; work = w } in
+  pub effect_gone : (m : Moment) (n number i b : ℕ) (w : Work) → CountsStand m → let p : Piece = record { number = number; process = i; step = b; work = w } in
       IsNextPiece cs m p → keeps_order cs m.events (event_of cs p) ≡ true → is_in i (ends (m.events ++ event_by cs i b w ∷ [])) ≡ false
       → let o = happened (noted m (Effect n)) (event_by cs i b w) in GoesThrough cs m o i × IsGone cs o i b w
   effect_gone m n number i b Forward counts next keeps open' =
@@ -171,7 +175,7 @@ module _ (table : ConflictRelation) (plans : List Plan) (good : AreGood plans) w
       absurd (false≢true (sym open' ∙ (ap (is_in i) (ends-append m.events (Ended i ∷ [])) ∙ (is_in-append i (ends m.events) (i ∷ []) ∙ or_right (is_in i (ends m.events)) (is_in i (i ∷ [])) (or_left (eqb i i) false (eq-eqb i i refl))))))
 
   -- a refused piece is gone, or was so before
-  gone_by : (m o : Moment) (i b d : ℕ) (w v : Work) → GoesThrough cs m o i → IsGone cs o i d v → same_task (record { work = v; step = d }) (next_of cs m i) ≡ true
+  pub gone_by : (m o : Moment) (i b d : ℕ) (w v : Work) → GoesThrough cs m o i → IsGone cs o i d v → same_task (record { work = v; step = d }) (next_of cs m i) ≡ true
       → (same_task (record { work = w; step = b }) (next_of cs m i) ≡ true) ⊎ IsGone cs m i b w → IsGone cs o i b w
   gone_by m o i b d w v through gone next (inl same) =
       let is = same_next w v b d (next_of cs m i) same next in
@@ -179,7 +183,7 @@ module _ (table : ConflictRelation) (plans : List Plan) (good : AreGood plans) w
   gone_by m o i b d w v through gone next (inr old) = stays_gone cs m o i b w through old
 
   -- where no piece of process i is touched
-  counted_same : (m : Moment) (k : Kept) (i : ℕ) → StaysFor cs m (advance table cs m k) i → (b : ℕ) (w : Work) → refusals (advance table cs m k).kept i b w ≡ refusals m.kept i b w
+  pub counted_same : (m : Moment) (k : Kept) (i : ℕ) → StaysFor cs m (advance table cs m k) i → (b : ℕ) (w : Work) → refusals (advance table cs m k).kept i b w ≡ refusals m.kept i b w
   counted_same m k i stays b w = ap length (stays.refused (is_try_of i b w) (λ q other. and_left (eqb q.process i && eqb q.step b) (same_work q.work w) (and_left (eqb q.process i) (eqb q.step b) other)))
 
   untouched_stand : (m : Moment) (k : Kept) (i : ℕ) → CountsStand m → is_in i (ends m.events) ≡ false → StaysFor cs m (advance table cs m k) i → ((b : ℕ) → refusals (advance table cs m k).kept i b End ≡ 0)
@@ -196,69 +200,71 @@ module _ (table : ConflictRelation) (plans : List Plan) (good : AreGood plans) w
       (λ end. let none = no_end b in let x = ap (λ v. refusals (advance table cs m k).kept i b v) end in absurd (omega arith))
       (counts.stand i open' b w (omega arith))
 
-  -- the effect of its own piece
-  effect_stand : (m : Moment) (n : ℕ) (p : Piece) → CountsStand m → may_be_kept table cs m (Effect n) ≡ true → piece_of m.kept n ≡ Some p → IsNextPiece cs m p → keeps_order cs m.events (event_of cs p) ≡ true
-      → is_in p.process (ends (advance table cs m (Effect n)).events) ≡ false → is_in p.process (ends m.events) ≡ false → RefusedStand cs (advance table cs m (Effect n)) p.process
+  -- after the effect of its own piece all that was refused is gone
+  pub effect_stand : (m : Moment) (n : ℕ) (p : Piece) → CountsStand m → may_be_kept table cs m (Effect n) ≡ true → piece_of m.kept n ≡ Some p → IsNextPiece cs m p → keeps_order cs m.events (event_of cs p) ≡ true
+      → is_in p.process (ends (advance table cs m (Effect n)).events) ≡ false → is_in p.process (ends m.events) ≡ false → RefusedAreGone cs (advance table cs m (Effect n)) p.process
   effect_stand m n p counts may found next keeps open_after open_before b w some =
       let at : piece_of (m.kept ++ Effect n ∷ []) n ≡ Some p = piece_of-plain m.kept (Effect n) n refl ∙ found in
       let moved = ap (λ o. with_piece (λ q. happened (noted m (Effect n)) (event_of cs q)) (noted m (Effect n)) o) at in
       let facts = effect_gone m n p.number p.process p.step p.work counts next keeps (ap (λ (o : Moment). is_in p.process (ends o.events)) (sym moved) ∙ open_after) in
       let same = ap length (refused_after table cs m (Effect n) (is_try_of p.process b w) counts.own.order.tidy.counted may (λ q is. absurd (none-some q is))) in
-      inr (subst (λ o. IsGone cs o p.process b w) (sym moved)
-      (gone_by m (happened (noted m (Effect n)) (event_of cs p)) p.process b p.step w p.work facts.0 facts.1 next (counts.stand p.process open_before b w (omega arith))))
+      subst (λ o. IsGone cs o p.process b w) (sym moved)
+      (gone_by m (happened (noted m (Effect n)) (event_of cs p)) p.process b p.step w p.work facts.0 facts.1 next (counts.stand p.process open_before b w (omega arith)))
 
   -- the refusal of its own piece
-  refuse_stand : (m : Moment) (n : ℕ) (p : Piece) → CountsStand m → may_be_kept table cs m (Refuse n) ≡ true → piece_of m.kept n ≡ Some p → IsNextPiece cs m p
-      → is_in p.process (ends m.events) ≡ false → (t : Bool) → is_only_try (shape cs p.process) p.step p.work ≡ t → RefusedStand cs (advance table cs m (Refuse n)) p.process
-  refuse_stand m n p counts may found next open' t only b w some = by_try (is_try_of p.process b w p) refl t only
-    where
-      i : ℕ
-      i = p.process
+  module _ (m : Moment) (n : ℕ) (p : Piece) (counts : CountsStand m) (may : may_be_kept table cs m (Refuse n) ≡ true) (found : piece_of m.kept n ≡ Some p) (next : IsNextPiece cs m p)
+      (open' : is_in p.process (ends m.events) ≡ false) where
+    abbrev after_refusal : Moment
+    after_refusal = advance table cs m (Refuse n)
 
-      done : done_steps (advance table cs m (Refuse n)).events p.process ≡ done_steps m.events p.process
-      done = ap (λ h. done_steps h p.process) ((advances table cs m (Refuse n)).events ∙ append-nil m.events)
+    same_done : done_steps after_refusal.events p.process ≡ done_steps m.events p.process
+    same_done = ap (λ h. done_steps h p.process) ((advances table cs m (Refuse n)).events ∙ append-nil m.events)
 
-      at : piece_of (m.kept ++ Refuse n ∷ []) n ≡ Some p
-      at = piece_of-plain m.kept (Refuse n) n refl ∙ found
+    at_refusal : piece_of (m.kept ++ Refuse n ∷ []) n ≡ Some p
+    at_refusal = piece_of-plain m.kept (Refuse n) n refl ∙ found
 
-      old : is_try_of p.process b w p ≡ false → refusals (advance table cs m (Refuse n)).kept p.process b w ≡ refusals m.kept p.process b w
-      old not_its = ap length (refused_after table cs m (Refuse n) (is_try_of p.process b w) counts.own.order.tidy.counted may (λ q is. ap (is_try_of p.process b w) (same_Some q p (sym is ∙ found)) ∙ not_its))
+    before : (b : ℕ) (w : Work) → 1 ≤ refusals after_refusal.kept p.process b w → (same_task (record { work = w; step = b }) (next_of cs m p.process) ≡ true) ⊎ IsGone cs m p.process b w
+    before b w some = by_its (is_try_of p.process b w p) refl
+      where
+        by_its : (u : Bool) → is_try_of p.process b w p ≡ u → (same_task (record { work = w; step = b }) (next_of cs m p.process) ≡ true) ⊎ IsGone cs m p.process b w
+        by_its true is =
+            let parts = try_parts p.process b w p is in
+            inl (ap (λ v. same_task (record { work = v; step = b }) (next_of cs m p.process)) (sym parts.2) ∙ (ap (λ d. same_task (record { work = p.work; step = d }) (next_of cs m p.process)) (sym parts.1) ∙ next))
+        by_its false is =
+            let same = ap length (refused_after table cs m (Refuse n) (is_try_of p.process b w) counts.own.order.tidy.counted may (λ q its. ap (is_try_of p.process b w) (same_Some q p (sym its ∙ found)) ∙ is)) in
+            counts.stand p.process open' b w (omega arith)
 
-      its_next : is_try_of p.process b w p ≡ true → same_task (record { work = w; step = b }) (next_of cs m p.process) ≡ true
-      its_next is =
-          let parts = try_parts p.process b w p is in
-          ap (λ v. same_task (record { work = v; step = b }) (next_of cs m p.process)) (sym parts.2) ∙ (ap (λ d. same_task (record { work = p.work; step = d }) (next_of cs m p.process)) (sym parts.1) ∙ next)
+    -- of an only try: all that was refused is gone
+    pub only_try_stand : is_only_try (shape cs p.process) p.step p.work ≡ true → RefusedAreGone cs after_refusal p.process
+    only_try_stand is b w some =
+        let same : progress cs after_refusal p.process ≡ with_begun (has_begun after_refusal p.process) (past (progress cs m p.process) p.step) =
+        advance-progress table cs m (Refuse n) p.process ∙ ap (with_begun (has_begun after_refusal p.process)) (only_try-refused cs m n p counts.own.order.tidy.counted found is) in
+        let work = only_try_step (shape cs p.process) p.step p.work is in
+        let through : GoesThrough cs m after_refusal p.process = record {
+          onward = let o = ap (λ (s : Progress). s.onward) same in omega arith;
+          begun = λ x. advance-begun table cs p.process m (Refuse n) x;
+          owed = λ x c none. ap (λ (s : Progress). is_in c (forward s.shape s.net)) same ∙ none;
+          done = λ c x. ap (is_in c) same_done ∙ x;
+          net = λ c x none. ap (λ (s : Progress). is_in c s.net) same ∙ none;
+        } in
+        let gone : IsGone cs after_refusal p.process p.step Forward = inl (let o = ap (λ (s : Progress). s.onward) same in omega arith) in
+        gone_by m after_refusal p.process b p.step w p.work through (subst (λ v. IsGone cs after_refusal p.process p.step v) (sym work) gone) next (before b w some)
 
-      before : (u : Bool) → is_try_of p.process b w p ≡ u → (same_task (record { work = w; step = b }) (next_of cs m p.process) ≡ true) ⊎ IsGone cs m p.process b w
-      before true is = inl (its_next is)
-      before false is = let same = old is in counts.stand p.process open' b w (omega arith)
+    -- of another: nobody begins to complete
+    pub other_try_moment : is_only_try (shape cs p.process) p.step p.work ≡ false → after_refusal ≡ noted m (Refuse n)
+    other_try_moment is = ap (λ o. with_piece (piece_refused table cs (noted m (Refuse n))) (noted m (Refuse n)) o) at_refusal ∙ not_try table cs (noted m (Refuse n)) p is
 
-      tried : is_only_try (shape cs p.process) p.step p.work ≡ true → progress cs (advance table cs m (Refuse n)) p.process ≡ with_begun (has_begun (advance table cs m (Refuse n)) p.process) (past (progress cs m p.process) p.step)
-      tried is = advance-progress table cs m (Refuse n) p.process ∙ ap (with_begun (has_begun (advance table cs m (Refuse n)) p.process)) (only_try-refused cs m n p counts.own.order.tidy.counted found is)
+    pub other_try_progress : is_only_try (shape cs p.process) p.step p.work ≡ false → progress cs after_refusal p.process ≡ progress cs m p.process
+    other_try_progress is = ap (λ o. progress cs o p.process) (other_try_moment is) ∙ try-refused cs m n p counts.own.order.tidy.counted found is
 
-      by_try : (u : Bool) → is_try_of p.process b w p ≡ u → (t : Bool) → is_only_try (shape cs p.process) p.step p.work ≡ t
-          → (same_task (record { work = w; step = b }) (next_of cs (advance table cs m (Refuse n)) p.process) ≡ true) ⊎ IsGone cs (advance table cs m (Refuse n)) p.process b w
-      by_try u its true is =
-          let same = tried is in
-          let work = only_try_step (shape cs p.process) p.step p.work is in
-          let through : GoesThrough cs m (advance table cs m (Refuse n)) p.process = record {
-            onward = let o = ap (λ (s : Progress). s.onward) same in omega arith;
-            begun = λ x. advance-begun table cs p.process m (Refuse n) x;
-            owed = λ x c none. ap (λ (s : Progress). is_in c (forward s.shape s.net)) same ∙ none;
-            done = λ c x. ap (is_in c) done ∙ x;
-            net = λ c x none. ap (λ (s : Progress). is_in c s.net) same ∙ none;
-          } in
-          let gone : IsGone cs (advance table cs m (Refuse n)) p.process p.step Forward = inl (let o = ap (λ (s : Progress). s.onward) same in omega arith) in
-          inr (gone_by m (advance table cs m (Refuse n)) p.process b p.step w p.work through (subst (λ v. IsGone cs (advance table cs m (Refuse n)) p.process p.step v) (sym work) gone) next (before u its))
-      by_try u its false is =
-          let moment : advance table cs m (Refuse n) ≡ noted m (Refuse n) = ap (λ o. with_piece (piece_refused table cs (noted m (Refuse n))) (noted m (Refuse n)) o) at ∙ not_try table cs (noted m (Refuse n)) p is in
-          let same : progress cs (advance table cs m (Refuse n)) p.process ≡ progress cs m p.process = ap (λ o. progress cs o p.process) moment ∙ try-refused cs m n p counts.own.order.tidy.counted found is in
-          by_before same (before u its)
-        where
-          by_before : progress cs (advance table cs m (Refuse n)) p.process ≡ progress cs m p.process → (same_task (record { work = w; step = b }) (next_of cs m p.process) ≡ true) ⊎ IsGone cs m p.process b w
-              → (same_task (record { work = w; step = b }) (next_of cs (advance table cs m (Refuse n)) p.process) ≡ true) ⊎ IsGone cs (advance table cs m (Refuse n)) p.process b w
-          by_before same (inl is') = inl (ap (λ s. same_task (record { work = w; step = b }) (next_task s)) same ∙ is')
-          by_before same (inr gone) = inr (stays_gone cs m (advance table cs m (Refuse n)) p.process b w (same_through cs m (advance table cs m (Refuse n)) p.process same done) gone)
+    refuse_stand : (t : Bool) → is_only_try (shape cs p.process) p.step p.work ≡ t → RefusedStand cs after_refusal p.process
+    refuse_stand true is b w some = inr (only_try_stand is b w some)
+    refuse_stand false is b w some = by_before (before b w some)
+      where
+        by_before : (same_task (record { work = w; step = b }) (next_of cs m p.process) ≡ true) ⊎ IsGone cs m p.process b w
+            → (same_task (record { work = w; step = b }) (next_of cs after_refusal p.process) ≡ true) ⊎ IsGone cs after_refusal p.process b w
+        by_before (inl is') = inl (ap (λ s. same_task (record { work = w; step = b }) (next_task s)) (other_try_progress is) ∙ is')
+        by_before (inr gone) = inr (stays_gone cs m after_refusal p.process b w (same_through cs m after_refusal p.process (other_try_progress is) same_done) gone)
 
   -- nobody's end is refused
   no_end_after : (m : Moment) (k : Kept) → CountsStand m → may_be_kept table cs m k ≡ true → (i b : ℕ) → refusals (advance table cs m k).kept i b End ≡ 0
@@ -273,7 +279,7 @@ module _ (table : ConflictRelation) (plans : List Plan) (good : AreGood plans) w
       by_event (Victim j) may' p is = absurd (none-some p is)
       by_event Restart may' p is = absurd (none-some p is)
 
-  still_open : (m : Moment) (k : Kept) (i : ℕ) → is_in i (ends (advance table cs m k).events) ≡ false → is_in i (ends m.events) ≡ false
+  pub still_open : (m : Moment) (k : Kept) (i : ℕ) → is_in i (ends (advance table cs m k).events) ≡ false → is_in i (ends m.events) ≡ false
   still_open m k i open' = (or_parts (is_in i (ends m.events)) (is_in i (ends (added table cs (m.kept ++ k ∷ []) k)))
       (sym (is_in-append i (ends m.events) (ends (added table cs (m.kept ++ k ∷ []) k))) ∙ (sym (ap (is_in i) (ap ends (advances table cs m k).events ∙ ends-append m.events (added table cs (m.kept ++ k ∷ []) k))) ∙ open'))).0
 
@@ -294,7 +300,7 @@ module _ (table : ConflictRelation) (plans : List Plan) (good : AreGood plans) w
       let next = subst (IsNextPiece cs m) same out.next in
       let keeps = ap (λ q. keeps_order cs m.events (event_of cs q)) (sym same) ∙ piece_keeps table plans good m out.piece counts.own out.next out.active in
       subst (λ j. RefusedStand cs (advance table cs m (Effect n)) j) its
-      (effect_stand m n p counts may touched next keeps (ap (λ j. is_in j (ends (advance table cs m (Effect n)).events)) its ∙ open') (ap (λ j. is_in j (ends m.events)) its ∙ still_open m (Effect n) i open'))
+      (λ b w some. inr (effect_stand m n p counts may touched next keeps (ap (λ j. is_in j (ends (advance table cs m (Effect n)).events)) its ∙ open') (ap (λ j. is_in j (ends m.events)) its ∙ still_open m (Effect n) i open') b w some))
   stand_after m (Refuse n) i counts may open' (Some p) touched true away =
       let out = out_piece table cs m n counts.own.order counts.own.active (and_parts (runs m n) (is_no_end (piece_of m.kept n)) may).0 in
       let same : out.piece ≡ p = same_Some out.piece p (sym out.found ∙ touched) in

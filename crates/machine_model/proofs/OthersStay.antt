@@ -129,7 +129,7 @@ module _ (table : ConflictRelation) (courses : List Course) (m : Moment) (i : �
   refuse_by n None c may found away r others = absurd (false≢true (sym (ap is_no_end found) ∙ (and_parts _ _ may).1))
   refuse_by n (Some p) c may found away r others = refused-others m n i p r c found (away p refl) others
 
-  entered-stays : (k : Kept) → Tidy m → may_be_kept table courses m k ≡ true → LeavesPieceOf m.kept k i → Stays (entered courses m k)
+  pub entered-stays : (k : Kept) → Tidy m → may_be_kept table courses m k ≡ true → LeavesPieceOf m.kept k i → Stays (entered courses m k)
   entered-stays (Start j) tidy may away = untouched (Start j) _ (start-leaves m.events j i) refl refl refl refl (λ x. refl)
   entered-stays (Hand piece process step work) tidy may away =
       let p : Piece = record { number = piece; process = process; step = step; work = work } in

@@ -240,7 +240,7 @@ module _ (table : ConflictRelation) (courses : List Course) where
       by_way false is = dragged m refl
 
   -- a piece whose refusal is that of an only try
-  try_refused : (m : Moment) (p : Piece) → is_only_try (shape courses p.process) p.step p.work ≡ true → progress courses (piece_refused table courses m p) p.process ≡ complete_unless_on (progress courses m p.process)
+  pub try_refused : (m : Moment) (p : Piece) → is_only_try (shape courses p.process) p.step p.work ≡ true → progress courses (piece_refused table courses m p) p.process ≡ complete_unless_on (progress courses m p.process)
   try_refused m p is = by_work p.work is
     where
       by_work : (w : Work) → is_only_try (shape courses p.process) p.step w ≡ true → progress courses (work_refused table courses m p.process p.step w) p.process ≡ complete_unless_on (progress courses m p.process)

@@ -12,8 +12,8 @@ use Rattle.schedule_model.proofs.Snoc.{filter_same}
 use Rattle.machine_model.specs.declared.kept.Kept.{Kept}
 use Rattle.machine_model.specs.declared.kept.Kept.TheVariants.{Hand, Refuse}
 use Rattle.machine_model.specs.Moment.{Moment, Piece}
-use Rattle.machine_model.specs.Pieces.{hands, piece_of, is_effect, is_refusal, refused_pieces}
-use Rattle.machine_model.proofs.Counting.{count, none-count}
+use Rattle.machine_model.specs.Pieces.{hands, piece_of, is_effect, is_refusal, refused_pieces, runs}
+use Rattle.machine_model.proofs.Counting.{count, count-some, none-count}
 use Rattle.machine_model.proofs.Snoc.{hands-append}
 use Rattle.machine_model.proofs.PieceCounts.{Counted, is_number, ends_piece}
 
@@ -82,12 +82,20 @@ weaker_none p q [] weaker none = refl
 weaker_none p q (x ∷ xs) weaker none =
     let parts = or_parts (p x) (list_any p xs) none in or_from (q x) (list_any q xs) (weaker x parts.0) (weaker_none p q xs weaker parts.1)
 
--- a number that wasn't handed out was never refused
-pub unhanded-unrefused : (m : Moment) (n : ℕ) → Counted m → count (is_number n) (hands m.kept) ≡ 0 → list_any (is_refusal n) m.kept ≡ false
-unhanded-unrefused m n c none = refusals_among m.kept (none-count (ends_piece n) m.kept (let p = c.parted n in omega arith))
+-- where no event ended piece n, none refused it
+unended-unrefused : (m : Moment) (n : ℕ) → count (ends_piece n) m.kept ≡ 0 → list_any (is_refusal n) m.kept ≡ false
+unended-unrefused m n none = refusals_among m.kept (none-count (ends_piece n) m.kept none)
   where
     refusals_among : (ks : List Kept) → list_any (ends_piece n) ks ≡ false → list_any (is_refusal n) ks ≡ false
     refusals_among ks never = weaker_none (ends_piece n) (is_refusal n) ks (λ k is. (or_parts (is_effect n k) (is_refusal n k) is).1) never
+
+-- a number that wasn't handed out was never refused
+pub unhanded-unrefused : (m : Moment) (n : ℕ) → Counted m → count (is_number n) (hands m.kept) ≡ 0 → list_any (is_refusal n) m.kept ≡ false
+unhanded-unrefused m n c none = unended-unrefused m n (let p = c.parted n in omega arith)
+
+-- nor was a piece that is out
+pub out-unrefused : (m : Moment) (n : ℕ) → Counted m → runs m n ≡ true → list_any (is_refusal n) m.kept ≡ false
+out-unrefused m n c out = let some = count-some (is_number n) m.out out in unended-unrefused m n (let p = c.parted n in let o = c.once n in omega arith)
 
 -- a refusal of piece n leaves the refused pieces of other processes
 pub refused-others : (m : Moment) (n i : ℕ) (p : Piece) (r : Piece → Bool) → Counted m → piece_of m.kept n ≡ Some p → eqb p.process i ≡ false → ((q : Piece) → eqb q.process i ≡ false → r q ≡ false)

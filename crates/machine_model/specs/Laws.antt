@@ -126,6 +126,24 @@ pub record StandingFacts (table : ConflictRelation) (s : Machine) : Type 0 where
 abbrev pub StandingFactsHold : Type 0
 StandingFactsHold = (table : ConflictRelation) (plans : List Plan) (s : Machine) → IsSession table plans s → StandingFacts table s
 
+-- Of these: steps that run don't conflict.
+abbrev pub RunningStepsAreFree : Type 0
+RunningStepsAreFree = (table : ConflictRelation) (plans : List Plan) (s : Machine) → IsSession table plans s
+    → (i k : ℕ) (d e : Entry) → IsRunningStep (now table s) s.courses i d → IsRunningStep (now table s) s.courses k e → conflict table d e ≡ false
+
+-- What is reserved conflicts with no net entry, running step or reserved step of another active process.
+abbrev pub ReservedIsFree : Type 0
+ReservedIsFree = (table : ConflictRelation) (plans : List Plan) (s : Machine) → IsSession table plans s
+    → (i k : ℕ) (r e : Entry) → IsTrue (is_active (history table s) i) → IsTrue (is_active (history table s) k)
+    → Contains (hold_of s.courses (now table s) i).reserved r
+    → Contains (net_of (history table s) k ++ (hold_of s.courses (now table s) k).reserved) e ⊎ IsRunningStep (now table s) s.courses k e → conflict table r e ≡ false
+
+-- A step that its process owes is never blocked.
+abbrev pub OwedStepsAreFree : Type 0
+OwedStepsAreFree = (table : ConflictRelation) (plans : List Plan) (s : Machine) → IsSession table plans s → (i : ℕ) → IsTrue (is_active (history table s) i)
+    → (next_of s.courses (now table s) i).work ≡ Forward → class_in s.courses (history table s) i (next_of s.courses (now table s) i).step ≡ reserved
+    → block_of table s.courses (now table s) i ≡ None
+
 -- Progress law: where no active process is exhausted, a request for any piece isn't answered that one is stuck.
 abbrev pub ProgressLaw : Type 0
 ProgressLaw = (table : ConflictRelation) (plans : List Plan) (s : Machine) → IsSession table plans s

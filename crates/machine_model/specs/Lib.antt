@@ -20,3 +20,4 @@ pub mod GroupExamples
 pub mod Laws
 pub mod PieceLaws
 pub mod CallLaws
+pub mod HoldLaws

@@ -1,6 +1,7 @@
 // The laws of the machine that are proved: each function says one, and does nothing.
-ghost use Rattle.machine_model.specs.Laws.{BlockedWhereSomethingStands, CallsMakeRuns, CascadeIsLeast, EndedAreAtEnds, NextKeepsOwnOrder, OpenHoldingsBlockAlike, OpenHoldingsDragAlike, RestartBeginsAll, RestartFollowsCompletion, RunsKeepOwnOrder, UndosWaitByA5};
-ghost use Rattle.machine_model.specs.PieceLaws.{DroppedIsExact, OneRuns, OthersStay, OverIsFinished, ProgressGoesByTransitions, RefusedBeginsWithoutWayOn, RefusedIsNextOrGone, RunningIsNext, UndosTakeBackTheLast};
+ghost use Rattle.machine_model.specs.Laws.{BlockedWhereSomethingStands, CallsMakeRuns, CascadeIsLeast, EndedAreAtEnds, NextKeepsOwnOrder, OpenHoldingsBlockAlike, OpenHoldingsDragAlike, OwedStepsAreFree, ReservedIsFree, RestartBeginsAll, RestartFollowsCompletion, RunningStepsAreFree, RunsKeepOwnOrder, UndosWaitByA5};
+ghost use Rattle.machine_model.specs.PieceLaws.{DroppedIsExact, OneRuns, OthersStay, OverIsFinished, ProgressGoesByTransitions, RefusedBeginsWithoutWayOn, RefusedIsNextOrGone, RunningIsNext, StatesGoByTransitions, UndosTakeBackTheLast};
+ghost use Rattle.machine_model.specs.HoldLaws.{BeginningsStop, BegunUndoAll, EndsGo, HandsReserve, NetGoesByPieces, RunningGoesByPieces, StepsTakeEffect, UndosTakeEffect};
 ghost use Rattle.machine_model.specs.CallLaws.{BeginningsOfRunsAreRuns, CallsKeepRuns, FlushesKeepWhatRuns, QueuedAreOutOrDropped, StuckIsExact, TurnsMakeRuns, VictimsRunDry};
 
 /// The computed cascade of an active process is the least set.
@@ -136,4 +137,64 @@ pub fn restart_begins_all()
 /// Whatever was refused is the next piece of its process, or never comes again.
 pub fn refused_is_next_or_gone()
     ensures { RefusedIsNextOrGone }
+{}
+
+/// One counter of refusals is enough: the state of an active process goes by the transitions of one process alone.
+pub fn states_go_by_transitions()
+    ensures { StatesGoByTransitions }
+{}
+
+/// The net goes by the effects of pieces.
+pub fn net_goes_by_pieces()
+    ensures { NetGoesByPieces }
+{}
+
+/// What a process has under way goes by its own pieces and by its beginning to complete.
+pub fn running_goes_by_pieces()
+    ensures { RunningGoesByPieces }
+{}
+
+/// A hand puts a piece under way and reserves what it will make its process owe.
+pub fn hands_reserve()
+    ensures { HandsReserve }
+{}
+
+/// Where a process begins to complete, it stops and has all to undo that can be undone.
+pub fn beginnings_stop()
+    ensures { BeginningsStop }
+{}
+
+/// A process that has begun to complete has all to undo that can be undone.
+pub fn begun_undo_all()
+    ensures { BegunUndoAll }
+{}
+
+/// What the effect of a step does to the hold of its process, by the class of the step.
+pub fn steps_take_effect()
+    ensures { StepsTakeEffect }
+{}
+
+/// What the effect of an undo does to the hold of its process.
+pub fn undos_take_effect()
+    ensures { UndosTakeEffect }
+{}
+
+/// At the effect of its end a process goes, and nobody else.
+pub fn ends_go()
+    ensures { EndsGo }
+{}
+
+/// Steps that run don't conflict.
+pub fn running_steps_are_free()
+    ensures { RunningStepsAreFree }
+{}
+
+/// What is reserved conflicts with nothing that another active process has done, runs or reserves.
+pub fn reserved_is_free()
+    ensures { ReservedIsFree }
+{}
+
+/// A step that its process owes is never blocked.
+pub fn owed_steps_are_free()
+    ensures { OwedStepsAreFree }
 {}
