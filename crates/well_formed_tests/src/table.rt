@@ -1,4 +1,4 @@
-// A hundred processes and what is wrong first with each, worked out by trying all outcomes of play.
+// A hundred processes and what is wrong first with each, worked out by `verdicts.py`, beside `src`, by trying all outcomes of play.
 
 /// In each line a process, in which a letter is a step of that kind and brackets are a choice, and then its verdict. Steps are
 /// numbered from 0.
