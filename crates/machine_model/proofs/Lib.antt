@@ -43,3 +43,4 @@ pub mod RunningFree
 pub mod ReservedBefore
 pub mod ReservedFree
 pub mod OwedSteps
+pub mod BehindBefore

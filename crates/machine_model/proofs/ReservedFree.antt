@@ -72,7 +72,7 @@ hand_process (Victim i) = 0
 hand_process Restart = 0
 
 -- whoever is active was so, if it had started
-was_active : (table : ConflictRelation) (courses : List Course) (m : Moment) (k : Kept) (i : ℕ) → IsTrue (is_in i (starts m.events)) → is_active (advance table courses m k).events i ≡ true → is_active m.events i ≡ true
+pub was_active : (table : ConflictRelation) (courses : List Course) (m : Moment) (k : Kept) (i : ℕ) → IsTrue (is_in i (starts m.events)) → is_active (advance table courses m k).events i ≡ true → is_active m.events i ≡ true
 was_active table courses m k i started goes = by_event k (sym (ap (λ h. is_active h i) (advances table courses m k).events) ∙ goes)
   where
     by_piece : (o : Option Piece) → is_active (m.events ++ added_by_piece table courses o) i ≡ true → is_active m.events i ≡ true
@@ -115,7 +115,7 @@ module _ (table : ConflictRelation) (symmetric : IsSymmetric table) (plans : Lis
   stands_started m k e own (inr runs) = (and_parts (is_in k (starts m.events)) _ (runs_active table cs m k runs.0 own.active runs.1).1).0
 
   -- what a process has done it had done or was running
-  net_before : (m : Moment) (k : Kept) (i : ℕ) (e : Entry) → InOwnOrder table plans good m → may_be_kept table cs m k ≡ true → Among e (net_of (advance table cs m k).events i) → Among e (net_of m.events i) ⊎ IsRunningStep m cs i e
+  pub net_before : (m : Moment) (k : Kept) (i : ℕ) (e : Entry) → InOwnOrder table plans good m → may_be_kept table cs m k ≡ true → Among e (net_of (advance table cs m k).events i) → Among e (net_of m.events i) ⊎ IsRunningStep m cs i e
   net_before m k i e own may is = by_net (net_same_or_own table cs m k i)
     where
       by_effect : (n number b : ℕ) (w : Work) → k ≡ Effect n → piece_of m.kept n ≡ Some (record { number = number; process = i; step = b; work = w }) → (w ≡ Forward) ⊎ (w ≡ Undo) → Among e (net_of m.events i) ⊎ IsRunningStep m cs i e
