@@ -44,3 +44,4 @@ pub mod ReservedBefore
 pub mod ReservedFree
 pub mod OwedSteps
 pub mod BehindBefore
+pub mod FixingFree

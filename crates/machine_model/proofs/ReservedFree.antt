@@ -109,7 +109,7 @@ module _ (table : ConflictRelation) (symmetric : IsSymmetric table) (plans : Lis
       by_part (inl owes) = owed-started no_conflict cs m.events own.legal i r owes
       by_part (inr soon) = by_running (running_of m i) refl soon
 
-  stands_started : (m : Moment) (k : ℕ) (e : Entry) → InOwnOrder table plans good m → Stands cs m k e → IsTrue (is_in k (starts m.events))
+  pub stands_started : (m : Moment) (k : ℕ) (e : Entry) → InOwnOrder table plans good m → Stands cs m k e → IsTrue (is_in k (starts m.events))
   stands_started m k e own (inl (inl done)) = let found = among_net_of m.events k e done in ap (λ j. is_in j (starts m.events)) (sym found.1) ∙ net-started no_conflict cs m.events own.legal e found.0
   stands_started m k e own (inl (inr owes)) = reserved_started m k e own owes
   stands_started m k e own (inr runs) = (and_parts (is_in k (starts m.events)) _ (runs_active table cs m k runs.0 own.active runs.1).1).0
