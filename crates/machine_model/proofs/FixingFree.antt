@@ -1,20 +1,17 @@
 -- While a piece runs that fixes what its process has done, no net entry of another active process is in the way.
-use Rattle.std.proofs.Common.{◌≡◌, ◌⊎◌, inl, inr, ⊎_elim, ℕ, Bool, true, false, not, eqb, ◌&&◌, List, [], ◌∷◌, ◌++◌, length, Option, Some, None, is_none, sym, refl, ap, subst, ◌∙◌}
-use Rattle.std.specs.Bool.{IsTrue}
-use Rattle.std.specs.List.{Contains}
+use Rattle.std.proofs.Common.{◌≡◌, ◌⊎◌, inl, inr, ⊎_elim, ℕ, Bool, true, false, not, eqb, ◌&&◌, List, [], length, Option, Some, None, is_none, sym, refl, ap, subst, ◌∙◌}
 use Rattle.std.proofs.lemmas.Option.{none-some, same_Some}
-use Rattle.std.proofs.lemmas.Bool.{and_parts, eqb-true, eq-eqb, false≢true}
+use Rattle.std.proofs.lemmas.Bool.{and_parts, eq-eqb, false≢true}
 use Rattle.process_tree.specs.declared.entry.Entry.{Entry}
 use Rattle.process_tree.specs.declared.plan.Plan.{Plan}
-use Rattle.process_tree.specs.Recovery.{StepClass, class_of, committing}
-use Rattle.schedule_model.specs.declared.event.Event.{Event}
+use Rattle.process_tree.specs.Recovery.{class_of, committing}
 use Rattle.schedule_model.specs.Course.{Course, courses_of, shape}
 use Rattle.schedule_model.specs.Conflict.{ConflictRelation, IsSymmetric, conflict}
 use Rattle.schedule_model.specs.Histories.{doing, is_active, is_in, net, net_of, steps_of}
 use Rattle.schedule_model.specs.Holdings.{active_net, behind, holders}
 use Rattle.schedule_model.specs.Blocking.{against, against_end, against_step, all_clashes, in_front}
 use Rattle.schedule_model.specs.Laws.{AreGood}
-use Rattle.schedule_model.specs.Legal.{class_in, is_legal}
+use Rattle.schedule_model.specs.Legal.{class_in}
 use Rattle.schedule_model.specs.Recovery.{owed_after}
 use Rattle.schedule_model.proofs.Behind.{behind-filter, same_step-process}
 use Rattle.schedule_model.proofs.Clear.{FrontApart, Nothing, none_against, none_in_front, nothing-from_clear}
@@ -30,7 +27,7 @@ use Rattle.machine_model.specs.Moment.{Moment, Piece, opening_moment}
 use Rattle.machine_model.specs.Pieces.{piece_of, running_of}
 use Rattle.machine_model.specs.State.{against_work, block_of, holdings, is_exhausted, next_of}
 use Rattle.machine_model.specs.Advance.{Machine, advance, advance_all}
-use Rattle.machine_model.specs.Runs.{goes_on_from, history, may_be_kept, now}
+use Rattle.machine_model.specs.Runs.{goes_on_from, may_be_kept, now}
 use Rattle.machine_model.specs.Laws.{FixingIsFree, IsFixing, IsRunningStep, IsSession}
 use Rattle.machine_model.proofs.BehindBefore.{behind_before}
 use Rattle.machine_model.proofs.Clear.{none-clear}
