@@ -43,3 +43,5 @@ pub mod RunningFree
 pub mod ReservedBefore
 pub mod ReservedFree
 pub mod OwedSteps
+pub mod BehindBefore
+pub mod FixingFree

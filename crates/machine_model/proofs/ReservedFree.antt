@@ -72,7 +72,7 @@ hand_process (Victim i) = 0
 hand_process Restart = 0
 
 -- whoever is active was so, if it had started
-was_active : (table : ConflictRelation) (courses : List Course) (m : Moment) (k : Kept) (i : ℕ) → IsTrue (is_in i (starts m.events)) → is_active (advance table courses m k).events i ≡ true → is_active m.events i ≡ true
+pub was_active : (table : ConflictRelation) (courses : List Course) (m : Moment) (k : Kept) (i : ℕ) → IsTrue (is_in i (starts m.events)) → is_active (advance table courses m k).events i ≡ true → is_active m.events i ≡ true
 was_active table courses m k i started goes = by_event k (sym (ap (λ h. is_active h i) (advances table courses m k).events) ∙ goes)
   where
     by_piece : (o : Option Piece) → is_active (m.events ++ added_by_piece table courses o) i ≡ true → is_active m.events i ≡ true
@@ -109,13 +109,13 @@ module _ (table : ConflictRelation) (symmetric : IsSymmetric table) (plans : Lis
       by_part (inl owes) = owed-started no_conflict cs m.events own.legal i r owes
       by_part (inr soon) = by_running (running_of m i) refl soon
 
-  stands_started : (m : Moment) (k : ℕ) (e : Entry) → InOwnOrder table plans good m → Stands cs m k e → IsTrue (is_in k (starts m.events))
+  pub stands_started : (m : Moment) (k : ℕ) (e : Entry) → InOwnOrder table plans good m → Stands cs m k e → IsTrue (is_in k (starts m.events))
   stands_started m k e own (inl (inl done)) = let found = among_net_of m.events k e done in ap (λ j. is_in j (starts m.events)) (sym found.1) ∙ net-started no_conflict cs m.events own.legal e found.0
   stands_started m k e own (inl (inr owes)) = reserved_started m k e own owes
   stands_started m k e own (inr runs) = (and_parts (is_in k (starts m.events)) _ (runs_active table cs m k runs.0 own.active runs.1).1).0
 
   -- what a process has done it had done or was running
-  net_before : (m : Moment) (k : Kept) (i : ℕ) (e : Entry) → InOwnOrder table plans good m → may_be_kept table cs m k ≡ true → Among e (net_of (advance table cs m k).events i) → Among e (net_of m.events i) ⊎ IsRunningStep m cs i e
+  pub net_before : (m : Moment) (k : Kept) (i : ℕ) (e : Entry) → InOwnOrder table plans good m → may_be_kept table cs m k ≡ true → Among e (net_of (advance table cs m k).events i) → Among e (net_of m.events i) ⊎ IsRunningStep m cs i e
   net_before m k i e own may is = by_net (net_same_or_own table cs m k i)
     where
       by_effect : (n number b : ℕ) (w : Work) → k ≡ Effect n → piece_of m.kept n ≡ Some (record { number = number; process = i; step = b; work = w }) → (w ≡ Forward) ⊎ (w ≡ Undo) → Among e (net_of m.events i) ⊎ IsRunningStep m cs i e

@@ -138,6 +138,13 @@ ReservedIsFree = (table : ConflictRelation) (plans : List Plan) (s : Machine) �
     → Contains (hold_of s.courses (now table s) i).reserved r
     → Contains (net_of (history table s) k ++ (hold_of s.courses (now table s) k).reserved) e ⊎ IsRunningStep (now table s) s.courses k e → conflict table r e ≡ false
 
+-- While a piece runs that fixes what i has done, no net entry of another active process conflicts with it, or stands before a net
+-- entry of i and conflicts with that.
+abbrev pub FixingIsFree : Type 0
+FixingIsFree = (table : ConflictRelation) (plans : List Plan) (s : Machine) → IsSession table plans s
+    → (i k : ℕ) (x e : Entry) → IsFixing (now table s) s.courses i → IsTrue (is_active (history table s) k) → Contains (net_of (history table s) k) x
+    → IsRunningStep (now table s) s.courses i e ⊎ (Contains (net_of (history table s) i) e × Contains (behind x (net (history table s))) e) → conflict table x e ≡ false
+
 -- A step that its process owes is never blocked.
 abbrev pub OwedStepsAreFree : Type 0
 OwedStepsAreFree = (table : ConflictRelation) (plans : List Plan) (s : Machine) → IsSession table plans s → (i : ℕ) → IsTrue (is_active (history table s) i)

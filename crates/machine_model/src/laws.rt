@@ -1,5 +1,5 @@
 // The laws of the machine that are proved: each function says one, and does nothing.
-ghost use Rattle.machine_model.specs.Laws.{BlockedWhereSomethingStands, CallsMakeRuns, CascadeIsLeast, EndedAreAtEnds, NextKeepsOwnOrder, OpenHoldingsBlockAlike, OpenHoldingsDragAlike, OwedStepsAreFree, ReservedIsFree, RestartBeginsAll, RestartFollowsCompletion, RunningStepsAreFree, RunsKeepOwnOrder, UndosWaitByA5};
+ghost use Rattle.machine_model.specs.Laws.{BlockedWhereSomethingStands, CallsMakeRuns, CascadeIsLeast, EndedAreAtEnds, FixingIsFree, NextKeepsOwnOrder, OpenHoldingsBlockAlike, OpenHoldingsDragAlike, OwedStepsAreFree, ReservedIsFree, RestartBeginsAll, RestartFollowsCompletion, RunningStepsAreFree, RunsKeepOwnOrder, UndosWaitByA5};
 ghost use Rattle.machine_model.specs.PieceLaws.{DroppedIsExact, OneRuns, OthersStay, OverIsFinished, ProgressGoesByTransitions, RefusedBeginsWithoutWayOn, RefusedIsNextOrGone, RunningIsNext, StatesGoByTransitions, UndosTakeBackTheLast};
 ghost use Rattle.machine_model.specs.HoldLaws.{BeginningsStop, BegunUndoAll, EndsGo, HandsReserve, NetGoesByPieces, RunningGoesByPieces, StepsTakeEffect, UndosTakeEffect};
 ghost use Rattle.machine_model.specs.CallLaws.{BeginningsOfRunsAreRuns, CallsKeepRuns, FlushesKeepWhatRuns, QueuedAreOutOrDropped, StuckIsExact, TurnsMakeRuns, VictimsRunDry};
@@ -197,4 +197,9 @@ pub fn reserved_is_free()
 /// A step that its process owes is never blocked.
 pub fn owed_steps_are_free()
     ensures { OwedStepsAreFree }
+{}
+
+/// While a piece runs that fixes what its process has done, no net entry of another active process is in the way.
+pub fn fixing_is_free()
+    ensures { FixingIsFree }
 {}
