@@ -45,3 +45,6 @@ pub mod ReservedFree
 pub mod OwedSteps
 pub mod BehindBefore
 pub mod FixingFree
+pub mod FixedFree
+pub mod EndedFree
+pub mod FreeEnds
