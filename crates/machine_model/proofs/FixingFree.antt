@@ -62,7 +62,7 @@ handed_end table courses m n i b may =
     nothing-from_clear (against_end table (holdings courses m) i)
     (eq-eqb (length (all_clashes (against_end table (holdings courses m) i))) 0 (ap (λ w. length (all_clashes (against_work table courses (holdings courses m) m.events i t.step w))) (same_work-is End t.work task.0) ∙ none))
 
-handed_active : (table : ConflictRelation) (courses : List Course) (m : Moment) (n i b : ℕ) (w : Work) → may_be_kept table courses m (Hand n i b w) ≡ true → is_active m.events i ≡ true
+pub handed_active : (table : ConflictRelation) (courses : List Course) (m : Moment) (n i b : ℕ) (w : Work) → may_be_kept table courses m (Hand n i b w) ≡ true → is_active m.events i ≡ true
 handed_active table courses m n i b w may =
     let parts = hand_parts table courses m (record { number = n; process = i; step = b; work = w }) may in
     (and_parts (is_active m.events i) (is_none (running_of m i)) (and_parts (is_active m.events i && is_none (running_of m i)) (not (is_exhausted courses m i))

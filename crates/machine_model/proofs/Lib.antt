@@ -48,3 +48,5 @@ pub mod FixingFree
 pub mod FixedFree
 pub mod EndedFree
 pub mod FreeEnds
+pub mod Paths
+pub mod NoCircle

@@ -163,6 +163,10 @@ abbrev pub EndsAreFree : Type 0
 EndsAreFree = (table : ConflictRelation) (plans : List Plan) (s : Machine) → IsSession table plans s → (i : ℕ) → IsTrue (is_active (history table s) i)
     → (next_of s.courses (now table s) i).work ≡ End → backward_entries s.courses (history table s) i ≡ [] → block_of table s.courses (now table s) i ≡ None
 
+-- The conflict graph has no circle.
+abbrev pub NoCircle : Type 0
+NoCircle = (table : ConflictRelation) (plans : List Plan) (s : Machine) → IsSession table plans s → (i : ℕ) → reaches table (holdings s.courses (now table s)) i i ≡ false
+
 -- A step that its process owes is never blocked.
 abbrev pub OwedStepsAreFree : Type 0
 OwedStepsAreFree = (table : ConflictRelation) (plans : List Plan) (s : Machine) → IsSession table plans s → (i : ℕ) → IsTrue (is_active (history table s) i)
