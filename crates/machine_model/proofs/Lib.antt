@@ -50,3 +50,6 @@ pub mod EndedFree
 pub mod FreeEnds
 pub mod Paths
 pub mod NoCircle
+pub mod WaysBehind
+pub mod ClosedCascades
+pub mod PendingFree

@@ -163,6 +163,11 @@ abbrev pub EndsAreFree : Type 0
 EndsAreFree = (table : ConflictRelation) (plans : List Plan) (s : Machine) → IsSession table plans s → (i : ℕ) → IsTrue (is_active (history table s) i)
     → (next_of s.courses (now table s) i).work ≡ End → backward_entries s.courses (history table s) i ≡ [] → block_of table s.courses (now table s) i ≡ None
 
+-- A pending entry conflicts with no running step.
+abbrev pub PendingIsFree : Type 0
+PendingIsFree = (table : ConflictRelation) (plans : List Plan) (s : Machine) → IsSession table plans s
+    → (i k : ℕ) (x e : Entry) → IsTrue (is_active (history table s) i) → Contains (pending_of s.courses (now table s) i) x → IsRunningStep (now table s) s.courses k e → conflict table x e ≡ false
+
 -- The conflict graph has no circle.
 abbrev pub NoCircle : Type 0
 NoCircle = (table : ConflictRelation) (plans : List Plan) (s : Machine) → IsSession table plans s → (i : ℕ) → reaches table (holdings s.courses (now table s)) i i ≡ false
