@@ -53,3 +53,4 @@ pub mod NoCircle
 pub mod WaysBehind
 pub mod ClosedCascades
 pub mod PendingFree
+pub mod UndoneFree

@@ -83,7 +83,7 @@ drop_none n es le x is = subst (Among x) (drop_past n es le) is
 short_drop : (x : Entry) (n : ℕ) (es : List Entry) → Among x (drop n es) → n < length es
 short_drop x n es is = ⊎_elim (λ lt. lt) (λ le. absurd (drop_none n es le x is)) (cases_lt n (length es))
 
-in_whole : (x : Entry) (n : ℕ) (es : List Entry) → Among x (drop n es) → Among x es
+pub in_whole : (x : Entry) (n : ℕ) (es : List Entry) → Among x (drop n es) → Among x es
 in_whole x n es is = subst (Among x) (take-append-drop n es) (among-right x (take n es) (drop n es) is)
 
 but_last : (xs ys : List ℕ) (y : ℕ) → xs ≡ ys ++ y ∷ [] → take (length xs - 1) xs ≡ ys

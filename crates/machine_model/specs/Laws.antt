@@ -168,6 +168,12 @@ abbrev pub PendingIsFree : Type 0
 PendingIsFree = (table : ConflictRelation) (plans : List Plan) (s : Machine) → IsSession table plans s
     → (i k : ℕ) (x e : Entry) → IsTrue (is_active (history table s) i) → Contains (pending_of s.courses (now table s) i) x → IsRunningStep (now table s) s.courses k e → conflict table x e ≡ false
 
+-- While the undo of x runs, behind x stands no net entry of another process that conflicts.
+abbrev pub UndoneIsFree : Type 0
+UndoneIsFree = (table : ConflictRelation) (plans : List Plan) (s : Machine) → IsSession table plans s
+    → (i : ℕ) (p : Piece) (e : Entry) → running_of (now table s) i ≡ Some p → p.work ≡ Undo
+    → Contains (behind (doing s.courses i p.step) (net (history table s))) e → conflict table (doing s.courses i p.step) e ≡ false
+
 -- The conflict graph has no circle.
 abbrev pub NoCircle : Type 0
 NoCircle = (table : ConflictRelation) (plans : List Plan) (s : Machine) → IsSession table plans s → (i : ℕ) → reaches table (holdings s.courses (now table s)) i i ≡ false
