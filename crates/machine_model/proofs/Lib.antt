@@ -54,3 +54,4 @@ pub mod WaysBehind
 pub mod ClosedCascades
 pub mod PendingFree
 pub mod UndoneFree
+pub mod LegalRuns
