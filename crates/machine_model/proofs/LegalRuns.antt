@@ -33,9 +33,9 @@ use Rattle.machine_model.specs.Moment.{Moment, Piece, opening_moment}
 use Rattle.machine_model.specs.Pieces.{piece_of, running_of, runs}
 use Rattle.machine_model.specs.State.{hold_of, owed_soon}
 use Rattle.machine_model.specs.Advance.{Machine, advance, advance_all, event_by, event_of}
-use Rattle.machine_model.specs.Runs.{goes_on_from, history, may_be_kept, now, start_refusal}
+use Rattle.machine_model.specs.Runs.{goes_on_from, may_be_kept, now, start_refusal}
 use Rattle.machine_model.specs.HoldLaws.{StepTakesEffect}
-use Rattle.machine_model.specs.Laws.{HistoriesAreLegal, IsFixing, IsRunningStep, IsSession}
+use Rattle.machine_model.specs.Laws.{IsFixing, IsRunningStep, IsSession}
 use Rattle.machine_model.proofs.Frames.{piece_of-plain}
 use Rattle.machine_model.proofs.FixingFree.{FixingFree, advance-fixing_free, opening-fixing_free}
 use Rattle.machine_model.proofs.HandedPieces.{runs_active}
@@ -209,6 +209,3 @@ session-legal table plans s session =
     (goes_on-keeps table (courses_of plans) (LegalFacts table session.symmetric plans session.good) (advance-legal table session.symmetric plans session.good) (opening_moment s.opening) s.kept
     (ap (λ xs. goes_on_from table xs (opening_moment s.opening) s.kept) (sym session.courses) ∙ session.run)
     (opening-legal table session.symmetric plans session.good s.opening (ap (λ xs. is_legal table xs s.opening) (sym session.courses) ∙ session.legal) opening))
-
-pub histories_are_legal : HistoriesAreLegal
-histories_are_legal table plans s session = ap (λ xs. is_legal table xs (history table s)) session.courses ∙ (session-legal table plans s session).legal

@@ -55,3 +55,4 @@ pub mod ClosedCascades
 pub mod PendingFree
 pub mod UndoneFree
 pub mod LegalRuns
+pub mod RunsWithin

@@ -174,10 +174,6 @@ UndoneIsFree = (table : ConflictRelation) (plans : List Plan) (s : Machine) → 
     → (i : ℕ) (p : Piece) (e : Entry) → running_of (now table s) i ≡ Some p → p.work ≡ Undo
     → Contains (behind (doing s.courses i p.step) (net (history table s))) e → conflict table (doing s.courses i p.step) e ≡ false
 
--- The history of each run is legal.
-abbrev pub HistoriesAreLegal : Type 0
-HistoriesAreLegal = (table : ConflictRelation) (plans : List Plan) (s : Machine) → IsSession table plans s → IsTrue (is_legal table s.courses (history table s))
-
 -- The conflict graph has no circle.
 abbrev pub NoCircle : Type 0
 NoCircle = (table : ConflictRelation) (plans : List Plan) (s : Machine) → IsSession table plans s → (i : ℕ) → reaches table (holdings s.courses (now table s)) i i ≡ false
