@@ -56,3 +56,4 @@ pub mod PendingFree
 pub mod UndoneFree
 pub mod LegalRuns
 pub mod RunsWithin
+pub mod RestartFree

@@ -243,6 +243,11 @@ RestartFollowsCompletion = (table : ConflictRelation) (plans : List Plan) (s : M
     → let t = next_of s.courses (now table s) i in
     (rest : List Event) × (completion s.courses (history table s) ≡ event_by s.courses i t.step t.work ∷ rest)
 
+-- Once all have begun to complete, whoever comes next in a restart is never blocked.
+abbrev pub RestartIsFree : Type 0
+RestartIsFree = (table : ConflictRelation) (plans : List Plan) (s : Machine) → IsSession table plans s → AllHaveBegun (now table s)
+    → (i : ℕ) → next_in_restart s.courses (now table s) ≡ Some i → block_of table s.courses (now table s) i ≡ None
+
 -- A piece is blocked exactly where something stands against it.
 abbrev pub BlockedWhereSomethingStands : Type 0
 BlockedWhereSomethingStands = (c : Clashes) → (least_block (blocks_of c) ≡ None) ↔ (length (all_clashes c) ≡ 0)

@@ -1,5 +1,5 @@
 // The laws of the machine that are proved: each function says one, and does nothing.
-ghost use Rattle.machine_model.specs.Laws.{BlockedWhereSomethingStands, CallsMakeRuns, CascadeIsLeast, EndedAreAtEnds, EndedIsFree, EndsAreFree, FixedIsFree, FixingIsFree, NextKeepsOwnOrder, NoCircle, OpenHoldingsBlockAlike, OpenHoldingsDragAlike, OwedStepsAreFree, PendingIsFree, ReservedIsFree, RestartBeginsAll, RestartFollowsCompletion, RunningStepsAreFree, RunsAreLegal, RunsKeepOwnOrder, UndoneIsFree, UndosWaitByA5};
+ghost use Rattle.machine_model.specs.Laws.{BlockedWhereSomethingStands, CallsMakeRuns, CascadeIsLeast, EndedAreAtEnds, EndedIsFree, EndsAreFree, FixedIsFree, FixingIsFree, NextKeepsOwnOrder, NoCircle, OpenHoldingsBlockAlike, OpenHoldingsDragAlike, OwedStepsAreFree, PendingIsFree, ReservedIsFree, RestartBeginsAll, RestartFollowsCompletion, RestartIsFree, RunningStepsAreFree, RunsAreLegal, RunsKeepOwnOrder, UndoneIsFree, UndosWaitByA5};
 ghost use Rattle.machine_model.specs.PieceLaws.{DroppedIsExact, OneRuns, OthersStay, OverIsFinished, ProgressGoesByTransitions, RefusedBeginsWithoutWayOn, RefusedIsNextOrGone, RunningIsNext, StatesGoByTransitions, UndosTakeBackTheLast};
 ghost use Rattle.machine_model.specs.HoldLaws.{BeginningsStop, BegunUndoAll, EndsGo, HandsReserve, NetGoesByPieces, RunningGoesByPieces, StepsTakeEffect, UndosTakeEffect};
 ghost use Rattle.machine_model.specs.CallLaws.{BeginningsOfRunsAreRuns, CallsKeepRuns, FlushesKeepWhatRuns, QueuedAreOutOrDropped, StuckIsExact, TurnsMakeRuns, VictimsRunDry};
@@ -237,4 +237,9 @@ pub fn undone_is_free()
 /// The history of each run is legal, and within the limits.
 pub fn runs_are_legal()
     ensures { RunsAreLegal }
+{}
+
+/// Once all have begun to complete, the process whose turn it is in a restart is never blocked.
+pub fn restart_is_free()
+    ensures { RestartIsFree }
 {}
