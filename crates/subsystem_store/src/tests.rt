@@ -1,7 +1,7 @@
 // What no clause says: the bytes of a file, and files that are damaged.
 use super::*;
 use process_disk::{MemoryRack, Rack};
-use resource_box::{Call, Counters, Kind, Resource};
+use resource_box::{Call, Counters, Kind, Resource, Verb};
 use std::alloc::{AllocError, Global};
 use std::process::Abort;
 use std::sync::Arc;
@@ -96,6 +96,91 @@ fn a_damage_at_each_place_has_its_answer(rt: HostRuntime) -> Result<(), Fail> {
         }
     }
     assert_eq!(rt; covered, FILE.len());
+    Ok(())
+}
+
+// Adds 5 at key 1.
+const ADD: Effect = Effect {
+    number: 0,
+    process: 1,
+    step: 0,
+    undo: false,
+    call: Call {
+        verb: Verb::Add,
+        key: 1,
+        amount: 5,
+    },
+};
+
+// Takes 5 at key 1.
+const TAKE: Effect = Effect {
+    number: 1,
+    process: 1,
+    step: 1,
+    undo: false,
+    call: Call {
+        verb: Verb::Take,
+        key: 1,
+        amount: 5,
+    },
+};
+
+// A stop within a call of the `roll_back`, calls 14 and 15, and whether it leaves the effect in doubt: `create` makes calls 0
+// and 1, the first effect 2 to 9, and preparing the second 10 to 13.
+const STOPS: [(u32, u32, u8, bool); 8] = [
+    (14, 0, 0x00, false),
+    (14, 0, 0x77, true),
+    (14, 1, 0x00, false),
+    (14, 1, 0x77, false),
+    (15, 0, 0x00, false),
+    (15, 0, 0x77, true),
+    (15, 1, 0x00, false),
+    (15, 1, 0x77, false),
+];
+
+// What the store of file 1 has in doubt beside the first effect, if it is one.
+fn doubt_beside(alloc: Global, rack: &mut MemoryRack) -> Result<Option<Option<Effect>>, Fail> {
+    let counters = Box::new(alloc, Counters::new(alloc))? as Box<dyn Resource + Send>;
+    let Ok(store) = Store::open(alloc, rack, 1, counters) else {
+        return Ok(None);
+    };
+    if store.book() != [ADD].as_slice() {
+        return Ok(None);
+    }
+    Ok(Some(store.in_doubt().copied()))
+}
+
+#[test]
+fn a_stop_within_a_roll_back_leaves_the_effect_in_doubt_or_not(
+    rt: HostRuntime,
+) -> Result<(), Fail> {
+    let alloc = rt.alloc();
+    let mut rack = MemoryRack::new(alloc, Vec::new(alloc))?;
+    let counters = Box::new(alloc, Counters::new(alloc))? as Box<dyn Resource + Send>;
+    let Ok(mut store) = Store::create(alloc, &mut rack, 1, counters) else {
+        panic!(rt; "no store");
+    };
+    let Prepare::Prepared = store.prepare(&mut rack, ADD) else {
+        panic!(rt; "not prepared");
+    };
+    store.commit(&mut rack)?;
+    let Prepare::Prepared = store.prepare(&mut rack, TAKE) else {
+        panic!(rt; "not prepared");
+    };
+    store.roll_back(&mut rack)?;
+    assert_eq!(rt; store.look(1), 5);
+    assert_eq!(rt; rack.calls(), 16);
+    for (call, keep, fill, is_left) in &STOPS {
+        assert!(rt; u64::from(*call) < rack.calls());
+        let mut left = rack.stopped(alloc, *call, *keep, *fill)?;
+        let within = *call;
+        let want = if *is_left { Some(TAKE) } else { None };
+        assert_eq!(rt;
+            doubt_beside(alloc, &mut left)?,
+            Some(want),
+            "call {within}"
+        );
+    }
     Ok(())
 }
 
