@@ -125,6 +125,46 @@ const TAKE: Effect = Effect {
     },
 };
 
+// Takes 6 at key 1.
+const TAKE_MORE: Effect = Effect {
+    number: 1,
+    process: 1,
+    step: 1,
+    undo: false,
+    call: Call {
+        verb: Verb::Take,
+        key: 1,
+        amount: 6,
+    },
+};
+
+// Whether file 1 has these bytes and no others.
+fn is_file(rack: &mut MemoryRack) -> Result<bool, Fail> {
+    let mut buf = [0; 45];
+    rack.read(1, 0, &mut buf)?;
+    Ok(rack.len(1)? == 45 && buf == FILE)
+}
+
+#[test]
+fn a_committed_effect_is_the_file_and_bars_a_take_of_more(rt: HostRuntime) -> Result<(), Fail> {
+    let alloc = rt.alloc();
+    let mut rack = MemoryRack::new(alloc, Vec::new(alloc))?;
+    let counters = Box::new(alloc, Counters::new(alloc))? as Box<dyn Resource + Send>;
+    let Ok(mut store) = Store::create(alloc, &mut rack, 1, counters) else {
+        panic!(rt; "no store");
+    };
+    let Prepare::Prepared = store.prepare(&mut rack, ADD) else {
+        panic!(rt; "not prepared");
+    };
+    store.commit(&mut rack)?;
+    assert_eq!(rt; store.look(1), 5);
+    let calls = rack.calls();
+    assert_eq!(rt; store.prepare(&mut rack, TAKE_MORE), Prepare::Barred);
+    assert_eq!(rt; rack.calls(), calls);
+    assert!(rt; is_file(&mut rack)?);
+    Ok(())
+}
+
 // A stop within a call of the `roll_back`, calls 14 and 15, and whether it leaves the effect in doubt: `create` makes calls 0
 // and 1, the first effect 2 to 9, and preparing the second 10 to 13.
 const STOPS: [(u32, u32, u8, bool); 8] = [
