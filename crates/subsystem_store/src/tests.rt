@@ -1,4 +1,4 @@
-// What no clause says: the bytes of a file, and files that are damaged.
+// What no clause says: the bytes of a file, files that are damaged, stops within a roll back, and that a box is dropped once.
 use super::*;
 use process_disk::{MemoryRack, Rack};
 use resource_box::{Call, Counters, Kind, Resource, Verb};
