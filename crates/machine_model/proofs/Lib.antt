@@ -45,3 +45,8 @@ pub mod ReservedFree
 pub mod OwedSteps
 pub mod BehindBefore
 pub mod FixingFree
+pub mod FixedFree
+pub mod EndedFree
+pub mod FreeEnds
+pub mod Paths
+pub mod NoCircle

@@ -145,6 +145,28 @@ FixingIsFree = (table : ConflictRelation) (plans : List Plan) (s : Machine) → 
     → (i k : ℕ) (x e : Entry) → IsFixing (now table s) s.courses i → IsTrue (is_active (history table s) k) → Contains (net_of (history table s) k) x
     → IsRunningStep (now table s) s.courses i e ⊎ (Contains (net_of (history table s) i) e × Contains (behind x (net (history table s))) e) → conflict table x e ≡ false
 
+-- Before a net entry that can't be undone stands no net entry of another active process that conflicts.
+abbrev pub FixedIsFree : Type 0
+FixedIsFree = (table : ConflictRelation) (plans : List Plan) (s : Machine) → IsSession table plans s
+    → (i k : ℕ) (x e : Entry) → IsTrue (is_active (history table s) i) → IsTrue (is_active (history table s) k)
+    → Contains (net_of (history table s) k) x → Contains (net_of (history table s) i) e → IsTrue (not (list_any (same_step e) (backward_entries s.courses (history table s) i)))
+    → Contains (behind x (net (history table s))) e → conflict table x e ≡ false
+
+-- Behind a net entry of an active process stands no net entry of an ended one that conflicts.
+abbrev pub EndedIsFree : Type 0
+EndedIsFree = (table : ConflictRelation) (plans : List Plan) (s : Machine) → IsSession table plans s
+    → (i k : ℕ) (x e : Entry) → IsTrue (is_active (history table s) k) → Contains (ends (history table s)) i → Contains (net_of (history table s) k) x
+    → Contains (net_of (history table s) i) e → Contains (behind x (net (history table s))) e → conflict table x e ≡ false
+
+-- The end of a process that has nothing left to undo is never blocked.
+abbrev pub EndsAreFree : Type 0
+EndsAreFree = (table : ConflictRelation) (plans : List Plan) (s : Machine) → IsSession table plans s → (i : ℕ) → IsTrue (is_active (history table s) i)
+    → (next_of s.courses (now table s) i).work ≡ End → backward_entries s.courses (history table s) i ≡ [] → block_of table s.courses (now table s) i ≡ None
+
+-- The conflict graph has no circle.
+abbrev pub NoCircle : Type 0
+NoCircle = (table : ConflictRelation) (plans : List Plan) (s : Machine) → IsSession table plans s → (i : ℕ) → reaches table (holdings s.courses (now table s)) i i ≡ false
+
 -- A step that its process owes is never blocked.
 abbrev pub OwedStepsAreFree : Type 0
 OwedStepsAreFree = (table : ConflictRelation) (plans : List Plan) (s : Machine) → IsSession table plans s → (i : ℕ) → IsTrue (is_active (history table s) i)
