@@ -47,7 +47,7 @@ is_end' End = true
 is_end' Forward = false
 is_end' Undo = false
 
-is_none-None : {X : Type 0} (o : Option X) → is_none o ≡ true → o ≡ None
+pub is_none-None : {X : Type 0} (o : Option X) → is_none o ≡ true → o ≡ None
 is_none-None None is = refl
 is_none-None (Some x) is = absurd (false≢true is)
 

@@ -50,3 +50,10 @@ pub mod EndedFree
 pub mod FreeEnds
 pub mod Paths
 pub mod NoCircle
+pub mod WaysBehind
+pub mod ClosedCascades
+pub mod PendingFree
+pub mod UndoneFree
+pub mod LegalRuns
+pub mod RunsWithin
+pub mod RestartFree
