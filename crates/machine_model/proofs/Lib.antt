@@ -59,3 +59,4 @@ pub mod LegalRuns
 pub mod RunsWithin
 pub mod RestartFree
 pub mod Going
+pub mod Causes
