@@ -32,6 +32,7 @@ pub mod OwnOrderLaws
 pub mod GonePieces
 pub mod RefusalCounts
 pub mod OneCounter
+pub mod Allowances
 pub mod StateSteps
 pub mod HoldSteps
 pub mod Restart
@@ -57,3 +58,5 @@ pub mod UndoneFree
 pub mod LegalRuns
 pub mod RunsWithin
 pub mod RestartFree
+pub mod Going
+pub mod Causes
