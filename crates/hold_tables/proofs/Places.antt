@@ -16,6 +16,10 @@ last_place-push i (first ∷ es) e = ap (later_place i first) (last_place-push i
     by true = ap Some (let size : length es + 1 ≡ length (first ∷ es) = omega arith in size)
     by false = refl
 
+-- a place or none, by a test
+abbrev first_or_none : Bool → Option ℕ
+first_or_none b = if b then Some 0 else None
+
 -- where it has no place, there is no entry
 pub no_place : (i : ℕ) (es : List Entry) → last_place i es ≡ None → has_entry i es ≡ false
 no_place i [] none = refl
@@ -23,7 +27,7 @@ no_place i (e ∷ es) none = by (last_place i es) (nat_eq e.process i) refl refl
   where
     by : (o : Option ℕ) (b : Bool) → last_place i es ≡ o → nat_eq e.process i ≡ b → later_place i e o ≡ None → (last_place i es ≡ None → has_entry i es ≡ false) → has_entry i (e ∷ es) ≡ false
     by (Some k) b o_is b_is none rest = absurd cc
-    by None true o_is b_is none rest = absurd (let no : Some 0 ≡ None = subst (λ b. (if b then Some 0 else None) ≡ None) b_is none in cc)
+    by None true o_is b_is none rest = absurd (let no : Some 0 ≡ None = subst (λ b. first_or_none b ≡ None) b_is none in cc)
     by None false o_is b_is none rest = rw b_is (rest o_is)
 
 -- without an entry of the process, all stay
@@ -34,6 +38,10 @@ none_away i (e ∷ es) none = by (nat_eq e.process i) refl (none_away i es)
     by : (b : Bool) → nat_eq e.process i ≡ b → (has_entry i es ≡ false → without_last i es ≡ es) → without_last i (e ∷ es) ≡ e ∷ es
     by true is rest = absurd (let no : true ≡ false = subst (λ b. (b || has_entry i es) ≡ false) is none in cc)
     by false is rest = rw is (ap (e ∷◌) (rest (subst (λ b. (b || has_entry i es) ≡ false) is none)))
+
+by_test : (b : Bool) (xs ys zs : List Entry) → ys ≡ zs → (if b && false then xs else ys) ≡ zs
+by_test true xs ys zs is = is
+by_test false xs ys zs is = is
 
 -- without the last entry of the process, the others stay
 pub last_away : (i : ℕ) (es : List Entry) (place : ℕ) → last_place i es ≡ Some place
@@ -47,14 +55,11 @@ last_away i (e ∷ es) place is = by (last_place i es) (nat_eq e.process i) refl
     by (Some k) b o_is b_is is rest =
         let (within, has, away) = rest k o_is in
         let same : k + 1 ≡ place = cc in
-        rw (← same, add-one, b_is, has) (omega arith, or_right b true refl, by_test b (ap (e ∷◌) away))
+        rw (← same, add-one, b_is, has) (omega arith, or_right b true refl, by_test b _ _ _ (ap (e ∷◌) away))
     by None true o_is b_is is rest =
-        let same : 0 ≡ place = let both : Some 0 ≡ Some place = subst (λ b. (if b then Some 0 else None) ≡ Some place) b_is is in cc in
+        let same : 0 ≡ place = let both : Some 0 ≡ Some place = subst (λ b. first_or_none b ≡ Some place) b_is is in cc in
         rw (← same, b_is, no_place i es o_is) (omega arith, refl, refl)
-    by None false o_is b_is is rest = absurd (let no : None ≡ Some place = subst (λ b. (if b then Some 0 else None) ≡ Some place) b_is is in cc)
-    by_test : (b : Bool) {xs : List Entry} → e ∷ without_last i es ≡ xs → (if b && false then es else e ∷ without_last i es) ≡ xs
-    by_test true is = is
-    by_test false is = is
+    by None false o_is b_is is rest = absurd (let no : None ≡ Some place = subst (λ b. first_or_none b ≡ Some place) b_is is in cc)
 
 -- what is kept of a process is what stands at its place
 pub at_place : (i : ℕ) (rows : List OpenProcess) (d : OpenProcess) → has_number i rows ≡ true → slice_index_or rows (place_of i rows) d ≡ numbered i rows

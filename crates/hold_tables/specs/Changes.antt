@@ -1,9 +1,9 @@
 -- Changes: what each call makes of the tables.
-use Rattle.std.specs.Prelude.{◌<◌, ℕ, Bool, true, false, not, ◌&&◌, List, [], ◌∷◌, ◌++◌, filter, length, nat_eq, nat_lt, if◌then◌else◌, Option, Some, None}
+use Rattle.std.specs.Prelude.{ℕ, Bool, true, false, not, ◌&&◌, List, [], ◌∷◌, ◌++◌, filter, length, map, nat_eq, nat_lt, if◌then◌else◌, Option, Some, None}
 use Rattle.std.specs.List.{list_any}
 use Rattle.process_tree.specs.declared.entry.Entry.{Entry}
 use Rattle.process_tree.specs.Conflicts.{Table}
-use Rattle.schedule_model.specs.Histories.{of_process, same_step}
+use Rattle.schedule_model.specs.Histories.{is_in, of_process}
 use Rattle.hold_tables.specs.Tables.{Tables, OpenProcess, has_number, holds_nothing, kept_of, lasts}
 
 -- the tables of no process
@@ -81,21 +81,26 @@ dropped i t = record {
   processes = filter (λ r. not (nat_eq r.process i)) t.processes;
 }
 
--- an undo of the last entry of its process, which isn't fixed
-abbrev pub undoes_last : Entry → List Entry → ℕ → Bool
-undoes_last e es fixed = nat_lt fixed (length es) && list_any (same_step e) (lasts 1 es)
+-- the steps of these entries
+abbrev pub steps_of : List Entry → List ℕ
+steps_of es = map (λ e. e.step) es
 
--- a step of a plan of so many steps that its process hasn't done
+-- an undo of the last of the process's entries, more of which are there than are fixed
+abbrev pub undoes_last : Entry → List Entry → ℕ → Bool
+undoes_last e es fixed = nat_lt fixed (length es) && is_in e.step (steps_of (lasts 1 es))
+
+-- a step of a plan of so many steps that isn't among those of the entries
 abbrev pub is_new_step : Entry → List Entry → ℕ → Bool
-is_new_step e es steps = nat_lt e.step steps && not (list_any (same_step e) es)
+is_new_step e es steps = nat_lt e.step steps && not (is_in e.step (steps_of es))
+
+-- whether an entry may come under way in a process that has these net entries
+abbrev pub can_come : List Entry → OpenProcess → Entry → Bool
+can_come es r e = if e.undo then undoes_last e es r.fixed else is_new_step e es r.steps
 
 -- the entry may come under way: an undo is of the last entry of its process, which isn't fixed, and a step is one of the plan of
 -- which the process has no net entry
 abbrev pub can_run : Tables → Entry → Bool
-can_run t e =
-    let es = of_process e.process t.net in
-    let kept = kept_of t e.process in
-    if e.undo then undoes_last e es kept.fixed else is_new_step e es kept.steps
+can_run t e = can_come (of_process e.process t.net) (kept_of t e.process) e
 
 -- whether an undo is under way
 abbrev pub undoes : Option Entry → Bool

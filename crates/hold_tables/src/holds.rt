@@ -7,7 +7,7 @@ ghost use Rattle.schedule_model.specs.Histories.{of_process};
 ghost use Rattle.hold_tables.specs.Tables.{is_open, kept_of};
 ghost use Rattle.hold_tables.specs.Changes.{none_open, opened, changed, with_running, with_pending, with_reserved, run, stopped, took_effect, all_fixed, dropped, can_run, undoes};
 ghost use Rattle.hold_tables.specs.Reading.{next_open, holder_against, leads_to};
-ghost use Rattle.hold_tables.specs.Kept.{IsKnown};
+ghost use Rattle.hold_tables.specs.Kept.{IsKnown, AreKnown};
 ghost use Rattle.hold_tables.specs.Places.{all_steps};
 
 use crate::looking::{all_steps, count_of, place_of, settle};
@@ -26,16 +26,15 @@ pub struct Holds {
 }
 
 impl Model for Holds {
-    ghost use Rattle.std.specs.Prelude.{◌≤◌, ◌+◌, length, vec_capacity};
+    ghost use Rattle.std.specs.Prelude.{vec_capacity};
     ghost use Rattle.hold_tables.specs.Tables.{Tables};
-    ghost use Rattle.hold_tables.specs.Kept.{AreTidy, room_for_all};
+    ghost use Rattle.hold_tables.specs.Kept.{Stands};
 
     ghost Value = { Tables };
 
     ghost view = { λ h. record { conflicts = h.conflicts; net = h.net.items; processes = h.rows.items } };
 
-    ghost invariant = { λ h. AreTidy (record { conflicts = h.conflicts; net = h.net.items; processes = h.rows.items })
-        × (length h.net.items + room_for_all h.net.items h.rows.items ≤ vec_capacity h.net) };
+    ghost invariant = { λ h. Stands h.conflicts h.net.items h.rows.items (vec_capacity h.net) };
 }
 
 impl Holds {
@@ -113,7 +112,7 @@ impl Holds {
     pub fn reserve(&mut self, process: u32, ops: &[(u16, u16)])
         requires open { is_open self.old process ≡ true }
         requires room { length ops.now ≤ (kept_of self.old process).steps }
-        requires known { Each (λ pair. pair.1 < operations_in self.old.conflicts) ops.now }
+        requires known { AreKnown self.old.conflicts ops.now }
         ensures { self.new ≡ changed (with_reserved ops.now) process self.old }
     {
         let at = place_of(&self.rows, process);
