@@ -113,3 +113,10 @@ stood f i table net rows at before after t capacity view opened at_is before_is 
         λ tidy. subst (λ (t : Tables). IsTidy t.conflicts t.net (kept_of t i) → (kept_of t i).process ≡ i → IsTidy t.conflicts t.net (f (kept_of t i))) (sym view) holds tidy own in
     subst (λ rows. Stands table net rows capacity) (sym (row_changed f i rows at before after has at_is before_is after_is))
     (change_stands f i table net rows capacity keeps held stands)
+
+-- the row at its place is what is kept of the process
+pub found : (i : ℕ) (table : Table) (net : List Entry) (rows : List OpenProcess) (at : ℕ) (before : OpenProcess) (t : Tables)
+    → tables table net rows ≡ t → is_open t i ≡ true → at ≡ place_of i rows → before ≡ slice_index_or rows at before → before ≡ kept_of t i
+found i table net rows at before t view opened at_is before_is =
+    let has : has_number i rows ≡ true = subst (λ t. is_open t i ≡ true) (sym view) opened in
+    before_is ∙ ap (λ n. slice_index_or rows n before) at_is ∙ at_place i rows before has ∙ ap (λ (t : Tables). kept_of t i) view

@@ -91,9 +91,10 @@ impl Holds {
         ensures { self.new ≡ took_effect process self.old }
     {
         let at = place_of(&self.rows, process);
-        if let Some(e) = self.rows[at].running() {
-            settle(&mut self.net, process, e);
-        }
+        let Some(e) = self.rows[at].running() else {
+            unreachable!();
+        };
+        settle(&mut self.net, process, e);
         self.rows[at].run(None);
     }
 
@@ -104,7 +105,8 @@ impl Holds {
         ensures { self.new ≡ all_fixed process self.old }
     {
         let at = place_of(&self.rows, process);
-        let fixed = count_of(&self.net, process);
+        let most = usize::from(self.rows[at].steps());
+        let fixed = count_of(&self.net, process).min(most);
         self.rows[at].fix(fixed as u16);
     }
 
