@@ -28,7 +28,7 @@ none_more k (x ∷ es) e other = by (nat_eq x.process k) refl (none_more k es e 
     by false test rest = rw test rest
 
 -- without its last entry, a process has the others
-pub init : List Entry → List Entry
+abbrev pub init : List Entry → List Entry
 init [] = []
 init (x ∷ []) = []
 init (x ∷ y ∷ es) = x ∷ init (y ∷ es)
@@ -47,6 +47,7 @@ flip a b is = ne_eqb b a (λ same. eqb-false a b is (sym same))
 
 -- no number stands twice, and a new one comes
 pub once_more : (ns : List ℕ) (n : ℕ) → IsDistinct nat_eq ns → is_in n ns ≡ false → IsDistinct nat_eq (ns ++ n ∷ [])
+unfolding IsDistinct
 once_more [] n once new = (tt, tt)
 once_more (m ∷ ns) n once new = by (nat_eq n m) refl (once_more ns n once.1)
   where
@@ -77,3 +78,7 @@ below n (e ∷ es) each q is = by (eqb q e.step) refl (below n es each.1 q)
 -- there are no more entries of distinct steps than steps
 pub few : (n : ℕ) (es : List Entry) → Each (λ e. e.step < n) es → IsDistinct nat_eq (steps_of es) → length es ≤ n
 few n es within once = subst (λ m. m ≤ n) (count_steps es) (length-le_from_distinct_below (steps_of es) n once (below n es within))
+
+pub length_more : (es : List Entry) (e : Entry) → length (es ++ e ∷ []) ≡ length es + 1
+length_more [] e = omega arith
+length_more (x ∷ es) e = let longer = length_more es e in omega (arith, longer)

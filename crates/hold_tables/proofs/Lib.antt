@@ -1,3 +1,4 @@
 pub mod Places
 pub mod Tidy
 pub mod Entries
+pub mod Effects

@@ -120,3 +120,11 @@ pub found : (i : ℕ) (table : Table) (net : List Entry) (rows : List OpenProces
 found i table net rows at before t view opened at_is before_is =
     let has : has_number i rows ≡ true = subst (λ t. is_open t i ≡ true) (sym view) opened in
     before_is ∙ ap (λ n. slice_index_or rows n before) at_is ∙ at_place i rows before has ∙ ap (λ (t : Tables). kept_of t i) view
+
+-- the same of the row that is in the list
+pub found_row : (i : ℕ) (rows : List OpenProcess) (at : ℕ) (before : OpenProcess) → has_number i rows ≡ true → at ≡ place_of i rows → before ≡ slice_index_or rows at before → before ≡ numbered i rows
+found_row i rows at before has at_is before_is = before_is ∙ ap (λ n. slice_index_or rows n before) at_is ∙ at_place i rows before has
+
+-- the process is among the rows
+pub is_among : (i : ℕ) (table : Table) (net : List Entry) (rows : List OpenProcess) (t : Tables) → tables table net rows ≡ t → is_open t i ≡ true → has_number i rows ≡ true
+is_among i table net rows t view opened = subst (λ t. is_open t i ≡ true) (sym view) opened
