@@ -15,7 +15,7 @@ use Rattle.hold_tables.proofs.Tidy.{KeepsPlan, tables, each_entry, each_numbered
 use Rattle.hold_tables.proofs.Entries.{each_more, few, init, length_more, none_more, one_more, steps_once}
 
 -- a process without an entry has none among its own
-none_own : (i : ℕ) (es : List Entry) → has_entry i es ≡ false → of_process i es ≡ []
+pub none_own : (i : ℕ) (es : List Entry) → has_entry i es ≡ false → of_process i es ≡ []
 none_own i [] none = refl
 none_own i (e ∷ es) none = by (nat_eq e.process i) refl (none_own i es)
   where

@@ -2,3 +2,4 @@ pub mod Places
 pub mod Tidy
 pub mod Entries
 pub mod Effects
+pub mod Opening

@@ -1,5 +1,5 @@
 // The tables of what the open processes hold.
-ghost use Rattle.std.specs.Prelude.{◌≡◌, ◌<◌, ◌≤◌, ◌+◌, ℕ, List, [], length, true, false, IfOk, OnOk, OnErr, IfSome, None, is_some, slice_index_or};
+ghost use Rattle.std.specs.Prelude.{◌≡◌, ◌<◌, ◌≤◌, ◌+◌, ℕ, List, [], length, true, false, IfOk, OnOk, OnErr, IfSome, None, is_some, vec_capacity, vec_len};
 ghost use Rattle.process_tree.specs.Blocks.{outline};
 ghost use Rattle.process_tree.specs.Conflicts.{operations_in};
 ghost use Rattle.process_tree.specs.Order.{Each};
@@ -59,8 +59,9 @@ impl Holds {
     {
         let steps = plan.tree.count();
         let row = Row::new(self.alloc, process, steps)?;
-        self.net.reserve(room_with(&self.rows, steps)?)?;
-        self.rows.push(row).map_err(|_| AllocError)
+        take_room(&mut self.net, &mut self.rows, steps)?;
+        self.rows.push_reserved(row);
+        Ok(())
     }
 
     /// The entry comes under way in its process.
@@ -138,6 +139,18 @@ impl Holds {
         self.net.retain(|e| e.process != process);
         self.rows.retain(|row| row.process() != process);
     }
+}
+
+/// Takes the room for one process more, of so many steps.
+fn take_room(net: &mut Vec<Entry>, rows: &mut Vec<Row>, steps: u16) -> Result<(), AllocError>
+    ensures same { (net.new.items ≡ net.old.items) × (rows.new.items ≡ rows.old.items) }
+    ensures capacity { vec_capacity net.old ≤ vec_capacity net.new }
+    ensures net { OnOk result (length net.old.items + (all_steps rows.old.items + steps) ≤ vec_capacity net.new) }
+    ensures rows { OnOk result (vec_len rows.new < vec_capacity rows.new) }
+{
+    let room = room_with(rows, steps)?;
+    net.reserve(room)?;
+    rows.reserve(1)
 }
 
 /// The room that the net needs with a process of so many steps.
