@@ -1,10 +1,11 @@
 -- Where something stands in a list, and what is there.
-use Rattle.std.specs.Prelude.{if◌then◌else◌, remove, slice_index_or, slice_set, is_some, nat_eq, not, ◌&&◌, ◌||◌}
+use Rattle.std.specs.Prelude.{if◌then◌else◌, map, nat_le, remove, slice_index_or, slice_set, is_some, nat_eq, not, ◌&&◌, ◌||◌}
 use Rattle.std.proofs.Common.{◌≡◌, ℕ, ◌+◌, ◌≤◌, ◌<◌, Bool, true, false, List, [], ◌∷◌, ◌++◌, length, Option, Some, None, refl, sym, ◌∙◌, ap, subst, arith, add-one}
 use Rattle.std.proofs.lemmas.Bool.{or_right}
 use Rattle.process_tree.specs.declared.entry.Entry.{Entry}
 use Rattle.hold_tables.specs.Tables.{OpenProcess, has_number, numbered}
 use Rattle.hold_tables.specs.Changes.{change_numbered, has_entry, without_last}
+use Rattle.hold_tables.specs.Reading.{least_or, lesser_number}
 use Rattle.hold_tables.specs.Places.{place_of, last_place, later_place}
 
 -- with one more at the end
@@ -80,3 +81,9 @@ changed_at f i (r ∷ rows) has = by (nat_eq r.process i) refl (changed_at f i r
         → change_numbered f i (r ∷ rows) ≡ slice_set (r ∷ rows) (place_of i (r ∷ rows)) (f (numbered i (r ∷ rows)))
     by true is rest = rw is refl
     by false is rest = rw is (ap (r ∷◌) (rest (subst (λ b. (b || has_number i rows) ≡ true) is has)))
+
+-- the least number, with one more at the end
+pub least-push : (other : Option ℕ) (from : ℕ) (rows : List OpenProcess) (r : OpenProcess)
+    → least_or other from (map (λ r. r.process) (rows ++ r ∷ [])) ≡ least_or (if nat_le from r.process then lesser_number r.process other else other) from (map (λ r. r.process) rows)
+least-push other from [] r = refl
+least-push other from (x ∷ rows) r = ap (λ o. if nat_le from x.process then lesser_number x.process o else o) (least-push other from rows r)

@@ -1,5 +1,5 @@
 -- Kept: what is true of the tables at any time.
-use Rattle.std.specs.Prelude.{◌≡◌, ◌<◌, ◌≤◌, ◌+◌, ◌-◌, ℕ, Bool, true, not, ◌&&◌, List, [], ◌∷◌, length, nat_eq, IfSome}
+use Rattle.std.specs.Prelude.{◌≡◌, ◌<◌, ◌≤◌, ◌+◌, ◌-◌, ℕ, Bool, true, not, ◌&&◌, List, [], ◌∷◌, length, nat_eq, IfSome, Option}
 use Rattle.std.specs.List.{IsDistinct}
 use Rattle.process_tree.specs.declared.entry.Entry.{Entry}
 use Rattle.process_tree.specs.Conflicts.{Table, operations_in}
@@ -15,6 +15,10 @@ IsKnown table e = e.op < operations_in table
 -- the table has each of these reserved steps' operations
 abbrev pub AreKnown : Table → List (ℕ × ℕ) → Type 0
 AreKnown table pairs = Each (λ pair. pair.1 < operations_in table) pairs
+
+-- the table has the operation of what is under way
+abbrev pub IsKnownRunning : Table → Option Entry → Type 0
+IsKnownRunning table running = IfSome running (IsKnown table)
 
 -- no number stands twice
 abbrev pub are_numbered : List OpenProcess → Bool

@@ -1,6 +1,7 @@
 -- Tables: what the open processes hold, as plain lists.
 use Rattle.std.specs.Prelude.{ℕ, Bool, ◌-◌, List, [], ◌∷◌, drop, length, map, nat_eq, if◌then◌else◌, Option, None, false}
 use Rattle.std.specs.List.{list_any}
+use Rattle.std.specs.Option.{option_to_list}
 use Rattle.process_tree.specs.declared.entry.Entry.{Entry}
 use Rattle.process_tree.specs.Conflicts.{Table}
 use Rattle.schedule_model.specs.Histories.{of_process}
@@ -56,12 +57,20 @@ lasts n xs = drop (length xs - n) xs
 abbrev pub reserved_entry : ℕ → ℕ × ℕ → Entry
 reserved_entry i pair = record { process = i; step = pair.0; op = pair.1; undo = false }
 
+-- the reserved steps of a process
+abbrev pub reserved_of : OpenProcess → List Entry
+reserved_of r = map (reserved_entry r.process) r.reserved
+
+-- what is under way in it
+abbrev pub running_of : OpenProcess → List Entry
+running_of r = option_to_list r.running
+
 -- what one process holds, its net entries being among these
 abbrev pub hold_in : List Entry → OpenProcess → Hold
 hold_in net r = record {
   process = r.process;
   running = r.running;
-  reserved = map (reserved_entry r.process) r.reserved;
+  reserved = reserved_of r;
   pending = lasts r.pending (of_process r.process net);
   backward_entries = drop r.fixed (of_process r.process net);
 }

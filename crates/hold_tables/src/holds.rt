@@ -1,8 +1,9 @@
 // The tables of what the open processes hold.
-ghost use Rattle.std.specs.Prelude.{◌≡◌, ◌<◌, ◌≤◌, ◌+◌, ℕ, List, [], length, true, false, IfOk, OnOk, OnErr, IfSome, None, is_some, vec_capacity, vec_len};
+ghost use Rattle.std.specs.Prelude.{◌≡◌, ◌<◌, ◌≤◌, ◌+◌, ℕ, List, [], length, true, false, IfOk, OnOk, OnErr, IfSome, None, is_some, slice_index_or, vec_capacity, vec_len};
 ghost use Rattle.process_tree.specs.Blocks.{outline};
 ghost use Rattle.process_tree.specs.Conflicts.{operations_in};
 ghost use Rattle.process_tree.specs.Order.{Each};
+ghost use Rattle.process_tree.specs.declared.entry.Entry.{Entry};
 ghost use Rattle.schedule_model.specs.Histories.{of_process};
 ghost use Rattle.hold_tables.specs.Tables.{is_open, kept_of};
 ghost use Rattle.hold_tables.specs.Changes.{none_open, opened, changed, with_running, with_pending, with_reserved, run, stopped, took_effect, all_fixed, dropped, can_run, undoes};
@@ -10,8 +11,10 @@ ghost use Rattle.hold_tables.specs.Reading.{next_open, holder_against, leads_to}
 ghost use Rattle.hold_tables.specs.Kept.{IsKnown, AreKnown};
 ghost use Rattle.hold_tables.specs.Places.{all_steps};
 
-use crate::looking::{all_steps, count_of, place_of, settle};
+use crate::looking::{all_steps, count_of, least_from, place_of, settle};
+use crate::against::{Sought, least_of, least_reserved, least_running};
 use crate::row::Row;
+use crate::walk::{MOST, Mark, mark_behind, next_found};
 use process_tree::{Conflicts, Entry, Plan};
 use std::alloc::{AllocError, Global};
 use std::marker::Model;
@@ -53,6 +56,7 @@ impl Holds {
     /// A process begins to hold, and all room is taken that it can need.
     pub fn open(&mut self, process: u32, plan: &Plan) -> Result<(), AllocError>
         requires closed { is_open self.old process ≡ false }
+        requires few { length self.old.processes < 256 }
         requires known { Each (λ op. op < operations_in self.old.conflicts) plan.now.ops }
         ensures opened { OnOk result (self.new ≡ opened process (length (outline plan.now.tree).steps) self.old) }
         ensures err { OnErr result (self.new ≡ self.old) }
@@ -138,6 +142,116 @@ impl Holds {
     {
         self.net.retain(|e| e.process != process);
         self.rows.retain(|row| row.process() != process);
+    }
+}
+
+impl Holds {
+    /// What is kept of a process.
+    fn row(&self, process: u32) -> &Row
+        requires open { is_open self.now process ≡ true }
+        ensures { result.now ≡ kept_of self.now process }
+    {
+        let at = place_of(&self.rows, process);
+        &self.rows[at]
+    }
+
+    /// The table of conflicts.
+    pub fn conflicts(&self) -> &Conflicts
+        ensures { result.now ≡ self.now.conflicts }
+    {
+        &self.conflicts
+    }
+
+    /// The least open process whose number is at least this.
+    pub fn next_open(&self, from: u32) -> Option<u32>
+        ensures { result ≡ next_open self.now from }
+    {
+        least_from(&self.rows, from)
+    }
+
+    /// How many net entries the open processes have.
+    pub fn net_len(&self) -> usize
+        ensures { result ≡ length self.now.net }
+    {
+        self.net.len()
+    }
+
+    /// The net entry at a place in joint order, counted from 0.
+    pub fn net_at(&self, place: usize) -> Entry
+        requires { place < length self.now.net }
+        ensures { (d : Entry) → result ≡ slice_index_or self.now.net place d }
+    {
+        self.net[place]
+    }
+
+    /// How many net entries of the process are fixed.
+    pub fn fixed(&self, process: u32) -> u16
+        requires open { is_open self.now process ≡ true }
+        ensures { result ≡ (kept_of self.now process).fixed }
+    {
+        self.row(process).fixed()
+    }
+
+    /// The number of pending entries of the process.
+    pub fn pending(&self, process: u32) -> u16
+        requires open { is_open self.now process ≡ true }
+        ensures { result ≡ (kept_of self.now process).pending }
+    {
+        self.row(process).pending()
+    }
+
+    /// What is under way in the process.
+    pub fn running(&self, process: u32) -> Option<Entry>
+        requires open { is_open self.now process ≡ true }
+        ensures { result ≡ (kept_of self.now process).running }
+    {
+        self.row(process).running()
+    }
+
+    /// How many steps of the process are reserved.
+    pub fn reserved_len(&self, process: u32) -> u16
+        requires open { is_open self.now process ≡ true }
+        ensures { result ≡ length (kept_of self.now process).reserved }
+    {
+        self.row(process).reserved_len()
+    }
+
+    /// A reserved step of the process and its operation, places from 0.
+    pub fn reserved_at(&self, process: u32, place: u16) -> (u16, u16)
+        requires open { is_open self.now process ≡ true }
+        requires within { place < length (kept_of self.now process).reserved }
+        ensures { (d : ℕ × ℕ) → result ≡ slice_index_or (kept_of self.now process).reserved place d }
+    {
+        self.row(process).reserved()[usize::from(place)]
+    }
+}
+
+impl Holds {
+    /// The least other process, and its step, that holds a net entry, has one under way, or reserves one against the operation.
+    pub fn holder_against(&self, process: u32, op: u16) -> Option<(u32, u16)>
+        requires known { op < operations_in self.now.conflicts }
+        ensures { result ≡ holder_against self.now process op }
+    {
+        let sought = Sought { process, op };
+        let reserved = least_reserved(&self.conflicts, sought, &self.rows);
+        let running = least_running(&self.conflicts, sought, &self.rows, reserved);
+        least_of(&self.conflicts, sought, &self.net, running)
+    }
+
+    /// Whether a walk of one or more arrows of the conflict graph leads from one process to another.
+    pub fn reaches(&self, from: u32, to: u32) -> bool
+        requires from_open { is_open self.now from ≡ true }
+        requires to_open { is_open self.now to ≡ true }
+        ensures { result ≡ leads_to self.now from to }
+    {
+        let mut marks = [Mark::New; MOST];
+        mark_behind(&self.conflicts, &self.net, &self.rows, from, &mut marks);
+        while let Some(at) = next_found(&marks) {
+            marks[at] = Mark::Walked;
+            let process = self.rows[at].process();
+            mark_behind(&self.conflicts, &self.net, &self.rows, process, &mut marks);
+        }
+        marks[place_of(&self.rows, to)] != Mark::New
     }
 }
 

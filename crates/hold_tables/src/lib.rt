@@ -6,9 +6,14 @@
 //! Each call changes what it names and nothing else. `new` and `open` alone take memory.
 #![tactic(auto)]
 
+mod against;
 mod holds;
 mod looking;
 mod row;
+mod walk;
 
 pub use holds::Holds;
+#[cfg(test)]
+mod tests;
+
 pub use machine_model::{Admitted, Blocked, Rule};

@@ -1,9 +1,10 @@
 // What is looked up in the rows and in the net.
-ghost use Rattle.std.specs.Prelude.{◌≡◌, ◌<◌, ◌≤◌, ◌+◌, length, true, false, IfSome, Some, vec_len, vec_capacity};
+ghost use Rattle.std.specs.Prelude.{◌≡◌, ◌<◌, ◌≤◌, ◌+◌, length, true, false, IfSome, Some, map, nat_le, if◌then◌else◌, vec_len, vec_capacity};
 ghost use Rattle.schedule_model.specs.Histories.{of_process};
 ghost use Rattle.hold_tables.specs.Tables.{has_number};
 ghost use Rattle.hold_tables.specs.Places.{place_of, last_place, all_steps};
 ghost use Rattle.hold_tables.specs.Changes.{net_after, without_last};
+ghost use Rattle.hold_tables.specs.Reading.{lesser_number, least_from};
 
 use crate::row::Row;
 use process_tree::Entry;
@@ -89,4 +90,34 @@ fn remove_last(net: &mut Vec<Entry>, process: u32)
     if let Some(place) = last_place(net, process) {
         net.remove(place);
     }
+}
+
+/// The lesser of a number and of another, if there is one.
+fn lesser_number(n: u32, other: Option<u32>) -> Option<u32>
+    ensures { result ≡ lesser_number n other }
+{
+    match other {
+        Some(m) if m < n => other,
+        _ => Some(n),
+    }
+}
+
+/// The lesser of a number that is at least this, and of another.
+fn least_with(n: u32, from: u32, other: Option<u32>) -> Option<u32>
+    ensures { result ≡ (if nat_le from n then lesser_number n other else other) }
+{
+    if from <= n { lesser_number(n, other) } else { other }
+}
+
+/// The least number of a process that is at least this.
+pub fn least_from(rows: &[Row], from: u32) -> Option<u32>
+    ensures { result ≡ least_from from (map (λ r. r.process) rows.now) }
+{
+    let mut rest = rows;
+    let mut least = None;
+    'rows: while let Some((last, front)) = rest.split_last() {
+        least = least_with(last.process(), from, least);
+        rest = front;
+    }
+    least
 }

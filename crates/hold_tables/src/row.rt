@@ -19,14 +19,14 @@ pub struct Row {
 }
 
 impl Model for Row {
-    ghost use Rattle.std.specs.Prelude.{◌≤◌, vec_capacity};
+    ghost use Rattle.std.specs.Prelude.{◌≤◌, length, vec_capacity};
     ghost use Rattle.hold_tables.specs.Tables.{OpenProcess};
 
     ghost Value = { OpenProcess };
 
     ghost view = { λ r. record { process = r.process; steps = r.steps; running = r.running; reserved = r.reserved.items; fixed = r.fixed; pending = r.pending } };
 
-    ghost invariant = { λ r. r.steps ≤ vec_capacity r.reserved };
+    ghost invariant = { λ r. (length r.reserved.items ≤ r.steps) × (r.steps ≤ vec_capacity r.reserved) };
 }
 
 impl Row {
@@ -79,6 +79,13 @@ impl Row {
         ensures { result.now ≡ self.now.reserved }
     {
         &self.reserved
+    }
+
+    pub fn reserved_len(&self) -> u16
+        ensures { result ≡ length self.now.reserved }
+    {
+        let len = self.reserved.len().min(usize::from(self.steps));
+        len as u16
     }
 
     pub fn run(&mut self, running: Option<Entry>)
