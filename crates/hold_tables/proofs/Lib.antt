@@ -3,3 +3,4 @@ pub mod Tidy
 pub mod Entries
 pub mod Effects
 pub mod Opening
+pub mod Least

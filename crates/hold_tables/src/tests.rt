@@ -13,7 +13,7 @@ fn step(alloc: Global, name: &[u8]) -> Result<Step, Fail> {
         op: Name::new(alloc, b"op")?,
         key: 0,
         amount: 0,
-        tries: 1,
+        tries: 3,
         undo_tries: 3,
         refuse: 0,
         undo_refuse: 0,
