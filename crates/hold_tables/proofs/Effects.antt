@@ -61,8 +61,10 @@ other_without i k (e ∷ es) other = by (nat_eq e.process i) (has_entry i es) re
   where
     away : e.process ≡ i → nat_eq e.process k ≡ false
     away is = ne_eqb e.process k (λ same. eqb-false k i other (sym same ∙ is))
+
     kept : of_process k (without_last i es) ≡ of_process k es → of_process k (e ∷ without_last i es) ≡ of_process k (e ∷ es)
     kept rest = same_head k e (without_last i es) es rest
+
     by : (b h : Bool) → nat_eq e.process i ≡ b → has_entry i es ≡ h → of_process k (without_last i es) ≡ of_process k es
         → of_process k (without_last i (e ∷ es)) ≡ of_process k (e ∷ es)
     by true true is has rest = rw (is, has) (kept rest)
@@ -248,16 +250,19 @@ step_stands i table net rows capacity e forward has under (tidy, room) =
     let longer_own : length (of_process r.process (net ++ e ∷ [])) ≡ length es + 1 = ap length mine ∙ length_more es e in
     let longer_es = length_more es e in
     let total : length (net ++ e ∷ []) + room_for_all (net ++ e ∷ []) rows ≤ capacity = omega (arith, shift, few_now, longer, longer_own, longer_es, room) in
-    let stands : Stands table (net ++ e ∷ []) (change_numbered (with_running None) i rows) capacity = (record {
-      numbered = numbered_stay (with_running None) i rows keeps ∙ tidy.numbered;
-      of_open = each_more (λ e. has_number e.process (change_numbered (with_running None) i rows) ≡ true) net e
-          (each_entry net (λ e is. numbers_stay (with_running None) i e.process rows keeps ∙ is) tidy.of_open)
-          (numbers_stay (with_running None) i e.process rows keeps ∙ subst (λ k. has_number k rows ≡ true) (sym is_i) has);
-      known = each_more (IsKnown table) net e tidy.known run.2;
-      tidy = each_shift (IsTidy table net) (IsTidy table (net ++ e ∷ [])) (with_running None) i rows tidy.numbered
-          (λ r other is. subst (λ es. IsTidyAmong table es r) (sym (same r.process other)) is)
-          (λ is. subst (λ es. IsTidyAmong table es (with_running None r)) (sym mine) now) tidy.tidy;
-    }, subst (λ n. length (net ++ e ∷ []) + n ≤ capacity) (sym (room_stays (with_running None) i (net ++ e ∷ []) rows keeps)) total) in
+    let stands : Stands table (net ++ e ∷ []) (change_numbered (with_running None) i rows) capacity = (
+      record {
+        numbered = numbered_stay (with_running None) i rows keeps ∙ tidy.numbered;
+        of_open = each_more (λ e. has_number e.process (change_numbered (with_running None) i rows) ≡ true) net e
+            (each_entry net (λ e is. numbers_stay (with_running None) i e.process rows keeps ∙ is) tidy.of_open)
+            (numbers_stay (with_running None) i e.process rows keeps ∙ subst (λ k. has_number k rows ≡ true) (sym is_i) has);
+        known = each_more (IsKnown table) net e tidy.known run.2;
+        tidy = each_shift (IsTidy table net) (IsTidy table (net ++ e ∷ [])) (with_running None) i rows tidy.numbered
+            (λ r other is. subst (λ es. IsTidyAmong table es r) (sym (same r.process other)) is)
+            (λ is. subst (λ es. IsTidyAmong table es (with_running None r)) (sym mine) now) tidy.tidy;
+      },
+      subst (λ n. length (net ++ e ∷ []) + n ≤ capacity) (sym (room_stays (with_running None) i (net ++ e ∷ []) rows keeps)) total,
+    ) in
     (omega (arith, shift, few_now, longer_own, longer_es, room), stands)
 
 -- an undo of process i took effect, and the tables stand
@@ -278,16 +283,18 @@ undo_stands i table net rows capacity e undo has under (tidy, room) =
     let now = tidy_undo table es r e undo under own in
     let shift = room_shift i net after rows tidy.numbered has same in
     let less_own : length (of_process r.process after) ≡ length es - 1 = ap length mine ∙ count_init es in
-    let total : length after + room_for_all after rows ≤ capacity = omega (arith, shift, less, less_own, some, room) in
-    (record {
-      numbered = numbered_stay (with_running None) i rows keeps ∙ tidy.numbered;
-      of_open = each_without (λ e. has_number e.process (change_numbered (with_running None) i rows) ≡ true) i net
-          (each_entry net (λ e is. numbers_stay (with_running None) i e.process rows keeps ∙ is) tidy.of_open);
-      known = each_without (IsKnown table) i net tidy.known;
-      tidy = each_shift (IsTidy table net) (IsTidy table after) (with_running None) i rows tidy.numbered
-          (λ r other is. subst (λ es. IsTidyAmong table es r) (sym (same r.process other)) is)
-          (λ is. subst (λ es. IsTidyAmong table es (with_running None r)) (sym mine) now) tidy.tidy;
-    }, subst (λ n. length after + n ≤ capacity) (sym (room_stays (with_running None) i after rows keeps)) total)
+    let total : length after + room_for_all after rows ≤ capacity = omega (arith, shift, less, less_own, some, room) in (
+      record {
+        numbered = numbered_stay (with_running None) i rows keeps ∙ tidy.numbered;
+        of_open = each_without (λ e. has_number e.process (change_numbered (with_running None) i rows) ≡ true) i net
+            (each_entry net (λ e is. numbers_stay (with_running None) i e.process rows keeps ∙ is) tidy.of_open);
+        known = each_without (IsKnown table) i net tidy.known;
+        tidy = each_shift (IsTidy table net) (IsTidy table after) (with_running None) i rows tidy.numbered
+            (λ r other is. subst (λ es. IsTidyAmong table es r) (sym (same r.process other)) is)
+            (λ is. subst (λ es. IsTidyAmong table es (with_running None r)) (sym mine) now) tidy.tidy;
+      },
+      subst (λ n. length after + n ≤ capacity) (sym (room_stays (with_running None) i after rows keeps)) total,
+    )
 
 -- what is under way in process i took effect, and the tables stand
 pub effect_stands : (i : ℕ) (table : Table) (net : List Entry) (rows : List OpenProcess) (capacity : ℕ) (e : Entry) → has_number i rows ≡ true

@@ -72,13 +72,15 @@ open_stands i steps table net rows capacity after closed room (tidy, was) =
     let new = holds_nothing i steps in
     let more = room_more net rows new in
     let most = room_at_most net rows in
-    let own : of_process i net ≡ [] = none_own i net (none_of_closed i rows net closed tidy.of_open) in
-    (record {
-      numbered = numbered_more rows new closed tidy.numbered;
-      of_open = each_entry net (λ e is. number_more e.process rows new ∙ or_left (has_number e.process rows) (nat_eq i e.process) is) tidy.of_open;
-      known = tidy.known;
-      tidy = each_more (IsTidy table net) rows new tidy.tidy (subst (λ es. IsTidyAmong table es new) (sym own) (tidy_nothing table i steps));
-    }, omega (arith, more, most, room))
+    let own : of_process i net ≡ [] = none_own i net (none_of_closed i rows net closed tidy.of_open) in (
+      record {
+        numbered = numbered_more rows new closed tidy.numbered;
+        of_open = each_entry net (λ e is. number_more e.process rows new ∙ or_left (has_number e.process rows) (nat_eq i e.process) is) tidy.of_open;
+        known = tidy.known;
+        tidy = each_more (IsTidy table net) rows new tidy.tidy (subst (λ es. IsTidyAmong table es new) (sym own) (tidy_nothing table i steps));
+      },
+      omega (arith, more, most, room),
+    )
 
 -- room that was taken in vain leaves the tables standing
 pub stands_on : (table : Table) (net : List Entry) (rows : List OpenProcess) (capacity after : ℕ) → capacity ≤ after → Stands table net rows capacity → Stands table net rows after
@@ -162,10 +164,12 @@ room_others i net (r ∷ rows) = by (nat_eq r.process i) refl (room_others i net
 pub drop_stands : (i : ℕ) (table : Table) (net : List Entry) (rows : List OpenProcess) (capacity : ℕ) → Stands table net rows capacity → Stands table (others i net) (other_processes i rows) capacity
 drop_stands i table net rows capacity (tidy, room) =
     let less = room_others i net rows in
-    let fewer_entries = fewer i net in
-    (record {
-      numbered = numbered_others i rows tidy.numbered;
-      of_open = open_others i rows net tidy.of_open;
-      known = each_other (IsKnown table) (λ e. not (nat_eq e.process i)) net tidy.known;
-      tidy = tidy_others i table net rows tidy.tidy;
-    }, omega (arith, less, fewer_entries, room))
+    let fewer_entries = fewer i net in (
+      record {
+        numbered = numbered_others i rows tidy.numbered;
+        of_open = open_others i rows net tidy.of_open;
+        known = each_other (IsKnown table) (λ e. not (nat_eq e.process i)) net tidy.known;
+        tidy = tidy_others i table net rows tidy.tidy;
+      },
+      omega (arith, less, fewer_entries, room),
+    )

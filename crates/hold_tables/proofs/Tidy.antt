@@ -75,12 +75,15 @@ each_entry (e ∷ es) holds each = (holds e each.0, each_entry es holds each.1)
 pub change_stands : (f : OpenProcess → OpenProcess) (i : ℕ) (table : Table) (net : List Entry) (rows : List OpenProcess) (capacity : ℕ)
     → KeepsPlan f → (IsTidy table net (numbered i rows) → IsTidy table net (f (numbered i rows)))
     → Stands table net rows capacity → Stands table net (change_numbered f i rows) capacity
-change_stands f i table net rows capacity keeps holds (tidy, room) = (record {
-  numbered = numbered_stay f i rows keeps ∙ tidy.numbered;
-  of_open = each_entry net (λ e is. numbers_stay f i e.process rows keeps ∙ is) tidy.of_open;
-  known = tidy.known;
-  tidy = each_changed (IsTidy table net) f i rows holds tidy.tidy;
-}, subst (λ n. length net + n ≤ capacity) (sym (room_stays f i net rows keeps)) room)
+change_stands f i table net rows capacity keeps holds (tidy, room) = (
+  record {
+    numbered = numbered_stay f i rows keeps ∙ tidy.numbered;
+    of_open = each_entry net (λ e is. numbers_stay f i e.process rows keeps ∙ is) tidy.of_open;
+    known = tidy.known;
+    tidy = each_changed (IsTidy table net) f i rows holds tidy.tidy;
+  },
+  subst (λ n. length net + n ≤ capacity) (sym (room_stays f i net rows keeps)) room,
+)
 
 -- the row at the place of a process, changed, is the change of what is kept of it
 pub row_changed : (f : OpenProcess → OpenProcess) (i : ℕ) (rows : List OpenProcess) (at : ℕ) (before after : OpenProcess) → has_number i rows ≡ true
@@ -110,7 +113,7 @@ stood f i table net rows at before after t capacity view opened at_is before_is 
     let has : has_number i rows ≡ true = subst (λ t. is_open t i ≡ true) (sym view) opened in
     let own = (each_numbered (IsTidy table net) i rows has stands.0.tidy).1 in
     let held : IsTidy table net (numbered i rows) → IsTidy table net (f (numbered i rows)) =
-        λ tidy. subst (λ (t : Tables). IsTidy t.conflicts t.net (kept_of t i) → (kept_of t i).process ≡ i → IsTidy t.conflicts t.net (f (kept_of t i))) (sym view) holds tidy own in
+    λ tidy. subst (λ (t : Tables). IsTidy t.conflicts t.net (kept_of t i) → (kept_of t i).process ≡ i → IsTidy t.conflicts t.net (f (kept_of t i))) (sym view) holds tidy own in
     subst (λ rows. Stands table net rows capacity) (sym (row_changed f i rows at before after has at_is before_is after_is))
     (change_stands f i table net rows capacity keeps held stands)
 

@@ -37,7 +37,12 @@ fn lesser(a: (u32, u16), other: Option<(u32, u16)>) -> Option<(u32, u16)>
 }
 
 /// The least of an entry, where it is against the operation, and of another.
-fn least_with(c: &Conflicts, sought: Sought, e: Entry, other: Option<(u32, u16)>) -> Option<(u32, u16)>
+fn least_with(
+    c: &Conflicts,
+    sought: Sought,
+    e: Entry,
+    other: Option<(u32, u16)>,
+) -> Option<(u32, u16)>
     requires op { sought.op < operations_in c.now }
     requires known { IsKnown c.now e }
     ensures { result ≡ (if is_against c.now sought.process sought.op e then lesser (e.process, e.step) other else other) }
@@ -50,7 +55,12 @@ fn least_with(c: &Conflicts, sought: Sought, e: Entry, other: Option<(u32, u16)>
 }
 
 /// The least of these that are against the operation, and of another.
-pub fn least_of(c: &Conflicts, sought: Sought, entries: &[Entry], other: Option<(u32, u16)>) -> Option<(u32, u16)>
+pub fn least_of(
+    c: &Conflicts,
+    sought: Sought,
+    entries: &[Entry],
+    other: Option<(u32, u16)>,
+) -> Option<(u32, u16)>
     requires op { sought.op < operations_in c.now }
     requires known { Each (IsKnown c.now) entries.now }
     ensures { result ≡ least_step other (filter (is_against c.now sought.process sought.op) entries.now) }
@@ -65,7 +75,13 @@ pub fn least_of(c: &Conflicts, sought: Sought, entries: &[Entry], other: Option<
 }
 
 /// The same of the reserved steps of one process.
-fn least_of_pairs(c: &Conflicts, sought: Sought, process: u32, pairs: &[(u16, u16)], other: Option<(u32, u16)>) -> Option<(u32, u16)>
+fn least_of_pairs(
+    c: &Conflicts,
+    sought: Sought,
+    process: u32,
+    pairs: &[(u16, u16)],
+    other: Option<(u32, u16)>,
+) -> Option<(u32, u16)>
     requires op { sought.op < operations_in c.now }
     requires known { AreKnown c.now pairs.now }
     ensures { result ≡ least_step other (filter (is_against c.now sought.process sought.op) (map (reserved_entry process) pairs.now)) }
@@ -73,7 +89,12 @@ fn least_of_pairs(c: &Conflicts, sought: Sought, process: u32, pairs: &[(u16, u1
     let mut rest = pairs;
     let mut least = other;
     'pairs: while let Some((last, front)) = rest.split_last() {
-        let e = Entry { process, step: last.0, op: last.1, undo: false };
+        let e = Entry {
+            process,
+            step: last.0,
+            op: last.1,
+            undo: false,
+        };
         least = least_with(c, sought, e, least);
         rest = front;
     }
@@ -96,7 +117,12 @@ pub fn least_reserved(c: &Conflicts, sought: Sought, rows: &[Row]) -> Option<(u3
 }
 
 /// The least of what is under way in a process, where it is against the operation, and of another.
-fn least_with_running(c: &Conflicts, sought: Sought, running: Option<Entry>, other: Option<(u32, u16)>) -> Option<(u32, u16)>
+fn least_with_running(
+    c: &Conflicts,
+    sought: Sought,
+    running: Option<Entry>,
+    other: Option<(u32, u16)>,
+) -> Option<(u32, u16)>
     requires op { sought.op < operations_in c.now }
     requires known { IsKnownRunning c.now running }
     ensures { result ≡ least_step other (filter (is_against c.now sought.process sought.op) (option_to_list running)) }
@@ -108,7 +134,12 @@ fn least_with_running(c: &Conflicts, sought: Sought, running: Option<Entry>, oth
 }
 
 /// The least of what is under way in these processes and is against the operation, and of another.
-pub fn least_running(c: &Conflicts, sought: Sought, rows: &[Row], other: Option<(u32, u16)>) -> Option<(u32, u16)>
+pub fn least_running(
+    c: &Conflicts,
+    sought: Sought,
+    rows: &[Row],
+    other: Option<(u32, u16)>,
+) -> Option<(u32, u16)>
     requires op { sought.op < operations_in c.now }
     requires known { Each (λ r. IsKnownRunning c.now r.running) rows.now }
     ensures { result ≡ least_step other (filter (is_against c.now sought.process sought.op) (flat_map running_of rows.now)) }

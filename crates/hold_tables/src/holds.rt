@@ -11,8 +11,8 @@ ghost use Rattle.hold_tables.specs.Reading.{next_open, holder_against, leads_to}
 ghost use Rattle.hold_tables.specs.Kept.{IsKnown, AreKnown};
 ghost use Rattle.hold_tables.specs.Places.{all_steps};
 
-use crate::looking::{all_steps, count_of, least_from, place_of, settle};
 use crate::against::{Sought, least_of, least_reserved, least_running};
+use crate::looking::{all_steps, count_of, least_from, place_of, settle};
 use crate::row::Row;
 use crate::walk::{MOST, Mark, mark_behind, next_found};
 use process_tree::{Conflicts, Entry, Plan};

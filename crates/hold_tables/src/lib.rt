@@ -13,6 +13,7 @@ mod row;
 mod walk;
 
 pub use holds::Holds;
+
 #[cfg(test)]
 mod tests;
 

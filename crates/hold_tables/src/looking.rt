@@ -106,7 +106,11 @@ fn lesser_number(n: u32, other: Option<u32>) -> Option<u32>
 fn least_with(n: u32, from: u32, other: Option<u32>) -> Option<u32>
     ensures { result ≡ (if nat_le from n then lesser_number n other else other) }
 {
-    if from <= n { lesser_number(n, other) } else { other }
+    if from <= n {
+        lesser_number(n, other)
+    } else {
+        other
+    }
 }
 
 /// The least number of a process that is at least this.

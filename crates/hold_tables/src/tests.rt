@@ -63,7 +63,9 @@ fn opened(alloc: Global) -> Result<Holds, Fail> {
 }
 
 #[test]
-fn a_step_takes_effect_behind_the_others_and_an_undo_takes_the_last_away(rt: HostRuntime) -> Result<(), Fail> {
+fn a_step_takes_effect_behind_the_others_and_an_undo_takes_the_last_away(
+    rt: HostRuntime,
+) -> Result<(), Fail> {
     let alloc = rt.alloc();
     let mut holds = opened(alloc)?;
     for e in [entry(2, 0), entry(1, 0), entry(2, 1)] {
@@ -71,7 +73,10 @@ fn a_step_takes_effect_behind_the_others_and_an_undo_takes_the_last_away(rt: Hos
         holds.take_effect(e.process);
     }
     assert_eq!(rt; holds.net_len(), 3);
-    holds.run(Entry { undo: true, ..entry(2, 1) });
+    holds.run(Entry {
+        undo: true,
+        ..entry(2, 1)
+    });
     holds.take_effect(2);
     assert_eq!(rt; holds.net_len(), 2);
     assert_eq!(rt; holds.net_at(1), entry(1, 0));
@@ -88,7 +93,14 @@ fn walks_lead_along_arrows_alone(rt: HostRuntime) -> Result<(), Fail> {
         holds.take_effect(e.process);
     }
     holds.run(entry(3, 0));
-    for (from, to, leads) in [(2, 1, true), (2, 3, true), (1, 3, true), (1, 2, false), (3, 1, false), (2, 2, false)] {
+    for (from, to, leads) in [
+        (2, 1, true),
+        (2, 3, true),
+        (1, 3, true),
+        (1, 2, false),
+        (3, 1, false),
+        (2, 2, false),
+    ] {
         assert_eq!(rt; holds.reaches(from, to), leads);
     }
     Ok(())

@@ -1,11 +1,10 @@
-use Rattle.std.proofs.Common.{◌≡◌, ℕ, List, sym, ap, ◌∙◌, subst, None}
-use Rattle.std.specs.Prelude.{filter, flat_map, map}
+use Rattle.std.proofs.Common.{List, sym, ap, ◌∙◌, subst}
+use Rattle.std.specs.Prelude.{filter}
 use Rattle.process_tree.specs.declared.entry.Entry.{Entry}
 use Rattle.process_tree.specs.Order.{Each}
-use Rattle.hold_tables.specs.Tables.{OpenProcess, reserved_entry, reserved_of, running_of}
-use Rattle.hold_tables.specs.Kept.{IsKnown, IsKnownRunning, AreKnown}
+use Rattle.hold_tables.specs.Kept.{IsKnown}
 use Rattle.hold_tables.specs.Reading.{is_against, least_step}
-use Rattle.hold_tables.proofs.Least.{each_front, least_push, pairs_push, rows_push, with_one}
+use Rattle.hold_tables.proofs.Least.{each_front, least_push}
 use Rattle.hold_tables.proofs.against.least_of.Goals as goal
 
 pub entries-preserved : goal.entries-preserved

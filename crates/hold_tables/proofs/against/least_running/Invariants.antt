@@ -1,9 +1,9 @@
 use Rattle.std.proofs.Common.{◌≡◌, length}
 use Rattle.process_tree.specs.Order.{Each}
-use Rattle.hold_tables.specs.Tables.{OpenProcess, reserved_entry, reserved_of, running_of}
-use Rattle.hold_tables.specs.Kept.{IsKnown, IsKnownRunning, AreKnown}
+use Rattle.hold_tables.specs.Tables.{OpenProcess, running_of}
+use Rattle.hold_tables.specs.Kept.{IsKnownRunning}
 use Rattle.hold_tables.specs.Reading.{is_against, least_step}
-use Rattle.std.specs.Prelude.{filter, flat_map, map}
+use Rattle.std.specs.Prelude.{filter, flat_map}
 use Rattle.hold_tables.proofs.against.least_running.Given as goal
 
 abbrev pub invariant-rows : goal.invariant-rows

@@ -1,9 +1,8 @@
-use Rattle.std.proofs.Common.{◌≡◌, ◌≤◌, ◌<◌, false, List, length, min, refl, sym, ◌∙◌, ap, subst, arith}
+use Rattle.std.proofs.Common.{◌≡◌, ◌≤◌, length, refl, ◌∙◌, ap, subst, arith}
 use Rattle.schedule_model.specs.Histories.{of_process}
-use Rattle.process_tree.specs.declared.entry.Entry.{Entry}
 use Rattle.hold_tables.specs.Tables.{OpenProcess, Tables, numbered, kept_of}
 use Rattle.hold_tables.specs.Changes.{with_fixed}
-use Rattle.hold_tables.specs.Kept.{IsTidy, IsTidyAmong}
+use Rattle.hold_tables.specs.Kept.{IsTidy}
 use Rattle.hold_tables.specs.Places.{place_of}
 use Rattle.hold_tables.proofs.Tidy.{each_numbered, found_row, is_among, returned, stood}
 use Rattle.hold_tables.proofs.Effects.{few_own, tidy_fixed}

@@ -1,10 +1,10 @@
-use Rattle.std.proofs.Common.{List, Option, None, sym, ap, ◌∙◌, subst}
+use Rattle.std.proofs.Common.{List, None, sym, ap, ◌∙◌}
 use Rattle.std.specs.Prelude.{filter, flat_map}
 use Rattle.process_tree.specs.declared.entry.Entry.{Entry}
 use Rattle.hold_tables.specs.Tables.{Tables, OpenProcess, reserved_of, running_of}
 use Rattle.hold_tables.specs.Reading.{holder_against, is_against, least_step}
 use Rattle.hold_tables.proofs.Tidy.{tables}
-use Rattle.hold_tables.proofs.Least.{all_known, holder-is}
+use Rattle.hold_tables.proofs.Least.{holder-is}
 use Rattle.hold_tables.proofs.holds.Holds.holder_against.Goals as goal
 
 pub returns : goal.returns

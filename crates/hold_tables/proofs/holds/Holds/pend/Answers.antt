@@ -1,5 +1,4 @@
-use Rattle.std.proofs.Common.{refl, sym, ◌∙◌, ap, subst, None, Some}
-use Rattle.hold_tables.specs.Tables.{OpenProcess, Tables}
+use Rattle.std.proofs.Common.{refl, ◌∙◌, ap}
 use Rattle.hold_tables.specs.Changes.{with_pending}
 use Rattle.hold_tables.specs.Places.{place_of}
 use Rattle.hold_tables.proofs.Tidy.{returned, stood}

@@ -1,4 +1,4 @@
-use Rattle.std.proofs.Common.{◌≤◌, length, refl, sym, ◌∙◌, ap, subst, None, Some}
+use Rattle.std.proofs.Common.{◌≤◌, length, refl, sym, ◌∙◌, ap, subst}
 use Rattle.hold_tables.specs.Tables.{OpenProcess}
 use Rattle.hold_tables.specs.Changes.{with_reserved}
 use Rattle.hold_tables.specs.Places.{place_of}

@@ -1,4 +1,4 @@
-use Rattle.std.proofs.Common.{◌≡◌, true, refl, sym, ◌∙◌, ap, subst, None, Some}
+use Rattle.std.proofs.Common.{◌≡◌, true, refl, sym, ◌∙◌, ap, subst, Some}
 use Rattle.hold_tables.specs.Tables.{kept_of}
 use Rattle.hold_tables.specs.Changes.{with_running, can_come}
 use Rattle.schedule_model.specs.Histories.{of_process}

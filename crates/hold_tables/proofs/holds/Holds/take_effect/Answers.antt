@@ -1,9 +1,7 @@
-use Rattle.std.proofs.Common.{◌≡◌, ◌<◌, true, false, Option, Some, None, List, length, refl, sym, ◌∙◌, ap, subst, arith}
+use Rattle.std.proofs.Common.{None, sym, ◌∙◌, ap, arith}
 use Rattle.std.specs.Prelude.{is_some}
-use Rattle.process_tree.specs.declared.entry.Entry.{Entry}
 use Rattle.hold_tables.specs.Tables.{OpenProcess}
 use Rattle.hold_tables.specs.Changes.{with_running}
-use Rattle.hold_tables.specs.Kept.{Stands}
 use Rattle.hold_tables.specs.Places.{place_of}
 use Rattle.hold_tables.proofs.Tidy.{found, found_row, is_among, row_changed}
 use Rattle.hold_tables.proofs.Effects.{effect_returned, effect_stands, step_stands}
