@@ -4,3 +4,4 @@ pub mod Entries
 pub mod Effects
 pub mod Opening
 pub mod Least
+pub mod Reaching
