@@ -65,15 +65,21 @@ room_at_most : (net : List Entry) (rows : List OpenProcess) → room_for_all net
 room_at_most net [] = omega arith
 room_at_most net (r ∷ rows) = let rest = room_at_most net rows in omega (arith, rest)
 
+one_row_more : (rows : List OpenProcess) (r : OpenProcess) → length (rows ++ r ∷ []) ≡ length rows + 1
+one_row_more [] r = omega arith
+one_row_more (x ∷ rows) r = let more = one_row_more rows r in omega (arith, more)
+
 -- a process opens where the net has room for all steps
-pub open_stands : (i steps : ℕ) (table : Table) (net : List Entry) (rows : List OpenProcess) (capacity after : ℕ) → has_number i rows ≡ false
+pub open_stands : (i steps : ℕ) (table : Table) (net : List Entry) (rows : List OpenProcess) (capacity after : ℕ) → has_number i rows ≡ false → length rows < 256
     → length net + (all_steps rows + steps) ≤ after → Stands table net rows capacity → Stands table net (rows ++ holds_nothing i steps ∷ []) after
-open_stands i steps table net rows capacity after closed room (tidy, was) =
+open_stands i steps table net rows capacity after closed few room (tidy, was) =
+    let more_rows = one_row_more rows (holds_nothing i steps) in
     let new = holds_nothing i steps in
     let more = room_more net rows new in
     let most = room_at_most net rows in
     let own : of_process i net ≡ [] = none_own i net (none_of_closed i rows net closed tidy.of_open) in (
       record {
+        few = omega (arith, more_rows, few);
         numbered = numbered_more rows new closed tidy.numbered;
         of_open = each_entry net (λ e is. number_more e.process rows new ∙ or_left (has_number e.process rows) (nat_eq i e.process) is) tidy.of_open;
         known = tidy.known;
@@ -108,6 +114,14 @@ fewer i [] = omega arith
 fewer i (e ∷ net) = by (nat_eq e.process i) (fewer i net)
   where
     by : (b : Bool) → length (others i net) ≤ length net → length (if not b then e ∷ others i net else others i net) ≤ length (e ∷ net)
+    by true rest = omega (arith, rest)
+    by false rest = omega (arith, rest)
+
+fewer_rows : (i : ℕ) (rows : List OpenProcess) → length (other_processes i rows) ≤ length rows
+fewer_rows i [] = omega arith
+fewer_rows i (r ∷ rows) = by (nat_eq r.process i) (fewer_rows i rows)
+  where
+    by : (b : Bool) → length (other_processes i rows) ≤ length rows → length (if not b then r ∷ other_processes i rows else other_processes i rows) ≤ length (r ∷ rows)
     by true rest = omega (arith, rest)
     by false rest = omega (arith, rest)
 
@@ -166,6 +180,7 @@ drop_stands i table net rows capacity (tidy, room) =
     let less = room_others i net rows in
     let fewer_entries = fewer i net in (
       record {
+        few = let less = fewer_rows i rows in let few = tidy.few in omega (arith, less, few);
         numbered = numbered_others i rows tidy.numbered;
         of_open = open_others i rows net tidy.of_open;
         known = each_other (IsKnown table) (λ e. not (nat_eq e.process i)) net tidy.known;

@@ -56,6 +56,15 @@ numbered_stay f i (r ∷ rows) keeps = by (nat_eq r.process i) refl (numbers_sta
     by true is has rest = rw is (ap (λ n. not (has_number n rows) && are_numbered rows) (keeps r).0)
     by false is has rest = rw (is, has, rest) refl
 
+-- there are as many
+pub as_many : (f : OpenProcess → OpenProcess) (i : ℕ) (rows : List OpenProcess) → length (change_numbered f i rows) ≡ length rows
+as_many f i [] = refl
+as_many f i (r ∷ rows) = by (nat_eq r.process i) refl (as_many f i rows)
+  where
+    by : (b : Bool) → nat_eq r.process i ≡ b → length (change_numbered f i rows) ≡ length rows → length (change_numbered f i (r ∷ rows)) ≡ length (r ∷ rows)
+    by true is rest = rw is (omega arith)
+    by false is rest = rw is (omega (arith, rest))
+
 -- the room that is wanted stays
 pub room_stays : (f : OpenProcess → OpenProcess) (i : ℕ) (net : List Entry) (rows : List OpenProcess) → KeepsPlan f
     → room_for_all net (change_numbered f i rows) ≡ room_for_all net rows
@@ -77,6 +86,7 @@ pub change_stands : (f : OpenProcess → OpenProcess) (i : ℕ) (table : Table) 
     → Stands table net rows capacity → Stands table net (change_numbered f i rows) capacity
 change_stands f i table net rows capacity keeps holds (tidy, room) = (
   record {
+    few = subst (λ n. n ≤ 256) (sym (as_many f i rows)) tidy.few;
     numbered = numbered_stay f i rows keeps ∙ tidy.numbered;
     of_open = each_entry net (λ e is. numbers_stay f i e.process rows keeps ∙ is) tidy.of_open;
     known = tidy.known;
