@@ -8,7 +8,7 @@ ghost use Rattle.schedule_model.specs.Histories.{of_process};
 ghost use Rattle.hold_tables.specs.Tables.{is_open, kept_of};
 ghost use Rattle.hold_tables.specs.Changes.{none_open, opened, changed, with_running, with_pending, with_reserved, run, stopped, took_effect, all_fixed, dropped, can_run, undoes};
 ghost use Rattle.hold_tables.specs.Reading.{next_open, holder_against, leads_to};
-ghost use Rattle.hold_tables.specs.Kept.{IsKnown, AreKnown};
+ghost use Rattle.hold_tables.specs.Kept.{IsKnown, AreKnown, AreTidy};
 ghost use Rattle.hold_tables.specs.Places.{all_steps};
 
 use crate::against::{Sought, least_of, least_reserved, least_running};
@@ -157,7 +157,8 @@ impl Holds {
 
     /// The table of conflicts.
     pub fn conflicts(&self) -> &Conflicts
-        ensures { result.now ≡ self.now.conflicts }
+        ensures table { result.now ≡ self.now.conflicts }
+        ensures tidy { AreTidy self.now }
     {
         &self.conflicts
     }
