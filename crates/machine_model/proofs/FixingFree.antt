@@ -5,6 +5,7 @@ use Rattle.std.proofs.lemmas.Bool.{and_parts, eq-eqb, false≢true}
 use Rattle.process_tree.specs.declared.entry.Entry.{Entry}
 use Rattle.process_tree.specs.declared.plan.Plan.{Plan}
 use Rattle.process_tree.specs.Recovery.{class_of, committing}
+use Rattle.schedule_model.specs.declared.event.Event.{Event}
 use Rattle.schedule_model.specs.Course.{Course, courses_of, shape}
 use Rattle.schedule_model.specs.Conflict.{ConflictRelation, IsSymmetric, conflict}
 use Rattle.schedule_model.specs.Histories.{doing, is_active, is_in, net, net_of, steps_of}
@@ -19,17 +20,17 @@ use Rattle.schedule_model.proofs.Conflicts.{conflict-flipped}
 use Rattle.schedule_model.proofs.Members.{Among, among-from_contains, in_filter, none-left, none-right}
 use Rattle.schedule_model.proofs.Started.{among_net_of, in_net_of}
 use Rattle.machine_model.specs.declared.kept.Kept.{Kept}
-use Rattle.machine_model.specs.declared.kept.Kept.TheVariants.{Hand, Effect}
+use Rattle.machine_model.specs.declared.kept.Kept.TheVariants.{Hand}
 use Rattle.machine_model.specs.declared.kept.Work.{Work}
 use Rattle.machine_model.specs.declared.kept.Work.TheVariants.{Forward, Undo, End}
 use Rattle.machine_model.specs.Progress.{same_work}
 use Rattle.machine_model.specs.Moment.{Moment, Piece, opening_moment}
-use Rattle.machine_model.specs.Pieces.{piece_of, running_of}
+use Rattle.machine_model.specs.Pieces.{running_of}
 use Rattle.machine_model.specs.State.{against_work, block_of, holdings, is_exhausted, next_of}
 use Rattle.machine_model.specs.Advance.{Machine, advance, advance_all}
 use Rattle.machine_model.specs.Runs.{goes_on_from, may_be_kept, now}
 use Rattle.machine_model.specs.Laws.{FixingIsFree, IsFixing, IsRunningStep, IsSession}
-use Rattle.machine_model.proofs.BehindBefore.{behind_before}
+use Rattle.machine_model.proofs.BehindBefore.{StepNow, behind_before}
 use Rattle.machine_model.proofs.Clear.{none-clear}
 use Rattle.machine_model.proofs.HandedPieces.{RanOrHanded, handed_clear, ran_before}
 use Rattle.machine_model.proofs.HoldChanges.{effect_stops}
@@ -46,7 +47,7 @@ is_end' End = true
 is_end' Forward = false
 is_end' Undo = false
 
-is_none-None : {X : Type 0} (o : Option X) → is_none o ≡ true → o ≡ None
+pub is_none-None : {X : Type 0} (o : Option X) → is_none o ≡ true → o ≡ None
 is_none-None None is = refl
 is_none-None (Some x) is = absurd (false≢true is)
 
@@ -61,7 +62,7 @@ handed_end table courses m n i b may =
     nothing-from_clear (against_end table (holdings courses m) i)
     (eq-eqb (length (all_clashes (against_end table (holdings courses m) i))) 0 (ap (λ w. length (all_clashes (against_work table courses (holdings courses m) m.events i t.step w))) (same_work-is End t.work task.0) ∙ none))
 
-handed_active : (table : ConflictRelation) (courses : List Course) (m : Moment) (n i b : ℕ) (w : Work) → may_be_kept table courses m (Hand n i b w) ≡ true → is_active m.events i ≡ true
+pub handed_active : (table : ConflictRelation) (courses : List Course) (m : Moment) (n i b : ℕ) (w : Work) → may_be_kept table courses m (Hand n i b w) ≡ true → is_active m.events i ≡ true
 handed_active table courses m n i b w may =
     let parts = hand_parts table courses m (record { number = n; process = i; step = b; work = w }) may in
     (and_parts (is_active m.events i) (is_none (running_of m i)) (and_parts (is_active m.events i && is_none (running_of m i)) (not (is_exhausted courses m i))
@@ -149,14 +150,14 @@ module _ (table : ConflictRelation) (symmetric : IsSymmetric table) (plans : Lis
             by_at (inl (q, run, work, is)) = by_x was_x (q, before ∙ ap Some (same_Some p q (sym runs ∙ run)), work, is)
             by_at (inr (here, back)) = by_back (behind_before table plans good m k x e own may (among_net_of (advance table ds m k).events j x there).0 back)
               where
-                by_back : (Among x (net m.events) × Among e (behind x (net m.events))) ⊎ ((n : ℕ) × (p' : Piece) × (k ≡ Effect n) × (piece_of m.kept n ≡ Some p') × (e ≡ doing ds p'.process p'.step)) → conflict table x e ≡ false
-                by_back (inl (x_in, back')) =
+                by_back : Among x (net m.events) × (Among e (behind x (net m.events)) ⊎ StepNow ds m k e) → conflict table x e ≡ false
+                by_back (x_in, inl back') =
                     let done = in_net_of m.events j x x_in (among_net_of (advance table ds m k).events j x there).1 in
                     facts.fixing i j x e (p, before, kind') (active' (inl done)) done (inr (subst (Among e) same here, back'))
-                by_back (inr (n, q, event, found, is)) =
-                    let its : q.process ≡ i = ap (λ (y : Entry). y.process) (sym is) ∙ (among_net_of (advance table ds m k).events i e here).1 in
-                    absurd (none-some p (sym (ap (running_of (advance table ds m k)) (sym its) ∙ (ap (λ y. running_of (advance table ds m y) q.process) event
-                    ∙ effect_stops table ds m n q own.order.tidy (ap (may_be_kept table ds m) (sym event) ∙ may) found)) ∙ runs))
+                by_back (x_in, inr step) =
+                    let its : step.piece.process ≡ i = ap (λ (y : Entry). y.process) (sym step.is) ∙ (among_net_of (advance table ds m k).events i e here).1 in
+                    absurd (none-some p (sym (ap (running_of (advance table ds m k)) (sym its) ∙ (ap (λ y. running_of (advance table ds m y) step.piece.process) step.is_effect
+                    ∙ effect_stops table ds m step.number step.piece own.order.tidy (ap (may_be_kept table ds m) (sym step.is_effect) ∙ may) step.found)) ∙ runs))
         by_source (inr handed) =
             let hand = handed.0 ∙ ap (λ y. Hand p.number y p.step p.work) handed.1 in
             let may' = ap (may_be_kept table ds m) (sym hand) ∙ may in
@@ -166,11 +167,15 @@ module _ (table : ConflictRelation) (symmetric : IsSymmetric table) (plans : Lis
             fixing_handed m p.number i p.step j p.work x e own may' kind' other' (handed_active table ds m p.number i p.step p.work may') x_in
             (⊎_elim (λ s. let q = same_Some s.0 p (sym s.1 ∙ ap (λ y. running_of (advance table ds m y) i) (sym hand) ∙ runs) in inl (ap (λ (y : Piece). y.work) (sym q) ∙ s.2, s.3 ∙ ap (λ (y : Piece). doing ds i y.step) q)) (λ old. inr old) at')
 
-  advance-fixing_free : (m : Moment) (k : Kept) → FixingFree m → may_be_kept table ds m k ≡ true → FixingFree (advance table ds m k)
+  pub advance-fixing_free : (m : Moment) (k : Kept) → FixingFree m → may_be_kept table ds m k ≡ true → FixingFree (advance table ds m k)
   advance-fixing_free m k facts may = record {
     running = advance-running_free table symmetric plans good m k facts.running may;
     fixing = λ i j x e f other there at. fixing_after m k facts may i j x e f other there at;
   }
+
+  -- at the opening nothing runs
+  pub opening-fixing_free : (h : List Event) → InOwnOrder table plans good (opening_moment h) → FixingFree (opening_moment h)
+  opening-fixing_free h own = record { running = record { own = own; free = λ i k d e a b. absurd (none-some a.0 a.1) }; fixing = λ i k x e f other there at. absurd (none-some f.0 f.1) }
 
 pub session-fixing_free : (table : ConflictRelation) (plans : List Plan) (s : Machine) (session : IsSession table plans s) → FixingFree table session.symmetric plans session.good (now table s)
 session-fixing_free table plans s session =
@@ -178,7 +183,7 @@ session-fixing_free table plans s session =
     subst (λ xs. FixingFree table session.symmetric plans session.good (advance_all table xs (opening_moment s.opening) s.kept)) (sym session.courses)
     (goes_on-keeps table (courses_of plans) (FixingFree table session.symmetric plans session.good) (advance-fixing_free table session.symmetric plans session.good) (opening_moment s.opening) s.kept
     (ap (λ xs. goes_on_from table xs (opening_moment s.opening) s.kept) (sym session.courses) ∙ session.run)
-    (record { running = record { own = opening; free = λ i k d e a b. absurd (none-some a.0 a.1) }; fixing = λ i k x e f other there at. absurd (none-some f.0 f.1) }))
+    (opening-fixing_free table session.symmetric plans session.good s.opening opening))
 
 pub fixing_is_free : FixingIsFree
 fixing_is_free table plans s session i k x e fixing other there at =

@@ -86,7 +86,7 @@ module _ (table : ConflictRelation) (courses : List Course) (m : Moment) where
       (own, sym (ap (is_active m.events) own) ∙ Each-find (λ (q : Piece). is_active m.events q.process ≡ true) (λ q. eqb q.process k) m.out p active' is)
 
   -- its hold is among the holdings
-  among_holds : (k : ℕ) → is_active m.events k ≡ true → Among (hold_of courses m k) (holdings courses m).holds
+  pub among_holds : (k : ℕ) → is_active m.events k ≡ true → Among (hold_of courses m k) (holdings courses m).holds
   among_holds k goes = in_map (hold_of courses m) k (active m.events) (among-is_in k (active m.events) (is_active-is_in m.events k ∙ goes))
 
   -- so is the step that it runs

@@ -72,7 +72,7 @@ without_step q x ys true at rest = rest
 without_step q x ys false at rest = ap (λ t. cond t (Some x) (find q ys)) at ∙ rest
 
 -- among those that fail none passes
-find_without : {X : Type 0} (q : X → Bool) (xs : List X) → find q (filter (λ x. not (q x)) xs) ≡ None
+pub find_without : {X : Type 0} (q : X → Bool) (xs : List X) → find q (filter (λ x. not (q x)) xs) ≡ None
 find_without q [] = refl
 find_without q (x ∷ xs) = without_step q x (filter (λ y. not (q y)) xs) (q x) refl (find_without q xs)
 

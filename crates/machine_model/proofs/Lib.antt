@@ -45,3 +45,15 @@ pub mod ReservedFree
 pub mod OwedSteps
 pub mod BehindBefore
 pub mod FixingFree
+pub mod FixedFree
+pub mod EndedFree
+pub mod FreeEnds
+pub mod Paths
+pub mod NoCircle
+pub mod WaysBehind
+pub mod ClosedCascades
+pub mod PendingFree
+pub mod UndoneFree
+pub mod LegalRuns
+pub mod RunsWithin
+pub mod RestartFree

@@ -62,7 +62,7 @@ owed_own courses h i b reserved r is = absurd is
 owed_own courses h i b undoable r is = absurd is
 
 -- a hand is to one process
-abbrev hand_process : Kept → ℕ
+abbrev pub hand_process : Kept → ℕ
 hand_process (Hand n p s w) = p
 hand_process (Start i) = 0
 hand_process (Effect n) = 0

@@ -90,7 +90,7 @@ stays_least s false false = stays_by s (way_on s) refl
 pub staying-least : (s : Progress) → fixed_len s.shape s.net ≤ staying s
 staying-least s = stays_least s s.begun (is_whole s.shape s.net)
 
-drop_past : {X : Type 0} (n : ℕ) (xs : List X) → length xs ≤ n → drop n xs ≡ []
+pub drop_past : {X : Type 0} (n : ℕ) (xs : List X) → length xs ≤ n → drop n xs ≡ []
 drop_past zero [] few = refl
 drop_past (suc n) [] few = refl
 drop_past zero (x ∷ xs) few = absurd (omega arith)

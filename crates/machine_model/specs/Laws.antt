@@ -145,6 +145,39 @@ FixingIsFree = (table : ConflictRelation) (plans : List Plan) (s : Machine) → 
     → (i k : ℕ) (x e : Entry) → IsFixing (now table s) s.courses i → IsTrue (is_active (history table s) k) → Contains (net_of (history table s) k) x
     → IsRunningStep (now table s) s.courses i e ⊎ (Contains (net_of (history table s) i) e × Contains (behind x (net (history table s))) e) → conflict table x e ≡ false
 
+-- Before a net entry that can't be undone stands no net entry of another active process that conflicts.
+abbrev pub FixedIsFree : Type 0
+FixedIsFree = (table : ConflictRelation) (plans : List Plan) (s : Machine) → IsSession table plans s
+    → (i k : ℕ) (x e : Entry) → IsTrue (is_active (history table s) i) → IsTrue (is_active (history table s) k)
+    → Contains (net_of (history table s) k) x → Contains (net_of (history table s) i) e → IsTrue (not (list_any (same_step e) (backward_entries s.courses (history table s) i)))
+    → Contains (behind x (net (history table s))) e → conflict table x e ≡ false
+
+-- Behind a net entry of an active process stands no net entry of an ended one that conflicts.
+abbrev pub EndedIsFree : Type 0
+EndedIsFree = (table : ConflictRelation) (plans : List Plan) (s : Machine) → IsSession table plans s
+    → (i k : ℕ) (x e : Entry) → IsTrue (is_active (history table s) k) → Contains (ends (history table s)) i → Contains (net_of (history table s) k) x
+    → Contains (net_of (history table s) i) e → Contains (behind x (net (history table s))) e → conflict table x e ≡ false
+
+-- The end of a process that has nothing left to undo is never blocked.
+abbrev pub EndsAreFree : Type 0
+EndsAreFree = (table : ConflictRelation) (plans : List Plan) (s : Machine) → IsSession table plans s → (i : ℕ) → IsTrue (is_active (history table s) i)
+    → (next_of s.courses (now table s) i).work ≡ End → backward_entries s.courses (history table s) i ≡ [] → block_of table s.courses (now table s) i ≡ None
+
+-- A pending entry conflicts with no running step.
+abbrev pub PendingIsFree : Type 0
+PendingIsFree = (table : ConflictRelation) (plans : List Plan) (s : Machine) → IsSession table plans s
+    → (i k : ℕ) (x e : Entry) → IsTrue (is_active (history table s) i) → Contains (pending_of s.courses (now table s) i) x → IsRunningStep (now table s) s.courses k e → conflict table x e ≡ false
+
+-- While the undo of x runs, behind x stands no net entry of another process that conflicts.
+abbrev pub UndoneIsFree : Type 0
+UndoneIsFree = (table : ConflictRelation) (plans : List Plan) (s : Machine) → IsSession table plans s
+    → (i : ℕ) (p : Piece) (e : Entry) → running_of (now table s) i ≡ Some p → p.work ≡ Undo
+    → Contains (behind (doing s.courses i p.step) (net (history table s))) e → conflict table (doing s.courses i p.step) e ≡ false
+
+-- The conflict graph has no circle.
+abbrev pub NoCircle : Type 0
+NoCircle = (table : ConflictRelation) (plans : List Plan) (s : Machine) → IsSession table plans s → (i : ℕ) → reaches table (holdings s.courses (now table s)) i i ≡ false
+
 -- A step that its process owes is never blocked.
 abbrev pub OwedStepsAreFree : Type 0
 OwedStepsAreFree = (table : ConflictRelation) (plans : List Plan) (s : Machine) → IsSession table plans s → (i : ℕ) → IsTrue (is_active (history table s) i)
@@ -209,6 +242,11 @@ RestartFollowsCompletion = (table : ConflictRelation) (plans : List Plan) (s : M
     → (i : ℕ) → next_in_restart s.courses (now table s) ≡ Some i
     → let t = next_of s.courses (now table s) i in
     (rest : List Event) × (completion s.courses (history table s) ≡ event_by s.courses i t.step t.work ∷ rest)
+
+-- Once all have begun to complete, whoever comes next in a restart is never blocked.
+abbrev pub RestartIsFree : Type 0
+RestartIsFree = (table : ConflictRelation) (plans : List Plan) (s : Machine) → IsSession table plans s → AllHaveBegun (now table s)
+    → (i : ℕ) → next_in_restart s.courses (now table s) ≡ Some i → block_of table s.courses (now table s) i ≡ None
 
 -- A piece is blocked exactly where something stands against it.
 abbrev pub BlockedWhereSomethingStands : Type 0

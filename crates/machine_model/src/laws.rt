@@ -1,5 +1,5 @@
 // The laws of the machine that are proved: each function says one, and does nothing.
-ghost use Rattle.machine_model.specs.Laws.{BlockedWhereSomethingStands, CallsMakeRuns, CascadeIsLeast, EndedAreAtEnds, FixingIsFree, NextKeepsOwnOrder, OpenHoldingsBlockAlike, OpenHoldingsDragAlike, OwedStepsAreFree, ReservedIsFree, RestartBeginsAll, RestartFollowsCompletion, RunningStepsAreFree, RunsKeepOwnOrder, UndosWaitByA5};
+ghost use Rattle.machine_model.specs.Laws.{BlockedWhereSomethingStands, CallsMakeRuns, CascadeIsLeast, EndedAreAtEnds, EndedIsFree, EndsAreFree, FixedIsFree, FixingIsFree, NextKeepsOwnOrder, NoCircle, OpenHoldingsBlockAlike, OpenHoldingsDragAlike, OwedStepsAreFree, PendingIsFree, ReservedIsFree, RestartBeginsAll, RestartFollowsCompletion, RestartIsFree, RunningStepsAreFree, RunsAreLegal, RunsKeepOwnOrder, UndoneIsFree, UndosWaitByA5};
 ghost use Rattle.machine_model.specs.PieceLaws.{DroppedIsExact, OneRuns, OthersStay, OverIsFinished, ProgressGoesByTransitions, RefusedBeginsWithoutWayOn, RefusedIsNextOrGone, RunningIsNext, StatesGoByTransitions, UndosTakeBackTheLast};
 ghost use Rattle.machine_model.specs.HoldLaws.{BeginningsStop, BegunUndoAll, EndsGo, HandsReserve, NetGoesByPieces, RunningGoesByPieces, StepsTakeEffect, UndosTakeEffect};
 ghost use Rattle.machine_model.specs.CallLaws.{BeginningsOfRunsAreRuns, CallsKeepRuns, FlushesKeepWhatRuns, QueuedAreOutOrDropped, StuckIsExact, TurnsMakeRuns, VictimsRunDry};
@@ -202,4 +202,44 @@ pub fn owed_steps_are_free()
 /// While a piece runs that fixes what its process has done, no net entry of another active process is in the way.
 pub fn fixing_is_free()
     ensures { FixingIsFree }
+{}
+
+/// Before what a process can't undo any more stands no net entry of another active process that conflicts.
+pub fn fixed_is_free()
+    ensures { FixedIsFree }
+{}
+
+/// Behind what an active process has done stands nothing of an ended one that conflicts.
+pub fn ended_is_free()
+    ensures { EndedIsFree }
+{}
+
+/// The end of a process that has nothing left to undo is never blocked.
+pub fn ends_are_free()
+    ensures { EndsAreFree }
+{}
+
+/// The conflict graph has no circle.
+pub fn no_circle()
+    ensures { NoCircle }
+{}
+
+/// What is to be undone conflicts with no step that is under way.
+pub fn pending_is_free()
+    ensures { PendingIsFree }
+{}
+
+/// While the undo of a step runs, what stands behind the step doesn't conflict with it.
+pub fn undone_is_free()
+    ensures { UndoneIsFree }
+{}
+
+/// The history of each run is legal, and within the limits.
+pub fn runs_are_legal()
+    ensures { RunsAreLegal }
+{}
+
+/// Once all have begun to complete, the process whose turn it is in a restart is never blocked.
+pub fn restart_is_free()
+    ensures { RestartIsFree }
 {}

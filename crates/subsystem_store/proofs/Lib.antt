@@ -1,4 +1,7 @@
+mod BodiesBack
+mod BooksBack
 mod Fitting
+mod GoodBooks
 mod Places
 mod Records
 mod Reading

@@ -31,24 +31,36 @@ yes_by_not false is = absurd cc
 pub same_text-true : (xs ys : List ℕ) → same_text xs ys ≡ true → xs ≡ ys
 same_text-true xs ys same = (bytes_eq-Decides xs ys).0 same
 
--- a body of a prepared effect is the bytes of it,
-pub prepared_is : (body : List ℕ) (e : Effect) → record_of body ≡ Some (Prepared e) → prepared_bytes e ≡ body
+-- What a body of a prepared effect is: the bytes of it, with its fields at their places and its amount within the limit.
+pub record IsBodyOf (e : Effect) (body : List ℕ) : Type 0 where
+  pub bytes : prepared_bytes e ≡ body
+  pub at : effect_at body ≡ e
+  pub amount : is_amount e.call.amount ≡ true
+
+-- a body that is read as a prepared effect is one of it,
+pub prepared_is : (body : List ℕ) (e : Effect) → record_of body ≡ Some (Prepared e) → IsBodyOf e body
 prepared_is body e is = by (length body == 25) (length body == 5) is
   where
     Said : Option Record → Type 0
     Said o = o ≡ Some (Prepared e)
 
-    tested : (same within : Bool) → same_text (prepared_bytes (effect_at body)) body ≡ same → Said (by_tests body same within) → prepared_bytes e ≡ body
-    tested true true same is = let one : effect_at body ≡ e = cc in ap prepared_bytes (sym one) ∙ same_text-true (prepared_bytes (effect_at body)) body same
-    tested true false same is = absurd cc
-    tested false within same is = absurd cc
+    tested : (same within : Bool) → same_text (prepared_bytes (effect_at body)) body ≡ same → is_amount (effect_at body).call.amount ≡ within → Said (by_tests body same within) → IsBodyOf e body
+    tested true true same within is =
+        let one : effect_at body ≡ e = cc in
+        record {
+          bytes = ap prepared_bytes (sym one) ∙ same_text-true (prepared_bytes (effect_at body)) body same;
+          at = one;
+          amount = ap (λ (f : Effect). is_amount f.call.amount) (sym one) ∙ within;
+        }
+    tested true false same within is = absurd cc
+    tested false amount same within is = absurd cc
 
-    other : (same : Bool) → Said (if same then Some (Committed (number_of body)) else None) → prepared_bytes e ≡ body
+    other : (same : Bool) → Said (if same then Some (Committed (number_of body)) else None) → IsBodyOf e body
     other true is = absurd cc
     other false is = absurd cc
 
-    by : (long short : Bool) → Said (if long then prepared_of body else (if short then committed_of body else None)) → prepared_bytes e ≡ body
-    by true short is = tested (same_text (prepared_bytes (effect_at body)) body) (is_amount (effect_at body).call.amount) refl is
+    by : (long short : Bool) → Said (if long then prepared_of body else (if short then committed_of body else None)) → IsBodyOf e body
+    by true short is = tested (same_text (prepared_bytes (effect_at body)) body) (is_amount (effect_at body).call.amount) refl refl is
     by false true is = other (same_text (committed_bytes (number_of body)) body) is
     by false false is = absurd cc
 

@@ -2,6 +2,7 @@ pub mod Answers
 pub mod Bodies
 pub mod Errors
 mod Examples
+pub mod Laws
 pub mod Matching
 pub mod Opened
 pub mod Order

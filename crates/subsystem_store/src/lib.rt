@@ -2,19 +2,22 @@
 //!
 //! An effect is prepared, and then committed or rolled back; a crash leaves the store before or after each of these. The
 //! committed effects are the book, and the box of an open store has the values of its book (`specs/Values`). `specs/Bodies`
-//! says which bytes stand for each record, `specs/Order` in which order they come and what is refused of a file first, and
-//! `specs/Opened` what an open store stands for. The layer above decides what becomes of an effect that is in doubt.
+//! says which bytes stand for each record, `specs/Order` in which order they come and what is refused of a file first,
+//! `specs/Opened` what an open store stands for, and `specs/Laws` which books a store may have; each is read back as that book.
+//! The layer above decides what becomes of an effect that is in doubt.
 #![tactic(auto)]
 
 mod account;
 mod bodies;
 mod effect;
 mod errors;
+mod laws;
 mod matching;
 mod store;
 
 pub use effect::Effect;
 pub use errors::{Prepare, StoreError, StoreRefused};
+pub use laws::{books_are_read_back, calls_make_good_books, effects_fit_their_bytes};
 pub use store::Store;
 
 #[cfg(test)]

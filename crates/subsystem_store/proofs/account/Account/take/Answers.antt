@@ -13,7 +13,7 @@ returns-in_ok-take_prepared-in-Some-Prepared-clause-bodies g c =
     let ok = c.in_ok-take_prepared-in-Some-Prepared.ensures.ok in
     let was : List Effect = c.args.self.now.book in
     ap (λ o. store_bodies c.take_prepared.new.self.book o) ok.2 ∙ ap (λ (b : List Effect). store_bodies b (Some effect)) ok.3
-    ∙ bodies_prepared was effect ∙ ap (λ b. store_bodies was None ++ b ∷ []) (prepared_is c.args.body.now effect said)
+    ∙ bodies_prepared was effect ∙ ap (λ b. store_bodies was None ++ b ∷ []) (prepared_is c.args.body.now effect said).bytes
     ∙ ap (λ (o : Option Effect). store_bodies was o ++ c.args.body.now ∷ []) (sym ok.1)
 
 pub returns-in_ok-take_committed-in-Some-Committed-clause-bodies : goal.returns-in_ok-take_committed-in-Some-Committed-clause-bodies
