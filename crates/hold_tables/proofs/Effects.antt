@@ -1,8 +1,8 @@
 -- What took effect: the net with one entry more or less, and the tables that stand.
-use Rattle.std.proofs.Common.{◌≡◌, ℕ, zero, suc, ◌+◌, ◌-◌, ◌≤◌, ◌<◌, Bool, true, false, not, ◌&&◌, ◌||◌, List, [], ◌∷◌, ◌++◌, length, Option, Some, None, sym, refl, ap, ◌∙◌, subst, arith, eqb}
+use Rattle.std.proofs.Common.{◌≡◌, ℕ, ◌+◌, ◌-◌, ◌≤◌, ◌<◌, Bool, true, false, not, ◌&&◌, ◌||◌, List, [], ◌∷◌, ◌++◌, length, Option, Some, None, sym, refl, ap, ◌∙◌, subst, arith}
 use Rattle.std.specs.Prelude.{IfSome, nat_eq, nat_lt, if◌then◌else◌}
 use Rattle.std.specs.List.{IsDistinct, AllByRecursion}
-use Rattle.std.proofs.lemmas.Bool.{eqb-true, eqb-false, eq-eqb, ne_eqb, not-true, ltb-true}
+use Rattle.std.proofs.lemmas.Bool.{eqb-true, eqb-false, ne_eqb, not-true, ltb-true}
 use Rattle.process_tree.specs.declared.entry.Entry.{Entry}
 use Rattle.process_tree.specs.Conflicts.{Table}
 use Rattle.process_tree.specs.Order.{Each}
@@ -10,8 +10,8 @@ use Rattle.schedule_model.specs.Histories.{is_in, of_process}
 use Rattle.schedule_model.proofs.Legal.{both-left, both-right}
 use Rattle.hold_tables.specs.Tables.{Tables, OpenProcess, has_number, lasts, numbered}
 use Rattle.hold_tables.specs.Changes.{can_come, change_numbered, has_entry, is_new_step, net_after, steps_of, took_effect, undoes, undoes_last, with_fixed, with_running, without_last}
-use Rattle.hold_tables.specs.Kept.{IsKnown, IsTidy, IsTidyAmong, AreTidy, Stands, are_numbered, room_for, room_for_all}
-use Rattle.hold_tables.proofs.Tidy.{as_many, KeepsPlan, tables, each_entry, each_numbered, numbered_stay, numbers_stay, room_stays}
+use Rattle.hold_tables.specs.Kept.{IsKnown, IsTidy, IsTidyAmong, Stands, are_numbered, room_for, room_for_all}
+use Rattle.hold_tables.proofs.Tidy.{KeepsPlan, tables, each_entry, each_numbered, numbered_stay, numbers_stay, room_stays}
 use Rattle.hold_tables.proofs.Entries.{each_more, few, init, length_more, none_more, one_more, steps_once}
 
 -- a process without an entry has none among its own
@@ -252,7 +252,6 @@ step_stands i table net rows capacity e forward has under (tidy, room) =
     let total : length (net ++ e ∷ []) + room_for_all (net ++ e ∷ []) rows ≤ capacity = omega (arith, shift, few_now, longer, longer_own, longer_es, room) in
     let stands : Stands table (net ++ e ∷ []) (change_numbered (with_running None) i rows) capacity = (
       record {
-        few = subst (λ n. n ≤ 256) (sym (as_many (with_running None) i rows)) tidy.few;
         numbered = numbered_stay (with_running None) i rows keeps ∙ tidy.numbered;
         of_open = each_more (λ e. has_number e.process (change_numbered (with_running None) i rows) ≡ true) net e
             (each_entry net (λ e is. numbers_stay (with_running None) i e.process rows keeps ∙ is) tidy.of_open)
@@ -286,7 +285,6 @@ undo_stands i table net rows capacity e undo has under (tidy, room) =
     let less_own : length (of_process r.process after) ≡ length es - 1 = ap length mine ∙ count_init es in
     let total : length after + room_for_all after rows ≤ capacity = omega (arith, shift, less, less_own, some, room) in (
       record {
-        few = subst (λ n. n ≤ 256) (sym (as_many (with_running None) i rows)) tidy.few;
         numbered = numbered_stay (with_running None) i rows keeps ∙ tidy.numbered;
         of_open = each_without (λ e. has_number e.process (change_numbered (with_running None) i rows) ≡ true) i net
             (each_entry net (λ e is. numbers_stay (with_running None) i e.process rows keeps ∙ is) tidy.of_open);

@@ -1,13 +1,13 @@
 -- The entries of one process among those of all, as the net changes.
-use Rattle.std.proofs.Common.{◌≡◌, ℕ, zero, suc, ◌+◌, ◌-◌, ◌≤◌, ◌<◌, Bool, true, false, not, ◌&&◌, ◌||◌, List, [], ◌∷◌, ◌++◌, length, sym, refl, ap, ◌∙◌, subst, arith, eqb}
-use Rattle.std.specs.Prelude.{nat_eq, filter, map, if◌then◌else◌}
+use Rattle.std.proofs.Common.{◌≡◌, ℕ, suc, ◌+◌, ◌≤◌, ◌<◌, Bool, true, false, ◌||◌, List, [], ◌∷◌, ◌++◌, length, sym, refl, ap, subst, arith, eqb}
+use Rattle.std.specs.Prelude.{nat_eq}
 use Rattle.std.specs.List.{IsDistinct, AllByRecursion, list_any}
 use Rattle.std.proofs.lemmas.Bool.{eqb-true, eqb-false, eq-eqb, ne_eqb}
 use Rattle.std.proofs.lemmas.Map.Steps.{length-le_from_distinct_below}
 use Rattle.process_tree.specs.declared.entry.Entry.{Entry}
 use Rattle.process_tree.specs.Order.{Each}
 use Rattle.schedule_model.specs.Histories.{is_in, of_process}
-use Rattle.hold_tables.specs.Changes.{has_entry, without_last, steps_of}
+use Rattle.hold_tables.specs.Changes.{steps_of}
 
 -- an entry more at the end, of that process
 pub one_more : (i : ℕ) (es : List Entry) (e : Entry) → e.process ≡ i → of_process i (es ++ e ∷ []) ≡ of_process i es ++ e ∷ []

@@ -1,18 +1,18 @@
 -- A process opens, and a process is dropped: the tables stand.
-use Rattle.std.proofs.Common.{◌≡◌, ℕ, zero, suc, ◌+◌, ◌-◌, ◌≤◌, ◌<◌, Bool, true, false, not, ◌&&◌, ◌||◌, List, [], ◌∷◌, ◌++◌, length, None, sym, refl, ap, ◌∙◌, subst, arith}
+use Rattle.std.proofs.Common.{◌≡◌, ℕ, ◌+◌, ◌≤◌, Bool, true, false, not, ◌||◌, List, [], ◌∷◌, ◌++◌, length, sym, refl, ap, ◌∙◌, subst, arith}
 use Rattle.std.specs.Prelude.{nat_eq, filter, if◌then◌else◌}
 use Rattle.std.specs.List.{IsDistinct}
-use Rattle.std.proofs.lemmas.Bool.{eqb-true, eqb-false, eq-eqb, ne_eqb, not-true, or_right, or_left, and_from}
+use Rattle.std.proofs.lemmas.Bool.{eqb-true, eqb-false, ne_eqb, not-true, or_left}
 use Rattle.process_tree.specs.declared.entry.Entry.{Entry}
 use Rattle.process_tree.specs.Conflicts.{Table}
 use Rattle.process_tree.specs.Order.{Each}
 use Rattle.schedule_model.specs.Histories.{of_process}
 use Rattle.schedule_model.proofs.Legal.{both-left, both-right}
-use Rattle.hold_tables.specs.Tables.{Tables, OpenProcess, has_number, holds_nothing}
-use Rattle.hold_tables.specs.Changes.{has_entry, opened, steps_of}
-use Rattle.hold_tables.specs.Kept.{IsKnown, IsTidy, IsTidyAmong, AreTidy, Stands, are_numbered, room_for, room_for_all}
+use Rattle.hold_tables.specs.Tables.{OpenProcess, has_number, holds_nothing}
+use Rattle.hold_tables.specs.Changes.{has_entry}
+use Rattle.hold_tables.specs.Kept.{IsKnown, IsTidy, IsTidyAmong, Stands, are_numbered, room_for, room_for_all}
 use Rattle.hold_tables.specs.Places.{all_steps}
-use Rattle.hold_tables.proofs.Tidy.{each_entry, tables}
+use Rattle.hold_tables.proofs.Tidy.{each_entry}
 use Rattle.hold_tables.proofs.Entries.{each_more}
 use Rattle.hold_tables.proofs.Effects.{none_own}
 
@@ -65,21 +65,15 @@ room_at_most : (net : List Entry) (rows : List OpenProcess) → room_for_all net
 room_at_most net [] = omega arith
 room_at_most net (r ∷ rows) = let rest = room_at_most net rows in omega (arith, rest)
 
-one_row_more : (rows : List OpenProcess) (r : OpenProcess) → length (rows ++ r ∷ []) ≡ length rows + 1
-one_row_more [] r = omega arith
-one_row_more (x ∷ rows) r = let more = one_row_more rows r in omega (arith, more)
-
 -- a process opens where the net has room for all steps
-pub open_stands : (i steps : ℕ) (table : Table) (net : List Entry) (rows : List OpenProcess) (capacity after : ℕ) → has_number i rows ≡ false → length rows < 256
+pub open_stands : (i steps : ℕ) (table : Table) (net : List Entry) (rows : List OpenProcess) (capacity after : ℕ) → has_number i rows ≡ false
     → length net + (all_steps rows + steps) ≤ after → Stands table net rows capacity → Stands table net (rows ++ holds_nothing i steps ∷ []) after
-open_stands i steps table net rows capacity after closed few room (tidy, was) =
-    let more_rows = one_row_more rows (holds_nothing i steps) in
+open_stands i steps table net rows capacity after closed room (tidy, was) =
     let new = holds_nothing i steps in
     let more = room_more net rows new in
     let most = room_at_most net rows in
     let own : of_process i net ≡ [] = none_own i net (none_of_closed i rows net closed tidy.of_open) in (
       record {
-        few = omega (arith, more_rows, few);
         numbered = numbered_more rows new closed tidy.numbered;
         of_open = each_entry net (λ e is. number_more e.process rows new ∙ or_left (has_number e.process rows) (nat_eq i e.process) is) tidy.of_open;
         known = tidy.known;
@@ -114,14 +108,6 @@ fewer i [] = omega arith
 fewer i (e ∷ net) = by (nat_eq e.process i) (fewer i net)
   where
     by : (b : Bool) → length (others i net) ≤ length net → length (if not b then e ∷ others i net else others i net) ≤ length (e ∷ net)
-    by true rest = omega (arith, rest)
-    by false rest = omega (arith, rest)
-
-fewer_rows : (i : ℕ) (rows : List OpenProcess) → length (other_processes i rows) ≤ length rows
-fewer_rows i [] = omega arith
-fewer_rows i (r ∷ rows) = by (nat_eq r.process i) (fewer_rows i rows)
-  where
-    by : (b : Bool) → length (other_processes i rows) ≤ length rows → length (if not b then r ∷ other_processes i rows else other_processes i rows) ≤ length (r ∷ rows)
     by true rest = omega (arith, rest)
     by false rest = omega (arith, rest)
 
@@ -180,7 +166,6 @@ drop_stands i table net rows capacity (tidy, room) =
     let less = room_others i net rows in
     let fewer_entries = fewer i net in (
       record {
-        few = let less = fewer_rows i rows in let few = tidy.few in omega (arith, less, few);
         numbered = numbered_others i rows tidy.numbered;
         of_open = open_others i rows net tidy.of_open;
         known = each_other (IsKnown table) (λ e. not (nat_eq e.process i)) net tidy.known;

@@ -1,6 +1,6 @@
 -- Where something stands in a list, and what is there.
-use Rattle.std.specs.Prelude.{if◌then◌else◌, map, nat_le, remove, slice_index_or, slice_set, is_some, nat_eq, not, ◌&&◌, ◌||◌}
-use Rattle.std.proofs.Common.{◌≡◌, ℕ, ◌+◌, ◌≤◌, ◌<◌, Bool, true, false, List, [], ◌∷◌, ◌++◌, length, Option, Some, None, refl, sym, ◌∙◌, ap, subst, arith, add-one}
+use Rattle.std.specs.Prelude.{if◌then◌else◌, map, nat_le, remove, slice_index_or, slice_set, nat_eq, ◌&&◌, ◌||◌}
+use Rattle.std.proofs.Common.{◌≡◌, ℕ, ◌+◌, ◌<◌, Bool, true, false, List, [], ◌∷◌, ◌++◌, length, Option, Some, None, refl, ◌∙◌, ap, subst, arith, add-one}
 use Rattle.std.proofs.lemmas.Bool.{or_right}
 use Rattle.process_tree.specs.declared.entry.Entry.{Entry}
 use Rattle.hold_tables.specs.Tables.{OpenProcess, has_number, numbered}

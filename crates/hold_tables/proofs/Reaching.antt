@@ -1,13 +1,12 @@
--- A set that is found by walking is what walks lead to.
+-- For a call that tells where walks of the conflict graph lead: a set that is found by walking is what walks lead to.
 use Rattle.std.proofs.Common.{◌≡◌, ℕ, Bool, true, false, ◌||◌, List, [], ◌∷◌, filter, map, sym, refl, ap, ◌∙◌, subst}
 use Rattle.std.specs.Prelude.{IsTrue, nat_eq}
-use Rattle.std.specs.List.{list_any}
 use Rattle.std.proofs.lemmas.Bool.{eq-eqb, eqb-true, or_left, or_right}
 use Rattle.process_tree.specs.declared.entry.Entry.{Entry}
 use Rattle.process_tree.specs.Order.{Each}
 use Rattle.schedule_model.specs.Histories.{is_in}
 use Rattle.schedule_model.specs.Holdings.{active_net, holders}
-use Rattle.schedule_model.specs.Graph.{Arrow, leads, reached, one_arrow, and_then}
+use Rattle.schedule_model.specs.Graph.{Arrow, leads, one_arrow, and_then}
 use Rattle.schedule_model.proofs.Walks.{leads-from_walk, reached_least, walk-from_leads}
 use Rattle.schedule_model.proofs.Active.{is_in-filter}
 use Rattle.schedule_model.proofs.Legal.{both-left}

@@ -1,15 +1,14 @@
 -- The tables stay tidy where what is kept of one process is changed.
-use Rattle.std.proofs.Common.{◌≡◌, ℕ, ◌+◌, ◌-◌, ◌≤◌, Bool, true, false, not, ◌&&◌, ◌||◌, List, [], ◌∷◌, length, sym, refl, ap, ◌∙◌, subst, arith}
+use Rattle.std.proofs.Common.{◌≡◌, ℕ, ◌+◌, ◌≤◌, Bool, true, false, not, ◌&&◌, ◌||◌, List, [], ◌∷◌, length, sym, refl, ap, ◌∙◌, subst}
 use Rattle.std.specs.Prelude.{nat_eq, slice_index_or, slice_set}
 use Rattle.std.proofs.lemmas.Bool.{eqb-true}
 use Rattle.process_tree.specs.declared.entry.Entry.{Entry}
 use Rattle.process_tree.specs.Conflicts.{Table}
 use Rattle.process_tree.specs.Order.{Each}
-use Rattle.schedule_model.specs.Histories.{of_process}
 use Rattle.hold_tables.specs.Tables.{Tables, OpenProcess, has_number, is_open, kept_of, numbered}
 use Rattle.hold_tables.specs.Changes.{change_numbered, changed}
 use Rattle.hold_tables.specs.Places.{place_of}
-use Rattle.hold_tables.specs.Kept.{IsTidy, AreTidy, Stands, are_numbered, room_for, room_for_all}
+use Rattle.hold_tables.specs.Kept.{IsTidy, Stands, are_numbered, room_for, room_for_all}
 use Rattle.hold_tables.proofs.Places.{at_place, changed_at}
 
 -- a change leaves the number and the plan
@@ -56,15 +55,6 @@ numbered_stay f i (r ∷ rows) keeps = by (nat_eq r.process i) refl (numbers_sta
     by true is has rest = rw is (ap (λ n. not (has_number n rows) && are_numbered rows) (keeps r).0)
     by false is has rest = rw (is, has, rest) refl
 
--- there are as many
-pub as_many : (f : OpenProcess → OpenProcess) (i : ℕ) (rows : List OpenProcess) → length (change_numbered f i rows) ≡ length rows
-as_many f i [] = refl
-as_many f i (r ∷ rows) = by (nat_eq r.process i) refl (as_many f i rows)
-  where
-    by : (b : Bool) → nat_eq r.process i ≡ b → length (change_numbered f i rows) ≡ length rows → length (change_numbered f i (r ∷ rows)) ≡ length (r ∷ rows)
-    by true is rest = rw is (omega arith)
-    by false is rest = rw is (omega (arith, rest))
-
 -- the room that is wanted stays
 pub room_stays : (f : OpenProcess → OpenProcess) (i : ℕ) (net : List Entry) (rows : List OpenProcess) → KeepsPlan f
     → room_for_all net (change_numbered f i rows) ≡ room_for_all net rows
@@ -86,7 +76,6 @@ pub change_stands : (f : OpenProcess → OpenProcess) (i : ℕ) (table : Table) 
     → Stands table net rows capacity → Stands table net (change_numbered f i rows) capacity
 change_stands f i table net rows capacity keeps holds (tidy, room) = (
   record {
-    few = subst (λ n. n ≤ 256) (sym (as_many f i rows)) tidy.few;
     numbered = numbered_stay f i rows keeps ∙ tidy.numbered;
     of_open = each_entry net (λ e is. numbers_stay f i e.process rows keeps ∙ is) tidy.of_open;
     known = tidy.known;

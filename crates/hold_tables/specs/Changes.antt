@@ -1,10 +1,10 @@
 -- Changes: what each call makes of the tables.
-use Rattle.std.specs.Prelude.{ℕ, Bool, true, false, not, ◌&&◌, List, [], ◌∷◌, ◌++◌, filter, length, map, nat_eq, nat_lt, if◌then◌else◌, Option, Some, None}
+use Rattle.std.specs.Prelude.{ℕ, Bool, false, not, ◌&&◌, List, [], ◌∷◌, ◌++◌, filter, length, map, nat_eq, nat_lt, if◌then◌else◌, Option, Some, None}
 use Rattle.std.specs.List.{list_any}
 use Rattle.process_tree.specs.declared.entry.Entry.{Entry}
 use Rattle.process_tree.specs.Conflicts.{Table}
 use Rattle.schedule_model.specs.Histories.{is_in, of_process}
-use Rattle.hold_tables.specs.Tables.{Tables, OpenProcess, has_number, holds_nothing, kept_of, lasts}
+use Rattle.hold_tables.specs.Tables.{Tables, OpenProcess, holds_nothing, kept_of, lasts}
 
 -- the tables of no process
 abbrev pub none_open : Table → Tables

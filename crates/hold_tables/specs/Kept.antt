@@ -39,10 +39,9 @@ pub record IsTidyAmong (table : Table) (es : List Entry) (r : OpenProcess) : Typ
 abbrev pub IsTidy : Table → List Entry → OpenProcess → Type 0
 IsTidy table net r = IsTidyAmong table (of_process r.process net) r
 
--- at most 256 processes are open, each number is that of one process, each net entry is of an open process and of an operation of the table, and each process is
+-- each number is that of one process, each net entry is of an open process and of an operation of the table, and each process is
 -- tidy
 pub record AreTidy (t : Tables) : Type 0 where
-  pub few : length t.processes ≤ 256
   pub numbered : are_numbered t.processes ≡ true
   pub of_open : Each (λ e. is_open t e.process ≡ true) t.net
   pub known : Each (IsKnown t.conflicts) t.net

@@ -2,8 +2,8 @@
 use Rattle.std.specs.Prelude.{ℕ, Bool, not, ◌&&◌, ◌||◌, List, [], ◌∷◌, ◌++◌, filter, map, nat_eq, nat_le, nat_lt, if◌then◌else◌, Option, Some, None}
 use Rattle.process_tree.specs.declared.entry.Entry.{Entry}
 use Rattle.process_tree.specs.Conflicts.{Table, do_conflict}
-use Rattle.schedule_model.specs.Holdings.{all_running, all_reserved, reaches}
-use Rattle.hold_tables.specs.Tables.{Tables, OpenProcess, holdings_of}
+use Rattle.schedule_model.specs.Holdings.{all_running, all_reserved}
+use Rattle.hold_tables.specs.Tables.{Tables, holdings_of}
 
 -- the lesser of two numbers, if there is another
 abbrev pub lesser_number : ℕ → Option ℕ → Option ℕ
@@ -48,7 +48,3 @@ all_held t = let g = holdings_of t in t.net ++ all_running g ++ all_reserved g
 -- the least other process and step that holds a net entry, has one under way, or reserves one against the operation
 abbrev pub holder_against : Tables → ℕ → ℕ → Option (ℕ × ℕ)
 holder_against t i op = least_step None (filter (is_against t.conflicts i op) (all_held t))
-
--- a walk of one or more arrows of the conflict graph leads from one process to another
-abbrev pub leads_to : Tables → ℕ → ℕ → Bool
-leads_to t from to = reaches (do_conflict t.conflicts) (holdings_of t) from to

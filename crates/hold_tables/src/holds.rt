@@ -7,14 +7,13 @@ ghost use Rattle.process_tree.specs.declared.entry.Entry.{Entry};
 ghost use Rattle.schedule_model.specs.Histories.{of_process};
 ghost use Rattle.hold_tables.specs.Tables.{is_open, kept_of};
 ghost use Rattle.hold_tables.specs.Changes.{none_open, opened, changed, with_running, with_pending, with_reserved, run, stopped, took_effect, all_fixed, dropped, can_run, undoes};
-ghost use Rattle.hold_tables.specs.Reading.{next_open, holder_against, leads_to};
+ghost use Rattle.hold_tables.specs.Reading.{next_open, holder_against};
 ghost use Rattle.hold_tables.specs.Kept.{IsKnown, AreKnown, AreTidy};
 ghost use Rattle.hold_tables.specs.Places.{all_steps};
 
 use crate::against::{Sought, least_of, least_reserved, least_running};
 use crate::looking::{all_steps, count_of, least_from, place_of, settle};
 use crate::row::Row;
-use crate::walk::{MOST, Mark, mark_behind, next_found};
 use process_tree::{Conflicts, Entry, Plan};
 use std::alloc::{AllocError, Global};
 use std::marker::Model;
@@ -56,7 +55,6 @@ impl Holds {
     /// A process begins to hold, and all room is taken that it can need.
     pub fn open(&mut self, process: u32, plan: &Plan) -> Result<(), AllocError>
         requires closed { is_open self.old process ≡ false }
-        requires few { length self.old.processes < 256 }
         requires known { Each (λ op. op < operations_in self.old.conflicts) plan.now.ops }
         ensures opened { OnOk result (self.new ≡ opened process (length (outline plan.now.tree).steps) self.old) }
         ensures err { OnErr result (self.new ≡ self.old) }
@@ -237,22 +235,6 @@ impl Holds {
         let reserved = least_reserved(&self.conflicts, sought, &self.rows);
         let running = least_running(&self.conflicts, sought, &self.rows, reserved);
         least_of(&self.conflicts, sought, &self.net, running)
-    }
-
-    /// Whether a walk of one or more arrows of the conflict graph leads from one process to another.
-    pub fn reaches(&self, from: u32, to: u32) -> bool
-        requires from_open { is_open self.now from ≡ true }
-        requires to_open { is_open self.now to ≡ true }
-        ensures { result ≡ leads_to self.now from to }
-    {
-        let mut marks = [Mark::New; MOST];
-        mark_behind(&self.conflicts, &self.net, &self.rows, from, &mut marks);
-        while let Some(at) = next_found(&marks) {
-            marks[at] = Mark::Walked;
-            let process = self.rows[at].process();
-            mark_behind(&self.conflicts, &self.net, &self.rows, process, &mut marks);
-        }
-        marks[place_of(&self.rows, to)] != Mark::New
     }
 }
 

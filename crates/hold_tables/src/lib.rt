@@ -10,7 +10,6 @@ mod against;
 mod holds;
 mod looking;
 mod row;
-mod walk;
 
 pub use holds::Holds;
 

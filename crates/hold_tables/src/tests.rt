@@ -1,4 +1,9 @@
-// Three processes of two steps each: what they hold, call by call.
+// Two processes of one step each, whose steps conflict: what they hold, call by call.
+ghost use Rattle.std.specs.Prelude.{◌≡◌, ◌∷◌, [], length, IfOk};
+ghost use Rattle.process_tree.specs.Blocks.{outline};
+ghost use Rattle.process_tree.specs.Conflicts.{no_conflicts, with_conflict};
+ghost use Rattle.hold_tables.specs.Changes.{none_open, opened};
+
 use crate::Holds;
 use process_tree::{
     Block, Conflicts, Entry, Name, Operations, Plan, Step, StepKind, Steps, Tail, Tree,
@@ -6,10 +11,14 @@ use process_tree::{
 use std::alloc::Global;
 use std::test::Fail;
 
-fn step(alloc: Global, name: &[u8]) -> Result<Step, Fail> {
-    Ok(Step {
+/// The one step of a process.
+fn steps(alloc: Global) -> Result<Steps, Fail>
+    ensures { IfOk result (λ steps. length steps ≡ 1) }
+{
+    let mut steps = Vec::new(alloc);
+    steps.push(Step {
         kind: StepKind::C,
-        name: Name::new(alloc, name)?,
+        name: Name::new(alloc, b"a")?,
         op: Name::new(alloc, b"op")?,
         key: 0,
         amount: 0,
@@ -17,106 +26,70 @@ fn step(alloc: Global, name: &[u8]) -> Result<Step, Fail> {
         undo_tries: 3,
         refuse: 0,
         undo_refuse: 0,
-    })
+    })?;
+    Ok(Steps::new(steps))
 }
 
-/// Two steps of operations 0 and 1.
-fn plan(alloc: Global) -> Result<Plan, Fail> {
-    let mut steps = Vec::new(alloc);
-    steps.push(step(alloc, b"a")?)?;
-    steps.push(step(alloc, b"b")?)?;
+/// The number of its operation.
+fn operations(alloc: Global) -> Result<Operations, Fail>
+    ensures { IfOk result (λ ops. ops ≡ 0 ∷ []) }
+{
     let mut ops = Vec::new(alloc);
     ops.push(0)?;
-    ops.push(1)?;
+    Ok(Operations::new(ops))
+}
+
+/// A plan of one step, of operation 0.
+fn plan(alloc: Global) -> Result<Plan, Fail>
+    ensures ops { IfOk result (λ plan. plan.ops ≡ 0 ∷ []) }
+    ensures steps { IfOk result (λ plan. length (outline plan.tree).steps ≡ 1) }
+{
+    let steps = steps(alloc)?;
+    let block = Block {
+        steps,
+        tail: Tail::End,
+    };
     Ok(Plan {
         name: Name::new(alloc, b"plan")?,
-        tree: Tree::build(
-            alloc,
-            Block {
-                steps: Steps::new(steps),
-                tail: Tail::End,
-            },
-        )?,
-        ops: Operations::new(ops),
+        tree: Tree::build(alloc, block)?,
+        ops: operations(alloc)?,
     })
 }
 
-fn entry(process: u32, step: u16) -> Entry {
-    Entry {
-        process,
-        step,
-        op: step,
-        undo: false,
-    }
+/// One operation, which conflicts with itself.
+fn conflicts(alloc: Global) -> Result<Conflicts, Fail>
+    ensures { IfOk result (λ table. table ≡ with_conflict (no_conflicts 1) 0 0) }
+{
+    let mut conflicts = Conflicts::new(alloc, 1)?;
+    conflicts.set(0, 0);
+    Ok(conflicts)
 }
 
-/// Tables of processes 1, 2 and 3, whose steps 0 conflict.
-fn opened(alloc: Global) -> Result<Holds, Fail> {
-    let mut conflicts = Conflicts::new(alloc, 2)?;
-    conflicts.set(0, 0);
+/// Processes 1 and 2 are open.
+fn both_open(alloc: Global) -> Result<Holds, Fail>
+    ensures { IfOk result (λ holds. holds ≡ opened 2 1 (opened 1 1 (none_open (with_conflict (no_conflicts 1) 0 0)))) }
+{
+    let conflicts = conflicts(alloc)?;
     let plan = plan(alloc)?;
     let mut holds = Holds::new(alloc, &conflicts)?;
-    for process in 1..4 {
-        holds.open(process, &plan)?;
-    }
+    holds.open(1, &plan)?;
+    holds.open(2, &plan)?;
     Ok(holds)
 }
 
 #[test]
-fn a_step_takes_effect_behind_the_others_and_an_undo_takes_the_last_away(
-    rt: HostRuntime,
-) -> Result<(), Fail> {
-    let alloc = rt.alloc();
-    let mut holds = opened(alloc)?;
-    for e in [entry(2, 0), entry(1, 0), entry(2, 1)] {
-        holds.run(e);
-        holds.take_effect(e.process);
-    }
-    assert_eq!(rt; holds.net_len(), 3);
+fn what_is_held_stands_against_the_other_process(rt: HostRuntime) -> Result<(), Fail> {
+    let mut holds = both_open(rt.alloc())?;
     holds.run(Entry {
-        undo: true,
-        ..entry(2, 1)
+        process: 1,
+        step: 0,
+        op: 0,
+        undo: false,
     });
-    holds.take_effect(2);
-    assert_eq!(rt; holds.net_len(), 2);
-    assert_eq!(rt; holds.net_at(1), entry(1, 0));
-    assert_eq!(rt; holds.running(2), None);
-    Ok(())
-}
-
-#[test]
-fn walks_lead_along_arrows_alone(rt: HostRuntime) -> Result<(), Fail> {
-    let alloc = rt.alloc();
-    let mut holds = opened(alloc)?;
-    for e in [entry(2, 0), entry(1, 0)] {
-        holds.run(e);
-        holds.take_effect(e.process);
+    holds.take_effect(1);
+    holds.reserve(2, &[(0, 0)]);
+    for (process, holder) in [(1, Some((2, 0))), (2, Some((1, 0))), (3, Some((1, 0)))] {
+        assert_eq!(rt; holds.holder_against(process, 0), holder);
     }
-    holds.run(entry(3, 0));
-    for (from, to, leads) in [
-        (2, 1, true),
-        (2, 3, true),
-        (1, 3, true),
-        (1, 2, false),
-        (3, 1, false),
-        (2, 2, false),
-    ] {
-        assert_eq!(rt; holds.reaches(from, to), leads);
-    }
-    Ok(())
-}
-
-#[test]
-fn the_least_holder_comes_first(rt: HostRuntime) -> Result<(), Fail> {
-    let alloc = rt.alloc();
-    let mut holds = opened(alloc)?;
-    holds.reserve(2, &[(1, 0)]);
-    holds.run(entry(3, 0));
-    assert_eq!(rt; holds.holder_against(1, 0), Some((2, 1)));
-    assert_eq!(rt; holds.holder_against(2, 0), Some((3, 0)));
-    assert_eq!(rt; holds.holder_against(1, 1), None);
-    holds.drop_process(2);
-    assert_eq!(rt; holds.holder_against(1, 0), Some((3, 0)));
-    assert_eq!(rt; holds.next_open(2), Some(3));
     Ok(())
 }
