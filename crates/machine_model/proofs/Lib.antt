@@ -60,3 +60,4 @@ pub mod RunsWithin
 pub mod RestartFree
 pub mod Going
 pub mod Causes
+pub mod OneLost
