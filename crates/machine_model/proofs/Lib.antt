@@ -61,3 +61,4 @@ pub mod RestartFree
 pub mod Going
 pub mod Causes
 pub mod OneLost
+pub mod WithinTries

@@ -1,8 +1,10 @@
 -- The laws of how many pieces are dropped, and of what became of those that were handed out, as statements.
-use Rattle.std.specs.Prelude.{◌≡◌, ◌≤◌, ℕ, ◌+◌, Bool, ◌&&◌, length, filter, nat_eq, IsTrue, is_some}
+use Rattle.std.specs.Prelude.{◌≡◌, ◌≤◌, ℕ, ◌+◌, Bool, ◌&&◌, length, filter, nat_eq, IsTrue, Some, is_some}
 use Rattle.schedule_model.specs.Conflict.{ConflictRelation}
 use Rattle.machine_model.specs.Moment.{Piece}
-use Rattle.machine_model.specs.Pieces.{dropped_at, hands, is_finished, runs}
+use Rattle.machine_model.specs.Pieces.{dropped_at, hands, is_finished, refusals, runs}
+use Rattle.machine_model.specs.declared.kept.Work.{Work}
+use Rattle.machine_model.specs.State.{tries_by}
 use Rattle.machine_model.specs.Advance.{Machine}
 use Rattle.machine_model.specs.Runs.{is_run, now}
 
@@ -17,3 +19,8 @@ HandsAreParted = (table : ConflictRelation) (s : Machine) (asked : Piece → Boo
     length (filter asked (hands s.kept))
     ≡ length (filter (λ p. asked p && runs m p.number) (hands s.kept)) + length (filter (λ p. asked p && is_some (dropped_at m p.number)) (hands s.kept))
     + length (filter (λ p. asked p && is_finished s.kept p.number) (hands s.kept))
+
+-- No piece is refused more often than it may be tried.
+abbrev pub RefusalsAreWithinTries : Type 0
+RefusalsAreWithinTries = (table : ConflictRelation) (s : Machine) (i b : ℕ) (w : Work) (tries : ℕ) → IsTrue (is_run table s)
+    → tries_by s.courses i b w ≡ Some tries → refusals s.kept i b w ≤ tries

@@ -25,11 +25,11 @@ pub use laws::{
     net_goes_by_pieces, next_keeps_own_order, no_circle, one_is_dropped, one_runs,
     open_holdings_block_alike, open_holdings_drag_alike, others_stay, over_is_finished,
     owed_steps_are_free, pending_is_free, progress_goes_by_transitions, progress_law,
-    queued_are_out_or_dropped, refused_begins_without_way_on, refused_is_next_or_gone,
-    reserved_is_free, restart_begins_all, restart_follows_completion, restart_is_free,
-    running_goes_by_pieces, running_is_next, running_steps_are_free, runs_are_legal,
-    runs_keep_own_order, states_go_by_transitions, steps_take_effect, stuck_is_exact,
-    turns_make_runs, undone_is_free, undos_take_back_the_last, undos_take_effect, undos_wait_by_a5,
-    victims_run_dry,
+    queued_are_out_or_dropped, refusals_are_within_tries, refused_begins_without_way_on,
+    refused_is_next_or_gone, reserved_is_free, restart_begins_all, restart_follows_completion,
+    restart_is_free, running_goes_by_pieces, running_is_next, running_steps_are_free,
+    runs_are_legal, runs_keep_own_order, states_go_by_transitions, steps_take_effect,
+    stuck_is_exact, turns_make_runs, undone_is_free, undos_take_back_the_last, undos_take_effect,
+    undos_wait_by_a5, victims_run_dry,
 };
 pub use replies::{Aborted, PieceState, Recovery, Refusal, StartWhy, Todo};
