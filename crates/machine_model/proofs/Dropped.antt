@@ -52,7 +52,7 @@ pub record LostInOrder (m : Moment) : Type 0 where
   pub all : (n : ℕ) (p : Piece) (b : Beginning) → piece_of m.kept n ≡ Some p → beginning_of m p.process ≡ Some b → WasOutAt m.kept b.began.event n → dropped_at m n ≡ Some b.began.event
 
 -- each finds itself
-each_any : {X : Type 0} (p : X → X → Bool) → ((x : X) → p x x ≡ true) → (xs : List X) → Each (λ x. list_any (p x) xs ≡ true) xs
+pub each_any : {X : Type 0} (p : X → X → Bool) → ((x : X) → p x x ≡ true) → (xs : List X) → Each (λ x. list_any (p x) xs ≡ true) xs
 each_any p itself [] = tt
 each_any p itself (x ∷ xs) = (or_left _ _ (itself x), Each-weaker (λ y. list_any (p y) xs ≡ true) (λ y. list_any (p y) (x ∷ xs) ≡ true) (λ y is. or_right (p y x) (list_any (p y) xs) is) xs (each_any p itself xs))
 

@@ -60,3 +60,5 @@ pub mod RunsWithin
 pub mod RestartFree
 pub mod Going
 pub mod Causes
+pub mod OneLost
+pub mod WithinTries

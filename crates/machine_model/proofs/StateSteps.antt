@@ -57,7 +57,7 @@ more_in r ks n (p ∷ ps) each =
     each.0 (more_in r ks n ps each.1)
 
 -- the refusal of piece n, which is p, counts one more of what p is a try of
-refused_once_more : (m : Moment) (n : ℕ) (p : Piece) (r : Piece → Bool) → Counted m → runs m n ≡ true → piece_of m.kept n ≡ Some p → r p ≡ true
+pub refused_once_more : (m : Moment) (n : ℕ) (p : Piece) (r : Piece → Bool) → Counted m → runs m n ≡ true → piece_of m.kept n ≡ Some p → r p ≡ true
     → length (filter r (refused_pieces (m.kept ++ Refuse n ∷ []))) ≡ length (filter r (refused_pieces m.kept)) + 1
 refused_once_more m n p r c out found passes =
     let never = out-unrefused m n c out in

@@ -21,4 +21,5 @@ pub mod Laws
 pub mod PieceLaws
 pub mod CallLaws
 pub mod CauseLaws
+pub mod DropLaws
 pub mod HoldLaws

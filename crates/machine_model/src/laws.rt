@@ -3,6 +3,7 @@ ghost use Rattle.machine_model.specs.Laws.{BlockedWhereSomethingStands, CallsMak
 ghost use Rattle.machine_model.specs.PieceLaws.{DroppedIsExact, OneRuns, OthersStay, OverIsFinished, ProgressGoesByTransitions, RefusedBeginsWithoutWayOn, RefusedIsNextOrGone, RunningIsNext, StatesGoByTransitions, UndosTakeBackTheLast};
 ghost use Rattle.machine_model.specs.HoldLaws.{BeginningsStop, BegunUndoAll, EndsGo, HandsReserve, NetGoesByPieces, RunningGoesByPieces, StepsTakeEffect, UndosTakeEffect};
 ghost use Rattle.machine_model.specs.CauseLaws.{BeginningsHaveCauses, BeginningsStay};
+ghost use Rattle.machine_model.specs.DropLaws.{HandsAreParted, OneIsDropped, RefusalsAreWithinTries};
 ghost use Rattle.machine_model.specs.CallLaws.{BeginningsOfRunsAreRuns, CallsKeepRuns, FlushesKeepWhatRuns, QueuedAreOutOrDropped, StuckIsExact, TurnsMakeRuns, VictimsRunDry};
 
 /// The computed cascade of an active process is the least set.
@@ -258,4 +259,19 @@ pub fn beginnings_have_causes()
 /// When and why a process began to complete stays.
 pub fn beginnings_stay()
     ensures { BeginningsStay }
+{}
+
+/// At most one piece of each process is dropped.
+pub fn one_is_dropped()
+    ensures { OneIsDropped }
+{}
+
+/// Each piece that was handed out is out, dropped or finished, and only one of these.
+pub fn hands_are_parted()
+    ensures { HandsAreParted }
+{}
+
+/// No piece is refused more often than it may be tried.
+pub fn refusals_are_within_tries()
+    ensures { RefusalsAreWithinTries }
 {}
