@@ -433,23 +433,25 @@ module _ (table : ConflictRelation) (symmetric : IsSymmetric table) (plans : Lis
         by_test false none = none
         by_test true conflicts = by_root (eqb b.root i) refl conflicts
 
-    -- a step that ran before
-    ran_free : (i j : ℕ) (x e : Entry) (p : Piece) → is_active (advance table cs m k).events i ≡ true → Among x (pending_of cs (advance table cs m k) i)
-        → running_of (advance table cs m k) j ≡ Some p → p.work ≡ Forward → e ≡ doing cs j p.step → has_begun (advance table cs m k) j ≡ false → IsRunningStep m cs j e → conflict table x e ≡ false
-    ran_free i j x e p goes pend runs' work is never ran = by_event k refl
+    -- what is pending was pending, or a root goes back with its cascade, or all begin
+    abbrev PendingBefore : ℕ → Entry → Type 0
+    PendingBefore i x = Among x (pending_of (courses_of plans) m i) ⊎ (Back m k ⊎ (k ≡ Restart))
+
+    pub pending_before : (i : ℕ) (x : Entry) → is_active (advance table cs m k).events i ≡ true → Among x (pending_of cs (advance table cs m k) i) → PendingBefore i x
+    pending_before i x goes pend = by_event k refl
       where
         own : InOwnOrder table plans good m
         own = facts.reserved.own
 
         -- nobody begins, and no piece of process i ends
-        quiet : has_begun (advance table cs m k) i ≡ has_begun m i → IsOfOthers m.kept k i → conflict table x e ≡ false
-        quiet same away = stays_free i j x e goes pend (unmoved m k facts.reserved may i same away) ran
+        quiet : has_begun (advance table cs m k) i ≡ has_begun m i → IsOfOthers m.kept k i → PendingBefore i x
+        quiet same away = inl (subst (Among x) (unmoved m k facts.reserved may i same away) pend)
 
-        effect : (n : ℕ) → k ≡ Effect n → (o : Option Piece) → piece_of m.kept n ≡ o → conflict table x e ≡ false
+        effect : (n : ℕ) → k ≡ Effect n → (o : Option Piece) → piece_of m.kept n ≡ o → PendingBefore i x
         effect n event None found = quiet (ap (λ y. has_begun (advance table cs m y) i) event ∙ entered-begun table cs m (Effect n) i) (λ q ended. absurd (none-some q (sym found ∙ (sym (ap (piece_ended m.kept) event) ∙ ended))))
         effect n event (Some q) found = by_own (eqb q.process i) refl
           where
-            by_own : (t : Bool) → eqb q.process i ≡ t → conflict table x e ≡ false
+            by_own : (t : Bool) → eqb q.process i ≡ t → PendingBefore i x
             by_own false other =
                 quiet (ap (λ y. has_begun (advance table cs m y) i) event ∙ entered-begun table cs m (Effect n) i)
                 (λ y ended. ap (λ (z : Piece). eqb z.process i) (same_Some y q (sym ended ∙ (ap (piece_ended m.kept) event ∙ found))) ∙ other)
@@ -459,11 +461,11 @@ module _ (table : ConflictRelation) (symmetric : IsSymmetric table) (plans : Lis
                 ap (advance table cs m) event ∙ ap (λ o. with_piece (λ z. happened (noted m (Effect n)) (event_of cs z)) (noted m (Effect n)) o) (piece_of-plain m.kept (Effect n) n refl ∙ found) in
                 let pend' = subst (λ (o : Moment). Among x (pending_of cs o q.process)) moved (subst (λ y. Among x (pending_of cs (advance table cs m k) y)) (sym same) pend) in
                 let was = subst (λ y. Among x (pending_of cs m y)) same (by_effect m n q facts.reserved (ap (may_be_kept table cs m) (sym event) ∙ may) found q.work refl x pend') in
-                facts.free i j x e (active_before i x goes was) was ran
+                inl was
 
         -- the refusal of another piece than the one try of a step
-        tried_again : (n : ℕ) → k ≡ Refuse n → (q : Piece) → piece_of m.kept n ≡ Some q → advance table cs m k ≡ noted m (Refuse n) → is_only_try (shape cs q.process) q.step q.work ≡ false → conflict table x e ≡ false
-        tried_again n event q found moved not_only = stays_free i j x e goes pend (ap (λ (o : Moment). pending_of cs o i) moved ∙ same_pending m (noted m (Refuse n)) i (by_own (eqb q.process i) refl) refl) ran
+        tried_again : (n : ℕ) → k ≡ Refuse n → (q : Piece) → piece_of m.kept n ≡ Some q → advance table cs m k ≡ noted m (Refuse n) → is_only_try (shape cs q.process) q.step q.work ≡ false → PendingBefore i x
+        tried_again n event q found moved not_only = inl (subst (Among x) (ap (λ (o : Moment). pending_of cs o i) moved ∙ same_pending m (noted m (Refuse n)) i (by_own (eqb q.process i) refl) refl) pend)
           where
             by_own : (t : Bool) → eqb q.process i ≡ t → progress cs (noted m (Refuse n)) i ≡ progress cs m i
             by_own true its =
@@ -472,7 +474,7 @@ module _ (table : ConflictRelation) (symmetric : IsSymmetric table) (plans : Lis
             by_own false other =
                 entered-leaves table cs m (Refuse n) i own.order.tidy.counted (ap (may_be_kept table cs m) (sym event) ∙ may) (λ y ended. ap (λ (z : Piece). eqb z.process i) (same_Some y q (sym ended ∙ found)) ∙ other)
 
-        refusal : (n : ℕ) → k ≡ Refuse n → (o : Option Piece) → piece_of m.kept n ≡ o → conflict table x e ≡ false
+        refusal : (n : ℕ) → k ≡ Refuse n → (o : Option Piece) → piece_of m.kept n ≡ o → PendingBefore i x
         refusal n event None found = absurd (false≢true (sym (ap is_no_end found) ∙ (and_parts (runs m n) (is_no_end (piece_of m.kept n)) (ap (may_be_kept table cs m) (sym event) ∙ may)).1))
         refusal n event (Some q) found = by_work q.work refl
           where
@@ -484,27 +486,37 @@ module _ (table : ConflictRelation) (symmetric : IsSymmetric table) (plans : Lis
                 ap (advance table cs m) event ∙ (ap (with_piece (piece_refused table cs (noted m (Refuse n))) (noted m (Refuse n))) (piece_of-plain m.kept (Refuse n) n refl ∙ found)
                 ∙ ap (work_refused table cs (noted m (Refuse n)) q.process q.step) work')
 
-            by_kind : (t : Bool) → can_be_refused (kind_of (shape cs q.process) q.step) ≡ t → q.work ≡ Forward → conflict table x e ≡ false
-            by_kind true can work' = back_free (subst (Back m) (sym event) (refused_back m n q own may' found work' can)) i j x e p goes pend runs' work is never ran
+            by_kind : (t : Bool) → can_be_refused (kind_of (shape cs q.process) q.step) ≡ t → q.work ≡ Forward → PendingBefore i x
+            by_kind true can work' = inr (inl (subst (Back m) (sym event) (refused_back m n q own may' found work' can)))
             by_kind false cannot work' =
                 tried_again n event q found
                 (to_work Forward work' ∙ ap (λ c. cond c (step_refused table cs (noted m (Refuse n)) q.process q.step) (noted m (Refuse n))) cannot)
                 (ap (is_only_try (shape cs q.process) q.step) work' ∙ cannot)
 
-            by_work : (w : Work) → q.work ≡ w → conflict table x e ≡ false
+            by_work : (w : Work) → q.work ≡ w → PendingBefore i x
             by_work Forward work' = by_kind (can_be_refused (kind_of (shape cs q.process) q.step)) refl work'
             by_work Undo work' = tried_again n event q found (to_work Undo work') (ap (is_only_try (shape cs q.process) q.step) work')
             by_work End work' = tried_again n event q found (to_work End work') (ap (is_only_try (shape cs q.process) q.step) work')
 
-        by_event : (y : Kept) → k ≡ y → conflict table x e ≡ false
+        by_event : (y : Kept) → k ≡ y → PendingBefore i x
         by_event (Start a) event = quiet (ap (λ y. has_begun (advance table cs m y) i) event) (λ q ended. absurd (none-some q (sym (ap (piece_ended m.kept) event) ∙ ended)))
         by_event (Hand a b c d) event = quiet (ap (λ y. has_begun (advance table cs m y) i) event) (λ q ended. absurd (none-some q (sym (ap (piece_ended m.kept) event) ∙ ended)))
         by_event (Effect n) event = effect n event (piece_of m.kept n) refl
         by_event (Refuse n) event = refusal n event (piece_of m.kept n) refl
-        by_event (Abort a) event = back_free (subst (Back m) (sym event) (aborted_back m a)) i j x e p goes pend runs' work is never ran
-        by_event (Victim a) event = back_free (subst (Back m) (sym event) (victim_back m a)) i j x e p goes pend runs' work is never ran
-        by_event Restart event =
-            let j_goes = is_active-is_in m.events j ∙ (runs_active table cs m j ran.0 own.active ran.1).1 in
+        by_event (Abort a) event = inr (inl (subst (Back m) (sym event) (aborted_back m a)))
+        by_event (Victim a) event = inr (inl (subst (Back m) (sym event) (victim_back m a)))
+        by_event Restart event = inr (inr event)
+
+    -- a step that ran before
+    ran_free : (i j : ℕ) (x e : Entry) (p : Piece) → is_active (advance table cs m k).events i ≡ true → Among x (pending_of cs (advance table cs m k) i)
+        → running_of (advance table cs m k) j ≡ Some p → p.work ≡ Forward → e ≡ doing cs j p.step → has_begun (advance table cs m k) j ≡ false → IsRunningStep m cs j e → conflict table x e ≡ false
+    ran_free i j x e p goes pend runs work is never ran = by_source (pending_before i x goes pend)
+      where
+        by_source : Among x (pending_of cs m i) ⊎ (Back m k ⊎ (k ≡ Restart)) → conflict table x e ≡ false
+        by_source (inl was) = facts.free i j x e (active_before i x goes was) was ran
+        by_source (inr (inl b)) = back_free b i j x e p goes pend runs work is never ran
+        by_source (inr (inr event)) =
+            let j_goes = is_active-is_in m.events j ∙ (runs_active table cs m j ran.0 facts.reserved.own.active ran.1).1 in
             absurd (false≢true (sym never ∙ (ap (λ y. has_begun (advance table cs m y) j) event ∙ (all_begin-has Restarted (noted m Restart) (active m.events) j ∙ or_right (has_begun m j) (is_in j (active m.events)) j_goes))))
 
     free_after : (i j : ℕ) (x e : Entry) → is_active (advance table cs m k).events i ≡ true → Among x (pending_of cs (advance table cs m k) i) → IsRunningStep (advance table cs m k) cs j e → conflict table x e ≡ false
