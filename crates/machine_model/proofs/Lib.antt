@@ -53,6 +53,7 @@ pub mod NoCircle
 pub mod WaysBehind
 pub mod ClosedCascades
 pub mod PendingFree
+pub mod StillPending
 pub mod UndoneFree
 pub mod LegalRuns
 pub mod RunsWithin
