@@ -54,6 +54,7 @@ pub mod WaysBehind
 pub mod ClosedCascades
 pub mod PendingFree
 pub mod StillPending
+pub mod CascadePaths
 pub mod UndoneFree
 pub mod LegalRuns
 pub mod RunsWithin
