@@ -55,6 +55,7 @@ pub mod ClosedCascades
 pub mod PendingFree
 pub mod StillPending
 pub mod CascadePaths
+pub mod PendingClosed
 pub mod UndoneFree
 pub mod LegalRuns
 pub mod RunsWithin

@@ -168,6 +168,12 @@ abbrev pub PendingIsFree : Type 0
 PendingIsFree = (table : ConflictRelation) (plans : List Plan) (s : Machine) → IsSession table plans s
     → (i k : ℕ) (x e : Entry) → IsTrue (is_active (history table s) i) → Contains (pending_of s.courses (now table s) i) x → IsRunningStep (now table s) s.courses k e → conflict table x e ≡ false
 
+-- Where the machine opened at rest, what stands behind a pending entry and conflicts with it is pending.
+abbrev pub PendingIsClosed : Type 0
+PendingIsClosed = (table : ConflictRelation) (plans : List Plan) (s : Machine) → IsSession table plans s
+    → (i : ℕ) (x e : Entry) → OpenedAtRest s → IsTrue (is_active (history table s) i) → Contains (pending_of s.courses (now table s) i) x
+    → Contains (behind x (net (history table s))) e → conflict table x e ≡ true → IsTrue (is_pending s.courses (now table s) e)
+
 -- While the undo of x runs, behind x stands no net entry of another process that conflicts.
 abbrev pub UndoneIsFree : Type 0
 UndoneIsFree = (table : ConflictRelation) (plans : List Plan) (s : Machine) → IsSession table plans s
