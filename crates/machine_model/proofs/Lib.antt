@@ -60,3 +60,4 @@ pub mod UndoneFree
 pub mod LegalRuns
 pub mod RunsWithin
 pub mod RestartFree
+pub mod LastPending

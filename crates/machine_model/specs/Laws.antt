@@ -254,6 +254,11 @@ abbrev pub RestartIsFree : Type 0
 RestartIsFree = (table : ConflictRelation) (plans : List Plan) (s : Machine) → IsSession table plans s → AllHaveBegun (now table s)
     → (i : ℕ) → next_in_restart s.courses (now table s) ≡ Some i → block_of table s.courses (now table s) i ≡ None
 
+-- The undo of the last pending entry in joint order is never blocked, where the machine opened at rest or all have begun.
+abbrev pub LastPendingIsFree : Type 0
+LastPendingIsFree = (table : ConflictRelation) (plans : List Plan) (s : Machine) → IsSession table plans s
+    → (i : ℕ) → OpenedAtRest s ⊎ AllHaveBegun (now table s) → undo_next s.courses (now table s) ≡ Some i → block_of table s.courses (now table s) i ≡ None
+
 -- A piece is blocked exactly where something stands against it.
 abbrev pub BlockedWhereSomethingStands : Type 0
 BlockedWhereSomethingStands = (c : Clashes) → (least_block (blocks_of c) ≡ None) ↔ (length (all_clashes c) ≡ 0)
