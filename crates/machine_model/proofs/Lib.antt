@@ -61,3 +61,4 @@ pub mod LegalRuns
 pub mod RunsWithin
 pub mod RestartFree
 pub mod LastPending
+pub mod WholeLaws
