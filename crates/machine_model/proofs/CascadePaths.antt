@@ -1,16 +1,15 @@
 -- A cascade and the conflict graph: whoever has built on what a member takes back is a member, and paths lead to each member from
 -- the root, so nothing of the root stands behind what another member takes back and conflicts with it.
-use Rattle.std.proofs.Common.{◌≡◌, ◌⊎◌, inl, inr, ⊎_elim, ℕ, Bool, true, false, not, eqb, ◌&&◌, ◌||◌, List, [], ◌∷◌, ◌++◌, filter, find, if◌then◌else◌, Option, Some, None, sym, refl, ap, subst, ◌∙◌}
+use Rattle.std.proofs.Common.{◌≡◌, ◌⊎◌, inl, inr, ⊎_elim, ℕ, Bool, true, false, not, eqb, ◌&&◌, List, [], ◌∷◌, ◌++◌, filter, if◌then◌else◌, Option, Some, None, sym, refl, ap, subst, ◌∙◌}
 use Rattle.std.specs.Option.{option_to_list}
 use Rattle.std.specs.List.{list_any}
 use Rattle.std.proofs.lemmas.Bool.{and_from, and_parts, eqb-true, eq-eqb, false≢true, or_cases, or_left, or_right}
 use Rattle.process_tree.specs.declared.entry.Entry.{Entry}
 use Rattle.schedule_model.specs.Course.{Course}
 use Rattle.schedule_model.specs.Conflict.{ConflictRelation, conflict}
-use Rattle.schedule_model.specs.Graph.{one_arrow, and_then, leads, reached}
+use Rattle.schedule_model.specs.Graph.{one_arrow, and_then, reached}
 use Rattle.schedule_model.specs.Histories.{active, is_active, is_in, net, net_of}
 use Rattle.schedule_model.specs.Holdings.{Hold, Holdings, all_running, arrow, behind, holders, running_steps}
-use Rattle.schedule_model.specs.Recovery.{backward_entries}
 use Rattle.schedule_model.proofs.Active.{is_active-is_in}
 use Rattle.schedule_model.proofs.Members.{Among, among-any, among-append, among-filter, among-flat_map, among-left, among-map, any-among, in_filter, in_flat_map, is_in-among}
 use Rattle.schedule_model.proofs.Started.{among_net_of}

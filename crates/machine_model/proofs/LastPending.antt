@@ -1,5 +1,5 @@
 -- Where the machine opened at rest, or all have begun to complete, the undo of the last pending entry in joint order is never blocked.
-use Rattle.std.proofs.Common.{◌≡◌, ◌⊎◌, inl, inr, ⊎_elim, ℕ, Bool, true, false, not, cond, eqb, ◌&&◌, List, [], ◌∷◌, ◌++◌, map, filter, take, drop, length, Some, None, sym, refl, ap, subst, ◌∙◌, append_assoc}
+use Rattle.std.proofs.Common.{◌≡◌, ◌⊎◌, inl, inr, ℕ, Bool, true, false, not, cond, eqb, ◌&&◌, List, [], ◌∷◌, ◌++◌, map, filter, take, length, Some, None, sym, refl, ap, subst, ◌∙◌, append_assoc}
 use Rattle.std.specs.List.{list_any, All, Contains}
 use Rattle.std.specs.Option.{option_or}
 use Rattle.std.proofs.lemmas.Option.{none-some, same_Some}
@@ -22,12 +22,12 @@ use Rattle.schedule_model.proofs.Entries.{HasPlansOperation, acts-of_plans, All-
 use Rattle.schedule_model.proofs.Members.{Among, all-among, among-filter, among-right, contains-from_among, in_filter, not_any}
 use Rattle.schedule_model.proofs.Snoc.{filter_same, filter_twice}
 use Rattle.machine_model.specs.declared.kept.Work.TheVariants.{Undo}
-use Rattle.machine_model.specs.Progress.{Task, next_forward, pending_steps, staying, undo_or}
+use Rattle.machine_model.specs.Progress.{Task, next_forward, staying, undo_or}
 use Rattle.machine_model.specs.Moment.{Moment}
 use Rattle.machine_model.specs.State.{against_work, block_of, holdings, is_pending, next_of, pending_in_order, pending_of, progress, undo_next}
 use Rattle.machine_model.specs.Advance.{Machine}
 use Rattle.machine_model.specs.Runs.{now}
-use Rattle.machine_model.specs.Laws.{AllHaveBegun, IsSession, LastPendingIsFree, OpenedAtRest}
+use Rattle.machine_model.specs.Laws.{IsSession, LastPendingIsFree, OpenedAtRest}
 use Rattle.machine_model.proofs.Clear.{clear-none}
 use Rattle.machine_model.proofs.LastElements.{Each-drop, Each-last, HasEnd, all_pass, any_last, has_end, last_of-push, same_end}
 use Rattle.machine_model.proofs.PendingClosed.{ClosedFacts, rested, session-pending_closed}

@@ -1,15 +1,13 @@
 -- Where the machine opened at rest, or a restart is kept: what stands behind a pending entry and conflicts with it is pending.
-use Rattle.std.proofs.Common.{◌≡◌, ◌⊎◌, inl, inr, ⊎_elim, ℕ, Bool, true, false, not, eqb, ◌&&◌, ◌||◌, List, [], ◌∷◌, ◌++◌, filter, if◌then◌else◌, Some, sym, refl, ap, subst, ◌∙◌}
+use Rattle.std.proofs.Common.{◌≡◌, ◌⊎◌, inl, inr, ℕ, Bool, true, false, not, eqb, ◌||◌, List, [], ◌∷◌, filter, if◌then◌else◌, Some, sym, refl, ap, subst, ◌∙◌}
 use Rattle.std.specs.Bool.{IsTrue}
-use Rattle.std.specs.List.{list_any}
-use Rattle.std.proofs.lemmas.Option.{none-some}
 use Rattle.std.proofs.lemmas.Bool.{and_from, and_parts, eqb-true, eq-eqb, false≢true, or_left, or_right}
 use Rattle.process_tree.specs.declared.entry.Entry.{Entry}
 use Rattle.process_tree.specs.declared.plan.Plan.{Plan}
 use Rattle.schedule_model.specs.declared.event.Event.{Event}
 use Rattle.schedule_model.specs.Course.{Course, courses_of}
 use Rattle.schedule_model.specs.Conflict.{ConflictRelation, IsSymmetric, conflict, no_conflict}
-use Rattle.schedule_model.specs.Histories.{active, doing, ends, is_active, is_in, net, net_of, same_step, starts}
+use Rattle.schedule_model.specs.Histories.{active, doing, ends, is_active, is_in, net, net_of, starts}
 use Rattle.schedule_model.specs.Holdings.{Hold, Holdings, behind}
 use Rattle.schedule_model.specs.Laws.{AreGood}
 use Rattle.schedule_model.specs.Legal.{is_legal}
@@ -17,7 +15,7 @@ use Rattle.schedule_model.specs.Recovery.{backward_entries}
 use Rattle.schedule_model.proofs.Active.{is_active-is_in, is_in-filter}
 use Rattle.schedule_model.proofs.Behind.{among_behind, has_step}
 use Rattle.schedule_model.proofs.Conflicts.{conflict-itself}
-use Rattle.schedule_model.proofs.Members.{Among, among-append, among-from_contains, in_flat_map, is_in-among}
+use Rattle.schedule_model.proofs.Members.{Among, among-append, among-from_contains, in_flat_map}
 use Rattle.schedule_model.proofs.Started.{among_net_of, net-started}
 use Rattle.machine_model.specs.declared.kept.Kept.{Kept}
 use Rattle.machine_model.specs.declared.kept.Kept.TheVariants.{Restart}
@@ -38,11 +36,11 @@ use Rattle.machine_model.proofs.EndedFree.{EndedFacts, advance-ended_free, openi
 use Rattle.machine_model.proofs.FixedFree.{FixedFacts, advance-fixed_free, opening-fixed_free}
 use Rattle.machine_model.proofs.HandedPieces.{among_holds}
 use Rattle.machine_model.proofs.HoldChanges.{begun_undo_all, out_runs}
-use Rattle.machine_model.proofs.NoCircle.{BuildsOn, CircleFree, advance-circle_free, opening-circle_free}
+use Rattle.machine_model.proofs.NoCircle.{CircleFree, advance-circle_free, opening-circle_free}
 use Rattle.machine_model.proofs.OpenHoldings.{holds-active}
 use Rattle.machine_model.proofs.OwnOrder.{InOwnOrder, run-own_order}
 use Rattle.machine_model.proofs.Paths.{further}
-use Rattle.machine_model.proofs.PendingFree.{Back, PendingFree, active_before, advance-pending_free, dragged_events, dragged_root, in_whole, opening-pending_free, pending_before, unmoved}
+use Rattle.machine_model.proofs.PendingFree.{Back, PendingFree, advance-pending_free, dragged_events, dragged_root, in_whole, opening-pending_free, pending_before, unmoved}
 use Rattle.machine_model.proofs.ReservedFree.{was_active}
 use Rattle.machine_model.proofs.Restart.{restart_begins_all}
 use Rattle.machine_model.proofs.RunInduction.{goes_on-keeps}
