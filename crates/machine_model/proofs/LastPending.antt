@@ -31,14 +31,8 @@ use Rattle.machine_model.specs.Laws.{IsSession, LastPendingIsFree, OpenedAtRest}
 use Rattle.machine_model.proofs.Clear.{clear-none}
 use Rattle.machine_model.proofs.LastElements.{Each-drop, Each-last, HasEnd, all_pass, any_last, has_end, last_of-push, same_end}
 use Rattle.machine_model.proofs.PendingClosed.{ClosedFacts, rested, session-pending_closed}
-use Rattle.machine_model.proofs.Restart.{run-of_plans}
+use Rattle.machine_model.proofs.Restart.{and_swap, run-of_plans}
 use Rattle.machine_model.proofs.RestartFree.{restart_is_free}
-
-and_swap : (a b : Bool) → (a && b) ≡ (b && a)
-and_swap true true = refl
-and_swap true false = refl
-and_swap false true = refl
-and_swap false false = refl
 
 not-false : (t : Bool) → not t ≡ true → t ≡ false
 not-false true is = absurd (false≢true is)
