@@ -32,6 +32,7 @@ pub mod OwnOrderLaws
 pub mod GonePieces
 pub mod RefusalCounts
 pub mod OneCounter
+pub mod Allowances
 pub mod StateSteps
 pub mod HoldSteps
 pub mod Restart
@@ -62,3 +63,5 @@ pub mod RunsWithin
 pub mod RestartFree
 pub mod LastPending
 pub mod WholeLaws
+pub mod Going
+pub mod Causes

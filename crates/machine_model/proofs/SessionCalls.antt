@@ -69,7 +69,7 @@ module _ (table : ConflictRelation) (courses : List Course) where
   victim_starts rest none None = tt
   victim_starts rest none (Some i) = (refl, none i)
 
-  victims_start : (n : ℕ) (m : Moment) → NobodyStarts (victims n table courses m)
+  pub victims_start : (n : ℕ) (m : Moment) → NobodyStarts (victims n table courses m)
   victims_start zero m = tt
   victims_start (suc n) m = victim_starts (λ i. victims n table courses (advance table courses m (Victim i))) (λ i. victims_start n (advance table courses m (Victim i))) (victim_of table courses m)
 

@@ -74,7 +74,7 @@ same_if : (t u : Task) → t.work ≡ u.work → t.step ≡ u.step → same_task
 same_if t u work step = and_from (same_work t.work u.work) (eqb t.step u.step) (ap (same_work t.work) (sym work) ∙ same_work-itself t.work) (eq-eqb t.step u.step step)
 
 -- and the other way round
-same_is : (t u : Task) → same_task t u ≡ true → (t.work ≡ u.work) × (t.step ≡ u.step)
+pub same_is : (t u : Task) → same_task t u ≡ true → (t.work ≡ u.work) × (t.step ≡ u.step)
 same_is t u same = let p = and_parts (same_work t.work u.work) (eqb t.step u.step) same in (same_work-is t.work u.work p.0, eqb-true t.step u.step p.1)
 
 -- a process that has begun as its state says doesn't begin anew

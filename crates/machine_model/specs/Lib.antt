@@ -20,4 +20,5 @@ pub mod GroupExamples
 pub mod Laws
 pub mod PieceLaws
 pub mod CallLaws
+pub mod CauseLaws
 pub mod HoldLaws

@@ -1,7 +1,8 @@
 // The laws of the machine that are proved: each function says one, and does nothing.
-ghost use Rattle.machine_model.specs.Laws.{AdmissionLawsHold, BlockedWhereSomethingStands, CallsMakeRuns, CascadeIsLeast, EndedAreAtEnds, EndedIsFree, EndsAreFree, FixedIsFree, FixingIsFree, LastPendingIsFree, NextKeepsOwnOrder, NoCircle, OpenHoldingsBlockAlike, OpenHoldingsDragAlike, OwedStepsAreFree, PendingIsClosed, PendingIsFree, ReservedIsFree, RestartBeginsAll, RestartFollowsCompletion, RestartIsFree, RunningStepsAreFree, RunsAreLegal, RunsKeepOwnOrder, StandingFactsHold, UndoneIsFree, UndosWaitByA5};
+ghost use Rattle.machine_model.specs.Laws.{AdmissionLawsHold, BlockedWhereSomethingStands, CallsMakeRuns, CascadeIsLeast, EndedAreAtEnds, EndedIsFree, EndsAreFree, FixedIsFree, FixingIsFree, LastPendingIsFree, NextKeepsOwnOrder, NoCircle, OpenHoldingsBlockAlike, OpenHoldingsDragAlike, OwedStepsAreFree, PendingIsClosed, PendingIsFree, ProgressLaw, ReservedIsFree, RestartBeginsAll, RestartFollowsCompletion, RestartIsFree, RunningStepsAreFree, RunsAreLegal, RunsKeepOwnOrder, StandingFactsHold, UndoneIsFree, UndosWaitByA5};
 ghost use Rattle.machine_model.specs.PieceLaws.{DroppedIsExact, OneRuns, OthersStay, OverIsFinished, ProgressGoesByTransitions, RefusedBeginsWithoutWayOn, RefusedIsNextOrGone, RunningIsNext, StatesGoByTransitions, UndosTakeBackTheLast};
 ghost use Rattle.machine_model.specs.HoldLaws.{BeginningsStop, BegunUndoAll, EndsGo, HandsReserve, NetGoesByPieces, RunningGoesByPieces, StepsTakeEffect, UndosTakeEffect};
+ghost use Rattle.machine_model.specs.CauseLaws.{BeginningsHaveCauses, BeginningsStay};
 ghost use Rattle.machine_model.specs.CallLaws.{BeginningsOfRunsAreRuns, CallsKeepRuns, FlushesKeepWhatRuns, QueuedAreOutOrDropped, StuckIsExact, TurnsMakeRuns, VictimsRunDry};
 
 /// The computed cascade of an active process is the least set.
@@ -262,4 +263,19 @@ pub fn standing_facts_hold()
 /// The admission laws hold at each moment of a run.
 pub fn admission_laws_hold()
     ensures { AdmissionLawsHold }
+{}
+
+/// Where no active process is exhausted, a request for any piece isn't answered that one is stuck.
+pub fn progress_law()
+    ensures { ProgressLaw }
+{}
+
+/// A process begins to complete at a kept event with the cause that the event is.
+pub fn beginnings_have_causes()
+    ensures { BeginningsHaveCauses }
+{}
+
+/// When and why a process began to complete stays.
+pub fn beginnings_stay()
+    ensures { BeginningsStay }
 {}

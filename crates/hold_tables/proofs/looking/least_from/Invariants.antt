@@ -1,0 +1,10 @@
+use Rattle.std.proofs.Common.{◌≡◌, length}
+use Rattle.std.specs.Prelude.{map}
+use Rattle.hold_tables.specs.Reading.{least_from, least_or}
+use Rattle.hold_tables.proofs.looking.least_from.Given as goal
+
+abbrev pub invariant-rows : goal.invariant-rows
+invariant-rows l = least_or l.least l.from (map (λ r. r.process) l.rest) ≡ least_from l.from (map (λ r. r.process) l.rows)
+
+abbrev pub decreases-rows : goal.decreases-rows
+decreases-rows l = length l.rest

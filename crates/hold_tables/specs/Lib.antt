@@ -1,0 +1,5 @@
+pub mod Tables
+pub mod Changes
+pub mod Reading
+pub mod Kept
+pub mod Places

@@ -1,0 +1,261 @@
+// The tables of what the open processes hold.
+ghost use Rattle.std.specs.Prelude.{◌≡◌, ◌<◌, ◌≤◌, ◌+◌, ℕ, List, [], length, true, false, IfOk, OnOk, OnErr, IfSome, None, is_some, slice_index_or, vec_capacity, vec_len};
+ghost use Rattle.process_tree.specs.Blocks.{outline};
+ghost use Rattle.process_tree.specs.Conflicts.{operations_in};
+ghost use Rattle.process_tree.specs.Order.{Each};
+ghost use Rattle.process_tree.specs.declared.entry.Entry.{Entry};
+ghost use Rattle.schedule_model.specs.Histories.{of_process};
+ghost use Rattle.hold_tables.specs.Tables.{is_open, kept_of};
+ghost use Rattle.hold_tables.specs.Changes.{none_open, opened, changed, with_running, with_pending, with_reserved, run, stopped, took_effect, all_fixed, dropped, can_run, undoes};
+ghost use Rattle.hold_tables.specs.Reading.{next_open, holder_against};
+ghost use Rattle.hold_tables.specs.Kept.{IsKnown, AreKnown, AreTidy};
+ghost use Rattle.hold_tables.specs.Places.{all_steps};
+
+use crate::against::{Sought, least_of, least_reserved, least_running};
+use crate::looking::{all_steps, count_of, least_from, place_of, settle};
+use crate::row::Row;
+use process_tree::{Conflicts, Entry, Plan};
+use std::alloc::{AllocError, Global};
+use std::marker::Model;
+
+/// What the open processes hold.
+#[derive(Drop)]
+pub struct Holds {
+    alloc: Global,
+    conflicts: Conflicts,
+    net: Vec<Entry>,
+    rows: Vec<Row>,
+}
+
+impl Model for Holds {
+    ghost use Rattle.std.specs.Prelude.{vec_capacity};
+    ghost use Rattle.hold_tables.specs.Tables.{Tables};
+    ghost use Rattle.hold_tables.specs.Kept.{Stands};
+
+    ghost Value = { Tables };
+
+    ghost view = { λ h. record { conflicts = h.conflicts; net = h.net.items; processes = h.rows.items } };
+
+    ghost invariant = { λ h. Stands h.conflicts h.net.items h.rows.items (vec_capacity h.net) };
+}
+
+impl Holds {
+    /// The tables of no process, over an equal table of conflicts.
+    pub fn new(alloc: Global, c: &Conflicts) -> Result<Holds, AllocError>
+        ensures { IfOk result (λ holds. holds ≡ none_open c.now) }
+    {
+        Ok(Holds {
+            alloc,
+            conflicts: c.copy(alloc)?,
+            net: Vec::new(alloc),
+            rows: Vec::new(alloc),
+        })
+    }
+
+    /// A process begins to hold, and all room is taken that it can need.
+    pub fn open(&mut self, process: u32, plan: &Plan) -> Result<(), AllocError>
+        requires closed { is_open self.old process ≡ false }
+        requires known { Each (λ op. op < operations_in self.old.conflicts) plan.now.ops }
+        ensures opened { OnOk result (self.new ≡ opened process (length (outline plan.now.tree).steps) self.old) }
+        ensures err { OnErr result (self.new ≡ self.old) }
+    {
+        let steps = plan.tree.count();
+        let row = Row::new(self.alloc, process, steps)?;
+        take_room(&mut self.net, &mut self.rows, steps)?;
+        self.rows.push_reserved(row);
+        Ok(())
+    }
+
+    /// The entry comes under way in its process.
+    pub fn run(&mut self, e: Entry)
+        requires open { is_open self.old e.process ≡ true }
+        requires none { (kept_of self.old e.process).running ≡ None }
+        requires known { IsKnown self.old.conflicts e }
+        requires may { can_run self.old e ≡ true }
+        ensures { self.new ≡ run e self.old }
+    {
+        let at = place_of(&self.rows, e.process);
+        self.rows[at].run(Some(e));
+    }
+
+    /// Nothing is under way in the process.
+    pub fn stop(&mut self, process: u32)
+        requires open { is_open self.old process ≡ true }
+        ensures { self.new ≡ stopped process self.old }
+    {
+        let at = place_of(&self.rows, process);
+        self.rows[at].run(None);
+    }
+
+    /// What is under way in the process took effect.
+    pub fn take_effect(&mut self, process: u32)
+        requires open { is_open self.old process ≡ true }
+        requires running { is_some (kept_of self.old process).running ≡ true }
+        ensures { self.new ≡ took_effect process self.old }
+    {
+        let at = place_of(&self.rows, process);
+        let Some(e) = self.rows[at].running() else {
+            unreachable!();
+        };
+        settle(&mut self.net, process, e);
+        self.rows[at].run(None);
+    }
+
+    /// All net entries that the process has are fixed.
+    pub fn fix(&mut self, process: u32)
+        requires open { is_open self.old process ≡ true }
+        requires forward { undoes (kept_of self.old process).running ≡ false }
+        ensures { self.new ≡ all_fixed process self.old }
+    {
+        let at = place_of(&self.rows, process);
+        let most = usize::from(self.rows[at].steps());
+        let fixed = count_of(&self.net, process).min(most);
+        self.rows[at].fix(fixed as u16);
+    }
+
+    /// These, each a step with its operation, are the reserved steps of the process.
+    pub fn reserve(&mut self, process: u32, ops: &[(u16, u16)])
+        requires open { is_open self.old process ≡ true }
+        requires room { length ops.now ≤ (kept_of self.old process).steps }
+        requires known { AreKnown self.old.conflicts ops.now }
+        ensures { self.new ≡ changed (with_reserved ops.now) process self.old }
+    {
+        let at = place_of(&self.rows, process);
+        self.rows[at].reserve(ops);
+    }
+
+    /// So many of the last net entries of the process are to be undone.
+    pub fn pend(&mut self, process: u32, count: u16)
+        requires open { is_open self.old process ≡ true }
+        ensures { self.new ≡ changed (with_pending count) process self.old }
+    {
+        let at = place_of(&self.rows, process);
+        self.rows[at].pend(count);
+    }
+
+    /// The process holds nothing any more.
+    pub fn drop_process(&mut self, process: u32)
+        requires open { is_open self.old process ≡ true }
+        ensures { self.new ≡ dropped process self.old }
+    {
+        self.net.retain(|e| e.process != process);
+        self.rows.retain(|row| row.process() != process);
+    }
+}
+
+impl Holds {
+    /// What is kept of a process.
+    fn row(&self, process: u32) -> &Row
+        requires open { is_open self.now process ≡ true }
+        ensures { result.now ≡ kept_of self.now process }
+    {
+        let at = place_of(&self.rows, process);
+        &self.rows[at]
+    }
+
+    /// The table of conflicts.
+    pub fn conflicts(&self) -> &Conflicts
+        ensures table { result.now ≡ self.now.conflicts }
+        ensures tidy { AreTidy self.now }
+    {
+        &self.conflicts
+    }
+
+    /// The least open process whose number is at least this.
+    pub fn next_open(&self, from: u32) -> Option<u32>
+        ensures { result ≡ next_open self.now from }
+    {
+        least_from(&self.rows, from)
+    }
+
+    /// How many net entries the open processes have.
+    pub fn net_len(&self) -> usize
+        ensures { result ≡ length self.now.net }
+    {
+        self.net.len()
+    }
+
+    /// The net entry at a place in joint order, counted from 0.
+    pub fn net_at(&self, place: usize) -> Entry
+        requires { place < length self.now.net }
+        ensures { (d : Entry) → result ≡ slice_index_or self.now.net place d }
+    {
+        self.net[place]
+    }
+
+    /// How many net entries of the process are fixed.
+    pub fn fixed(&self, process: u32) -> u16
+        requires open { is_open self.now process ≡ true }
+        ensures { result ≡ (kept_of self.now process).fixed }
+    {
+        self.row(process).fixed()
+    }
+
+    /// The number of pending entries of the process.
+    pub fn pending(&self, process: u32) -> u16
+        requires open { is_open self.now process ≡ true }
+        ensures { result ≡ (kept_of self.now process).pending }
+    {
+        self.row(process).pending()
+    }
+
+    /// What is under way in the process.
+    pub fn running(&self, process: u32) -> Option<Entry>
+        requires open { is_open self.now process ≡ true }
+        ensures { result ≡ (kept_of self.now process).running }
+    {
+        self.row(process).running()
+    }
+
+    /// How many steps of the process are reserved.
+    pub fn reserved_len(&self, process: u32) -> u16
+        requires open { is_open self.now process ≡ true }
+        ensures { result ≡ length (kept_of self.now process).reserved }
+    {
+        self.row(process).reserved_len()
+    }
+
+    /// A reserved step of the process and its operation, places from 0.
+    pub fn reserved_at(&self, process: u32, place: u16) -> (u16, u16)
+        requires open { is_open self.now process ≡ true }
+        requires within { place < length (kept_of self.now process).reserved }
+        ensures { (d : ℕ × ℕ) → result ≡ slice_index_or (kept_of self.now process).reserved place d }
+    {
+        self.row(process).reserved()[usize::from(place)]
+    }
+}
+
+impl Holds {
+    /// The least other process, and its step, that holds a net entry, has one under way, or reserves one against the operation.
+    pub fn holder_against(&self, process: u32, op: u16) -> Option<(u32, u16)>
+        requires known { op < operations_in self.now.conflicts }
+        ensures { result ≡ holder_against self.now process op }
+    {
+        let sought = Sought { process, op };
+        let reserved = least_reserved(&self.conflicts, sought, &self.rows);
+        let running = least_running(&self.conflicts, sought, &self.rows, reserved);
+        least_of(&self.conflicts, sought, &self.net, running)
+    }
+}
+
+/// Takes the room for one process more, of so many steps.
+fn take_room(net: &mut Vec<Entry>, rows: &mut Vec<Row>, steps: u16) -> Result<(), AllocError>
+    ensures same { (net.new.items ≡ net.old.items) × (rows.new.items ≡ rows.old.items) }
+    ensures capacity { vec_capacity net.old ≤ vec_capacity net.new }
+    ensures net { OnOk result (length net.old.items + (all_steps rows.old.items + steps) ≤ vec_capacity net.new) }
+    ensures rows { OnOk result (vec_len rows.new < vec_capacity rows.new) }
+{
+    let room = room_with(rows, steps)?;
+    net.reserve(room)?;
+    rows.reserve(1)
+}
+
+/// The room that the net needs with a process of so many steps.
+fn room_with(rows: &[Row], steps: u16) -> Result<usize, AllocError>
+    ensures { IfOk result (λ room. room ≡ all_steps rows.now + steps) }
+{
+    let Some(all) = all_steps(rows) else {
+        return Err(AllocError);
+    };
+    all.checked_add(usize::from(steps)).ok_or(AllocError)
+}

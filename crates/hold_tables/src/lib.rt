@@ -1,0 +1,19 @@
+//! What the open processes hold against each other, in tables.
+//!
+//! `Holds` is seen as a record of plain lists (`Tables` of `specs`): the net entries of the open processes in joint order, and
+//! of each open process what is under way, what is reserved, how many of its entries are fixed and how many are pending. They
+//! stand for holdings of `schedule_model` (`holdings_of`), over which the blocking rules and the conflict graph are defined.
+//! Each call changes what it names and nothing else. `new` and `open` alone take memory.
+#![tactic(auto)]
+
+mod against;
+mod holds;
+mod looking;
+mod row;
+
+pub use holds::Holds;
+
+#[cfg(test)]
+mod tests;
+
+pub use machine_model::{Admitted, Blocked, Rule};

@@ -1,0 +1,127 @@
+// What is looked up in the rows and in the net.
+ghost use Rattle.std.specs.Prelude.{◌≡◌, ◌<◌, ◌≤◌, ◌+◌, length, true, false, IfSome, Some, map, nat_le, if◌then◌else◌, vec_len, vec_capacity};
+ghost use Rattle.schedule_model.specs.Histories.{of_process};
+ghost use Rattle.hold_tables.specs.Tables.{has_number};
+ghost use Rattle.hold_tables.specs.Places.{place_of, last_place, all_steps};
+ghost use Rattle.hold_tables.specs.Changes.{net_after, without_last};
+ghost use Rattle.hold_tables.specs.Reading.{lesser_number, least_from};
+
+use crate::row::Row;
+use process_tree::Entry;
+
+/// The place of the process with this number.
+pub fn place_of(rows: &[Row], process: u32) -> usize
+    requires { has_number process rows.now ≡ true }
+    ensures place { result ≡ place_of process rows.now }
+    ensures within { result < length rows.now }
+{
+    let mut rest = rows;
+    let mut at = 0;
+    while let [row, after @ ..] = rest {
+        if row.process() == process {
+            return at;
+        }
+        rest = after;
+        at += 1;
+    }
+    unreachable!()
+}
+
+/// How many of the entries are of the process.
+pub fn count_of(net: &[Entry], process: u32) -> usize
+    ensures { result ≡ length (of_process process net.now) }
+{
+    let mut rest = net;
+    let mut count = 0;
+    while let [e, after @ ..] = rest {
+        if e.process == process {
+            count += 1;
+        }
+        rest = after;
+    }
+    count
+}
+
+/// The place of the last entry of the process.
+pub fn last_place(net: &[Entry], process: u32) -> Option<usize>
+    ensures { result ≡ last_place process net.now }
+{
+    let mut rest = net;
+    'places: while let Some((last, front)) = rest.split_last() {
+        if last.process == process {
+            return Some(front.len());
+        }
+        rest = front;
+    }
+    None
+}
+
+/// How many steps the processes have together, unless that can't be counted.
+pub fn all_steps(rows: &[Row]) -> Option<usize>
+    ensures { IfSome result (λ steps. steps ≡ all_steps rows.now) }
+{
+    let mut rest = rows;
+    let mut steps = 0_usize;
+    while let [row, after @ ..] = rest {
+        steps = steps.checked_add(usize::from(row.steps()))?;
+        rest = after;
+    }
+    Some(steps)
+}
+
+/// The net once this took effect in the process.
+pub fn settle(net: &mut Vec<Entry>, process: u32, e: Entry)
+    requires room { e.undo ≡ false → vec_len net.old < vec_capacity net.old }
+    ensures net { net.new.items ≡ net_after process (Some e) net.old.items }
+    ensures capacity { vec_capacity net.new ≡ vec_capacity net.old }
+{
+    if e.undo {
+        remove_last(net, process);
+    } else {
+        net.push_reserved(e);
+    }
+}
+
+/// Takes the last entry of the process away.
+fn remove_last(net: &mut Vec<Entry>, process: u32)
+    ensures net { net.new.items ≡ without_last process net.old.items }
+    ensures capacity { vec_capacity net.new ≡ vec_capacity net.old }
+{
+    if let Some(place) = last_place(net, process) {
+        net.remove(place);
+    }
+}
+
+/// The lesser of a number and of another, if there is one.
+fn lesser_number(n: u32, other: Option<u32>) -> Option<u32>
+    ensures { result ≡ lesser_number n other }
+{
+    match other {
+        Some(m) if m < n => other,
+        _ => Some(n),
+    }
+}
+
+/// The lesser of a number that is at least this, and of another.
+fn least_with(n: u32, from: u32, other: Option<u32>) -> Option<u32>
+    ensures { result ≡ (if nat_le from n then lesser_number n other else other) }
+{
+    if from <= n {
+        lesser_number(n, other)
+    } else {
+        other
+    }
+}
+
+/// The least number of a process that is at least this.
+pub fn least_from(rows: &[Row], from: u32) -> Option<u32>
+    ensures { result ≡ least_from from (map (λ r. r.process) rows.now) }
+{
+    let mut rest = rows;
+    let mut least = None;
+    'rows: while let Some((last, front)) = rest.split_last() {
+        least = least_with(last.process(), from, least);
+        rest = front;
+    }
+    least
+}

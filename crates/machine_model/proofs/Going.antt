@@ -1,0 +1,156 @@
+-- Where no active process is exhausted, a request for any piece isn't answered that one is stuck: a victim makes nobody exhausted,
+-- and once all that are active have begun to complete, one of them is free.
+use Rattle.std.proofs.Common.{◌≡◌, ◌≢◌, ◌⊎◌, inl, inr, ⊎_elim, ℕ, zero, suc, Bool, true, false, not, eqb, ◌&&◌, if◌then◌else◌, List, [], ◌∷◌, length, map, filter, Option, Some, None, is_some, sym, refl, ap, subst, ◌∙◌, append-nil}
+use Rattle.std.specs.Bool.{IsTrue}
+use Rattle.std.specs.List.{list_any}
+use Rattle.std.specs.Option.{option_or}
+use Rattle.std.proofs.lemmas.Bool.{and_parts, and_from, or_cases, or_left, eq-eqb, eqb-true, not-true, false≢true}
+use Rattle.process_tree.specs.Order.{Each}
+use Rattle.process_tree.specs.Shape.{first_of}
+use Rattle.process_tree.specs.declared.entry.Entry.{Entry}
+use Rattle.process_tree.specs.declared.plan.Plan.{Plan}
+use Rattle.process_tree.proofs.Every.{Each-weaker}
+use Rattle.schedule_model.specs.declared.event.Event.{Event}
+use Rattle.schedule_model.specs.Course.{Course, course, courses_of}
+use Rattle.schedule_model.specs.Conflict.{ConflictRelation}
+use Rattle.schedule_model.specs.Histories.{active, ends, is_active, is_in, net, same_step, starts}
+use Rattle.schedule_model.specs.Laws.{AreGood}
+use Rattle.schedule_model.proofs.Active.{is_active-is_in}
+use Rattle.machine_model.specs.declared.blocked.Blocked.{Blocked}
+use Rattle.machine_model.specs.declared.kept.Kept.TheVariants.{Victim}
+use Rattle.machine_model.specs.Moment.{Moment, has_begun, opening_moment}
+use Rattle.machine_model.specs.Progress.{next_task, same_task}
+use Rattle.machine_model.specs.ProcessState.{ProcessState, are_used_up, begun, completing, has_used_up, next_piece, tries_in}
+use Rattle.machine_model.specs.State.{block_of, is_blocked, is_exhausted, is_pending, pending_of, process_state, undo_next, victim_of}
+use Rattle.machine_model.specs.Advance.{Machine, advance, advance_all}
+use Rattle.machine_model.specs.Runs.{goes_on_from, is_victim, may_be_kept, now}
+use Rattle.machine_model.specs.Replies.{all_victims, victim_then, victims}
+use Rattle.machine_model.specs.CallLaws.{IsStuck}
+use Rattle.machine_model.specs.PieceLaws.{begun_where}
+use Rattle.machine_model.specs.Laws.{AllHaveBegun, IsSession, ProgressLaw, next_in_restart}
+use Rattle.machine_model.proofs.Allowances.{course_tries, left_at_first}
+use Rattle.machine_model.proofs.CallsKept.{victims-kept}
+use Rattle.machine_model.proofs.GonePieces.{last_listed}
+use Rattle.machine_model.proofs.LastElements.{all_pass}
+use Rattle.machine_model.proofs.OneCounter.{CountsStand, advance-counts, session-counts}
+use Rattle.machine_model.proofs.RestartFree.{restart_is_free}
+use Rattle.machine_model.proofs.SessionCalls.{session-longer, victims_start}
+use Rattle.machine_model.proofs.Snoc.{advances, advance_all-append, goes_on-append, keeping}
+use Rattle.machine_model.proofs.StateSteps.{advance-state, same_is}
+use Rattle.machine_model.proofs.Stuck.{stuck_is_exact}
+
+-- a process that begins to complete isn't exhausted anew: its next piece was refused as often as before, or never
+begun_left : (c : Course) (s : ProcessState) → ((b : ℕ) (w : _) → are_used_up (tries_in c b w) 0 ≡ false) → has_used_up c s ≡ false → has_used_up c (begun s) ≡ false
+begun_left c s fresh left = by_same (same_task (next_piece s) (next_task (completing s.progress))) refl
+  where
+    by_same : (u : Bool) → same_task (next_piece s) (next_task (completing s.progress)) ≡ u
+        → are_used_up (tries_in c (next_task (completing s.progress)).step (next_task (completing s.progress)).work) (if u then s.refused else 0) ≡ false
+    by_same true at =
+        let t = next_piece s in
+        let n = next_task (completing s.progress) in
+        let its = same_is t n at in
+        ap (λ w. are_used_up (tries_in c n.step w) s.refused) (sym its.0) ∙ (ap (λ b. are_used_up (tries_in c b t.work) s.refused) (sym its.1) ∙ left)
+    by_same false at = fresh (next_task (completing s.progress)).step (next_task (completing s.progress)).work
+
+begun_where_left : (c : Course) (has : Bool) (s : ProcessState) → ((b : ℕ) (w : _) → are_used_up (tries_in c b w) 0 ≡ false) → has_used_up c s ≡ false → has_used_up c (begun_where has s) ≡ false
+begun_where_left c has s fresh left = by_test (has && not s.progress.begun)
+  where
+    by_test : (t : Bool) → has_used_up c (if t then begun s else s) ≡ false
+    by_test true = begun_left c s fresh left
+    by_test false = left
+
+-- no active process is exhausted
+abbrev NoneExhausted : List Course → Moment → Type 0
+NoneExhausted courses m = (i : ℕ) → is_active m.events i ≡ true → is_exhausted courses m i ≡ false
+
+module _ (table : ConflictRelation) (plans : List Plan) (good : AreGood plans) where
+  abbrev cs : List Course
+  cs = courses_of plans
+
+  victim_may : (m : Moment) (v : ℕ) → victim_of table cs m ≡ Some v → may_be_kept table cs m (Victim v) ≡ true
+  victim_may m v is = ap (is_victim v) is ∙ eq-eqb v v refl
+
+  -- a victim makes nobody exhausted
+  victim_none : (m : Moment) (v : ℕ) → CountsStand table plans good m → victim_of table cs m ≡ Some v → NoneExhausted cs m → NoneExhausted cs (advance table cs m (Victim v))
+  victim_none m v counts is none i active' =
+      let after = advance table cs m (Victim v) in
+      let open' = not-true (is_in i (ends after.events)) (and_parts (is_in i (starts after.events)) (not (is_in i (ends after.events))) active').1 in
+      let before : is_active m.events i ≡ true = ap (λ h. is_active h i) (sym ((advances table cs m (Victim v)).events ∙ append-nil m.events)) ∙ active' in
+      ap (has_used_up (course cs i)) (advance-state table plans good m (Victim v) i counts (victim_may m v is) open' (λ no. absurd no))
+      ∙ begun_where_left (course cs i) (has_begun after i) (process_state cs m i) (left_at_first (course cs i) (course_tries plans good i)) (none i before)
+
+  none_by : (n : ℕ) (m : Moment) → ((o : Moment) → CountsStand table plans good o → NoneExhausted cs o → NoneExhausted cs (advance_all table cs o (victims n table cs o)))
+      → CountsStand table plans good m → NoneExhausted cs m → (o : Option ℕ) → victim_of table cs m ≡ o
+      → NoneExhausted cs (advance_all table cs m (victim_then (λ v. victims n table cs (advance table cs m (Victim v))) o))
+  none_by n m rest counts none None is = none
+  none_by n m rest counts none (Some v) is =
+      rest (advance table cs m (Victim v)) (advance-counts table plans good m (Victim v) counts (victim_may m v is)) (victim_none m v counts is none)
+
+  -- so all victims of a request do
+  victims_none : (n : ℕ) (m : Moment) → CountsStand table plans good m → NoneExhausted cs m → NoneExhausted cs (advance_all table cs m (victims n table cs m))
+  victims_none zero m counts none = none
+  victims_none (suc n) m counts none = none_by n m (victims_none n) counts none (victim_of table cs m) refl
+
+listed_active : (h : List Event) (i : ℕ) (es : List Entry) → Each (λ e. is_active h e.process ≡ true) es → is_in i (map (λ e. e.process) es) ≡ true → is_active h i ≡ true
+listed_active h i [] each listed = absurd (false≢true listed)
+listed_active h i (e ∷ es) each listed =
+    ⊎_elim (λ here. ap (is_active h) (eqb-true i e.process here) ∙ each.0) (λ later. listed_active h i es each.1 later) (or_cases (eqb i e.process) (is_in i (map (λ e. e.process) es)) listed)
+
+module _ (courses : List Course) (m : Moment) where
+  -- whoever has the last pending entry is active
+  undo_next-active : (i : ℕ) → undo_next courses m ≡ Some i → is_active m.events i ≡ true
+  undo_next-active i is =
+      let pending = filter (is_pending courses m) (net m.events) in
+      listed_active m.events i pending
+      (Each-weaker (λ e. is_pending courses m e ≡ true) (λ e. is_active m.events e.process ≡ true)
+      (λ e at. (and_parts (is_active m.events e.process) (list_any (same_step e) (pending_of courses m e.process)) at).0) pending (all_pass (is_pending courses m) (net m.events)))
+      (last_listed (map (λ e. e.process) pending) i is)
+
+  -- where some process is active, it is the turn of one that is
+  some_turn : active m.events ≢ [] → (i : ℕ) × (next_in_restart courses m ≡ Some i) × (is_active m.events i ≡ true)
+  some_turn some = by_undo (undo_next courses m) refl
+    where
+      by_first : (xs : List ℕ) → xs ≢ [] → (i : ℕ) × (first_of xs ≡ Some i) × (is_in i xs ≡ true)
+      by_first [] none = absurd (none refl)
+      by_first (x ∷ xs) none = (x, refl, or_left (eqb x x) (is_in x xs) (eq-eqb x x refl))
+
+      by_undo : (o : Option ℕ) → undo_next courses m ≡ o → (i : ℕ) × (next_in_restart courses m ≡ Some i) × (is_active m.events i ≡ true)
+      by_undo (Some i) is = (i, ap (λ o. option_or o (first_of (active m.events))) is, undo_next-active i is)
+      by_undo None is =
+          let first = by_first (active m.events) some in
+          (first.0, ap (λ o. option_or o (first_of (active m.events))) is ∙ first.1, sym (is_active-is_in m.events first.0) ∙ first.2)
+
+not_blocked : (ex : Bool) (o : Option Blocked) → o ≡ None → (not ex && is_some o) ≡ true → ⊥
+not_blocked ex o none is = false≢true (sym (ap is_some none) ∙ (and_parts (not ex) (is_some o) is).1)
+
+-- in a session nobody is stuck without being exhausted
+never_stuck : (table : ConflictRelation) (plans : List Plan) (s : Machine) → IsSession table plans s → NoneExhausted s.courses (now table s) → (k : ℕ) → IsStuck table s.courses (now table s) k → ⊥
+never_stuck table plans s session none k is =
+    let turn = some_turn s.courses (now table s) is.some_active in
+    by_either turn.0 turn.2 (restart_is_free table plans s session all turn.0 turn.1) (is.nobody_goes turn.0 turn.2)
+  where
+    all : AllHaveBegun (now table s)
+    all i active' = by_part (is.nobody_goes i active')
+      where
+        by_part : IsTrue (is_exhausted s.courses (now table s) i) ⊎ (IsTrue (has_begun (now table s) i) × IsTrue (is_blocked table s.courses (now table s) i)) → has_begun (now table s) i ≡ true
+        by_part (inl ex) = absurd (false≢true (sym (none i active') ∙ ex))
+        by_part (inr began) = began.0
+
+    by_either : (i : ℕ) → is_active (now table s).events i ≡ true → block_of table s.courses (now table s) i ≡ None
+        → IsTrue (is_exhausted s.courses (now table s) i) ⊎ (IsTrue (has_begun (now table s) i) × IsTrue (is_blocked table s.courses (now table s) i)) → ⊥
+    by_either i active' free (inl ex) = false≢true (sym (none i active') ∙ ex)
+    by_either i active' free (inr began) = not_blocked (is_exhausted s.courses (now table s) i) (block_of table s.courses (now table s) i) free began.1
+
+pub progress_law : ProgressLaw
+progress_law table plans s session none k answered' =
+    let m = now table s in
+    let vs = all_victims table s.courses m in
+    let later = keeping s vs in
+    let run = goes_on-append table s.courses (opening_moment s.opening) s.kept vs ∙ and_from (goes_on_from table s.courses (opening_moment s.opening) s.kept) _ session.run (victims-kept table s.courses (length (active m.events)) m) in
+    let session' = session-longer table plans s vs s.served session (victims_start table s.courses (length (active m.events)) m) run in
+    let same : now table later ≡ advance_all table s.courses m vs = advance_all-append table s.courses (opening_moment s.opening) s.kept vs in
+    let left : NoneExhausted s.courses (advance_all table s.courses m vs) =
+    subst (λ xs. NoneExhausted xs (advance_all table xs m (all_victims table xs m))) (sym session.courses)
+    (victims_none table plans session.good (length (active m.events)) m (session-counts table plans s session) (subst (λ xs. NoneExhausted xs m) session.courses none)) in
+    never_stuck table plans later session' (subst (NoneExhausted s.courses) (sym same) left) k
+    (subst (λ o. IsStuck table s.courses o k) (sym same) ((stuck_is_exact table s.courses m s.served k).0 answered'))
