@@ -38,7 +38,7 @@ use Rattle.machine_model.proofs.TidyMoments.{Each-find, Tidy}
 abbrev pub RanOrHanded : Kept → ℕ → Option Piece → Piece → Type 0
 RanOrHanded k i r p = (r ≡ Some p) ⊎ ((k ≡ Hand p.number p.process p.step p.work) × (p.process ≡ i))
 
-ran_by : (ks : List Kept) (k : Kept) (i : ℕ) (r : Option Piece) (p : Piece) → running_by_piece k i r (piece_touched ks k) ≡ Some p → RanOrHanded k i r p
+pub ran_by : (ks : List Kept) (k : Kept) (i : ℕ) (r : Option Piece) (p : Piece) → running_by_piece k i r (piece_touched ks k) ≡ Some p → RanOrHanded k i r p
 ran_by ks (Hand a b c d) i r p is = by_own (eqb b i) refl
   where
     by_own : (t : Bool) → eqb b i ≡ t → RanOrHanded (Hand a b c d) i r p

@@ -157,7 +157,7 @@ module _ (table : ConflictRelation) (courses : List Course) (m : Moment) where
   own_running (Victim j) p tidy may touched = absurd (none-some p touched)
   own_running Restart p tidy may touched = absurd (none-some p touched)
 
-  entered-running : (k : Kept) (i : ℕ) → Tidy m → may_be_kept table courses m k ≡ true → running_of (entered courses m k) i ≡ running_by_piece k i (running_of m i) (piece_touched m.kept k)
+  pub entered-running : (k : Kept) (i : ℕ) → Tidy m → may_be_kept table courses m k ≡ true → running_of (entered courses m k) i ≡ running_by_piece k i (running_of m i) (piece_touched m.kept k)
   entered-running k i tidy may = by_touched (piece_touched m.kept k) refl
     where
       unmoved : LeavesPieceOf m.kept k i → running_of (entered courses m k) i ≡ running_by_piece k i (running_of m i) (piece_touched m.kept k)

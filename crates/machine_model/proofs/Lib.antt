@@ -54,10 +54,15 @@ pub mod NoCircle
 pub mod WaysBehind
 pub mod ClosedCascades
 pub mod PendingFree
+pub mod StillPending
+pub mod CascadePaths
+pub mod PendingClosed
 pub mod UndoneFree
 pub mod LegalRuns
 pub mod RunsWithin
 pub mod RestartFree
+pub mod LastPending
+pub mod WholeLaws
 pub mod Going
 pub mod Causes
 pub mod OneLost

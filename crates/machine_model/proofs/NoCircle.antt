@@ -71,7 +71,7 @@ module _ (table : ConflictRelation) (courses : List Course) where
     held f = is_in f.process (holders (holdings courses m))
 
     -- what is under way without the undos
-    running_step : (y : Entry) → Among y (running_steps g) → IsRunningStep m courses y.process y
+    pub running_step : (y : Entry) → Among y (running_steps g) → IsRunningStep m courses y.process y
     running_step y is =
         let kept = among-filter (λ (e : Entry). not e.undo) y (all_running g) is in
         let found = among-flat_map (λ (o : Hold). option_to_list o.running) y g.holds kept.0 in

@@ -51,9 +51,9 @@ use Rattle.machine_model.proofs.Cascades.{cascade-least}
 use Rattle.machine_model.proofs.ClosedCascades.{dragged_along, runs_on}
 use Rattle.machine_model.proofs.Frames.{IsOfOthers, entered-leaves, piece_of-plain}
 use Rattle.machine_model.proofs.GonePieces.{next_undo}
-use Rattle.machine_model.proofs.HandedPieces.{among_holds, handed_apart, runs_active}
+use Rattle.machine_model.proofs.HandedPieces.{among_holds, handed_apart, ran_by, runs_active}
 use Rattle.machine_model.proofs.HoldChanges.{begun_undo_all, keeps_at, out_runs}
-use Rattle.machine_model.proofs.HoldSteps.{advance-running, entered-begun}
+use Rattle.machine_model.proofs.HoldSteps.{advance-running, entered-begun, entered-running}
 use Rattle.machine_model.proofs.OpenHoldings.{holds-active}
 use Rattle.machine_model.proofs.OwnEvents.{advance-progress, own-effected, own-refused}
 use Rattle.machine_model.proofs.OwnOrder.{InOwnOrder, first_listed, next_step, next_step-bound, on_from, run-own_order}
@@ -80,13 +80,13 @@ among_drop x (suc a) (suc b) (e ∷ es) ys le is = among_drop x a b es ys (omega
 drop_none : (n : ℕ) (es : List Entry) → length es ≤ n → (x : Entry) → Among x (drop n es) → ⊥
 drop_none n es le x is = subst (Among x) (drop_past n es le) is
 
-short_drop : (x : Entry) (n : ℕ) (es : List Entry) → Among x (drop n es) → n < length es
+pub short_drop : (x : Entry) (n : ℕ) (es : List Entry) → Among x (drop n es) → n < length es
 short_drop x n es is = ⊎_elim (λ lt. lt) (λ le. absurd (drop_none n es le x is)) (cases_lt n (length es))
 
 pub in_whole : (x : Entry) (n : ℕ) (es : List Entry) → Among x (drop n es) → Among x es
 in_whole x n es is = subst (Among x) (take-append-drop n es) (among-right x (take n es) (drop n es) is)
 
-but_last : (xs ys : List ℕ) (y : ℕ) → xs ≡ ys ++ y ∷ [] → take (length xs - 1) xs ≡ ys
+pub but_last : (xs ys : List ℕ) (y : ℕ) → xs ≡ ys ++ y ∷ [] → take (length xs - 1) xs ≡ ys
 but_last xs ys y is = ap (λ zs. take (length zs - 1) zs) is ∙ by_front ys y
   where
     take_front : (ys zs : List ℕ) (n : ℕ) → n ≡ length ys → take n (ys ++ zs) ≡ ys
@@ -103,7 +103,7 @@ module _ (table : ConflictRelation) (symmetric : IsSymmetric table) (plans : Lis
   abbrev cs : List Course
   cs = courses_of plans
 
-  same_pending : (m n : Moment) (i : ℕ) → progress cs n i ≡ progress cs m i → net_of n.events i ≡ net_of m.events i → pending_of cs n i ≡ pending_of cs m i
+  pub same_pending : (m n : Moment) (i : ℕ) → progress cs n i ≡ progress cs m i → net_of n.events i ≡ net_of m.events i → pending_of cs n i ≡ pending_of cs m i
   same_pending m n i one two = ap (λ s. drop (staying s) (net_of n.events i)) one ∙ ap (drop (staying (progress cs m i))) two
 
   -- a step that a process runs once it has begun to complete is one that it owes
@@ -129,7 +129,7 @@ module _ (table : ConflictRelation) (symmetric : IsSymmetric table) (plans : Lis
     plain_progress i same = advance-progress table cs m k i ∙ ap (λ t. with_begun t (progress cs (entered cs m k) i)) (same ∙ sym (entered-begun table cs m k i))
 
     -- an event that ends no piece of a process, which doesn't begin, leaves what it has pending
-    unmoved : (i : ℕ) → has_begun (advance table cs m k) i ≡ has_begun m i → IsOfOthers m.kept k i → pending_of cs (advance table cs m k) i ≡ pending_of cs m i
+    pub unmoved : (i : ℕ) → has_begun (advance table cs m k) i ≡ has_begun m i → IsOfOthers m.kept k i → pending_of cs (advance table cs m k) i ≡ pending_of cs m i
     unmoved i same away =
         same_pending m (advance table cs m k) i (plain_progress i same ∙ entered-leaves table cs m k i own.order.tidy.counted may away) (by_net (net_same_or_own table cs m k i))
       where
@@ -143,7 +143,56 @@ module _ (table : ConflictRelation) (symmetric : IsSymmetric table) (plans : Lis
     after : Moment
     after = happened (noted m (Effect n)) (event_of (courses_of plans) q)
 
-    by_effect : (w : Work) → q.work ≡ w → (x : Entry) → Among x (pending_of cs (happened (noted m (Effect n)) (event_of cs q)) q.process) → Among x (pending_of cs m q.process)
+    -- the undo of its last step
+    module _ (work : q.work ≡ Undo) where
+      as_undo : event_of cs q ≡ Act (undoing (doing cs q.process q.step))
+      as_undo = ap (event_by cs q.process q.step) work
+
+      pub taken : (last : Entry) × (net_of m.events q.process ≡ net_of (m.events ++ event_of cs q ∷ []) q.process ++ last ∷ []) × (backward_entries cs m.events q.process ≡ backward_entries cs (m.events ++ event_of cs q ∷ []) q.process ++ last ∷ [])
+      taken =
+          let t = undoes no_conflict cs m.events (undoing (doing cs q.process q.step)) reserved.own.legal refl
+          (may_come-no_conflict cs m.events (Act (undoing (doing cs q.process q.step))) (ap (keeps_order cs m.events) (sym as_undo) ∙ keeps_at table plans good m n q reserved.own may found)) in
+          let same = ap (λ e. m.events ++ e ∷ []) (sym as_undo) in
+          (t.last, t.net ∙ ap (λ g. net_of g q.process ++ t.last ∷ []) same, t.backward_entries ∙ ap (λ g. backward_entries cs g q.process ++ t.last ∷ []) same)
+
+      steps : net_steps (m.events ++ event_of cs q ∷ []) q.process ≡ take (length (net_steps m.events q.process) - 1) (net_steps m.events q.process)
+      steps = sym (but_last (net_steps m.events q.process) (net_steps (m.events ++ event_of cs q ∷ []) q.process) taken.0.step (ap steps_of taken.1 ∙ map-push (net_of (m.events ++ event_of cs q ∷ []) q.process) taken.0))
+        where
+          map-push : (es : List Entry) (e : Entry) → steps_of (es ++ e ∷ []) ≡ steps_of es ++ e.step ∷ []
+          map-push [] e = refl
+          map-push (x ∷ es) e = ap (λ bs. x.step ∷ bs) (map-push es e)
+
+      pub moved : progress cs (happened (noted m (Effect n)) (event_of cs q)) q.process ≡ last_undone (progress cs m q.process)
+      moved = own-effected cs m n q (λ undo. steps) ∙ ap (work_done (progress cs m q.process) q.step) work
+
+      lengths : length (net_steps m.events q.process) ≡ length (net_of (m.events ++ event_of cs q ∷ []) q.process) + 1
+      lengths =
+          let l = length-map (net_of m.events q.process) (λ (e : Entry). e.step) in
+          let a = ap length taken.1 in
+          let b = length-append (net_of (m.events ++ event_of cs q ∷ []) q.process) (taken.0 ∷ []) in
+          omega arith
+
+      pub fixed : fixed_len (shape cs q.process) (take (length (net_steps m.events q.process) - 1) (net_steps m.events q.process)) ≡ fixed_len (shape cs q.process) (net_steps m.events q.process)
+      fixed =
+          let t = shape cs q.process in
+          let g = m.events ++ event_of cs q ∷ [] in
+          let f = fixed_len t (net_steps m.events q.process) in
+          let f' = fixed_len t (net_steps g q.process) in
+          let a = ap length taken.2 in
+          let b = length-append (drop f' (net_of g q.process)) (taken.0 ∷ []) in
+          let c = length-drop f (net_of m.events q.process) in
+          let d = length-drop f' (net_of g q.process) in
+          let l = length-map (net_of g q.process) (λ (e : Entry). e.step) in
+          let o = length-map (net_of m.events q.process) (λ (e : Entry). e.step) in
+          let low = fixed_le t (net_steps g q.process) in
+          let high = fixed_le t (net_steps m.events q.process) in
+          let n = lengths in
+          ap (fixed_len t) (sym steps) ∙ equal f f' (omega arith)
+        where
+          equal : (a b : ℕ) → b ≡ a → b ≡ a
+          equal a b is' = is'
+
+    pub by_effect : (w : Work) → q.work ≡ w → (x : Entry) → Among x (pending_of cs (happened (noted m (Effect n)) (event_of cs q)) q.process) → Among x (pending_of cs m q.process)
     by_effect End work x is =
         subst (Among x) (same_pending m (happened (noted m (Effect n)) (event_of cs q)) q.process
         (own-effected cs m n q (λ undo. absurd (false≢true (ap is_undo (sym work ∙ undo)))) ∙ ap (work_done (progress cs m q.process) q.step) work)
@@ -173,72 +222,19 @@ module _ (table : ConflictRelation) (symmetric : IsSymmetric table) (plans : Lis
         is_undo Undo = true
         is_undo Forward = false
         is_undo End = false
-    by_effect Undo work x is = among_drop' (subst (λ o. Among x (drop o (net_of (happened (noted m (Effect n)) (event_of cs q)).events q.process))) (ap staying moved) is)
+    by_effect Undo work x is = among_drop' (subst (λ o. Among x (drop o (net_of (happened (noted m (Effect n)) (event_of cs q)).events q.process))) (ap staying (moved work)) is)
       where
         s : Progress
         s = progress (courses_of plans) m q.process
 
-        h : List Event
-        h = m.events ++ event_of (courses_of plans) q ∷ []
-
-        as_undo : event_of cs q ≡ Act (undoing (doing cs q.process q.step))
-        as_undo = ap (event_by cs q.process q.step) work
-
-        taken : (last : Entry) × (net_of m.events q.process ≡ net_of (m.events ++ event_of cs q ∷ []) q.process ++ last ∷ []) × (backward_entries cs m.events q.process ≡ backward_entries cs (m.events ++ event_of cs q ∷ []) q.process ++ last ∷ [])
-        taken =
-            let t = undoes no_conflict cs m.events (undoing (doing cs q.process q.step)) reserved.own.legal refl
-            (may_come-no_conflict cs m.events (Act (undoing (doing cs q.process q.step))) (ap (keeps_order cs m.events) (sym as_undo) ∙ keeps_at table plans good m n q reserved.own may found)) in
-            let same = ap (λ e. m.events ++ e ∷ []) (sym as_undo) in
-            (t.last, t.net ∙ ap (λ g. net_of g q.process ++ t.last ∷ []) same, t.backward_entries ∙ ap (λ g. backward_entries cs g q.process ++ t.last ∷ []) same)
-
-        steps : net_steps (m.events ++ event_of cs q ∷ []) q.process ≡ take (length (net_steps m.events q.process) - 1) (net_steps m.events q.process)
-        steps = sym (but_last (net_steps m.events q.process) (net_steps (m.events ++ event_of cs q ∷ []) q.process) taken.0.step (ap steps_of taken.1 ∙ map-push (net_of (m.events ++ event_of cs q ∷ []) q.process) taken.0))
-          where
-            map-push : (es : List Entry) (e : Entry) → steps_of (es ++ e ∷ []) ≡ steps_of es ++ e.step ∷ []
-            map-push [] e = refl
-            map-push (x ∷ es) e = ap (λ bs. x.step ∷ bs) (map-push es e)
-
-        moved : progress cs (happened (noted m (Effect n)) (event_of cs q)) q.process ≡ last_undone (progress cs m q.process)
-        moved = own-effected cs m n q (λ undo. steps) ∙ ap (work_done (progress cs m q.process) q.step) work
-
         among_drop' : Among x (drop (staying (last_undone (progress cs m q.process))) (net_of (m.events ++ event_of cs q ∷ []) q.process)) → Among x (pending_of cs m q.process)
-        among_drop' in' = subst (λ es. Among x (drop (staying (progress cs m q.process)) es)) (sym taken.1) (by_place (cases_lt (staying (progress cs m q.process)) (length (net_steps m.events q.process))))
+        among_drop' in' = subst (λ es. Among x (drop (staying (progress cs m q.process)) es)) (sym (taken work).1) (by_place (cases_lt (staying (progress cs m q.process)) (length (net_steps m.events q.process))))
           where
-            es : List Entry
-            es = net_of (m.events ++ event_of (courses_of plans) q ∷ []) q.process
-
-            lengths : length (net_steps m.events q.process) ≡ length (net_of (m.events ++ event_of cs q ∷ []) q.process) + 1
-            lengths =
-                let l = length-map (net_of m.events q.process) (λ (e : Entry). e.step) in
-                let a = ap length taken.1 in
-                let b = length-append (net_of (m.events ++ event_of cs q ∷ []) q.process) (taken.0 ∷ []) in
-                omega arith
-
             by_place : (staying (progress cs m q.process) < length (net_steps m.events q.process)) ⊎ (length (net_steps m.events q.process) ≤ staying (progress cs m q.process))
-                → Among x (drop (staying (progress cs m q.process)) (net_of (m.events ++ event_of cs q ∷ []) q.process ++ taken.0 ∷ []))
+                → Among x (drop (staying (progress cs m q.process)) (net_of (m.events ++ event_of cs q ∷ []) q.process ++ (taken work).0 ∷ []))
             by_place (inl less) =
-                among_drop x (staying (last_undone (progress cs m q.process))) (staying (progress cs m q.process)) (net_of (m.events ++ event_of cs q ∷ []) q.process) (taken.0 ∷ [])
-                (still_stays (progress cs m q.process) (λ v e on. (good_if_goes_on plans q.process v e good on).tree) less fixed) in'
-              where
-                fixed : fixed_len (shape cs q.process) (take (length (net_steps m.events q.process) - 1) (net_steps m.events q.process)) ≡ fixed_len (shape cs q.process) (net_steps m.events q.process)
-                fixed =
-                    let t = shape cs q.process in
-                    let g = m.events ++ event_of cs q ∷ [] in
-                    let f = fixed_len t (net_steps m.events q.process) in
-                    let f' = fixed_len t (net_steps g q.process) in
-                    let a = ap length taken.2 in
-                    let b = length-append (drop f' (net_of g q.process)) (taken.0 ∷ []) in
-                    let c = length-drop f (net_of m.events q.process) in
-                    let d = length-drop f' (net_of g q.process) in
-                    let l = length-map (net_of g q.process) (λ (e : Entry). e.step) in
-                    let o = length-map (net_of m.events q.process) (λ (e : Entry). e.step) in
-                    let low = fixed_le t (net_steps g q.process) in
-                    let high = fixed_le t (net_steps m.events q.process) in
-                    let n = lengths in
-                    ap (fixed_len t) (sym steps) ∙ equal f f' (omega arith)
-                  where
-                    equal : (a b : ℕ) → b ≡ a → b ≡ a
-                    equal a b is' = is'
+                among_drop x (staying (last_undone (progress cs m q.process))) (staying (progress cs m q.process)) (net_of (m.events ++ event_of cs q ∷ []) q.process) ((taken work).0 ∷ [])
+                (still_stays (progress cs m q.process) (λ v e on. (good_if_goes_on plans q.process v e good on).tree) less (fixed work)) in'
             by_place (inr whole) =
                 let next : IsNextPiece cs m q = Each-find (IsNextPiece cs m) (λ (p : Piece). eqb p.process q.process) m.out q reserved.own.order.next (out_runs m n q reserved.own.order.tidy may found) in
                 let last = next_undo s q.step (subst (λ w. same_task (record { work = w; step = q.step }) (next_task s) ≡ true) work next) in
@@ -255,6 +251,7 @@ module _ (table : ConflictRelation) (symmetric : IsSymmetric table) (plans : Lis
     pub is : advance table (courses_of plans) m k ≡ drag_along table (courses_of plans) mid root
     pub begun : (i : ℕ) → eqb root i ≡ false → has_begun mid i ≡ has_begun m i
     pub away : (i : ℕ) → eqb root i ≡ false → IsOfOthers m.kept k i
+    pub ran : (i : ℕ) (p : Piece) → running_of mid i ≡ Some p → running_of m i ≡ Some p
     pub stops : (i : ℕ) (p : Piece) → running_of (advance table (courses_of plans) m k) i ≡ Some p → has_begun (advance table (courses_of plans) m k) i ≡ false → eqb root i ≡ false
 
   begins_same : (cause : Cause) (m : Moment) (root i : ℕ) → eqb root i ≡ false → has_begun (begins cause m root) i ≡ has_begun m i
@@ -270,9 +267,10 @@ module _ (table : ConflictRelation) (symmetric : IsSymmetric table) (plans : Lis
       by_test false is = is
       by_test true is = absurd (never is)
 
-  aborted_back : (m : Moment) (root : ℕ) → Back m (Abort root)
+  pub aborted_back : (m : Moment) (root : ℕ) → Back m (Abort root)
   aborted_back m root = record {
     mid = begins Aborted (noted m (Abort root)) root;
+    ran = λ i p runs. (runs_on Aborted (noted m (Abort root)) (root ∷ []) i p runs).0;
     root = root;
     events = begins_events Aborted (noted m (Abort root)) root;
     is = refl;
@@ -281,9 +279,10 @@ module _ (table : ConflictRelation) (symmetric : IsSymmetric table) (plans : Lis
     stops = λ i p runs never. apart_by root i (λ own. false≢true (sym never ∙ subst (λ j. has_begun (advance table cs m (Abort root)) j ≡ true) (eqb-true root i own) (goes_back-begun table cs root Aborted (noted m (Abort root)))));
   }
 
-  victim_back : (m : Moment) (root : ℕ) → Back m (Victim root)
+  pub victim_back : (m : Moment) (root : ℕ) → Back m (Victim root)
   victim_back m root = record {
     mid = begins WasVictim (noted m (Victim root)) root;
+    ran = λ i p runs. (runs_on WasVictim (noted m (Victim root)) (root ∷ []) i p runs).0;
     root = root;
     events = begins_events WasVictim (noted m (Victim root)) root;
     is = refl;
@@ -292,10 +291,11 @@ module _ (table : ConflictRelation) (symmetric : IsSymmetric table) (plans : Lis
     stops = λ i p runs never. apart_by root i (λ own. false≢true (sym never ∙ subst (λ j. has_begun (advance table cs m (Victim root)) j ≡ true) (eqb-true root i own) (goes_back-begun table cs root WasVictim (noted m (Victim root)))));
   }
 
-  refused_back : (m : Moment) (n : ℕ) (q : Piece) → InOwnOrder table plans good m → may_be_kept table cs m (Refuse n) ≡ true → piece_of m.kept n ≡ Some q → q.work ≡ Forward → can_be_refused (kind_of (shape cs q.process) q.step) ≡ true → Back m (Refuse n)
+  pub refused_back : (m : Moment) (n : ℕ) (q : Piece) → InOwnOrder table plans good m → may_be_kept table cs m (Refuse n) ≡ true → piece_of m.kept n ≡ Some q → q.work ≡ Forward → can_be_refused (kind_of (shape cs q.process) q.step) ≡ true → Back m (Refuse n)
   refused_back m n q own may found work can = record {
     mid = cond t (begins (Refused q.step) m0 q.process) m0;
     root = q.process;
+    ran = λ i p runs. ran_on i p (by_ran t i p runs);
     events = by_events t;
     is = ap (with_piece (piece_refused table cs m0) m0) (piece_of-plain m.kept (Refuse n) n refl ∙ found)
         ∙ (ap (work_refused table cs m0 q.process q.step) work ∙ ap (λ c. cond c (step_refused table cs m0 q.process q.step) m0) can);
@@ -318,6 +318,19 @@ module _ (table : ConflictRelation) (symmetric : IsSymmetric table) (plans : Lis
       by_begun true i other = begins_same (Refused q.step) (noted m (Refuse n)) q.process i other
       by_begun false i other = refl
 
+      by_ran : (t : Bool) (i : ℕ) (p : Piece) → running_of (cond t (begins (Refused q.step) (noted m (Refuse n)) q.process) (noted m (Refuse n))) i ≡ Some p → running_of (noted m (Refuse n)) i ≡ Some p
+      by_ran true i p runs = (runs_on (Refused q.step) (noted m (Refuse n)) (q.process ∷ []) i p runs).0
+      by_ran false i p runs = runs
+
+      is_hand : Kept → Bool
+      is_hand (Hand a b c d) = true
+      is_hand k = false
+
+      ran_on : (i : ℕ) (p : Piece) → running_of (noted m (Refuse n)) i ≡ Some p → running_of m i ≡ Some p
+      ran_on i p runs =
+          ⊎_elim (λ before. before) (λ hand. absurd (false≢true (ap is_hand hand.0)))
+          (ran_by m.kept (Refuse n) i (running_of m i) p (sym (entered-running table cs m (Refuse n) i own.order.tidy may) ∙ runs))
+
       both_none : (t : Bool) (r : Option Piece) → r ≡ None → cond t None r ≡ None
       both_none true r none = refl
       both_none false r none = none
@@ -329,11 +342,11 @@ module _ (table : ConflictRelation) (symmetric : IsSymmetric table) (plans : Lis
           ∙ both_none (has_begun (advance table cs m (Refuse n)) q.process && not (has_begun m q.process)) (running_by_piece (Refuse n) q.process r (piece_of m.kept n))
           (ap (running_by_piece (Refuse n) q.process r) found ∙ ap (λ c. cond c None r) (eq-eqb q.process q.process refl))
 
-  dragged_events : (mid : Moment) (root : ℕ) → (drag_along table cs mid root).events ≡ mid.events
+  pub dragged_events : (mid : Moment) (root : ℕ) → (drag_along table cs mid root).events ≡ mid.events
   dragged_events mid root = drag_along-keeps (λ n. n.events ≡ mid.events) (λ cause n j never is. is) table cs mid root refl
 
   -- the root begins no more where others are dragged along
-  dragged_root : (mid : Moment) (root : ℕ) → pending_of cs (drag_along table cs mid root) root ≡ pending_of cs mid root
+  pub dragged_root : (mid : Moment) (root : ℕ) → pending_of cs (drag_along table cs mid root) root ≡ pending_of cs mid root
   dragged_root mid root =
       same_pending mid (drag_along table cs mid root) root
       (drag_along-keeps (λ n. progress cs n root ≡ with_begun (has_begun n root) (progress cs mid root)) (λ cause o j never at. ap (with_begun (has_begun (begins_now cause o j) root)) at) table cs mid root refl
@@ -351,7 +364,7 @@ module _ (table : ConflictRelation) (symmetric : IsSymmetric table) (plans : Lis
           ∙ (ap (λ t. has_begun mid root || t) (is_in-filter (λ c. not (eqb c root)) root set ∙ (ap (λ t. is_in root set && not t) (eq-eqb root root refl) ∙ never (is_in root set))) ∙ or-false (has_begun mid root))
 
   module _ (m : Moment) (k : Kept) (facts : PendingFree m) (may : may_be_kept table cs m k ≡ true) where
-    active_before : (i : ℕ) (x : Entry) → is_active (advance table cs m k).events i ≡ true → Among x (pending_of cs m i) → is_active m.events i ≡ true
+    pub active_before : (i : ℕ) (x : Entry) → is_active (advance table cs m k).events i ≡ true → Among x (pending_of cs m i) → is_active m.events i ≡ true
     active_before i x goes pend =
         let found = among_net_of m.events i x (in_whole x (staying (progress cs m i)) (net_of m.events i) pend) in
         was_active table cs m k i (ap (λ j. is_in j (starts m.events)) (sym found.1) ∙ net-started no_conflict cs m.events facts.reserved.own.legal x found.0) goes
@@ -420,23 +433,25 @@ module _ (table : ConflictRelation) (symmetric : IsSymmetric table) (plans : Lis
         by_test false none = none
         by_test true conflicts = by_root (eqb b.root i) refl conflicts
 
-    -- a step that ran before
-    ran_free : (i j : ℕ) (x e : Entry) (p : Piece) → is_active (advance table cs m k).events i ≡ true → Among x (pending_of cs (advance table cs m k) i)
-        → running_of (advance table cs m k) j ≡ Some p → p.work ≡ Forward → e ≡ doing cs j p.step → has_begun (advance table cs m k) j ≡ false → IsRunningStep m cs j e → conflict table x e ≡ false
-    ran_free i j x e p goes pend runs' work is never ran = by_event k refl
+    -- what is pending was pending, or a root goes back with its cascade, or all begin
+    abbrev PendingBefore : ℕ → Entry → Type 0
+    PendingBefore i x = Among x (pending_of (courses_of plans) m i) ⊎ (Back m k ⊎ (k ≡ Restart))
+
+    pub pending_before : (i : ℕ) (x : Entry) → is_active (advance table cs m k).events i ≡ true → Among x (pending_of cs (advance table cs m k) i) → PendingBefore i x
+    pending_before i x goes pend = by_event k refl
       where
         own : InOwnOrder table plans good m
         own = facts.reserved.own
 
         -- nobody begins, and no piece of process i ends
-        quiet : has_begun (advance table cs m k) i ≡ has_begun m i → IsOfOthers m.kept k i → conflict table x e ≡ false
-        quiet same away = stays_free i j x e goes pend (unmoved m k facts.reserved may i same away) ran
+        quiet : has_begun (advance table cs m k) i ≡ has_begun m i → IsOfOthers m.kept k i → PendingBefore i x
+        quiet same away = inl (subst (Among x) (unmoved m k facts.reserved may i same away) pend)
 
-        effect : (n : ℕ) → k ≡ Effect n → (o : Option Piece) → piece_of m.kept n ≡ o → conflict table x e ≡ false
+        effect : (n : ℕ) → k ≡ Effect n → (o : Option Piece) → piece_of m.kept n ≡ o → PendingBefore i x
         effect n event None found = quiet (ap (λ y. has_begun (advance table cs m y) i) event ∙ entered-begun table cs m (Effect n) i) (λ q ended. absurd (none-some q (sym found ∙ (sym (ap (piece_ended m.kept) event) ∙ ended))))
         effect n event (Some q) found = by_own (eqb q.process i) refl
           where
-            by_own : (t : Bool) → eqb q.process i ≡ t → conflict table x e ≡ false
+            by_own : (t : Bool) → eqb q.process i ≡ t → PendingBefore i x
             by_own false other =
                 quiet (ap (λ y. has_begun (advance table cs m y) i) event ∙ entered-begun table cs m (Effect n) i)
                 (λ y ended. ap (λ (z : Piece). eqb z.process i) (same_Some y q (sym ended ∙ (ap (piece_ended m.kept) event ∙ found))) ∙ other)
@@ -446,11 +461,11 @@ module _ (table : ConflictRelation) (symmetric : IsSymmetric table) (plans : Lis
                 ap (advance table cs m) event ∙ ap (λ o. with_piece (λ z. happened (noted m (Effect n)) (event_of cs z)) (noted m (Effect n)) o) (piece_of-plain m.kept (Effect n) n refl ∙ found) in
                 let pend' = subst (λ (o : Moment). Among x (pending_of cs o q.process)) moved (subst (λ y. Among x (pending_of cs (advance table cs m k) y)) (sym same) pend) in
                 let was = subst (λ y. Among x (pending_of cs m y)) same (by_effect m n q facts.reserved (ap (may_be_kept table cs m) (sym event) ∙ may) found q.work refl x pend') in
-                facts.free i j x e (active_before i x goes was) was ran
+                inl was
 
         -- the refusal of another piece than the one try of a step
-        tried_again : (n : ℕ) → k ≡ Refuse n → (q : Piece) → piece_of m.kept n ≡ Some q → advance table cs m k ≡ noted m (Refuse n) → is_only_try (shape cs q.process) q.step q.work ≡ false → conflict table x e ≡ false
-        tried_again n event q found moved not_only = stays_free i j x e goes pend (ap (λ (o : Moment). pending_of cs o i) moved ∙ same_pending m (noted m (Refuse n)) i (by_own (eqb q.process i) refl) refl) ran
+        tried_again : (n : ℕ) → k ≡ Refuse n → (q : Piece) → piece_of m.kept n ≡ Some q → advance table cs m k ≡ noted m (Refuse n) → is_only_try (shape cs q.process) q.step q.work ≡ false → PendingBefore i x
+        tried_again n event q found moved not_only = inl (subst (Among x) (ap (λ (o : Moment). pending_of cs o i) moved ∙ same_pending m (noted m (Refuse n)) i (by_own (eqb q.process i) refl) refl) pend)
           where
             by_own : (t : Bool) → eqb q.process i ≡ t → progress cs (noted m (Refuse n)) i ≡ progress cs m i
             by_own true its =
@@ -459,7 +474,7 @@ module _ (table : ConflictRelation) (symmetric : IsSymmetric table) (plans : Lis
             by_own false other =
                 entered-leaves table cs m (Refuse n) i own.order.tidy.counted (ap (may_be_kept table cs m) (sym event) ∙ may) (λ y ended. ap (λ (z : Piece). eqb z.process i) (same_Some y q (sym ended ∙ found)) ∙ other)
 
-        refusal : (n : ℕ) → k ≡ Refuse n → (o : Option Piece) → piece_of m.kept n ≡ o → conflict table x e ≡ false
+        refusal : (n : ℕ) → k ≡ Refuse n → (o : Option Piece) → piece_of m.kept n ≡ o → PendingBefore i x
         refusal n event None found = absurd (false≢true (sym (ap is_no_end found) ∙ (and_parts (runs m n) (is_no_end (piece_of m.kept n)) (ap (may_be_kept table cs m) (sym event) ∙ may)).1))
         refusal n event (Some q) found = by_work q.work refl
           where
@@ -471,27 +486,37 @@ module _ (table : ConflictRelation) (symmetric : IsSymmetric table) (plans : Lis
                 ap (advance table cs m) event ∙ (ap (with_piece (piece_refused table cs (noted m (Refuse n))) (noted m (Refuse n))) (piece_of-plain m.kept (Refuse n) n refl ∙ found)
                 ∙ ap (work_refused table cs (noted m (Refuse n)) q.process q.step) work')
 
-            by_kind : (t : Bool) → can_be_refused (kind_of (shape cs q.process) q.step) ≡ t → q.work ≡ Forward → conflict table x e ≡ false
-            by_kind true can work' = back_free (subst (Back m) (sym event) (refused_back m n q own may' found work' can)) i j x e p goes pend runs' work is never ran
+            by_kind : (t : Bool) → can_be_refused (kind_of (shape cs q.process) q.step) ≡ t → q.work ≡ Forward → PendingBefore i x
+            by_kind true can work' = inr (inl (subst (Back m) (sym event) (refused_back m n q own may' found work' can)))
             by_kind false cannot work' =
                 tried_again n event q found
                 (to_work Forward work' ∙ ap (λ c. cond c (step_refused table cs (noted m (Refuse n)) q.process q.step) (noted m (Refuse n))) cannot)
                 (ap (is_only_try (shape cs q.process) q.step) work' ∙ cannot)
 
-            by_work : (w : Work) → q.work ≡ w → conflict table x e ≡ false
+            by_work : (w : Work) → q.work ≡ w → PendingBefore i x
             by_work Forward work' = by_kind (can_be_refused (kind_of (shape cs q.process) q.step)) refl work'
             by_work Undo work' = tried_again n event q found (to_work Undo work') (ap (is_only_try (shape cs q.process) q.step) work')
             by_work End work' = tried_again n event q found (to_work End work') (ap (is_only_try (shape cs q.process) q.step) work')
 
-        by_event : (y : Kept) → k ≡ y → conflict table x e ≡ false
+        by_event : (y : Kept) → k ≡ y → PendingBefore i x
         by_event (Start a) event = quiet (ap (λ y. has_begun (advance table cs m y) i) event) (λ q ended. absurd (none-some q (sym (ap (piece_ended m.kept) event) ∙ ended)))
         by_event (Hand a b c d) event = quiet (ap (λ y. has_begun (advance table cs m y) i) event) (λ q ended. absurd (none-some q (sym (ap (piece_ended m.kept) event) ∙ ended)))
         by_event (Effect n) event = effect n event (piece_of m.kept n) refl
         by_event (Refuse n) event = refusal n event (piece_of m.kept n) refl
-        by_event (Abort a) event = back_free (subst (Back m) (sym event) (aborted_back m a)) i j x e p goes pend runs' work is never ran
-        by_event (Victim a) event = back_free (subst (Back m) (sym event) (victim_back m a)) i j x e p goes pend runs' work is never ran
-        by_event Restart event =
-            let j_goes = is_active-is_in m.events j ∙ (runs_active table cs m j ran.0 own.active ran.1).1 in
+        by_event (Abort a) event = inr (inl (subst (Back m) (sym event) (aborted_back m a)))
+        by_event (Victim a) event = inr (inl (subst (Back m) (sym event) (victim_back m a)))
+        by_event Restart event = inr (inr event)
+
+    -- a step that ran before
+    ran_free : (i j : ℕ) (x e : Entry) (p : Piece) → is_active (advance table cs m k).events i ≡ true → Among x (pending_of cs (advance table cs m k) i)
+        → running_of (advance table cs m k) j ≡ Some p → p.work ≡ Forward → e ≡ doing cs j p.step → has_begun (advance table cs m k) j ≡ false → IsRunningStep m cs j e → conflict table x e ≡ false
+    ran_free i j x e p goes pend runs work is never ran = by_source (pending_before i x goes pend)
+      where
+        by_source : Among x (pending_of cs m i) ⊎ (Back m k ⊎ (k ≡ Restart)) → conflict table x e ≡ false
+        by_source (inl was) = facts.free i j x e (active_before i x goes was) was ran
+        by_source (inr (inl b)) = back_free b i j x e p goes pend runs work is never ran
+        by_source (inr (inr event)) =
+            let j_goes = is_active-is_in m.events j ∙ (runs_active table cs m j ran.0 facts.reserved.own.active ran.1).1 in
             absurd (false≢true (sym never ∙ (ap (λ y. has_begun (advance table cs m y) j) event ∙ (all_begin-has Restarted (noted m Restart) (active m.events) j ∙ or_right (has_begun m j) (is_in j (active m.events)) j_goes))))
 
     free_after : (i j : ℕ) (x e : Entry) → is_active (advance table cs m k).events i ≡ true → Among x (pending_of cs (advance table cs m k) i) → IsRunningStep (advance table cs m k) cs j e → conflict table x e ≡ false

@@ -41,6 +41,12 @@ use Rattle.machine_model.proofs.RunInduction.{entered, advance-keeps, run-keeps}
 use Rattle.machine_model.proofs.TidyMoments.{Each-filter}
 use Rattle.machine_model.proofs.OpenHoldings.{head_contained}
 
+pub and_swap : (a b : Bool) → (a && b) ≡ (b && a)
+and_swap true true = refl
+and_swap true false = refl
+and_swap false true = refl
+and_swap false false = refl
+
 -- The acts of a run have the operations of the plans.
 module _ (table : ConflictRelation) (courses : List Course) where
   abbrev OfPlans : Moment → Type 0
@@ -145,12 +151,6 @@ module _ (courses : List Course) (m : Moment) (all : AllHaveBegun m) where
             ∙ (ap (flat_map (closing courses m.events)) first
             ∙ (head.1 ∙ ap (λ (t : Task). event_by courses i t.step t.work ∷ head.0) (sym (owed-next i active' none)))),
       )
-
-  and_swap : (a b : Bool) → (a && b) ≡ (b && a)
-  and_swap true true = refl
-  and_swap true false = refl
-  and_swap false true = refl
-  and_swap false false = refl
 
   -- the last entry to be undone is the last of its process
   its_last : (front : List Entry) (x : Entry) → all_backward_entries courses m.events ≡ front ++ x ∷ [] → is_active m.events x.process ≡ true → (us : List Entry) (z : Entry) → backward_entries courses m.events x.process ≡ us ++ z ∷ [] → x ≡ z

@@ -214,13 +214,15 @@ module _ (s : Progress) (tree : (v : List ℕ) (e : ℕ) → goes_on_to s.shape 
   shorter : length (take (length s.net - 1) s.net) ≡ length s.net - 1
   shorter = let l = length-take (length s.net - 1) s.net in omega arith
 
-  by_ways : (o q : Option ℕ) → way_on s ≡ o → least (ways s) ≡ o → way_on (last_undone s) ≡ q → least (ways (last_undone s)) ≡ q → staying_for s o < length s.net → staying_for s o ≤ staying_for (last_undone s) q
-  by_ways None None is first is' first' less = omega arith
+  by_ways : (o q : Option ℕ) → way_on s ≡ o → least (ways s) ≡ o → way_on (last_undone s) ≡ q → least (ways (last_undone s)) ≡ q → staying_for s o < length s.net → staying_for s o ≡ staying_for (last_undone s) q
+  by_ways None None is first is' first' less = sym same
   by_ways None (Some e) is first is' first' less =
-      let way = way_on-is (last_undone s) e is' in
-      let k = kept_length s.shape (take (length s.net - 1) s.net) (kept_for s.shape (take (length s.net - 1) s.net) e) way.from in
-      let low = way.from.fixed in
-      omega arith
+      let other = way_on-is (last_undone s) e is' in
+      let low = other.from.fixed in
+      let high = other.from.within in
+      let l = shorter in
+      let goes = ap (λ u. goes_on_to s.shape u e) (sym (take_take other.from.count (length s.net - 1) s.net (omega arith)) ∙ sym other.from.is) ∙ other.on in
+      absurd (never_none (ways s) e (in_ways s other.from.count e (omega arith) (omega arith) goes other.bound) first)
   by_ways (Some d) q is first is' first' less = by_other q is' first'
     where
       way : IsWayOn s d
@@ -237,7 +239,7 @@ module _ (s : Progress) (tree : (v : List ℕ) (e : ℕ) → goes_on_to s.shape 
           in_ways (last_undone s) way.from.count d (omega arith) (omega arith)
           (ap (λ u. goes_on_to s.shape u d) (take_take way.from.count (length s.net - 1) s.net (omega arith) ∙ sym way.from.is) ∙ way.on) way.bound
 
-      by_other : (q : Option ℕ) → way_on (last_undone s) ≡ q → least (ways (last_undone s)) ≡ q → length (kept_for s.shape s.net d) ≤ staying_for (last_undone s) q
+      by_other : (q : Option ℕ) → way_on (last_undone s) ≡ q → least (ways (last_undone s)) ≡ q → length (kept_for s.shape s.net d) ≡ staying_for (last_undone s) q
       by_other None is' first' = absurd (never_none (ways (last_undone s)) d in_rest first')
       by_other (Some e) is' first' =
           let laid = paths_lie_in_order s.shape (tree (kept_for s.shape s.net d) d way.on) in
@@ -251,8 +253,7 @@ module _ (s : Progress) (tree : (v : List ℕ) (e : ℕ) → goes_on_to s.shape 
           let equal : d ≡ e = omega arith in
           let branch = sym (branch_from s.shape (kept_for s.shape s.net d) d laid.in_order laid.rising way.on)
           ∙ (ap (branch_to s.shape) equal ∙ branch_from s.shape (kept_for s.shape (take (length s.net - 1) s.net) e) e laid.in_order laid.rising other.on) in
-          let long = ap length branch in
-          omega arith
+          ap length branch
 
   pub still_stays : staying s ≤ staying (last_undone s)
   still_stays = ⊎_elim begun not_begun (cases_Bool s.begun)
@@ -271,3 +272,14 @@ module _ (s : Progress) (tree : (v : List ℕ) (e : ℕ) → goes_on_to s.shape 
 
       not_begun : s.begun ≡ false → staying s ≤ staying (last_undone s)
       not_begun no' = by_whole (is_whole s.shape s.net) (is_whole s.shape (take (length s.net - 1) s.net)) no' refl refl
+
+  -- as long as it hasn't begun to complete, exactly as many stay
+  pub as_many_stay : s.begun ≡ false → is_whole s.shape (take (length s.net - 1) s.net) ≡ false → staying (last_undone s) ≡ staying s
+  as_many_stay no' rest = by_whole (is_whole s.shape s.net) refl
+    where
+      by_whole : (w : Bool) → is_whole s.shape s.net ≡ w → staying (last_undone s) ≡ staying s
+      by_whole true whole = let a = staying-on s no' true whole in absurd (omega arith)
+      by_whole false whole =
+          let a = staying-on s no' false whole in
+          staying-on (last_undone s) no' false rest
+          ∙ (sym (by_ways (way_on s) (way_on (last_undone s)) refl (sym (way_on-least s no' whole)) refl (sym (way_on-least (last_undone s) no' rest)) (omega arith)) ∙ sym a)

@@ -168,6 +168,12 @@ abbrev pub PendingIsFree : Type 0
 PendingIsFree = (table : ConflictRelation) (plans : List Plan) (s : Machine) → IsSession table plans s
     → (i k : ℕ) (x e : Entry) → IsTrue (is_active (history table s) i) → Contains (pending_of s.courses (now table s) i) x → IsRunningStep (now table s) s.courses k e → conflict table x e ≡ false
 
+-- Where the machine opened at rest, what stands behind a pending entry and conflicts with it is pending.
+abbrev pub PendingIsClosed : Type 0
+PendingIsClosed = (table : ConflictRelation) (plans : List Plan) (s : Machine) → IsSession table plans s
+    → (i : ℕ) (x e : Entry) → OpenedAtRest s → IsTrue (is_active (history table s) i) → Contains (pending_of s.courses (now table s) i) x
+    → Contains (behind x (net (history table s))) e → conflict table x e ≡ true → IsTrue (is_pending s.courses (now table s) e)
+
 -- While the undo of x runs, behind x stands no net entry of another process that conflicts.
 abbrev pub UndoneIsFree : Type 0
 UndoneIsFree = (table : ConflictRelation) (plans : List Plan) (s : Machine) → IsSession table plans s
@@ -247,6 +253,11 @@ RestartFollowsCompletion = (table : ConflictRelation) (plans : List Plan) (s : M
 abbrev pub RestartIsFree : Type 0
 RestartIsFree = (table : ConflictRelation) (plans : List Plan) (s : Machine) → IsSession table plans s → AllHaveBegun (now table s)
     → (i : ℕ) → next_in_restart s.courses (now table s) ≡ Some i → block_of table s.courses (now table s) i ≡ None
+
+-- The undo of the last pending entry in joint order is never blocked, where the machine opened at rest or all have begun.
+abbrev pub LastPendingIsFree : Type 0
+LastPendingIsFree = (table : ConflictRelation) (plans : List Plan) (s : Machine) → IsSession table plans s
+    → (i : ℕ) → OpenedAtRest s ⊎ AllHaveBegun (now table s) → undo_next s.courses (now table s) ≡ Some i → block_of table s.courses (now table s) i ≡ None
 
 -- A piece is blocked exactly where something stands against it.
 abbrev pub BlockedWhereSomethingStands : Type 0

@@ -1,5 +1,5 @@
 // The laws of the machine that are proved: each function says one, and does nothing.
-ghost use Rattle.machine_model.specs.Laws.{BlockedWhereSomethingStands, CallsMakeRuns, CascadeIsLeast, EndedAreAtEnds, EndedIsFree, EndsAreFree, FixedIsFree, FixingIsFree, NextKeepsOwnOrder, NoCircle, OpenHoldingsBlockAlike, OpenHoldingsDragAlike, OwedStepsAreFree, PendingIsFree, ProgressLaw, ReservedIsFree, RestartBeginsAll, RestartFollowsCompletion, RestartIsFree, RunningStepsAreFree, RunsAreLegal, RunsKeepOwnOrder, UndoneIsFree, UndosWaitByA5};
+ghost use Rattle.machine_model.specs.Laws.{AdmissionLawsHold, BlockedWhereSomethingStands, CallsMakeRuns, CascadeIsLeast, EndedAreAtEnds, EndedIsFree, EndsAreFree, FixedIsFree, FixingIsFree, LastPendingIsFree, NextKeepsOwnOrder, NoCircle, OpenHoldingsBlockAlike, OpenHoldingsDragAlike, OwedStepsAreFree, PendingIsClosed, PendingIsFree, ProgressLaw, ReservedIsFree, RestartBeginsAll, RestartFollowsCompletion, RestartIsFree, RunningStepsAreFree, RunsAreLegal, RunsKeepOwnOrder, StandingFactsHold, UndoneIsFree, UndosWaitByA5};
 ghost use Rattle.machine_model.specs.PieceLaws.{DroppedIsExact, OneRuns, OthersStay, OverIsFinished, ProgressGoesByTransitions, RefusedBeginsWithoutWayOn, RefusedIsNextOrGone, RunningIsNext, StatesGoByTransitions, UndosTakeBackTheLast};
 ghost use Rattle.machine_model.specs.HoldLaws.{BeginningsStop, BegunUndoAll, EndsGo, HandsReserve, NetGoesByPieces, RunningGoesByPieces, StepsTakeEffect, UndosTakeEffect};
 ghost use Rattle.machine_model.specs.CauseLaws.{BeginningsHaveCauses, BeginningsStay};
@@ -244,6 +244,26 @@ pub fn runs_are_legal()
 /// Once all have begun to complete, the process whose turn it is in a restart is never blocked.
 pub fn restart_is_free()
     ensures { RestartIsFree }
+{}
+
+/// Where the machine opened at rest, what stands behind a pending entry and conflicts with it is pending.
+pub fn pending_is_closed()
+    ensures { PendingIsClosed }
+{}
+
+/// The undo of the last pending entry in joint order is never blocked, where the machine opened at rest or all have begun.
+pub fn last_pending_is_free()
+    ensures { LastPendingIsFree }
+{}
+
+/// The standing facts hold at each moment of a run.
+pub fn standing_facts_hold()
+    ensures { StandingFactsHold }
+{}
+
+/// The admission laws hold at each moment of a run.
+pub fn admission_laws_hold()
+    ensures { AdmissionLawsHold }
 {}
 
 /// Where no active process is exhausted, a request for any piece isn't answered that one is stuck.
