@@ -67,3 +67,4 @@ pub mod Going
 pub mod Causes
 pub mod OneLost
 pub mod WithinTries
+pub mod HandsBound

@@ -323,7 +323,7 @@ module _ (table : ConflictRelation) (plans : List Plan) (good : AreGood plans) w
     stand = λ i open'. by_own m k i counts may open' (piece_touched m.kept k) refl;
   }
 
-  opening_counts : (h : List Event) → InOwnOrder table plans good (opening_moment h) → CountsStand (opening_moment h)
+  pub opening_counts : (h : List Event) → InOwnOrder table plans good (opening_moment h) → CountsStand (opening_moment h)
   opening_counts h own = record { own = own; no_end = λ i b. refl; stand = λ i open' b w some. absurd (omega arith) }
 
 pub session-counts : (table : ConflictRelation) (plans : List Plan) (s : Machine) (session : IsSession table plans s) → CountsStand table plans session.good (now table s)

@@ -30,10 +30,10 @@ use Rattle.machine_model.proofs.TidyMoments.{Each-filter, Each-find, Tidy, advan
 
 module _ (table : ConflictRelation) (courses : List Course) where
   -- this piece may be tried once more
-  abbrev IsLeft : List Kept → Piece → Type 0
+  abbrev pub IsLeft : List Kept → Piece → Type 0
   IsLeft ks p = are_used_up (tries_by courses p.process p.step p.work) (refusals ks p.process p.step p.work) ≡ false
 
-  abbrev AllLeft : Moment → Type 0
+  abbrev pub AllLeft : Moment → Type 0
   AllLeft m = Each (IsLeft m.kept) m.out
 
   beginnings-left : IsKeptByBeginnings AllLeft
@@ -84,12 +84,12 @@ module _ (table : ConflictRelation) (courses : List Course) where
   entered-left m Restart tidy each may = same_left m.kept (m.kept ++ Restart ∷ []) m.out (refused-plain m.kept Restart refl (λ x. refl)) each
 
   -- what is out may be tried once more, and nothing was refused too often
-  record AllWithin (m : Moment) : Type 0 where
+  pub record AllWithin (m : Moment) : Type 0 where
     pub tidy : Tidy m
     pub left : AllLeft m
     pub within : (i b : ℕ) (w : Work) (t : ℕ) → tries_by courses i b w ≡ Some t → refusals m.kept i b w ≤ t
 
-  one_more : (o : Option ℕ) (t n : ℕ) → o ≡ Some t → are_used_up o n ≡ false → n + 1 ≤ t
+  pub one_more : (o : Option ℕ) (t n : ℕ) → o ≡ Some t → are_used_up o n ≡ false → n + 1 ≤ t
   one_more o t n is left = let more = leb-false t n (ap (λ x. are_used_up x n) (sym is) ∙ left) in omega arith
 
   module _ (m : Moment) (k : Kept) (all : AllWithin m) (may : may_be_kept table courses m k ≡ true) (i b : ℕ) (w : Work) (t : ℕ) (tries : tries_by courses i b w ≡ Some t) where
@@ -132,7 +132,7 @@ module _ (table : ConflictRelation) (courses : List Course) where
   within_after m (Victim j) all may i b w t tries = unrefused m (Victim j) all may i b w t tries (λ p is. absurd (none-some p is))
   within_after m Restart all may i b w t tries = unrefused m Restart all may i b w t tries (λ p is. absurd (none-some p is))
 
-  advance-within : (m : Moment) (k : Kept) → AllWithin m → may_be_kept table courses m k ≡ true → AllWithin (advance table courses m k)
+  pub advance-within : (m : Moment) (k : Kept) → AllWithin m → may_be_kept table courses m k ≡ true → AllWithin (advance table courses m k)
   advance-within m k all may = record {
     tidy = advance-tidy table courses m k all.tidy may;
     left = advance-keeps AllLeft beginnings-left table courses m k (entered-left m k all.tidy all.left may);

@@ -1,12 +1,14 @@
 -- The laws of how many pieces are dropped, and of what became of those that were handed out, as statements.
-use Rattle.std.specs.Prelude.{◌≡◌, ◌≤◌, ℕ, ◌+◌, Bool, ◌&&◌, length, filter, nat_eq, IsTrue, Some, is_some}
+use Rattle.std.specs.Prelude.{◌≡◌, ◌≤◌, List, ℕ, ◌+◌, Bool, ◌&&◌, length, filter, nat_eq, IsTrue, Option, Some, None, is_some}
+use Rattle.process_tree.specs.declared.plan.Plan.{Plan}
 use Rattle.schedule_model.specs.Conflict.{ConflictRelation}
 use Rattle.machine_model.specs.Moment.{Piece}
-use Rattle.machine_model.specs.Pieces.{dropped_at, hands, is_finished, refusals, runs}
+use Rattle.machine_model.specs.Pieces.{dropped_at, hands, is_finished, is_try_of, refusals, runs}
 use Rattle.machine_model.specs.declared.kept.Work.{Work}
 use Rattle.machine_model.specs.State.{tries_by}
 use Rattle.machine_model.specs.Advance.{Machine}
 use Rattle.machine_model.specs.Runs.{is_run, now}
+use Rattle.machine_model.specs.Laws.{IsSession}
 
 -- At most one piece of each process is dropped.
 abbrev pub OneIsDropped : Type 0
@@ -24,3 +26,13 @@ HandsAreParted = (table : ConflictRelation) (s : Machine) (asked : Piece → Boo
 abbrev pub RefusalsAreWithinTries : Type 0
 RefusalsAreWithinTries = (table : ConflictRelation) (s : Machine) (i b : ℕ) (w : Work) (tries : ℕ) → IsTrue (is_run table s)
     → tries_by s.courses i b w ≡ Some tries → refusals s.kept i b w ≤ tries
+
+-- so many tries as are stated, and one where nothing is said
+abbrev pub tries_or_one : Option ℕ → ℕ
+tries_or_one None = 1
+tries_or_one (Some tries) = tries
+
+-- No step, undo or end is handed out more often than it may be tried, but for pieces that are dropped.
+abbrev pub HandsAreWithinTries : Type 0
+HandsAreWithinTries = (table : ConflictRelation) (plans : List Plan) (s : Machine) (i b : ℕ) (w : Work) → IsSession table plans s
+    → length (filter (is_try_of i b w) (hands s.kept)) ≤ tries_or_one (tries_by s.courses i b w) + length (filter (λ l. is_try_of i b w l.piece) (now table s).lost)

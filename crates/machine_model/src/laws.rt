@@ -3,7 +3,7 @@ ghost use Rattle.machine_model.specs.Laws.{AdmissionLawsHold, BlockedWhereSometh
 ghost use Rattle.machine_model.specs.PieceLaws.{DroppedIsExact, OneRuns, OthersStay, OverIsFinished, ProgressGoesByTransitions, RefusedBeginsWithoutWayOn, RefusedIsNextOrGone, RunningIsNext, StatesGoByTransitions, UndosTakeBackTheLast};
 ghost use Rattle.machine_model.specs.HoldLaws.{BeginningsStop, BegunUndoAll, EndsGo, HandsReserve, NetGoesByPieces, RunningGoesByPieces, StepsTakeEffect, UndosTakeEffect};
 ghost use Rattle.machine_model.specs.CauseLaws.{BeginningsHaveCauses, BeginningsStay};
-ghost use Rattle.machine_model.specs.DropLaws.{HandsAreParted, OneIsDropped, RefusalsAreWithinTries};
+ghost use Rattle.machine_model.specs.DropLaws.{HandsAreParted, HandsAreWithinTries, OneIsDropped, RefusalsAreWithinTries};
 ghost use Rattle.machine_model.specs.CallLaws.{BeginningsOfRunsAreRuns, CallsKeepRuns, FlushesKeepWhatRuns, QueuedAreOutOrDropped, StuckIsExact, TurnsMakeRuns, VictimsRunDry};
 
 /// The computed cascade of an active process is the least set.
@@ -294,4 +294,9 @@ pub fn hands_are_parted()
 /// No piece is refused more often than it may be tried.
 pub fn refusals_are_within_tries()
     ensures { RefusalsAreWithinTries }
+{}
+
+/// No step, undo or end is handed out more often than it may be tried, but for pieces that are dropped.
+pub fn hands_are_within_tries()
+    ensures { HandsAreWithinTries }
 {}
