@@ -12,7 +12,7 @@ use Rattle.schedule_model.specs.Recovery.{backward_entries, owed, owed_after}
 use Rattle.machine_model.specs.declared.kept.Work.{Work}
 use Rattle.machine_model.specs.declared.kept.Work.TheVariants.{Forward, Undo, End}
 use Rattle.machine_model.specs.declared.kept.Kept.{Kept}
-use Rattle.machine_model.specs.declared.kept.Kept.TheVariants.{Hand, Effect, Refuse}
+use Rattle.machine_model.specs.declared.kept.Kept.TheVariants.{Start, Hand, Effect, Refuse}
 use Rattle.machine_model.specs.Moment.{Moment, Piece, has_begun}
 use Rattle.machine_model.specs.Pieces.{piece_of, running_of}
 use Rattle.machine_model.specs.State.{entry_by, hold_of, owed_by_work}
@@ -137,3 +137,11 @@ abbrev pub EndsGo : Type 0
 EndsGo = (table : ConflictRelation) (s : Machine) (n number i b : ℕ) → piece_of s.kept n ≡ Some (record { number = number; process = i; step = b; work = End })
     → let m = now table s in
     active (advance table s.courses m (Effect n)).events ≡ filter (λ k. not (nat_eq k i)) (active m.events)
+
+-- A start adds its process behind the active ones, and it holds nothing yet.
+abbrev pub StartsHoldNothing : Type 0
+StartsHoldNothing = (table : ConflictRelation) (plans : List Plan) (s : Machine) (i : ℕ) → IsSession table plans s → IsTrue (may_be_kept table s.courses (now table s) (Start i))
+    → let m = now table s in
+    let after = advance table s.courses m (Start i) in
+    (active after.events ≡ active m.events ++ i ∷ [])
+    × (hold_of s.courses after i ≡ record { process = i; running = None; reserved = []; pending = []; backward_entries = [] })
