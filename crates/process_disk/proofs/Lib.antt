@@ -1,5 +1,3 @@
 pub mod Images
 mod Kept
-mod Marks
 mod Stops
-mod WholeCalls

@@ -1,5 +1,4 @@
 pub mod Disk
-pub mod Folder
 pub mod Images
 pub mod Memory
 pub mod MemoryLaws

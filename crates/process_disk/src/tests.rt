@@ -4,30 +4,56 @@ use std::alloc::Global;
 use std::process::Abort;
 use std::test::Fail;
 
-// Writes, from the end of what is there at most.
-fn write(rt: &impl Abort, rack: &mut MemoryRack, file: u8, at: u64, bytes: &[u8]) -> bool {
-    assert!(rt; file < 9);
-    let len = rack.file(file).len() as u64;
-    assert!(rt; at <= len);
-    rack.write_at(file, at, bytes).is_ok()
+#[derive(Drop)]
+enum Call {
+    // these bytes at a place of a file; whether it is written
+    Write(u8, u64, &'static [u8], bool),
+    // whether it is finished
+    Sync(bool),
+    // the length of file 0
+    Len(u64),
+    // file 0 from a place on: how many bytes, and the buffer then
+    Read(u64, usize, [u8; 8]),
 }
 
 // Ten calls, of which a write (5) and a sync (7) fail.
+const CALLS: [Call; 10] = [
+    Call::Write(0, 0, b"abc", true),
+    Call::Write(1, 0, b"xy", true),
+    Call::Sync(true),
+    Call::Write(0, 2, b"CDE", true),
+    Call::Len(5),
+    Call::Write(1, 1, b"Z", false),
+    Call::Read(1, 4, *b"bCDE\0\0\0\0"),
+    Call::Sync(false),
+    Call::Write(8, 0, b"w", true),
+    Call::Sync(true),
+];
+
+// Makes a call, a write from the end of what is there at most.
+fn make(rt: &impl Abort, rack: &mut MemoryRack, call: &Call) {
+    match call {
+        Call::Write(file, at, bytes, done) => {
+            assert!(rt; *file < 9);
+            assert!(rt; *at <= rack.file(*file).len() as u64);
+            assert_eq!(rt; rack.write_at(*file, *at, bytes).is_ok(), *done);
+        }
+        Call::Sync(done) => assert_eq!(rt; rack.sync().is_ok(), *done),
+        Call::Len(len) => assert_eq!(rt; rack.len(0), Ok(*len)),
+        Call::Read(at, count, bytes) => {
+            let mut buf = [0; 8];
+            assert_eq!(rt; rack.read(0, *at, &mut buf), Ok(*count));
+            assert_eq!(rt; buf, *bytes);
+        }
+    }
+}
+
 fn run(rt: &impl Abort, alloc: Global) -> Result<MemoryRack, Fail> {
     let mut rack = MemoryRack::new(alloc, vec![in alloc; 5, 7]?)?;
-    let mut buf = [0; 8];
-    assert!(rt; write(rt, &mut rack, 0, 0, b"abc"));
-    assert!(rt; write(rt, &mut rack, 1, 0, b"xy"));
-    assert!(rt; rack.sync().is_ok());
-    assert!(rt; write(rt, &mut rack, 0, 2, b"CDE"));
-    assert_eq!(rt; rack.len(0), Ok(5));
-    assert!(rt; !write(rt, &mut rack, 1, 1, b"Z"));
-    assert_eq!(rt; rack.read(0, 1, &mut buf), Ok(4));
-    assert!(rt; rack.sync().is_err());
-    assert!(rt; write(rt, &mut rack, 8, 0, b"w"));
-    assert!(rt; rack.sync().is_ok());
-    assert_eq!(rt; buf.as_slice(), b"bCDE\0\0\0\0".as_slice());
-    assert_eq!(rt; rack.calls(), 10);
+    for call in &CALLS {
+        make(rt, &mut rack, call);
+    }
+    assert_eq!(rt; rack.calls(), CALLS.len() as u64);
     Ok(rack)
 }
 

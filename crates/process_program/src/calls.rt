@@ -5,7 +5,7 @@ ghost use Rattle.std.specs.Vec.Iter.{into_iter_items, into_iter_len};
 ghost use Rattle.process_top.specs.Reply.{IsAnswered, IsComplete};
 ghost use Rattle.process_program.specs.Words.{words_behind};
 
-use process_disk::{FileRack, Folder, SystemFolder};
+use file_rack::{FileRack, Folder, SystemFolder};
 use process_flow::{Sink, Source, StdSink, StdSource};
 use process_top::{Finished, only_reads, top};
 use std::alloc::{AllocError, Global};

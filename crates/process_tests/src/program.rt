@@ -2,8 +2,9 @@
 use crate::check::words_of;
 use crate::run::{JOURNAL, TEXT};
 use crate::show::LINES;
+use file_rack::{FileRack, Folder, MemoryFolder, SystemFolder};
 use gate_log::Log;
-use process_disk::{FileRack, Folder, MemoryFolder, MemoryRack, Rack, SystemFolder};
+use process_disk::{MemoryRack, Rack};
 use process_flow::{MemorySink, MemorySource};
 use process_program::{Ended, program};
 use std::alloc::Global;

@@ -1,0 +1,27 @@
+use Rattle.std.proofs.Common.{◌≡◌, ◌+◌, ◌∙◌, subst, arith, drop, length-append, rules}
+use Rattle.process_disk.specs.Disk.{file_of}
+use Rattle.file_rack.specs.Folder.{IsPart}
+use Rattle.process_disk.proofs.Images.{still_told}
+use Rattle.file_rack.proofs.WholeCalls.{looks_then, read_more}
+use Rattle.file_rack.proofs.transfers.read_whole.Goals as goal
+
+pub loop-count-preserved : goal.loop-count-preserved
+loop-count-preserved g c =
+    let D = g.D.Folder in
+    let old = D.disk c.args.folder.now in
+    let mid = D.disk c.loop-count.folder in
+    let so = c.loop-count.invariant in
+    let step = c.in-Ok.ensures in
+    let split = c.split_at_mut-rest in
+    let there : c.in-Some.place ≡ c.args.at + c.loop-count.count = search rules in
+    record {
+      within = omega (arith, so.within, step.bound, split.ensures.front_len, c.read.auto.buf, length-append split.result.0.now c.read.new.buf);
+      read = λ told.
+          let part = subst (λ fs. IsPart (drop c.in-Some.place (file_of fs c.args.file)) c.read.new.buf c.in-Ok.more) ((so.looks told).files) (step.part (still_told old mid so.tells told)) in
+          read_more (file_of old.files c.args.file) split.result.0.now c.read.new.buf c.loop-count.buf c.args.at c.in-Some.place c.loop-count.count c.in-Ok.more split.ensures.front split.ensures.front_len there (so.read told) part;
+      looks = λ told. looks_then old mid (D.disk c.read.new.self) (g.met.D.Folder.honest c.args.folder.now told) (so.looks told) (step.looks (still_told old mid so.tells told));
+      tells = step.tells ∙ so.tells;
+      taken = step.taken ∙ so.taken;
+      syncs = step.syncs ∙ so.syncs;
+      quiet = step.quiet ∙ so.quiet;
+    }

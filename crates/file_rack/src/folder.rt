@@ -1,0 +1,96 @@
+// The files of a folder as a system gives them.
+ghost use Rattle.std.specs.Prelude.{◌≡◌, ◌<◌, ◌≤◌, ℕ, List, Bool, length, take, drop, IfOk, OnOk, IsTrue};
+ghost use Rattle.process_flow.specs.Causes.{HasCause};
+ghost use Rattle.process_disk.specs.Disk.{FileSet, Disk, Told, file_of, put, Looks, Writes, IsHonest};
+ghost use Rattle.file_rack.specs.Folder.{IsKept, IsPart, IsSynced, folder_place};
+
+use process_flow::Failed;
+
+/// Nine files of one folder, numbered from 0. A transfer may be short, and a sync is of one file.
+pub trait Folder {
+    /// What it tells of its files.
+    ghost disk: { Self → Disk };
+
+    /// How many calls have failed, or the last number of a counter.
+    ghost faults: { Self → ℕ };
+
+    /// How many syncs were finished: of each file in its place, and of the folder behind them.
+    ghost syncs: { Self → List ℕ };
+
+    /// Whether the folder is taken: nobody else may write.
+    ghost taken: { Self → Bool };
+
+    /// Takes the folder, and says whether it is taken now: not where file 0 is absent, unless it may be made.
+    fn take(&mut self, make: bool) -> Result<bool, Failed>
+        ensures taken { IfOk result (λ yes. taken self.new ≡ yes) }
+        ensures stays { IsTrue (taken self.old) → IsTrue (taken self.new) }
+        ensures made { IsTrue make → IfOk result (λ yes. IsTrue yes) }
+        ensures looks { Told (disk self.old) → Looks (disk self.old) (disk self.new) }
+        ensures tells { (disk self.new).tells ≡ (disk self.old).tells }
+        ensures syncs { syncs self.new ≡ syncs self.old }
+        ensures cause { HasCause (faults self.old) (faults self.new) result }
+        ensures quiet { OnOk result (faults self.new ≡ faults self.old) };
+
+    /// How many bytes a file has, none where it is absent.
+    fn len(&mut self, file: u8) -> Result<u64, Failed>
+        requires { file < 9 }
+        ensures len { Told (disk self.old) → IfOk result (λ n. n ≡ length (file_of (disk self.old).files file)) }
+        ensures looks { Told (disk self.old) → Looks (disk self.old) (disk self.new) }
+        ensures tells { (disk self.new).tells ≡ (disk self.old).tells }
+        ensures taken { taken self.new ≡ taken self.old }
+        ensures syncs { syncs self.new ≡ syncs self.old }
+        ensures cause { HasCause (faults self.old) (faults self.new) result }
+        ensures quiet { OnOk result (faults self.new ≡ faults self.old) };
+
+    /// Reads bytes from a place on into the buffer's front and says how many; none only at the end, or without room.
+    fn read(&mut self, file: u8, at: u64, buf: &mut [u8]) -> Result<usize, Failed>
+        requires { file < 9 }
+        ensures bound { IfOk result (λ n. n ≤ length buf.old) }
+        ensures part { Told (disk self.old) → IfOk result (λ n. IsPart (drop at (file_of (disk self.old).files file)) buf.new n) }
+        ensures looks { Told (disk self.old) → Looks (disk self.old) (disk self.new) }
+        ensures tells { (disk self.new).tells ≡ (disk self.old).tells }
+        ensures taken { taken self.new ≡ taken self.old }
+        ensures syncs { syncs self.new ≡ syncs self.old }
+        ensures cause { HasCause (faults self.old) (faults self.new) result }
+        ensures quiet { OnOk result (faults self.new ≡ faults self.old) };
+
+    /// Writes bytes from the front and says how many, at least one; a file that is absent is made. Nothing that a crash might
+    /// leave before is shut out by it.
+    fn write(&mut self, file: u8, at: u64, bytes: &[u8]) -> Result<usize, Failed>
+        requires file { file < 9 }
+        requires some { 0 < length bytes.now }
+        requires taken { IsTrue (taken self.old) }
+        requires place { Told (disk self.old) → at ≤ length (file_of (disk self.old).files file) }
+        ensures some { IfOk result (λ n. 0 < n) }
+        ensures bound { IfOk result (λ n. n ≤ length bytes.now) }
+        ensures written { Told (disk self.old) → IfOk result (λ n. (disk self.new).files ≡ put (disk self.old).files file at (take n bytes.now)) }
+        ensures writes { Told (disk self.old) → Writes file at (length bytes.now) (disk self.old) (disk self.new) }
+        ensures grows { Told (disk self.old) → (c : FileSet) → (disk self.old).may_leave c → (disk self.new).may_leave c }
+        ensures tells { (disk self.new).tells ≡ (disk self.old).tells }
+        ensures taken { taken self.new ≡ taken self.old }
+        ensures syncs { syncs self.new ≡ syncs self.old }
+        ensures cause { HasCause (faults self.old) (faults self.new) result }
+        ensures quiet { OnOk result (faults self.new ≡ faults self.old) };
+
+    /// Brings a file to the disk, if it is there.
+    fn sync(&mut self, file: u8) -> Result<(), Failed>
+        requires { file < 9 }
+        ensures kept { Told (disk self.old) → OnOk result (IsKept file (disk self.new)) }
+        ensures looks { Told (disk self.old) → Looks (disk self.old) (disk self.new) }
+        ensures tells { (disk self.new).tells ≡ (disk self.old).tells }
+        ensures taken { taken self.new ≡ taken self.old }
+        ensures synced { OnOk result (IsSynced file (syncs self.old) (syncs self.new)) }
+        ensures cause { HasCause (faults self.old) (faults self.new) result }
+        ensures quiet { OnOk result (faults self.new ≡ faults self.old) };
+
+    /// Brings the files' names to the disk, where one was made since this was done last.
+    fn sync_names(&mut self) -> Result<(), Failed>
+        ensures looks { Told (disk self.old) → Looks (disk self.old) (disk self.new) }
+        ensures tells { (disk self.new).tells ≡ (disk self.old).tells }
+        ensures taken { taken self.new ≡ taken self.old }
+        ensures synced { OnOk result (IsSynced folder_place (syncs self.old) (syncs self.new)) }
+        ensures cause { HasCause (faults self.old) (faults self.new) result }
+        ensures quiet { OnOk result (faults self.new ≡ faults self.old) };
+
+    ghost honest: { (folder : Self) → Told (disk folder) → IsHonest (disk folder) };
+}

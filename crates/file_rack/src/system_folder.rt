@@ -1,0 +1,332 @@
+// The files of the current folder, by the calls of the system.
+ghost use Rattle.std.specs.Prelude.{◌≡◌, ◌<◌, ◌≤◌, ◌+◌, ◌-◌, ◌^◌, ℕ, min, length, IfOk, OnOk, OnErr, IsErr, IsTrue, true, false};
+ghost use Rattle.process_flow.specs.Causes.{HasCause};
+ghost use Rattle.file_rack.specs.Folder.{IsSynced, IsMarked, folder_place};
+
+use crate::counts::{FOLDER, count};
+use crate::{FileRack, Folder};
+use process_flow::Failed;
+use std::fs::{File, OpenFile, OpenOptions};
+use std::io;
+use std::io::{ErrorKind, Read, Seek, SeekFrom, Write};
+use std::rt::Files;
+
+pub(crate) const NAMES: [&str; 9] = [
+    "tps.0", "tps.1", "tps.2", "tps.3", "tps.4", "tps.5", "tps.6", "tps.7", "tps.8",
+];
+
+// An open file, with the place at which the system goes on, where that is known.
+#[derive(Drop)]
+struct Opened {
+    file: File,
+    place: Option<u64>,
+    writable: bool,
+}
+
+impl Opened {
+    // Goes to a place, unless it is there.
+    fn go(&mut self, at: u64) -> io::Result<()> {
+        if self.place == Some(at) {
+            return Ok(());
+        }
+        self.place = None;
+        self.file.seek(SeekFrom::Start(at))?;
+        self.place = Some(at);
+        Ok(())
+    }
+
+    fn read(&mut self, at: u64, buf: &mut [u8]) -> io::Result<usize>
+        ensures { IfOk result (λ n. n ≤ length buf.old) }
+    {
+        self.go(at)?;
+        self.place = None;
+        let count = self.file.read(buf)?;
+        self.place = at.checked_add(count as u64);
+        Ok(count)
+    }
+
+    // A write of nothing has failed.
+    fn write(&mut self, at: u64, bytes: &[u8]) -> io::Result<usize>
+        ensures some { IfOk result (λ n. 0 < n) }
+        ensures bound { IfOk result (λ n. n ≤ length bytes.now) }
+    {
+        self.go(at)?;
+        self.place = None;
+        let count = self.file.write(bytes)?;
+        if count == 0 {
+            return Err(io::Error::from(ErrorKind::WriteZero));
+        }
+        self.place = at.checked_add(count as u64);
+        Ok(count)
+    }
+}
+
+/// The files `tps.0` to `tps.8` of the current folder, of whose contents it tells nothing. Each call is a call of the system,
+/// behind the opening of the file where that is due: for reading at the first look, and for writing at the first write, where
+/// an absent file is made. The folder is taken by the advisory lock on file 0, which is given up when this is dropped.
+#[derive(Drop)]
+pub struct SystemFolder<F: Files<File = File> + Drop> {
+    pub rt: F,
+    files: [Option<Opened>; 9],
+    names_synced: bool,
+    pub taken: bool,
+    /// How many syncs were finished: of each file, and of the names.
+    pub syncs: [u64; 10],
+    pub faults: u64,
+}
+
+impl<F: Files<File = File> + Drop> SystemFolder<F> {
+    pub fn new(rt: F) -> Self
+        ensures runtime { result.rt ≡ rt }
+        ensures taken { result.taken ≡ false }
+        ensures faults { result.faults ≡ 0 }
+    {
+        SystemFolder {
+            rt,
+            files: [None, None, None, None, None, None, None, None, None],
+            names_synced: false,
+            taken: false,
+            syncs: [0; 10],
+            faults: 0,
+        }
+    }
+
+    // What the system answered, with a failure counted.
+    fn told<T>(&mut self, found: io::Result<T>) -> Result<T, Failed>
+        ensures ok { IfOk result (λ value. found ≡ Ok value) }
+        ensures cause { HasCause self.old.faults self.new.faults result }
+        ensures quiet { OnOk result (self.new.faults ≡ self.old.faults) }
+        ensures taken { self.new.taken ≡ self.old.taken }
+        ensures syncs { self.new.syncs ≡ self.old.syncs }
+    {
+        match found {
+            Ok(value) => Ok(value),
+            Err(_) => {
+                self.faults = self.faults.saturating_add(1);
+                Err(Failed)
+            }
+        }
+    }
+}
+
+impl<F: Files<File = File> + Drop> FileRack<SystemFolder<F>> {
+    /// A rack over the files `tps.0` to `tps.8` of the current folder, which may write.
+    pub fn new(rt: F) -> Self
+        ensures runtime { result.folder.rt ≡ rt }
+        ensures writes { result.writes ≡ true }
+        ensures unsynced { (k : ℕ) → k < 9 → IsMarked result.unsynced k }
+        ensures whole { result.broken ≡ false }
+        ensures faults { result.faults ≡ 0 }
+    {
+        FileRack::over(SystemFolder::new(rt), true)
+    }
+
+    /// A rack over them that only reads: each write fails, and the folder isn't taken.
+    pub fn reading(rt: F) -> Self
+        ensures runtime { result.folder.rt ≡ rt }
+        ensures writes { result.writes ≡ false }
+        ensures unsynced { (k : ℕ) → k < 9 → IsMarked result.unsynced k }
+        ensures whole { result.broken ≡ false }
+        ensures faults { result.faults ≡ 0 }
+    {
+        FileRack::over(SystemFolder::new(rt), false)
+    }
+}
+
+impl<F: Files<File = File> + Drop> Folder for SystemFolder<F> {
+    ghost use Rattle.std.specs.Prelude.{false, []};
+    ghost use Rattle.std.proofs.Common.{rules};
+
+    ghost disk = { λ folder. record { tells = false; files = []; may_leave = λ c. ⊥; moment = 0; left_since = λ t c. ⊥ } };
+
+    ghost faults = { λ folder. folder.faults };
+
+    ghost syncs = { λ folder. folder.syncs };
+
+    ghost taken = { λ folder. folder.taken };
+
+    ghost honest = { λ folder told. Prim.search rules };
+
+    fn take(&mut self, make: bool) -> Result<bool, Failed>
+        ensures taken { IfOk result (λ yes. self.new.taken ≡ yes) }
+        ensures stays { IsTrue self.old.taken → IsTrue self.new.taken }
+        ensures made { IsTrue make → IfOk result (λ yes. IsTrue yes) }
+        ensures syncs { self.new.syncs ≡ self.old.syncs }
+        ensures cause { HasCause self.old.faults self.new.faults result }
+        ensures quiet { OnOk result (self.new.faults ≡ self.old.faults) }
+    {
+        if self.taken {
+            return Ok(true);
+        }
+        if make {
+            self.names_synced = false;
+        }
+        let [journal, ..] = &mut self.files;
+        let found = locked(&self.rt, journal, make);
+        let taken = self.told(found)?;
+        self.taken = taken;
+        Ok(taken)
+    }
+
+    fn len(&mut self, file: u8) -> Result<u64, Failed>
+        requires { file < 9 }
+        ensures taken { self.new.taken ≡ self.old.taken }
+        ensures syncs { self.new.syncs ≡ self.old.syncs }
+        ensures cause { HasCause self.old.faults self.new.faults result }
+        ensures quiet { OnOk result (self.new.faults ≡ self.old.faults) }
+    {
+        let found = match to_read(&self.rt, &mut self.files, file) {
+            Ok(Some(opened)) => match opened.file.metadata() {
+                Ok(metadata) => Ok(metadata.len()),
+                Err(error) => Err(error),
+            },
+            Ok(None) => Ok(0),
+            Err(error) => Err(error),
+        };
+        self.told(found)
+    }
+
+    fn read(&mut self, file: u8, at: u64, buf: &mut [u8]) -> Result<usize, Failed>
+        requires { file < 9 }
+        ensures bound { IfOk result (λ n. n ≤ length buf.old) }
+        ensures taken { self.new.taken ≡ self.old.taken }
+        ensures syncs { self.new.syncs ≡ self.old.syncs }
+        ensures cause { HasCause self.old.faults self.new.faults result }
+        ensures quiet { OnOk result (self.new.faults ≡ self.old.faults) }
+    {
+        let found = match to_read(&self.rt, &mut self.files, file) {
+            Ok(Some(opened)) => opened.read(at, buf),
+            Ok(None) => Ok(0),
+            Err(error) => Err(error),
+        };
+        self.told(found)
+    }
+
+    fn write(&mut self, file: u8, at: u64, bytes: &[u8]) -> Result<usize, Failed>
+        requires file { file < 9 }
+        requires some { 0 < length bytes.now }
+        requires taken { IsTrue self.old.taken }
+        ensures some { IfOk result (λ n. 0 < n) }
+        ensures bound { IfOk result (λ n. n ≤ length bytes.now) }
+        ensures taken { self.new.taken ≡ self.old.taken }
+        ensures syncs { self.new.syncs ≡ self.old.syncs }
+        ensures cause { HasCause self.old.faults self.new.faults result }
+        ensures quiet { OnOk result (self.new.faults ≡ self.old.faults) }
+    {
+        let made = to_write(&self.rt, &mut self.files, file, &mut self.names_synced);
+        let found = match made {
+            Ok(opened) => opened.write(at, bytes),
+            Err(error) => Err(error),
+        };
+        self.told(found)
+    }
+
+    fn sync(&mut self, file: u8) -> Result<(), Failed>
+        requires { file < 9 }
+        ensures taken { self.new.taken ≡ self.old.taken }
+        ensures synced { OnOk result (IsSynced file self.old.syncs self.new.syncs) }
+        ensures cause { HasCause self.old.faults self.new.faults result }
+        ensures quiet { OnOk result (self.new.faults ≡ self.old.faults) }
+    {
+        let found = match to_read(&self.rt, &mut self.files, file) {
+            Ok(Some(opened)) => opened.file.sync_data(),
+            Ok(None) => Ok(()),
+            Err(error) => Err(error),
+        };
+        self.told(found)?;
+        count(&mut self.syncs, usize::from(file));
+        Ok(())
+    }
+
+    fn sync_names(&mut self) -> Result<(), Failed>
+        ensures taken { self.new.taken ≡ self.old.taken }
+        ensures synced { OnOk result (IsSynced folder_place self.old.syncs self.new.syncs) }
+        ensures cause { HasCause self.old.faults self.new.faults result }
+        ensures quiet { OnOk result (self.new.faults ≡ self.old.faults) }
+    {
+        if !self.names_synced {
+            let found = match File::open(&self.rt, ".") {
+                Ok(folder) => folder.sync_all(),
+                Err(error) => Err(error),
+            };
+            self.told(found)?;
+            self.names_synced = true;
+        }
+        count(&mut self.syncs, FOLDER);
+        Ok(())
+    }
+}
+
+// The file, opened for reading where no call opened it before; none where it is absent.
+fn to_read<'a, F: Files<File = File>>(
+    rt: &F,
+    files: &'a mut [Option<Opened>; 9],
+    file: u8,
+) -> io::Result<Option<&'a mut Opened>>
+    requires { file < 9 }
+{
+    let slot = &mut files[usize::from(file)];
+    if slot.is_none() {
+        match File::open(rt, NAMES[usize::from(file)]) {
+            Ok(file) => *slot = Some(fresh(file, false)),
+            Err(error) if error.kind() == ErrorKind::NotFound => {}
+            Err(error) => return Err(error),
+        }
+    }
+    Ok(slot.as_mut())
+}
+
+// The file, opened for writing where no call did so before, and made where it is absent.
+fn to_write<'a, F: Files<File = File>>(
+    rt: &F,
+    files: &'a mut [Option<Opened>; 9],
+    file: u8,
+    names_synced: &mut bool,
+) -> io::Result<&'a mut Opened>
+    requires { file < 9 }
+{
+    let slot = &mut files[usize::from(file)];
+    if !is_writable(slot) {
+        *names_synced = false;
+        let mut how = OpenOptions::new();
+        how.read(true).write(true).create(true).truncate(false);
+        *slot = Some(fresh(how.open(rt, NAMES[usize::from(file)])?, true));
+    }
+    match slot {
+        Some(opened) => Ok(opened),
+        None => Err(io::Error::from(ErrorKind::NotFound)),
+    }
+}
+
+// Opens file 0 for writing and locks it, and says whether it is there; it is made, by this call alone, if that is asked.
+fn locked<F: Files<File = File>>(rt: &F, slot: &mut Option<Opened>, make: bool) -> io::Result<bool>
+    ensures { IsTrue make → IfOk result (λ yes. IsTrue yes) }
+{
+    let [journal, ..] = NAMES;
+    let mut how = OpenOptions::new();
+    how.read(true).write(true).create_new(make);
+    match how.open(rt, journal) {
+        Ok(file) => {
+            file.try_lock()?;
+            *slot = Some(fresh(file, true));
+            Ok(true)
+        }
+        Err(error) if !make && error.kind() == ErrorKind::NotFound => Ok(false),
+        Err(error) => Err(error),
+    }
+}
+
+fn fresh(file: File, writable: bool) -> Opened {
+    Opened {
+        file,
+        place: Some(0),
+        writable,
+    }
+}
+
+fn is_writable(slot: &Option<Opened>) -> bool {
+    match slot {
+        Some(opened) => opened.writable,
+        None => false,
+    }
+}
