@@ -144,7 +144,7 @@ module _ (table : ConflictRelation) where
       in_drop (suc n) [] is = absurd is
       in_drop (suc n) (x ∷ xs) is = inr (in_drop n xs is)
 
-  skip : (n i : ℕ) (order : List ℕ) (t : ℕ) (es : List Entry) → NoneOf i es → serial_phase n (i ∷ order) t es ≡ serial_phase n order t es
+  pub skip : (n i : ℕ) (order : List ℕ) (t : ℕ) (es : List Entry) → NoneOf i es → serial_phase n (i ∷ order) t es ≡ serial_phase n order t es
   skip zero i order t es none = refl
   skip (suc n) i order t es none =
       let k = first_to_end order es in
