@@ -1,0 +1,4 @@
+pub mod EntryAt
+pub mod FirstCancel
+pub mod ProcessPassed
+pub mod PrintedReduces

@@ -1,0 +1,13 @@
+use Rattle.std.proofs.Common.{◌≡◌, ◌+◌, eqb, length}
+use Rattle.std.specs.Option.{option_map}
+use Rattle.schedule_model.specs.PrintedTrace.{first_place}
+use Rattle.reduction_trace.proofs.places.first_of.Given as goal
+
+abbrev pub invariant-loop-rest : goal.invariant-loop-rest
+invariant-loop-rest l = record {
+  place : option_map (λ n. n + l.place) (first_place (λ e. eqb e.process l.process) l.rest) ≡ first_place (λ e. eqb e.process l.process) l.list;
+  within : l.place + length l.rest ≡ length l.list;
+}
+
+abbrev pub decreases-loop-rest : goal.decreases-loop-rest
+decreases-loop-rest l = length l.rest
