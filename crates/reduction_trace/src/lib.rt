@@ -12,7 +12,7 @@ mod places;
 mod reduction;
 mod schedule;
 
-pub use reduction::{Entries, Reduction, TraceSteps, trace};
+pub use reduction::{Entries, Reduction, TraceSteps, trace, trace_of};
 pub use schedule_rules::{Event, Events, History, Plans, TraceStep};
 
 #[cfg(test)]

@@ -37,7 +37,8 @@ pub struct Reduction {
     pub serial: Entries,
 }
 
-/// The reduction of a legal history, over the table of its conflicts.
+/// The reduction of a legal history, over the table of its conflicts: `docs/SCHEDULES.md`, 'Reduction'. A schedule of 2^32
+/// entries or more is told as want of memory.
 pub fn trace(alloc: Global, h: &History, c: &Conflicts) -> Result<Reduction, AllocError>
     requires planned { IsPlanned (operations_in c.now) h.now.plans h.now.events }
     requires legal { IsTrue (is_legal (do_conflict c.now) (courses_of h.now.plans) h.now.events) }
@@ -60,7 +61,7 @@ fn printed(alloc: Global, h: &History) -> Result<Reduction, AllocError>
     let added = completed(alloc, h)?;
     let list = schedule(alloc, h.events.as_slice(), &added)?;
     let order = order_of_ends(alloc, h.events.as_slice(), &added)?;
-    let (steps, serial) = reduced(alloc, &list, &order)?;
+    let (steps, serial) = trace_of(alloc, &list, &order)?;
     Ok(Reduction {
         completion: Events::new(added),
         list: Entries::new(list),
@@ -69,8 +70,10 @@ fn printed(alloc: Global, h: &History) -> Result<Reduction, AllocError>
     })
 }
 
-/// The printed trace of a list of entries whose processes end in this order, and the list to which it leads.
-pub fn reduced(
+/// The printed trace of a list of entries whose processes end in this order, and the list to which it leads. It asks nothing of
+/// the list: where that isn't the schedule of a legal history, the steps need not apply. Places have 32 bits, and a list beyond
+/// them is told as want of memory.
+pub fn trace_of(
     alloc: Global,
     list: &[Entry],
     order: &[u32],
