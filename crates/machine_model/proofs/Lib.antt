@@ -68,3 +68,7 @@ pub mod Causes
 pub mod OneLost
 pub mod WithinTries
 pub mod HandsBound
+pub mod OwnPieces
+pub mod HandSums
+pub mod HandsSum
+pub mod HoldStarts

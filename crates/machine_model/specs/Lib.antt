@@ -23,3 +23,4 @@ pub mod CallLaws
 pub mod CauseLaws
 pub mod DropLaws
 pub mod HoldLaws
+pub mod LawExamples

@@ -18,18 +18,20 @@ pub use began::{Began, Cause};
 pub use blocked::{Admitted, Blocked, Rule};
 pub use kept::{Kept, Work};
 pub use laws::{
-    beginnings_have_causes, beginnings_of_runs_are_runs, beginnings_stay, beginnings_stop,
-    begun_undo_all, blocked_where_something_stands, calls_keep_runs, calls_make_runs,
-    cascade_is_least, dropped_is_exact, ended_are_at_ends, ended_is_free, ends_are_free, ends_go,
-    fixed_is_free, fixing_is_free, flushes_keep_what_runs, hands_are_parted, hands_reserve,
+    admission_laws_hold, beginnings_have_causes, beginnings_of_runs_are_runs, beginnings_stay,
+    beginnings_stop, begun_undo_all, blocked_where_something_stands, bound_on_hands,
+    calls_keep_runs, calls_make_runs, cascade_is_least, dropped_is_exact, ended_are_at_ends,
+    ended_is_free, ends_are_free, ends_go, fixed_is_free, fixing_is_free, flushes_keep_what_runs,
+    hands_are_parted, hands_are_within_tries, hands_reserve, last_pending_is_free,
     net_goes_by_pieces, next_keeps_own_order, no_circle, one_is_dropped, one_runs,
     open_holdings_block_alike, open_holdings_drag_alike, others_stay, over_is_finished,
-    owed_steps_are_free, pending_is_free, progress_goes_by_transitions, progress_law,
-    queued_are_out_or_dropped, refusals_are_within_tries, refused_begins_without_way_on,
-    refused_is_next_or_gone, reserved_is_free, restart_begins_all, restart_follows_completion,
-    restart_is_free, running_goes_by_pieces, running_is_next, running_steps_are_free,
-    runs_are_legal, runs_keep_own_order, states_go_by_transitions, steps_take_effect,
-    stuck_is_exact, turns_make_runs, undone_is_free, undos_take_back_the_last, undos_take_effect,
-    undos_wait_by_a5, victims_run_dry,
+    owed_steps_are_free, pending_is_closed, pending_is_free, progress_goes_by_transitions,
+    progress_law, queued_are_out_or_dropped, refusals_are_within_tries,
+    refused_begins_without_way_on, refused_is_next_or_gone, reserved_is_free, restart_begins_all,
+    restart_follows_completion, restart_is_free, running_goes_by_pieces, running_is_next,
+    running_steps_are_free, runs_are_legal, runs_keep_own_order, standing_facts_hold,
+    starts_hold_nothing, states_go_by_transitions, steps_take_effect, stuck_is_exact,
+    turns_make_runs, undone_is_free, undos_take_back_the_last, undos_take_effect, undos_wait_by_a5,
+    victims_run_dry,
 };
 pub use replies::{Aborted, PieceState, Recovery, Refusal, StartWhy, Todo};
