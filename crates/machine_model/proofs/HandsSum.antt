@@ -25,13 +25,14 @@ use Rattle.machine_model.specs.Laws.{BoundOnHands, IsSession, pieces_for, pieces
 use Rattle.machine_model.proofs.CoursesRuns.{AreStarted, advance-started}
 use Rattle.machine_model.proofs.Counting.{count, count-map}
 use Rattle.machine_model.proofs.HandsBound.{hands_are_within_tries}
-use Rattle.machine_model.proofs.HandSums.{IsCounted, all_at, all_least, all_most, by_process, sum-add, sum-most}
+use Rattle.machine_model.proofs.HandSums.{IsCounted, all_at, all_least, all_most, by_process}
 use Rattle.machine_model.proofs.OneLost.{one_is_dropped}
 use Rattle.machine_model.proofs.OneOut.{count-filter, is_of}
 use Rattle.machine_model.proofs.OwnOrder.{InOwnOrder, advance-own_order, run-own_order}
 use Rattle.machine_model.proofs.OwnPieces.{AllBelong, Belongs, advance-belong}
 use Rattle.machine_model.proofs.RunInduction.{goes_on-keeps}
 use Rattle.machine_model.proofs.Snoc.{now-kept}
+use Rattle.machine_model.proofs.Sums.{sum-add, sum-most}
 
 module _ (courses : List Course) (i : ℕ) where
   abbrev steps : ℕ

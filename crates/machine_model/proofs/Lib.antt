@@ -69,6 +69,7 @@ pub mod OneLost
 pub mod WithinTries
 pub mod HandsBound
 pub mod OwnPieces
+pub mod Sums
 pub mod HandSums
 pub mod HandsSum
 pub mod HoldStarts
