@@ -1,0 +1,4 @@
+pub mod ProcessActs
+pub mod StartedProcesses
+pub mod SeatFacts
+pub mod BegunStarted

@@ -1,0 +1,108 @@
+// The core: its opening, and what is read of it.
+ghost use Rattle.std.specs.Prelude.{◌≡◌, IfOk};
+ghost use Rattle.process_core.specs.Cores.{IsCore, IsHandedBy, began_in, history_of, moment_of, opened_on};
+ghost use Rattle.machine_model.specs.Pieces.{state_of};
+
+use crate::opening::opened_seats;
+use crate::pieces::Piece;
+use crate::seats::Seat;
+use machine_model::{Began, Kept, PieceState};
+use process_tree::Conflicts;
+use schedule_model::History;
+use std::alloc::{AllocError, Global};
+use std::marker::Model;
+
+/// The scheduler.
+#[derive(Drop)]
+pub struct Core {
+    history: History,
+    /// How many events it had at the opening.
+    opening: usize,
+    kept: Vec<Kept>,
+    served: u32,
+    conflicts: Conflicts,
+    seats: Vec<Seat>,
+}
+
+impl Model for Core {
+    ghost use Rattle.std.specs.Prelude.{take};
+    ghost use Rattle.process_core.specs.Cores.{CoreState};
+    ghost use Rattle.process_core.specs.Seats.{Stands};
+
+    ghost Value = { CoreState };
+
+    ghost use Rattle.process_tree.specs.contracts.block.Block as e;
+    ghost use Rattle.std.specs.Coded.{codes};
+
+    ghost coded = { Prim.hlevel (codes, e.the_row.coded) };
+
+    ghost view = { λ c. record { conflicts = c.conflicts; plans = c.history.plans; opening = take c.opening c.history.events; kept = c.kept.items; served = c.served } };
+
+    ghost invariant = { λ c. Stands (record { conflicts = c.conflicts; plans = c.history.plans; opening = take c.opening c.history.events; kept = c.kept.items; served = c.served }) c.history.events c.seats.items };
+}
+
+impl Core {
+    /// Opens on a legal history within the limits, over a table that has the operations of its plans.
+    pub fn open(alloc: Global, history: History, c: Conflicts) -> Result<Core, AllocError>
+        requires { IsCore (opened_on c history.plans history.events) }
+        ensures { IfOk result (λ core. core ≡ opened_on c history.plans history.events) }
+    {
+        let seats = opened_seats(alloc, &history)?;
+        let opening = history.events.as_slice().len();
+        Ok(Core {
+            history,
+            opening,
+            kept: Vec::new(alloc),
+            served: 0,
+            conflicts: c,
+            seats,
+        })
+    }
+
+    /// It is a run of the machine, so all laws of runs hold of it.
+    /// It is a run of the machine, so the laws of runs hold of it.
+    pub fn is_run(&self)
+        ensures { IsCore self.now }
+    {
+        let _ = &self.history;
+    }
+
+    /// What happened, and the plans of all that started.
+    pub fn history(&self) -> &History
+        ensures events { result.now.events ≡ history_of self.now }
+        ensures plans { result.now.plans ≡ self.now.plans }
+    {
+        &self.history
+    }
+
+    /// What was kept since the opening.
+    pub fn kept(&self) -> &[Kept]
+        ensures { result.now ≡ self.now.kept }
+    {
+        &self.kept
+    }
+
+    /// At which kept event a process began to complete, and why.
+    pub fn began(&self, i: u32) -> Option<Began>
+        ensures { result ≡ began_in self.now i }
+    {
+        let count = self.seats.len();
+        if i == 0 {
+            return None;
+        }
+        let place = i as usize - 1;
+        if place >= count {
+            return None;
+        }
+        self.seats[place].began
+    }
+
+    /// What became of a piece that this core handed out.
+    pub fn state(&self, piece: &Piece) -> PieceState
+        requires { IsHandedBy self.now piece.now.piece }
+        ensures { result ≡ state_of (moment_of self.now) piece.now.piece.number }
+    {
+        let seat = &self.seats[piece.process() as usize - 1];
+        seat.state(piece.number())
+    }
+}

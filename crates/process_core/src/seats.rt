@@ -1,0 +1,55 @@
+// What is kept of each process.
+ghost use Rattle.std.specs.Prelude.{◌≡◌};
+ghost use Rattle.process_core.specs.Seats.{is_number, state_by};
+
+use instance_state::Instance;
+use machine_model::{Began, PieceState};
+use std::marker::Model;
+
+/// What is kept of a process that started.
+#[derive(Drop)]
+pub struct Seat {
+    /// How it stands, while it is active.
+    pub instance: Option<Instance>,
+    /// The number of its piece that is out.
+    pub out: Option<u32>,
+    /// The number of its piece that was dropped.
+    pub lost: Option<u32>,
+    pub began: Option<Began>,
+}
+
+impl Model for Seat {
+    ghost use Rattle.process_core.specs.Seats.{SeatState};
+
+    ghost Value = { SeatState };
+
+    ghost view = { λ s. record { instance = s.instance; out = s.out; lost = s.lost; began = s.began } };
+}
+
+/// Whether this number is the one.
+fn is_number(number: Option<u32>, n: u32) -> bool
+    ensures { result ≡ is_number number n }
+{
+    match number {
+        None => false,
+        Some(k) => k == n,
+    }
+}
+
+impl Seat {
+    /// What became of the piece of this number, which is of this process.
+    pub fn state(&self, n: u32) -> PieceState
+        ensures { result ≡ state_by self.now n }
+    {
+        if is_number(self.out, n) {
+            return PieceState::Out;
+        }
+        if !is_number(self.lost, n) {
+            return PieceState::Over;
+        }
+        match self.began {
+            None => PieceState::Over,
+            Some(began) => PieceState::Dropped(began.event),
+        }
+    }
+}
