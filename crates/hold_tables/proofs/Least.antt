@@ -68,7 +68,7 @@ module _ (p : Entry → Bool) where
   rows_push g other rows r = ap (least other) (flat_more g rows r) ∙ least_append other (flat_map g rows) (g r)
 
 -- what is under way in all is what is under way in each
-all_running-is : (net : List Entry) (rows : List OpenProcess) → flat_map (λ (o : Hold). option_to_list o.running) (map (hold_in net) rows) ≡ flat_map running_of rows
+pub all_running-is : (net : List Entry) (rows : List OpenProcess) → flat_map (λ (o : Hold). option_to_list o.running) (map (hold_in net) rows) ≡ flat_map running_of rows
 all_running-is net [] = refl
 all_running-is net (r ∷ rows) = ap (running_of r ++◌) (all_running-is net rows)
 

@@ -4,4 +4,8 @@ pub mod Entries
 pub mod Effects
 pub mod Opening
 pub mod Least
+pub mod Standing
 pub mod Reaching
+pub mod Marks
+pub mod Extended
+pub mod WalksStay

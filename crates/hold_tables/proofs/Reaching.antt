@@ -1,40 +1,25 @@
--- For a call that tells where walks of the conflict graph lead: a set that is found by walking is what walks lead to.
-use Rattle.std.proofs.Common.{◌≡◌, ℕ, Bool, true, false, ◌||◌, List, [], ◌∷◌, filter, map, sym, refl, ap, ◌∙◌, subst}
-use Rattle.std.specs.Prelude.{IsTrue, nat_eq}
-use Rattle.std.proofs.lemmas.Bool.{eq-eqb, eqb-true, or_left, or_right}
+-- What the marks tell is where walks of the conflict graph lead.
+use Rattle.std.proofs.Common.{◌≡◌, ◌⊎◌, inl, inr, ℕ, Bool, true, false, not, ◌||◌, List, [], ◌∷◌, ◌++◌, filter, map, sym, refl, ap, ◌∙◌, subst, append_assoc}
+use Rattle.std.specs.Prelude.{IsTrue, nat_eq, IfSome, Option, Some, None}
+use Rattle.std.specs.List.{list_any}
+use Rattle.std.proofs.lemmas.Bool.{eq-eqb, eqb-true, or_left, or_right, or_cases, false≢true}
 use Rattle.process_tree.specs.declared.entry.Entry.{Entry}
+use Rattle.process_tree.specs.Conflicts.{Table, do_conflict}
 use Rattle.process_tree.specs.Order.{Each}
 use Rattle.schedule_model.specs.Histories.{is_in}
-use Rattle.schedule_model.specs.Holdings.{active_net, holders}
-use Rattle.schedule_model.specs.Graph.{Arrow, leads, one_arrow, and_then}
-use Rattle.schedule_model.proofs.Walks.{leads-from_walk, reached_least, walk-from_leads}
-use Rattle.schedule_model.proofs.Active.{is_in-filter}
-use Rattle.schedule_model.proofs.Legal.{both-left}
-use Rattle.hold_tables.proofs.Tidy.{each_entry}
+use Rattle.schedule_model.specs.Conflict.{ConflictRelation}
+use Rattle.schedule_model.specs.Holdings.{active_net, arrow, behind, holders, running_steps}
+use Rattle.schedule_model.specs.Graph.{Arrow, Walk, leads, one_arrow, and_then}
+use Rattle.schedule_model.proofs.Apart.{Apart}
+use Rattle.schedule_model.proofs.Walks.{leads-from_walk, walk-from_leads}
 use Rattle.hold_tables.specs.Tables.{OpenProcess, Tables, has_number, hold_in, holdings_of, is_open}
-
-same_truth : (a b : Bool) → (a ≡ true → b ≡ true) → (b ≡ true → a ≡ true) → a ≡ b
-same_truth true b there back = sym (there refl)
-same_truth false true there back = back refl
-same_truth false false there back = refl
-
--- a set that has what an arrow leads to from i, is closed, and has nothing to which no walk leads
-pub leads-is : (arrow : Arrow) (all set : List ℕ) (i k : ℕ) → ((j : ℕ) → IsTrue (is_in j (filter (arrow i) all)) → IsTrue (is_in j set))
-    → ((j l : ℕ) → IsTrue (is_in j set) → IsTrue (is_in l all) → IsTrue (arrow j l) → IsTrue (is_in l set))
-    → ((j : ℕ) → IsTrue (is_in j set) → IsTrue (leads arrow all i j))
-    → is_in k set ≡ leads arrow all i k
-leads-is arrow all set i k begins closed only =
-    let among : (j : ℕ) → IsTrue (is_in j (filter (arrow i) all)) → IsTrue (is_in j all) = λ j is. both-left (is_in j all) (arrow i j) (sym (is_in-filter (arrow i) j all) ∙ is) in
-    let least = reached_least arrow all (filter (arrow i) all) among in
-    same_truth (is_in k set) (leads arrow all i k) (only k) (least.least set begins closed k)
-
--- one arrow more leads on
-pub leads-on : (arrow : Arrow) (all : List ℕ) (i j k : ℕ) → IsTrue (leads arrow all i j) → IsTrue (is_in k all) → IsTrue (arrow j k) → IsTrue (leads arrow all i k)
-leads-on arrow all i j k led among a = leads-from_walk arrow all (and_then (walk-from_leads arrow all i j led) among a)
-
--- a first arrow leads there
-pub leads-first : (arrow : Arrow) (all : List ℕ) (i k : ℕ) → IsTrue (is_in k all) → IsTrue (arrow i k) → IsTrue (leads arrow all i k)
-leads-first arrow all i k among a = leads-from_walk arrow all (one_arrow among a)
+use Rattle.hold_tables.specs.Changes.{can_come}
+use Rattle.hold_tables.specs.Kept.{AreTidy, IsKnown, IsTidy}
+use Rattle.hold_tables.specs.Walks.{AreRows, Implies, IsExtended, IsPlaced, IsPlacedIf, IsTransitive, TellWalks, arrows_by, arrows_from, cell, steps_under_way, told}
+use Rattle.hold_tables.specs.Places.{place_of}
+use Rattle.hold_tables.proofs.Least.{all_running-is}
+use Rattle.hold_tables.proofs.Standing.{behind-rest, net_apart}
+use Rattle.hold_tables.proofs.Tidy.{each_entry}
 
 -- the numbers of the processes are those of the holders
 pub holder-number : (k : ℕ) (net : List Entry) (rows : List OpenProcess) → has_number k rows ≡ true → IsTrue (is_in k (map (λ o. o.process) (map (hold_in net) rows)))
@@ -45,6 +30,15 @@ holder-number k net (r ∷ rows) has = by (nat_eq r.process k) refl (holder-numb
     by true is rest = or_left (nat_eq k r.process) (is_in k (map (λ o. o.process) (map (hold_in net) rows))) (eq-eqb k r.process (sym (eqb-true r.process k is)))
     by false is rest = or_right (nat_eq k r.process) (is_in k (map (λ o. o.process) (map (hold_in net) rows))) (rest (subst (λ b. (b || has_number k rows) ≡ true) is has))
 
+pub number-holder : (k : ℕ) (net : List Entry) (rows : List OpenProcess) → IsTrue (is_in k (map (λ o. o.process) (map (hold_in net) rows))) → has_number k rows ≡ true
+number-holder k net [] is = absurd (false≢true is)
+number-holder k net (r ∷ rows) is = by (or_cases (nat_eq k r.process) (is_in k (map (λ o. o.process) (map (hold_in net) rows))) is) (number-holder k net rows)
+  where
+    by : (nat_eq k r.process ≡ true) ⊎ (is_in k (map (λ o. o.process) (map (hold_in net) rows)) ≡ true)
+        → (IsTrue (is_in k (map (λ o. o.process) (map (hold_in net) rows))) → has_number k rows ≡ true) → has_number k (r ∷ rows) ≡ true
+    by (inl here) rest = or_left (nat_eq r.process k) (has_number k rows) (eq-eqb r.process k (sym (eqb-true k r.process here)))
+    by (inr later) rest = or_right (nat_eq r.process k) (has_number k rows) (rest later)
+
 pub all_pass : (p : Entry → Bool) (es : List Entry) → Each (λ e. p e ≡ true) es → filter p es ≡ es
 all_pass p [] each = refl
 all_pass p (e ∷ es) each = rw each.0 (ap (e ∷◌) (all_pass p es each.1))
@@ -52,3 +46,99 @@ all_pass p (e ∷ es) each = rw each.0 (ap (e ∷◌) (all_pass p es each.1))
 -- every net entry is of an open process
 pub active_net-is : (t : Tables) → Each (λ e. is_open t e.process ≡ true) t.net → active_net (holdings_of t) ≡ t.net
 active_net-is t each = all_pass (λ e. is_in e.process (holders (holdings_of t))) t.net (each_entry t.net (λ e is. holder-number e.process t.net t.processes is) each)
+
+-- the steps that are under way are those of the rows
+pub running_steps-is : (t : Tables) → running_steps (holdings_of t) ≡ steps_under_way t.processes
+running_steps-is t = ap (filter (λ (e : Entry). not e.undo)) (all_running-is t.net t.processes)
+
+-- each entry and what stands behind it, one after another
+arrows-are : (table : ConflictRelation) (running net : List Entry) (i k : ℕ) (front es : List Entry) → net ≡ front ++ es → Apart net
+    → list_any (λ x. arrows_by table x (behind x net ++ running) i k) es ≡ arrows_from table running es i k
+arrows-are table running net i k front [] is apart = refl
+arrows-are table running net i k front (x ∷ es) is apart =
+    let rest : behind x net ≡ es = ap (behind x) is ∙ behind-rest front x es (subst Apart is apart) in
+    ap (λ ys. arrows_by table x (ys ++ running) i k || list_any (λ x. arrows_by table x (behind x net ++ running) i k) es) rest
+    ∙ ap (arrows_by table x (es ++ running) i k ||◌) (arrows-are table running net i k (front ++ x ∷ []) es (is ∙ sym (append_assoc front (x ∷ []) es)) apart)
+
+-- the arrows of the conflict graph
+pub graph-is : (t : Tables) → AreTidy t → (i k : ℕ) → arrow (do_conflict t.conflicts) (holdings_of t) i k ≡ arrows_from (do_conflict t.conflicts) (steps_under_way t.processes) t.net i k
+graph-is t tidy i k =
+    let table = do_conflict t.conflicts in
+    ap (λ (es : List Entry). list_any (λ x. arrows_by table x (behind x es ++ running_steps (holdings_of t)) i k) es) (active_net-is t tidy.of_open)
+    ∙ ap (λ (running : List Entry). list_any (λ x. arrows_by table x (behind x t.net ++ running) i k) t.net) (running_steps-is t)
+    ∙ arrows-are table (steps_under_way t.processes) t.net i k [] t.net refl (net_apart t tidy)
+
+-- a walk after another is a walk
+walk_on : (arrow : Arrow) (all : List ℕ) {i j k : ℕ} → Walk arrow all i j → Walk arrow all j k → Walk arrow all i k
+walk_on arrow all first (one_arrow among a) = and_then first among a
+walk_on arrow all first (and_then then among a) = and_then (walk_on arrow all first then) among a
+
+same_truth : (a b : Bool) → (a ≡ true → b ≡ true) → (b ≡ true → a ≡ true) → a ≡ b
+same_truth true b there back = sym (there refl)
+same_truth false true there back = back refl
+same_truth false false there back = refl
+
+module _ (t : Tables) (tidy : AreTidy t) (old new : List (List Bool)) (none : (a b : ℕ) → cell old a b ≡ false)
+    (extended : IsExtended t.processes (arrows_from (do_conflict t.conflicts) (steps_under_way t.processes) t.net) old new) where
+  abbrev graph : Arrow
+  graph = arrow (do_conflict t.conflicts) (holdings_of t)
+
+  abbrev led : Arrow
+  led = leads graph (holders (holdings_of t))
+
+  led_on : IsTransitive t.processes led
+  led_on i j k here mid there first then =
+      leads-from_walk graph (holders (holdings_of t)) (walk_on graph (holders (holdings_of t)) (walk-from_leads graph (holders (holdings_of t)) i j first) (walk-from_leads graph (holders (holdings_of t)) j k then))
+
+  led_first : Implies t.processes (arrows_from (do_conflict t.conflicts) (steps_under_way t.processes) t.net) led
+  led_first i k here there a = leads-from_walk graph (holders (holdings_of t)) (one_arrow (holder-number k t.net t.processes there) (graph-is t tidy i k ∙ a))
+
+  told_led : Implies t.processes (told t.processes new) led
+  told_led = extended.least led led_on (λ i k here there is. absurd (false≢true (sym (none (place_of i t.processes) (place_of k t.processes)) ∙ is))) led_first
+
+  -- where a walk leads, the marks tell so
+  walk_told : {i k : ℕ} → is_open t i ≡ true → Walk graph (holders (holdings_of t)) i k → (is_open t k ≡ true) × (told t.processes new i k ≡ true)
+  walk_told {i} {k} here (one_arrow among a) =
+      let there = number-holder k t.net t.processes among in
+      (there, extended.has i k here there (sym (graph-is t tidy i k) ∙ a))
+  walk_told {i} {k} here (and_then {j = j} walk among a) =
+      let there = number-holder k t.net t.processes among in
+      let before = walk_told here walk in (
+        there,
+        extended.transitive (λ a b c x y z is. absurd (false≢true (sym (none (place_of a t.processes) (place_of b t.processes)) ∙ is))) i j k here before.0 there before.1
+            (extended.has j k before.0 there (sym (graph-is t tidy j k) ∙ a)),
+      )
+
+  -- the marks tell where walks lead
+  pub tell_walks : AreRows t.processes old → TellWalks t new
+  tell_walks are = record {
+    rows = (extended.count ∙ are.0, are.1);
+    tell = λ i k here there. same_truth (told t.processes new i k) (led i k) (told_led i k here there) (λ is. (walk_told here (walk-from_leads graph (holders (holdings_of t)) i k is)).1);
+  }
+
+-- both of what is true of each
+each_both : {A : Type 0} (P Q : A → Type 0) (xs : List A) → Each P xs → Each Q xs → Each (λ x. P x × Q x) xs
+each_both P Q [] ps qs = tt
+each_both P Q (x ∷ xs) ps qs = ((ps.0, qs.0), each_both P Q xs ps.1 qs.1)
+
+-- the net entries of tidy tables are of open processes and of operations of the table
+pub placed_net : (t : Tables) → AreTidy t → Each (IsPlaced t.conflicts t.processes) t.net
+placed_net t tidy = each_both (IsKnown t.conflicts) (λ e. has_number e.process t.processes ≡ true) t.net tidy.known tidy.of_open
+
+numbers_listed : (rows : List OpenProcess) → Each (λ (r : OpenProcess). has_number r.process rows ≡ true) rows
+numbers_listed [] = tt
+numbers_listed (r ∷ rows) = (
+  or_left (nat_eq r.process r.process) (has_number r.process rows) (eq-eqb r.process r.process refl),
+  each_entry rows (λ (s : OpenProcess) is. or_right (nat_eq r.process s.process) (has_number s.process rows) is) (numbers_listed rows),
+)
+
+placed_one : (table : Table) (es : List Entry) (rows : List OpenProcess) (r : OpenProcess) (o : Option Entry) → has_number r.process rows ≡ true
+    → IfSome o (λ e. (e.process ≡ r.process) × (can_come es r e ≡ true) × IsKnown table e) → IsPlacedIf table rows o
+placed_one table es rows r None has is = tt
+placed_one table es rows r (Some e) has is = (is.2, ap (λ k. has_number k rows) is.0 ∙ has)
+
+-- and so is what is under way
+pub placed_running : (t : Tables) → AreTidy t → Each (λ (r : OpenProcess). IsPlacedIf t.conflicts t.processes r.running) t.processes
+placed_running t tidy =
+    each_entry t.processes (λ (r : OpenProcess) both. placed_one t.conflicts _ t.processes r r.running both.1 both.0.running)
+    (each_both (IsTidy t.conflicts t.net) (λ (r : OpenProcess). has_number r.process t.processes ≡ true) t.processes tidy.tidy (numbers_listed t.processes))

@@ -3,3 +3,4 @@ pub mod Changes
 pub mod Reading
 pub mod Kept
 pub mod Places
+pub mod Walks

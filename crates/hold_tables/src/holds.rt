@@ -1,11 +1,12 @@
 // The tables of what the open processes hold.
 ghost use Rattle.std.specs.Prelude.{◌≡◌, ◌<◌, ◌≤◌, ◌+◌, ℕ, List, [], length, true, false, IfOk, OnOk, OnErr, IfSome, None, is_some, slice_index_or, vec_capacity, vec_len};
 ghost use Rattle.process_tree.specs.Blocks.{outline};
-ghost use Rattle.process_tree.specs.Conflicts.{operations_in};
+ghost use Rattle.process_tree.specs.Conflicts.{operations_in, do_conflict};
 ghost use Rattle.process_tree.specs.Order.{Each};
 ghost use Rattle.process_tree.specs.declared.entry.Entry.{Entry};
 ghost use Rattle.schedule_model.specs.Histories.{of_process};
-ghost use Rattle.hold_tables.specs.Tables.{is_open, kept_of};
+ghost use Rattle.schedule_model.specs.Holdings.{reaches};
+ghost use Rattle.hold_tables.specs.Tables.{is_open, kept_of, holdings_of};
 ghost use Rattle.hold_tables.specs.Changes.{none_open, opened, changed, with_running, with_pending, with_reserved, run, stopped, took_effect, all_fixed, dropped, can_run, undoes};
 ghost use Rattle.hold_tables.specs.Reading.{next_open, holder_against};
 ghost use Rattle.hold_tables.specs.Kept.{IsKnown, AreKnown, AreTidy};
@@ -13,6 +14,7 @@ ghost use Rattle.hold_tables.specs.Places.{all_steps};
 
 use crate::against::{Sought, least_of, least_reserved, least_running};
 use crate::looking::{all_steps, count_of, least_from, place_of, settle};
+use crate::reach::{MOST, Marks, renew};
 use crate::row::Row;
 use process_tree::{Conflicts, Entry, Plan};
 use std::alloc::{AllocError, Global};
@@ -25,18 +27,20 @@ pub struct Holds {
     conflicts: Conflicts,
     net: Vec<Entry>,
     rows: Vec<Row>,
+    walks: Vec<Marks>,
 }
 
 impl Model for Holds {
     ghost use Rattle.std.specs.Prelude.{vec_capacity};
     ghost use Rattle.hold_tables.specs.Tables.{Tables};
     ghost use Rattle.hold_tables.specs.Kept.{Stands};
+    ghost use Rattle.hold_tables.specs.Walks.{TellWalks};
 
     ghost Value = { Tables };
 
     ghost view = { λ h. record { conflicts = h.conflicts; net = h.net.items; processes = h.rows.items } };
 
-    ghost invariant = { λ h. Stands h.conflicts h.net.items h.rows.items (vec_capacity h.net) };
+    ghost invariant = { λ h. Stands h.conflicts h.net.items h.rows.items (vec_capacity h.net) × TellWalks (record { conflicts = h.conflicts; net = h.net.items; processes = h.rows.items }) h.walks.items };
 }
 
 impl Holds {
@@ -49,6 +53,7 @@ impl Holds {
             conflicts: c.copy(alloc)?,
             net: Vec::new(alloc),
             rows: Vec::new(alloc),
+            walks: Vec::new(alloc),
         })
     }
 
@@ -59,10 +64,16 @@ impl Holds {
         ensures opened { OnOk result (self.new ≡ opened process (length (outline plan.now.tree).steps) self.old) }
         ensures err { OnErr result (self.new ≡ self.old) }
     {
+        if self.rows.len() >= MOST {
+            return Err(AllocError);
+        }
         let steps = plan.tree.count();
         let row = Row::new(self.alloc, process, steps)?;
         take_room(&mut self.net, &mut self.rows, steps)?;
+        self.walks.reserve(1)?;
         self.rows.push_reserved(row);
+        self.walks.push_reserved([false; MOST]);
+        renew(&mut self.walks, &self.conflicts, &self.rows, &self.net);
         Ok(())
     }
 
@@ -76,6 +87,7 @@ impl Holds {
     {
         let at = place_of(&self.rows, e.process);
         self.rows[at].run(Some(e));
+        renew(&mut self.walks, &self.conflicts, &self.rows, &self.net);
     }
 
     /// Nothing is under way in the process.
@@ -85,6 +97,7 @@ impl Holds {
     {
         let at = place_of(&self.rows, process);
         self.rows[at].run(None);
+        renew(&mut self.walks, &self.conflicts, &self.rows, &self.net);
     }
 
     /// What is under way in the process took effect.
@@ -99,6 +112,7 @@ impl Holds {
         };
         settle(&mut self.net, process, e);
         self.rows[at].run(None);
+        renew(&mut self.walks, &self.conflicts, &self.rows, &self.net);
     }
 
     /// All net entries that the process has are fixed.
@@ -140,6 +154,8 @@ impl Holds {
     {
         self.net.retain(|e| e.process != process);
         self.rows.retain(|row| row.process() != process);
+        self.walks.truncate(self.rows.len());
+        renew(&mut self.walks, &self.conflicts, &self.rows, &self.net);
     }
 }
 
@@ -226,6 +242,15 @@ impl Holds {
 }
 
 impl Holds {
+    /// Whether a walk of one or more arrows of the conflict graph leads from one process to another (`docs/ADMISSION.md`).
+    pub fn reaches(&self, from: u32, to: u32) -> bool
+        requires from { is_open self.now from ≡ true }
+        requires to { is_open self.now to ≡ true }
+        ensures { result ≡ reaches (do_conflict self.now.conflicts) (holdings_of self.now) from to }
+    {
+        self.walks[place_of(&self.rows, from)][place_of(&self.rows, to)]
+    }
+
     /// The least other process, and its step, that holds a net entry, has one under way, or reserves one against the operation.
     pub fn holder_against(&self, process: u32, op: u16) -> Option<(u32, u16)>
         requires known { op < operations_in self.now.conflicts }

@@ -9,6 +9,7 @@
 mod against;
 mod holds;
 mod looking;
+mod reach;
 mod row;
 
 pub use holds::Holds;

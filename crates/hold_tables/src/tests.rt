@@ -91,5 +91,14 @@ fn what_is_held_stands_against_the_other_process(rt: HostRuntime) -> Result<(), 
     for (process, holder) in [(1, Some((2, 0))), (2, Some((1, 0))), (3, Some((1, 0)))] {
         assert_eq!(rt; holds.holder_against(process, 0), holder);
     }
+    holds.run(Entry {
+        process: 2,
+        step: 0,
+        op: 0,
+        undo: false,
+    });
+    for (from, to, reached) in [(1, 2, true), (2, 1, false), (1, 1, false)] {
+        assert_eq!(rt; holds.reaches(from, to), reached);
+    }
     Ok(())
 }

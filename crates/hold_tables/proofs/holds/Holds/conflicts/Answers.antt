@@ -3,4 +3,4 @@ use Rattle.hold_tables.specs.Kept.{AreTidy}
 use Rattle.hold_tables.proofs.holds.Holds.conflicts.Goals as goal
 
 pub returns-clause-tidy : goal.returns-clause-tidy
-returns-clause-tidy c = subst AreTidy c.self.view_is c.self.invariant.0
+returns-clause-tidy c = subst AreTidy c.self.view_is c.self.invariant.0.0

@@ -5,6 +5,7 @@ use Rattle.hold_tables.specs.Changes.{with_fixed}
 use Rattle.hold_tables.specs.Kept.{IsTidy}
 use Rattle.hold_tables.specs.Places.{place_of}
 use Rattle.hold_tables.proofs.Tidy.{each_numbered, found_row, is_among, returned, stood}
+use Rattle.hold_tables.proofs.WalksStay.{walks_stood}
 use Rattle.hold_tables.proofs.Effects.{few_own, tidy_fixed}
 use Rattle.hold_tables.proofs.holds.Holds.fix.Goals as goal
 
@@ -16,17 +17,20 @@ invariant_of-self c =
     let has = is_among i c.self.inside.conflicts net rows c.args.self.now c.self.view_is c.requires.open in
     let place = c.place_of-at.ensures.place ∙ ap (place_of i) c.deref.ensures.value in
     let row = found_row i rows c.place_of-at.result c.index.result.now has place c.index.ensures in
-    let own = each_numbered (IsTidy c.self.inside.conflicts net) i rows has c.self.invariant.0.tidy in
+    let own = each_numbered (IsTidy c.self.inside.conflicts net) i rows has c.self.invariant.0.0.tidy in
     let few : length (of_process i net) ≤ (numbered i rows).steps = subst (λ k. length (of_process k net) ≤ (numbered i rows).steps) own.1 (few_own c.self.inside.conflicts (of_process (numbered i rows).process net) (numbered i rows) own.0) in
     let count : c.count_of.result ≡ length (of_process i net) = c.count_of.ensures ∙ ap (λ es. length (of_process i es)) c.deref-2.ensures.value in
     let steps : c.steps.result ≡ (numbered i rows).steps = c.steps.ensures ∙ ap (λ (r : OpenProcess). r.steps) row in
     let most = c.from-most.ensures in
     let least = c.min-fixed.ensures in
     let all : c.min-fixed.result ≡ length (of_process i net) = omega (arith, few, count, steps, most, least) in
-    let fixed = all ∙ ap (λ (t : Tables). length (of_process i t.net)) c.self.view_is in
-    stood (with_fixed (length (of_process i c.args.self.now.net))) i c.self.inside.conflicts net rows c.place_of-at.result c.index_mut.result.now c.fix.new.self c.args.self.now _ c.self.view_is c.requires.open place c.index_mut.ensures.value (c.fix.ensures ∙ ap (λ n. with_fixed n c.index_mut.result.now) fixed) (λ r. (refl, refl))
-    (λ tidy own. subst (λ k. IsTidy c.args.self.now.conflicts c.args.self.now.net (with_fixed (length (of_process k c.args.self.now.net)) (kept_of c.args.self.now i))) own
-    (tidy_fixed c.args.self.now.conflicts (of_process (kept_of c.args.self.now i).process c.args.self.now.net) (kept_of c.args.self.now i) c.requires.forward tidy)) c.self.invariant
+    let fixed = all ∙ ap (λ (t : Tables). length (of_process i t.net)) c.self.view_is in (
+      stood (with_fixed (length (of_process i c.args.self.now.net))) i c.self.inside.conflicts net rows c.place_of-at.result c.index_mut.result.now c.fix.new.self c.args.self.now _ c.self.view_is c.requires.open place c.index_mut.ensures.value (c.fix.ensures ∙ ap (λ n. with_fixed n c.index_mut.result.now) fixed) (λ r. (refl, refl))
+          (λ tidy own. subst (λ k. IsTidy c.args.self.now.conflicts c.args.self.now.net (with_fixed (length (of_process k c.args.self.now.net)) (kept_of c.args.self.now i))) own
+          (tidy_fixed c.args.self.now.conflicts (of_process (kept_of c.args.self.now i).process c.args.self.now.net) (kept_of c.args.self.now i) c.requires.forward tidy)) c.self.invariant.0,
+      walks_stood (with_fixed (length (of_process i c.args.self.now.net))) i c.self.inside.conflicts net rows c.self.inside.walks.items c.place_of-at.result c.index_mut.result.now c.fix.new.self c.args.self.now c.self.view_is c.requires.open place c.index_mut.ensures.value (c.fix.ensures ∙ ap (λ n. with_fixed n c.index_mut.result.now) fixed)
+          (λ r. (refl, refl)) c.self.invariant.1,
+    )
 
 pub returns : goal.returns
 returns c =
@@ -36,7 +40,7 @@ returns c =
     let has = is_among i c.self.inside.conflicts net rows c.args.self.now c.self.view_is c.requires.open in
     let place = c.place_of-at.ensures.place ∙ ap (place_of i) c.deref.ensures.value in
     let row = found_row i rows c.place_of-at.result c.index.result.now has place c.index.ensures in
-    let own = each_numbered (IsTidy c.self.inside.conflicts net) i rows has c.self.invariant.0.tidy in
+    let own = each_numbered (IsTidy c.self.inside.conflicts net) i rows has c.self.invariant.0.0.tidy in
     let few : length (of_process i net) ≤ (numbered i rows).steps = subst (λ k. length (of_process k net) ≤ (numbered i rows).steps) own.1 (few_own c.self.inside.conflicts (of_process (numbered i rows).process net) (numbered i rows) own.0) in
     let count : c.count_of.result ≡ length (of_process i net) = c.count_of.ensures ∙ ap (λ es. length (of_process i es)) c.deref-2.ensures.value in
     let steps : c.steps.result ≡ (numbered i rows).steps = c.steps.ensures ∙ ap (λ (r : OpenProcess). r.steps) row in

@@ -4,6 +4,7 @@ use Rattle.hold_tables.specs.Tables.{OpenProcess}
 use Rattle.hold_tables.specs.Changes.{with_running}
 use Rattle.hold_tables.specs.Places.{place_of}
 use Rattle.hold_tables.proofs.Tidy.{found, found_row, is_among, row_changed}
+use Rattle.hold_tables.proofs.WalksStay.{tell_lent}
 use Rattle.hold_tables.proofs.Effects.{effect_returned, effect_stands, step_stands}
 use Rattle.hold_tables.proofs.holds.Holds.take_effect.Goals as goal
 
@@ -20,7 +21,7 @@ settle-requires c =
     let has = is_among i c.self.inside.conflicts c.self.inside.net.items rows c.args.self.now c.self.view_is c.requires.open in
     let row = found_row i rows c.place_of-at.result c.index.result.now has (c.place_of-at.ensures.place ∙ ap (place_of i) c.deref.ensures.value) c.index.ensures in
     let under = ap (λ (r : OpenProcess). r.running) (sym row) ∙ sym c.running.ensures ∙ c.in-Some.is in
-    record { room = λ forward. let room = (step_stands i c.self.inside.conflicts c.self.inside.net.items rows _ c.in-Some.e forward has under c.self.invariant).0 in omega (arith, room, c.self.inside.net.ok.0) }
+    record { room = λ forward. let room = (step_stands i c.self.inside.conflicts c.self.inside.net.items rows _ c.in-Some.e forward has under c.self.invariant.0).0 in omega (arith, room, c.self.inside.net.ok.0) }
 
 pub invariant_of-self : goal.invariant_of-self
 invariant_of-self c =
@@ -30,8 +31,21 @@ invariant_of-self c =
     let place = c.place_of-at.ensures.place ∙ ap (place_of i) c.deref.ensures.value in
     let row = found_row i rows c.place_of-at.result c.index.result.now has place c.index.ensures in
     let under = ap (λ (r : OpenProcess). r.running) (sym row) ∙ sym c.running.ensures ∙ c.in-Some.is in
+    let changed = row_changed (with_running None) i rows c.place_of-at.result c.index_mut.result.now c.run.new.self has place c.index_mut.ensures.value c.run.ensures in (
+      rw (c.settle.ensures.net, c.settle.ensures.capacity, changed) (effect_stands i c.self.inside.conflicts c.self.inside.net.items rows _ c.in-Some.e has under c.self.invariant.0),
+      tell_lent c.self.inside.conflicts _ _ _ _ c.renew.new.walks.items c.deref-2.ensures.value c.deref-3.ensures.value c.renew.ensures.tell,
+    )
+
+pub renew-requires-clause-tidy : goal.renew-requires-clause-tidy
+renew-requires-clause-tidy c =
+    let i = c.args.process in
+    let rows = c.self.inside.rows.items in
+    let has = is_among i c.self.inside.conflicts c.self.inside.net.items rows c.args.self.now c.self.view_is c.requires.open in
+    let place = c.place_of-at.ensures.place ∙ ap (place_of i) c.deref.ensures.value in
+    let row = found_row i rows c.place_of-at.result c.index.result.now has place c.index.ensures in
+    let under = ap (λ (r : OpenProcess). r.running) (sym row) ∙ sym c.running.ensures ∙ c.in-Some.is in
     let changed = row_changed (with_running None) i rows c.place_of-at.result c.index_mut.result.now c.run.new.self has place c.index_mut.ensures.value c.run.ensures in
-    rw (c.settle.ensures.net, c.settle.ensures.capacity, changed) (effect_stands i c.self.inside.conflicts c.self.inside.net.items rows _ c.in-Some.e has under c.self.invariant)
+    rw (c.deref-2.ensures.value, c.deref-3.ensures.value, c.settle.ensures.net, changed) (effect_stands i c.self.inside.conflicts c.self.inside.net.items rows _ c.in-Some.e has under c.self.invariant.0).0
 
 pub returns : goal.returns
 returns c =
