@@ -1,0 +1,12 @@
+use Rattle.std.proofs.Common.{List, Option, Some, None, MatchOption, ⊎_elim, subst, ◌≡◌, ◌∷◌, []}
+use Rattle.process_tree.specs.declared.tree.Named.{Named}
+use Rattle.process_text.specs.Words.{words_of}
+use Rattle.process_text.specs.Grammar.{IsReading}
+use Rattle.process_journal.proofs.TextPlans.{one_or_none, not_one}
+use Rattle.process_journal.proofs.plans.only_process.Goals as goal
+
+pub returns-in-Ok : goal.returns-in-Ok
+returns-in-Ok c = one_or_none (words_of c.args.text.now) c.in-Ok.found.items c.only.result c.in-Ok.ensures.reading c.only.ensures
+
+pub returns-else-is_memory : goal.returns-else-is_memory
+returns-else-is_memory c = ⊎_elim (λ memory. absurd (c.is_memory.ensures c.if-is_memory.false memory)) (λ none p. none (p ∷ [])) c.in-Err.ensures.no_reading

@@ -1,0 +1,7 @@
+pub mod Plans
+pub mod Bodies
+pub mod Journals
+pub mod Reading
+pub mod Opened
+pub mod Errors
+pub mod Laws
