@@ -2,3 +2,4 @@ pub mod ProcessActs
 pub mod StartedProcesses
 pub mod SeatFacts
 pub mod BegunStarted
+pub mod TablesHoldings

@@ -5,10 +5,12 @@
 #![tactic(auto)]
 
 mod cores;
+mod laws;
 mod opening;
 mod pieces;
 mod seats;
 
 pub use cores::Core;
+pub use laws::tables_stand_for_holdings;
 pub use machine_model::{Began, Cause, Kept, PieceState, Work};
 pub use pieces::Piece;
