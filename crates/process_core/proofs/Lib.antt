@@ -3,3 +3,5 @@ pub mod StartedProcesses
 pub mod SeatFacts
 pub mod BegunStarted
 pub mod TablesHoldings
+pub mod LastSteps
+pub mod RowChanges

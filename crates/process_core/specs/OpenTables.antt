@@ -1,14 +1,17 @@
 -- What the tables of hold are at a moment of the machine.
-use Rattle.std.specs.Prelude.{◌≡◌, ℕ, List, length, map}
+use Rattle.std.specs.Prelude.{◌≡◌, ℕ, List, [], ◌∷◌, ◌++◌, filter, length, map, slice_index_or, None, if◌then◌else◌}
 use Rattle.process_tree.specs.declared.entry.Entry.{Entry}
 use Rattle.process_tree.specs.Conflicts.{Table}
-use Rattle.process_tree.specs.Shape.{fixed_len}
+use Rattle.process_tree.specs.declared.plan.Plan.{Plan}
+use Rattle.process_tree.specs.Recovery.{forward, last_after}
+use Rattle.process_tree.specs.Shape.{branch_to, commits, fixed_len, kind_of, shape_of}
 use Rattle.schedule_model.specs.Course.{Course, shape}
-use Rattle.schedule_model.specs.Histories.{active, net_steps}
+use Rattle.schedule_model.specs.Histories.{active, doing, is_in, net_steps, of_process, steps_of}
 use Rattle.schedule_model.specs.Holdings.{active_net}
 use Rattle.machine_model.specs.Moment.{Moment}
 use Rattle.machine_model.specs.State.{hold_of, holdings}
 use Rattle.machine_model.specs.Laws.{open_only}
+use Rattle.hold_tables.specs.Changes.{all_fixed, changed, run, took_effect, with_reserved}
 use Rattle.hold_tables.specs.Tables.{OpenProcess, Tables, holdings_of}
 
 -- these entries as steps with their operations
@@ -35,6 +38,35 @@ tables_of conflicts courses m = record {
   net = active_net (holdings courses m);
   processes = map (row_of courses m) (active m.events);
 }
+
+-- a step of a plan with its operation
+abbrev pub step_pair : Plan → ℕ → ℕ × ℕ
+step_pair p b = (b, slice_index_or p.ops b 0)
+
+-- the steps of a plan that follow step b through last alternatives, each with its operation
+abbrev pub pairs_behind : Plan → ℕ → List (ℕ × ℕ)
+pairs_behind p b = let t = shape_of p.tree in map (step_pair p) (last_after t (branch_to t b ++ b ∷ []))
+
+-- what an entry that stands makes of the tables: it comes last, and a commit point fixes all and reserves what follows it
+abbrev pub stood : Plan → Entry → Tables → Tables
+stood p e t =
+    let after = took_effect e.process (run e t) in
+    if commits (kind_of (shape_of p.tree) e.step) then changed (with_reserved (pairs_behind p e.step)) e.process (all_fixed e.process after) else after
+
+-- the row of process i where these entries stand
+abbrev pub row_at : List Course → List Entry → ℕ → OpenProcess
+row_at courses es i = record {
+  process = i;
+  steps = length (shape courses i).kinds;
+  running = None;
+  reserved = pairs_of (map (doing courses i) (forward (shape courses i) (steps_of (of_process i es))));
+  fixed = fixed_len (shape courses i) (steps_of (of_process i es));
+  pending = 0;
+}
+
+-- the tables of these processes where these entries stand
+abbrev pub tables_at : Table → List Course → List ℕ → List Entry → Tables
+tables_at conflicts courses is es = record { conflicts = conflicts; net = filter (λ e. is_in e.process is) es; processes = map (row_at courses es) is }
 
 -- They stand for what the active processes hold.
 abbrev pub TablesStandForHoldings : Type 0

@@ -9,6 +9,7 @@ mod laws;
 mod opening;
 mod pieces;
 mod seats;
+mod tables;
 
 pub use cores::Core;
 pub use laws::tables_stand_for_holdings;

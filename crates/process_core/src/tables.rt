@@ -1,0 +1,87 @@
+// The tables of holds at an opening.
+ghost use Rattle.std.specs.Prelude.{◌≡◌, ◌<◌, true, false, length, map, slice_index_or, IfOk, OnOk, None};
+ghost use Rattle.process_tree.specs.Blocks.{outline};
+ghost use Rattle.process_tree.specs.Conflicts.{operations_in};
+ghost use Rattle.process_tree.specs.Making.{tree_fault};
+ghost use Rattle.process_tree.specs.Order.{Each};
+ghost use Rattle.process_tree.specs.Shape.{commits, kind_of, shape_of};
+ghost use Rattle.hold_tables.specs.Changes.{can_run};
+ghost use Rattle.hold_tables.specs.Kept.{IsKnown};
+ghost use Rattle.hold_tables.specs.Tables.{is_open, kept_of};
+ghost use Rattle.process_core.specs.OpenTables.{pairs_behind, stood};
+
+use hold_tables::Holds;
+use process_tree::{Entry, Plan, StepKind, Tree};
+use std::alloc::{AllocError, Global};
+
+/// Whether a step of this kind is a commit point once it took effect.
+fn commits(kind: StepKind) -> bool
+    ensures { result ≡ commits kind }
+{
+    match kind {
+        StepKind::C => false,
+        StepKind::P | StepKind::R => true,
+    }
+}
+
+/// The kind of a step.
+fn kind_of(tree: &Tree, n: u16) -> StepKind
+    requires { n < length (outline tree.now).steps }
+    ensures { result ≡ kind_of (shape_of tree.now) n }
+{
+    tree.step(n).kind
+}
+
+/// The operation of a step.
+fn op_of(ops: &[u16], step: u16) -> u16
+    ensures { result ≡ slice_index_or ops.now step 0 }
+{
+    let place = usize::from(step);
+    if place < ops.len() { ops[place] } else { 0 }
+}
+
+/// These steps, each with its operation.
+fn pairs_of(alloc: Global, ops: &[u16], steps: &[u16]) -> Result<Vec<(u16, u16)>, AllocError>
+    ensures { IfOk result (λ pairs. pairs.items ≡ map (λ b. (b, slice_index_or ops.now b 0)) steps.now) }
+{
+    let mut pairs = Vec::new(alloc);
+    let mut rest = steps;
+    while let [step, after @ ..] = rest {
+        pairs.push((*step, op_of(ops, *step)))?;
+        rest = after;
+    }
+    Ok(pairs)
+}
+
+/// The steps that follow a step through last alternatives, each with its operation.
+fn pairs_behind(alloc: Global, plan: &Plan, step: u16) -> Result<Vec<(u16, u16)>, AllocError>
+    requires { step < length (outline plan.now.tree).steps }
+    ensures { IfOk result (λ pairs. pairs.items ≡ pairs_behind plan.now step) }
+{
+    let steps = plan.tree.completion(alloc, step)?;
+    pairs_of(alloc, plan.ops.as_slice(), steps.as_slice())
+}
+
+/// An entry of the net stands in the tables.
+fn stand(alloc: Global, holds: &mut Holds, plan: &Plan, e: Entry) -> Result<(), AllocError>
+    requires open { is_open holds.old e.process ≡ true }
+    requires none { (kept_of holds.old e.process).running ≡ None }
+    requires steps { (kept_of holds.old e.process).steps ≡ length (outline plan.now.tree).steps }
+    requires step { e.step < length (outline plan.now.tree).steps }
+    requires forward { e.undo ≡ false }
+    requires may { can_run holds.old e ≡ true }
+    requires good { tree_fault plan.now.tree ≡ None }
+    requires operations { length plan.now.ops ≡ length (outline plan.now.tree).steps }
+    requires known { Each (λ op. op < operations_in holds.old.conflicts) plan.now.ops }
+    requires own { IsKnown holds.old.conflicts e }
+    ensures { OnOk result (holds.new ≡ stood plan.now e holds.old) }
+{
+    holds.run(e);
+    holds.take_effect(e.process);
+    if commits(kind_of(&plan.tree, e.step)) {
+        let pairs = pairs_behind(alloc, plan, e.step)?;
+        holds.fix(e.process);
+        holds.reserve(e.process, &pairs);
+    }
+    Ok(())
+}
