@@ -5,3 +5,4 @@ pub mod BegunStarted
 pub mod TablesHoldings
 pub mod LastSteps
 pub mod RowChanges
+pub mod StoodRows
