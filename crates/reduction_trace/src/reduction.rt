@@ -1,7 +1,7 @@
 // Reductions.
 ghost use Rattle.std.specs.Prelude.{◌≡◌, ℕ, flat_map, Some, IfOk, IsTrue};
 ghost use Rattle.process_tree.specs.Conflicts.{operations_in, do_conflict};
-ghost use Rattle.schedule_model.specs.Completion.{completed, completion};
+ghost use Rattle.schedule_model.specs.Completion.{completion};
 ghost use Rattle.schedule_model.specs.Course.{courses_of};
 ghost use Rattle.schedule_model.specs.Histories.{acts, ends, net_of};
 ghost use Rattle.schedule_model.specs.Laws.{IsPlanned};
@@ -9,6 +9,7 @@ ghost use Rattle.schedule_model.specs.Legal.{is_legal};
 ghost use Rattle.schedule_model.specs.OwnOrder.{is_in_own_order};
 ghost use Rattle.schedule_model.specs.PrintedTrace.{printed_trace, trace_of};
 ghost use Rattle.schedule_model.specs.Reduction.{AreReduced, applied_all, is_serial};
+ghost use Rattle.reduction_trace.specs.Whole.{completed_history};
 
 use crate::cancelling::cancel_undos;
 use crate::ordering::in_order;
@@ -42,11 +43,11 @@ pub struct Reduction {
 pub fn trace(alloc: Global, h: &History, c: &Conflicts) -> Result<Reduction, AllocError>
     requires planned { IsPlanned (operations_in c.now) h.now.plans h.now.events }
     requires legal { IsTrue (is_legal (do_conflict c.now) (courses_of h.now.plans) h.now.events) }
-    ensures list { IfOk result (λ r. (r.completion ≡ completion (courses_of h.now.plans) h.now.events) × (r.list ≡ acts (completed (courses_of h.now.plans) h.now.events))) }
+    ensures list { IfOk result (λ r. (r.completion ≡ completion (courses_of h.now.plans) h.now.events) × (r.list ≡ acts (completed_history h.now))) }
     ensures printed { IfOk result (λ r. record { steps = r.steps; list = r.serial } ≡ printed_trace (courses_of h.now.plans) h.now.events) }
     ensures applies { IfOk result (λ r. applied_all (do_conflict c.now) r.steps r.list ≡ Some r.serial) }
     ensures chain { IfOk result (λ r. AreReduced (do_conflict c.now) r.list r.serial) }
-    ensures serial { IfOk result (λ r. IsTrue (is_serial r.serial) × (r.serial ≡ flat_map (net_of (completed (courses_of h.now.plans) h.now.events)) (ends (completed (courses_of h.now.plans) h.now.events)))) }
+    ensures serial { IfOk result (λ r. IsTrue (is_serial r.serial) × (r.serial ≡ flat_map (net_of (completed_history h.now)) (ends (completed_history h.now)))) }
 {
     printed(alloc, h)
 }
@@ -55,7 +56,7 @@ pub fn trace(alloc: Global, h: &History, c: &Conflicts) -> Result<Reduction, All
 fn printed(alloc: Global, h: &History) -> Result<Reduction, AllocError>
     requires planned { (operations : ℕ) × IsPlanned operations h.now.plans h.now.events }
     requires own_order { IsTrue (is_in_own_order (courses_of h.now.plans) h.now.events) }
-    ensures list { IfOk result (λ r. (r.completion ≡ completion (courses_of h.now.plans) h.now.events) × (r.list ≡ acts (completed (courses_of h.now.plans) h.now.events))) }
+    ensures list { IfOk result (λ r. (r.completion ≡ completion (courses_of h.now.plans) h.now.events) × (r.list ≡ acts (completed_history h.now))) }
     ensures printed { IfOk result (λ r. record { steps = r.steps; list = r.serial } ≡ printed_trace (courses_of h.now.plans) h.now.events) }
 {
     let added = completed(alloc, h)?;
