@@ -73,3 +73,4 @@ pub mod Sums
 pub mod HandSums
 pub mod HandsSum
 pub mod HoldStarts
+pub mod OpenRuns

@@ -58,14 +58,12 @@ module _ (table : ConflictRelation) (symmetric : IsSymmetric table) (plans : Lis
     pub step : entry.step ≡ b
     pub op : entry.op ≡ op_of (courses_of plans) i b
 
-  undone : (m : Moment) (i : ℕ) (p : Piece) → InOwnOrder table plans good m → running_of m i ≡ Some p → p.work ≡ Undo → Undone m i p.step
-  undone m i p own runs work =
-      let its = (runs_active table cs m i p own.active runs).0 in
-      let next : IsNextPiece cs m p = Each-find (IsNextPiece cs m) (λ (q : Piece). eqb q.process i) m.out p own.order.next runs in
-      let next' = subst (λ j. same_task (record { work = Undo; step = p.step }) (next_task (progress cs m j)) ≡ true) its (subst (λ w. same_task (record { work = w; step = p.step }) (next_task (progress cs m p.process)) ≡ true) work next) in
+  -- where the undo of step b comes next, its entry is pending
+  pub undone_next : (m : Moment) (i b : ℕ) → InOwnOrder table plans good m → same_task (record { work = Undo; step = b }) (next_task (progress cs m i)) ≡ true → Undone m i b
+  undone_next m i b own next =
       let s = progress cs m i in
-      let listed = last_listed (pending_steps s) p.step (next_undo s p.step next') in
-      let y = among-map (λ (x : Entry). x.step) p.step (pending_of cs m i) (subst (Among p.step) (sym (steps-drop (staying s) (net_of m.events i))) (among-is_in p.step (pending_steps s) listed)) in
+      let listed = last_listed (pending_steps s) b (next_undo s b next) in
+      let y = among-map (λ (x : Entry). x.step) b (pending_of cs m i) (subst (Among b) (sym (steps-drop (staying s) (net_of m.events i))) (among-is_in b (pending_steps s) listed)) in
       let there = among_net_of m.events i y.0 (in_whole y.0 (staying s) (net_of m.events i) y.1) in
       record {
         entry = y.0;
@@ -75,8 +73,14 @@ module _ (table : ConflictRelation) (symmetric : IsSymmetric table) (plans : Lis
         op = net-of_plans plans good m.events own.legal y.0 there.0 ∙ (ap (λ j. op_of cs j (y.0).step) there.1 ∙ ap (op_of cs i) y.2);
       }
 
+  undone : (m : Moment) (i : ℕ) (p : Piece) → InOwnOrder table plans good m → running_of m i ≡ Some p → p.work ≡ Undo → Undone m i p.step
+  undone m i p own runs work =
+      let its = (runs_active table cs m i p own.active runs).0 in
+      let next : IsNextPiece cs m p = Each-find (IsNextPiece cs m) (λ (q : Piece). eqb q.process i) m.out p own.order.next runs in
+      undone_next m i p.step own (subst (λ j. same_task (record { work = Undo; step = p.step }) (next_task (progress cs m j)) ≡ true) its (subst (λ w. same_task (record { work = w; step = p.step }) (next_task (progress cs m p.process)) ≡ true) work next))
+
   -- it conflicts as its step does
-  undone_conflicts : (m : Moment) (i b : ℕ) (u : Undone m i b) (e : Entry) → conflict table (doing cs i b) e ≡ conflict table u.entry e
+  pub undone_conflicts : (m : Moment) (i b : ℕ) (u : Undone m i b) (e : Entry) → conflict table (doing cs i b) e ≡ conflict table u.entry e
   undone_conflicts m i b u e =
       ap (λ j. not (eqb j e.process) && table (op_of cs i b) e.op) (sym u.process) ∙ ap (λ o. not (eqb (u.entry).process e.process) && table o e.op) (sym u.op)
 

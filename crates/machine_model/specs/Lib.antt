@@ -24,3 +24,4 @@ pub mod CauseLaws
 pub mod DropLaws
 pub mod HoldLaws
 pub mod LawExamples
+pub mod OpenLaws

@@ -4,6 +4,7 @@ ghost use Rattle.machine_model.specs.PieceLaws.{DroppedIsExact, OneRuns, OthersS
 ghost use Rattle.machine_model.specs.HoldLaws.{BeginningsStop, BegunUndoAll, EndsGo, HandsReserve, NetGoesByPieces, RunningGoesByPieces, StartsHoldNothing, StepsTakeEffect, UndosTakeEffect};
 ghost use Rattle.machine_model.specs.CauseLaws.{BeginningsHaveCauses, BeginningsStay};
 ghost use Rattle.machine_model.specs.DropLaws.{HandsAreParted, HandsAreWithinTries, OneIsDropped, RefusalsAreWithinTries};
+ghost use Rattle.machine_model.specs.OpenLaws.{EndsDropHoldings, OpenHoldingsAreEnough};
 ghost use Rattle.machine_model.specs.CallLaws.{BeginningsOfRunsAreRuns, CallsKeepRuns, FlushesKeepWhatRuns, QueuedAreOutOrDropped, StuckIsExact, TurnsMakeRuns, VictimsRunDry};
 
 /// The computed cascade of an active process is the least set.
@@ -94,6 +95,16 @@ pub fn restart_follows_completion()
 /// What the open processes hold is enough to tell who goes back together.
 pub fn open_holdings_drag_alike()
     ensures { OpenHoldingsDragAlike }
+{}
+
+/// In a session what the open processes hold is enough to tell what blocks and who goes back together.
+pub fn open_holdings_are_enough()
+    ensures { OpenHoldingsAreEnough }
+{}
+
+/// The end of a process drops what it holds from what the open processes hold, and nothing else.
+pub fn ends_drop_holdings()
+    ensures { EndsDropHoldings }
 {}
 
 /// What a call keeps makes a longer session; a start adds its plan, or keeps nothing.
