@@ -1,7 +1,8 @@
 -- Where something stands in a list, and what is there.
 use Rattle.std.specs.Prelude.{if◌then◌else◌, map, nat_le, remove, slice_index_or, slice_set, nat_eq, ◌&&◌, ◌||◌}
-use Rattle.std.proofs.Common.{◌≡◌, ℕ, ◌+◌, ◌<◌, Bool, true, false, List, [], ◌∷◌, ◌++◌, length, Option, Some, None, refl, ◌∙◌, ap, subst, arith, add-one}
+use Rattle.std.proofs.Common.{◌≡◌, ℕ, zero, suc, ◌+◌, ◌<◌, Bool, true, false, List, [], ◌∷◌, ◌++◌, length, Option, Some, None, refl, ◌∙◌, ap, subst, arith, add-one}
 use Rattle.std.proofs.lemmas.Bool.{or_right}
+use Rattle.process_tree.specs.Order.{Each}
 use Rattle.process_tree.specs.declared.entry.Entry.{Entry}
 use Rattle.hold_tables.specs.Tables.{OpenProcess, has_number, numbered}
 use Rattle.hold_tables.specs.Changes.{change_numbered, has_entry, without_last}
@@ -87,3 +88,9 @@ pub least-push : (other : Option ℕ) (from : ℕ) (rows : List OpenProcess) (r 
     → least_or other from (map (λ r. r.process) (rows ++ r ∷ [])) ≡ least_or (if nat_le from r.process then lesser_number r.process other else other) from (map (λ r. r.process) rows)
 least-push other from [] r = refl
 least-push other from (x ∷ rows) r = ap (λ o. if nat_le from x.process then lesser_number x.process o else o) (least-push other from rows r)
+
+-- what is true of each is true of what stands at a place
+pub each_place : {A : Type 0} (P : A → Type 0) (xs : List A) (place : ℕ) (d : A) → place < length xs → Each P xs → P (slice_index_or xs place d)
+each_place P [] place d within each = absurd (omega arith)
+each_place P (x ∷ xs) zero d within each = each.0
+each_place P (x ∷ xs) (suc place) d within each = each_place P xs place d (omega arith) each.1

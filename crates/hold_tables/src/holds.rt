@@ -179,14 +179,17 @@ impl Holds {
 
     /// The least open process whose number is at least this.
     pub fn next_open(&self, from: u32) -> Option<u32>
-        ensures { result ≡ next_open self.now from }
+        ensures least { result ≡ next_open self.now from }
+        ensures numbers { Each (λ r. r.process < 4294967296) self.now.processes }
+        ensures tidy { AreTidy self.now }
     {
         least_from(&self.rows, from)
     }
 
     /// How many net entries the open processes have.
     pub fn net_len(&self) -> usize
-        ensures { result ≡ length self.now.net }
+        ensures len { result ≡ length self.now.net }
+        ensures tidy { AreTidy self.now }
     {
         self.net.len()
     }
@@ -194,7 +197,8 @@ impl Holds {
     /// The net entry at a place in joint order, counted from 0.
     pub fn net_at(&self, place: usize) -> Entry
         requires { place < length self.now.net }
-        ensures { (d : Entry) → result ≡ slice_index_or self.now.net place d }
+        ensures entry { (d : Entry) → result ≡ slice_index_or self.now.net place d }
+        ensures known { IsKnown self.now.conflicts result }
     {
         self.net[place]
     }

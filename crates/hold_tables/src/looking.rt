@@ -1,5 +1,6 @@
 // What is looked up in the rows and in the net.
 ghost use Rattle.std.specs.Prelude.{◌≡◌, ◌<◌, ◌≤◌, ◌+◌, length, true, false, IfSome, Some, map, nat_le, if◌then◌else◌, vec_len, vec_capacity};
+ghost use Rattle.process_tree.specs.Order.{Each};
 ghost use Rattle.schedule_model.specs.Histories.{of_process};
 ghost use Rattle.hold_tables.specs.Tables.{has_number};
 ghost use Rattle.hold_tables.specs.Places.{place_of, last_place, all_steps};
@@ -115,7 +116,8 @@ fn least_with(n: u32, from: u32, other: Option<u32>) -> Option<u32>
 
 /// The least number of a process that is at least this.
 pub fn least_from(rows: &[Row], from: u32) -> Option<u32>
-    ensures { result ≡ least_from from (map (λ r. r.process) rows.now) }
+    ensures least { result ≡ least_from from (map (λ r. r.process) rows.now) }
+    ensures numbers { Each (λ r. r.process < 4294967296) rows.now }
 {
     let mut rest = rows;
     let mut least = None;

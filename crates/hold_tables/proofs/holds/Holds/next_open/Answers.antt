@@ -1,0 +1,6 @@
+use Rattle.std.proofs.Common.{subst}
+use Rattle.hold_tables.specs.Kept.{AreTidy}
+use Rattle.hold_tables.proofs.holds.Holds.next_open.Goals as goal
+
+pub returns-clause-tidy : goal.returns-clause-tidy
+returns-clause-tidy c = subst AreTidy c.self.view_is c.self.invariant.0.0
