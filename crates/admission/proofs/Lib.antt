@@ -1,0 +1,13 @@
+pub mod Order
+pub mod Over
+pub mod Places
+pub mod Greatest
+pub mod ByNumber
+pub mod Known
+pub mod Looking
+pub mod Fronts
+pub mod StepPlaces
+pub mod LastWays
+pub mod Assembled
+pub mod Classes
+pub mod WalksBack

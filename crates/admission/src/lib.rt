@@ -1,0 +1,22 @@
+//! Whether the next piece of a process may be handed out.
+//!
+//! `admit` is the least of what stands against the piece by the rules A0 to A5 (`specs/Admission`), over the holdings for which
+//! the tables of `hold_tables` stand, and `victim` is who goes back where nothing can go on. The layer above asks for each
+//! process that may be next. No call takes memory.
+#![tactic(auto)]
+
+mod admission;
+mod circle;
+mod least;
+mod net;
+mod owed;
+mod processes;
+mod victims;
+
+pub use admission::admit;
+pub use hold_tables::{Admitted, Blocked, Rule};
+pub use machine_model::Todo;
+pub use victims::victim;
+
+#[cfg(test)]
+mod tests;

@@ -1,0 +1,94 @@
+// What the net of the open processes has against an entry.
+ghost use Rattle.std.specs.Prelude.{◌≡◌, ◌<◌, ◌≤◌, [], IfSome, drop, length, slice_index_or, take};
+ghost use Rattle.process_tree.specs.Conflicts.{do_conflict};
+ghost use Rattle.process_tree.specs.declared.entry.Entry.{Entry};
+ghost use Rattle.hold_tables.specs.Kept.{AreTidy, IsKnown};
+ghost use Rattle.admission.specs.Admission.{is_of_step};
+ghost use Rattle.admission.specs.Least.{least_on};
+ghost use Rattle.admission.specs.Parts.{least_front, least_fronts, place_of_step};
+
+use crate::least::{least_with, lesser_of};
+use hold_tables::{Blocked, Holds, Rule};
+use process_tree::Entry;
+
+/// The least block on the net entries from one place to before another.
+pub fn least_between(
+    holds: &Holds,
+    rule: Rule,
+    own: Entry,
+    from: usize,
+    end: usize,
+) -> Option<Blocked>
+    requires own { IsKnown holds.now.conflicts own }
+    requires places { (from ≤ end) × (end ≤ length holds.now.net) }
+    ensures { result ≡ least_on (do_conflict holds.now.conflicts) rule own (drop from (take end holds.now.net)) }
+{
+    let c = holds.conflicts();
+    let mut place = end;
+    let mut least = None;
+    'places: while from < place {
+        place -= 1;
+        let other = holds.net_at(place);
+        least = least_with(c, rule, own, other, least);
+    }
+    least
+}
+
+/// The least block on any net entry.
+pub fn least_in_net(holds: &Holds, rule: Rule, own: Entry) -> Option<Blocked>
+    requires own { IsKnown holds.now.conflicts own }
+    ensures { result ≡ least_on (do_conflict holds.now.conflicts) rule own holds.now.net }
+{
+    least_between(holds, rule, own, 0, holds.net_len())
+}
+
+/// The least block of the entry at a place, if it is of the process, on what stands in front of it.
+fn least_at(holds: &Holds, process: u32, place: usize) -> Option<Blocked>
+    requires { place < length holds.now.net }
+    ensures { (d : Entry) → result ≡ least_front (do_conflict holds.now.conflicts) process (take place holds.now.net) (slice_index_or holds.now.net place d) }
+{
+    let y = holds.net_at(place);
+    if y.process == process {
+        least_between(holds, Rule::A3, y, 0, place)
+    } else {
+        None
+    }
+}
+
+/// The least block of an entry of the process on what stands in front of it.
+pub fn least_in_front(holds: &Holds, process: u32) -> Option<Blocked>
+    ensures least { result ≡ least_fronts (do_conflict holds.now.conflicts) process [] holds.now.net }
+    ensures tidy { AreTidy holds.now }
+{
+    let mut place = holds.net_len();
+    let mut least = None;
+    'places: while 0 < place {
+        place -= 1;
+        least = lesser_of(least_at(holds, process, place), least);
+    }
+    least
+}
+
+/// Whether the entry is of the step.
+fn is_of_step(e: Entry, process: u32, step: u16) -> bool
+    ensures { result ≡ is_of_step process step e }
+{
+    e.process == process && e.step == step
+}
+
+/// Where the net entry of a step stands.
+pub fn place_of_step(holds: &Holds, process: u32, step: u16) -> Option<usize>
+    ensures place { result ≡ place_of_step process step holds.now.net }
+    ensures within { IfSome result (λ place. place < length holds.now.net) }
+{
+    let mut place = holds.net_len();
+    let mut found = None;
+    'places: while 0 < place {
+        place -= 1;
+        let e = holds.net_at(place);
+        if is_of_step(e, process, step) {
+            found = Some(place);
+        }
+    }
+    found
+}
