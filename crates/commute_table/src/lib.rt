@@ -24,6 +24,3 @@ pub use op::{Op, Ops, Verb};
 pub use reading::read_catalog;
 pub use scenario::{Scenario, read_scenario};
 pub use word::{Text, Word};
-
-#[cfg(test)]
-mod tests;

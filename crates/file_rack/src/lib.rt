@@ -17,6 +17,3 @@ pub use file_rack::FileRack;
 pub use folder::Folder;
 pub use memory_folder::MemoryFolder;
 pub use system_folder::SystemFolder;
-
-#[cfg(test)]
-mod tests;

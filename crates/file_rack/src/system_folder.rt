@@ -11,7 +11,7 @@ use std::io;
 use std::io::{ErrorKind, Read, Seek, SeekFrom, Write};
 use std::rt::Files;
 
-pub(crate) const NAMES: [&str; 9] = [
+const NAMES: [&str; 9] = [
     "tps.0", "tps.1", "tps.2", "tps.3", "tps.4", "tps.5", "tps.6", "tps.7", "tps.8",
 ];
 

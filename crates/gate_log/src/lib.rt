@@ -18,6 +18,3 @@ pub use body::Body;
 pub use errors::{DiskFault, LogError};
 pub use laws::logs_are_lists;
 pub use log::Log;
-
-#[cfg(test)]
-mod tests;

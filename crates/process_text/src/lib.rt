@@ -35,6 +35,3 @@ pub use reading::{read, read_again};
 use steps::add_step;
 pub use words::is_word;
 use words::{Words, is_blank};
-
-#[cfg(test)]
-mod tests;

@@ -43,6 +43,3 @@ pub use play::{Fallback, Outcome, Place, Places, Played};
 pub use step::{Step, StepKind, Steps};
 pub use tree::{Named, Tree, TreeError};
 pub use ways::{branch_to, greater_of, shared};
-
-#[cfg(test)]
-mod tests;

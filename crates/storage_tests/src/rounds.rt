@@ -1,6 +1,6 @@
 // What a rack asks of its folder: each call once, and none again after a failure.
-use crate::tests::calls::{Call, Row, look};
-use crate::{FileRack, MemoryFolder};
+use crate::calls::{Call, Row, look};
+use file_rack::{FileRack, MemoryFolder};
 use process_disk::{MemoryRack, Rack};
 use process_flow::Failed;
 use std::alloc::Global;

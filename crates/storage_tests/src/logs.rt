@@ -1,5 +1,5 @@
-// What no clause says: the bytes of a file written by hand, files that are cut or damaged, and stops within an append or a retract.
-use super::*;
+// What no clause of `gate_log` says: the bytes of a file written by hand, files that are cut or damaged, and stops within an append or a retract.
+use gate_log::{Body, DiskFault, Log, LogError};
 use process_disk::{MemoryRack, Rack};
 use std::alloc::Global;
 use std::process::Abort;
@@ -27,6 +27,8 @@ fn count(alloc: Global, rack: &mut MemoryRack) -> Result<u32, LogError> {
     Ok(log.count())
 }
 
+const BODIES: [&[u8]; 3] = [b"hi", b"", b"abc"];
+
 #[test]
 fn a_file_written_by_hand_is_opened_and_appended_to(rt: HostRuntime) -> Result<(), Fail> {
     let alloc = rt.alloc();
@@ -34,10 +36,10 @@ fn a_file_written_by_hand_is_opened_and_appended_to(rt: HostRuntime) -> Result<(
     file.extend_from_slice(b"free")?;
     let mut rack = rack_of(alloc, &file)?;
     let (mut log, bodies) = Log::open(alloc, &mut rack, 3)?;
-    assert_eq!(rt; bodies.len(), 3);
-    assert_eq!(rt; bodies[0].bytes(), b"hi".as_slice());
-    assert_eq!(rt; bodies[1].bytes(), b"".as_slice());
-    assert_eq!(rt; bodies[2].bytes(), b"abc".as_slice());
+    assert_eq!(rt; bodies.len(), BODIES.len());
+    for (body, want) in bodies.iter().zip(&BODIES) {
+        assert_eq!(rt; body.bytes(), *want);
+    }
     log.append(&mut rack, b"yes")?;
     assert_eq!(rt; log.count(), 4);
     let mut buf = [0; 40];
@@ -133,25 +135,6 @@ const STOPS: [(u32, u32, u8, u32); 16] = [
     (9, 1, 0x00, 2),
 ];
 
-#[test]
-fn a_stop_within_an_append_leaves_the_list_before_or_with_the_body(
-    rt: HostRuntime,
-) -> Result<(), Fail> {
-    let alloc = rt.alloc();
-    let mut rack = MemoryRack::new(alloc, Vec::new(alloc))?;
-    let mut log = Log::create(alloc, &mut rack, 3)?;
-    log.append(&mut rack, b"one")?;
-    log.append(&mut rack, b"three")?;
-    assert_eq!(rt; rack.calls(), 10);
-    for (call, keep, fill, want) in &STOPS {
-        assert!(rt; u64::from(*call) < rack.calls());
-        let mut left = rack.stopped(alloc, *call, *keep, *fill)?;
-        let within = *call;
-        assert_eq!(rt; count(alloc, &mut left), Ok(*want), "call {within}");
-    }
-    Ok(())
-}
-
 // A stop within the two calls of a `retract`, calls 10 and 11, and how many bodies it leaves.
 const RETRACTS: [(u32, u32, u8, u32); 5] = [
     (10, 0, 0x00, 1),
@@ -161,22 +144,49 @@ const RETRACTS: [(u32, u32, u8, u32); 5] = [
     (11, 1, 0xff, 1),
 ];
 
-#[test]
-fn a_stop_within_a_retract_leaves_the_last_body_or_not(rt: HostRuntime) -> Result<(), Fail> {
-    let alloc = rt.alloc();
+// A rack whose file 3 is the log of two bodies, or of the first after the second is taken back.
+fn two_bodies(rt: &impl Abort, alloc: Global, retract: bool) -> Result<MemoryRack, Fail> {
     let mut rack = MemoryRack::new(alloc, Vec::new(alloc))?;
     let mut log = Log::create(alloc, &mut rack, 3)?;
     log.append(&mut rack, b"one")?;
     log.append(&mut rack, b"three")?;
-    log.retract(&mut rack)?;
-    assert_eq!(rt; rack.calls(), 12);
-    assert!(rt; !log.can_retract());
-    for (call, keep, fill, want) in &RETRACTS {
+    if retract {
+        log.retract(&mut rack)?;
+        assert!(rt; !log.can_retract());
+    }
+    Ok(rack)
+}
+
+// Stops a rack so, and counts the bodies that are left.
+fn stop(
+    rt: &impl Abort,
+    alloc: Global,
+    rack: &MemoryRack,
+    stops: &[(u32, u32, u8, u32)],
+) -> Result<(), Fail> {
+    for (call, keep, fill, want) in stops {
         assert!(rt; u64::from(*call) < rack.calls());
         let mut left = rack.stopped(alloc, *call, *keep, *fill)?;
-        let within = *call;
-        assert_eq!(rt; count(alloc, &mut left), Ok(*want), "call {within}");
+        assert_eq!(rt; count(alloc, &mut left), Ok(*want), "call {call}");
     }
+    Ok(())
+}
+
+#[test]
+fn a_stop_within_a_call_leaves_the_list_before_or_after_it(rt: HostRuntime) -> Result<(), Fail> {
+    let alloc = rt.alloc();
+    let rack = two_bodies(&rt, alloc, false)?;
+    assert_eq!(rt; rack.calls(), 10);
+    stop(&rt, alloc, &rack, &STOPS)?;
+    let rack = two_bodies(&rt, alloc, true)?;
+    assert_eq!(rt; rack.calls(), 12);
+    stop(&rt, alloc, &rack, &RETRACTS)
+}
+
+#[test]
+fn a_body_is_appended_in_the_place_of_one_taken_back(rt: HostRuntime) -> Result<(), Fail> {
+    let alloc = rt.alloc();
+    let mut rack = two_bodies(&rt, alloc, true)?;
     let (mut again, one) = Log::open(alloc, &mut rack, 3)?;
     assert_eq!(rt; again.count(), 1);
     again.append(&mut rack, b"other")?;

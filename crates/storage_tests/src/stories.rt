@@ -1,7 +1,6 @@
 // Racks over real files, in a folder of its own for each story.
-use crate::system_folder::NAMES;
-use crate::tests::calls::{Call, Row, look};
-use crate::{FileRack, SystemFolder};
+use crate::calls::{Call, Row, look};
+use file_rack::{FileRack, SystemFolder};
 use process_disk::Rack;
 use process_flow::Failed;
 use std::fs::File;
@@ -30,6 +29,10 @@ struct Story {
     // what is done, with the number of the rack that does it
     acts: &'static [(usize, Act)],
 }
+
+const NAMES: [&str; 9] = [
+    "tps.0", "tps.1", "tps.2", "tps.3", "tps.4", "tps.5", "tps.6", "tps.7", "tps.8",
+];
 
 const ALL: &[u8] = &[0, 1, 2, 3, 4, 5, 6, 7, 8];
 

@@ -1,5 +1,5 @@
 // Calls of a rack with the answers that are wanted, as rows of a table.
-use crate::{FileRack, Folder};
+use file_rack::{FileRack, Folder};
 use process_disk::Rack;
 use process_flow::Failed;
 use std::process::Abort;

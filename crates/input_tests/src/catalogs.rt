@@ -1,16 +1,15 @@
-// Scenarios and catalogs as they are written, and refusals as they come.
+// What no clause of `commute_table` says: catalogs as they are written, and processes bound to them.
 ghost use Rattle.commute_table.specs.Operations.{IsCatalog};
 
-mod documents;
-
-use super::*;
+use commute_table::{
+    BindError, Catalog, CatalogError, bind, catalog_bytes, read_catalog, read_scenario,
+};
 use process_tree::{Block, Name, Named, Operations, Plan, Step, StepKind, Steps, Tail, Tree};
 use std::alloc::Global;
 use std::test::Fail;
 
 // A document of nine operations.
-fn nine() -> &'static [u8] {
-    br#"version = 1
+const NINE: &[u8] = br#"version = 1
 conflicts = [["add", "take"], ["take", "take"], ["note", "note"], ["book", "book"]]
 processes = """
 process a c x add 1 5 end
@@ -60,37 +59,30 @@ verb = "add"
 name = "mail"
 subsystem = 3
 verb = "add"
-"#
-}
+"#;
 
 // The bytes of its catalog.
-fn nine_bytes() -> [u8; 109] {
-    [
-        // version, and nine operations
-        1, 9, 0, 3, b'a', b'd', b'd', 0, 0, // add
-        4, b't', b'a', b'k', b'e', 0, 1, // take
-        3, b'p', b'a', b'y', 1, 0, // pay
-        4, b's', b'h', b'i', b'p', 2, 0, // ship
-        4, b'n', b'o', b't', b'e', 4, 3, // note
-        4, b'b', b'o', b'o', b'k', 6, 4, // book
-        4, b'l', b'o', b'a', b'd', 2, 0, // load
-        4, b'h', b'a', b'u', b'l', 2, 0, // haul
-        4, b'm', b'a', b'i', b'l', 3, 0, // mail
-        // the pairs of each operation with itself and the later ones
-        0, 1, 0, 0, 0, 0, 0, 0, 0, 1, 0, 0, 0, 0, 0, 0, 0, 0, 0, 0, 0, 0, 0, 0, 0, 0, 0, 0, 0, 0,
-        1, 0, 0, 0, 0, 1, 0, 0, 0, 0, 0, 0, 0, 0, 0,
-    ]
-}
+const NINE_BYTES: [u8; 109] = [
+    // version, and nine operations
+    1, 9, 0, 3, b'a', b'd', b'd', 0, 0, // add
+    4, b't', b'a', b'k', b'e', 0, 1, // take
+    3, b'p', b'a', b'y', 1, 0, // pay
+    4, b's', b'h', b'i', b'p', 2, 0, // ship
+    4, b'n', b'o', b't', b'e', 4, 3, // note
+    4, b'b', b'o', b'o', b'k', 6, 4, // book
+    4, b'l', b'o', b'a', b'd', 2, 0, // load
+    4, b'h', b'a', b'u', b'l', 2, 0, // haul
+    4, b'm', b'a', b'i', b'l', 3, 0, // mail
+    // the pairs of each operation with itself and the later ones
+    0, 1, 0, 0, 0, 0, 0, 0, 0, 1, 0, 0, 0, 0, 0, 0, 0, 0, 0, 0, 0, 0, 0, 0, 0, 0, 0, 0, 0, 0, 1, 0,
+    0, 0, 0, 1, 0, 0, 0, 0, 0, 0, 0, 0, 0,
+];
 
 // A document of one operation.
-fn one() -> &'static [u8] {
-    b"version = 1\n[[op]]\nname = \"add\"\nsubsystem = 0\nverb = \"add\"\n"
-}
+const ONE: &[u8] = b"version = 1\n[[op]]\nname = \"add\"\nsubsystem = 0\nverb = \"add\"\n";
 
 // The bytes of its catalog.
-fn one_bytes() -> [u8; 10] {
-    [1, 1, 0, 3, b'a', b'd', b'd', 0, 0, 0]
-}
+const ONE_BYTES: [u8; 10] = [1, 1, 0, 3, b'a', b'd', b'd', 0, 0, 0];
 
 // The bytes of a document's catalog.
 fn written(alloc: Global, document: &[u8]) -> Result<Vec<u8>, Fail> {
@@ -125,39 +117,36 @@ fn is_conflict(c: &Catalog, a: u16, b: u16) -> bool
     usize::from(a) < count && usize::from(b) < count && c.conflicts.holds(a, b)
 }
 
-#[test]
-fn one_operation_has_ten_bytes(rt: HostRuntime) -> Result<(), Fail> {
-    let alloc = rt.alloc();
-    assert_eq!(rt; written(alloc, one())?.as_slice(), one_bytes().as_slice());
-    assert_eq!(rt; processes_of(alloc, one())?.len(), 0);
-    Ok(())
-}
+// Documents, the bytes of their catalogs, and their texts of processes.
+const WRITTEN: [(&[u8], &[u8], &[u8]); 2] = [
+    (ONE, &ONE_BYTES, b""),
+    (NINE, &NINE_BYTES, b"process a c x add 1 5 end\n"),
+];
 
 #[test]
-fn nine_operations_are_written_read_and_written_again(rt: HostRuntime) -> Result<(), Fail> {
+fn a_catalog_is_written_read_and_written_again(rt: HostRuntime) -> Result<(), Fail> {
     let alloc = rt.alloc();
-    let bytes = written(alloc, nine())?;
-    assert_eq!(rt; bytes.as_slice(), nine_bytes().as_slice());
-    let again = rewritten(alloc, &bytes)?;
-    assert_eq!(rt; again.as_slice(), bytes.as_slice());
-    let text = processes_of(alloc, nine())?;
-    assert_eq!(rt; text.as_slice(), b"process a c x add 1 5 end\n".as_slice());
+    for (document, bytes, text) in &WRITTEN {
+        assert_eq!(rt; written(alloc, document)?.as_slice(), *bytes);
+        assert_eq!(rt; rewritten(alloc, bytes)?.as_slice(), *bytes);
+        assert_eq!(rt; processes_of(alloc, document)?.as_slice(), *text);
+    }
     Ok(())
 }
 
 #[test]
 fn a_conflict_holds_both_ways(rt: HostRuntime) -> Result<(), Fail> {
     let alloc = rt.alloc();
-    let bytes = nine_bytes();
-    assert!(rt; conflict(alloc, &bytes, 0, 1)? && conflict(alloc, &bytes, 1, 0)?);
-    assert!(rt; conflict(alloc, &bytes, 5, 5)? && !conflict(alloc, &bytes, 0, 0)?);
+    for (a, b, want) in [(0, 1, true), (1, 0, true), (5, 5, true), (0, 0, false)] {
+        assert_eq!(rt; conflict(alloc, &NINE_BYTES, a, b)?, want, "{a} and {b}");
+    }
     Ok(())
 }
 
 // The bytes of one operation with another byte at this place.
 fn with_byte(alloc: Global, at: usize, byte: u8) -> Result<Vec<u8>, Fail> {
     let mut bytes = Vec::new(alloc);
-    for (place, old) in one_bytes().iter().enumerate() {
+    for (place, old) in ONE_BYTES.iter().enumerate() {
         bytes.push(if place == at { byte } else { *old })?;
     }
     Ok(bytes)
@@ -172,48 +161,45 @@ fn place_of(alloc: Global, bytes: &[u8]) -> Option<usize> {
     }
 }
 
-#[test]
-fn bytes_are_refused_at_the_first_that_no_catalog_has(rt: HostRuntime) -> Result<(), Fail> {
-    let alloc = rt.alloc();
-    for (at, byte) in [
-        (0, 2),
-        (2, 1),
-        (3, 0),
-        (3, 33),
-        (4, b'1'),
-        (7, 8),
-        (8, 3),
-        (9, 2),
-    ] {
-        let bytes = with_byte(alloc, at, byte)?;
-        assert_eq!(rt; place_of(alloc, &bytes), Some(at));
-    }
-    for count in 0..10 {
-        assert_eq!(rt; place_of(alloc, &one_bytes()[..count]), Some(count));
-    }
-    assert_eq!(rt; place_of(alloc, &[1, 0, 0, 0]), Some(3));
-    Ok(())
-}
-
-// Names of one letter, as operations that look at subsystem 0, behind a number of 27 operations.
+// Names of one letter, as operations that look at subsystem 0, behind a number of 27 operations,
+// and then a name that one of them has.
 fn letters(alloc: Global) -> Result<Vec<u8>, Fail> {
     let mut bytes = vec![in alloc; 1, 27, 0]?;
     for letter in b'a'..=b'z' {
         bytes.extend_from_slice(&[1, letter, 0, 2])?;
     }
+    bytes.extend_from_slice(&[1, b'a'])?;
     Ok(bytes)
 }
 
+// Another byte at a place of the bytes of one operation.
+const DAMAGES: [(usize, u8); 8] = [
+    (0, 2),
+    (2, 1),
+    (3, 0),
+    (3, 33),
+    (4, b'1'),
+    (7, 8),
+    (8, 3),
+    (9, 2),
+];
+
 #[test]
-fn a_name_that_can_only_be_a_repeated_one_is_refused_early(rt: HostRuntime) -> Result<(), Fail> {
+fn bytes_are_refused_at_the_first_that_no_catalog_has(rt: HostRuntime) -> Result<(), Fail> {
     let alloc = rt.alloc();
-    let mut bytes = letters(alloc)?;
-    bytes.extend_from_slice(&[1, b'a'])?;
+    for (at, byte) in &DAMAGES {
+        let bytes = with_byte(alloc, *at, *byte)?;
+        assert_eq!(rt; place_of(alloc, &bytes), Some(*at));
+    }
+    for count in 0..10 {
+        assert_eq!(rt; place_of(alloc, &ONE_BYTES[..count]), Some(count));
+    }
+    assert_eq!(rt; place_of(alloc, &[1, 0, 0, 0]), Some(3));
+    // A name that can only be a repeated one is refused early.
+    let bytes = letters(alloc)?;
     assert_eq!(rt; place_of(alloc, &bytes), Some(107));
-    assert_eq!(rt;
-        place_of(alloc, &[1, 2, 0, 1, b'a', 0, 2, 1, b'a']),
-        Some(8)
-    );
+    let names = [1, 2, 0, 1, b'a', 0, 2, 1, b'a'];
+    assert_eq!(rt; place_of(alloc, &names), Some(8));
     Ok(())
 }
 
@@ -248,14 +234,14 @@ fn process(alloc: Global, first: &str, second: &str) -> Result<Named, Fail> {
 
 // The numbers of a process's operations, in a copy of its plan.
 fn numbers_of(alloc: Global, named: Named) -> Result<Operations, Fail> {
-    let catalog = read_scenario(alloc, nine())?.catalog;
+    let catalog = read_scenario(alloc, NINE)?.catalog;
     let plan = bind(alloc, named, &catalog)?;
     Ok(plan.copy(alloc)?.ops)
 }
 
 // The unknown operation of a process, if it has one.
 fn unknown_in(alloc: Global, named: Named) -> Result<Option<Name>, Fail> {
-    let catalog = read_scenario(alloc, nine())?.catalog;
+    let catalog = read_scenario(alloc, NINE)?.catalog;
     Ok(unknown_of(bind(alloc, named, &catalog)))
 }
 
@@ -268,16 +254,10 @@ fn unknown_of(bound: Result<Plan, BindError>) -> Option<Name> {
 }
 
 #[test]
-fn a_process_is_bound_to_the_numbers_of_its_operations(rt: HostRuntime) -> Result<(), Fail> {
+fn a_process_is_bound_or_its_first_unknown_operation_is_told(rt: HostRuntime) -> Result<(), Fail> {
     let alloc = rt.alloc();
     let numbers = numbers_of(alloc, process(alloc, "mail", "take")?)?;
     assert_eq!(rt; numbers.as_slice(), [8, 1].as_slice());
-    Ok(())
-}
-
-#[test]
-fn the_first_unknown_operation_is_told(rt: HostRuntime) -> Result<(), Fail> {
-    let alloc = rt.alloc();
     let name = unknown_in(alloc, process(alloc, "fly", "run")?)?.ok_or("no unknown operation")?;
     assert_eq!(rt; name.bytes(), b"fly".as_slice());
     Ok(())

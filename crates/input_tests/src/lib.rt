@@ -1,0 +1,13 @@
+//! Tests of what is read: trees and their limits, texts of processes, catalogs and scenarios.
+//!
+//! They stand apart from the crates that they test, since a crate with tests is proved twice.
+#![tactic(auto)]
+
+#[cfg(test)]
+mod catalogs;
+#[cfg(test)]
+mod documents;
+#[cfg(test)]
+mod texts;
+#[cfg(test)]
+mod trees;
