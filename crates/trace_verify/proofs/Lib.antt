@@ -1,0 +1,9 @@
+pub mod Cuts
+pub mod Readings
+pub mod Naming
+pub mod NumbersKept
+pub mod StepsApplied
+pub mod Tables
+pub mod Outcomes
+pub mod PrintedEntries
+pub mod Meaning

@@ -1,0 +1,29 @@
+// Steps applied one after another.
+ghost use Rattle.std.specs.Prelude.{◌≡◌, ◌≤◌, length, MatchOption};
+ghost use Rattle.process_tree.specs.Conflicts.{do_conflict};
+ghost use Rattle.schedule_rules.specs.Applying.{AreKnown};
+ghost use Rattle.trace_verify.specs.Verdicts.{last_list, refused, outcome_from};
+
+use process_tree::{Conflicts, Entry};
+use schedule_model::TraceStep;
+use schedule_rules::apply;
+
+/// Applies steps in turn, up to the first that doesn't apply, which is answered by its number.
+pub fn apply_all(list: &mut Vec<Entry>, table: &Conflicts, steps: &[TraceStep]) -> Option<u32>
+    requires known { AreKnown table.now list.old.items }
+    requires few { length steps.now ≤ 65536 }
+    ensures outcome { MatchOption result (outcome_from (do_conflict table.now) 1 steps.now list.old.items ≡ last_list list.new.items)
+        (λ k. outcome_from (do_conflict table.now) 1 steps.now list.old.items ≡ refused k) }
+    ensures no_longer { length list.new.items ≤ length list.old.items }
+{
+    let mut rest = steps;
+    let mut number = 1;
+    while let [step, after @ ..] = rest {
+        if apply(list, table, *step).is_none() {
+            return Some(number);
+        }
+        number += 1;
+        rest = after;
+    }
+    None
+}

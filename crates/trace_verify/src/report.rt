@@ -1,0 +1,77 @@
+// What is read of a report.
+ghost use Rattle.std.specs.Prelude.{◌≡◌, [], OnOk};
+ghost use Rattle.trace_verify.specs.Reports.{unread};
+
+use crate::section::Section;
+use schedule_model::TraceStep;
+use std::alloc::Global;
+use std::marker::Model;
+
+/// An act by the names of its step and its operation.
+#[derive(Drop)]
+pub struct NamedAct<'a> {
+    pub process: u32,
+    pub step: &'a [u8],
+    pub op: &'a [u8],
+    pub undo: bool,
+}
+
+impl<'a> Model for NamedAct<'a> {
+    ghost use Rattle.trace_verify.specs.Forms.{NamedAct as Named};
+
+    ghost Value = { Named };
+
+    ghost view = { λ a. record { process = a.process; step = a.step.now; op = a.op.now; undo = a.undo } };
+}
+
+/// Two operations by their names.
+#[derive(Drop)]
+pub struct Pair<'a> {
+    pub first: &'a [u8],
+    pub second: &'a [u8],
+}
+
+impl<'a> Model for Pair<'a> {
+    ghost use Rattle.trace_verify.specs.Forms.{Pair as Named};
+
+    ghost Value = { Named };
+
+    ghost view = { λ p. record { first = p.first.now; second = p.second.now } };
+}
+
+/// What is read of a report, and the section in which the next line stands.
+#[derive(Drop)]
+pub struct Report<'a> {
+    pub section: Section,
+    pub pairs: Vec<Pair<'a>>,
+    /// Of the history and of its completion.
+    pub acts: Vec<NamedAct<'a>>,
+    pub steps: Vec<TraceStep>,
+    pub serial: Vec<NamedAct<'a>>,
+}
+
+impl<'a> Model for Report<'a> {
+    ghost use Rattle.std.specs.Prelude.{◌≤◌, length};
+    ghost use Rattle.trace_verify.specs.Reports.{Report as Read};
+
+    ghost Value = { Read };
+
+    ghost view = { λ r. record { section = r.section; pairs = r.pairs.items; acts = r.acts.items; steps = r.steps.items; serial = r.serial.items } };
+
+    ghost invariant = { λ r. (length r.acts.items ≤ 32768) × (length r.steps.items ≤ 65536) };
+}
+
+impl<'a> Report<'a> {
+    /// Nothing is read.
+    pub fn new(alloc: Global) -> Self
+        ensures { result ≡ unread }
+    {
+        Report {
+            section: Section::Opening,
+            pairs: Vec::new(alloc),
+            acts: Vec::new(alloc),
+            steps: Vec::new(alloc),
+            serial: Vec::new(alloc),
+        }
+    }
+}
