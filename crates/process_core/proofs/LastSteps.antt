@@ -26,7 +26,7 @@ last_few t (suc n) v = by_next (greatest (next_steps t v)) (λ d. last_few t n (
     by_next None rest = omega arith
     by_next (Some d) rest = let r = rest d in omega arith
 
-known_op : (ops : List ℕ) (most b : ℕ) → Each (λ op. op < most) ops → b < length ops → slice_index_or ops b 0 < most
+pub known_op : (ops : List ℕ) (most b : ℕ) → Each (λ op. op < most) ops → b < length ops → slice_index_or ops b 0 < most
 known_op [] most b each within = absurd (omega arith)
 known_op (op ∷ ops) most zero each within = each.0
 known_op (op ∷ ops) most (suc b) each within = known_op ops most b each.1 (omega arith)

@@ -6,3 +6,6 @@ pub mod TablesHoldings
 pub mod LastSteps
 pub mod RowChanges
 pub mod StoodRows
+pub mod NetEntries
+pub mod MayStand
+pub mod StandHere

@@ -41,7 +41,7 @@ changed_twice f g i (r ∷ rows) keeps = by_first (eqb r.process i) refl (change
     by_first true is later = ap (λ t. if t then g (f r) ∷ rows else f r ∷ change_numbered g i rows) (ap (λ k. eqb k i) (keeps r) ∙ is)
     by_first false is later = ap (λ t. if t then g r ∷ change_numbered f i rows else r ∷ change_numbered g i (change_numbered f i rows)) is ∙ ap (λ xs. r ∷ xs) later
 
-same_rows : (g h : ℕ → OpenProcess) (is : List ℕ) → ((k : ℕ) → is_in k is ≡ true → g k ≡ h k) → map g is ≡ map h is
+pub same_rows : (g h : ℕ → OpenProcess) (is : List ℕ) → ((k : ℕ) → is_in k is ≡ true → g k ≡ h k) → map g is ≡ map h is
 same_rows g h [] same = refl
 same_rows g h (k ∷ is) same = ap (λ x. x ∷ map g is) (same k (ap (λ t. t || is_in k is) (eq-eqb k k refl))) ∙ ap (λ xs. h k ∷ xs) (same_rows g h is (λ j among. same j (or_in (eqb j k) (is_in j is) among)))
   where

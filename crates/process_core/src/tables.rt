@@ -1,5 +1,5 @@
 // The tables of holds at an opening.
-ghost use Rattle.std.specs.Prelude.{◌≡◌, ◌<◌, true, false, length, map, slice_index_or, IfOk, OnOk, None};
+ghost use Rattle.std.specs.Prelude.{◌≡◌, ◌<◌, [], true, false, length, map, slice_index_or, IfOk, OnOk, None};
 ghost use Rattle.process_tree.specs.Blocks.{outline};
 ghost use Rattle.process_tree.specs.Conflicts.{operations_in};
 ghost use Rattle.process_tree.specs.Making.{tree_fault};
@@ -8,10 +8,15 @@ ghost use Rattle.process_tree.specs.Shape.{commits, kind_of, shape_of};
 ghost use Rattle.hold_tables.specs.Changes.{can_run};
 ghost use Rattle.hold_tables.specs.Kept.{IsKnown};
 ghost use Rattle.hold_tables.specs.Tables.{is_open, kept_of};
-ghost use Rattle.process_core.specs.OpenTables.{pairs_behind, stood};
+ghost use Rattle.schedule_model.specs.Course.{courses_of};
+ghost use Rattle.schedule_model.specs.Histories.{active, net};
+ghost use Rattle.process_core.specs.Cores.{IsCore, opened_on};
+ghost use Rattle.process_core.specs.OpenTables.{pairs_behind, stood, tables_at};
 
 use hold_tables::Holds;
 use process_tree::{Entry, Plan, StepKind, Tree};
+use schedule_model::History;
+use schedule_rules::active;
 use std::alloc::{AllocError, Global};
 
 /// Whether a step of this kind is a commit point once it took effect.
@@ -82,6 +87,28 @@ fn stand(alloc: Global, holds: &mut Holds, plan: &Plan, e: Entry) -> Result<(), 
         let pairs = pairs_behind(alloc, plan, e.step)?;
         holds.fix(e.process);
         holds.reserve(e.process, &pairs);
+    }
+    Ok(())
+}
+
+/// The entries that stand and are of active processes come into the tables.
+fn fill(
+    alloc: Global,
+    holds: &mut Holds,
+    h: &History,
+    entries: &[Entry],
+) -> Result<(), AllocError>
+    requires core { IsCore (opened_on holds.old.conflicts h.now.plans h.now.events) }
+    requires net { entries.now ≡ net h.now.events }
+    requires empty { holds.old ≡ tables_at holds.old.conflicts (courses_of h.now.plans) (active h.now.events) [] }
+    ensures { OnOk result (holds.new ≡ tables_at holds.old.conflicts (courses_of h.now.plans) (active h.now.events) entries.now) }
+{
+    for place in 0..entries.len() {
+        let e = entries[place];
+        if active(h, e.process) {
+            let plan = &h.plans.as_slice()[e.process as usize - 1];
+            stand(alloc, holds, plan, e)?;
+        }
     }
     Ok(())
 }
