@@ -9,3 +9,4 @@ pub mod StoodRows
 pub mod NetEntries
 pub mod MayStand
 pub mod StandHere
+pub mod OpenedRows

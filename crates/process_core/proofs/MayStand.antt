@@ -63,7 +63,7 @@ numbered_map g i (k ∷ is) named among = by_first (eqb i k) refl among (numbere
     by_first true at listed later = ap (λ c. if c then g k else numbered i (map g is)) (ap (λ x. eqb x i) (named k) ∙ eq-eqb k i (sym (eqb-true i k at))) ∙ ap g (sym (eqb-true i k at))
     by_first false at listed later = ap (λ c. if c then g k else numbered i (map g is)) (ap (λ x. eqb x i) (named k) ∙ unlike (eqb k i) at refl) ∙ later listed
 
-among_at : {X : Type 0} (xs : List X) (n : ℕ) (d : X) → n < length xs → Among (slice_index_or xs n d) xs
+pub among_at : {X : Type 0} (xs : List X) (n : ℕ) (d : X) → n < length xs → Among (slice_index_or xs n d) xs
 among_at [] n d within = absurd (omega arith)
 among_at (x ∷ xs) zero d within = inl refl
 among_at (x ∷ xs) (suc n) d within = inr (among_at xs n d (omega arith))

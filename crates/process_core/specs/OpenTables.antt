@@ -1,14 +1,15 @@
 -- What the tables of hold are at a moment of the machine.
-use Rattle.std.specs.Prelude.{◌≡◌, ℕ, List, [], ◌∷◌, ◌++◌, filter, length, map, slice_index_or, None, if◌then◌else◌}
+use Rattle.std.specs.Prelude.{◌≡◌, ℕ, List, [], ◌∷◌, ◌++◌, filter, length, map, nat_le, slice_index_or, None, if◌then◌else◌}
 use Rattle.process_tree.specs.declared.entry.Entry.{Entry}
 use Rattle.process_tree.specs.Conflicts.{Table}
 use Rattle.process_tree.specs.declared.plan.Plan.{Plan}
 use Rattle.process_tree.specs.Recovery.{forward, last_after}
 use Rattle.process_tree.specs.Shape.{branch_to, commits, fixed_len, kind_of, shape_of}
 use Rattle.schedule_model.specs.Course.{Course, shape}
-use Rattle.schedule_model.specs.Histories.{active, doing, is_in, net_steps, of_process, steps_of}
+use Rattle.schedule_model.specs.Histories.{active, doing, is_in, net, net_steps, of_process, steps_of}
+use Rattle.schedule_model.specs.declared.event.Event.{Event}
 use Rattle.schedule_model.specs.Holdings.{active_net}
-use Rattle.machine_model.specs.Moment.{Moment}
+use Rattle.machine_model.specs.Moment.{Moment, opening_moment}
 use Rattle.machine_model.specs.State.{hold_of, holdings}
 use Rattle.machine_model.specs.Laws.{open_only}
 use Rattle.hold_tables.specs.Changes.{all_fixed, changed, run, took_effect, with_reserved}
@@ -67,6 +68,18 @@ row_at courses es i = record {
 -- the tables of these processes where these entries stand
 abbrev pub tables_at : Table → List Course → List ℕ → List Entry → Tables
 tables_at conflicts courses is es = record { conflicts = conflicts; net = filter (λ e. is_in e.process is) es; processes = map (row_at courses es) is }
+
+-- the row of process i at an opening: of the first n processes, with what it has to undo
+abbrev pub row_up_to : ℕ → List Course → List Event → ℕ → OpenProcess
+row_up_to n courses h i = if nat_le i n then row_of courses (opening_moment h) i else row_at courses (net h) i
+
+-- the tables at an opening where what the first n processes have to undo is pending
+abbrev pub tables_up_to : ℕ → Table → List Course → List Event → Tables
+tables_up_to n conflicts courses h = record {
+  conflicts = conflicts;
+  net = filter (λ e. is_in e.process (active h)) (net h);
+  processes = map (row_up_to n courses h) (active h);
+}
 
 -- They stand for what the active processes hold.
 abbrev pub TablesStandForHoldings : Type 0

@@ -1,5 +1,7 @@
 // What is kept of each process.
 ghost use Rattle.std.specs.Prelude.{◌≡◌};
+ghost use Rattle.std.specs.Option.{option_map};
+ghost use Rattle.machine_model.specs.ProcessState.{pending_count};
 ghost use Rattle.process_core.specs.Seats.{is_number, state_by};
 
 use instance_state::Instance;
@@ -37,6 +39,16 @@ fn is_number(number: Option<u32>, n: u32) -> bool
 }
 
 impl Seat {
+    /// How many entries at the end of its net are to be undone, while it is active.
+    pub fn pending(&self) -> Option<u16>
+        ensures { result ≡ option_map (λ x. pending_count x.state) self.now.instance }
+    {
+        match &self.instance {
+            None => None,
+            Some(instance) => Some(instance.pending()),
+        }
+    }
+
     /// What became of the piece of this number, which is of this process.
     pub fn state(&self, n: u32) -> PieceState
         ensures { result ≡ state_by self.now n }

@@ -1,22 +1,25 @@
 // The tables of holds at an opening.
-ghost use Rattle.std.specs.Prelude.{◌≡◌, ◌<◌, [], true, false, length, map, slice_index_or, IfOk, OnOk, None};
+ghost use Rattle.std.specs.Prelude.{◌≡◌, ◌<◌, ◌≤◌, [], true, false, length, map, slice_index_or, IfOk, OnOk, None};
 ghost use Rattle.process_tree.specs.Blocks.{outline};
 ghost use Rattle.process_tree.specs.Conflicts.{operations_in};
 ghost use Rattle.process_tree.specs.Making.{tree_fault};
 ghost use Rattle.process_tree.specs.Order.{Each};
 ghost use Rattle.process_tree.specs.Shape.{commits, kind_of, shape_of};
-ghost use Rattle.hold_tables.specs.Changes.{can_run};
+ghost use Rattle.hold_tables.specs.Changes.{can_run, none_open};
+ghost use Rattle.machine_model.specs.Moment.{opening_moment};
 ghost use Rattle.hold_tables.specs.Kept.{IsKnown};
 ghost use Rattle.hold_tables.specs.Tables.{is_open, kept_of};
 ghost use Rattle.schedule_model.specs.Course.{courses_of};
 ghost use Rattle.schedule_model.specs.Histories.{active, net};
 ghost use Rattle.process_core.specs.Cores.{IsCore, opened_on};
-ghost use Rattle.process_core.specs.OpenTables.{pairs_behind, stood, tables_at};
+ghost use Rattle.process_core.specs.OpenTables.{pairs_behind, stood, tables_at, tables_of};
+ghost use Rattle.process_core.specs.Seats.{seats_of};
 
+use crate::seats::Seat;
 use hold_tables::Holds;
-use process_tree::{Entry, Plan, StepKind, Tree};
+use process_tree::{Conflicts, Entry, Plan, StepKind, Tree};
 use schedule_model::History;
-use schedule_rules::active;
+use schedule_rules::{active, net};
 use std::alloc::{AllocError, Global};
 
 /// Whether a step of this kind is a commit point once it took effect.
@@ -111,4 +114,56 @@ fn fill(
         }
     }
     Ok(())
+}
+
+/// A row is opened for each active process.
+fn open_rows(holds: &mut Holds, h: &History) -> Result<(), AllocError>
+    requires core { IsCore (opened_on holds.old.conflicts h.now.plans h.now.events) }
+    requires few { length h.now.plans ≤ 4096 }
+    requires none { holds.old ≡ none_open holds.old.conflicts }
+    ensures { OnOk result (holds.new ≡ tables_at holds.old.conflicts (courses_of h.now.plans) (active h.now.events) []) }
+{
+    let count = h.plans.as_slice().len() as u32;
+    for place in 0..count {
+        let i = place + 1;
+        if active(h, i) {
+            holds.open(i, &h.plans.as_slice()[place as usize])?;
+        }
+    }
+    Ok(())
+}
+
+/// What each active process has to undo is pending.
+fn pend_all(holds: &mut Holds, h: &History, seats: &[Seat])
+    requires core { IsCore (opened_on holds.old.conflicts h.now.plans h.now.events) }
+    requires few { length h.now.plans ≤ 4096 }
+    requires seats { seats.now ≡ seats_of (courses_of h.now.plans) (opening_moment h.now.events) }
+    requires stood { holds.old ≡ tables_at holds.old.conflicts (courses_of h.now.plans) (active h.now.events) (net h.now.events) }
+    ensures { holds.new ≡ tables_of holds.old.conflicts (courses_of h.now.plans) (opening_moment h.now.events) }
+{
+    for place in 0..seats.len() {
+        if let Some(count) = seats[place].pending() {
+            holds.pend(place as u32 + 1, count);
+        }
+    }
+}
+
+/// The tables at the opening.
+pub fn opened_tables(
+    alloc: Global,
+    h: &History,
+    c: &Conflicts,
+    seats: &[Seat],
+) -> Result<Holds, AllocError>
+    requires core { IsCore (opened_on c.now h.now.plans h.now.events) }
+    requires few { length h.now.plans ≤ 4096 }
+    requires seats { seats.now ≡ seats_of (courses_of h.now.plans) (opening_moment h.now.events) }
+    ensures { IfOk result (λ holds. holds ≡ tables_of c.now (courses_of h.now.plans) (opening_moment h.now.events)) }
+{
+    let mut holds = Holds::new(alloc, c)?;
+    open_rows(&mut holds, h)?;
+    let entries = net(alloc, h)?;
+    fill(alloc, &mut holds, h, &entries)?;
+    pend_all(&mut holds, h, seats);
+    Ok(holds)
 }
