@@ -10,3 +10,4 @@ pub mod NetEntries
 pub mod MayStand
 pub mod StandHere
 pub mod OpenedRows
+pub mod PendedRows

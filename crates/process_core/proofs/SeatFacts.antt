@@ -44,7 +44,7 @@ find_any p r (x ∷ xs) y at is = by_first (p x) at (λ later. find_any p r xs y
     by_first true here later = or_left (r x) (list_any r xs) (ap r (same_Some x y here) ∙ is)
     by_first false there later = or_right (r x) (list_any r xs) (later there)
 
-length-numbers : (a n : ℕ) → length (numbers_from a n) ≡ n
+pub length-numbers : (a n : ℕ) → length (numbers_from a n) ≡ n
 length-numbers a zero = refl
 length-numbers a (suc n) = let rest = length-numbers (a + 1) n in omega arith
 
