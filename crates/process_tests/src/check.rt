@@ -29,7 +29,7 @@ fn answered<H>(
 }
 
 // Runs `top` on an input and compares the status and the whole output.
-fn expect<H: Abort>(
+pub fn expect<H: Abort>(
     rt: &H,
     alloc: Global,
     words: &[&str],

@@ -9,3 +9,5 @@ mod program;
 mod run;
 #[cfg(test)]
 mod show;
+#[cfg(test)]
+mod verify;

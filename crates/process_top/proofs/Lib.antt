@@ -2,6 +2,8 @@ pub mod Numbers
 pub mod Kept
 pub mod Lives
 pub mod OneWord
+pub mod Asks
+pub mod Verifying
 pub mod Replies
 pub mod Runs
 pub mod Lines

@@ -1,5 +1,5 @@
 -- Which replies are due, and that they complete the check.
-use Rattle.std.proofs.Common.{◌≡◌, ◌↔◌, IsTrue, ◌≤◌, ◌⊎◌, min, ℕ, zero, suc, List, [], ◌∷◌, length, take, Bool, true, false, Option, Some, None, IfSome, IfOk, IfErr, codes, Result, Ok, Err, Vec, refl, sym, arith, subst, ap, ◌∙◌, inl, inr, if◌then◌else◌}
+use Rattle.std.proofs.Common.{◌≡◌, ◌≤◌, ◌⊎◌, min, ℕ, zero, suc, List, [], ◌∷◌, length, take, Bool, true, false, Option, Some, None, IfSome, IfOk, IfErr, codes, Result, Ok, Err, Vec, refl, sym, arith, subst, ap, ◌∙◌, inl, inr, if◌then◌else◌}
 use Rattle.std.proofs.lemmas.List.{length-take-le}
 use Rattle.process_flow.specs.Causes.{Rose}
 use Rattle.process_tree.specs.declared.tree.Named.{Named}
@@ -25,22 +25,17 @@ use Rattle.process_top.specs.Story.{AreBegun}
 use Rattle.process_top.proofs.Stories.{adds_again}
 use Rattle.process_top.specs.Commands.{IsCheckAnswered, IsRunOf, IsNotRun, IsOnlyRun, IsOnlyRefused, IsRunAnswered, IsShowAnswered}
 use Rattle.program_words.specs.Commands.{asked}
-use Rattle.program_words.specs.declared.reading.Command.{Command}
-use Rattle.program_words.specs.declared.reading.Command.TheVariants as commands
 use Rattle.process_top.specs.Told.{Output, IsTold}
 use Rattle.process_top.specs.Verdict.{any_fault}
-use Rattle.process_top.specs.Reply.{AsksCheck, AsksRun, AsksShow, most_input, Reply, checked, bad_words, no_words, unread, no_add_process, not_run, ran, shown, not_shown, status_of, text_of, Input, Files, AreUntouched, IsRead, IsUnread, IsBadRecord, IsNotShown, IsDue, IsAnswered, IsShowComplete, IsComplete}
+use Rattle.process_top.specs.Reply.{AsksCheck, AsksRun, AsksShow, most_input, Reply, checked, bad_words, no_words, unread, no_add_process, not_run, ran, shown, not_shown, verified, unverified, status_of, text_of, Input, Files, AreUntouched, IsRead, IsUnread, IsBadRecord, IsNotShown, IsDue, IsAnswered, IsShowComplete, IsComplete}
+use Rattle.process_top.proofs.Asks.{told_well, check_or_run, check_or_show, run_or_show, check_or_verify, run_or_verify, show_or_verify, asks_nothing, neither}
+use Rattle.process_top.proofs.Verifying.{verify_done}
 
 -- what is known of the text that was read is known of the input
 pub on_input : (left : Option (List ℕ)) (text : List ℕ) (P : List ℕ → Type 0) → IfSome left (λ given. text ≡ given) → length text ≤ most_input → P text
     → IfSome left (λ given. (length given ≤ most_input) × P given)
 on_input None text P all within is = tt
 on_input (Some given) text P all within is = rw (← all) (within, is)
-
--- without a fault of the sink, the status is the reply's
-told_well : (status : ℕ) (text : List ℕ) (before after : Output) (result : ℕ) → IsTold status text before after result → ¬ Rose before.faults after.faults → result ≡ status
-told_well status text before after result (inl well) quiet = well.0
-told_well status text before after result (inr failed) quiet = absurd (quiet failed.1)
 
 by_any : (any : Bool) (result : ℕ) → result ≡ (if any then 3 else 0) → (result ≡ 0) ⊎ ((result ≡ 3) ⊎ (result ≡ 13))
 by_any true result is = inr (inl is)
@@ -69,23 +64,6 @@ unread_on NotBegun text faults after ps why quiet within reading = absurd why
 unread_on CutOff text faults after ps why quiet within reading = absurd why
 unread_on NoMemory text faults after ps why quiet within reading = refl
 
-check_or_run : (words : List (List ℕ)) → AsksCheck words → AsksRun words → ⊥
-check_or_run words one two = let both : Some commands.Check ≡ Some commands.Run = sym one ∙ two in cc
-
-check_or_show : (words : List (List ℕ)) → AsksCheck words → AsksShow words → ⊥
-check_or_show words one two = let both : Some commands.Check ≡ Some commands.Show = sym one ∙ two in cc
-
-run_or_show : (words : List (List ℕ)) → AsksRun words → AsksShow words → ⊥
-run_or_show words one two = let both : Some commands.Run ≡ Some commands.Show = sym one ∙ two in cc
-
--- words that ask for nothing ask for no command
-asks_nothing : (words : List (List ℕ)) (c : Command) → asked words ≡ None → asked words ≡ Some c → ⊥
-asks_nothing words c none some = let both : None ≡ Some c = sym none ∙ some in cc
-
-neither : (words : List (List ℕ)) → AsksCheck words ⊎ AsksRun words → AsksShow words → ⊥
-neither words (inl check) show = check_or_show words check show
-neither words (inr run) show = run_or_show words run show
-
 -- a check that is due and told completes
 check_done : (words : List (List ℕ)) (text : List ℕ) (faults : ℕ) (after : Input) (files files_after : Files) (output output_after : Output) (result : ℕ) (reply : Reply)
     → IsDue words (record { left = Some text; faults = faults }) after files files_after reply → IsTold (status_of reply) (text_of reply) output output_after result
@@ -108,6 +86,10 @@ check_done words text faults after files files_after output output_after result 
     absurd (check_or_show words is_check due.0)
 check_done words text faults after files files_after output output_after result (not_shown r) due told is_check in_quiet out_quiet ps within reading =
     absurd (check_or_show words is_check due.0)
+check_done words text faults after files files_after output output_after result (verified v) due told is_check in_quiet out_quiet ps within reading =
+    absurd (check_or_verify words is_check due.0)
+check_done words text faults after files files_after output output_after result (unverified r) due told is_check in_quiet out_quiet ps within reading =
+    absurd (check_or_verify words is_check due.0)
 
 -- a run on an empty file 0, without a fault of the rack, is refused for want of memory alone
 not_run_on : (r : Refusal) (p : Named) (before after : Disk) (faults faults_after : ℕ) → IsRefusedRun r p before after faults faults_after → ¬ Rose faults faults_after → Told before → file_of before.files 0 ≡ []
@@ -145,6 +127,10 @@ run_done words text faults after files files_after output output_after result (s
     absurd (run_or_show words is_run due.0)
 run_done words text faults after files files_after output output_after result (not_shown r) due told is_run in_quiet out_quiet quiet p within reading adds tells empty =
     absurd (run_or_show words is_run due.0)
+run_done words text faults after files files_after output output_after result (verified v) due told is_run in_quiet out_quiet quiet p within reading adds tells empty =
+    absurd (run_or_verify words is_run due.0)
+run_done words text faults after files files_after output output_after result (unverified r) due told is_run in_quiet out_quiet quiet p within reading adds tells empty =
+    absurd (run_or_verify words is_run due.0)
 
 take_take : (m n : ℕ) (xs : List (List ℕ)) → take m (take n xs) ≡ take (min m n) xs
 take_take zero n xs = let none : min 0 n ≡ 0 = omega arith in rw none refl
@@ -204,6 +190,8 @@ show_done words input input_after files files_after output output_after result (
     inl (told_well _ _ output output_after result told out_quiet)
 show_done words input input_after files files_after output output_after result (not_shown r) due told is_show out_quiet quiet p k adds within tells log =
     inr (told_well _ _ output output_after result told out_quiet ∙ not_shown_on r files files_after p k due.1 quiet adds within tells log)
+show_done words input input_after files files_after output output_after result (verified v) due told is_show out_quiet quiet p k adds within tells log = absurd (show_or_verify words is_show due.0)
+show_done words input input_after files files_after output output_after result (unverified r) due told is_show out_quiet quiet p k adds within tells log = absurd (show_or_verify words is_show due.0)
 
 -- what is answered completes each command
 pub answered_is_complete : (words : List (List ℕ)) (left : Option (List ℕ)) (faults : ℕ) (after : Input) (files files_after : Files) (output output_after : Output) (result : ℕ)
@@ -213,11 +201,13 @@ answered_is_complete words None faults after files files_after output output_aft
   check = λ is in_quiet out_quiet. tt;
   run = λ is in_quiet out_quiet quiet. tt;
   show = λ is out_quiet quiet. show_done words _ after files files_after output output_after result answered.0 answered.1 answered.2 is out_quiet quiet;
+  verify = λ is in_quiet out_quiet. tt;
 }
 answered_is_complete words (Some text) faults after files files_after output output_after result answered = record {
   check = λ is in_quiet out_quiet. check_done words text faults after files files_after output output_after result answered.0 answered.1 answered.2 is in_quiet out_quiet;
   run = λ is in_quiet out_quiet quiet. run_done words text faults after files files_after output output_after result answered.0 answered.1 answered.2 is in_quiet out_quiet quiet;
   show = λ is out_quiet quiet. show_done words _ after files files_after output output_after result answered.0 answered.1 answered.2 is out_quiet quiet;
+  verify = λ is in_quiet out_quiet. verify_done words text faults after files files_after output output_after result answered.0 answered.1 answered.2 is in_quiet out_quiet;
 }
 
 -- there was no memory for the line of a text's fault

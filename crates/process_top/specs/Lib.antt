@@ -1,4 +1,6 @@
 pub mod Verdict
+pub mod Inputs
+pub mod Verify
 pub mod Reply
 pub mod Journal
 pub mod Life

@@ -48,7 +48,7 @@ is_of_text r = false
 
 -- a status of the words, the input or a verdict
 abbrev pub is_before_files : ℕ → Bool
-is_before_files n = nat_eq n 1 || nat_eq n 2 || nat_eq n 3 || nat_eq n 4 || nat_eq n 8
+is_before_files n = nat_eq n 1 || nat_eq n 2 || nat_eq n 3 || nat_eq n 4 || nat_eq n 8 || nat_eq n 12
 
 -- the line of a refusal needs memory: it has a number or a name
 abbrev pub needs_memory : Refusal → Bool

@@ -7,7 +7,7 @@ use Rattle.program_words.specs.Commands.{asked}
 use Rattle.program_words.specs.declared.reading.Command.TheVariants as commands
 use Rattle.process_flow.specs.Causes.{Rose}
 use Rattle.process_disk.specs.Disk.{Disk, Told, file_of}
-use Rattle.process_disk.specs.Images.{EachImage, AllAsBefore}
+use Rattle.process_disk.specs.Images.{EachImage}
 use Rattle.gate_log.specs.LogFile.{read_log}
 use Rattle.gate_log.specs.Standing.{Logs}
 use Rattle.gate_log.specs.declared.errors.LogError.TheVariants as log_errors
@@ -20,13 +20,17 @@ use Rattle.process_text.specs.declared.error.TextError.TheVariants.{NoMemory as 
 use Rattle.process_top.specs.declared.refusal.Refusal.{Refusal}
 use Rattle.process_top.specs.declared.refusal.Refusal.TheVariants.{Text, TooLong, BadHeader, BadRecord, ReadFault, NotBegun, NoMemory}
 use Rattle.process_top.specs.Refused.{refusal_status, refusal_text}
+pub use Rattle.process_top.specs.Inputs.{most_input, Input, Files, OnInput, AreUntouched}
+use Rattle.process_top.specs.Verify.{IsNotGot, IsVerified, verified_status, verified_text}
+use Rattle.trace_verify.specs.declared.verdict.Verified.{Verified}
+use Rattle.trace_verify.specs.Verdicts.{verdict}
 use Rattle.process_top.specs.Told.{Output, IsTold}
 use Rattle.process_top.specs.Verdict.{AreVerdicts, verdict_lines, any_fault}
 use Rattle.process_top.specs.Life.{is_add_process, lines_of}
 use Rattle.process_top.specs.Journal.{IsRun, IsRefusedRun, life, IsAddProcess}
 use Rattle.process_top.specs.Story.{IsOddAt}
 
--- the words ask for a check, or a run, or a show
+-- the words ask for a check, or a run, or a show, or a verification
 abbrev pub AsksCheck : List (List ℕ) → Type 0
 AsksCheck words = asked words ≡ Some commands.Check
 
@@ -36,32 +40,13 @@ AsksRun words = asked words ≡ Some commands.Run
 abbrev pub AsksShow : List (List ℕ) → Type 0
 AsksShow words = asked words ≡ Some commands.Show
 
+abbrev pub AsksVerify : List (List ℕ) → Type 0
+AsksVerify words = asked words ≡ Some commands.Verify
+
 -- the first word is `show`
 abbrev pub first_is_show : List (List ℕ) → Bool
 first_is_show [] = false
 first_is_show (word ∷ words) = bytes_eq word (codes "show")
-
--- the greatest size of an input, in bytes
-abbrev pub most_input : ℕ
-most_input = 1048576
-
--- a source at some moment: what it has left, where it tells, and its count of faults
-pub record Input : Type 0 where
-  pub left : Option (List ℕ)
-  pub faults : ℕ
-
--- a rack at some moment: what it tells of its files, and its count of faults
-pub record Files : Type 1 where
-  pub disk : Disk
-  pub faults : ℕ
-
--- the input, where it is told, is within its limit and has this
-abbrev pub OnInput : Input → (List ℕ → Type 0) → Type 0
-OnInput input P = IfSome input.left (λ text. (length text ≤ most_input) × P text)
-
--- all files, where they are told, read as before, and a crash leaves nothing that one at the start might not have left
-abbrev pub AreUntouched : Files → Files → Type 0
-AreUntouched before after = Told before.disk → AllAsBefore before.disk after.disk
 
 -- why a text was not read, from a source that was so before and is so after
 abbrev pub IsUnread : Refusal → Input → Input → Type 0
@@ -118,6 +103,10 @@ pub data Reply : Type 0 where
   shown : Named → ℕ → Reply
   -- file 0 was not shown
   not_shown : Refusal → Reply
+  -- this is the verdict on the text
+  verified : Verified → Reply
+  -- no text came on which there is a verdict
+  unverified : Refusal → Reply
 
 abbrev pub status_of : Reply → ℕ
 status_of bad_words = 1
@@ -129,6 +118,8 @@ status_of (not_run p r) = refusal_status r
 status_of (ran p) = 0
 status_of (shown p n) = 0
 status_of (not_shown r) = refusal_status r
+status_of (verified v) = verified_status v
+status_of (unverified r) = refusal_status r
 
 abbrev pub text_of : Reply → List ℕ
 text_of bad_words = codes "bad words\n"
@@ -140,6 +131,8 @@ text_of (not_run p r) = refusal_text r
 text_of (ran p) = concat (lines_of p)
 text_of (shown p n) = concat (take n (lines_of p))
 text_of (not_shown r) = refusal_text r
+text_of (verified v) = verified_text v
+text_of (unverified r) = refusal_text r
 
 -- when each reply is due, on these words, over a source and a rack that were so before and are so after
 abbrev pub IsDue : List (List ℕ) → Input → Input → Files → Files → Reply → Type 0
@@ -155,6 +148,8 @@ IsDue words input input_after files files_after (ran p) =
     AsksRun words × IsRead input input_after (p ∷ []) × IsAddProcess p × (Told files.disk → IsRun p files.disk files_after.disk)
 IsDue words input input_after files files_after (shown p n) = AsksShow words × IsShown p n files files_after × AreUntouched files files_after
 IsDue words input input_after files files_after (not_shown r) = AsksShow words × IsNotShown r files files_after × AreUntouched files files_after
+IsDue words input input_after files files_after (verified v) = AsksVerify words × IsVerified input input_after v × AreUntouched files files_after
+IsDue words input input_after files files_after (unverified r) = AsksVerify words × IsNotGot r input input_after × AreUntouched files files_after
 
 -- the status of an answer: some reply was due, and it was told
 abbrev pub IsAnswered : List (List ℕ) → Input → Input → Files → Files → Output → Output → ℕ → Type 0
@@ -177,8 +172,14 @@ abbrev pub IsShowComplete : Disk → ℕ → Type 0
 IsShowComplete disk result =
     (p : Named) (n : ℕ) → IsAddProcess p → n ≤ length (life p) → Told disk → Logs 0 (take n (life p)) disk.files → (result ≡ 0) ⊎ (result ≡ 13)
 
+-- a verification has the status of the verdict on the text, or of want of memory; so a report that is accepted has status 0 or 13
+abbrev pub IsVerifyComplete : Input → ℕ → Type 0
+IsVerifyComplete input result =
+    IfSome input.left (λ text. length text ≤ most_input → (result ≡ verified_status (verdict text)) ⊎ (result ≡ 13))
+
 -- with no fault of the source, the sink and the rack, a command has the status of what it is for, or of want of memory
 pub record IsComplete (words : List (List ℕ)) (input input_after : Input) (files files_after : Files) (output output_after : Output) (result : ℕ) : Type 0 where
   pub check : AsksCheck words → ¬ Rose input.faults input_after.faults → ¬ Rose output.faults output_after.faults → IsCheckComplete input result
   pub run : AsksRun words → ¬ Rose input.faults input_after.faults → ¬ Rose output.faults output_after.faults → ¬ Rose files.faults files_after.faults → IsRunComplete input files.disk result
   pub show : AsksShow words → ¬ Rose output.faults output_after.faults → ¬ Rose files.faults files_after.faults → IsShowComplete files.disk result
+  pub verify : AsksVerify words → ¬ Rose input.faults input_after.faults → ¬ Rose output.faults output_after.faults → IsVerifyComplete input result

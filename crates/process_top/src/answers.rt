@@ -3,11 +3,12 @@ ghost use Rattle.std.specs.Prelude.{◌≤◌, ◌≡◌, ◌⊎◌, ◌↔◌, 
 ghost use Rattle.process_disk.specs.Disk.{Told};
 ghost use Rattle.process_disk.specs.Images.{OthersAsBefore};
 ghost use Rattle.process_top.specs.Refused.{is_before_files};
-ghost use Rattle.process_top.specs.Reply.{AsksCheck, AsksRun, AsksShow, first_is_show, IsAnswered, IsComplete};
+ghost use Rattle.process_top.specs.Reply.{AsksCheck, AsksRun, AsksShow, AsksVerify, first_is_show, IsAnswered, IsComplete};
 
 use crate::commands::{check, run};
 use crate::show::show;
 use crate::tell::tell;
+use crate::verify::verify;
 use process_disk::Rack;
 use process_flow::{Sink, Source};
 use program_words::{Command, WordsError, read_words};
@@ -46,7 +47,7 @@ fn reply<S: Source, K: Sink, R: Rack>(
         (record { taken = K.taken sink.new; faults = K.faults sink.new }) result }
     ensures others { Told (R.disk rack.old) → OthersAsBefore 0 (R.disk rack.old) (R.disk rack.new) }
     ensures untouched { (AsksRun (map string_bytes words.now)) ⊎ (AsksShow (map string_bytes words.now)) ⊎ (rack.new ≡ rack.old) }
-    ensures unread { (AsksCheck (map string_bytes words.now)) ⊎ (AsksRun (map string_bytes words.now)) ⊎ (source.new ≡ source.old) }
+    ensures unread { (AsksCheck (map string_bytes words.now)) ⊎ (AsksRun (map string_bytes words.now)) ⊎ (AsksVerify (map string_bytes words.now)) ⊎ (source.new ≡ source.old) }
     ensures tells { (R.disk rack.new).tells ≡ (R.disk rack.old).tells }
     ensures later { R.faults rack.old ≤ R.faults rack.new }
     ensures early { is_before_files result ≡ true → rack.new ≡ rack.old }
@@ -55,6 +56,7 @@ fn reply<S: Source, K: Sink, R: Rack>(
         Ok(Command::Check) => check(alloc, source, sink),
         Ok(Command::Run) => run(alloc, source, sink, rack),
         Ok(Command::Show) => show(alloc, sink, rack),
+        Ok(Command::Verify) => verify(alloc, source, sink),
         Err(WordsError::BadWords) => tell(sink, b"bad words\n", 1),
         Err(WordsError::NoMemory) => tell(sink, b"no memory\n", 13),
     }
@@ -77,7 +79,8 @@ pub fn answer<S: Source, K: Sink, R: Rack>(
         (record { taken = K.taken sink.old; faults = K.faults sink.old })
         (record { taken = K.taken sink.new; faults = K.faults sink.new }) result.status }
     // Where no call failed and source and rack tell, a text in the grammar has the status of a check, a process of `add` steps on
-    // an empty file 0 that of a run, and a beginning of its records that of a show; or memory is wanting.
+    // an empty file 0 that of a run, a beginning of its records that of a show, and a text that is verified that of its verdict; or
+    // memory is wanting.
     ensures complete { IsComplete (map string_bytes words.now)
         (record { left = S.left source.old; faults = S.faults source.old })
         (record { left = S.left source.new; faults = S.faults source.new })
@@ -89,8 +92,8 @@ pub fn answer<S: Source, K: Sink, R: Rack>(
     ensures others { Told (R.disk rack) → OthersAsBefore 0 (R.disk rack) (R.disk result.rack) }
     // But for a run and a show the rack is left as it is.
     ensures untouched { (AsksRun (map string_bytes words.now)) ⊎ (AsksShow (map string_bytes words.now)) ⊎ (result.rack ≡ rack) }
-    // But for a check and a run the source is left as it is.
-    ensures unread { (AsksCheck (map string_bytes words.now)) ⊎ (AsksRun (map string_bytes words.now)) ⊎ (source.new ≡ source.old) }
+    // But for a check, a run and a verification the source is left as it is.
+    ensures unread { (AsksCheck (map string_bytes words.now)) ⊎ (AsksRun (map string_bytes words.now)) ⊎ (AsksVerify (map string_bytes words.now)) ⊎ (source.new ≡ source.old) }
     // The rack tells as before, and its count of faults didn't fall.
     ensures tells { (R.disk result.rack).tells ≡ (R.disk rack).tells }
     ensures later { R.faults rack ≤ R.faults result.rack }
@@ -127,7 +130,7 @@ pub fn top<H, S: Source, K: Sink, R: Rack>(
         (record { taken = K.taken sink.new; faults = K.faults sink.new }) result.status }
     ensures others { Told (R.disk rack) → OthersAsBefore 0 (R.disk rack) (R.disk result.rack) }
     ensures untouched { (AsksRun (map string_bytes words.now)) ⊎ (AsksShow (map string_bytes words.now)) ⊎ (result.rack ≡ rack) }
-    ensures unread { (AsksCheck (map string_bytes words.now)) ⊎ (AsksRun (map string_bytes words.now)) ⊎ (source.new ≡ source.old) }
+    ensures unread { (AsksCheck (map string_bytes words.now)) ⊎ (AsksRun (map string_bytes words.now)) ⊎ (AsksVerify (map string_bytes words.now)) ⊎ (source.new ≡ source.old) }
     ensures tells { (R.disk result.rack).tells ≡ (R.disk rack).tells }
     ensures later { R.faults rack ≤ R.faults result.rack }
     ensures early { is_before_files result.status ≡ true → result.rack ≡ rack }

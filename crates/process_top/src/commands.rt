@@ -5,6 +5,7 @@ ghost use Rattle.process_disk.specs.Images.{OthersAsBefore};
 ghost use Rattle.process_top.specs.Refused.{is_of_text, is_before_files};
 ghost use Rattle.process_top.specs.Commands.{IsWholeText, IsChecked, IsCheckAnswered, IsOnlyRun, IsOnlyRefused, IsRunOf, IsNotRun, IsRunAnswered};
 ghost use Rattle.process_top.specs.Reply.{IsRead, IsUnread};
+ghost use Rattle.process_top.specs.Verify.{IsNotGot};
 
 use crate::life::is_add_process;
 use crate::refusal::{Refusal, tell_refusal};
@@ -19,12 +20,12 @@ use std::alloc::Global;
 
 const MOST_INPUT: u32 = 1048576;
 
-// The whole text of the source.
-fn text_of<S: Source>(alloc: Global, source: &mut S) -> Result<Vec<u8>, Refusal>
+/// The whole text of the source.
+pub fn text_of<S: Source>(alloc: Global, source: &mut S) -> Result<Vec<u8>, Refusal>
     ensures text { IfOk result (λ text. IsWholeText
         (record { left = S.left source.old; faults = S.faults source.old })
         (record { left = S.left source.new; faults = S.faults source.new }) text.items) }
-    ensures refused { IfErr result (λ e. IsUnread e
+    ensures refused { IfErr result (λ e. IsNotGot e
         (record { left = S.left source.old; faults = S.faults source.old })
         (record { left = S.left source.new; faults = S.faults source.new })) }
 {

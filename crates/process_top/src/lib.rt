@@ -11,5 +11,6 @@ mod show;
 mod story;
 mod tell;
 mod verdicts;
+mod verify;
 
 pub use answers::{Finished, answer, only_reads, top};

@@ -82,6 +82,7 @@ pub written_asked : (c : Command) → asked (written c) ≡ Some c
 written_asked command.Check = plain_written (codes "check") command.Check
 written_asked command.Run = plain_written (codes "run") command.Run
 written_asked command.Show = plain_written (codes "show") command.Show
+written_asked command.Verify = plain_written (codes "verify") command.Verify
 
 -- an answer to words that ask for something is that, or memory is wanting
 pub answered : {X : Type 0} (x : X) (o : Option X) (r : Result X WordsError) → Answers o r → o ≡ Some x

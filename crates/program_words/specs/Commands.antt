@@ -18,6 +18,7 @@ abbrev pub asked_after : Name → List Text → Option Command
 asked_after name.Check rest = plain_asked (codes "check") command.Check rest
 asked_after name.Run rest = plain_asked (codes "run") command.Run rest
 asked_after name.Show rest = plain_asked (codes "show") command.Show rest
+asked_after name.Verify rest = plain_asked (codes "verify") command.Verify rest
 
 -- what words ask for, or nothing where the first names no command, or `clap` refuses the others
 abbrev pub asked : List Text → Option Command

@@ -9,6 +9,7 @@ abbrev pub written : Command → List Text
 written command.Check = codes "check" ∷ []
 written command.Run = codes "run" ∷ []
 written command.Show = codes "show" ∷ []
+written command.Verify = codes "verify" ∷ []
 
 -- the words give this number of workers: from 1 to 16, without a leading zero; no word is 1
 abbrev pub IsWorkersForm : ℕ → List Text → Type 0

@@ -10,4 +10,5 @@ abbrev pub named : Text → Option Name
 named word = if bytes_eq word (codes "check") then Some name.Check
     else (if bytes_eq word (codes "run") then Some name.Run
     else (if bytes_eq word (codes "show") then Some name.Show
-    else None))
+    else (if bytes_eq word (codes "verify") then Some name.Verify
+    else None)))

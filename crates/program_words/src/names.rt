@@ -8,6 +8,7 @@ pub(crate) enum Name {
     Check,
     Run,
     Show,
+    Verify,
 }
 
 /// The command that the word names, if it names one.
@@ -18,6 +19,7 @@ pub(crate) fn name_of(word: &str) -> Option<Name>
         "check" => Some(Name::Check),
         "run" => Some(Name::Run),
         "show" => Some(Name::Show),
+        "verify" => Some(Name::Verify),
         _ => None,
     }
 }

@@ -15,6 +15,7 @@ pub enum Command {
     Check,
     Run,
     Show,
+    Verify,
 }
 
 /// Reads the words after the program's name.
@@ -50,6 +51,10 @@ fn read_after(alloc: Global, name: Name, rest: &[String]) -> Result<Command, Wor
         Name::Show => {
             read_no_argument(alloc, "show", rest)?;
             Ok(Command::Show)
+        }
+        Name::Verify => {
+            read_no_argument(alloc, "verify", rest)?;
+            Ok(Command::Verify)
         }
     }
 }

@@ -20,6 +20,7 @@ fn words_are_read_as_commands(rt: HostRuntime) -> Result<(), Fail> {
         ("check", Ok(Command::Check)),
         ("run", Ok(Command::Run)),
         ("show", Ok(Command::Show)),
+        ("verify", Ok(Command::Verify)),
         ("check --", Ok(Command::Check)),
         ("", Err(WordsError::BadWords)),
         ("Check", Err(WordsError::BadWords)),

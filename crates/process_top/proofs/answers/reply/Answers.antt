@@ -3,6 +3,7 @@ use Rattle.std.specs.Prelude.{string_bytes}
 use Rattle.process_top.specs.Reply.{Files, Input}
 use Rattle.process_top.proofs.OnWay.{untouched}
 use Rattle.process_top.proofs.Replies.{check_answers, run_answers, show_answers, bad_words_answer, no_words_answer}
+use Rattle.process_top.proofs.Verifying.{verify_answers}
 use Rattle.process_top.proofs.answers.reply.Goals as goal
 
 pub returns-in-Ok-Check-clause-answered : goal.returns-in-Ok-Check-clause-answered
@@ -15,6 +16,10 @@ returns-in-Ok-Run-clause-answered g c = run_answers (map string_bytes c.args.wor
 pub returns-in-Ok-Show-clause-answered : goal.returns-in-Ok-Show-clause-answered
 returns-in-Ok-Show-clause-answered g c =
     show_answers (map string_bytes c.args.words.now) _ _ _ _ _ _ _ (search rules) c.show.ensures.all c.show.ensures.answered
+
+pub returns-in-Ok-Verify-clause-answered : goal.returns-in-Ok-Verify-clause-answered
+returns-in-Ok-Verify-clause-answered g c =
+    verify_answers (map string_bytes c.args.words.now) _ _ _ _ _ _ _ (search rules) (untouched (g.R.Rack.disk c.args.rack.now) (g.met.R.Rack.honest c.args.rack.now)) c.verify.ensures
 
 pub returns-in-Err-BadWords-clause-answered : goal.returns-in-Err-BadWords-clause-answered
 returns-in-Err-BadWords-clause-answered g c =
