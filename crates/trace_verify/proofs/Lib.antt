@@ -4,6 +4,7 @@ pub mod Naming
 pub mod NumbersKept
 pub mod StepsApplied
 pub mod Tables
+pub mod FirstBadLine
 pub mod Outcomes
 pub mod PrintedEntries
 pub mod Meaning

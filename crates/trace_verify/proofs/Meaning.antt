@@ -12,6 +12,7 @@ use Rattle.trace_verify.specs.Verdicts.{Outcome, last_list, refused, outcome, di
 use Rattle.trace_verify.specs.Laws.{printed, Means, VerdictsMean, AcceptanceIsExact, NumbersAreNames}
 use Rattle.trace_verify.proofs.Outcomes.{came-to, comes-to, refused-at}
 use Rattle.trace_verify.proofs.PrintedEntries.{named-read, named-number, none-differs, itself-same, differs-at}
+use Rattle.trace_verify.proofs.FirstBadLine.{bad-line}
 use Rattle.trace_verify.proofs.StepsApplied.{each-kept}
 use Rattle.trace_verify.proofs.Tables.{schedule-numbered}
 
@@ -76,7 +77,7 @@ outcome-means text r is (refused k) at =
 
 reading-means : (text : List ℕ) (o : Reading) → reading text ≡ o → Means text (of_reading o)
 reading-means text (whole r) is = outcome-means text r is (outcome r) refl
-reading-means text (bad_line n) is = is
+reading-means text (bad_line n) is = bad-line text n is
 
 pub verdicts_mean : VerdictsMean
 verdicts_mean text = reading-means text (reading text) refl

@@ -10,7 +10,8 @@ more_lines : (r : Report) (n : ℕ) (line : List ℕ) (lines : List (List ℕ)) 
 more_lines r n line [] some = absurd (omega arith)
 more_lines r n line (next ∷ lines) some = refl
 
-some_parts : (b : ℕ) (text : List ℕ) → 1 ≤ length (parts b text)
+-- a text has one part at least
+pub some_parts : (b : ℕ) (text : List ℕ) → 1 ≤ length (parts b text)
 some_parts b text = let long = length-slice_split (λ c. nat_eq c b) text in omega (arith, long)
 
 -- a line that ends with a line feed is taken, or it is the first bad one

@@ -1,12 +1,14 @@
 -- What the verdicts mean, as laws.
-use Rattle.std.specs.Prelude.{◌≡◌, ◌<◌, ◌-◌, ◌+◌, ℕ, List, [], ◌∷◌, ◌++◌, length, map, take, slice_index_or, Some, None, IsTrue}
+use Rattle.std.specs.Prelude.{◌≡◌, ◌<◌, ◌-◌, ◌+◌, ℕ, List, [], ◌∷◌, ◌++◌, length, map, take, slice_index_or, Option, Some, None, IsTrue}
 use Rattle.process_tree.specs.declared.entry.Entry.{Entry}
 use Rattle.schedule_model.specs.declared.trace_step.TraceStep.{TraceStep}
-use Rattle.schedule_model.specs.Reduction.{applied, applied_all, not_serial, is_serial, AreReduced}
+use Rattle.schedule_model.specs.Reduction.{and_then, applied, applied_all, not_serial, is_serial, AreReduced}
 use Rattle.trace_verify.specs.declared.verdict.Verified.{Verified}
 use Rattle.trace_verify.specs.declared.verdict.Verified.TheVariants.{Accepted, BadText, StepRefused, NotSerial, SerialDiffers, NoMemory}
+use Rattle.trace_verify.specs.declared.section.Section.TheVariants.{Serial}
+use Rattle.trace_verify.specs.Lines.{parts}
 use Rattle.trace_verify.specs.Forms.{NamedAct}
-use Rattle.trace_verify.specs.Reports.{Report, whole, bad_line, reading}
+use Rattle.trace_verify.specs.Reports.{Report, unread, after_line, whole, reading}
 use Rattle.trace_verify.specs.Names.{is_among, number_among, step_names, op_names, schedule, conflicts_of}
 use Rattle.trace_verify.specs.Verdicts.{verdict}
 
@@ -30,6 +32,28 @@ pub record IsAccepted (text : List ℕ) : Type 0 where
   pub reduced : AreReduced (conflicts_of report) (schedule report.acts) list
   pub serial : IsTrue (is_serial list)
   pub is_printed : printed report list ≡ report.serial
+
+-- what is read of a report by these lines, if each is what its place wants
+abbrev pub read_lines : Report → List (List ℕ) → Option Report
+read_lines r [] = Some r
+read_lines r (line ∷ lines) = and_then (after_line r line) (λ s. read_lines s lines)
+
+-- a line isn't what its place wants, these standing behind it; the last of a text stands behind its last line feed, where the text
+-- may end in its last section alone
+abbrev pub IsBad : Report → List ℕ → List (List ℕ) → Type 0
+IsBad r line [] = ¬ ((r.section ≡ Serial) × (line ≡ []))
+IsBad r line (next ∷ more) = after_line r line ≡ None
+
+-- line n of a text is the first that isn't what its place wants
+pub record IsBadLine (text : List ℕ) (n : ℕ) : Type 0 where
+  pub before : List (List ℕ)
+  pub line : List ℕ
+  pub behind : List (List ℕ)
+  pub lines : parts 10 text ≡ before ++ line ∷ behind
+  pub counted : n ≡ length before + 1
+  pub report : Report
+  pub read : read_lines unread before ≡ Some report
+  pub bad : IsBad report line behind
 
 -- step k of a report is the first that doesn't apply
 pub record IsRefused (text : List ℕ) (k : ℕ) : Type 0 where
@@ -66,7 +90,7 @@ pub record IsOther (text : List ℕ) (n : ℕ) : Type 0 where
 -- what each verdict on a text means
 abbrev pub Means : List ℕ → Verified → Type 0
 Means text Accepted = IsAccepted text
-Means text (BadText n) = reading text ≡ bad_line n
+Means text (BadText n) = IsBadLine text n
 Means text (StepRefused k) = IsRefused text k
 Means text (NotSerial n) = IsNotSerial text n
 Means text (SerialDiffers n) = IsOther text n
