@@ -1,14 +1,12 @@
 -- Whoever has begun to complete has started.
-use Rattle.std.proofs.Common.{◌≡◌, ◌⊎◌, inl, inr, ⊎_elim, ℕ, ◌≤◌, zero, suc, Bool, true, false, not, eqb, ◌&&◌, ◌||◌, List, [], ◌∷◌, ◌++◌, filter, length, find, Option, Some, None, is_some, is_none, if◌then◌else◌, sym, refl, ap, subst, ◌∙◌}
+use Rattle.std.proofs.Common.{◌≡◌, ◌⊎◌, inl, inr, ⊎_elim, ℕ, ◌≤◌, zero, suc, Bool, true, false, not, eqb, ◌&&◌, ◌||◌, List, [], ◌∷◌, length, Option, Some, None, is_some, is_none, if◌then◌else◌, sym, refl, ap, ◌∙◌}
 use Rattle.std.specs.Bool.{IsTrue}
 use Rattle.std.specs.List.{list_any}
 use Rattle.std.specs.Option.{option_map}
-use Rattle.std.proofs.lemmas.Option.{none-some}
-use Rattle.std.proofs.lemmas.Bool.{and_parts, eqb-true, false≢true, or_cases}
-use Rattle.process_tree.specs.Order.{Each}
+use Rattle.std.proofs.lemmas.Bool.{and_parts, eqb-true, false≢true}
 use Rattle.schedule_model.specs.Conflict.{ConflictRelation}
 use Rattle.schedule_model.specs.Course.{Course}
-use Rattle.schedule_model.specs.Graph.{Arrow, reached, spread_by}
+use Rattle.schedule_model.specs.Graph.{Arrow, spread_by}
 use Rattle.schedule_model.specs.Histories.{active, ends, is_active, is_in, starts}
 use Rattle.schedule_model.specs.Holdings.{holders}
 use Rattle.schedule_model.proofs.Active.{is_active-is_in, is_in-filter}
@@ -19,10 +17,10 @@ use Rattle.machine_model.specs.declared.began.Cause.TheVariants.{Refused, Abort 
 use Rattle.machine_model.specs.Cascade.{drags}
 use Rattle.machine_model.specs.CauseLaws.{HasCause, IsDragged, after_refusal}
 use Rattle.machine_model.specs.Progress.{way_on}
-use Rattle.machine_model.specs.Moment.{Beginning, Moment, Piece, beginning_of, begins, has_begun, noted, opening_moment}
-use Rattle.machine_model.specs.Pieces.{hands, piece_of}
+use Rattle.machine_model.specs.Moment.{Beginning, Moment, Piece, beginning_of, begins, has_begun, noted}
+use Rattle.machine_model.specs.Pieces.{hands}
 use Rattle.machine_model.specs.State.{holdings, is_exhausted, pending_of, progress, victim_of}
-use Rattle.machine_model.specs.Advance.{Machine, advance, cascade_of}
+use Rattle.machine_model.specs.Advance.{Machine, advance}
 use Rattle.machine_model.specs.Runs.{is_run, is_victim, may_be_kept, now}
 use Rattle.machine_model.proofs.Causes.{beginnings_have_causes}
 use Rattle.machine_model.proofs.CoursesRuns.{AreStarted, advance-started, starts-stay}
@@ -32,7 +30,6 @@ use Rattle.machine_model.proofs.RunInduction.{run-keeps}
 use Rattle.machine_model.proofs.Snoc.{begins-still}
 use Rattle.machine_model.proofs.TidyMoments.{Each-find}
 use Rattle.machine_model.proofs.Victims.{victim-is}
-use Rattle.machine_model.specs.declared.began.Began.{Began}
 use Rattle.process_core.specs.Cores.{CoreState, IsCore, began_in, machine_of, moment_of, relation}
 use Rattle.process_core.proofs.SeatFacts.{has_plan}
 

@@ -1,8 +1,7 @@
 -- At an opening each entry of the net that is of an active process may come into the tables.
-use Rattle.std.proofs.Common.{◌≡◌, inl, inr, ℕ, zero, suc, ◌+◌, ◌-◌, ◌≤◌, ◌<◌, Bool, true, false, not, eqb, ltb, ◌&&◌, ◌||◌, if◌then◌else◌, List, [], ◌∷◌, ◌++◌, length, map, filter, take, get_or, slice_index_or, None, sym, refl, ap, subst, ◌∙◌, append-nil, arith}
+use Rattle.std.proofs.Common.{◌≡◌, inl, inr, ℕ, zero, suc, ◌+◌, ◌-◌, ◌≤◌, ◌<◌, Bool, true, false, not, eqb, ltb, ◌||◌, if◌then◌else◌, List, [], ◌∷◌, ◌++◌, length, map, filter, slice_index_or, None, sym, refl, ap, ◌∙◌, append-nil, arith}
 use Rattle.std.specs.Bool.{IsTrue}
 use Rattle.std.specs.List.{Contains, list_all}
-use Rattle.std.proofs.Math.Seq.{take-suc}
 use Rattle.std.proofs.lemmas.List.{length-map}
 use Rattle.std.proofs.lemmas.List.Elements.{filter-append}
 use Rattle.std.proofs.lemmas.Bool.{and_from, and_parts, eq-eqb, eqb-true, false≢true, lt-ltb, ltb-true, ne_eqb, or_from, or_left, or_right}
@@ -11,14 +10,13 @@ use Rattle.process_tree.specs.declared.plan.Plan.{Plan}
 use Rattle.process_tree.specs.declared.step.Step.{Step}
 use Rattle.process_tree.specs.Blocks.{outline}
 use Rattle.process_tree.specs.Conflicts.{Table, do_conflict, operations_in}
-use Rattle.process_tree.specs.Making.{tree_fault}
 use Rattle.process_tree.specs.Order.{Each}
 use Rattle.process_tree.specs.Recovery.{forward}
-use Rattle.process_tree.specs.Shape.{fixed_len, shape_of}
+use Rattle.process_tree.specs.Shape.{fixed_len}
 use Rattle.schedule_model.specs.declared.event.Event.{Event}
 use Rattle.schedule_model.specs.Conflict.{no_conflict}
 use Rattle.schedule_model.specs.Course.{Course, course, course_of, courses_of, shape}
-use Rattle.schedule_model.specs.Histories.{active, doing, ends, is_active, is_in, net, of_process, starts, steps_of}
+use Rattle.schedule_model.specs.Histories.{active, doing, ends, is_active, is_in, of_process, starts, steps_of}
 use Rattle.schedule_model.specs.Laws.{IsGoodPlan}
 use Rattle.schedule_model.specs.Legal.{is_legal}
 use Rattle.schedule_model.proofs.Active.{is_active-is_in}
@@ -35,9 +33,9 @@ use Rattle.hold_tables.specs.Changes.{can_run, is_new_step, undoes_last}
 use Rattle.process_core.specs.Cores.{IsCore, opened_on}
 use Rattle.process_core.specs.OpenTables.{pairs_of, row_at, stood, tables_at}
 use Rattle.process_core.proofs.LastSteps.{known_op}
-use Rattle.process_core.proofs.NetEntries.{ComesBehind, branch_is_net, net_comes, step_is_new, step_is_one}
+use Rattle.process_core.proofs.NetEntries.{ComesBehind, branch_is_net, step_is_new, step_is_one}
 use Rattle.process_core.proofs.StartedProcesses.{course_at}
-use Rattle.process_core.proofs.StoodRows.{Apart, is_open_at, same_rows, stood_is}
+use Rattle.process_core.proofs.StoodRows.{Apart, same_rows, stood_is}
 
 -- rising numbers differ
 pub rising_apart : (xs : List ℕ) → Rising xs → Apart xs

@@ -1,25 +1,21 @@
 -- Of the net of a history in own order: each entry is a step that goes on from those of its process before it.
-use Rattle.std.proofs.Common.{◌≡◌, ◌⊎◌, inl, inr, ℕ, zero, suc, ◌+◌, ◌-◌, ◌≤◌, ◌<◌, Bool, true, false, not, eqb, if◌then◌else◌, ◌||◌, List, [], ◌∷◌, ◌++◌, length, map, take, drop, get_or, slice_index_or, Option, Some, None, sym, refl, ap, subst, ◌∙◌, arith}
+use Rattle.std.proofs.Common.{◌≡◌, ℕ, suc, ◌<◌, true, false, eqb, if◌then◌else◌, List, [], ◌∷◌, ◌++◌, length, take, drop, get_or, sym, refl, ap, subst, ◌∙◌, arith}
 use Rattle.std.specs.Bool.{IsTrue}
-use Rattle.std.specs.List.{All, Contains}
-use Rattle.std.proofs.Math.Seq.{drop-cons, take-suc}
-use Rattle.std.proofs.lemmas.List.{length-map, map-append, take-append-drop}
+use Rattle.std.proofs.Math.Seq.{drop-cons}
+use Rattle.std.proofs.lemmas.List.{map-append, take-append-drop}
 use Rattle.std.proofs.lemmas.List.Elements.{All-contains}
 use Rattle.std.proofs.lemmas.Bool.{eq-eqb, ne_eqb, or_from}
 use Rattle.process_tree.specs.declared.entry.Entry.{Entry}
 use Rattle.process_tree.specs.declared.plan.Plan.{Plan}
-use Rattle.process_tree.specs.declared.step.Step.{Step}
-use Rattle.process_tree.specs.Blocks.{outline}
-use Rattle.process_tree.specs.Making.{tree_fault}
 use Rattle.process_tree.specs.Order.{Each, IsRising}
-use Rattle.process_tree.specs.Shape.{Shape, branch_to, goes_on_to, shape_of}
+use Rattle.process_tree.specs.Shape.{Shape, branch_to, goes_on_to}
 use Rattle.process_tree.proofs.InTurn.{goes_within}
 use Rattle.process_tree.proofs.Onward.{branch_from, goes_along, onward_above}
 use Rattle.process_tree.proofs.Branches.{Each-among}
 use Rattle.process_tree.proofs.TreeLaws.{paths_lie_in_order}
 use Rattle.schedule_model.specs.declared.event.Event.{Event}
 use Rattle.schedule_model.specs.Conflict.{no_conflict}
-use Rattle.schedule_model.specs.Course.{Course, course, course_of, courses_of, op_of, shape}
+use Rattle.schedule_model.specs.Course.{Course, courses_of, op_of, shape}
 use Rattle.schedule_model.specs.Histories.{acts, is_in, net, net_of, net_steps, of_process, steps_of}
 use Rattle.schedule_model.specs.Laws.{AreGood}
 use Rattle.schedule_model.specs.Legal.{is_legal}

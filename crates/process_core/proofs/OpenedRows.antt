@@ -1,10 +1,9 @@
 -- A row for each active process at an opening.
-use Rattle.std.proofs.Common.{◌≡◌, ℕ, zero, suc, ◌+◌, ◌-◌, ◌≤◌, ◌<◌, Bool, true, false, not, eqb, leb, ◌&&◌, ◌||◌, if◌then◌else◌, List, [], ◌∷◌, ◌++◌, length, map, filter, slice_index_or, sym, refl, ap, subst, ◌∙◌, append-nil, length-append, arith}
+use Rattle.std.proofs.Common.{◌≡◌, ℕ, zero, suc, ◌+◌, ◌≤◌, ◌<◌, Bool, true, false, not, eqb, ◌&&◌, ◌||◌, if◌then◌else◌, List, [], ◌∷◌, ◌++◌, length, map, filter, slice_index_or, sym, refl, ap, subst, ◌∙◌, append-nil, length-append, arith}
 use Rattle.std.specs.Bool.{IsTrue}
-use Rattle.std.specs.List.{Contains}
 use Rattle.std.proofs.lemmas.List.{length-map, map-append}
 use Rattle.std.proofs.lemmas.List.Elements.{filter-append}
-use Rattle.std.proofs.lemmas.Bool.{and_parts, and_left, eq-eqb, eqb-true, false≢true, ne_eqb, or_from}
+use Rattle.std.proofs.lemmas.Bool.{and_parts, eqb-true, false≢true, ne_eqb, or_from}
 use Rattle.process_tree.specs.declared.plan.Plan.{Plan}
 use Rattle.process_tree.specs.declared.step.Step.{Step}
 use Rattle.process_tree.specs.Blocks.{numbers_from, outline}
@@ -13,7 +12,7 @@ use Rattle.process_tree.specs.Order.{Each}
 use Rattle.schedule_model.specs.declared.event.Event.{Event}
 use Rattle.schedule_model.specs.declared.event.Event.TheVariants.{Start, Act, End}
 use Rattle.schedule_model.specs.Conflict.{no_conflict}
-use Rattle.schedule_model.specs.Course.{Course, course, course_of, courses_of, shape}
+use Rattle.schedule_model.specs.Course.{Course, course_of, courses_of, shape}
 use Rattle.schedule_model.specs.Histories.{active, ends, is_active, is_in, starts}
 use Rattle.schedule_model.specs.Legal.{is_clear, is_legal, may_come}
 use Rattle.schedule_model.proofs.Active.{is_in-filter}

@@ -1,10 +1,9 @@
 -- What each active process has to undo at an opening is pending.
-use Rattle.std.proofs.Common.{◌≡◌, ◌⊎◌, inl, inr, ℕ, zero, suc, ◌+◌, ◌-◌, ◌≤◌, ◌<◌, Bool, true, false, not, eqb, leb, ◌||◌, if◌then◌else◌, List, [], ◌∷◌, ◌++◌, length, map, filter, drop, slice_index_or, Option, Some, None, sym, refl, ap, subst, ◌∙◌, append-nil, arith}
-use Rattle.std.specs.Bool.{IsTrue}
+use Rattle.std.proofs.Common.{◌≡◌, ◌⊎◌, inl, inr, ℕ, ◌+◌, ◌-◌, ◌≤◌, ◌<◌, Bool, true, false, not, eqb, leb, ◌||◌, if◌then◌else◌, List, [], ◌∷◌, length, map, filter, slice_index_or, Some, None, sym, refl, ap, ◌∙◌, append-nil, arith}
 use Rattle.std.specs.Option.{option_map}
 use Rattle.std.proofs.lemmas.Option.{none-some, same_Some}
 use Rattle.std.proofs.lemmas.List.{length-drop, length-map}
-use Rattle.std.proofs.lemmas.Bool.{and_parts, cases_lt, eq-eqb, eqb-true, eqb-false, false≢true, leb-false, leb-true, le-leb, lt-leb, or_left, or_right}
+use Rattle.std.proofs.lemmas.Bool.{and_parts, cases_lt, eq-eqb, eqb-true, eqb-false, false≢true, leb-true, le-leb, or_left, or_right}
 use Rattle.process_tree.specs.declared.entry.Entry.{Entry}
 use Rattle.process_tree.specs.declared.plan.Plan.{Plan}
 use Rattle.process_tree.specs.Conflicts.{Table, do_conflict}
@@ -14,20 +13,19 @@ use Rattle.schedule_model.specs.Conflict.{no_conflict}
 use Rattle.process_tree.specs.Blocks.{numbers_from}
 use Rattle.schedule_model.specs.Course.{Course, course, course_of, courses_of, shape}
 use Rattle.schedule_model.specs.Histories.{active, ends, is_active, is_in, net, net_of, net_steps, starts}
-use Rattle.schedule_model.specs.Holdings.{holders}
 use Rattle.schedule_model.specs.Recovery.{owed}
 use Rattle.schedule_model.proofs.Active.{is_active-is_in}
 use Rattle.schedule_model.proofs.NoConflict.{legal-from_own_order, own_order-legal}
 use Rattle.schedule_model.proofs.Prefixes.{legal-numbered}
 use Rattle.schedule_model.proofs.Starts.{active-rising}
 use Rattle.machine_model.specs.Moment.{Moment, opening_moment}
-use Rattle.machine_model.specs.Progress.{pending_steps, staying}
+use Rattle.machine_model.specs.Progress.{staying}
 use Rattle.machine_model.specs.ProcessState.{pending_count}
-use Rattle.machine_model.specs.State.{hold_of, holdings, pending_of, process_state, progress}
+use Rattle.machine_model.specs.State.{hold_of, process_state, progress}
 use Rattle.machine_model.proofs.OpenHoldings.{holders-active}
 use Rattle.instance_state.specs.Instances.{InstanceState}
-use Rattle.hold_tables.specs.Changes.{change_numbered, changed, with_pending}
-use Rattle.hold_tables.specs.Tables.{OpenProcess, Tables, has_number, is_open}
+use Rattle.hold_tables.specs.Changes.{changed, with_pending}
+use Rattle.hold_tables.specs.Tables.{OpenProcess, has_number, is_open}
 use Rattle.process_core.specs.Cores.{IsCore, opened_on}
 use Rattle.process_core.specs.OpenTables.{pairs_of, row_at, row_of, row_up_to, tables_at, tables_of, tables_up_to}
 use Rattle.process_core.specs.Seats.{SeatState, instance_of, seat_of, seats_of}

@@ -1,5 +1,5 @@
 -- In a history in own order the acts of each process alone are in own order, and it opens as they say.
-use Rattle.std.proofs.Common.{◌≡◌, Bool, true, false, not, cond, eqb, ◌&&◌, ◌||◌, ℕ, List, [], ◌∷◌, ◌++◌, length, map, filter, drop, if◌then◌else◌, sym, refl, ap, subst, ◌∙◌, append-nil, append_assoc, ltb}
+use Rattle.std.proofs.Common.{◌≡◌, Bool, true, false, not, cond, eqb, ◌&&◌, ◌||◌, ℕ, List, [], ◌∷◌, ◌++◌, filter, drop, sym, refl, ap, ◌∙◌, append-nil, append_assoc, ltb}
 use Rattle.std.specs.Bool.{IsTrue}
 use Rattle.std.specs.List.{list_any, list_all}
 use Rattle.std.proofs.lemmas.Bool.{and_parts, and_from, eqb-true}
@@ -9,15 +9,15 @@ use Rattle.process_tree.specs.Shape.{Shape, fixed_len, goes_on_to}
 use Rattle.schedule_model.specs.declared.event.Event.{Event}
 use Rattle.schedule_model.specs.declared.event.Event.TheVariants.{Start, Act, End}
 use Rattle.schedule_model.specs.Course.{Course, course, courses_of, op_of, shape}
-use Rattle.schedule_model.specs.Histories.{acts, done_steps, is_active, net, net_acts, net_of, net_steps, of_process, same_step, steps_of, takes_back}
+use Rattle.schedule_model.specs.Histories.{acts, done_steps, is_active, net_acts, net_steps, of_process, steps_of, takes_back}
 use Rattle.schedule_model.specs.OwnOrder.{goes_on, is_in_own_order, is_of_last, keeps_order}
 use Rattle.schedule_model.specs.Recovery.{backward_entries}
 use Rattle.schedule_model.proofs.Appends.{acts-append}
 use Rattle.schedule_model.proofs.Induction.{by_own_order}
 use Rattle.schedule_model.proofs.Snoc.{of_process-append}
 use Rattle.machine_model.specs.Moment.{opening_moment}
-use Rattle.machine_model.specs.Progress.{Progress, above}
-use Rattle.machine_model.specs.ProcessState.{ProcessState, opening_state}
+use Rattle.machine_model.specs.Progress.{above}
+use Rattle.machine_model.specs.ProcessState.{opening_state}
 use Rattle.machine_model.specs.State.{process_state}
 use Rattle.machine_model.proofs.RunningNext.{flipped}
 use Rattle.instance_state.specs.OwnActs.{are_in_own_order, each_follows, goes_further, may_follow, steps_done}

@@ -4,7 +4,7 @@ use Rattle.std.proofs.lemmas.Bool.{false≢true}
 use Rattle.process_tree.specs.declared.entry.Entry.{Entry}
 use Rattle.schedule_model.specs.Histories.{of_process}
 use Rattle.hold_tables.specs.Tables.{OpenProcess, Tables, has_number, is_open, kept_of, numbered}
-use Rattle.hold_tables.specs.Changes.{all_fixed, change_numbered, changed, run, took_effect, with_fixed, with_running}
+use Rattle.hold_tables.specs.Changes.{all_fixed, change_numbered, run, took_effect, with_fixed, with_running}
 use Rattle.hold_tables.proofs.Tidy.{KeepsPlan, numbers_stay}
 
 -- a change of a row doesn't change who is open

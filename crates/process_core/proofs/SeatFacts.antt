@@ -1,20 +1,15 @@
 -- What the seat of a process says is what the machine says of it.
-use Rattle.std.proofs.Common.{◌≡◌, inl, inr, ℕ, zero, suc, ◌+◌, ◌-◌, ◌≤◌, ◌<◌, Bool, true, false, eqb, if◌then◌else◌, ◌||◌, List, [], ◌∷◌, length, filter, find, map, slice_index_or, Option, Some, None, is_some, sym, refl, ap, subst, ◌∙◌, arith}
-use Rattle.std.specs.Bool.{IsTrue}
+use Rattle.std.proofs.Common.{◌≡◌, ℕ, zero, suc, ◌+◌, ◌-◌, ◌≤◌, ◌<◌, Bool, true, false, eqb, if◌then◌else◌, ◌||◌, List, [], ◌∷◌, length, find, map, slice_index_or, Option, Some, None, is_some, sym, refl, ap, ◌∙◌, arith}
 use Rattle.std.specs.List.{list_any}
 use Rattle.std.specs.Option.{option_map}
 use Rattle.std.proofs.lemmas.List.{length-map}
 use Rattle.std.proofs.lemmas.Option.{none-some, same_Some}
 use Rattle.std.proofs.lemmas.Bool.{eqb-true, eq-eqb, false≢true, or_left, or_right}
 use Rattle.process_tree.specs.Blocks.{numbers_from}
-use Rattle.process_tree.specs.Order.{Each}
-use Rattle.process_tree.specs.Conflicts.{do_conflict}
 use Rattle.schedule_model.specs.Conflict.{no_conflict}
-use Rattle.schedule_model.specs.Course.{Course, course_of, courses_of}
+use Rattle.schedule_model.specs.Course.{Course, course_of}
 use Rattle.schedule_model.specs.Histories.{is_in, starts}
-use Rattle.schedule_model.specs.Legal.{is_legal}
 use Rattle.schedule_model.proofs.Prefixes.{legal-numbered}
-use Rattle.machine_model.specs.declared.began.Began.{Began}
 use Rattle.machine_model.specs.declared.replies.PieceState.{PieceState}
 use Rattle.machine_model.specs.declared.replies.PieceState.TheVariants.{Out, Dropped, Over}
 use Rattle.machine_model.specs.Moment.{Beginning, Lost, Moment, Piece, beginning_of}

@@ -1,6 +1,5 @@
 -- What holds of an entry at its place of the net, as the code finds it.
-use Rattle.std.proofs.Common.{◌≡◌, ℕ, ◌+◌, ◌-◌, ◌≤◌, ◌<◌, suc, Bool, true, false, List, [], ◌∷◌, ◌++◌, length, take, get_or, slice_index_or, None, sym, refl, ap, subst, ◌∙◌, add-one, arith}
-use Rattle.std.specs.Bool.{IsTrue}
+use Rattle.std.proofs.Common.{◌≡◌, ℕ, ◌+◌, ◌-◌, ◌≤◌, ◌<◌, true, false, List, [], ◌∷◌, ◌++◌, length, take, get_or, slice_index_or, None, sym, ap, subst, ◌∙◌, add-one}
 use Rattle.std.proofs.Math.Seq.{take-suc}
 use Rattle.process_tree.specs.declared.entry.Entry.{Entry}
 use Rattle.process_tree.specs.declared.plan.Plan.{Plan}
@@ -10,7 +9,7 @@ use Rattle.process_tree.specs.Making.{tree_fault}
 use Rattle.process_tree.specs.Order.{Each}
 use Rattle.schedule_model.specs.declared.event.Event.{Event}
 use Rattle.schedule_model.specs.Course.{courses_of}
-use Rattle.schedule_model.specs.Histories.{active, is_active, is_in, net}
+use Rattle.schedule_model.specs.Histories.{active, is_active, net}
 use Rattle.schedule_model.proofs.Active.{is_active-is_in}
 use Rattle.schedule_model.proofs.NoConflict.{legal-from_own_order, own_order-legal}
 use Rattle.hold_tables.specs.Tables.{Tables, is_open, kept_of}

@@ -1,17 +1,15 @@
 -- With one entry more that stands, the tables are those of the longer list.
-use Rattle.std.proofs.Common.{◌≡◌, ℕ, ◌+◌, ◌≤◌, Bool, true, false, eqb, if◌then◌else◌, not, ◌||◌, List, [], ◌∷◌, ◌++◌, length, map, filter, take, slice_index_or, Option, Some, None, sym, refl, ap, subst, ◌∙◌, append-nil, length-append, arith}
-use Rattle.std.specs.Bool.{IsTrue}
+use Rattle.std.proofs.Common.{◌≡◌, ℕ, ◌+◌, ◌≤◌, Bool, true, false, eqb, if◌then◌else◌, ◌||◌, List, [], ◌∷◌, ◌++◌, length, map, filter, take, slice_index_or, Some, None, sym, refl, ap, ◌∙◌, append-nil, length-append, arith}
 use Rattle.std.proofs.lemmas.Bool.{eqb-true, eq-eqb, ne_eqb, or_left, or_right, false≢true}
 use Rattle.std.proofs.lemmas.List.{length-map, map-append, take-append-le}
 use Rattle.std.proofs.lemmas.List.Elements.{filter-append}
 use Rattle.process_tree.specs.declared.entry.Entry.{Entry}
 use Rattle.process_tree.specs.declared.plan.Plan.{Plan}
 use Rattle.process_tree.specs.Conflicts.{Table}
-use Rattle.process_tree.specs.Order.{Each}
 use Rattle.process_tree.specs.Recovery.{forward, last_after}
-use Rattle.process_tree.specs.Shape.{Shape, branch_to, commits, fixed_len, goes_on_to, kind_of, shape_of}
+use Rattle.process_tree.specs.Shape.{Shape, branch_to, commits, fixed_len, kind_of, shape_of}
 use Rattle.process_tree.proofs.Fixed.{fixed_more}
-use Rattle.schedule_model.specs.Course.{Course, course, course_of, op_of, shape}
+use Rattle.schedule_model.specs.Course.{Course, course, course_of, shape}
 use Rattle.schedule_model.specs.Histories.{doing, is_in, of_process, steps_of}
 use Rattle.schedule_model.proofs.Recoveries.{fixed_len-most}
 use Rattle.schedule_model.proofs.Snoc.{of_process-append}
@@ -21,9 +19,8 @@ use Rattle.machine_model.proofs.OpenHoldings.{filter-kept}
 use Rattle.machine_model.proofs.TidyMoments.{every}
 use Rattle.hold_tables.specs.Tables.{OpenProcess, Tables, has_number, is_open, kept_of}
 use Rattle.hold_tables.specs.Changes.{all_fixed, change_numbered, changed, net_after, run, took_effect, with_fixed, with_reserved, with_running, without_last}
-use Rattle.hold_tables.proofs.Tidy.{KeepsPlan}
 use Rattle.process_core.specs.OpenTables.{pairs_behind, pairs_of, row_at, step_pair, stood, tables_at}
-use Rattle.process_core.proofs.RowChanges.{run_row, running_keeps}
+use Rattle.process_core.proofs.RowChanges.{run_row}
 
 -- no number stands twice
 abbrev pub Apart : List ℕ → Type 0

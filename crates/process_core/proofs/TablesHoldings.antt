@@ -1,18 +1,16 @@
 -- The tables stand for what the active processes hold.
-use Rattle.std.proofs.Common.{◌≡◌, ◌⊎◌, inl, inr, ℕ, ◌-◌, ◌≤◌, ◌<◌, Bool, true, false, eqb, List, [], ◌∷◌, ◌++◌, length, map, filter, drop, Option, Some, None, sym, refl, ap, subst, ◌∙◌, arith}
-use Rattle.std.specs.Bool.{IsTrue}
+use Rattle.std.proofs.Common.{◌≡◌, ◌⊎◌, inl, inr, ℕ, ◌-◌, ◌≤◌, ◌<◌, Bool, true, false, eqb, List, [], ◌∷◌, ◌++◌, length, map, drop, Option, Some, None, sym, refl, ap, subst, ◌∙◌, arith}
 use Rattle.std.proofs.lemmas.Bool.{cases_lt, eqb-true, false≢true}
 use Rattle.std.proofs.lemmas.List.{length-drop}
 use Rattle.process_tree.specs.declared.entry.Entry.{Entry}
-use Rattle.process_tree.specs.Conflicts.{Table}
 use Rattle.process_tree.specs.Order.{Each}
 use Rattle.process_tree.specs.Shape.{fixed_len}
 use Rattle.process_tree.specs.Recovery.{StepClass, reserved, committing, undoable, forward}
 use Rattle.process_tree.proofs.Every.{Each-append, Each-weaker}
 use Rattle.schedule_model.specs.Course.{Course, shape}
-use Rattle.schedule_model.specs.Histories.{active, doing, is_active, is_in, net, net_of, net_steps, of_process}
-use Rattle.schedule_model.specs.Holdings.{Hold, active_net, holders}
-use Rattle.schedule_model.specs.Recovery.{backward_entries, owed, owed_after}
+use Rattle.schedule_model.specs.Histories.{active, doing, is_in, net, net_of, net_steps, of_process}
+use Rattle.schedule_model.specs.Holdings.{active_net, holders}
+use Rattle.schedule_model.specs.Recovery.{owed, owed_after}
 use Rattle.machine_model.specs.Moment.{Moment, Piece}
 use Rattle.machine_model.specs.Pieces.{running_of}
 use Rattle.machine_model.specs.Progress.{staying}
@@ -23,11 +21,10 @@ use Rattle.schedule_model.specs.Legal.{class_in}
 use Rattle.machine_model.proofs.CallsKept.{find-passes}
 use Rattle.machine_model.proofs.OpenCascade.{each_listed}
 use Rattle.machine_model.proofs.TidyMoments.{every}
-use Rattle.machine_model.specs.Laws.{open_only}
 use Rattle.machine_model.proofs.OpenHoldings.{filter-kept, holders-active}
 use Rattle.machine_model.proofs.WaysOn.{drop_past}
-use Rattle.hold_tables.specs.Tables.{OpenProcess, hold_in, holdings_of, lasts, reserved_entry}
-use Rattle.process_core.specs.OpenTables.{TablesStandForHoldings, pairs_of, row_of, tables_of}
+use Rattle.hold_tables.specs.Tables.{hold_in, lasts, reserved_entry}
+use Rattle.process_core.specs.OpenTables.{TablesStandForHoldings, pairs_of, row_of}
 
 -- what is left behind a place is as many of the last
 lasts_drop : {X : Type 0} (n : ℕ) (xs : List X) → lasts (length (drop n xs)) xs ≡ drop n xs

@@ -10,7 +10,7 @@ use Rattle.schedule_model.specs.Conflict.{ConflictRelation}
 use Rattle.schedule_model.specs.Course.{Course, courses_of}
 use Rattle.machine_model.specs.declared.kept.Kept.{Kept}
 use Rattle.machine_model.specs.declared.began.Began.{Began}
-use Rattle.machine_model.specs.Moment.{Beginning, Moment, Piece, beginning_of}
+use Rattle.machine_model.specs.Moment.{Moment, Piece, beginning_of}
 use Rattle.machine_model.specs.Pieces.{piece_of}
 use Rattle.machine_model.specs.Advance.{Machine}
 use Rattle.machine_model.specs.Runs.{history, now}

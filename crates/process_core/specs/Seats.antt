@@ -14,6 +14,8 @@ use Rattle.machine_model.specs.State.{process_state}
 use Rattle.instance_state.specs.Instances.{InstanceState}
 use Rattle.instance_state.specs.OwnActs.{are_in_own_order}
 use Rattle.process_tree.specs.declared.plan.Plan.{Plan}
+use Rattle.hold_tables.specs.Tables.{Tables}
+use Rattle.process_core.specs.OpenTables.{tables_of}
 use Rattle.process_core.specs.Cores.{CoreState, IsCore, courses_in, history_of, moment_of}
 
 -- what is kept of a process
@@ -66,8 +68,10 @@ AreInOwnOrder plans h = (i : ℕ) → are_in_own_order (shape (courses_of plans)
 abbrev pub seats_of : List Course → Moment → List SeatState
 seats_of courses m = map (seat_of courses m) (numbers_from 1 (length courses))
 
--- What is kept is what the machine says: it is a core, its history is this one, and the seats are those of its moment.
-pub record Stands (c : CoreState) (h : List Event) (ss : List SeatState) : Type 0 where
+-- What is kept is what the machine says: it is a core, its history is this one, and the seats and the tables are those of its
+-- moment.
+pub record Stands (c : CoreState) (h : List Event) (ss : List SeatState) (ts : Tables) : Type 0 where
   pub core : IsCore c
   pub events : history_of c ≡ h
   pub seats : ss ≡ seats_of (courses_in c) (moment_of c)
+  pub tables : ts ≡ tables_of c.conflicts (courses_in c) (moment_of c)

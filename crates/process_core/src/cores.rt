@@ -6,6 +6,8 @@ ghost use Rattle.machine_model.specs.Pieces.{state_of};
 use crate::opening::opened_seats;
 use crate::pieces::Piece;
 use crate::seats::Seat;
+use crate::tables::opened_tables;
+use hold_tables::Holds;
 use machine_model::{Began, Kept, PieceState};
 use process_tree::Conflicts;
 use schedule_model::History;
@@ -20,7 +22,7 @@ pub struct Core {
     opening: usize,
     kept: Vec<Kept>,
     served: u32,
-    conflicts: Conflicts,
+    holds: Holds,
     seats: Vec<Seat>,
 }
 
@@ -36,9 +38,9 @@ impl Model for Core {
 
     ghost coded = { Prim.hlevel (codes, e.the_row.coded) };
 
-    ghost view = { λ c. record { conflicts = c.conflicts; plans = c.history.plans; opening = take c.opening c.history.events; kept = c.kept.items; served = c.served } };
+    ghost view = { λ c. record { conflicts = c.holds.conflicts; plans = c.history.plans; opening = take c.opening c.history.events; kept = c.kept.items; served = c.served } };
 
-    ghost invariant = { λ c. Stands (record { conflicts = c.conflicts; plans = c.history.plans; opening = take c.opening c.history.events; kept = c.kept.items; served = c.served }) c.history.events c.seats.items };
+    ghost invariant = { λ c. Stands (record { conflicts = c.holds.conflicts; plans = c.history.plans; opening = take c.opening c.history.events; kept = c.kept.items; served = c.served }) c.history.events c.seats.items c.holds };
 }
 
 impl Core {
@@ -48,13 +50,14 @@ impl Core {
         ensures { IfOk result (λ core. core ≡ opened_on c history.plans history.events) }
     {
         let seats = opened_seats(alloc, &history)?;
+        let holds = opened_tables(alloc, &history, &c, &seats)?;
         let opening = history.events.as_slice().len();
         Ok(Core {
             history,
             opening,
             kept: Vec::new(alloc),
             served: 0,
-            conflicts: c,
+            holds,
             seats,
         })
     }

@@ -1,7 +1,8 @@
 //! The scheduler: which piece of which process may be worked on next, and what the end of a piece leads to.
 //!
-//! A core is seen as a machine of `machine_model` with the plans of its processes (`specs/Cores`): each call answers what the
-//! machine answers and keeps what it keeps.
+//! A core is seen as a machine of `machine_model` with the plans of its processes (`specs/Cores`). What it keeps is what the machine
+//! says at its moment: an instance for each active process, and the tables of what these hold (`specs/Seats`, `OpenTables`). It opens
+//! on any legal history, and is read. Calls that start processes, hand out pieces and end them are not there yet.
 #![tactic(auto)]
 
 mod cores;
@@ -15,3 +16,6 @@ pub use cores::Core;
 pub use laws::tables_stand_for_holdings;
 pub use machine_model::{Began, Cause, Kept, PieceState, Work};
 pub use pieces::Piece;
+
+#[cfg(test)]
+mod tests;

@@ -95,12 +95,7 @@ fn stand(alloc: Global, holds: &mut Holds, plan: &Plan, e: Entry) -> Result<(), 
 }
 
 /// The entries that stand and are of active processes come into the tables.
-fn fill(
-    alloc: Global,
-    holds: &mut Holds,
-    h: &History,
-    entries: &[Entry],
-) -> Result<(), AllocError>
+fn fill(alloc: Global, holds: &mut Holds, h: &History, entries: &[Entry]) -> Result<(), AllocError>
     requires core { IsCore (opened_on holds.old.conflicts h.now.plans h.now.events) }
     requires net { entries.now ≡ net h.now.events }
     requires empty { holds.old ≡ tables_at holds.old.conflicts (courses_of h.now.plans) (active h.now.events) [] }

@@ -1,5 +1,4 @@
 use Rattle.process_core.proofs.TablesHoldings.{tables_stand_for}
-use Rattle.process_core.proofs.MayStand.{may_run}
 use Rattle.process_core.proofs.laws.tables_stand_for_holdings.Goals as goal
 
 pub returns : goal.returns

@@ -1,8 +1,7 @@
 use Rattle.std.proofs.Common.{◌≡◌, ◌∙◌, List, true, Some, None, if◌then◌else◌, ap, sym}
-use Rattle.process_tree.specs.declared.entry.Entry.{Entry}
 use Rattle.schedule_model.specs.Course.{Course, course, courses_of}
 use Rattle.schedule_model.specs.Histories.{acts, is_active, of_process}
-use Rattle.instance_state.specs.Instances.{InstanceState, opened}
+use Rattle.instance_state.specs.Instances.{opened}
 use Rattle.machine_model.specs.ProcessState.{ProcessState, opening_state}
 use Rattle.schedule_model.specs.declared.event.Event.{Event}
 use Rattle.machine_model.specs.Moment.{opening_moment}

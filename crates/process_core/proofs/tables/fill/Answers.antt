@@ -1,6 +1,4 @@
-use Rattle.std.proofs.Common.{◌≡◌, ◌∙◌, ◌≤◌, ◌<◌, ◌-◌, ℕ, Bool, true, false, List, length, get_or, ap, sym, arith}
-use Rattle.process_tree.specs.declared.entry.Entry.{Entry}
-use Rattle.process_tree.specs.declared.plan.Plan.{Plan}
+use Rattle.std.proofs.Common.{◌∙◌, false, length, ap, sym, arith}
 use Rattle.process_core.proofs.StandHere.{passed_here, planned_here, stands_here}
 use Rattle.process_core.proofs.tables.fill.Goals as goal
 use Rattle.process_core.proofs.tables.fill.Goals.{then-active+in_ok-stand, else-active}
@@ -71,8 +69,8 @@ bounds-as_slice-e c =
 
 pub loop-place-preserved : goal.loop-place-preserved
 loop-place-preserved c = elim c.if-active.branch [
-    then-active+in_ok-stand w ↦ w.holds-is ∙ (w.in_ok-stand.ensures ∙ (stands_here c.args.holds.now.conflicts c.args.h.now.plans c.args.h.now.events c.requires.core c.args.entries.now c.requires.net c.loop-place.place (record { process = 0; step = 0; op = 0; undo = false }) c.loop-place-test.true
-    c.loop-place.holds c.loop-place.invariant (sym c.active.ensures ∙ w.if-active.true) w.as_slice.result.now w.as_slice.ensures w.index-as_slice-e.result w.index-as_slice-e.is).next)
+  | then-active+in_ok-stand w ↦ w.holds-is ∙ (w.in_ok-stand.ensures ∙ (stands_here c.args.holds.now.conflicts c.args.h.now.plans c.args.h.now.events c.requires.core c.args.entries.now c.requires.net c.loop-place.place (record { process = 0; step = 0; op = 0; undo = false }) c.loop-place-test.true
+      c.loop-place.holds c.loop-place.invariant (sym c.active.ensures ∙ w.if-active.true) w.as_slice.result.now w.as_slice.ensures w.index-as_slice-e.result w.index-as_slice-e.is).next)
   | else-active w ↦ w.holds-is ∙ (c.loop-place.invariant
-    ∙ passed_here c.args.holds.now.conflicts c.args.h.now.plans c.args.h.now.events c.requires.core c.args.entries.now c.loop-place.place (record { process = 0; step = 0; op = 0; undo = false }) c.loop-place-test.true (sym c.active.ensures ∙ w.if-active.false))
-  ]
+      ∙ passed_here c.args.holds.now.conflicts c.args.h.now.plans c.args.h.now.events c.requires.core c.args.entries.now c.loop-place.place (record { process = 0; step = 0; op = 0; undo = false }) c.loop-place-test.true (sym c.active.ensures ∙ w.if-active.false))
+]

@@ -1,12 +1,9 @@
-use Rattle.std.proofs.Common.{◌≡◌, ◌∙◌, ℕ, ◌+◌, ◌<◌, List, [], filter, length, slice_index_or, ap, sym, subst, arith}
+use Rattle.std.proofs.Common.{◌≡◌, ◌∙◌, ℕ, ◌+◌, ◌<◌, List, [], filter, length, ap, sym, arith}
 use Rattle.process_tree.specs.declared.plan.Plan.{Plan}
 use Rattle.process_tree.specs.Blocks.{numbers_from}
 use Rattle.schedule_model.specs.Histories.{is_active}
 use Rattle.process_core.proofs.tables.open_rows.Goals.{then-active+in_ok-open, else-active}
-use Rattle.process_tree.specs.Conflicts.{operations_in}
-use Rattle.process_tree.specs.Order.{Each}
 use Rattle.schedule_model.specs.Course.{courses_of}
-use Rattle.hold_tables.specs.Changes.{opened}
 use Rattle.hold_tables.specs.Tables.{Tables, is_open}
 use Rattle.process_core.specs.OpenTables.{tables_at}
 use Rattle.process_core.proofs.OpenedRows.{active_numbers, known_here, not_open, opened_here, passed_more}
@@ -24,10 +21,10 @@ open-requires-clause-known c = known_here c.args.holds.now.conflicts c.args.h.no
 
 pub loop-place-preserved : goal.loop-place-preserved
 loop-place-preserved c = elim c.if-active.branch [
-    then-active+in_ok-open w ↦ w.holds-is ∙ (w.in_ok-open.ensures.opened ∙ opened_here c.args.holds.now.conflicts c.args.h.now.plans c.args.h.now.events c.requires.core c.loop-place.place (within c.args.h.now.plans c.as_slice.result.now c.loop-place.place c.as_slice.ensures c.loop-place-test.true)
-    w.as_slice-then-active.result.now w.as_slice-then-active.ensures w.index-as_slice-place.result w.index-as_slice-place.is c.loop-place.holds c.loop-place.invariant (sym c.active.ensures ∙ w.if-active.true))
+  | then-active+in_ok-open w ↦ w.holds-is ∙ (w.in_ok-open.ensures.opened ∙ opened_here c.args.holds.now.conflicts c.args.h.now.plans c.args.h.now.events c.requires.core c.loop-place.place (within c.args.h.now.plans c.as_slice.result.now c.loop-place.place c.as_slice.ensures c.loop-place-test.true)
+      w.as_slice-then-active.result.now w.as_slice-then-active.ensures w.index-as_slice-place.result w.index-as_slice-place.is c.loop-place.holds c.loop-place.invariant (sym c.active.ensures ∙ w.if-active.true))
   | else-active w ↦ w.holds-is ∙ (c.loop-place.invariant ∙ passed_more c.args.holds.now.conflicts c.args.h.now.plans c.args.h.now.events c.loop-place.place (sym c.active.ensures ∙ w.if-active.false))
-  ]
+]
 
 pub returns : goal.returns
 returns c =

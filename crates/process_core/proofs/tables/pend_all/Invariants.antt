@@ -1,6 +1,5 @@
 use Rattle.std.proofs.Common.{◌≡◌}
 use Rattle.schedule_model.specs.Course.{courses_of}
-use Rattle.machine_model.specs.Moment.{opening_moment}
 use Rattle.process_core.specs.OpenTables.{tables_up_to}
 use Rattle.process_core.proofs.tables.pend_all.Given as goal
 

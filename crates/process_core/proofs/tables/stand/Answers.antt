@@ -1,6 +1,5 @@
-use Rattle.std.proofs.Common.{◌≡◌, ◌∙◌, ◌≤◌, ◌<◌, true, false, Some, None, length, if◌then◌else◌, ap, sym, subst, arith}
+use Rattle.std.proofs.Common.{◌≡◌, ◌∙◌, ◌<◌, true, false, length, if◌then◌else◌, ap, sym, subst, arith}
 use Rattle.std.specs.Option.{is_some}
-use Rattle.process_tree.specs.declared.entry.Entry.{Entry}
 use Rattle.process_tree.specs.Blocks.{outline}
 use Rattle.process_tree.specs.Conflicts.{operations_in}
 use Rattle.process_tree.specs.Order.{Each}
@@ -9,7 +8,7 @@ use Rattle.hold_tables.specs.Kept.{AreKnown}
 use Rattle.process_tree.specs.Shape.{commits, kind_of, shape_of}
 use Rattle.hold_tables.specs.Tables.{OpenProcess, Tables, is_open, kept_of}
 use Rattle.hold_tables.specs.Changes.{all_fixed, changed, run, took_effect, undoes, with_reserved}
-use Rattle.process_core.specs.OpenTables.{pairs_behind, stood}
+use Rattle.process_core.specs.OpenTables.{pairs_behind}
 use Rattle.process_core.proofs.LastSteps.{pairs_few, pairs_known}
 use Rattle.process_core.proofs.RowChanges.{effect_open, effect_row, fixed_open, fixed_row, run_open, run_row}
 use Rattle.process_core.proofs.tables.stand.Goals as goal

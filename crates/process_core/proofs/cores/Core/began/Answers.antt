@@ -1,4 +1,4 @@
-use Rattle.std.proofs.Common.{◌≡◌, ◌∙◌, ℕ, zero, suc, ◌≤◌, ◌-◌, None, refl, ap, sym, subst, arith}
+use Rattle.std.proofs.Common.{◌≡◌, ◌∙◌, ℕ, zero, suc, ◌≤◌, refl, ap, sym, subst, arith}
 use Rattle.process_core.specs.Cores.{IsCore, courses_in, moment_of}
 use Rattle.process_core.specs.Seats.{SeatState, seats_of}
 use Rattle.process_core.proofs.BegunStarted.{none_began}

@@ -1,5 +1,4 @@
 use Rattle.std.proofs.Common.{◌≡◌, ◌∙◌, ◌-◌, slice_index_or, ap, subst, arith}
-use Rattle.machine_model.specs.Pieces.{state_of}
 use Rattle.process_core.specs.Cores.{IsCore, courses_in, moment_of}
 use Rattle.process_core.specs.Seats.{SeatState, seat_of, seats_of, state_by}
 use Rattle.process_core.proofs.SeatFacts.{handed_has_plan, seat_is, seat_tells, seats_many}
