@@ -1,8 +1,9 @@
 // A rack over the files of a folder.
 ghost use Rattle.std.specs.Prelude.{◌≡◌, ◌⊎◌, ◌<◌, ◌≤◌, ◌+◌, ◌-◌, ◌^◌, min, length, take, drop, IfOk, OnOk, OnErr, IsErr, IsTrue, ℕ, true, false, slice_set, slice_index_or};
-ghost use Rattle.process_flow.specs.Causes.{Rose, HasCause};
-ghost use Rattle.process_disk.specs.Disk.{Told, file_of, put, Only, Looks, Writes};
-ghost use Rattle.file_rack.specs.Folder.{AreKept, IsMarked, SomeMarked, NoneMarked, syncs_of, folder_place};
+ghost use Rattle.process_flow.specs.Causes.{Rose, HasCause, CountsFaults, CountsOne};
+ghost use Rattle.process_disk.specs.Disk.{Told, file_of, put, Only};
+ghost use Rattle.process_disk.specs.Calls.{OnlyLooks, OnlyWrites};
+ghost use Rattle.file_rack.specs.Folder.{AreKept, IsMarked, IsNew, SomeMarked, NoneMarked, syncs_of, folder_place};
 
 use crate::Folder;
 use crate::transfers::{any_marked, read_whole, sync_marked, write_whole};
@@ -38,9 +39,7 @@ impl<D: Folder + Drop> FileRack<D> {
     pub fn over(folder: D, writes: bool) -> Self
         ensures folder { result.folder ≡ folder }
         ensures writes { result.writes ≡ writes }
-        ensures unsynced { (k : ℕ) → k < 9 → IsMarked result.unsynced k }
-        ensures whole { result.broken ≡ false }
-        ensures faults { result.faults ≡ 0 }
+        ensures new { IsNew result.unsynced result.broken result.faults }
     {
         FileRack {
             folder,
@@ -72,11 +71,9 @@ impl<D: Folder + Drop> FileRack<D> {
     // where it had none at the first look.
     fn take(&mut self, make: bool) -> Result<(), Failed>
         ensures taken { IsTrue make → OnOk result (IsTrue self.new.taken) }
-        ensures looks { Told (D.disk self.old.folder) → Looks (D.disk self.old.folder) (D.disk self.new.folder) }
-        ensures tells { (D.disk self.new.folder).tells ≡ (D.disk self.old.folder).tells }
+        ensures looks { OnlyLooks (D.disk self.old.folder) (D.disk self.new.folder) }
         ensures syncs { D.syncs self.new.folder ≡ D.syncs self.old.folder }
-        ensures cause { HasCause (D.faults self.old.folder) (D.faults self.new.folder) result }
-        ensures quiet { OnOk result (D.faults self.new.folder ≡ D.faults self.old.folder) }
+        ensures below { CountsFaults (D.faults self.old.folder) (D.faults self.new.folder) result }
         ensures unsynced { self.new.unsynced ≡ self.old.unsynced }
         ensures broken { self.new.broken ≡ self.old.broken }
         ensures writes { self.new.writes ≡ self.old.writes }
@@ -103,10 +100,8 @@ impl<D: Folder + Drop> FileRack<D> {
         ensures names { OnOk result (SomeMarked self.old.unsynced → Rose (syncs_of (D.syncs self.old.folder) folder_place) (syncs_of (D.syncs self.new.folder) folder_place)) }
         ensures left { OnErr result (SomeMarked self.new.unsynced) }
         ensures unsynced { OnErr result (self.new.unsynced ≡ self.old.unsynced) }
-        ensures looks { Told (D.disk self.old.folder) → Looks (D.disk self.old.folder) (D.disk self.new.folder) }
-        ensures tells { (D.disk self.new.folder).tells ≡ (D.disk self.old.folder).tells }
-        ensures cause { HasCause (D.faults self.old.folder) (D.faults self.new.folder) result }
-        ensures quiet { OnOk result (D.faults self.new.folder ≡ D.faults self.old.folder) }
+        ensures looks { OnlyLooks (D.disk self.old.folder) (D.disk self.new.folder) }
+        ensures below { CountsFaults (D.faults self.old.folder) (D.faults self.new.folder) result }
         ensures broken { self.new.broken ≡ self.old.broken }
         ensures writes { self.new.writes ≡ self.old.writes }
         ensures faults { self.new.faults ≡ self.old.faults }
@@ -132,16 +127,12 @@ impl<D: Folder + Drop> Rack for FileRack<D> {
     fn len(&mut self, file: u8) -> Result<u64, Failed>
         requires { file < 9 }
         ensures len { Told (D.disk self.old.folder) → IfOk result (λ n. n ≡ length (file_of (D.disk self.old.folder).files file)) }
-        ensures looks { Told (D.disk self.old.folder) → Looks (D.disk self.old.folder) (D.disk self.new.folder) }
-        ensures tells { (D.disk self.new.folder).tells ≡ (D.disk self.old.folder).tells }
-        ensures cause { HasCause self.old.faults self.new.faults result }
-        ensures quiet { OnOk result (self.new.faults ≡ self.old.faults) }
-        ensures by_one { OnErr result (self.new.faults ≡ min (self.old.faults + 1) (2 ^ 64 - 1)) }
+        ensures looks { OnlyLooks (D.disk self.old.folder) (D.disk self.new.folder) }
+        ensures faults { CountsOne self.old.faults self.new.faults result }
         // No failed call of the folder is passed over, and it doesn't give up by itself.
         ensures told { OnOk result (D.faults self.new.folder ≡ D.faults self.old.folder) }
         ensures failed { OnErr result (Rose (D.faults self.old.folder) (D.faults self.new.folder)) }
-        ensures unsynced { self.new.unsynced ≡ self.old.unsynced }
-        ensures broken { self.new.broken ≡ self.old.broken }
+        ensures stays { (self.new.unsynced ≡ self.old.unsynced) × (self.new.broken ≡ self.old.broken) }
     {
         if self.take(false).is_err() {
             return self.failed();
@@ -157,15 +148,11 @@ impl<D: Folder + Drop> Rack for FileRack<D> {
         ensures count { Told (D.disk self.old.folder) → IfOk result (λ n. n ≡ min (length buf.old) (length (drop at (file_of (D.disk self.old.folder).files file)))) }
         ensures bytes { Told (D.disk self.old.folder) → IfOk result (λ n. take n buf.new ≡ take n (drop at (file_of (D.disk self.old.folder).files file))) }
         ensures bound { IfOk result (λ n. n ≤ length buf.old) }
-        ensures looks { Told (D.disk self.old.folder) → Looks (D.disk self.old.folder) (D.disk self.new.folder) }
-        ensures tells { (D.disk self.new.folder).tells ≡ (D.disk self.old.folder).tells }
-        ensures cause { HasCause self.old.faults self.new.faults result }
-        ensures quiet { OnOk result (self.new.faults ≡ self.old.faults) }
-        ensures by_one { OnErr result (self.new.faults ≡ min (self.old.faults + 1) (2 ^ 64 - 1)) }
+        ensures looks { OnlyLooks (D.disk self.old.folder) (D.disk self.new.folder) }
+        ensures faults { CountsOne self.old.faults self.new.faults result }
         ensures told { OnOk result (D.faults self.new.folder ≡ D.faults self.old.folder) }
         ensures failed { OnErr result (Rose (D.faults self.old.folder) (D.faults self.new.folder) ⊎ (2 ^ 64 < at + length buf.old)) }
-        ensures unsynced { self.new.unsynced ≡ self.old.unsynced }
-        ensures broken { self.new.broken ≡ self.old.broken }
+        ensures stays { (self.new.unsynced ≡ self.old.unsynced) × (self.new.broken ≡ self.old.broken) }
     {
         if self.take(false).is_err() {
             return self.failed();
@@ -180,11 +167,8 @@ impl<D: Folder + Drop> Rack for FileRack<D> {
         requires file { file < 9 }
         requires place { Told (D.disk self.old.folder) → at ≤ length (file_of (D.disk self.old.folder).files file) }
         ensures written { Told (D.disk self.old.folder) → OnOk result ((D.disk self.new.folder).files ≡ put (D.disk self.old.folder).files file at bytes.now) }
-        ensures writes { Told (D.disk self.old.folder) → Writes file at (length bytes.now) (D.disk self.old.folder) (D.disk self.new.folder) }
-        ensures tells { (D.disk self.new.folder).tells ≡ (D.disk self.old.folder).tells }
-        ensures cause { HasCause self.old.faults self.new.faults result }
-        ensures quiet { OnOk result (self.new.faults ≡ self.old.faults) }
-        ensures by_one { OnErr result (self.new.faults ≡ min (self.old.faults + 1) (2 ^ 64 - 1)) }
+        ensures writes { OnlyWrites file at (length bytes.now) (D.disk self.old.folder) (D.disk self.new.folder) }
+        ensures faults { CountsOne self.old.faults self.new.faults result }
         ensures told { OnOk result (D.faults self.new.folder ≡ D.faults self.old.folder) }
         ensures failed { OnErr result ((Rose (D.faults self.old.folder) (D.faults self.new.folder) ⊎ (2 ^ 64 < at + length bytes.now)) ⊎ (IsTrue self.old.broken ⊎ (self.old.writes ≡ false))) }
         ensures unsynced { self.new.unsynced ≡ slice_set self.old.unsynced file true }
@@ -208,11 +192,8 @@ impl<D: Folder + Drop> Rack for FileRack<D> {
 
     fn sync(&mut self) -> Result<(), Failed>
         ensures durable { Told (D.disk self.old.folder) → OnOk result (Only (D.disk self.new.folder).files (D.disk self.new.folder).may_leave) }
-        ensures looks { Told (D.disk self.old.folder) → Looks (D.disk self.old.folder) (D.disk self.new.folder) }
-        ensures tells { (D.disk self.new.folder).tells ≡ (D.disk self.old.folder).tells }
-        ensures cause { HasCause self.old.faults self.new.faults result }
-        ensures quiet { OnOk result (self.new.faults ≡ self.old.faults) }
-        ensures by_one { OnErr result (self.new.faults ≡ min (self.old.faults + 1) (2 ^ 64 - 1)) }
+        ensures looks { OnlyLooks (D.disk self.old.folder) (D.disk self.new.folder) }
+        ensures faults { CountsOne self.old.faults self.new.faults result }
         ensures told { OnOk result (D.faults self.new.folder ≡ D.faults self.old.folder) }
         ensures failed { OnErr result (Rose (D.faults self.old.folder) (D.faults self.new.folder) ⊎ IsTrue self.old.broken) }
         ensures all_synced { OnOk result ((k : ℕ) → slice_index_or self.new.unsynced k false ≡ false) }

@@ -1,7 +1,8 @@
 // The files of a folder as a system gives them.
 ghost use Rattle.std.specs.Prelude.{◌≡◌, ◌<◌, ◌≤◌, ℕ, List, Bool, length, take, drop, IfOk, OnOk, IsTrue};
-ghost use Rattle.process_flow.specs.Causes.{HasCause};
-ghost use Rattle.process_disk.specs.Disk.{FileSet, Disk, Told, file_of, put, Looks, Writes, IsHonest};
+ghost use Rattle.process_flow.specs.Causes.{CountsFaults};
+ghost use Rattle.process_disk.specs.Disk.{FileSet, Disk, Told, file_of, put, IsHonest};
+ghost use Rattle.process_disk.specs.Calls.{OnlyLooks, OnlyWrites};
 ghost use Rattle.file_rack.specs.Folder.{IsKept, IsPart, IsSynced, folder_place};
 
 use process_flow::Failed;
@@ -25,34 +26,26 @@ pub trait Folder {
         ensures taken { IfOk result (λ yes. taken self.new ≡ yes) }
         ensures stays { IsTrue (taken self.old) → IsTrue (taken self.new) }
         ensures made { IsTrue make → IfOk result (λ yes. IsTrue yes) }
-        ensures looks { Told (disk self.old) → Looks (disk self.old) (disk self.new) }
-        ensures tells { (disk self.new).tells ≡ (disk self.old).tells }
+        ensures looks { OnlyLooks (disk self.old) (disk self.new) }
         ensures syncs { syncs self.new ≡ syncs self.old }
-        ensures cause { HasCause (faults self.old) (faults self.new) result }
-        ensures quiet { OnOk result (faults self.new ≡ faults self.old) };
+        ensures faults { CountsFaults (faults self.old) (faults self.new) result };
 
     /// How many bytes a file has, none where it is absent.
     fn len(&mut self, file: u8) -> Result<u64, Failed>
         requires { file < 9 }
         ensures len { Told (disk self.old) → IfOk result (λ n. n ≡ length (file_of (disk self.old).files file)) }
-        ensures looks { Told (disk self.old) → Looks (disk self.old) (disk self.new) }
-        ensures tells { (disk self.new).tells ≡ (disk self.old).tells }
-        ensures taken { taken self.new ≡ taken self.old }
-        ensures syncs { syncs self.new ≡ syncs self.old }
-        ensures cause { HasCause (faults self.old) (faults self.new) result }
-        ensures quiet { OnOk result (faults self.new ≡ faults self.old) };
+        ensures looks { OnlyLooks (disk self.old) (disk self.new) }
+        ensures stays { (taken self.new ≡ taken self.old) × (syncs self.new ≡ syncs self.old) }
+        ensures faults { CountsFaults (faults self.old) (faults self.new) result };
 
     /// Reads bytes from a place on into the buffer's front and says how many; none only at the end, or without room.
     fn read(&mut self, file: u8, at: u64, buf: &mut [u8]) -> Result<usize, Failed>
         requires { file < 9 }
         ensures bound { IfOk result (λ n. n ≤ length buf.old) }
         ensures part { Told (disk self.old) → IfOk result (λ n. IsPart (drop at (file_of (disk self.old).files file)) buf.new n) }
-        ensures looks { Told (disk self.old) → Looks (disk self.old) (disk self.new) }
-        ensures tells { (disk self.new).tells ≡ (disk self.old).tells }
-        ensures taken { taken self.new ≡ taken self.old }
-        ensures syncs { syncs self.new ≡ syncs self.old }
-        ensures cause { HasCause (faults self.old) (faults self.new) result }
-        ensures quiet { OnOk result (faults self.new ≡ faults self.old) };
+        ensures looks { OnlyLooks (disk self.old) (disk self.new) }
+        ensures stays { (taken self.new ≡ taken self.old) × (syncs self.new ≡ syncs self.old) }
+        ensures faults { CountsFaults (faults self.old) (faults self.new) result };
 
     /// Writes bytes from the front and says how many, at least one; a file that is absent is made. Nothing that a crash might
     /// leave before is shut out by it.
@@ -64,33 +57,26 @@ pub trait Folder {
         ensures some { IfOk result (λ n. 0 < n) }
         ensures bound { IfOk result (λ n. n ≤ length bytes.now) }
         ensures written { Told (disk self.old) → IfOk result (λ n. (disk self.new).files ≡ put (disk self.old).files file at (take n bytes.now)) }
-        ensures writes { Told (disk self.old) → Writes file at (length bytes.now) (disk self.old) (disk self.new) }
+        ensures writes { OnlyWrites file at (length bytes.now) (disk self.old) (disk self.new) }
         ensures grows { Told (disk self.old) → (c : FileSet) → (disk self.old).may_leave c → (disk self.new).may_leave c }
-        ensures tells { (disk self.new).tells ≡ (disk self.old).tells }
-        ensures taken { taken self.new ≡ taken self.old }
-        ensures syncs { syncs self.new ≡ syncs self.old }
-        ensures cause { HasCause (faults self.old) (faults self.new) result }
-        ensures quiet { OnOk result (faults self.new ≡ faults self.old) };
+        ensures stays { (taken self.new ≡ taken self.old) × (syncs self.new ≡ syncs self.old) }
+        ensures faults { CountsFaults (faults self.old) (faults self.new) result };
 
     /// Brings a file to the disk, if it is there.
     fn sync(&mut self, file: u8) -> Result<(), Failed>
         requires { file < 9 }
         ensures kept { Told (disk self.old) → OnOk result (IsKept file (disk self.new)) }
-        ensures looks { Told (disk self.old) → Looks (disk self.old) (disk self.new) }
-        ensures tells { (disk self.new).tells ≡ (disk self.old).tells }
+        ensures looks { OnlyLooks (disk self.old) (disk self.new) }
         ensures taken { taken self.new ≡ taken self.old }
         ensures synced { OnOk result (IsSynced file (syncs self.old) (syncs self.new)) }
-        ensures cause { HasCause (faults self.old) (faults self.new) result }
-        ensures quiet { OnOk result (faults self.new ≡ faults self.old) };
+        ensures faults { CountsFaults (faults self.old) (faults self.new) result };
 
     /// Brings the files' names to the disk, where one was made since this was done last.
     fn sync_names(&mut self) -> Result<(), Failed>
-        ensures looks { Told (disk self.old) → Looks (disk self.old) (disk self.new) }
-        ensures tells { (disk self.new).tells ≡ (disk self.old).tells }
+        ensures looks { OnlyLooks (disk self.old) (disk self.new) }
         ensures taken { taken self.new ≡ taken self.old }
         ensures synced { OnOk result (IsSynced folder_place (syncs self.old) (syncs self.new)) }
-        ensures cause { HasCause (faults self.old) (faults self.new) result }
-        ensures quiet { OnOk result (faults self.new ≡ faults self.old) };
+        ensures faults { CountsFaults (faults self.old) (faults self.new) result };
 
     ghost honest: { (folder : Self) → Told (disk folder) → IsHonest (disk folder) };
 }

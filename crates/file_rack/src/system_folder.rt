@@ -1,7 +1,7 @@
 // The files of the current folder, by the calls of the system.
 ghost use Rattle.std.specs.Prelude.{◌≡◌, ◌<◌, ◌≤◌, ◌+◌, ◌-◌, ◌^◌, ℕ, min, length, IfOk, OnOk, OnErr, IsErr, IsTrue, true, false};
-ghost use Rattle.process_flow.specs.Causes.{HasCause};
-ghost use Rattle.file_rack.specs.Folder.{IsSynced, IsMarked, folder_place};
+ghost use Rattle.process_flow.specs.Causes.{CountsFaults};
+ghost use Rattle.file_rack.specs.Folder.{IsSynced, IsNew, folder_place};
 
 use crate::counts::{FOLDER, count};
 use crate::{FileRack, Folder};
@@ -94,10 +94,8 @@ impl<F: Files<File = File> + Drop> SystemFolder<F> {
     // What the system answered, with a failure counted.
     fn told<T>(&mut self, found: io::Result<T>) -> Result<T, Failed>
         ensures ok { IfOk result (λ value. found ≡ Ok value) }
-        ensures cause { HasCause self.old.faults self.new.faults result }
-        ensures quiet { OnOk result (self.new.faults ≡ self.old.faults) }
-        ensures taken { self.new.taken ≡ self.old.taken }
-        ensures syncs { self.new.syncs ≡ self.old.syncs }
+        ensures faults { CountsFaults self.old.faults self.new.faults result }
+        ensures stays { (self.new.taken ≡ self.old.taken) × (self.new.syncs ≡ self.old.syncs) }
     {
         match found {
             Ok(value) => Ok(value),
@@ -114,9 +112,7 @@ impl<F: Files<File = File> + Drop> FileRack<SystemFolder<F>> {
     pub fn new(rt: F) -> Self
         ensures runtime { result.folder.rt ≡ rt }
         ensures writes { result.writes ≡ true }
-        ensures unsynced { (k : ℕ) → k < 9 → IsMarked result.unsynced k }
-        ensures whole { result.broken ≡ false }
-        ensures faults { result.faults ≡ 0 }
+        ensures new { IsNew result.unsynced result.broken result.faults }
     {
         FileRack::over(SystemFolder::new(rt), true)
     }
@@ -125,9 +121,7 @@ impl<F: Files<File = File> + Drop> FileRack<SystemFolder<F>> {
     pub fn reading(rt: F) -> Self
         ensures runtime { result.folder.rt ≡ rt }
         ensures writes { result.writes ≡ false }
-        ensures unsynced { (k : ℕ) → k < 9 → IsMarked result.unsynced k }
-        ensures whole { result.broken ≡ false }
-        ensures faults { result.faults ≡ 0 }
+        ensures new { IsNew result.unsynced result.broken result.faults }
     {
         FileRack::over(SystemFolder::new(rt), false)
     }
@@ -152,8 +146,7 @@ impl<F: Files<File = File> + Drop> Folder for SystemFolder<F> {
         ensures stays { IsTrue self.old.taken → IsTrue self.new.taken }
         ensures made { IsTrue make → IfOk result (λ yes. IsTrue yes) }
         ensures syncs { self.new.syncs ≡ self.old.syncs }
-        ensures cause { HasCause self.old.faults self.new.faults result }
-        ensures quiet { OnOk result (self.new.faults ≡ self.old.faults) }
+        ensures faults { CountsFaults self.old.faults self.new.faults result }
     {
         if self.taken {
             return Ok(true);
@@ -170,10 +163,8 @@ impl<F: Files<File = File> + Drop> Folder for SystemFolder<F> {
 
     fn len(&mut self, file: u8) -> Result<u64, Failed>
         requires { file < 9 }
-        ensures taken { self.new.taken ≡ self.old.taken }
-        ensures syncs { self.new.syncs ≡ self.old.syncs }
-        ensures cause { HasCause self.old.faults self.new.faults result }
-        ensures quiet { OnOk result (self.new.faults ≡ self.old.faults) }
+        ensures stays { (self.new.taken ≡ self.old.taken) × (self.new.syncs ≡ self.old.syncs) }
+        ensures faults { CountsFaults self.old.faults self.new.faults result }
     {
         let found = match to_read(&self.rt, &mut self.files, file) {
             Ok(Some(opened)) => match opened.file.metadata() {
@@ -189,10 +180,8 @@ impl<F: Files<File = File> + Drop> Folder for SystemFolder<F> {
     fn read(&mut self, file: u8, at: u64, buf: &mut [u8]) -> Result<usize, Failed>
         requires { file < 9 }
         ensures bound { IfOk result (λ n. n ≤ length buf.old) }
-        ensures taken { self.new.taken ≡ self.old.taken }
-        ensures syncs { self.new.syncs ≡ self.old.syncs }
-        ensures cause { HasCause self.old.faults self.new.faults result }
-        ensures quiet { OnOk result (self.new.faults ≡ self.old.faults) }
+        ensures stays { (self.new.taken ≡ self.old.taken) × (self.new.syncs ≡ self.old.syncs) }
+        ensures faults { CountsFaults self.old.faults self.new.faults result }
     {
         let found = match to_read(&self.rt, &mut self.files, file) {
             Ok(Some(opened)) => opened.read(at, buf),
@@ -208,10 +197,8 @@ impl<F: Files<File = File> + Drop> Folder for SystemFolder<F> {
         requires taken { IsTrue self.old.taken }
         ensures some { IfOk result (λ n. 0 < n) }
         ensures bound { IfOk result (λ n. n ≤ length bytes.now) }
-        ensures taken { self.new.taken ≡ self.old.taken }
-        ensures syncs { self.new.syncs ≡ self.old.syncs }
-        ensures cause { HasCause self.old.faults self.new.faults result }
-        ensures quiet { OnOk result (self.new.faults ≡ self.old.faults) }
+        ensures stays { (self.new.taken ≡ self.old.taken) × (self.new.syncs ≡ self.old.syncs) }
+        ensures faults { CountsFaults self.old.faults self.new.faults result }
     {
         let made = to_write(&self.rt, &mut self.files, file, &mut self.names_synced);
         let found = match made {
@@ -225,8 +212,7 @@ impl<F: Files<File = File> + Drop> Folder for SystemFolder<F> {
         requires { file < 9 }
         ensures taken { self.new.taken ≡ self.old.taken }
         ensures synced { OnOk result (IsSynced file self.old.syncs self.new.syncs) }
-        ensures cause { HasCause self.old.faults self.new.faults result }
-        ensures quiet { OnOk result (self.new.faults ≡ self.old.faults) }
+        ensures faults { CountsFaults self.old.faults self.new.faults result }
     {
         let found = match to_read(&self.rt, &mut self.files, file) {
             Ok(Some(opened)) => opened.file.sync_data(),
@@ -241,8 +227,7 @@ impl<F: Files<File = File> + Drop> Folder for SystemFolder<F> {
     fn sync_names(&mut self) -> Result<(), Failed>
         ensures taken { self.new.taken ≡ self.old.taken }
         ensures synced { OnOk result (IsSynced folder_place self.old.syncs self.new.syncs) }
-        ensures cause { HasCause self.old.faults self.new.faults result }
-        ensures quiet { OnOk result (self.new.faults ≡ self.old.faults) }
+        ensures faults { CountsFaults self.old.faults self.new.faults result }
     {
         if !self.names_synced {
             let found = match File::open(&self.rt, ".") {

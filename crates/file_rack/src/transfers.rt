@@ -1,7 +1,8 @@
 // Whole reads, whole writes and syncs of several files, by the calls of a folder.
 ghost use Rattle.std.specs.Prelude.{◌≡◌, ◌⊎◌, ◌<◌, ◌≤◌, ◌+◌, ◌^◌, ℕ, length, take, drop, min, IfOk, OnOk, OnErr, IsTrue, true, false};
-ghost use Rattle.process_flow.specs.Causes.{Rose, HasCause};
-ghost use Rattle.process_disk.specs.Disk.{Told, file_of, put, Looks, Writes};
+ghost use Rattle.process_flow.specs.Causes.{Rose, CountsFaults};
+ghost use Rattle.process_disk.specs.Disk.{Told, file_of, put};
+ghost use Rattle.process_disk.specs.Calls.{OnlyLooks, OnlyWrites};
 ghost use Rattle.file_rack.specs.Folder.{IsKept, AreKept, IsMarked, SomeMarked, NoneMarked, syncs_of};
 
 use crate::Folder;
@@ -18,10 +19,8 @@ pub fn read_whole<D: Folder>(
     ensures count { Told (D.disk folder.old) → IfOk result (λ n. n ≡ min (length buf.old) (length (drop at (file_of (D.disk folder.old).files file)))) }
     ensures bytes { Told (D.disk folder.old) → IfOk result (λ n. take n buf.new ≡ take n (drop at (file_of (D.disk folder.old).files file))) }
     ensures bound { IfOk result (λ n. n ≤ length buf.old) }
-    ensures looks { Told (D.disk folder.old) → Looks (D.disk folder.old) (D.disk folder.new) }
-    ensures tells { (D.disk folder.new).tells ≡ (D.disk folder.old).tells }
-    ensures taken { D.taken folder.new ≡ D.taken folder.old }
-    ensures syncs { D.syncs folder.new ≡ D.syncs folder.old }
+    ensures looks { OnlyLooks (D.disk folder.old) (D.disk folder.new) }
+    ensures stays { (D.taken folder.new ≡ D.taken folder.old) × (D.syncs folder.new ≡ D.syncs folder.old) }
     ensures quiet { OnOk result (D.faults folder.new ≡ D.faults folder.old) }
     ensures failed { OnErr result (Rose (D.faults folder.old) (D.faults folder.new) ⊎ (2 ^ 64 < at + length buf.old)) }
 {
@@ -49,10 +48,8 @@ pub fn write_whole<D: Folder>(folder: &mut D, file: u8, at: u64, bytes: &[u8]) -
     requires taken { IsTrue (D.taken folder.old) }
     requires place { Told (D.disk folder.old) → at ≤ length (file_of (D.disk folder.old).files file) }
     ensures written { Told (D.disk folder.old) → OnOk result ((D.disk folder.new).files ≡ put (D.disk folder.old).files file at bytes.now) }
-    ensures writes { Told (D.disk folder.old) → Writes file at (length bytes.now) (D.disk folder.old) (D.disk folder.new) }
-    ensures tells { (D.disk folder.new).tells ≡ (D.disk folder.old).tells }
-    ensures taken { D.taken folder.new ≡ D.taken folder.old }
-    ensures syncs { D.syncs folder.new ≡ D.syncs folder.old }
+    ensures writes { OnlyWrites file at (length bytes.now) (D.disk folder.old) (D.disk folder.new) }
+    ensures stays { (D.taken folder.new ≡ D.taken folder.old) × (D.syncs folder.new ≡ D.syncs folder.old) }
     ensures quiet { OnOk result (D.faults folder.new ≡ D.faults folder.old) }
     ensures failed { OnErr result (Rose (D.faults folder.old) (D.faults folder.new) ⊎ (2 ^ 64 < at + length bytes.now)) }
 {
@@ -75,12 +72,10 @@ pub fn sync_marked<D: Folder>(folder: &mut D, marks: &[bool]) -> Result<(), Fail
     requires { length marks.now ≡ 9 }
     ensures kept { AreKept marks.now (D.disk folder.old) → Told (D.disk folder.old) → OnOk result ((k : ℕ) → k < 9 → IsKept k (D.disk folder.new)) }
     ensures synced { OnOk result ((k : ℕ) → IsMarked marks.now k → Rose (syncs_of (D.syncs folder.old) k) (syncs_of (D.syncs folder.new) k)) }
-    ensures looks { Told (D.disk folder.old) → Looks (D.disk folder.old) (D.disk folder.new) }
-    ensures tells { (D.disk folder.new).tells ≡ (D.disk folder.old).tells }
+    ensures looks { OnlyLooks (D.disk folder.old) (D.disk folder.new) }
     ensures taken { D.taken folder.new ≡ D.taken folder.old }
     ensures never_fell { OnOk result ((k : ℕ) → syncs_of (D.syncs folder.old) k ≤ syncs_of (D.syncs folder.new) k) }
-    ensures cause { HasCause (D.faults folder.old) (D.faults folder.new) result }
-    ensures quiet { OnOk result (D.faults folder.new ≡ D.faults folder.old) }
+    ensures faults { CountsFaults (D.faults folder.old) (D.faults folder.new) result }
 {
     for file in 0..9_u8 {
         if marks[usize::from(file)] {

@@ -1,7 +1,8 @@
 -- A rack in memory: what it holds, what its calls mean, and what a stop leaves of it. Lists of changes have the newest first.
 use Rattle.std.specs.Prelude.{◌≡◌, ◌⊎◌, ℕ, ◌+◌, ◌-◌, ◌^◌, ◌≤◌, min, List, [], ◌∷◌, length, drop, reverse, Bool, IsTrue, true, ◌&&◌, nat_lt, nat_le, Result, IsErr, OnOk, OnErr, Contains}
-use Rattle.process_flow.specs.Causes.{Rose}
+use Rattle.process_flow.specs.Causes.{Rose, CountsFaults}
 use Rattle.process_disk.specs.Disk.{FileSet, Disk, file_of, put, TornIn}
+use Rattle.process_disk.specs.Calls.{OnlyLooks}
 use Rattle.process_disk.specs.declared.changes.Change.{Change}
 use Rattle.process_disk.specs.declared.changes.Change.TheVariants.{Written, Synced}
 use Rattle.process_disk.specs.declared.changes.Recorded.{Recorded}
@@ -98,6 +99,13 @@ pub record IsCall {T E : Type 0} (old new : MemoryDisk) (result : Result T E) : 
   pub counted : new.calls ≡ min (old.calls + 1) (2 ^ 64 - 1)
   pub first : new.first ≡ old.first
 
+-- A call of it that only looks: it makes no change.
+pub record IsLook {T E : Type 0} (old new : MemoryDisk) (result : Result T E) : Type 0 where
+  pub looks : OnlyLooks (disk_of old) (disk_of new)
+  pub faults : CountsFaults old.faults new.faults result
+  pub call : IsCall old new result
+  pub made : new.made ≡ old.made
+
 -- the same files, made by the same changes, and the same list
 pub record SameFiles (old new : MemoryDisk) : Type 0 where
   pub first : new.first ≡ old.first
@@ -111,3 +119,11 @@ pub record SameCounts (old new : MemoryDisk) : Type 0 where
   pub calls : new.calls ≡ old.calls
   pub faults : new.faults ≡ old.faults
   pub starved : new.starved ≡ old.starved
+
+-- one fault more is counted, up to the last value, and the files and the calls stay
+pub record IsFault (old new : MemoryDisk) : Type 0 where
+  pub same : SameFiles old new
+  pub calls : new.calls ≡ old.calls
+  pub rose : Rose old.faults new.faults
+  pub by_one : new.faults ≡ min (old.faults + 1) (2 ^ 64 - 1)
+  pub later : old.faults ≤ new.faults

@@ -25,7 +25,7 @@ impl MemoryRack {
     ghost use Rattle.std.specs.Prelude.{◌≡◌, ◌<◌, ◌≤◌, ◌+◌, ◌-◌, ◌^◌, ◌↔◌, ◌∷◌, length, min, take, drop, reverse, IsTrue, Contains, IfOk, OnOk, OnErr};
     ghost use Rattle.process_flow.specs.Causes.{Rose};
     ghost use Rattle.process_disk.specs.Disk.{file_of};
-    ghost use Rattle.process_disk.specs.Memory.{nine_empty, fresh, files_after, writing, syncing, SameFiles, SameCounts};
+    ghost use Rattle.process_disk.specs.Memory.{nine_empty, fresh, files_after, writing, syncing, SameFiles, SameCounts, IsFault};
     ghost use Rattle.process_disk.specs.MemoryView.{memory};
 
     /// Nine empty files.
@@ -104,11 +104,7 @@ impl MemoryRack {
 
     // Counts a fault.
     pub(crate) fn fail(&mut self) -> Failed
-        ensures same { SameFiles (memory self.old) (memory self.new) }
-        ensures calls { (memory self.new).calls ≡ (memory self.old).calls }
-        ensures faults { Rose (memory self.old).faults (memory self.new).faults }
-        ensures by_one { (memory self.new).faults ≡ min ((memory self.old).faults + 1) (2 ^ 64 - 1) }
-        ensures faults_later { (memory self.old).faults ≤ (memory self.new).faults }
+        ensures fault { IsFault (memory self.old) (memory self.new) }
         ensures starved { (memory self.new).starved ≡ (memory self.old).starved }
     {
         self.faults = self.faults.saturating_add(1);
@@ -117,11 +113,7 @@ impl MemoryRack {
 
     // Counts a fault for want of memory.
     pub(crate) fn starve(&mut self) -> Failed
-        ensures same { SameFiles (memory self.old) (memory self.new) }
-        ensures calls { (memory self.new).calls ≡ (memory self.old).calls }
-        ensures faults { Rose (memory self.old).faults (memory self.new).faults }
-        ensures by_one { (memory self.new).faults ≡ min ((memory self.old).faults + 1) (2 ^ 64 - 1) }
-        ensures faults_later { (memory self.old).faults ≤ (memory self.new).faults }
+        ensures fault { IsFault (memory self.old) (memory self.new) }
         ensures starved { Rose (memory self.old).starved (memory self.new).starved }
         ensures starved_later { (memory self.old).starved ≤ (memory self.new).starved }
     {

@@ -1,8 +1,9 @@
 // The calls of a rack in memory.
 ghost use Rattle.std.specs.Prelude.{◌≡◌, ◌<◌, ◌≤◌, ◌∷◌, length, take, drop, min, IfOk, OnOk, OnErr};
-ghost use Rattle.process_flow.specs.Causes.{HasCause};
-ghost use Rattle.process_disk.specs.Disk.{file_of, put, Only, Looks, Writes};
-ghost use Rattle.process_disk.specs.Memory.{IsCall, KeepsWrite, syncing, disk_of};
+ghost use Rattle.process_flow.specs.Causes.{CountsFaults};
+ghost use Rattle.process_disk.specs.Disk.{file_of, put, Only};
+ghost use Rattle.process_disk.specs.Calls.{OnlyLooks, OnlyWrites};
+ghost use Rattle.process_disk.specs.Memory.{IsCall, IsLook, KeepsWrite, syncing, disk_of};
 ghost use Rattle.process_disk.specs.MemoryView.{memory};
 
 use crate::{MemoryRack, Rack};
@@ -22,10 +23,7 @@ impl Rack for MemoryRack {
     fn len(&mut self, file: u8) -> Result<u64, Failed>
         requires { file < 9 }
         ensures len { IfOk result (λ n. n ≡ length (file_of (disk_of (memory self.old)).files file)) }
-        ensures looks { Looks (disk_of (memory self.old)) (disk_of (memory self.new)) }
-        ensures cause { HasCause (memory self.old).faults (memory self.new).faults result }
-        ensures call { IsCall (memory self.old) (memory self.new) result }
-        ensures made { (memory self.new).made ≡ (memory self.old).made }
+        ensures look { IsLook (memory self.old) (memory self.new) result }
     {
         if self.begin() {
             return Err(self.fail());
@@ -38,10 +36,7 @@ impl Rack for MemoryRack {
         ensures count { IfOk result (λ n. n ≡ min (length buf.old) (length (drop at (file_of (disk_of (memory self.old)).files file)))) }
         ensures bytes { IfOk result (λ n. take n buf.new ≡ take n (drop at (file_of (disk_of (memory self.old)).files file))) }
         ensures bound { IfOk result (λ n. n ≤ length buf.old) }
-        ensures looks { Looks (disk_of (memory self.old)) (disk_of (memory self.new)) }
-        ensures cause { HasCause (memory self.old).faults (memory self.new).faults result }
-        ensures call { IsCall (memory self.old) (memory self.new) result }
-        ensures made { (memory self.new).made ≡ (memory self.old).made }
+        ensures look { IsLook (memory self.old) (memory self.new) result }
     {
         if self.begin() {
             return Err(self.fail());
@@ -53,8 +48,8 @@ impl Rack for MemoryRack {
         requires file { file < 9 }
         requires place { at ≤ length (file_of (disk_of (memory self.old)).files file) }
         ensures written { OnOk result ((disk_of (memory self.new)).files ≡ put (disk_of (memory self.old)).files file at bytes.now) }
-        ensures writes { Writes file at (length bytes.now) (disk_of (memory self.old)) (disk_of (memory self.new)) }
-        ensures cause { HasCause (memory self.old).faults (memory self.new).faults result }
+        ensures writes { OnlyWrites file at (length bytes.now) (disk_of (memory self.old)) (disk_of (memory self.new)) }
+        ensures faults { CountsFaults (memory self.old).faults (memory self.new).faults result }
         ensures call { IsCall (memory self.old) (memory self.new) result }
         ensures made { KeepsWrite file at bytes.now (memory self.old) (memory self.new) result }
     {
@@ -68,8 +63,8 @@ impl Rack for MemoryRack {
 
     fn sync(&mut self) -> Result<(), Failed>
         ensures durable { OnOk result (Only (disk_of (memory self.new)).files (disk_of (memory self.new)).may_leave) }
-        ensures looks { Looks (disk_of (memory self.old)) (disk_of (memory self.new)) }
-        ensures cause { HasCause (memory self.old).faults (memory self.new).faults result }
+        ensures looks { OnlyLooks (disk_of (memory self.old)) (disk_of (memory self.new)) }
+        ensures faults { CountsFaults (memory self.old).faults (memory self.new).faults result }
         ensures call { IsCall (memory self.old) (memory self.new) result }
         ensures finished { OnOk result ((memory self.new).made ≡ syncing (memory self.old).calls ∷ (memory self.old).made) }
         ensures unfinished { OnErr result ((memory self.new).made ≡ (memory self.old).made) }

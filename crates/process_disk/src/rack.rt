@@ -1,7 +1,8 @@
 // Nine files as the layers above see them.
 ghost use Rattle.std.specs.Prelude.{◌≡◌, ◌<◌, ◌≤◌, ℕ, length, take, drop, min, IfOk, OnOk};
-ghost use Rattle.process_flow.specs.Causes.{HasCause};
-ghost use Rattle.process_disk.specs.Disk.{Disk, Told, file_of, put, Only, Looks, Writes, IsHonest};
+ghost use Rattle.process_flow.specs.Causes.{CountsFaults};
+ghost use Rattle.process_disk.specs.Disk.{Disk, Told, file_of, put, Only, IsHonest};
+ghost use Rattle.process_disk.specs.Calls.{OnlyLooks, OnlyWrites};
 
 use process_flow::Failed;
 
@@ -17,10 +18,8 @@ pub trait Rack {
     fn len(&mut self, file: u8) -> Result<u64, Failed>
         requires { file < 9 }
         ensures len { Told (disk self.old) → IfOk result (λ n. n ≡ length (file_of (disk self.old).files file)) }
-        ensures looks { Told (disk self.old) → Looks (disk self.old) (disk self.new) }
-        ensures tells { (disk self.new).tells ≡ (disk self.old).tells }
-        ensures cause { HasCause (faults self.old) (faults self.new) result }
-        ensures quiet { OnOk result (faults self.new ≡ faults self.old) };
+        ensures looks { OnlyLooks (disk self.old) (disk self.new) }
+        ensures faults { CountsFaults (faults self.old) (faults self.new) result };
 
     /// Reads a file's bytes from a place on into the buffer's front, and says how many there were, at most the buffer.
     fn read(&mut self, file: u8, at: u64, buf: &mut [u8]) -> Result<usize, Failed>
@@ -29,10 +28,8 @@ pub trait Rack {
             IfOk result (λ n. n ≡ min (length buf.old) (length (drop at (file_of (disk self.old).files file)))) }
         ensures bytes { Told (disk self.old) → IfOk result (λ n. take n buf.new ≡ take n (drop at (file_of (disk self.old).files file))) }
         ensures bound { IfOk result (λ n. n ≤ length buf.old) }
-        ensures looks { Told (disk self.old) → Looks (disk self.old) (disk self.new) }
-        ensures tells { (disk self.new).tells ≡ (disk self.old).tells }
-        ensures cause { HasCause (faults self.old) (faults self.new) result }
-        ensures quiet { OnOk result (faults self.new ≡ faults self.old) };
+        ensures looks { OnlyLooks (disk self.old) (disk self.new) }
+        ensures faults { CountsFaults (faults self.old) (faults self.new) result };
 
     /// Writes over what is there, and past the end. Until a sync is finished a crash may leave any bytes in the range; after
     /// an `Err` a read too may give any.
@@ -40,18 +37,14 @@ pub trait Rack {
         requires file { file < 9 }
         requires place { Told (disk self.old) → at ≤ length (file_of (disk self.old).files file) }
         ensures written { Told (disk self.old) → OnOk result ((disk self.new).files ≡ put (disk self.old).files file at bytes.now) }
-        ensures writes { Told (disk self.old) → Writes file at (length bytes.now) (disk self.old) (disk self.new) }
-        ensures tells { (disk self.new).tells ≡ (disk self.old).tells }
-        ensures cause { HasCause (faults self.old) (faults self.new) result }
-        ensures quiet { OnOk result (faults self.new ≡ faults self.old) };
+        ensures writes { OnlyWrites file at (length bytes.now) (disk self.old) (disk self.new) }
+        ensures faults { CountsFaults (faults self.old) (faults self.new) result };
 
     /// After it a crash leaves what a read gives. After an `Err` what was not on the disk before may still not be.
     fn sync(&mut self) -> Result<(), Failed>
         ensures durable { Told (disk self.old) → OnOk result (Only (disk self.new).files (disk self.new).may_leave) }
-        ensures looks { Told (disk self.old) → Looks (disk self.old) (disk self.new) }
-        ensures tells { (disk self.new).tells ≡ (disk self.old).tells }
-        ensures cause { HasCause (faults self.old) (faults self.new) result }
-        ensures quiet { OnOk result (faults self.new ≡ faults self.old) };
+        ensures looks { OnlyLooks (disk self.old) (disk self.new) }
+        ensures faults { CountsFaults (faults self.old) (faults self.new) result };
 
     ghost honest: { (rack : Self) → Told (disk rack) → IsHonest (disk rack) };
 }

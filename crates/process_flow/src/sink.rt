@@ -2,7 +2,7 @@
 ghost use Rattle.std.specs.Prelude.{◌≡◌, ◌<◌, ◌≤◌, ◌+◌, ◌-◌, ◌^◌, ◌⊎◌, List, ℕ, length, take, min, IfOk, IfErr, OnOk, OnErr, IsErr, Contains};
 ghost use Rattle.std.specs.declared.option.Option.{Option};
 ghost use Rattle.std.specs.Io.KnownBytes.{WriteAppends, Appends};
-ghost use Rattle.process_flow.specs.Causes.{Rose, HasCause};
+ghost use Rattle.process_flow.specs.Causes.{Rose, HasCause, CountsFaults, CountsOne};
 
 use crate::{Counted, Failed, is_listed};
 use std::alloc::Global;
@@ -25,8 +25,7 @@ pub trait Sink {
         ensures some { IfOk result (λ n. 0 < n) }
         ensures bound { IfOk result (λ n. n ≤ length bytes.now) }
         ensures bytes { WriteAppends (taken self.old) (taken self.new) result bytes.now }
-        ensures cause { HasCause (faults self.old) (faults self.new) result }
-        ensures quiet { OnOk result (faults self.new ≡ faults self.old) };
+        ensures faults { CountsFaults (faults self.old) (faults self.new) result };
 }
 
 /// A sink in memory, of which the listed calls fail, numbered from 0.
@@ -89,9 +88,7 @@ impl Sink for MemorySink {
         ensures some { IfOk result (λ n. 0 < n) }
         ensures bound { IfOk result (λ n. n ≤ length bytes.now) }
         ensures bytes { WriteAppends (Some self.old.taken) (Some self.new.taken) result bytes.now }
-        ensures cause { HasCause self.old.faults self.new.faults result }
-        ensures quiet { OnOk result (self.new.faults ≡ self.old.faults) }
-        ensures by_one { OnErr result (self.new.faults ≡ min (self.old.faults + 1) (2 ^ 64 - 1)) }
+        ensures faults { CountsOne self.old.faults self.new.faults result }
         ensures listed { Contains self.old.fails self.old.calls → IsErr result }
         ensures failed { IsErr result → Contains self.old.fails self.old.calls ⊎ Rose self.old.starved self.new.starved }
         ensures starved { OnOk result (self.new.starved ≡ self.old.starved) }
@@ -131,9 +128,7 @@ impl<T: Write + Drop> Sink for Counted<T> {
         ensures some { IfOk result (λ n. 0 < n) }
         ensures bound { IfOk result (λ n. n ≤ length bytes.now) }
         ensures bytes { WriteAppends (T.contents self.old.inner) (T.contents self.new.inner) result bytes.now }
-        ensures cause { HasCause self.old.faults self.new.faults result }
-        ensures quiet { OnOk result (self.new.faults ≡ self.old.faults) }
-        ensures by_one { OnErr result (self.new.faults ≡ min (self.old.faults + 1) (2 ^ 64 - 1)) }
+        ensures faults { CountsOne self.old.faults self.new.faults result }
     {
         match self.inner.write(bytes) {
             Ok(count) if count > 0 => Ok(count),

@@ -3,7 +3,7 @@ ghost use Rattle.std.specs.Prelude.{◌≡◌, ◌<◌, ◌≤◌, ◌+◌, ◌-
 ghost use Rattle.std.specs.declared.option.Option.{Option};
 ghost use Rattle.std.specs.Io.{ReadsAtMost};
 ghost use Rattle.std.specs.Io.KnownBytes.{ReadConsumes, Consumes, IsAtEnd};
-ghost use Rattle.process_flow.specs.Causes.{Rose, HasCause};
+ghost use Rattle.process_flow.specs.Causes.{Rose, CountsFaults, CountsOne};
 ghost use Rattle.process_flow.specs.Reading.{AnswersFor, text_of};
 ghost use Rattle.process_flow.specs.declared.source.ReadError.TheVariants.{NoMemory};
 
@@ -27,8 +27,7 @@ pub trait Source {
         requires { 0 < length buf.old }
         ensures bound { ReadsAtMost result buf.new }
         ensures bytes { ReadConsumes (left self.old) (left self.new) result buf.new }
-        ensures cause { HasCause (faults self.old) (faults self.new) result }
-        ensures quiet { OnOk result (faults self.new ≡ faults self.old) };
+        ensures faults { CountsFaults (faults self.old) (faults self.new) result };
 }
 
 /// A source over bytes in memory, of which the listed calls fail, numbered from 0.
@@ -79,9 +78,7 @@ impl Source for MemorySource {
         requires { 0 < length buf.old }
         ensures bound { ReadsAtMost result buf.new }
         ensures bytes { ReadConsumes (Some self.old.left) (Some self.new.left) result buf.new }
-        ensures cause { HasCause self.old.faults self.new.faults result }
-        ensures quiet { OnOk result (self.new.faults ≡ self.old.faults) }
-        ensures by_one { OnErr result (self.new.faults ≡ min (self.old.faults + 1) (2 ^ 64 - 1)) }
+        ensures faults { CountsOne self.old.faults self.new.faults result }
         ensures fails_where_listed { IsErr result ↔ Contains self.old.fails self.old.calls }
         ensures most { IfOk result (λ n. n ≡ min (length self.old.left) (length buf.old)) }
         ensures list { self.new.fails ≡ self.old.fails }
@@ -122,9 +119,7 @@ impl<T: Read + Drop> Source for Counted<T> {
         requires { 0 < length buf.old }
         ensures bound { ReadsAtMost result buf.new }
         ensures bytes { ReadConsumes (T.remaining self.old.inner) (T.remaining self.new.inner) result buf.new }
-        ensures cause { HasCause self.old.faults self.new.faults result }
-        ensures quiet { OnOk result (self.new.faults ≡ self.old.faults) }
-        ensures by_one { OnErr result (self.new.faults ≡ min (self.old.faults + 1) (2 ^ 64 - 1)) }
+        ensures faults { CountsOne self.old.faults self.new.faults result }
     {
         match self.inner.read(buf) {
             Ok(count) => Ok(count),

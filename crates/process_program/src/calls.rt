@@ -1,8 +1,8 @@
 // A call of the program.
-ghost use Rattle.std.specs.Prelude.{◌≡◌, ◌⊎◌, drop, map, string_bytes, IfOk};
+ghost use Rattle.std.specs.Prelude.{◌≡◌, drop, map, string_bytes, IfOk};
 ghost use Rattle.std.specs.Process.{exit_status};
 ghost use Rattle.std.specs.Vec.Iter.{into_iter_items, into_iter_len};
-ghost use Rattle.process_top.specs.Reply.{IsAnswered, IsComplete};
+ghost use Rattle.process_program.specs.Ends.{EndsSo};
 ghost use Rattle.process_program.specs.Words.{words_behind};
 
 use file_rack::{FileRack, Folder, SystemFolder};
@@ -56,23 +56,14 @@ pub fn program<H, S: Source, K: Sink, D: Folder + Drop>(
     sink: &mut K,
     folder: D,
 ) -> Ended<D>
-    // What `top` answers to these words; or there is no memory for the words, and nothing is touched.
-    ensures answered { IsAnswered (words_behind args)
+    ensures ends { EndsSo (words_behind args)
         (record { left = S.left source.old; faults = S.faults source.old })
         (record { left = S.left source.new; faults = S.faults source.new })
         (record { disk = D.disk folder; faults = 0 })
         (record { disk = D.disk result.rack.folder; faults = result.rack.faults })
         (record { taken = K.taken sink.old; faults = K.faults sink.old })
-        (record { taken = K.taken sink.new; faults = K.faults sink.new }) (exit_status result.code)
-        ⊎ ((exit_status result.code ≡ 13) × (source.new ≡ source.old) × (sink.new ≡ sink.old) × (result.rack.folder ≡ folder)) }
-    ensures complete { IsComplete (words_behind args)
-        (record { left = S.left source.old; faults = S.faults source.old })
-        (record { left = S.left source.new; faults = S.faults source.new })
-        (record { disk = D.disk folder; faults = 0 })
-        (record { disk = D.disk result.rack.folder; faults = result.rack.faults })
-        (record { taken = K.taken sink.old; faults = K.faults sink.old })
-        (record { taken = K.taken sink.new; faults = K.faults sink.new }) (exit_status result.code)
-        ⊎ (exit_status result.code ≡ 13) }
+        (record { taken = K.taken sink.new; faults = K.faults sink.new })
+        (exit_status result.code) ((source.new ≡ source.old) × (sink.new ≡ sink.old) × (result.rack.folder ≡ folder)) }
 {
     let Ok(words) = words(alloc, args) else {
         return Ended {

@@ -17,11 +17,12 @@ loop-count-preserved g c =
     record {
       within = omega (arith, so.within, step.bound, split.ensures.front_len, c.read.auto.buf, length-append split.result.0.now c.read.new.buf);
       read = λ told.
-          let part = subst (λ fs. IsPart (drop c.in-Some.place (file_of fs c.args.file)) c.read.new.buf c.in-Ok.more) ((so.looks told).files) (step.part (still_told old mid so.tells told)) in
+          let part = subst (λ fs. IsPart (drop c.in-Some.place (file_of fs c.args.file)) c.read.new.buf c.in-Ok.more) ((so.looks.looks told).files) (step.part (still_told old mid so.looks.tells told)) in
           read_more (file_of old.files c.args.file) split.result.0.now c.read.new.buf c.loop-count.buf c.args.at c.in-Some.place c.loop-count.count c.in-Ok.more split.ensures.front split.ensures.front_len there (so.read told) part;
-      looks = λ told. looks_then old mid (D.disk c.read.new.self) (g.met.D.Folder.honest c.args.folder.now told) (so.looks told) (step.looks (still_told old mid so.tells told));
-      tells = step.tells ∙ so.tells;
-      taken = step.taken ∙ so.taken;
-      syncs = step.syncs ∙ so.syncs;
-      quiet = step.quiet ∙ so.quiet;
+      looks = record {
+        looks = λ told. looks_then old mid (D.disk c.read.new.self) (g.met.D.Folder.honest c.args.folder.now told) (so.looks.looks told) (step.looks.looks (still_told old mid so.looks.tells told));
+        tells = step.looks.tells ∙ so.looks.tells;
+      };
+      stays = (step.stays.0 ∙ so.stays.0, step.stays.1 ∙ so.stays.1);
+      quiet = step.faults.quiet ∙ so.quiet;
     }

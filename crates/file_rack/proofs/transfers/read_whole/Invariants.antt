@@ -1,5 +1,6 @@
 use Rattle.std.proofs.Common.{◌≡◌, ◌-◌, ◌≤◌, length}
-use Rattle.process_disk.specs.Disk.{Told, file_of, Looks}
+use Rattle.process_disk.specs.Disk.{Told, file_of}
+use Rattle.process_disk.specs.Calls.{OnlyLooks}
 use Rattle.file_rack.proofs.WholeCalls.{IsReadTo}
 use Rattle.file_rack.proofs.transfers.read_whole.Given as goal
 
@@ -7,10 +8,8 @@ abbrev pub invariant-loop-count : goal.invariant-loop-count
 invariant-loop-count g l = record {
   within : l.count ≤ length l.buf;
   read : Told (g.D.Folder.disk l.fn.folder) → IsReadTo (file_of (g.D.Folder.disk l.fn.folder).files l.file) l.buf l.at l.count;
-  looks : Told (g.D.Folder.disk l.fn.folder) → Looks (g.D.Folder.disk l.fn.folder) (g.D.Folder.disk l.folder);
-  tells : (g.D.Folder.disk l.folder).tells ≡ (g.D.Folder.disk l.fn.folder).tells;
-  taken : g.D.Folder.taken l.folder ≡ g.D.Folder.taken l.fn.folder;
-  syncs : g.D.Folder.syncs l.folder ≡ g.D.Folder.syncs l.fn.folder;
+  looks : OnlyLooks (g.D.Folder.disk l.fn.folder) (g.D.Folder.disk l.folder);
+  stays : (g.D.Folder.taken l.folder ≡ g.D.Folder.taken l.fn.folder) × (g.D.Folder.syncs l.folder ≡ g.D.Folder.syncs l.fn.folder);
   quiet : g.D.Folder.faults l.folder ≡ g.D.Folder.faults l.fn.folder;
 }
 

@@ -18,17 +18,19 @@ loop-file-preserved g c = elim c.if-marks-from.branch [
       let step = w.in_ok-sync.ensures in
       rw w.folder-is record {
         kept = λ marks told.
-            let told_mid = still_told old mid so.tells told in
-            kept_further new c.loop-file.file (λ k below. kept_by_look k mid new (step.looks told_mid) (so.kept marks told k below)) (step.kept told_mid);
+            let told_mid = still_told old mid so.looks.tells told in
+            kept_further new c.loop-file.file (λ k below. kept_by_look k mid new (step.looks.looks told_mid) (so.kept marks told k below)) (step.kept told_mid);
         synced = λ k below marked. elim (cases_eq k c.loop-file.file) [
           | inl same ↦ subst (λ j. Rose (syncs_of (D.syncs c.args.folder.now) j) (syncs_of (D.syncs w.sync.new.self) j)) (sym same) (omega (arith, so.never_fell c.loop-file.file, step.synced.rose))
           | inr other ↦ let rose = so.synced k (omega (arith, below, other)) marked in omega (arith, rose, step.synced.never_fell k)
         ];
         never_fell = λ k. omega (arith, so.never_fell k, step.synced.never_fell k);
-        looks = λ told. looks_then old mid new (g.met.D.Folder.honest c.args.folder.now told) (so.looks told) (step.looks (still_told old mid so.tells told));
-        tells = step.tells ∙ so.tells;
+        looks = record {
+          looks = λ told. looks_then old mid new (g.met.D.Folder.honest c.args.folder.now told) (so.looks.looks told) (step.looks.looks (still_told old mid so.looks.tells told));
+          tells = step.looks.tells ∙ so.looks.tells;
+        };
         taken = step.taken ∙ so.taken;
-        quiet = step.quiet ∙ so.quiet;
+        quiet = step.faults.quiet ∙ so.quiet;
       }
   | else-marks-from w ↦
       let D = g.D.Folder in
@@ -38,14 +40,13 @@ loop-file-preserved g c = elim c.if-marks-from.branch [
       let below_nine : c.loop-file.file < 9 = search rules in
       let unmarked : IsUnmarked c.args.marks.now c.loop-file.file = search rules in
       rw w.folder-is record {
-        kept = λ marks told. kept_further mid c.loop-file.file (so.kept marks told) (kept_by_look c.loop-file.file old mid (so.looks told) (marks told c.loop-file.file below_nine unmarked));
+        kept = λ marks told. kept_further mid c.loop-file.file (so.kept marks told) (kept_by_look c.loop-file.file old mid (so.looks.looks told) (marks told c.loop-file.file below_nine unmarked));
         synced = λ k below marked. elim (cases_eq k c.loop-file.file) [
           | inl same ↦ absurd (false≢true (sym unmarked ∙ subst (λ j. IsMarked c.args.marks.now j) same marked))
           | inr other ↦ so.synced k (omega (arith, below, other)) marked
         ];
         never_fell = so.never_fell;
         looks = so.looks;
-        tells = so.tells;
         taken = so.taken;
         quiet = so.quiet;
       }

@@ -1,6 +1,7 @@
 use Rattle.std.proofs.Common.{◌≡◌, ◌<◌, ◌≤◌, ℕ}
 use Rattle.process_flow.specs.Causes.{Rose}
-use Rattle.process_disk.specs.Disk.{Told, Looks}
+use Rattle.process_disk.specs.Disk.{Told}
+use Rattle.process_disk.specs.Calls.{OnlyLooks}
 use Rattle.file_rack.specs.Folder.{IsKept, AreKept, IsMarked, syncs_of}
 use Rattle.file_rack.proofs.transfers.sync_marked.Given as goal
 
@@ -9,8 +10,7 @@ invariant-loop-file g l = record {
   kept : AreKept l.marks (g.D.Folder.disk l.fn.folder) → Told (g.D.Folder.disk l.fn.folder) → (k : ℕ) → k < l.file → IsKept k (g.D.Folder.disk l.folder);
   synced : (k : ℕ) → k < l.file → IsMarked l.marks k → Rose (syncs_of (g.D.Folder.syncs l.fn.folder) k) (syncs_of (g.D.Folder.syncs l.folder) k);
   never_fell : (k : ℕ) → syncs_of (g.D.Folder.syncs l.fn.folder) k ≤ syncs_of (g.D.Folder.syncs l.folder) k;
-  looks : Told (g.D.Folder.disk l.fn.folder) → Looks (g.D.Folder.disk l.fn.folder) (g.D.Folder.disk l.folder);
-  tells : (g.D.Folder.disk l.folder).tells ≡ (g.D.Folder.disk l.fn.folder).tells;
+  looks : OnlyLooks (g.D.Folder.disk l.fn.folder) (g.D.Folder.disk l.folder);
   taken : g.D.Folder.taken l.folder ≡ g.D.Folder.taken l.fn.folder;
   quiet : g.D.Folder.faults l.folder ≡ g.D.Folder.faults l.fn.folder;
 }

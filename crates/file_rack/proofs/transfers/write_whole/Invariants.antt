@@ -1,15 +1,14 @@
 use Rattle.std.proofs.Common.{◌≡◌, ◌-◌, ◌≤◌, length, take}
-use Rattle.process_disk.specs.Disk.{Told, put, Writes}
+use Rattle.process_disk.specs.Disk.{Told, put}
+use Rattle.process_disk.specs.Calls.{OnlyWrites}
 use Rattle.file_rack.proofs.transfers.write_whole.Given as goal
 
 abbrev pub invariant-loop-sent : goal.invariant-loop-sent
 invariant-loop-sent g l = record {
   within : l.sent ≤ length l.bytes;
   written : Told (g.D.Folder.disk l.fn.folder) → (g.D.Folder.disk l.folder).files ≡ put (g.D.Folder.disk l.fn.folder).files l.file l.at (take l.sent l.bytes);
-  writes : Told (g.D.Folder.disk l.fn.folder) → Writes l.file l.at (length l.bytes) (g.D.Folder.disk l.fn.folder) (g.D.Folder.disk l.folder);
-  tells : (g.D.Folder.disk l.folder).tells ≡ (g.D.Folder.disk l.fn.folder).tells;
-  taken : g.D.Folder.taken l.folder ≡ g.D.Folder.taken l.fn.folder;
-  syncs : g.D.Folder.syncs l.folder ≡ g.D.Folder.syncs l.fn.folder;
+  writes : OnlyWrites l.file l.at (length l.bytes) (g.D.Folder.disk l.fn.folder) (g.D.Folder.disk l.folder);
+  stays : (g.D.Folder.taken l.folder ≡ g.D.Folder.taken l.fn.folder) × (g.D.Folder.syncs l.folder ≡ g.D.Folder.syncs l.fn.folder);
   quiet : g.D.Folder.faults l.folder ≡ g.D.Folder.faults l.fn.folder;
 }
 

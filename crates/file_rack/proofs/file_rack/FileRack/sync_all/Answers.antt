@@ -17,11 +17,11 @@ invariant_of-self-2 g c =
     let one = D.disk entered.folder in
     let two = D.disk c.sync_names.new.self in
     let new = D.disk c.sync_marked.new.folder in
-    let marks = kept_by_looks entered.unsynced one two c.sync_names.ensures.tells c.sync_names.ensures.looks entered.kept in
+    let marks = kept_by_looks entered.unsynced one two c.sync_names.ensures.looks.tells c.sync_names.ensures.looks.looks entered.kept in
     record {
       has_taken = λ taken. c.sync_marked.ensures.taken ∙ c.sync_names.ensures.taken ∙ entered.has_taken taken;
       broken_by = λ broken. absurd (false≢true (sym (c.take.ensures.broken ∙ c.requires) ∙ broken));
-      kept = λ told k below unmarked. c.in_ok-sync_marked.ensures.kept marks (told_before two new c.sync_marked.ensures.tells told) k below;
+      kept = λ told k below unmarked. c.in_ok-sync_marked.ensures.kept marks (told_before two new c.sync_marked.ensures.looks.tells told) k below;
     }
 
 pub returns-clause-kept : goal.returns-clause-kept
@@ -31,19 +31,26 @@ returns-clause-kept g c told =
     let one = D.disk entered.folder in
     let two = D.disk c.sync_names.new.self in
     let new = D.disk c.sync_marked.new.folder in
-    let marks = kept_by_looks entered.unsynced one two c.sync_names.ensures.tells c.sync_names.ensures.looks entered.kept in
-    let told_two = still_told one two c.sync_names.ensures.tells (still_told (D.disk c.args.self.now.folder) one c.take.ensures.tells told) in
-    let told_new = still_told two new c.sync_marked.ensures.tells told_two in
+    let marks = kept_by_looks entered.unsynced one two c.sync_names.ensures.looks.tells c.sync_names.ensures.looks.looks entered.kept in
+    let told_two = still_told one two c.sync_names.ensures.looks.tells (still_told (D.disk c.args.self.now.folder) one c.take.ensures.looks.tells told) in
+    let told_new = still_told two new c.sync_marked.ensures.looks.tells told_two in
     only_by_kept new (g.met.D.Folder.honest c.sync_marked.new.folder told_new) (c.in_ok-sync_marked.ensures.kept marks told_two)
 
 pub returns-clause-looks : goal.returns-clause-looks
-returns-clause-looks g c told =
+returns-clause-looks g c =
     let D = g.D.Folder in
     let old = D.disk c.args.self.now.folder in
     let one = D.disk c.take.new.self.folder in
     let two = D.disk c.sync_names.new.self in
     let new = D.disk c.sync_marked.new.folder in
-    let honest = g.met.D.Folder.honest c.args.self.now.folder told in
-    let told_one = still_told old one c.in_ok-take.ensures.tells told in
-    let told_two = still_told one two c.in_ok-sync_names.ensures.tells told_one in
-    looks_then old two new honest (looks_then old one two honest (c.in_ok-take.ensures.looks told) (c.in_ok-sync_names.ensures.looks told_one)) (c.in_ok-sync_marked.ensures.looks told_two)
+    let first = c.in_ok-take.ensures.looks in
+    let second = c.in_ok-sync_names.ensures.looks in
+    let third = c.in_ok-sync_marked.ensures.looks in
+    record {
+      looks = λ told.
+          let honest = g.met.D.Folder.honest c.args.self.now.folder told in
+          let told_one = still_told old one first.tells told in
+          let told_two = still_told one two second.tells told_one in
+          looks_then old two new honest (looks_then old one two honest (first.looks told) (second.looks told_one)) (third.looks told_two);
+      tells = third.tells ∙ second.tells ∙ first.tells;
+    }

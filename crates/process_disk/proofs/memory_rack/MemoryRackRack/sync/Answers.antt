@@ -1,4 +1,4 @@
-use Rattle.std.proofs.Common.{◌≡◌, ◌∷◌, ◌∙◌, rules}
+use Rattle.std.proofs.Common.{◌≡◌, ◌∷◌, ◌∙◌, refl, rules}
 use Rattle.process_disk.specs.Memory.{syncing}
 use Rattle.process_disk.specs.MemoryLaws.{read_is_image}
 use Rattle.process_disk.specs.MemoryView.{memory}
@@ -12,4 +12,7 @@ returns-in-Ok-clause-looks c =
     let sound = c.args.self.now.sound in
     let first : new.first ≡ old.first = c.finish_sync.ensures.same.first ∙ c.begin.ensures.same.first in
     let made : new.made ≡ syncing old.calls ∷ old.made = search rules in
-    looks_by_sync old new old.calls sound.nine (read_is_image old.first old.made sound.nine sound.placed) first made
+    record {
+      looks = λ told. looks_by_sync old new old.calls sound.nine (read_is_image old.first old.made sound.nine sound.placed) first made;
+      tells = refl;
+    }
