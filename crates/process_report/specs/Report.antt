@@ -1,0 +1,78 @@
+-- The report: seven sections, each a line with its title and then its lines.
+use Rattle.std.specs.Prelude.{ℕ, ◌-◌, List, [], ◌∷◌, ◌++◌, length, map, filter, flat_map, codes, decimal, if◌then◌else◌}
+use Rattle.process_tree.specs.Blocks.{numbers_from}
+use Rattle.process_tree.specs.Conflicts.{do_conflict}
+use Rattle.commute_table.specs.declared.op.Op.{Op}
+use Rattle.commute_table.specs.declared.catalog.Catalog.{Catalog}
+use Rattle.schedule_model.specs.declared.history.History.{History}
+use Rattle.schedule_model.specs.Completion.{completion}
+use Rattle.schedule_model.specs.Course.{courses_of}
+use Rattle.schedule_model.specs.Histories.{is_active, net_steps}
+use Rattle.schedule_model.specs.PrintedTrace.{printed_trace}
+use Rattle.machine_model.specs.declared.began.Cause.{Cause}
+use Rattle.process_report.specs.Names.{process_name, step_name, op_name}
+use Rattle.process_report.specs.Lines.{Line, text_of, event_line, entry_line, cause_line, step_line}
+
+-- `A B`, two operations by their numbers
+abbrev pub pair_line : List Op → ℕ → ℕ → Line
+pair_line ops a b = op_name ops a ∷ op_name ops b ∷ []
+
+-- the operations that conflict with operation a, from a itself on
+abbrev pub conflicting : Catalog → ℕ → List ℕ
+conflicting c a = filter (do_conflict c.conflicts a) (numbers_from a (length c.ops - a))
+
+-- each pair of operations that conflict, by numbers, the lesser first
+abbrev pub conflicts_lines : Catalog → List Line
+conflicts_lines c = flat_map (λ a. map (pair_line c.ops a) (conflicting c a)) (numbers_from 0 (length c.ops))
+
+-- the events
+abbrev pub history_lines : Catalog → History → List Line
+history_lines c h = map (event_line h.plans c.ops) h.events
+
+-- the events that completion adds
+abbrev pub completion_lines : Catalog → History → List Line
+completion_lines c h = map (event_line h.plans c.ops) (completion (courses_of h.plans) h.events)
+
+-- what became of a process that ended: `path` with these steps, or `nothing` where there is none
+abbrev pub path_words : Line → Line
+path_words [] = codes "nothing" ∷ []
+path_words (step ∷ steps) = codes "path" ∷ step ∷ steps
+
+-- what became of process i: `active` where it hasn't ended, else its net steps in order
+abbrev pub end_words : History → ℕ → Line
+end_words h i = if is_active h.events i then codes "active" ∷ [] else path_words (map (step_name h.plans i) (net_steps h.events i))
+
+-- `I NAME` and what became of it
+abbrev pub end_line : History → ℕ → Line
+end_line h i = decimal i ∷ process_name h.plans i ∷ end_words h i
+
+-- the processes by number
+abbrev pub ends_lines : History → List Line
+ends_lines h = map (end_line h) (numbers_from 1 (length h.plans))
+
+-- the processes that began to complete, and why
+abbrev pub causes_lines : History → List (ℕ × Cause) → List Line
+causes_lines h causes = map (cause_line h.plans) causes
+
+-- the printed trace
+abbrev pub trace_lines : History → List Line
+trace_lines h = map step_line (printed_trace (courses_of h.plans) h.events).steps
+
+-- the entries of the last list
+abbrev pub serial_lines : Catalog → History → List Line
+serial_lines c h = map (entry_line h.plans c.ops) (printed_trace (courses_of h.plans) h.events).list
+
+-- a section: its title, and then its lines
+abbrev pub section : List ℕ → List Line → List ℕ
+section title lines = text_of ((title ∷ []) ∷ lines)
+
+-- the report
+abbrev pub report_text : Catalog → History → List (ℕ × Cause) → List ℕ
+report_text c h causes =
+    section (codes "conflicts") (conflicts_lines c)
+    ++ section (codes "history") (history_lines c h)
+    ++ section (codes "completion") (completion_lines c h)
+    ++ section (codes "ends") (ends_lines h)
+    ++ section (codes "causes") (causes_lines h causes)
+    ++ section (codes "trace") (trace_lines h)
+    ++ section (codes "serial") (serial_lines c h)

@@ -1,0 +1,20 @@
+//! The report of a history, and the text of a block.
+//!
+//! `specs/Report` says what is printed of a catalog, a history and the causes of a session: seven sections, each a title and lines.
+//! `specs/Lines` has the words of each line, and `specs/Names` the names that stand for numbers. `report` answers that text, and
+//! `blocked_text` what a piece waits on (`specs/Blocks`). What a history means is `schedule_model`'s, and `docs/FORMATS.md` has the
+//! format. Reading a report is no work of this crate.
+#![tactic(auto)]
+
+mod blocks;
+mod causes;
+mod conflicts;
+mod ends;
+mod events;
+mod lines;
+mod names;
+mod printing;
+mod steps;
+
+pub use blocks::blocked_text;
+pub use printing::report;
