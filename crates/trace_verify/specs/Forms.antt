@@ -116,6 +116,7 @@ cancel_of text = option_map Cancel (number_of text)
 abbrev pub step_of : List ℕ → List ℕ → Option TraceStep
 step_of word rest = if same_text word (codes "move") then move_of rest else (if same_text word (codes "cancel") then cancel_of rest else None)
 
+-- a step of the trace
 abbrev pub step_line : List ℕ → Option TraceStep
 step_line line = of_both step_of (cut 32 line)
 

@@ -39,10 +39,11 @@ is_named (n ∷ names) (suc k) w = is_named names k w
 abbrev pub StandOnce : List (List ℕ) → Type 0
 StandOnce names = (k : ℕ) (w : List ℕ) → is_named names k w ≡ (is_among names w && nat_eq (number_among names w) k)
 
--- the names of the steps of these acts, and of their operations
+-- the names of the steps of these acts
 abbrev pub step_names : List NamedAct → List (List ℕ)
 step_names acts = with_names [] (map (λ a. a.step) acts)
 
+-- and of their operations
 abbrev pub op_names : List NamedAct → List (List ℕ)
 op_names acts = with_names [] (map (λ a. a.op) acts)
 

@@ -27,15 +27,19 @@ unread = record { section = Opening; pairs = []; acts = []; steps = []; serial =
 abbrev pub in_section : Report → Section → Report
 in_section r s = record { section = s; pairs = r.pairs; acts = r.acts; steps = r.steps; serial = r.serial }
 
+-- two operations that conflict are added
 abbrev pub with_pair : Report → Pair → Report
 with_pair r p = record { section = r.section; pairs = r.pairs ++ p ∷ []; acts = r.acts; steps = r.steps; serial = r.serial }
 
+-- an act is added
 abbrev pub with_act : Report → NamedAct → Report
 with_act r a = record { section = r.section; pairs = r.pairs; acts = r.acts ++ a ∷ []; steps = r.steps; serial = r.serial }
 
+-- a step of the trace is added
 abbrev pub with_step : Report → TraceStep → Report
 with_step r s = record { section = r.section; pairs = r.pairs; acts = r.acts; steps = r.steps ++ s ∷ []; serial = r.serial }
 
+-- an entry of the printed serial list is added
 abbrev pub with_serial : Report → NamedAct → Report
 with_serial r a = record { section = r.section; pairs = r.pairs; acts = r.acts; steps = r.steps; serial = r.serial ++ a ∷ [] }
 
@@ -50,13 +54,13 @@ opened Causes line = if same_text line (codes "trace") then Some Trace else None
 opened Trace line = if same_text line (codes "serial") then Some Serial else None
 opened Serial line = None
 
--- an event is added. There are at most 32,768 acts
+-- an event is read, and its act is added, if it has one. There are at most 32,768 acts
 abbrev pub with_event : Report → Option (Option NamedAct) → Option Report
 with_event r None = None
 with_event r (Some None) = Some r
 with_event r (Some (Some a)) = if nat_lt (length r.acts) 32768 then Some (with_act r a) else None
 
--- a step is added. There are at most 65,536
+-- a step is read and added. There are at most 65,536
 abbrev pub with_new_step : Report → Option TraceStep → Option Report
 with_new_step r None = None
 with_new_step r (Some s) = if nat_lt (length r.steps) 65536 then Some (with_step r s) else None

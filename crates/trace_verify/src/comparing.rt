@@ -1,6 +1,6 @@
 // The printed serial list against the last list.
 ghost use Rattle.std.specs.Prelude.{◌≡◌, ◌≤◌, length};
-ghost use Rattle.trace_verify.specs.Verdicts.{is_printed, differs_from, same_way};
+ghost use Rattle.trace_verify.specs.Verdicts.{is_printed, differs_from};
 
 use crate::names::Names;
 use crate::report::NamedAct;

@@ -1,5 +1,5 @@
 // Texts cut at a byte.
-ghost use Rattle.std.specs.Prelude.{◌≡◌, ◌≤◌, MatchOption, Some, None, length, nat_eq};
+ghost use Rattle.std.specs.Prelude.{◌≡◌, ◌≤◌, MatchOption, Some, None, length};
 ghost use Rattle.std.specs.List.{list_all};
 ghost use Rattle.process_tree.specs.Name.{is_name};
 ghost use Rattle.trace_verify.specs.Lines.{cut, parts, size_before};

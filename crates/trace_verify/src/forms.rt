@@ -1,8 +1,7 @@
 // Lines by their forms.
 ghost use Rattle.std.specs.Prelude.{◌≡◌, Some};
 ghost use Rattle.std.specs.Option.{option_map};
-ghost use Rattle.process_tree.specs.Name.{is_name};
-ghost use Rattle.trace_verify.specs.Forms.{is_number, number_of, pair_of, pair_line, named_act, act_of, is_start, without_act, event_of, event_line, is_path, is_end, is_named_end, is_end_line, is_longer_cause, is_cause, is_cause_line, move_of, cancel_of, step_of, step_line, serial_line};
+ghost use Rattle.trace_verify.specs.Forms.{is_number, number_of, pair_line, named_act, act_of, is_start, without_act, event_of, event_line, is_path, is_end, is_named_end, is_end_line, is_longer_cause, is_cause, is_cause_line, move_of, cancel_of, step_line, serial_line};
 
 use crate::cutting::{are_names, cut};
 use crate::report::{NamedAct, Pair};

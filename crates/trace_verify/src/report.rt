@@ -1,5 +1,5 @@
 // What is read of a report.
-ghost use Rattle.std.specs.Prelude.{◌≡◌, [], OnOk};
+ghost use Rattle.std.specs.Prelude.{◌≡◌};
 ghost use Rattle.trace_verify.specs.Reports.{unread};
 
 use crate::section::Section;

@@ -1,8 +1,8 @@
 // The verdict on a text.
 ghost use Rattle.std.specs.Prelude.{◌≡◌, ◌⊎◌, ◌≤◌, length, IfOk};
-ghost use Rattle.process_tree.specs.Conflicts.{do_conflict, operations_in};
+ghost use Rattle.process_tree.specs.Conflicts.{do_conflict};
 ghost use Rattle.schedule_rules.specs.Applying.{AreKnown};
-ghost use Rattle.trace_verify.specs.Names.{step_names, op_names, schedule, conflicts_of};
+ghost use Rattle.trace_verify.specs.Names.{step_names, op_names};
 ghost use Rattle.trace_verify.specs.Verdicts.{verdict, of_outcome, outcome, outcome_from};
 ghost use Rattle.trace_verify.specs.Laws.{Means};
 
