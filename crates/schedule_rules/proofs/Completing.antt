@@ -1,11 +1,10 @@
 -- The completion, said of the net and of who is active.
-use Rattle.std.proofs.Common.{◌≡◌, inl, inr, ⊎_elim, ℕ, zero, suc, ◌+◌, ◌<◌, ◌≤◌, Bool, true, false, eqb, List, [], ◌∷◌, ◌++◌, length, drop, map, filter, reverse, sym, refl, ap, ◌∙◌, subst, arith, append-nil, length-append}
+use Rattle.std.proofs.Common.{◌≡◌, ⊎_elim, ℕ, ◌+◌, ◌<◌, ◌≤◌, true, false, eqb, List, [], ◌∷◌, ◌++◌, length, map, filter, reverse, sym, ap, ◌∙◌, subst, arith, append-nil, length-append}
 use Rattle.std.specs.Bool.{IsTrue}
 use Rattle.std.specs.List.{list_any, flat_map}
 use Rattle.std.proofs.lemmas.Bool.{and_parts, and_from, or_cases, eqb-true, false≢true}
 use Rattle.process_tree.specs.declared.entry.Entry.{Entry}
 use Rattle.process_tree.specs.declared.plan.Plan.{Plan}
-use Rattle.process_tree.specs.Order.{Each}
 use Rattle.process_tree.specs.Shape.{fixed_len}
 use Rattle.schedule_model.specs.declared.event.Event.{Event}
 use Rattle.schedule_model.specs.declared.event.Event.TheVariants.{Start, Act, End}
@@ -24,6 +23,8 @@ use Rattle.schedule_model.proofs.Induction.{by_legal}
 use Rattle.schedule_model.proofs.Members.{Among, among-any, any-among, among-flat_map, in_flat_map, among-filter, among-is_in, is_in-among, filter-agree}
 use Rattle.schedule_model.proofs.NetPaths.{net-branch}
 use Rattle.schedule_model.proofs.NoConflict.{legal-from_own_order}
+use Rattle.schedule_rules.proofs.Known.{dropped}
+use Rattle.schedule_rules.proofs.ListTests.{both_ways, each_from}
 use Rattle.schedule_rules.specs.Recovering.{StandsOnBranch, StandsOnBranches, all_backward, closed_by}
 
 -- Who started.
@@ -59,10 +60,6 @@ module _ (courses : List Course) where
   pub started-numbered : (h : List Event) → IsTrue (is_legal no_conflict courses h) → (i : ℕ) → IsTrue (is_in i (starts h)) → (0 < i) × (i ≤ length (starts h))
   started-numbered h legal = by_legal no_conflict courses Numbered (λ g e before may is. numbered-more g e may is) (λ i none. absurd (false≢true none)) h legal
 
-each_from : {X : Type 0} (P : X → Type 0) (xs : List X) → ((x : X) → Among x xs → P x) → Each P xs
-each_from P [] all = tt
-each_from P (x ∷ xs) all = (all x (inl refl), each_from P xs (λ y is. all y (inr is)))
-
 -- each active process of a history in own order has a plan, and what stands of it goes along a whole path
 pub active_stand : (plans : List Plan) (h : List Event) → (operations : ℕ) × IsPlanned operations plans h → IsTrue (is_in_own_order (courses_of plans) h)
     → StandsOnBranches plans (net h) (active h)
@@ -78,18 +75,6 @@ active_stand plans h planned own = each_from (StandsOnBranch plans (net h)) (act
         (numbers.0, (let m = numbers.1 in let one = planned.1.one_each in omega arith), net-branch (courses_of plans) i h legal)
 
 -- What is to be undone.
-
-both_ways : (a b : Bool) → (a ≡ true → b ≡ true) → (b ≡ true → a ≡ true) → a ≡ b
-both_ways true true to from = refl
-both_ways true false to from = sym (to refl)
-both_ways false true to from = from refl
-both_ways false false to from = refl
-
-dropped : (x : Entry) (n : ℕ) (xs : List Entry) → Among x (drop n xs) → Among x xs
-dropped x zero [] is = absurd is
-dropped x zero (y ∷ xs) is = is
-dropped x (suc n) [] is = absurd is
-dropped x (suc n) (y ∷ xs) is = inr (dropped x n xs is)
 
 module _ (courses : List Course) (h : List Event) where
   -- an entry of the backward recovery of a process is of that process

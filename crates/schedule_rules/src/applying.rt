@@ -31,7 +31,7 @@ pub fn apply(list: &mut Vec<Entry>, c: &Conflicts, step: TraceStep) -> Option<()
     }
 }
 
-fn conflict(c: &Conflicts, a: &Entry, b: &Entry) -> bool
+pub fn conflict(c: &Conflicts, a: &Entry, b: &Entry) -> bool
     requires a { a.now.op < operations_in c.now }
     requires b { b.now.op < operations_in c.now }
     ensures { result ≡ conflict (do_conflict c.now) a.now b.now }

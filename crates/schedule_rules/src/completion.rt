@@ -36,7 +36,7 @@ pub fn completed(alloc: Global, h: &History) -> Result<Vec<Event>, AllocError>
 }
 
 /// Who started, in order.
-fn started(alloc: Global, events: &[Event]) -> Result<Vec<u32>, AllocError>
+pub fn started(alloc: Global, events: &[Event]) -> Result<Vec<u32>, AllocError>
     ensures { IfOk result (λ found. found.items ≡ starts events.now) }
 {
     let mut found = Vec::new(alloc);
@@ -88,18 +88,8 @@ fn active_processes(alloc: Global, events: &[Event]) -> Result<Vec<u32>, AllocEr
     Ok(processes)
 }
 
-/// Whether a step of this kind is a commit point once it took effect.
-fn commits(kind: StepKind) -> bool
-    ensures { result ≡ commits kind }
-{
-    match kind {
-        StepKind::C => false,
-        StepKind::P | StepKind::R => true,
-    }
-}
-
 /// The kind of a step.
-fn kind_of(tree: &Tree, n: u16) -> StepKind
+pub fn kind_of(tree: &Tree, n: u16) -> StepKind
     requires { n < length (outline tree.now).steps }
     ensures { result ≡ kind_of (shape_of tree.now) n }
 {
@@ -113,7 +103,7 @@ fn fixed_len(tree: &Tree, steps: &[u16]) -> usize
 {
     let mut fixed = 0;
     for (place, step) in steps.iter().enumerate() {
-        if commits(kind_of(tree, *step)) {
+        if kind_of(tree, *step).commits() {
             fixed = place + 1;
         }
     }
@@ -121,7 +111,7 @@ fn fixed_len(tree: &Tree, steps: &[u16]) -> usize
 }
 
 /// The entries of one process.
-fn of_process(alloc: Global, entries: &[Entry], i: u32) -> Result<Vec<Entry>, AllocError>
+pub fn of_process(alloc: Global, entries: &[Entry], i: u32) -> Result<Vec<Entry>, AllocError>
     ensures { IfOk result (λ own. own.items ≡ of_process i entries.now) }
 {
     let mut own = Vec::new(alloc);
@@ -136,7 +126,7 @@ fn of_process(alloc: Global, entries: &[Entry], i: u32) -> Result<Vec<Entry>, Al
 }
 
 /// The steps of these entries.
-fn steps_of(alloc: Global, entries: &[Entry]) -> Result<Vec<u16>, AllocError>
+pub fn steps_of(alloc: Global, entries: &[Entry]) -> Result<Vec<u16>, AllocError>
     ensures { IfOk result (λ steps. steps.items ≡ steps_of entries.now) }
 {
     let mut steps = Vec::new(alloc);
@@ -149,7 +139,12 @@ fn steps_of(alloc: Global, entries: &[Entry]) -> Result<Vec<u16>, AllocError>
 }
 
 /// The backward recovery of a process among those that stand.
-fn backward(alloc: Global, plan: &Plan, entries: &[Entry], i: u32) -> Result<Vec<Entry>, AllocError>
+pub fn backward(
+    alloc: Global,
+    plan: &Plan,
+    entries: &[Entry],
+    i: u32,
+) -> Result<Vec<Entry>, AllocError>
     requires good { tree_fault plan.now.tree ≡ None }
     requires branch { IsBranch (shape_of plan.now.tree) (steps_of (of_process i entries.now)) }
     ensures { IfOk result (λ found. found.items ≡ backward_among (course_of plan.now) entries.now i) }
@@ -182,7 +177,7 @@ fn backward_of_all(
     Ok(found)
 }
 
-fn has_same_step(entries: &[Entry], entry: &Entry) -> bool
+pub fn has_same_step(entries: &[Entry], entry: &Entry) -> bool
     ensures { result ≡ list_any (same_step entry.now) entries.now }
 {
     let mut rest = entries;
@@ -238,7 +233,7 @@ fn undos_among(alloc: Global, entries: &[Entry], listed: &[Entry]) -> Result<Vec
 }
 
 /// What a process owes, these steps of it being done.
-fn owed(alloc: Global, plan: &Plan, steps: &[u16]) -> Result<Vec<u16>, AllocError>
+pub fn owed(alloc: Global, plan: &Plan, steps: &[u16]) -> Result<Vec<u16>, AllocError>
     requires good { tree_fault plan.now.tree ≡ None }
     requires branch { IsBranch (shape_of plan.now.tree) steps.now }
     ensures { IfOk result (λ places. places.items ≡ forward (shape_of plan.now.tree) steps.now) }
@@ -275,7 +270,7 @@ fn add_closing(
 }
 
 /// The operation of a step.
-fn op_of(ops: &[u16], step: u16) -> u16
+pub fn op_of(ops: &[u16], step: u16) -> u16
     ensures { result ≡ slice_index_or ops.now step 0 }
 {
     let place = usize::from(step);

@@ -68,7 +68,7 @@ pub fn is_same_step(a: &Entry, b: &Entry) -> bool
 }
 
 /// A step comes to those that stand, and an undo takes its step away.
-fn take_effect(entries: &mut Vec<Entry>, entry: Entry) -> Result<(), AllocError>
+pub fn take_effect(entries: &mut Vec<Entry>, entry: Entry) -> Result<(), AllocError>
     ensures { OnOk result (entries.new.items ≡ stands_after entries.old.items entry) }
 {
     if entry.undo {
