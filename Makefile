@@ -10,12 +10,13 @@ demo:
 test:
 	./gate
 
-# Times the reading of large texts, the opening of a large store, the traces of large schedules, the verdicts on large reports, and
-# the check of the worst text within 1 MiB; no part of the gate.
+# Times the calls that have to stay quick on large inputs: the reading of texts, the opening of a store, the judging of histories,
+# traces, verdicts on reports, and the check of the worst text within 1 MiB; no part of the gate.
 bench:
 	bench/run
 	bench/store
 	bench/trace
 	bench/verify
+	bench/legal
 	awk -f bench/worst_text.awk > bench/worst.process
 	time ./tps check < bench/worst.process > /dev/null
