@@ -10,13 +10,13 @@ demo:
 test:
 	./gate
 
-# Times the calls that have to stay quick on large inputs: the reading of texts, the opening of a store, the judging of histories,
-# traces, verdicts on reports, and the check of the worst text within 1 MiB; no part of the gate.
+# Times the calls that have to stay quick on large inputs, and the check of the worst text within 1 MiB; no part of the gate.
 bench:
 	bench/run
 	bench/store
 	bench/trace
 	bench/verify
 	bench/legal
+	bench/admit
 	awk -f bench/worst_text.awk > bench/worst.process
 	time ./tps check < bench/worst.process > /dev/null
