@@ -1,3 +1,4 @@
 pub mod Least
 pub mod Admission
 pub mod Parts
+pub mod Examples
