@@ -18,5 +18,6 @@ bench:
 	bench/verify
 	bench/legal
 	bench/admit
+	bench/report
 	awk -f bench/worst_text.awk > bench/worst.process
 	time ./tps check < bench/worst.process > /dev/null

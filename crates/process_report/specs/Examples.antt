@@ -1,10 +1,7 @@
 -- Worked examples, computed: reports of two processes, and texts of blocks.
 use Rattle.std.specs.Prelude.{◌≡◌, ℕ, List, [], ◌∷◌, ◌++◌, codes, refl, false, true}
 use Rattle.std.specs.Fmt.{digits}
-use Rattle.process_tree.specs.declared.entry.Entry.{Entry}
-use Rattle.process_tree.specs.declared.step.Step.{Step}
 use Rattle.process_tree.specs.declared.step.StepKind.TheVariants.{C, P, R}
-use Rattle.process_tree.specs.declared.block.Block.{Block}
 use Rattle.process_tree.specs.declared.block.Tail.{End as no_choice}
 use Rattle.process_tree.specs.declared.plan.Plan.{Plan}
 use Rattle.process_tree.specs.Conflicts.{no_conflicts, with_conflict}
@@ -33,6 +30,13 @@ abbrev pub stock : Catalog
 stock = record {
   ops = op (codes "add") 0 Add ∷ op (codes "take") 0 Take ∷ op (codes "pay") 1 Add ∷ op (codes "ship") 2 Add ∷ op (codes "note") 4 Put ∷ op (codes "book") 6 Hold ∷ [];
   conflicts = with_conflict (with_conflict (with_conflict (with_conflict (no_conflicts 6) 0 1) 1 1) 4 4) 5 5;
+}
+
+-- the same without bookings
+abbrev pub shop : Catalog
+shop = record {
+  ops = op (codes "add") 0 Add ∷ op (codes "take") 0 Take ∷ op (codes "pay") 1 Add ∷ op (codes "ship") 2 Add ∷ op (codes "note") 4 Put ∷ [];
+  conflicts = with_conflict (with_conflict (with_conflict (no_conflicts 5) 0 1) 1 1) 4 4;
 }
 
 abbrev pub did : ℕ → ℕ → ℕ → Event

@@ -1,5 +1,6 @@
 pub mod Names
 pub mod Lines
 pub mod Report
+pub mod Reduced
 pub mod Blocks
 pub mod Examples

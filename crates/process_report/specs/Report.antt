@@ -4,11 +4,12 @@ use Rattle.process_tree.specs.Blocks.{numbers_from}
 use Rattle.process_tree.specs.Conflicts.{do_conflict}
 use Rattle.commute_table.specs.declared.op.Op.{Op}
 use Rattle.commute_table.specs.declared.catalog.Catalog.{Catalog}
+use Rattle.schedule_model.specs.declared.event.Event.{Event}
 use Rattle.schedule_model.specs.declared.history.History.{History}
 use Rattle.schedule_model.specs.Completion.{completion}
 use Rattle.schedule_model.specs.Course.{courses_of}
 use Rattle.schedule_model.specs.Histories.{is_active, net_steps}
-use Rattle.schedule_model.specs.PrintedTrace.{printed_trace}
+use Rattle.schedule_model.specs.PrintedTrace.{Trace, printed_trace}
 use Rattle.machine_model.specs.declared.began.Cause.{Cause}
 use Rattle.process_report.specs.Names.{process_name, step_name, op_name}
 use Rattle.process_report.specs.Lines.{Line, text_of, event_line, entry_line, cause_line, step_line}
@@ -30,8 +31,8 @@ abbrev pub history_lines : Catalog → History → List Line
 history_lines c h = map (event_line h.plans c.ops) h.events
 
 -- the events that completion adds
-abbrev pub completion_lines : Catalog → History → List Line
-completion_lines c h = map (event_line h.plans c.ops) (completion (courses_of h.plans) h.events)
+abbrev pub completion_lines : Catalog → History → List Event → List Line
+completion_lines c h added = map (event_line h.plans c.ops) added
 
 -- what became of a process that ended: `path` with these steps, or `nothing` where there is none
 abbrev pub path_words : Line → Line
@@ -54,25 +55,29 @@ ends_lines h = map (end_line h) (numbers_from 1 (length h.plans))
 abbrev pub causes_lines : History → List (ℕ × Cause) → List Line
 causes_lines h causes = map (cause_line h.plans) causes
 
--- the printed trace
-abbrev pub trace_lines : History → List Line
-trace_lines h = map step_line (printed_trace (courses_of h.plans) h.events).steps
+-- the steps of a trace
+abbrev pub trace_lines : Trace → List Line
+trace_lines t = map step_line t.steps
 
--- the entries of the last list
-abbrev pub serial_lines : Catalog → History → List Line
-serial_lines c h = map (entry_line h.plans c.ops) (printed_trace (courses_of h.plans) h.events).list
+-- the entries of the list to which it leads
+abbrev pub serial_lines : Catalog → History → Trace → List Line
+serial_lines c h t = map (entry_line h.plans c.ops) t.list
 
 -- a section: its title, and then its lines
 abbrev pub section : List ℕ → List Line → List ℕ
 section title lines = text_of ((title ∷ []) ∷ lines)
 
--- the report
-abbrev pub report_text : Catalog → History → List (ℕ × Cause) → List ℕ
-report_text c h causes =
+-- the report of a history, with what completion adds and with a trace
+abbrev pub report_of : Catalog → History → List (ℕ × Cause) → List Event → Trace → List ℕ
+report_of c h causes added t =
     section (codes "conflicts") (conflicts_lines c)
     ++ section (codes "history") (history_lines c h)
-    ++ section (codes "completion") (completion_lines c h)
+    ++ section (codes "completion") (completion_lines c h added)
     ++ section (codes "ends") (ends_lines h)
     ++ section (codes "causes") (causes_lines h causes)
-    ++ section (codes "trace") (trace_lines h)
-    ++ section (codes "serial") (serial_lines c h)
+    ++ section (codes "trace") (trace_lines t)
+    ++ section (codes "serial") (serial_lines c h t)
+
+-- the report, with the history's own completion and its printed trace
+abbrev pub report_text : Catalog → History → List (ℕ × Cause) → List ℕ
+report_text c h causes = report_of c h causes (completion (courses_of h.plans) h.events) (printed_trace (courses_of h.plans) h.events)

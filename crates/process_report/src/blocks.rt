@@ -34,12 +34,7 @@ fn rule_word(rule: Rule) -> &'static [u8]
 }
 
 /// What a piece of process i waits on: `docs/FORMATS.md`, 'Report'. A process or a step that there isn't has the empty name.
-pub fn blocked_text(
-    alloc: Global,
-    h: &History,
-    i: u32,
-    b: &Blocked,
-) -> Result<Vec<u8>, AllocError>
+pub fn blocked_text(alloc: Global, h: &History, i: u32, b: &Blocked) -> Result<Vec<u8>, AllocError>
     ensures { IfOk result (λ text. text.items ≡ block_text h.now.plans i b.now) }
 {
     let plans = h.plans.as_slice();

@@ -17,4 +17,7 @@ mod printing;
 mod steps;
 
 pub use blocks::blocked_text;
-pub use printing::report;
+pub use printing::{report, report_of};
+
+#[cfg(test)]
+mod tests;

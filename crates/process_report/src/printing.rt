@@ -3,13 +3,12 @@ ghost use Rattle.std.specs.Prelude.{◌≡◌, ◌++◌, ◌∷◌, [], length, 
 ghost use Rattle.process_tree.specs.Conflicts.{do_conflict};
 ghost use Rattle.process_text.specs.Canonical.{line_of};
 ghost use Rattle.commute_table.specs.Operations.{IsCatalog};
-ghost use Rattle.schedule_model.specs.Completion.{completion};
 ghost use Rattle.schedule_model.specs.Course.{courses_of};
 ghost use Rattle.schedule_model.specs.Laws.{IsPlanned};
 ghost use Rattle.schedule_model.specs.Legal.{is_legal};
-ghost use Rattle.schedule_model.specs.PrintedTrace.{printed_trace};
 ghost use Rattle.process_report.specs.Lines.{event_line};
-ghost use Rattle.process_report.specs.Report.{conflicts_lines, history_lines, completion_lines, ends_lines, causes_lines, trace_lines, serial_lines, section, report_text};
+ghost use Rattle.process_report.specs.Report.{conflicts_lines, history_lines, completion_lines, ends_lines, causes_lines, trace_lines, serial_lines, section, report_of, report_text};
+ghost use Rattle.process_report.specs.Reduced.{trace_in};
 
 use crate::causes::put_causes;
 use crate::conflicts::put_conflicts;
@@ -59,18 +58,24 @@ fn put_history_section(
     put_event_section(alloc, b"history", c, h, h.events.as_slice(), out)
 }
 
-// Writes the section of the completion, which has these events.
+// Writes the section of the completion.
 fn put_completion_section(
     alloc: Global,
     c: &Catalog,
     h: &History,
-    added: &[Event],
+    reduction: &Reduction,
     out: &mut Vec<u8>,
 ) -> Result<(), AllocError>
-    requires { added.now ≡ completion (courses_of h.now.plans) h.now.events }
-    ensures { OnOk result (out.new.items ≡ out.old.items ++ section (codes "completion") (completion_lines c.now h.now)) }
+    ensures { OnOk result (out.new.items ≡ out.old.items ++ section (codes "completion") (completion_lines c.now h.now reduction.now.completion)) }
 {
-    put_event_section(alloc, b"completion", c, h, added, out)
+    put_event_section(
+        alloc,
+        b"completion",
+        c,
+        h,
+        reduction.completion.as_slice(),
+        out,
+    )
 }
 
 // Writes the section of ends.
@@ -94,7 +99,7 @@ fn put_causes_section(
     put_causes(alloc, h.plans.as_slice(), causes, out)
 }
 
-// Writes the sections of the trace and of the serial list, from the reduction of the history.
+// Writes the sections of the trace and of the serial list.
 fn put_reduction_sections(
     alloc: Global,
     c: &Catalog,
@@ -102,8 +107,8 @@ fn put_reduction_sections(
     reduction: &Reduction,
     out: &mut Vec<u8>,
 ) -> Result<(), AllocError>
-    requires { record { steps = reduction.now.steps; list = reduction.now.serial } ≡ printed_trace (courses_of h.now.plans) h.now.events }
-    ensures { OnOk result (out.new.items ≡ out.old.items ++ (section (codes "trace") (trace_lines h.now) ++ section (codes "serial") (serial_lines c.now h.now))) }
+    ensures { OnOk result (out.new.items ≡ out.old.items
+        ++ (section (codes "trace") (trace_lines (trace_in reduction.now)) ++ section (codes "serial") (serial_lines c.now h.now (trace_in reduction.now)))) }
 {
     put_line(out, &[b"trace"])?;
     put_steps(alloc, reduction.steps.as_slice(), out)?;
@@ -117,22 +122,41 @@ fn put_reduction_sections(
     )
 }
 
-// Writes what happened, and how it is completed.
-fn put_events_sections(
+// Writes what conflicts, what happened, and how it is completed.
+fn put_event_sections(
     alloc: Global,
     c: &Catalog,
     h: &History,
-    added: &[Event],
+    reduction: &Reduction,
     out: &mut Vec<u8>,
 ) -> Result<(), AllocError>
     requires catalog { IsCatalog c.now }
-    requires completion { added.now ≡ completion (courses_of h.now.plans) h.now.events }
     ensures { OnOk result (out.new.items ≡ out.old.items
-        ++ (section (codes "conflicts") (conflicts_lines c.now) ++ section (codes "history") (history_lines c.now h.now) ++ section (codes "completion") (completion_lines c.now h.now))) }
+        ++ (section (codes "conflicts") (conflicts_lines c.now) ++ section (codes "history") (history_lines c.now h.now) ++ section (codes "completion") (completion_lines c.now h.now reduction.now.completion))) }
 {
     put_conflicts_section(c, out)?;
     put_history_section(alloc, c, h, out)?;
-    put_completion_section(alloc, c, h, added, out)
+    put_completion_section(alloc, c, h, reduction, out)
+}
+
+/// The report of a history with this reduction, and with the causes for which processes began to complete. It asks nothing of the
+/// history: `report` does this once the reduction is there.
+pub fn report_of(
+    alloc: Global,
+    c: &Catalog,
+    h: &History,
+    causes: &[(u32, Cause)],
+    reduction: &Reduction,
+) -> Result<Vec<u8>, AllocError>
+    requires catalog { IsCatalog c.now }
+    ensures { IfOk result (λ text. text.items ≡ report_of c.now h.now causes.now reduction.now.completion (trace_in reduction.now)) }
+{
+    let mut out = Vec::new(alloc);
+    put_event_sections(alloc, c, h, reduction, &mut out)?;
+    put_ends_section(alloc, h, &mut out)?;
+    put_causes_section(alloc, h, causes, &mut out)?;
+    put_reduction_sections(alloc, c, h, reduction, &mut out)?;
+    Ok(out)
 }
 
 /// The report of a legal history, with the causes for which processes began to complete: `docs/FORMATS.md`, 'Report'. A history of
@@ -149,10 +173,6 @@ pub fn report(
     ensures { IfOk result (λ text. text.items ≡ report_text c.now h.now causes.now) }
 {
     let reduction = trace(alloc, h, &c.conflicts)?;
-    let mut out = Vec::new(alloc);
-    put_events_sections(alloc, c, h, reduction.completion.as_slice(), &mut out)?;
-    put_ends_section(alloc, h, &mut out)?;
-    put_causes_section(alloc, h, causes, &mut out)?;
-    put_reduction_sections(alloc, c, h, &reduction, &mut out)?;
-    Ok(out)
+    let text = report_of(alloc, c, h, causes, &reduction)?;
+    Ok(text)
 }

@@ -25,11 +25,7 @@ fn put_step(alloc: Global, step: TraceStep, out: &mut Vec<u8>) -> Result<(), All
 }
 
 /// Writes the lines of steps.
-pub fn put_steps(
-    alloc: Global,
-    steps: &[TraceStep],
-    out: &mut Vec<u8>,
-) -> Result<(), AllocError>
+pub fn put_steps(alloc: Global, steps: &[TraceStep], out: &mut Vec<u8>) -> Result<(), AllocError>
     ensures { OnOk result (out.new.items ≡ out.old.items ++ text_of (map step_line steps.now)) }
 {
     let mut rest = steps;

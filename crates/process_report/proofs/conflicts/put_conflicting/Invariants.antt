@@ -1,4 +1,4 @@
-use Rattle.std.proofs.Common.{◌≡◌, ◌≤◌, ◌++◌, ◌-◌, length, map, filter}
+use Rattle.std.proofs.Common.{◌≡◌, ◌≤◌, ◌++◌, ◌-◌, map, filter}
 use Rattle.process_tree.specs.Blocks.{numbers_from}
 use Rattle.process_tree.specs.Conflicts.{do_conflict}
 use Rattle.process_report.specs.Lines.{text_of}

@@ -1,4 +1,4 @@
-use Rattle.std.proofs.Common.{◌≡◌, ◌≤◌, ◌++◌, ◌-◌, length, map, flat_map}
+use Rattle.std.proofs.Common.{◌≡◌, ◌≤◌, ◌++◌, ◌-◌, map, flat_map}
 use Rattle.process_tree.specs.Blocks.{numbers_from}
 use Rattle.process_report.specs.Lines.{text_of}
 use Rattle.process_report.specs.Report.{pair_line, conflicting, conflicts_lines}

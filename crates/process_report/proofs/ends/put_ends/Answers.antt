@@ -1,4 +1,4 @@
-use Rattle.std.proofs.Common.{◌≡◌, ◌+◌, ◌-◌, ◌∷◌, suc, map, ap, arith}
+use Rattle.std.proofs.Common.{◌≡◌, ◌+◌, ◌-◌, suc, map, ap, arith}
 use Rattle.process_tree.specs.Blocks.{numbers_from}
 use Rattle.process_report.specs.Report.{end_line}
 use Rattle.process_report.proofs.LinesMore.{line-more}
