@@ -1,0 +1,10 @@
+pub mod Marking
+pub mod Dragging
+pub mod Steps
+pub mod LastPending
+pub mod Sets
+pub mod Processes
+pub mod Gathered
+pub mod Dragged
+pub mod OnTheWay
+pub mod Closed
