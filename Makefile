@@ -14,6 +14,7 @@ test:
 bench:
 	bench/run
 	bench/store
+	bench/journal
 	bench/trace
 	bench/verify
 	bench/legal

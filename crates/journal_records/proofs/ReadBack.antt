@@ -1,13 +1,10 @@
 -- Records are read back from their bytes.
-use Rattle.std.specs.Prelude.{◌==◌, if◌then◌else◌}
-use Rattle.std.specs.Int.{to_le_bytes, from_le_bytes, w16, w32}
-use Rattle.std.proofs.Common.{◌≡◌, ◌<◌, ◌^◌, ℕ, Bool, true, false, List, [], ◌∷◌, Option, Some, refl, ap, ◌∙◌}
+use Rattle.std.specs.Prelude.{if◌then◌else◌}
+use Rattle.std.proofs.Common.{◌≡◌, ℕ, Bool, true, false, Some, refl, ap}
 use Rattle.std.proofs.lemmas.Nat.{from_le_bytes-to_le_bytes_2, from_le_bytes-to_le_bytes_4}
-use Rattle.process_tree.specs.declared.entry.Entry.{Entry}
-use Rattle.journal_records.specs.declared.record.Record.{Record}
 use Rattle.journal_records.specs.declared.record.Record.TheVariants.{Setup, Start, Act, End}
-use Rattle.journal_records.specs.Bytes.{bytes_of, record_of, act_by, entry_told}
-use Rattle.journal_records.specs.Laws.{FitsItsBytes, told, RecordsAreReadBack}
+use Rattle.journal_records.specs.Bytes.{act_by, entry_told}
+use Rattle.journal_records.specs.Laws.{RecordsAreReadBack}
 
 -- the last byte of a step or an undo is read as what it is
 undo_back : (i b : ℕ) (undo : Bool) → act_by i b (if undo then 1 else 0) ≡ Some (Act (entry_told i b undo))

@@ -15,8 +15,8 @@ fn flag(set: bool) -> u8
     if set { 1 } else { 0 }
 }
 
-/// The body of a step or its undo.
-pub fn act_bytes(entry: &Entry) -> [u8; 8]
+// The body of a step or its undo.
+fn act_bytes(entry: &Entry) -> [u8; 8]
     ensures { result ≡ act_bytes entry.now }
 {
     let [p0, p1, p2, p3] = entry.process.to_le_bytes();
@@ -24,8 +24,8 @@ pub fn act_bytes(entry: &Entry) -> [u8; 8]
     [2, p0, p1, p2, p3, s0, s1, flag(entry.undo)]
 }
 
-/// The body of an end.
-pub fn end_bytes(process: u32) -> [u8; 5]
+// The body of an end.
+fn end_bytes(process: u32) -> [u8; 5]
     ensures { result ≡ end_bytes process }
 {
     let [p0, p1, p2, p3] = process.to_le_bytes();

@@ -8,7 +8,7 @@ mod bytes;
 mod laws;
 mod record;
 
-pub use bytes::{MOST_BYTES, act_bytes, end_bytes, read, write};
+pub use bytes::{MOST_BYTES, read, write};
 pub use laws::records_are_read_back;
 pub use record::{Body, Record};
 

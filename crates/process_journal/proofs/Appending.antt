@@ -1,6 +1,6 @@
 -- What an append makes of a journal.
 use Rattle.std.specs.Prelude.{OnOk}
-use Rattle.std.proofs.Common.{◌≡◌, ◌++◌, ◌∷◌, [], ℕ, List, Result, Ok, Err, sym, ap, ◌∙◌, subst, inl, inr, ⊎_elim}
+use Rattle.std.proofs.Common.{◌≡◌, ◌++◌, ◌∷◌, [], ℕ, Result, Ok, Err, sym, ap, ◌∙◌, subst, inl, inr, ⊎_elim}
 use Rattle.process_disk.specs.Disk.{Disk, FileSet, file_of}
 use Rattle.process_disk.specs.Images.{EachImage}
 use Rattle.process_disk.proofs.Images.{each_so}
@@ -12,7 +12,7 @@ use Rattle.journal_records.specs.declared.record.Record.{Record}
 use Rattle.journal_records.specs.Bytes.{bytes_of}
 use Rattle.process_journal.specs.Bodies.{journal_bodies}
 use Rattle.process_journal.specs.Journals.{IsHistoryUnder, IsMadeBy}
-use Rattle.process_journal.specs.Opened.{Stands, IsJournalOf, IsJournalOfEither}
+use Rattle.process_journal.specs.Opened.{Stands, IsJournalOfEither}
 use Rattle.process_journal.proofs.BodiesPushed.{bodies_made}
 
 -- a log with the record's bytes stands for the history with it

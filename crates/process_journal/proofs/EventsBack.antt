@@ -1,6 +1,6 @@
 -- What the body of an event tells of it, and how the operations of its steps are known.
 use Rattle.std.specs.Prelude.{⊤, IsTrue}
-use Rattle.std.proofs.Common.{◌≡◌, ◌&&◌, ℕ, Bool, eqb, List, [], ◌∷◌, ◌++◌, map, Option, Some, refl, sym, ap, ◌∙◌}
+use Rattle.std.proofs.Common.{◌≡◌, eqb, List, [], ◌∷◌, ◌++◌, map, Some, refl, sym, ap, ◌∙◌}
 use Rattle.std.proofs.lemmas.Bool.{and_parts, eqb-true}
 use Rattle.process_text.proofs.Lines.{three}
 use Rattle.process_tree.specs.Order.{Each}

@@ -6,3 +6,9 @@ pub mod EventsBack
 pub mod OneHistory
 pub mod Appending
 pub mod LimitsKept
+pub mod GoodPlans
+pub mod Replaying
+pub mod Taking
+pub mod ReadingOn
+pub mod Beginnings
+pub mod NeverRefused

@@ -1,39 +1,36 @@
 -- Limits ask the courses of those that started alone, and are judged at starts.
 use Rattle.std.specs.Prelude.{IsTrue}
-use Rattle.std.proofs.Common.{◌≡◌, ◌+◌, ◌-◌, ◌&&◌, leb, eqb, not, ℕ, Bool, true, false, List, [], ◌∷◌, ◌++◌, length, append_assoc, refl, sym, ap, ◌∙◌, subst, arith}
-use Rattle.std.specs.List.{sum_by}
-use Rattle.std.proofs.lemmas.Bool.{and_parts, and_from, or_left, or_right, eq-eqb}
-use Rattle.std.proofs.lemmas.List.Sums.{sum_by-cons}
+use Rattle.std.proofs.Common.{◌≡◌, ◌+◌, ◌-◌, ◌&&◌, leb, not, ℕ, List, [], ◌∷◌, ◌++◌, length, append_assoc, refl, sym, ap, ◌∙◌, subst}
+use Rattle.std.proofs.lemmas.Bool.{and_parts, or_left}
 use Rattle.schedule_model.specs.declared.event.Event.{Event}
 use Rattle.schedule_model.specs.declared.event.Event.TheVariants.{Start, Act, End}
 use Rattle.schedule_model.specs.Course.{Course, course}
 use Rattle.schedule_model.specs.EachEvent.{each_passes}
-use Rattle.schedule_model.specs.Histories.{acts, starts, ends, active, is_active, is_in, of_process}
-use Rattle.schedule_model.specs.Limits.{limits, need, still_needed, starts_within, stands_within, is_within_limits}
+use Rattle.schedule_model.specs.Histories.{acts, starts, ends, active, is_in, of_process}
+use Rattle.schedule_model.specs.Limits.{limits, need, still_needed, entries, starts_within, stands_within, is_within_limits}
 use Rattle.schedule_model.proofs.Active.{is_active-is_in}
 use Rattle.schedule_model.proofs.Appends.{starts-append, is_in-append}
 use Rattle.schedule_model.proofs.Induction.{each_passes-push}
-
-sum_same : (f g : ℕ → ℕ) (xs : List ℕ) → ((k : ℕ) → IsTrue (is_in k xs) → f k ≡ g k) → sum_by f xs ≡ sum_by g xs
-sum_same f g [] same = refl
-sum_same f g (x ∷ xs) same =
-    let here = same x (or_left (eqb x x) (is_in x xs) (eq-eqb x x refl)) in
-    let rest = sum_same f g xs (λ k is. same k (or_right (eqb k x) (is_in k xs) is)) in
-    let one = sum_by-cons f x xs in
-    let two = sum_by-cons g x xs in
-    omega arith
+use Rattle.schedule_model.proofs.Members.{is_in-among}
+use Rattle.schedule_rules.proofs.OneOf.{sum_same}
 
 module _ (cs ds : List Course) where
   -- both have the same courses of those that started
   abbrev pub SameOfStarted : List Event → Type 0
   SameOfStarted h = (i : ℕ) → IsTrue (is_in i (starts h)) → course cs i ≡ course ds i
 
-  stands_same : (h : List Event) → SameOfStarted h → stands_within limits cs h ≡ stands_within limits ds h
-  stands_same h same =
-      ap (λ n. leb (length (active h)) limits.active && leb (length (starts h)) limits.processes && leb (length (acts h) + length (ends h) + n) limits.entries)
+  -- so they need the same
+  pub needed_same : (h : List Event) (i : ℕ) → course cs i ≡ course ds i → still_needed cs h i ≡ still_needed ds h i
+  needed_same h i same = ap (λ c. need c - length (of_process i (acts h))) same
+
+  pub entries_same : (h : List Event) → SameOfStarted h → entries cs h ≡ entries ds h
+  entries_same h same =
+      ap (λ n. length (acts h) + length (ends h) + n)
       (sum_same (still_needed cs h) (still_needed ds h) (active h)
-      (λ k is. ap (λ c. need c - length (of_process k (acts h)))
-      (same k (and_parts (is_in k (starts h)) (not (is_in k (ends h))) (sym (is_active-is_in h k) ∙ is)).0)))
+      (λ k is. needed_same h k (same k (and_parts (is_in k (starts h)) (not (is_in k (ends h))) (sym (is_active-is_in h k) ∙ is_in-among k (active h) is)).0)))
+
+  stands_same : (h : List Event) → SameOfStarted h → stands_within limits cs h ≡ stands_within limits ds h
+  stands_same h same = ap (λ n. leb (length (active h)) limits.active && leb (length (starts h)) limits.processes && leb n limits.entries) (entries_same h same)
 
   starts_same : (h : List Event) (e : Event) → SameOfStarted (h ++ e ∷ []) → starts_within limits cs h e ≡ starts_within limits ds h e
   starts_same h (Start i) same = stands_same (h ++ Start i ∷ []) same

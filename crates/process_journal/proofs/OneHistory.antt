@@ -1,10 +1,9 @@
 -- Bodies are the journal of one catalog and one history at most.
-use Rattle.std.proofs.Common.{◌≡◌, ◌+◌, ℕ, List, [], ◌∷◌, ◌++◌, length, map, Option, Some, append-nil, refl, sym, ap, ◌∙◌, subst, arith}
+use Rattle.std.proofs.Common.{◌≡◌, List, [], ◌∷◌, length, map, Option, Some, append-nil, refl, sym, ap, ◌∙◌, subst, arith}
 use Rattle.std.specs.Prelude.{IsTrue}
 use Rattle.process_tree.specs.Order.{Each}
 use Rattle.process_tree.specs.Conflicts.{do_conflict}
 use Rattle.process_tree.specs.declared.plan.Plan.{Plan}
-use Rattle.process_tree.specs.declared.entry.Entry.{Entry}
 use Rattle.schedule_model.specs.declared.event.Event.{Event}
 use Rattle.schedule_model.specs.declared.event.Event.TheVariants.{Start, Act, End}
 use Rattle.schedule_model.specs.declared.history.History.{History}
@@ -18,7 +17,6 @@ use Rattle.commute_table.specs.Bytes.{bytes_of as catalog_of}
 use Rattle.commute_table.proofs.CatalogLaws.{none_begins_another}
 use Rattle.gate_log.proofs.Reading.{one_list_at_most}
 use Rattle.journal_records.specs.declared.record.Record.{Record}
-use Rattle.journal_records.specs.declared.record.Record.TheVariants as records
 use Rattle.journal_records.specs.Bytes.{record_of, entry_told}
 use Rattle.journal_records.specs.Laws.{told}
 use Rattle.process_journal.specs.Plans.{text_of, IsPlanOfText, IsPlanUnder}

@@ -1,19 +1,17 @@
 -- What the reading of a text tells of its plan.
-use Rattle.std.specs.Prelude.{⊤}
-use Rattle.std.proofs.Common.{◌≡◌, ◌≢◌, ℕ, List, [], ◌∷◌, ◌++◌, Result, Ok, Err, append-nil, refl, sym, ap, ◌∙◌, subst, Option, Some, None, MatchOption}
+use Rattle.std.proofs.Common.{◌≡◌, ℕ, List, [], ◌∷◌, Result, Ok, Err, append-nil, refl, sym, ap, ◌∙◌, subst, Option, Some, None, MatchOption}
 use Rattle.process_tree.specs.declared.plan.Plan.{Plan}
 use Rattle.process_tree.specs.declared.tree.Named.{Named}
 use Rattle.process_tree.specs.Blocks.{Outline, outline}
-use Rattle.process_tree.specs.Shape.{Shape, shape_of}
+use Rattle.process_tree.specs.Shape.{shape_of}
 use Rattle.process_tree.specs.Termination.{IsWellFormed}
 use Rattle.process_tree.proofs.Forms.{same_outline}
 use Rattle.process_text.specs.Words.{words_of}
-use Rattle.process_text.specs.Grammar.{process_of, process_pieces, text_pieces, IsReading}
+use Rattle.process_text.specs.Grammar.{process_of, process_pieces, IsReading}
 use Rattle.process_text.specs.Canonical.{canonical_words, line_of, canonical_text}
 use Rattle.process_text.specs.Again.{AreAlike}
 use Rattle.process_text.proofs.Reprinted.{readings_agree, readings_are_alike}
 use Rattle.commute_table.specs.declared.catalog.Catalog.{Catalog}
-use Rattle.commute_table.specs.declared.op.Op.{Op}
 use Rattle.commute_table.specs.declared.errors.BindError.{BindError}
 use Rattle.commute_table.specs.Binding.{numbers_bound, IsPlanOf}
 use Rattle.process_journal.specs.Plans.{IsTextOf, IsPlanOfText}

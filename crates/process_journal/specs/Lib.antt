@@ -5,3 +5,5 @@ pub mod Reading
 pub mod Opened
 pub mod Errors
 pub mod Laws
+mod Examples
+pub mod Replays

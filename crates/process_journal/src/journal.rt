@@ -1,9 +1,9 @@
 // An open journal.
-ghost use Rattle.std.specs.Prelude.{◌≡◌, ◌≢◌, ◌<◌, ◌≤◌, ◌+◌, ◌^◌, ◌++◌, ◌∷◌, [], ℕ, List, length, IfOk, IfErr, OnOk, OnErr};
+ghost use Rattle.std.specs.Prelude.{◌≡◌, ◌≢◌, ◌<◌, ◌≤◌, ◌+◌, ◌^◌, ◌++◌, ◌∷◌, [], ℕ, List, length, IfOk, IfErr, OnOk, OnErr, IsErrOf};
 ghost use Rattle.process_flow.specs.Causes.{Rose, HasCause};
 ghost use Rattle.process_disk.specs.Disk.{Told, file_of};
-ghost use Rattle.process_disk.specs.Images.{EachImage, OthersAsBefore};
-ghost use Rattle.gate_log.specs.LogFile.{plain_log};
+ghost use Rattle.process_disk.specs.Images.{EachImage, OthersAsBefore, AllAsBefore};
+ghost use Rattle.gate_log.specs.LogFile.{plain_log, read_log};
 ghost use Rattle.gate_log.specs.Standing.{StandsFor, IsOpen, LogsBeforeOrWith};
 ghost use Rattle.schedule_model.specs.declared.history.History.{History};
 ghost use Rattle.commute_table.specs.declared.catalog.Catalog.{Catalog};
@@ -13,14 +13,17 @@ ghost use Rattle.journal_records.specs.Bytes.{bytes_of};
 ghost use Rattle.journal_records.specs.declared.record.Record.TheVariants.{Setup};
 ghost use Rattle.process_journal.specs.Bodies.{journal_bodies, no_history};
 ghost use Rattle.process_journal.specs.Journals.{IsHistoryUnder, IsMadeBy};
+ghost use Rattle.process_journal.specs.Reading.{OpensAs};
 ghost use Rattle.process_journal.specs.Opened.{Stands, GoesOn, IsJournalOfEither};
 ghost use Rattle.process_journal.specs.declared.errors.JournalError.TheVariants.{NoMemory};
 
+use crate::reading::read_bodies;
 use crate::{Body, JournalError, Record};
 use commute_table::{Catalog, catalog_bytes};
 use gate_log::{DiskFault, Log};
 use journal_records::{MOST_BYTES, write};
 use process_disk::Rack;
+use schedule_rules::History;
 use std::alloc::{AllocError, Global};
 use std::marker::Model;
 
@@ -85,6 +88,28 @@ impl Journal {
         let mut journal = Journal { log, buffer };
         journal.add(rack, &setup)?;
         Ok(journal)
+    }
+
+    /// The journal of file 0, and the catalog and the history of which it is the journal.
+    pub fn open<R: Rack>(
+        alloc: Global,
+        rack: &mut R,
+    ) -> Result<(Self, Catalog, History), JournalError>
+        ensures answer { Told (R.disk rack.old) → OpensAs (read_log 0 (file_of (R.disk rack.old).files 0)) result }
+        ensures stands { Told (R.disk rack.old) → IfOk result (λ opened. Stands opened.0 opened.1 opened.2 (R.disk rack.new)) }
+        // Whatever the rack tells, the history is one that a journal of the catalog may have.
+        ensures history { IfOk result (λ opened. IsHistoryUnder opened.1 opened.2) }
+        ensures journal { IfOk result (λ opened. (opened.0.file ≡ 0) × (opened.0.count ≡ length (journal_bodies opened.1 opened.2))) }
+        ensures all { Told (R.disk rack.old) → AllAsBefore (R.disk rack.old) (R.disk rack.new) }
+        ensures tells { (R.disk rack.new).tells ≡ (R.disk rack.old).tells }
+        ensures later { R.faults rack.old ≤ R.faults rack.new }
+        ensures quiet { OnOk result (R.faults rack.new ≡ R.faults rack.old) }
+        ensures fault { IsErrOf result JournalError.DiskFault → Rose (R.faults rack.old) (R.faults rack.new) }
+    {
+        let (log, bodies) = Log::open(alloc, rack, 0)?;
+        let (catalog, history) = read_bodies(alloc, &bodies)?;
+        let buffer = room(alloc)?;
+        Ok((Journal { log, buffer }, catalog, history))
     }
 
     /// How many records it has.

@@ -10,8 +10,14 @@ mod errors;
 mod journal;
 mod laws;
 mod plans;
+mod reading;
+mod replay;
 
 pub use errors::JournalError;
 pub use journal::Journal;
 pub use journal_records::{Body, Record};
-pub use laws::journals_have_one_history;
+
+#[cfg(test)]
+mod tests;
+
+pub use laws::{journals_are_opened, journals_have_one_history};

@@ -1,8 +1,6 @@
-use Rattle.std.proofs.Common.{List, Option, Some, None, MatchOption, ⊎_elim, subst, ◌≡◌, ◌∷◌, []}
-use Rattle.process_tree.specs.declared.tree.Named.{Named}
+use Rattle.std.proofs.Common.{⊎_elim, ◌∷◌, []}
 use Rattle.process_text.specs.Words.{words_of}
-use Rattle.process_text.specs.Grammar.{IsReading}
-use Rattle.process_journal.proofs.TextPlans.{one_or_none, not_one}
+use Rattle.process_journal.proofs.TextPlans.{one_or_none}
 use Rattle.process_journal.proofs.plans.only_process.Goals as goal
 
 pub returns-in-Ok : goal.returns-in-Ok

@@ -1,4 +1,3 @@
-use Rattle.std.proofs.Common.{◌++◌, ◌∷◌, [], List, ap, subst, sym}
 use Rattle.process_journal.proofs.Appending.{appended, images_appended, bytes_appended}
 use Rattle.process_journal.proofs.journal.Journal.append.Goals as goal
 

@@ -1,0 +1,181 @@
+// A history read record by record.
+ghost use Rattle.std.specs.Prelude.{◌≡◌, ◌≢◌, ◌⊎◌, ◌<◌, ◌≤◌, ◌+◌, ◌++◌, ◌∷◌, [], ℕ, List, length, false, IfOk, IfErr, IsTrue};
+ghost use Rattle.process_tree.specs.declared.entry.Entry.{Entry};
+ghost use Rattle.process_tree.specs.declared.plan.Plan.{Plan};
+ghost use Rattle.process_tree.specs.Conflicts.{Table};
+ghost use Rattle.schedule_model.specs.declared.event.Event.{Event};
+ghost use Rattle.schedule_model.specs.declared.event.Event.TheVariants.{Start};
+ghost use Rattle.schedule_model.specs.Course.{courses_of, op_of};
+ghost use Rattle.schedule_rules.specs.Keeping.{IsJudged};
+ghost use Rattle.commute_table.specs.declared.catalog.Catalog.{Catalog};
+ghost use Rattle.process_journal.specs.Plans.{IsPlanOfText};
+ghost use Rattle.process_journal.specs.Bodies.{journal_bodies, no_history, with_event, with_start};
+ghost use Rattle.process_journal.specs.Journals.{FitsItsBytes, is_allowed};
+ghost use Rattle.process_journal.specs.Replays.{IsReplayed, IsFaultOf};
+ghost use Rattle.process_journal.specs.declared.errors.JournalError.TheVariants.{NoMemory, BadHistory, BadRecord};
+
+use crate::plans::plan_of;
+use crate::{JournalError, Record};
+use commute_table::Catalog;
+use journal_records::read;
+use process_tree::{Entry, Plan};
+use schedule_rules::{Event, EventError, Events, History, Legality, Plans};
+use std::alloc::Global;
+
+/// A history, as far as it was read, and what its next event is judged by.
+#[derive(Drop)]
+pub struct Replay {
+    pub history: History,
+    pub legality: Legality,
+}
+
+// The operation that the plan of a process gives a step, or 0 where there is none.
+fn op_of(plans: &[Plan], process: u32, step: u16) -> u16
+    ensures { result ≡ op_of (courses_of plans.now) process step }
+{
+    let Some(plan) = plans.get((process as usize).saturating_sub(1)) else {
+        return 0;
+    };
+    match plan.ops.as_slice().get(usize::from(step)) {
+        Some(op) => *op,
+        None => 0,
+    }
+}
+
+// The numbers of an event fit their bytes.
+fn fits_its_bytes(event: Event)
+    ensures { FitsItsBytes event }
+{}
+
+impl Replay {
+    /// No record is read yet.
+    pub fn new(alloc: Global) -> Self
+        ensures none { result.history ≡ no_history }
+        ensures judged { (table : Table) → IsJudged table [] [] result.legality }
+    {
+        let history = History {
+            plans: Plans::new(Vec::new(alloc)),
+            events: Events::new(Vec::new(alloc)),
+        };
+        let legality = Legality::new(alloc);
+        Replay { history, legality }
+    }
+
+    // An event that starts no process comes next.
+    fn go_on(
+        self,
+        alloc: Global,
+        catalog: &Catalog,
+        number: u32,
+        event: Event,
+    ) -> Result<Self, JournalError>
+        requires read { IsReplayed catalog.now self }
+        requires no_start { (i : ℕ) → event ≢ Start i }
+        ensures read { IfOk result (IsReplayed catalog.now) }
+        ensures history { IfOk result (λ after. after.history ≡ with_event self.history event) }
+        ensures refused { IfErr result (λ e. (e ≡ NoMemory) ⊎ ((e ≡ BadHistory number) × (is_allowed catalog.now (with_event self.history event) ≡ false))) }
+    {
+        fits_its_bytes(event);
+        let plans = self.history.plans;
+        let mut events = self.history.events.into_items();
+        match self
+            .legality
+            .with_event(alloc, &catalog.conflicts, plans.as_slice(), event)
+        {
+            Ok(legality) => {
+                events.push(event)?;
+                let events = Events::new(events);
+                let history = History { plans, events };
+                Ok(Replay { history, legality })
+            }
+            Err(EventError::Illegal) => Err(JournalError::BadHistory(number)),
+            Err(EventError::NoMemory) => Err(JournalError::NoMemory),
+        }
+    }
+
+    // A process of this plan starts.
+    fn with_process(
+        self,
+        alloc: Global,
+        catalog: &Catalog,
+        number: u32,
+        process: u32,
+        plan: Plan,
+    ) -> Result<Self, JournalError>
+        requires read { IsReplayed catalog.now self }
+        requires plan { (text : List ℕ) × IsPlanOfText catalog.now text plan }
+        ensures read { IfOk result (IsReplayed catalog.now) }
+        ensures history { IfOk result (λ after. after.history ≡ with_start self.history process plan) }
+        ensures refused { IfErr result (λ e. (e ≡ NoMemory) ⊎ ((e ≡ BadHistory number) × (is_allowed catalog.now (with_start self.history process plan) ≡ false))) }
+    {
+        let event = Event::Start(process);
+        fits_its_bytes(event);
+        let mut plans = self.history.plans.into_items();
+        let mut events = self.history.events.into_items();
+        plans.push(plan)?;
+        match self
+            .legality
+            .with_event(alloc, &catalog.conflicts, &plans, event)
+        {
+            Ok(legality) => {
+                if !legality.is_within_limits() {
+                    return Err(JournalError::BadHistory(number));
+                }
+                events.push(event)?;
+                let plans = Plans::new(plans);
+                let events = Events::new(events);
+                let history = History { plans, events };
+                Ok(Replay { history, legality })
+            }
+            Err(EventError::Illegal) => Err(JournalError::BadHistory(number)),
+            Err(EventError::NoMemory) => Err(JournalError::NoMemory),
+        }
+    }
+
+    // A process of this text starts.
+    fn start(
+        self,
+        alloc: Global,
+        catalog: &Catalog,
+        number: u32,
+        process: u32,
+        text: &[u8],
+    ) -> Result<Self, JournalError>
+        requires read { IsReplayed catalog.now self }
+        ensures read { IfOk result (IsReplayed catalog.now) }
+        ensures history { IfOk result (λ after. (p : Plan) × IsPlanOfText catalog.now text.now p × (after.history ≡ with_start self.history process p)) }
+        ensures refused { IfErr result (λ e. (e ≡ NoMemory) ⊎ ((e ≡ BadRecord number) × ((p : Plan) → ¬ IsPlanOfText catalog.now text.now p))
+            ⊎ ((e ≡ BadHistory number) × ((p : Plan) × IsPlanOfText catalog.now text.now p × (is_allowed catalog.now (with_start self.history process p) ≡ false)))) }
+    {
+        match plan_of(alloc, text, catalog)? {
+            Some(plan) => self.with_process(alloc, catalog, number, process, plan),
+            None => Err(JournalError::BadRecord(number)),
+        }
+    }
+
+    /// Takes the body of a record, which is the one of this number.
+    pub fn take(
+        self,
+        alloc: Global,
+        catalog: &Catalog,
+        number: u32,
+        body: &[u8],
+    ) -> Result<Self, JournalError>
+        requires read { IsReplayed catalog.now self }
+        ensures read { IfOk result (IsReplayed catalog.now) }
+        ensures bodies { IfOk result (λ after. journal_bodies catalog.now after.history ≡ journal_bodies catalog.now self.history ++ body.now ∷ []) }
+        ensures refused { IfErr result (IsFaultOf catalog.now self.history number body.now) }
+    {
+        match read(alloc, body)? {
+            Some(Record::Start(process, text)) => {
+                self.start(alloc, catalog, number, process, text.bytes())
+            }
+            Some(Record::Act(entry)) => {
+                let op = op_of(self.history.plans.as_slice(), entry.process, entry.step);
+                self.go_on(alloc, catalog, number, Event::Act(Entry { op, ..entry }))
+            }
+            Some(Record::End(process)) => self.go_on(alloc, catalog, number, Event::End(process)),
+            Some(Record::Setup(_)) | None => Err(JournalError::BadRecord(number)),
+        }
+    }
+}
