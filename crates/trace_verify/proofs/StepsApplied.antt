@@ -1,12 +1,11 @@
 -- What steps that apply keep of a list.
-use Rattle.std.proofs.Common.{◌≡◌, inl, inr, ℕ, ◌+◌, ◌≤◌, List, [], ◌∷◌, ◌++◌, length, length-append, Option, Some, None, is_some, true, sym, ap, ◌∙◌, subst, arith}
+use Rattle.std.proofs.Common.{◌≡◌, inl, inr, ℕ, ◌+◌, ◌≤◌, List, [], ◌∷◌, ◌++◌, length, length-append, Some, None, sym, ap, ◌∙◌, subst, arith}
 use Rattle.process_tree.specs.declared.entry.Entry.{Entry}
 use Rattle.process_tree.specs.Order.{Each}
 use Rattle.schedule_model.specs.declared.trace_step.TraceStep.{TraceStep}
 use Rattle.schedule_model.specs.Conflict.{ConflictRelation}
 use Rattle.schedule_model.specs.Reduction.{IsReduced, AreReduced, no_step, step_first, applied}
 use Rattle.schedule_model.proofs.Chains.{applied_is}
-use Rattle.schedule_rules.specs.Applying.{Answers}
 use Rattle.trace_verify.specs.Verdicts.{Outcome, refused, goes_on, outcome_from}
 
 module _ (P : Entry → Type 0) where
@@ -76,8 +75,3 @@ module _ (table : ConflictRelation) where
       → outcome_from table n rest xs ≡ all → all ≡ refused n
   outcome-here s rest after n xs all is none so_far =
       sym so_far ∙ (ap (λ ss. outcome_from table n ss xs) is ∙ ap (goes_on n (outcome_from table (n + 1) after)) none)
-
--- what is known of a list to which a step was applied
-pub some-answered : (comes : Option (List Entry)) (old new : List Entry) (answer : Option Unit) → Answers comes old new answer → is_some answer ≡ true → comes ≡ Some new
-some-answered comes old new None answers is = absurd (cc)
-some-answered comes old new (Some u) answers is = answers
