@@ -13,7 +13,8 @@ use Rattle.hold_tables.proofs.Reaching.{placed_running}
 use Rattle.hold_tables.proofs.Tidy.{each_numbered}
 use Rattle.cascade.specs.Walking.{IsWithin, steps_among}
 use Rattle.cascade.proofs.Processes as processes
-use Rattle.cascade.proofs.Processes.{all_on, any_step, is_one, one_on}
+use Rattle.hold_tables.proofs.Numbers.{is_one}
+use Rattle.cascade.proofs.Processes.{all_on, any_step, one_on}
 
 -- a step under way in the process passes
 abbrev pub passes : (Entry → Bool) → OpenProcess → Bool

@@ -18,7 +18,7 @@ use Rattle.hold_tables.specs.Reading.{least_step}
 use Rattle.hold_tables.specs.Tables.{Tables, kept_of, lasts}
 use Rattle.hold_tables.specs.Changes.{has_entry}
 use Rattle.hold_tables.specs.Places.{last_place, later_place}
-use Rattle.hold_tables.proofs.Effects.{none_own}
+use Rattle.hold_tables.proofs.LastAway.{none_own}
 use Rattle.hold_tables.proofs.Places.{no_place}
 use Rattle.hold_tables.proofs.Standing.{behind-rest, net_apart}
 use Rattle.cascade.specs.Undoing.{first, last_pending, step_of, undo_block}

@@ -1,9 +1,9 @@
 -- Processes by number, and how many entries they have.
-use Rattle.std.proofs.Common.{◌≡◌, ◌≢◌, ℕ, ◌+◌, ◌<◌, ◌≤◌, Bool, true, false, not, ◌||◌, ◌&&◌, if◌then◌else◌, List, [], ◌∷◌, length, map, filter, flat_map, Option, Some, None, sym, refl, ap, subst, ◌∙◌, arith}
-use Rattle.std.specs.Prelude.{nat_eq, nat_le, nat_lt}
+use Rattle.std.proofs.Common.{◌≡◌, ◌≢◌, ℕ, ◌+◌, Bool, true, false, not, ◌||◌, ◌&&◌, List, [], ◌∷◌, length, map, filter, flat_map, Option, Some, None, sym, refl, ap, subst, ◌∙◌, arith}
+use Rattle.std.specs.Prelude.{nat_eq, nat_le}
 use Rattle.std.specs.List.{list_any}
 use Rattle.std.proofs.Math.Bool.{or_assoc}
-use Rattle.std.proofs.lemmas.Bool.{and_parts, eq-eqb, ne_eqb, eqb-true, eqb-false, leb-true, leb-false, le-leb, lt-leb, ltb-true, ltb-false, not-true, or_left, or_right}
+use Rattle.std.proofs.lemmas.Bool.{and_parts, eq-eqb, ne_eqb, eqb-true, le-leb, lt-leb, not-true}
 use Rattle.std.proofs.lemmas.List.Folds.{list_any-append}
 use Rattle.std.proofs.lemmas.List.Elements.{filter-append}
 use Rattle.process_tree.specs.declared.entry.Entry.{Entry}
@@ -11,9 +11,10 @@ use Rattle.process_tree.specs.Order.{Each}
 use Rattle.schedule_model.specs.Histories.{of_process}
 use Rattle.hold_tables.specs.Tables.{OpenProcess, has_number, numbered, running_of}
 use Rattle.hold_tables.specs.Kept.{are_numbered}
-use Rattle.hold_tables.specs.Reading.{least_from, lesser_number}
+use Rattle.hold_tables.specs.Reading.{least_from}
 use Rattle.hold_tables.specs.Walks.{steps_under_way}
 use Rattle.hold_tables.proofs.Tidy.{each_entry}
+use Rattle.hold_tables.proofs.Numbers.{IsLeastFrom, known_from, next_test, same_test}
 
 -- one entry more of the process
 pub one_counted : (i : ℕ) (e : Entry) (es : List Entry) → e.process ≡ i → length (of_process i (e ∷ es)) ≡ length (of_process i es) + 1
@@ -21,45 +22,6 @@ one_counted i e es own = rw (eq-eqb e.process i own) (omega arith)
 
 pub none_counted : (i : ℕ) (e : Entry) (es : List Entry) → e.process ≢ i → length (of_process i (e ∷ es)) ≡ length (of_process i es)
 none_counted i e es other = rw (ne_eqb e.process i other) refl
-
--- what is known of the least number of these that is at least n
-abbrev pub IsLeastFrom : ℕ → List OpenProcess → Option ℕ → Type 0
-IsLeastFrom n rows None = Each (λ r. r.process < n) rows
-IsLeastFrom n rows (Some k) = (n ≤ k) × (has_number k rows ≡ true) × Each (λ r. n ≤ r.process → k ≤ r.process) rows
-
-one_more : (n : ℕ) (r : OpenProcess) (rows : List OpenProcess) (o : Option ℕ) (t : Bool) → nat_le n r.process ≡ t → IsLeastFrom n rows o
-    → IsLeastFrom n (r ∷ rows) (if t then lesser_number r.process o else o)
-one_more n r rows None true is known = (
-  leb-true n r.process is,
-  or_left (nat_eq r.process r.process) (has_number r.process rows) (eq-eqb r.process r.process refl),
-  ((λ le. omega arith), each_entry rows (λ x less le. absurd (omega (arith, less, le))) known),
-)
-one_more n r rows None false is known = (leb-false n r.process is, known)
-one_more n r rows (Some j) true is known = by (nat_lt j r.process) refl
-  where
-    by : (s : Bool) → nat_lt j r.process ≡ s → IsLeastFrom n (r ∷ rows) (if s then Some j else Some r.process)
-    by true less = (known.0, or_right (nat_eq r.process j) (has_number j rows) known.1, ((λ le. let l = ltb-true j r.process less in omega (arith, l)), known.2))
-    by false most =
-        let lower : r.process ≤ j = ltb-false j r.process most in (
-          leb-true n r.process is,
-          or_left (nat_eq r.process r.process) (has_number r.process rows) (eq-eqb r.process r.process refl),
-          ((λ le. omega arith), each_entry rows (λ x above le. let a : j ≤ x.process = above le in omega (arith, a, lower)) known.2),
-        )
-one_more n r rows (Some j) false is known =
-    (known.0, or_right (nat_eq r.process j) (has_number j rows) known.1, ((λ le. let l = leb-false n r.process is in absurd (omega (arith, l, le))), known.2))
-
-pub known_from : (n : ℕ) (rows : List OpenProcess) → IsLeastFrom n rows (least_from n (map (λ r. r.process) rows))
-known_from n [] = tt
-known_from n (r ∷ rows) = one_more n r rows (least_from n (map (λ r. r.process) rows)) (nat_le n r.process) refl (known_from n rows)
-
--- the least number from n on is that of one of these
-pub is_one : (n k : ℕ) (rows : List OpenProcess) → least_from n (map (λ r. r.process) rows) ≡ Some k → (n ≤ k) × (has_number k rows ≡ true)
-is_one n k rows is = let known = subst (IsLeastFrom n rows) is (known_from n rows) in (known.0, known.1)
-
--- none is behind all numbers
-pub none_behind : (n : ℕ) (rows : List OpenProcess) → Each (λ r. r.process < n) rows → least_from n (map (λ r. r.process) rows) ≡ None
-none_behind n [] each = refl
-none_behind n (r ∷ rows) each = rw (lt-leb n r.process each.0) (none_behind n rows each.1)
 
 module _ (q : OpenProcess → Bool) where
   -- one of these passes, and its number is at least n
@@ -82,16 +44,6 @@ module _ (q : OpenProcess → Bool) where
   same_from : (n k : ℕ) (rows : List OpenProcess) → Each (λ r. nat_le n r.process ≡ nat_le k r.process) rows → any_from n rows ≡ any_from k rows
   same_from n k [] each = refl
   same_from n k (r ∷ rows) each = rw each.0 (ap (λ t. (nat_le k r.process && q r) || t) (same_from n k rows each.1))
-
-same_test : (n k p : ℕ) → n ≤ k → (n ≤ p → k ≤ p) → nat_le n p ≡ nat_le k p
-same_test n k p below on = by (nat_le n p) refl
-  where
-    by : (t : Bool) → nat_le n p ≡ t → nat_le n p ≡ nat_le k p
-    by true is = is ∙ sym (le-leb k p (on (leb-true n p is)))
-    by false is = is ∙ sym (lt-leb k p (let l = leb-false n p is in omega (arith, l, below)))
-
-next_test : (k p : ℕ) → nat_eq p k ≡ false → nat_le k p ≡ nat_le (k + 1) p
-next_test k p other = same_test k (k + 1) p (omega arith) (λ le. let apart : p ≢ k = eqb-false p k other in omega (arith, le, apart))
 
 module _ (q : OpenProcess → Bool) where
   -- those from n on are those from the least number on that is at least n

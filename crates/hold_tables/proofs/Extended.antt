@@ -1,17 +1,12 @@
 -- What marks tell, extended by arrows: by none, by one, and by some after others.
-use Rattle.std.proofs.Common.{◌≡◌, ◌<◌, ◌⊎◌, inl, inr, ℕ, Bool, true, false, ◌||◌, ◌&&◌, not, List, [], ◌∷◌, ◌++◌, length, filter, flat_map, sym, refl, ap, ◌∙◌, subst, arith}
+use Rattle.std.proofs.Common.{◌≡◌, ◌<◌, ◌⊎◌, inl, inr, ℕ, Bool, true, false, ◌||◌, ◌&&◌, List, [], ◌∷◌, length, sym, refl, ap, ◌∙◌, subst, arith}
 use Rattle.std.specs.Prelude.{nat_eq}
 use Rattle.std.proofs.Math.Dec.{eqb-suc-suc, eqb-suc-zero, eqb-zero-suc}
-use Rattle.std.specs.List.{list_any}
-use Rattle.std.proofs.lemmas.List.Folds.{list_any-append}
-use Rattle.std.proofs.lemmas.List.Elements.{filter-append}
 use Rattle.std.proofs.lemmas.Bool.{eqb-true, eq-eqb, ne_eqb, eqb-false, false≢true, or_left, or_right, or_cases, and_parts, and_from}
 use Rattle.schedule_model.specs.Graph.{Arrow}
-use Rattle.hold_tables.specs.Tables.{OpenProcess, has_number, running_of}
+use Rattle.hold_tables.specs.Tables.{OpenProcess, has_number}
 use Rattle.hold_tables.specs.Places.{place_of}
-use Rattle.process_tree.specs.declared.entry.Entry.{Entry}
-use Rattle.schedule_model.specs.Conflict.{ConflictRelation, conflict}
-use Rattle.hold_tables.specs.Walks.{arrows_by, arrows_from, steps_under_way, AreRows, Implies, IsExtended, IsJoined, IsTransitive, is_or, told}
+use Rattle.hold_tables.specs.Walks.{AreDistinctRows, Implies, IsExtended, IsJoined, IsTransitive, is_or, told}
 
 -- processes have one place where they are one
 pub same_place : (rows : List OpenProcess) (i p : ℕ) → has_number i rows ≡ true → has_number p rows ≡ true → nat_eq (place_of i rows) (place_of p rows) ≡ nat_eq i p
@@ -35,7 +30,7 @@ place_within (r ∷ rows) i has = by (nat_eq r.process i) refl (place_within row
     by false is rest = let less = rest (subst (λ b. (b || has_number i rows) ≡ true) is has) in rw is (omega (arith, less))
 
 -- what an arrow joined to the marks adds to what they tell
-pub told_joined : (rows : List OpenProcess) (p q : ℕ) (old new : List (List Bool)) → AreRows rows old → has_number p rows ≡ true → has_number q rows ≡ true
+pub told_joined : (rows : List OpenProcess) (p q : ℕ) (old new : List (List Bool)) → AreDistinctRows rows old → has_number p rows ≡ true → has_number q rows ≡ true
     → IsJoined (place_of p rows) (place_of q rows) old new → (i k : ℕ) → has_number i rows ≡ true → has_number k rows ≡ true
     → told rows new i k ≡ (told rows old i k || (is_or (told rows old i p) i p && is_or (told rows old q k) k q))
 told_joined rows p q old new are from to joined i k here there =
@@ -157,63 +152,8 @@ extended_on rows first second all old mid new same e f = record {
     by i k here there (inl a) = f.more i k here there (e.has i k here there a)
     by i k here there (inr b) = f.has i k here there b
 
--- two entries that conflict make one arrow
-pub arrow_alone : (table : ConflictRelation) (x y : Entry) → conflict table x y ≡ true → (i k : ℕ) → one x.process y.process i k ≡ arrows_by table x (y ∷ []) i k
-arrow_alone table x y is i k = ap (nat_eq x.process i &&◌) (by (nat_eq y.process k) (conflict table x y) is)
-  where
-    by : (s t : Bool) → t ≡ true → s ≡ ((s && t) || false)
-    by true true is = refl
-    by false true is = refl
-    by s false is = absurd (false≢true is)
-
 -- an arrow that the marks tell already extends nothing
 pub told_one : (rows : List OpenProcess) (p q : ℕ) (marks : List (List Bool)) → told rows marks p q ≡ true → IsExtended rows (one p q) marks marks
 told_one rows p q marks tells = extended_none rows (one p q) marks (λ i k here there arrow.
     let ends = and_parts (nat_eq p i) (nat_eq q k) arrow in
     subst (λ n. told rows marks n k ≡ true) (eqb-true p i ends.0) (subst (λ n. told rows marks p n ≡ true) (eqb-true q k ends.1) tells))
-
--- entries that don't conflict make no arrow
-pub no_arrow : (rows : List OpenProcess) (table : ConflictRelation) (x y : Entry) (marks : List (List Bool)) → conflict table x y ≡ false → IsExtended rows (arrows_by table x (y ∷ [])) marks marks
-no_arrow rows table x y marks none = extended_none rows (arrows_by table x (y ∷ [])) marks (λ i k here there arrow.
-    absurd (false≢true (sym none ∙ alone (nat_eq y.process k) (conflict table x y) (and_parts (nat_eq x.process i) ((nat_eq y.process k && conflict table x y) || false) arrow).1)))
-  where
-    alone : (s t : Bool) → ((s && t) || false) ≡ true → t ≡ true
-    alone true true is = refl
-    alone true false is = is
-    alone false t is = absurd (false≢true is)
-
-any_later : (s a b : Bool) → (s && (a || b)) ≡ ((s && a) || (s && b))
-any_later true a b = refl
-any_later false a b = refl
-
--- the arrows of an entry to some and then to others
-pub arrows_append : (table : ConflictRelation) (x : Entry) (ys zs : List Entry) (i k : ℕ) → arrows_by table x (ys ++ zs) i k ≡ (arrows_by table x ys i k || arrows_by table x zs i k)
-arrows_append table x ys zs i k =
-    ap (nat_eq x.process i &&◌) (list_any-append (λ y. nat_eq y.process k && conflict table x y) ys zs)
-    ∙ any_later (nat_eq x.process i) (list_any (λ y. nat_eq y.process k && conflict table x y) ys) (list_any (λ y. nat_eq y.process k && conflict table x y) zs)
-
-nothing : (rows : List OpenProcess) (added : Arrow) (marks : List (List Bool)) → ((i k : ℕ) → added i k ≡ false) → IsExtended rows added marks marks
-nothing rows added marks none = extended_none rows added marks (λ i k here there arrow. absurd (false≢true (sym (none i k) ∙ arrow)))
-
-none_first : (s : Bool) → (s && false) ≡ false
-none_first true = refl
-none_first false = refl
-
--- no entries make no arrows
-pub no_arrows : (rows : List OpenProcess) (table : ConflictRelation) (x : Entry) (ys : List Entry) (marks : List (List Bool)) → length ys ≡ 0 → IsExtended rows (arrows_by table x ys) marks marks
-no_arrows rows table x [] marks none = nothing rows (arrows_by table x []) marks (λ i k. none_first (nat_eq x.process i))
-no_arrows rows table x (y ∷ ys) marks none = absurd (omega (arith, none))
-
--- nor do no processes
-pub no_steps : (rows : List OpenProcess) (table : ConflictRelation) (x : Entry) (rs : List OpenProcess) (marks : List (List Bool)) → length rs ≡ 0 → IsExtended rows (arrows_by table x (steps_under_way rs)) marks marks
-no_steps rows table x [] marks none = nothing rows (arrows_by table x []) marks (λ i k. none_first (nat_eq x.process i))
-no_steps rows table x (r ∷ rs) marks none = absurd (omega (arith, none))
-
--- nor does an empty net
-pub no_net : (rows : List OpenProcess) (table : ConflictRelation) (running es : List Entry) (marks : List (List Bool)) → length es ≡ 0 → IsExtended rows (arrows_from table running es) marks marks
-no_net rows table running [] marks none = nothing rows (arrows_from table running []) marks (λ i k. refl)
-no_net rows table running (e ∷ es) marks none = absurd (omega (arith, none))
-
--- what is under way in the first process, and in the others
-pub steps_first : (r : OpenProcess) (rows : List OpenProcess) → steps_under_way (r ∷ rows) ≡ filter (λ e. not e.undo) (running_of r) ++ steps_under_way rows
-steps_first r rows = filter-append (λ (e : Entry). not e.undo) (running_of r) (flat_map running_of rows)

@@ -1,6 +1,8 @@
 pub mod Places
 pub mod Tidy
 pub mod Entries
+pub mod LastAway
+pub mod OthersSame
 pub mod Effects
 pub mod Opening
 pub mod Least
@@ -8,4 +10,6 @@ pub mod Standing
 pub mod Reaching
 pub mod Marks
 pub mod Extended
+pub mod Arrows
 pub mod WalksStay
+pub mod Numbers

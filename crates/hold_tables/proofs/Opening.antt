@@ -14,7 +14,7 @@ use Rattle.hold_tables.specs.Kept.{IsKnown, IsTidy, IsTidyAmong, Stands, are_num
 use Rattle.hold_tables.specs.Places.{all_steps}
 use Rattle.hold_tables.proofs.Tidy.{each_entry}
 use Rattle.hold_tables.proofs.Entries.{each_more}
-use Rattle.hold_tables.proofs.Effects.{none_own}
+use Rattle.hold_tables.proofs.LastAway.{none_own}
 
 -- with one process more, there is its number too
 number_more : (k : ℕ) (rows : List OpenProcess) (r : OpenProcess) → has_number k (rows ++ r ∷ []) ≡ (has_number k rows || nat_eq r.process k)

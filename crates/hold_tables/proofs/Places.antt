@@ -1,7 +1,9 @@
 -- Where something stands in a list, and what is there.
 use Rattle.std.specs.Prelude.{if◌then◌else◌, map, nat_le, remove, slice_index_or, slice_set, nat_eq, ◌&&◌, ◌||◌}
-use Rattle.std.proofs.Common.{◌≡◌, ℕ, zero, suc, ◌+◌, ◌<◌, Bool, true, false, List, [], ◌∷◌, ◌++◌, length, Option, Some, None, refl, ◌∙◌, ap, subst, arith, add-one}
-use Rattle.std.proofs.lemmas.Bool.{or_right}
+use Rattle.std.proofs.Common.{◌≡◌, ℕ, zero, suc, ◌+◌, ◌<◌, Bool, true, false, not, sym, List, [], ◌∷◌, ◌++◌, length, Option, Some, None, refl, ◌∙◌, ap, subst, arith, add-one}
+use Rattle.std.proofs.lemmas.Bool.{eq-eqb, eqb-true, false≢true, not-true, or_left, or_right}
+use Rattle.schedule_model.proofs.Legal.{both-left, both-right}
+use Rattle.hold_tables.specs.Kept.{are_numbered}
 use Rattle.process_tree.specs.Order.{Each}
 use Rattle.process_tree.specs.declared.entry.Entry.{Entry}
 use Rattle.hold_tables.specs.Tables.{OpenProcess, has_number, numbered}
@@ -94,3 +96,23 @@ pub each_place : {A : Type 0} (P : A → Type 0) (xs : List A) (place : ℕ) (d 
 each_place P [] place d within each = absurd (omega arith)
 each_place P (x ∷ xs) zero d within each = each.0
 each_place P (x ∷ xs) (suc place) d within each = each_place P xs place d (omega arith) each.1
+
+-- a number that stands at a place is there
+number-at : (i : ℕ) (rows : List OpenProcess) (at : ℕ) (d : OpenProcess) → at < length rows → (slice_index_or rows at d).process ≡ i → has_number i rows ≡ true
+number-at i [] at d within is = absurd (omega (arith, within))
+number-at i (r ∷ rows) zero d within is = or_left (nat_eq r.process i) (has_number i rows) (eq-eqb r.process i is)
+number-at i (r ∷ rows) (suc at) d within is = or_right (nat_eq r.process i) (has_number i rows) (number-at i rows at d (omega (arith, within)) is)
+
+-- where the process stands is its place, for no number stands twice
+pub place-is : (i : ℕ) (rows : List OpenProcess) (at : ℕ) (d : OpenProcess) → are_numbered rows ≡ true → at < length rows → (slice_index_or rows at d).process ≡ i → at ≡ place_of i rows
+place-is i [] at d distinct within is = absurd (omega (arith, within))
+place-is i (r ∷ rows) zero d distinct within is = sym (ap (λ t. if t then 0 else suc (place_of i rows)) (eq-eqb r.process i is))
+place-is i (r ∷ rows) (suc at) d distinct within is =
+    let there = number-at i rows at d (omega (arith, within)) is in
+    by (nat_eq r.process i) refl there (place-is i rows at d (both-right (not (has_number r.process rows)) (are_numbered rows) distinct) (omega (arith, within)) is)
+  where
+    by : (t : Bool) → nat_eq r.process i ≡ t → has_number i rows ≡ true → at ≡ place_of i rows → suc at ≡ place_of i (r ∷ rows)
+    by true same has rest =
+        let none : has_number i rows ≡ false = subst (λ n. has_number n rows ≡ false) (eqb-true r.process i same) (not-true (has_number r.process rows) (both-left (not (has_number r.process rows)) (are_numbered rows) distinct)) in
+        absurd (false≢true (sym none ∙ has))
+    by false other has rest = rw other (ap suc rest)

@@ -7,7 +7,7 @@ use Rattle.schedule_model.specs.Conflict.{ConflictRelation, conflict}
 use Rattle.schedule_model.specs.Graph.{Arrow}
 use Rattle.schedule_model.specs.Holdings.{reaches}
 use Rattle.hold_tables.specs.Tables.{Tables, OpenProcess, has_number, holdings_of, is_open, running_of}
-use Rattle.hold_tables.specs.Kept.{IsKnown}
+use Rattle.hold_tables.specs.Kept.{IsKnown, are_numbered}
 use Rattle.hold_tables.specs.Places.{place_of}
 
 -- rows of marks: whether the row at place a has a mark at place b
@@ -68,6 +68,10 @@ IsPlacedIf table rows running = IfSome running (IsPlaced table rows)
 -- there is a row for each of these processes, of which there are few enough
 abbrev pub AreRows : List OpenProcess → List (List Bool) → Type 0
 AreRows rows marks = (length marks ≡ length rows) × (length rows ≤ 256)
+
+-- and no number stands twice
+abbrev pub AreDistinctRows : List OpenProcess → List (List Bool) → Type 0
+AreDistinctRows rows marks = (length marks ≡ length rows) × (length rows ≤ 256) × (are_numbered rows ≡ true)
 
 -- the marks tell where walks of the conflict graph lead
 pub record TellWalks (t : Tables) (marks : List (List Bool)) : Type 0 where

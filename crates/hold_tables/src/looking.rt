@@ -3,6 +3,7 @@ ghost use Rattle.std.specs.Prelude.{◌≡◌, ◌<◌, ◌≤◌, ◌+◌, leng
 ghost use Rattle.process_tree.specs.Order.{Each};
 ghost use Rattle.schedule_model.specs.Histories.{of_process};
 ghost use Rattle.hold_tables.specs.Tables.{has_number};
+ghost use Rattle.hold_tables.specs.Kept.{are_numbered};
 ghost use Rattle.hold_tables.specs.Places.{place_of, last_place, all_steps};
 ghost use Rattle.hold_tables.specs.Changes.{net_after, without_last};
 ghost use Rattle.hold_tables.specs.Reading.{lesser_number, least_from};
@@ -10,8 +11,8 @@ ghost use Rattle.hold_tables.specs.Reading.{lesser_number, least_from};
 use crate::row::Row;
 use process_tree::Entry;
 
-/// The place of the process with this number.
-pub fn place_of(rows: &[Row], process: u32) -> usize
+/// The place of the process with this number, looked for from the first on.
+fn first_place(rows: &[Row], process: u32) -> usize
     requires { has_number process rows.now ≡ true }
     ensures place { result ≡ place_of process rows.now }
     ensures within { result < length rows.now }
@@ -26,6 +27,21 @@ pub fn place_of(rows: &[Row], process: u32) -> usize
         at += 1;
     }
     unreachable!()
+}
+
+/// The place of the process with this number: it is halved down to where numbers rise, as those of processes that are opened in turn.
+pub fn place_of(rows: &[Row], process: u32) -> usize
+    requires open { has_number process rows.now ≡ true }
+    requires numbered { are_numbered rows.now ≡ true }
+    ensures place { result ≡ place_of process rows.now }
+    ensures within { result < length rows.now }
+{
+    let at = rows.partition_point(|row| row.process() < process);
+    if at < rows.len() && rows[at].process() == process {
+        at
+    } else {
+        first_place(rows, process)
+    }
 }
 
 /// How many of the entries are of the process.

@@ -5,7 +5,7 @@ ghost use Rattle.process_tree.specs.Conflicts.{do_conflict};
 ghost use Rattle.process_tree.specs.Order.{Each};
 ghost use Rattle.hold_tables.specs.Places.{place_of};
 ghost use Rattle.hold_tables.specs.Kept.{AreTidy};
-ghost use Rattle.hold_tables.specs.Walks.{AreRows, IsExtended, IsJoined, IsPlaced, IsPlacedIf, TellWalks, arrows_by, arrows_from, cell, steps_under_way};
+ghost use Rattle.hold_tables.specs.Walks.{AreDistinctRows, AreRows, IsExtended, IsJoined, IsPlaced, IsPlacedIf, TellWalks, arrows_by, arrows_from, cell, steps_under_way};
 
 use crate::looking::place_of;
 use crate::row::Row;
@@ -49,7 +49,7 @@ fn join(marks: &mut [Marks], a: usize, b: usize)
 
 /// Adds the arrow that an entry makes to the process of another that comes later, where they conflict.
 fn follow(marks: &mut [Marks], conflicts: &Conflicts, rows: &[Row], x: Entry, y: Entry)
-    requires rows { AreRows rows.now marks.old }
+    requires rows { AreDistinctRows rows.now marks.old }
     requires first { IsPlaced conflicts.now rows.now x }
     requires later { IsPlaced conflicts.now rows.now y }
     ensures { IsExtended rows.now (arrows_by (do_conflict conflicts.now) x (y ∷ [])) marks.old marks.new }
@@ -65,7 +65,7 @@ fn follow(marks: &mut [Marks], conflicts: &Conflicts, rows: &[Row], x: Entry, y:
 
 /// The same of all that come later.
 fn follow_all(marks: &mut [Marks], conflicts: &Conflicts, rows: &[Row], x: Entry, later: &[Entry])
-    requires rows { AreRows rows.now marks.old }
+    requires rows { AreDistinctRows rows.now marks.old }
     requires first { IsPlaced conflicts.now rows.now x }
     requires later { Each (IsPlaced conflicts.now rows.now) later.now }
     ensures { IsExtended rows.now (arrows_by (do_conflict conflicts.now) x later.now) marks.old marks.new }
@@ -85,7 +85,7 @@ fn follow_step(
     x: Entry,
     running: Option<Entry>,
 )
-    requires rows { AreRows rows.now marks.old }
+    requires rows { AreDistinctRows rows.now marks.old }
     requires first { IsPlaced conflicts.now rows.now x }
     requires later { IsPlacedIf conflicts.now rows.now running }
     ensures { IsExtended rows.now (arrows_by (do_conflict conflicts.now) x (filter (λ e. not e.undo) (option_to_list running))) marks.old marks.new }
@@ -98,7 +98,7 @@ fn follow_step(
 
 /// The same of each step that is under way in these processes.
 fn follow_steps(marks: &mut [Marks], conflicts: &Conflicts, rows: &[Row], x: Entry)
-    requires rows { AreRows rows.now marks.old }
+    requires rows { AreDistinctRows rows.now marks.old }
     requires first { IsPlaced conflicts.now rows.now x }
     requires later { Each (λ r. IsPlacedIf conflicts.now rows.now r.running) rows.now }
     ensures { IsExtended rows.now (arrows_by (do_conflict conflicts.now) x (steps_under_way rows.now)) marks.old marks.new }
@@ -112,7 +112,7 @@ fn follow_steps(marks: &mut [Marks], conflicts: &Conflicts, rows: &[Row], x: Ent
 
 /// Adds each arrow of the conflict graph.
 fn follow_graph(marks: &mut [Marks], conflicts: &Conflicts, rows: &[Row], net: &[Entry])
-    requires rows { AreRows rows.now marks.old }
+    requires rows { AreDistinctRows rows.now marks.old }
     requires net { Each (IsPlaced conflicts.now rows.now) net.now }
     requires running { Each (λ r. IsPlacedIf conflicts.now rows.now r.running) rows.now }
     ensures { IsExtended rows.now (arrows_from (do_conflict conflicts.now) (steps_under_way rows.now) net.now) marks.old marks.new }

@@ -1,6 +1,6 @@
 use Rattle.std.proofs.Common.{◌≡◌, ◌+◌, sym, ap, ◌∙◌, arith}
 use Rattle.hold_tables.specs.Reading.{next_open}
-use Rattle.cascade.proofs.Processes.{none_behind}
+use Rattle.hold_tables.proofs.Numbers.{none_behind}
 use Rattle.cascade.proofs.spread.open_after.Goals as goal
 
 pub returns-in-None : goal.returns-in-None

@@ -2,7 +2,8 @@ use Rattle.std.proofs.Common.{◌∙◌, sym, subst}
 use Rattle.process_tree.specs.Conflicts.{do_conflict}
 use Rattle.hold_tables.specs.Places.{place_of}
 use Rattle.hold_tables.specs.Walks.{IsJoined}
-use Rattle.hold_tables.proofs.Extended.{arrow_alone, extended_one, extended_same, one, told_joined}
+use Rattle.hold_tables.proofs.Arrows.{arrow_alone}
+use Rattle.hold_tables.proofs.Extended.{extended_one, extended_same, one, told_joined}
 use Rattle.hold_tables.proofs.reach.follow.Goals as goal
 
 pub returns-then-not-marks-from : goal.returns-then-not-marks-from

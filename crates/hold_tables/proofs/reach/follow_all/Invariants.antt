@@ -1,12 +1,12 @@
 use Rattle.std.proofs.Common.{List, Bool, length}
 use Rattle.process_tree.specs.Conflicts.{do_conflict}
 use Rattle.process_tree.specs.Order.{Each}
-use Rattle.hold_tables.specs.Walks.{AreRows, IsExtended, IsPlaced, arrows_by}
+use Rattle.hold_tables.specs.Walks.{AreDistinctRows, IsExtended, IsPlaced, arrows_by}
 use Rattle.hold_tables.proofs.reach.follow_all.Given as goal
 
 abbrev pub invariant-entries : goal.invariant-entries
 invariant-entries l =
-    AreRows l.rows l.marks
+    AreDistinctRows l.rows l.marks
     × Each (IsPlaced l.conflicts l.rows) l.rest
     × ((new : List (List Bool)) → IsExtended l.rows (arrows_by (do_conflict l.conflicts) l.x l.rest) l.marks new
     → IsExtended l.rows (arrows_by (do_conflict l.conflicts) l.x l.later) l.fn.marks new)

@@ -5,7 +5,8 @@ use Rattle.process_tree.specs.Conflicts.{do_conflict}
 use Rattle.process_tree.specs.Order.{Each}
 use Rattle.hold_tables.specs.Tables.{OpenProcess}
 use Rattle.hold_tables.specs.Walks.{IsPlacedIf, arrows_by, steps_under_way}
-use Rattle.hold_tables.proofs.Extended.{arrows_append, extended_on, no_steps, steps_first}
+use Rattle.hold_tables.proofs.Arrows.{arrows_append, no_steps, steps_first}
+use Rattle.hold_tables.proofs.Extended.{extended_on}
 use Rattle.hold_tables.proofs.reach.follow_steps.Goals as goal
 
 pub rows-preserved : goal.rows-preserved
@@ -17,7 +18,7 @@ rows-preserved c =
     let is = c.in-Some.ensures.cases.0 in
     let before = c.rows.invariant in
     let first : List Entry = filter (λ (e : Entry). not e.undo) (option_to_list c.running.result) in (
-      (c.follow_step.ensures.count ∙ before.0.0, before.0.1),
+      (c.follow_step.ensures.count ∙ before.0.0, before.0.1, before.0.2),
       (subst (Each (λ (r : OpenProcess). IsPlacedIf c.args.conflicts.now c.args.rows.now r.running)) is before.1).1,
       λ new e. before.2 new (extended_on c.args.rows.now (arrows_by table x first) (arrows_by table x (steps_under_way after)) (arrows_by table x (steps_under_way c.rows.rest.now)) c.rows.marks c.follow_step.new.marks new
           (λ i k. ap (λ (rs : List OpenProcess). arrows_by table x (steps_under_way rs) i k) is
