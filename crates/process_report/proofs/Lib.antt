@@ -1,1 +1,13 @@
 pub mod LinesMore
+pub mod Plain
+pub mod LinesRead
+pub mod LineForms
+pub mod SectionsRead
+pub mod OtherSections
+pub mod ReportRead
+pub mod Renamed
+pub mod SameConflicts
+pub mod Accepted
+pub mod SmallSteps
+pub mod GoodEntries
+pub mod ReportsAccepted

@@ -3,4 +3,5 @@ pub mod Lines
 pub mod Report
 pub mod Reduced
 pub mod Blocks
+pub mod Laws
 pub mod Examples

@@ -11,12 +11,14 @@ mod causes;
 mod conflicts;
 mod ends;
 mod events;
+mod laws;
 mod lines;
 mod names;
 mod printing;
 mod steps;
 
 pub use blocks::blocked_text;
+pub use laws::printed_reports_are_accepted;
 pub use printing::{report, report_of};
 
 #[cfg(test)]
