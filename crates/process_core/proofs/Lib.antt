@@ -11,3 +11,4 @@ pub mod MayStand
 pub mod StandHere
 pub mod OpenedRows
 pub mod PendedRows
+pub mod PendingEntries

@@ -1,10 +1,10 @@
 -- What the tables of hold are at a moment of the machine.
-use Rattle.std.specs.Prelude.{◌≡◌, ℕ, List, [], ◌∷◌, ◌++◌, filter, length, map, nat_le, slice_index_or, None, if◌then◌else◌}
+use Rattle.std.specs.Prelude.{◌≡◌, ℕ, not, List, [], ◌∷◌, ◌++◌, filter, length, map, nat_eq, nat_le, slice_index_or, Option, None, if◌then◌else◌}
 use Rattle.process_tree.specs.declared.entry.Entry.{Entry}
 use Rattle.process_tree.specs.Conflicts.{Table}
 use Rattle.process_tree.specs.declared.plan.Plan.{Plan}
 use Rattle.process_tree.specs.Recovery.{forward, last_after}
-use Rattle.process_tree.specs.Shape.{branch_to, commits, fixed_len, kind_of, shape_of}
+use Rattle.process_tree.specs.Shape.{branch_to, commits, fixed_len, kind_of, last_of, shape_of}
 use Rattle.schedule_model.specs.Course.{Course, shape}
 use Rattle.schedule_model.specs.Histories.{active, doing, is_in, net, net_steps, of_process, steps_of}
 use Rattle.schedule_model.specs.declared.event.Event.{Event}
@@ -13,7 +13,7 @@ use Rattle.machine_model.specs.Moment.{Moment, opening_moment}
 use Rattle.machine_model.specs.State.{hold_of, holdings}
 use Rattle.machine_model.specs.Laws.{open_only}
 use Rattle.hold_tables.specs.Changes.{all_fixed, changed, run, took_effect, with_reserved}
-use Rattle.hold_tables.specs.Tables.{OpenProcess, Tables, holdings_of}
+use Rattle.hold_tables.specs.Tables.{OpenProcess, Tables, holdings_of, kept_of}
 
 -- these entries as steps with their operations
 abbrev pub pairs_of : List Entry → List (ℕ × ℕ)
@@ -84,3 +84,7 @@ tables_up_to n conflicts courses h = record {
 -- They stand for what the active processes hold.
 abbrev pub TablesStandForHoldings : Type 0
 TablesStandForHoldings = (conflicts : Table) (courses : List Course) (m : Moment) → holdings_of (tables_of conflicts courses m) ≡ open_only (holdings courses m)
+
+-- the process of the last of these entries whose process has something to undo, if there is one
+abbrev pub last_pending : Tables → List Entry → Option ℕ
+last_pending t es = last_of (map (λ e. e.process) (filter (λ e. not (nat_eq (kept_of t e.process).pending 0)) es))

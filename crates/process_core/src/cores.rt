@@ -1,12 +1,14 @@
 // The core: its opening, and what is read of it.
 ghost use Rattle.std.specs.Prelude.{◌≡◌, IfOk};
-ghost use Rattle.process_core.specs.Cores.{IsCore, IsHandedBy, began_in, history_of, moment_of, opened_on};
+ghost use Rattle.process_core.specs.Cores.{IsCore, IsHandedBy, began_in, courses_in, history_of, moment_of, opened_on};
 ghost use Rattle.machine_model.specs.Pieces.{state_of};
+ghost use Rattle.machine_model.specs.State.{undo_next};
 
 use crate::opening::opened_seats;
 use crate::pieces::Piece;
 use crate::seats::Seat;
 use crate::tables::opened_tables;
+use crate::undoing::last_pending;
 use hold_tables::Holds;
 use machine_model::{Began, Kept, PieceState};
 use process_tree::Conflicts;
@@ -62,7 +64,6 @@ impl Core {
         })
     }
 
-    /// It is a run of the machine, so all laws of runs hold of it.
     /// It is a run of the machine, so the laws of runs hold of it.
     pub fn is_run(&self)
         ensures { IsCore self.now }
@@ -107,5 +108,12 @@ impl Core {
     {
         let seat = &self.seats[piece.process() as usize - 1];
         seat.state(piece.number())
+    }
+
+    /// The process of the last pending entry in joint order, whose undo comes next where all complete.
+    pub fn undo_next(&self) -> Option<u32>
+        ensures { result ≡ undo_next (courses_in self.now) (moment_of self.now) }
+    {
+        last_pending(&self.holds)
     }
 }

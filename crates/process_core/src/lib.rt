@@ -11,6 +11,7 @@ mod opening;
 mod pieces;
 mod seats;
 mod tables;
+mod undoing;
 
 pub use cores::Core;
 pub use laws::tables_stand_for_holdings;

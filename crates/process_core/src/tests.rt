@@ -16,5 +16,6 @@ fn a_core_opens_on_nothing(rt: HostRuntime) -> Result<(), Fail> {
     assert!(rt; core.kept().is_empty());
     assert!(rt; core.history().events.as_slice().is_empty());
     assert!(rt; core.began(1).is_none());
+    assert!(rt; core.undo_next().is_none());
     Ok(())
 }
