@@ -1,5 +1,5 @@
 -- A printed report that can be read is accepted, where the printed steps lead the schedule to a serial list.
-use Rattle.std.proofs.Common.{◌≡◌, ℕ, ◌+◌, ◌<◌, ◌≤◌, Bool, true, false, not, ◌&&◌, nat_eq, List, [], ◌∷◌, ◌++◌, length, map, get_or, Some, is_none, sym, refl, ap, ◌∙◌, subst, arith}
+use Rattle.std.proofs.Common.{◌≡◌, ℕ, ◌<◌, Bool, true, false, not, ◌&&◌, nat_eq, List, [], ◌∷◌, ◌++◌, length, map, get_or, Some, is_none, refl, ap, ◌∙◌}
 use Rattle.std.specs.Bool.{IsTrue}
 use Rattle.std.proofs.lemmas.Bool.{and_parts, and_from, eqb-true, eq-eqb}
 use Rattle.process_tree.specs.Conflicts.{do_conflict}
@@ -20,10 +20,9 @@ use Rattle.schedule_model.proofs.Members.{Among}
 use Rattle.machine_model.specs.declared.began.Cause.{Cause}
 use Rattle.trace_verify.specs.declared.verdict.Verified.TheVariants.{Accepted}
 use Rattle.trace_verify.specs.Forms.{NamedAct}
-use Rattle.trace_verify.specs.Names.{is_among, with_name, with_names, number_among, step_names, op_names, entry_of, schedule, conflicts, conflicts_of}
-use Rattle.trace_verify.specs.Reports.{Report}
+use Rattle.trace_verify.specs.Names.{is_among, with_name, with_names, number_among, step_names, op_names, entry_of, schedule, conflicts}
 use Rattle.trace_verify.specs.Verdicts.{verdict}
-use Rattle.trace_verify.specs.Laws.{printed_by, printed, IsAccepted}
+use Rattle.trace_verify.specs.Laws.{printed_by}
 use Rattle.trace_verify.proofs.Meaning.{acceptance_is_exact}
 use Rattle.trace_verify.proofs.NumbersKept.{among-added, among-kept}
 use Rattle.trace_verify.proofs.PrintedEntries.{named-read, named-number}
@@ -126,11 +125,11 @@ module _ (c : Catalog) (h : History) (causes : List (ℕ × Cause)) (added : Lis
         → verdict (report_of c h causes added t) ≡ Accepted
     accepted known applies serial =
         let there : Each IsThere es =
-            three (λ e. e.op < length c.ops) (λ e. is_among (step_names told) (step_name h.plans e.process e.step) ≡ true) (λ e. is_among (op_names told) (op_name c.ops e.op) ≡ true) es known
-            (step-there h.plans c.ops [] (step_names told) es refl) (op-there h.plans c.ops [] (op_names told) es refl) in
+        three (λ e. e.op < length c.ops) (λ e. is_among (step_names told) (step_name h.plans e.process e.step) ≡ true) (λ e. is_among (op_names told) (op_name c.ops e.op) ≡ true) es known
+        (step-there h.plans c.ops [] (step_names told) es refl) (op-there h.plans c.ops [] (op_names told) es refl) in
         let renaming = all-renamed (do_conflict c.conflicts) table renamed IsThere change-kept pair-kept t.steps es t.list there applies in
         let applied : applied_all table t.steps (schedule told) ≡ Some (map renamed t.list) =
-            ap (λ xs. applied_all table t.steps xs) (map-twice (entry_of (step_names told) (op_names told)) (named h.plans c.ops) es) ∙ renaming.0 in
+        ap (λ xs. applied_all table t.steps xs) (map-twice (entry_of (step_names told) (op_names told)) (named h.plans c.ops) es) ∙ renaming.0 in
         acceptance_is_exact (report_of c h causes added t) (record {
           report = read_of c h added t;
           is_report = report-read c h causes added t can;

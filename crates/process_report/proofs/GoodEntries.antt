@@ -1,14 +1,14 @@
 -- What is printed of a legal history has names: its entries are of steps of its processes.
-use Rattle.std.proofs.Common.{◌≡◌, ◌⊎◌, inl, inr, ⊎_elim, ℕ, zero, suc, ◌+◌, ◌-◌, ◌<◌, ◌≤◌, Bool, true, false, cond, not, eqb, ltb, ◌&&◌, ◌||◌, nat_eq, List, [], ◌∷◌, ◌++◌, length, drop, map, get_or, sym, refl, ap, ◌∙◌, subst, arith, append-nil}
+use Rattle.std.proofs.Common.{◌≡◌, inl, inr, ⊎_elim, ℕ, zero, suc, ◌-◌, ◌<◌, ◌≤◌, Bool, true, false, cond, ltb, ◌||◌, nat_eq, List, [], ◌∷◌, ◌++◌, length, map, get_or, sym, refl, ap, ◌∙◌, subst, arith, append-nil}
 use Rattle.std.specs.Bool.{IsTrue}
 use Rattle.std.specs.List.{list_all, list_any, Contains}
-use Rattle.std.proofs.lemmas.Bool.{and_parts, and_from, or_cases, eqb-true, eq-eqb, ltb-true, lt-ltb, false≢true}
+use Rattle.std.proofs.lemmas.Bool.{and_parts, eqb-true, ltb-true}
 use Rattle.std.proofs.lemmas.List.{length-map}
-use Rattle.process_tree.specs.Blocks.{outline, numbers_from}
+use Rattle.process_tree.specs.Blocks.{outline}
 use Rattle.process_tree.specs.Name.{is_name}
 use Rattle.process_tree.specs.declared.entry.Entry.{Entry}
 use Rattle.process_tree.specs.declared.plan.Plan.{Plan}
-use Rattle.process_tree.specs.Shape.{goes_on_to, fixed_len}
+use Rattle.process_tree.specs.Shape.{goes_on_to}
 use Rattle.process_tree.proofs.TreeLaws.{paths_lie_in_order}
 use Rattle.process_tree.proofs.InTurn.{goes_within}
 use Rattle.commute_table.specs.declared.op.Op.{Op}
@@ -17,15 +17,14 @@ use Rattle.schedule_model.specs.declared.event.Event.{Event}
 use Rattle.schedule_model.specs.declared.event.Event.TheVariants.{Start, Act, End}
 use Rattle.schedule_model.specs.Conflict.{ConflictRelation}
 use Rattle.schedule_model.specs.Course.{Course, course, course_of, courses_of, no_course, op_of, shape}
-use Rattle.schedule_model.specs.Histories.{acts, starts, ends, net, net_acts, net_of, net_steps, done_steps, is_in, is_active, takes_back, same_step, steps_of}
-use Rattle.schedule_model.specs.Laws.{AreGood, IsGoodPlan}
-use Rattle.schedule_model.specs.Legal.{is_legal, may_come, is_clear}
-use Rattle.schedule_model.specs.OwnOrder.{goes_on, keeps_order, is_of_last}
-use Rattle.schedule_model.specs.Recovery.{backward_entries}
+use Rattle.schedule_model.specs.Histories.{acts, net_acts, net_of, net_steps, done_steps, takes_back}
+use Rattle.schedule_model.specs.Laws.{AreGood}
+use Rattle.schedule_model.specs.Legal.{is_legal, may_come}
+use Rattle.schedule_model.specs.OwnOrder.{goes_on}
 use Rattle.schedule_model.proofs.Appends.{acts-append}
 use Rattle.schedule_model.proofs.GoodPlans.{good_if_goes_on}
 use Rattle.schedule_model.proofs.Induction.{by_legal}
-use Rattle.schedule_model.proofs.Members.{Among, among-append, among-right, contains-from_among, all-among, all-from_among, among-map}
+use Rattle.schedule_model.proofs.Members.{Among, among-append, among-right, contains-from_among}
 use Rattle.schedule_model.proofs.Rising.{step_goes_on}
 use Rattle.schedule_model.proofs.Started.{among_net_of}
 use Rattle.schedule_model.proofs.Undoing.{undoes}

@@ -1,27 +1,26 @@
 -- Printed lines have the forms of a report, and are read as what they print.
-use Rattle.std.proofs.Common.{◌≡◌, ℕ, ◌≤◌, Bool, true, false, cond, not, ◌&&◌, ◌||◌, List, [], ◌∷◌, ◌++◌, append-nil, map, nat_eq, decimal, Option, Some, None, sym, refl, ap, ◌∙◌, subst, arith}
+use Rattle.std.proofs.Common.{◌≡◌, ℕ, ◌≤◌, Bool, true, false, cond, not, ◌&&◌, ◌||◌, List, [], ◌∷◌, ◌++◌, append-nil, nat_eq, decimal, Option, Some, None, sym, refl, ap, ◌∙◌, arith}
 use Rattle.std.specs.Prelude.{codes}
 use Rattle.std.specs.List.{list_all}
 use Rattle.std.specs.Option.{option_map}
-use Rattle.std.proofs.lemmas.Bool.{and_parts, and_from, eq-eqb, false≢true}
+use Rattle.std.proofs.lemmas.Bool.{and_parts, and_from, false≢true}
 use Rattle.process_tree.specs.Name.{is_name_byte, is_name}
 use Rattle.process_tree.specs.Making.{same_text}
 use Rattle.process_tree.specs.declared.entry.Entry.{Entry}
 use Rattle.process_tree.specs.declared.plan.Plan.{Plan}
 use Rattle.process_text.specs.Canonical.{spaced}
 use Rattle.commute_table.specs.declared.op.Op.{Op}
-use Rattle.schedule_model.specs.declared.trace_step.TraceStep.{TraceStep}
 use Rattle.schedule_model.specs.declared.trace_step.TraceStep.TheVariants.{Move, Cancel}
 use Rattle.trace_verify.specs.declared.section.Section.{Section}
 use Rattle.trace_verify.specs.declared.section.Section.TheVariants.{Opening, Conflicts, History, Completion, Ends, Causes, Trace, Serial}
-use Rattle.trace_verify.specs.Lines.{Parts, cut, parts, of_both, both_pass, onto_front}
+use Rattle.trace_verify.specs.Lines.{cut, parts, of_both, both_pass, onto_front}
 use Rattle.trace_verify.specs.Forms.{NamedAct, Pair, pair_of, named_act, act_of, is_start, without_act, is_number, number_of, is_named_end, is_end, is_path, is_end_line, is_longer_cause, is_cause, is_cause_line, moved, step_of, move_of, cancel_of}
 use Rattle.trace_verify.specs.Forms as forms
 use Rattle.trace_verify.specs.Reports.{Report, opened, with_line, title_or, after_line}
 use Rattle.trace_verify.proofs.Cuts.{parts-none, parts-some}
 use Rattle.trace_verify.proofs.Naming.{same}
 use Rattle.process_report.specs.Names.{step_name, op_name}
-use Rattle.process_report.specs.Lines.{Line, place_word, entry_line, step_line}
+use Rattle.process_report.specs.Lines.{Line, entry_line}
 use Rattle.process_report.specs.Blocks.{joined}
 use Rattle.process_report.proofs.Plain.{lacks, lacks-append, cut-at, name-lacks, number-lacks, number-is, number-read}
 

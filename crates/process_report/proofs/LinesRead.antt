@@ -1,6 +1,6 @@
 -- Texts of lines, read.
-use Rattle.std.proofs.Common.{◌≡◌, ℕ, ◌+◌, Bool, true, false, List, [], ◌∷◌, ◌++◌, append_assoc, append-nil, map, Option, Some, None, sym, refl, ap, ◌∙◌, subst}
-use Rattle.process_text.specs.Canonical.{spaced, line_of}
+use Rattle.std.proofs.Common.{◌≡◌, ℕ, ◌+◌, true, List, [], ◌∷◌, ◌++◌, append_assoc, append-nil, map, Some, sym, refl, ap, ◌∙◌}
+use Rattle.process_text.specs.Canonical.{line_of}
 use Rattle.trace_verify.specs.Lines.{parts, cut}
 use Rattle.trace_verify.specs.Reports.{Report, after_line, on_or_bad, reading_from}
 use Rattle.trace_verify.proofs.Readings.{reading-line}
@@ -26,9 +26,11 @@ line-is (w ∷ ws) = refl
 -- a line that is taken
 pub reads-line : (r s : Report) (ws : Line) → lacks 10 (joined ws) ≡ true → after_line r (joined ws) ≡ Some s → Reads r (line_of ws) s
 reads-line r s ws free taken n rest =
-    let whole : line_of ws ++ rest ≡ joined ws ++ 10 ∷ rest = ap (λ t. t ++ rest) (line-is ws) ∙ append_assoc (joined ws) (10 ∷ []) rest in
-    (n + 1, reading-line r n (line_of ws ++ rest) (joined ws) rest (ap (cut 10) whole ∙ cut-at 10 (joined ws) rest free)
-        ∙ ap (on_or_bad n (λ x. reading_from x (n + 1) (parts 10 rest))) taken)
+    let whole : line_of ws ++ rest ≡ joined ws ++ 10 ∷ rest = ap (λ t. t ++ rest) (line-is ws) ∙ append_assoc (joined ws) (10 ∷ []) rest in (
+      n + 1,
+      reading-line r n (line_of ws ++ rest) (joined ws) rest (ap (cut 10) whole ∙ cut-at 10 (joined ws) rest free)
+          ∙ ap (on_or_bad n (λ x. reading_from x (n + 1) (parts 10 rest))) taken,
+    )
 
 module _ {X : Type 0} (f : X → Line) (state : List X → Report) (all : List X) where
   -- lines that are taken one after another

@@ -1,14 +1,14 @@
 -- Texts without some byte: names, numbers, and what is cut at that byte.
-use Rattle.std.proofs.Common.{◌≡◌, ℕ, ◌+◌, ◌-◌, ◌<◌, ◌≤◌, ◌^◌, Bool, true, false, cond, not, ◌&&◌, ◌||◌, List, [], ◌∷◌, ◌++◌, nat_eq, nat_le, length, decimal, Option, Some, None, sym, refl, ap, ◌∙◌, subst, arith}
+use Rattle.std.proofs.Common.{◌≡◌, ℕ, ◌≤◌, Bool, true, false, cond, not, ◌&&◌, List, [], ◌∷◌, ◌++◌, nat_eq, nat_le, length, decimal, Some, None, sym, refl, ap, ◌∙◌, arith}
 use Rattle.std.specs.List.{list_all}
 use Rattle.std.specs.Option.{option_map}
 use Rattle.std.specs.Char.{digit_value}
 use Rattle.std.specs.Str.Parse.{AllDigits, digits_value}
-use Rattle.std.proofs.lemmas.Bool.{and_parts, and_from, eq-eqb, eqb-true, false≢true, le-leb}
+use Rattle.std.proofs.lemmas.Bool.{and_parts, and_from, eq-eqb, eqb-true, false≢true}
 use Rattle.process_tree.specs.Name.{is_letter, is_name_byte, is_name}
 use Rattle.process_text.proofs.NumberWords.{number_passes, value_of_decimal}
 use Rattle.process_text.proofs.Numerals.{all_digits}
-use Rattle.trace_verify.specs.Lines.{Parts, all_behind, onto_front, cut}
+use Rattle.trace_verify.specs.Lines.{all_behind, onto_front, cut}
 use Rattle.trace_verify.specs.Forms as forms
 
 -- no such byte stands in a text

@@ -1,5 +1,5 @@
 -- A whole report, read.
-use Rattle.std.proofs.Common.{◌≡◌, ℕ, ◌+◌, ◌≤◌, Bool, true, false, List, [], ◌∷◌, ◌++◌, append-nil, append_assoc, length, length-append, map, flat_map, Some, sym, refl, ap, ◌∙◌, subst, arith}
+use Rattle.std.proofs.Common.{◌≡◌, ℕ, ◌+◌, ◌≤◌, true, false, List, [], ◌∷◌, ◌++◌, append-nil, length, length-append, map, flat_map, Some, sym, refl, ap, ◌∙◌, subst, arith}
 use Rattle.std.specs.Prelude.{codes}
 use Rattle.std.specs.List.{list_all}
 use Rattle.std.proofs.lemmas.List.{map-append, length-map}
@@ -16,12 +16,12 @@ use Rattle.schedule_model.specs.PrintedTrace.{Trace}
 use Rattle.schedule_model.proofs.Appends.{acts-append}
 use Rattle.schedule_model.proofs.Members.{Among}
 use Rattle.machine_model.specs.declared.began.Cause.{Cause}
-use Rattle.trace_verify.specs.declared.section.Section.TheVariants.{Opening, Conflicts, History as InHistory, Completion, Ends, Causes, Trace as InTrace, Serial}
+use Rattle.trace_verify.specs.declared.section.Section.TheVariants.{History as InHistory, Completion, Serial}
 use Rattle.trace_verify.specs.Forms.{NamedAct, Pair}
 use Rattle.trace_verify.specs.Reports.{Report, unread, whole, reading, reading_from}
 use Rattle.trace_verify.specs.Lines.{parts}
 use Rattle.process_report.specs.Names.{process_name, step_name, op_name}
-use Rattle.process_report.specs.Lines.{Line, text_of, entry_line, event_line, cause_line, step_line}
+use Rattle.process_report.specs.Lines.{Line, text_of, cause_line}
 use Rattle.process_report.specs.Report.{pair_line, conflicting, conflicts_lines, history_lines, completion_lines, end_line, ends_lines, causes_lines, trace_lines, serial_lines, section, report_of}
 use Rattle.process_report.proofs.LinesRead.{Reads, reads-then, reads-line}
 use Rattle.process_report.proofs.LineForms.{named, IsPrintable}

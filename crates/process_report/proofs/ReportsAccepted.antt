@@ -1,7 +1,7 @@
 -- Printed reports are accepted.
-use Rattle.std.proofs.Common.{◌≡◌, inl, inr, ℕ, zero, suc, ◌+◌, ◌-◌, ◌*◌, ◌<◌, ◌≤◌, Bool, true, false, ◌&&◌, nat_le, List, [], ◌∷◌, ◌++◌, length, map, flat_map, filter, get_or, Some, sym, refl, ap, ◌∙◌, subst, arith, append-nil, All}
+use Rattle.std.proofs.Common.{◌≡◌, inl, inr, ℕ, zero, suc, ◌+◌, ◌-◌, ◌<◌, ◌≤◌, true, false, ◌&&◌, nat_le, List, [], ◌∷◌, ◌++◌, length, map, get_or, sym, refl, ap, ◌∙◌, subst, arith, append-nil}
 use Rattle.std.specs.Bool.{IsTrue}
-use Rattle.std.specs.List.{Contains, list_all}
+use Rattle.std.specs.List.{list_all}
 use Rattle.std.proofs.lemmas.Bool.{and_parts, leb-true}
 use Rattle.std.proofs.lemmas.List.Elements.{All-contains}
 use Rattle.process_tree.specs.Blocks.{numbers_from}
@@ -19,7 +19,7 @@ use Rattle.schedule_model.specs.declared.history.History.{History}
 use Rattle.schedule_model.specs.Completion.{completion, completed}
 use Rattle.schedule_model.specs.Conflict.{ConflictRelation}
 use Rattle.schedule_model.specs.Course.{Course, courses_of}
-use Rattle.schedule_model.specs.Histories.{acts, starts, ends, active, net, net_of, net_steps, is_in, steps_of}
+use Rattle.schedule_model.specs.Histories.{acts, starts, ends, active, net, net_of, net_steps, is_in}
 use Rattle.schedule_model.specs.Laws.{IsPlanned, Reduces}
 use Rattle.schedule_model.specs.Legal.{is_legal}
 use Rattle.schedule_model.specs.Limits.{limits, entries, is_within_limits}
@@ -38,7 +38,7 @@ use Rattle.machine_model.specs.declared.began.Cause.TheVariants.{Refused, Abort,
 use Rattle.trace_verify.specs.declared.verdict.Verified.TheVariants.{Accepted}
 use Rattle.trace_verify.specs.Verdicts.{verdict}
 use Rattle.trace_verify.proofs.StepsApplied.{each-kept}
-use Rattle.process_report.specs.Names.{step_name, op_name, names_in}
+use Rattle.process_report.specs.Names.{step_name, names_in}
 use Rattle.process_report.specs.Report.{conflicting, report_text}
 use Rattle.process_report.specs.Laws.{AreNamed, IsCauseOf, AreCauses, PrintedReportsAreAccepted}
 use Rattle.process_report.proofs.LineForms.{IsPrintable}
@@ -155,16 +155,18 @@ module _ (c : Catalog) (h : History) (causes : List (ℕ × Cause)) (catalog : I
   end-good i is =
       let bounds = numbers-within i 1 (length h.plans) is in
       let low = bounds.0 in
-      let high = bounds.1 in
-      (omega (arith, high, few-plans), process-named h.plans c.ops planned.good planned.known catalog.good names i low (omega (arith, high)),
-      all-from_among is_name (map (step_name h.plans i) (net_steps h.events i)) (λ w there.
-      let of_step = among-map (step_name h.plans i) w (net_steps h.events i) there in
-      let of_entry = among-map (λ (e : Entry). e.step) of_step.0 (net_of h.events i) of_step.1 in
-      let e = of_entry.0 in
-      let in_net = among_net_of h.events i e of_entry.1 in
-      let in_acts = among-net e (acts h.events) in_net.0 in
-      let good = (entry-good e (subst (Among e) (sym (acts-append h.events (completion cs h.events))) (among-left e (acts h.events) (acts (completion cs h.events)) in_acts))).0.step in
-      ap is_name (sym of_step.2) ∙ (ap (λ b. is_name (step_name h.plans i b)) (sym of_entry.2) ∙ (ap (λ k. is_name (step_name h.plans k e.step)) (sym in_net.1) ∙ good))))
+      let high = bounds.1 in (
+        omega (arith, high, few-plans),
+        process-named h.plans c.ops planned.good planned.known catalog.good names i low (omega (arith, high)),
+        all-from_among is_name (map (step_name h.plans i) (net_steps h.events i)) (λ w there.
+            let of_step = among-map (step_name h.plans i) w (net_steps h.events i) there in
+            let of_entry = among-map (λ (e : Entry). e.step) of_step.0 (net_of h.events i) of_step.1 in
+            let e = of_entry.0 in
+            let in_net = among_net_of h.events i e of_entry.1 in
+            let in_acts = among-net e (acts h.events) in_net.0 in
+            let good = (entry-good e (subst (Among e) (sym (acts-append h.events (completion cs h.events))) (among-left e (acts h.events) (acts (completion cs h.events)) in_acts))).0.step in
+            ap is_name (sym of_step.2) ∙ (ap (λ b. is_name (step_name h.plans i b)) (sym of_entry.2) ∙ (ap (λ k. is_name (step_name h.plans k e.step)) (sym in_net.1) ∙ good))),
+      )
 
   cause-good : (i : ℕ) (cause : Cause) → 1 ≤ i → i ≤ length h.plans → IsCauseOf h.plans i cause → IsPrintableCause [] [] h.plans i cause
   cause-good i (Refused b) low high is =

@@ -1,7 +1,6 @@
 -- The pairs of a report say of the names of operations what the catalog says of their numbers.
-use Rattle.std.proofs.Common.{◌≡◌, ◌⊎◌, inl, inr, ⊎_elim, ℕ, zero, suc, ◌+◌, ◌<◌, ◌≤◌, Bool, true, false, cond, not, ◌&&◌, ◌||◌, nat_eq, List, [], ◌∷◌, ◌++◌, length, map, get_or, sym, refl, ap, ◌∙◌, subst, arith}
-use Rattle.std.specs.List.{list_any}
-use Rattle.std.proofs.lemmas.Bool.{and_parts, and_from, or_cases, or_right, false≢true}
+use Rattle.std.proofs.Common.{◌≡◌, ⊎_elim, ℕ, zero, suc, ◌<◌, Bool, true, false, not, ◌&&◌, ◌||◌, List, [], ◌∷◌, ◌++◌, length, map, sym, refl, ap, ◌∙◌, arith}
+use Rattle.std.proofs.lemmas.Bool.{and_parts, or_cases, false≢true}
 use Rattle.process_tree.specs.Conflicts.{do_conflict}
 use Rattle.process_tree.specs.Making.{same_text}
 use Rattle.process_text.proofs.NumberWords.{are_same-refl}
@@ -11,7 +10,6 @@ use Rattle.commute_table.specs.Operations.{has_name, differ_from}
 use Rattle.schedule_model.proofs.Members.{Among, not_any, among-map}
 use Rattle.trace_verify.specs.Forms.{Pair}
 use Rattle.trace_verify.specs.Names.{is_among, number_among, is_named, names_both, conflicts}
-use Rattle.trace_verify.proofs.Naming.{same}
 use Rattle.trace_verify.proofs.PrintedEntries.{named-read, named-number}
 use Rattle.process_report.specs.Names.{op_name}
 use Rattle.process_report.proofs.SectionsRead.{named_pair}

@@ -1,9 +1,8 @@
 -- The sections of a report, read one after another.
-use Rattle.std.proofs.Common.{◌≡◌, ℕ, suc, ◌+◌, ◌≤◌, ◌<◌, Bool, true, false, cond, ltb, nat_lt, ◌&&◌, List, [], ◌∷◌, ◌++◌, append_assoc, append-nil, length, length-append, map, flat_map, decimal, Option, Some, None, sym, refl, ap, ◌∙◌, subst, arith}
+use Rattle.std.proofs.Common.{◌≡◌, ℕ, suc, ◌+◌, ◌≤◌, ◌<◌, Bool, true, false, cond, ◌&&◌, List, [], ◌∷◌, ◌++◌, append_assoc, append-nil, length, length-append, map, decimal, Some, None, sym, refl, ap, ◌∙◌, subst, arith}
 use Rattle.std.specs.Prelude.{codes}
-use Rattle.std.specs.List.{list_all}
 use Rattle.std.specs.Option.{option_map}
-use Rattle.std.proofs.lemmas.Bool.{and_parts, and_from, lt-ltb}
+use Rattle.std.proofs.lemmas.Bool.{and_from, lt-ltb}
 use Rattle.std.proofs.lemmas.List.{map-append, length-map}
 use Rattle.process_tree.specs.Name.{is_name}
 use Rattle.process_tree.specs.declared.entry.Entry.{Entry}
@@ -12,25 +11,21 @@ use Rattle.process_text.specs.Canonical.{line_of}
 use Rattle.commute_table.specs.declared.op.Op.{Op}
 use Rattle.schedule_model.specs.declared.event.Event.{Event}
 use Rattle.schedule_model.specs.declared.event.Event.TheVariants.{Start, Act, End}
-use Rattle.schedule_model.specs.declared.trace_step.TraceStep.{TraceStep}
-use Rattle.schedule_model.specs.declared.trace_step.TraceStep.TheVariants.{Move, Cancel}
 use Rattle.schedule_model.specs.Histories.{acts}
 use Rattle.schedule_model.proofs.Appends.{acts-append}
 use Rattle.schedule_model.proofs.Members.{Among, among_there}
-use Rattle.machine_model.specs.declared.began.Cause.{Cause}
-use Rattle.machine_model.specs.declared.began.Cause.TheVariants.{Refused, Abort, Cascade, Victim, Restart}
 use Rattle.trace_verify.specs.declared.section.Section.{Section}
-use Rattle.trace_verify.specs.declared.section.Section.TheVariants.{Opening, Conflicts, History, Completion, Ends, Causes, Trace, Serial}
+use Rattle.trace_verify.specs.declared.section.Section.TheVariants.{Conflicts}
 use Rattle.trace_verify.specs.Forms.{NamedAct, Pair, is_end_line, is_cause_line}
 use Rattle.trace_verify.specs.Forms as forms
-use Rattle.trace_verify.specs.Reports.{Report, with_pair, with_event, with_new_step, with_serial, with_act, with_step, with_line, after_line}
+use Rattle.trace_verify.specs.Reports.{Report, with_pair, with_event, with_act, with_line}
 use Rattle.process_report.specs.Names.{process_name, step_name, op_name}
-use Rattle.process_report.specs.Lines.{Line, text_of, entry_line, event_line, cause_line, cause_words, step_line}
+use Rattle.process_report.specs.Lines.{Line, text_of, entry_line, event_line}
 use Rattle.process_report.specs.Blocks.{joined}
 use Rattle.process_report.specs.Report.{pair_line}
 use Rattle.process_report.proofs.Plain.{lacks, lacks-append, name-lacks, number-lacks}
 use Rattle.process_report.proofs.LinesRead.{Reads, reads-line, reads-each}
-use Rattle.process_report.proofs.LineForms.{named, IsPrintable, after-other, words-lack, names-lack, pair-read, entry-read, serial-read, start-read, end-read, ends-read, path-read, causes-read, refused-read, cascade-read, move-read, cancel-read}
+use Rattle.process_report.proofs.LineForms.{named, IsPrintable, after-other, words-lack, pair-read, entry-read, start-read, end-read}
 
 -- x stands where a list is split at it
 pub at-split : {X : Type 0} (all done : List X) (x : X) (after : List X) → all ≡ done ++ x ∷ after → Among x all

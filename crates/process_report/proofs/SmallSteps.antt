@@ -6,8 +6,8 @@ use Rattle.process_tree.specs.declared.entry.Entry.{Entry}
 use Rattle.schedule_model.specs.declared.trace_step.TraceStep.{TraceStep}
 use Rattle.schedule_model.specs.declared.trace_step.TraceStep.TheVariants.{Move, Cancel}
 use Rattle.schedule_model.specs.Conflict.{ConflictRelation}
-use Rattle.schedule_model.specs.Reduction.{can_change, is_pair, exchanged, cancelled, and_then, carried_on, carried_back, applied, applied_all}
-use Rattle.schedule_model.specs.PrintedTrace.{Trace, without, first_undo, place_taken_back, move_between, cancel_one, cancel_phase, first_to_end, entry_at, serial_phase, trace_of}
+use Rattle.schedule_model.specs.Reduction.{can_change, exchanged, cancelled, and_then, carried_on, carried_back, applied, applied_all}
+use Rattle.schedule_model.specs.PrintedTrace.{without, first_undo, place_taken_back, move_between, cancel_one, cancel_phase, first_to_end, serial_phase, trace_of}
 use Rattle.schedule_model.proofs.Members.{Among}
 use Rattle.trace_verify.proofs.StepsApplied.{length-applied}
 use Rattle.process_report.proofs.OtherSections.{IsPrintableStep}

@@ -1,5 +1,4 @@
-use Rattle.std.proofs.Common.{[], ◌∷◌, refl, ap, subst, sym}
-use Rattle.commute_table.specs.declared.catalog.Catalog.{Catalog}
+use Rattle.std.proofs.Common.{[], ◌∷◌, refl, ap, subst, sym, arith}
 use Rattle.commute_table.specs.Operations.{IsCatalog}
 use Rattle.schedule_model.specs.declared.history.History.{History}
 use Rattle.schedule_model.specs.Examples.{both_undone}
