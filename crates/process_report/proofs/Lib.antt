@@ -10,4 +10,5 @@ pub mod SameConflicts
 pub mod Accepted
 pub mod SmallSteps
 pub mod GoodEntries
+pub mod AmongEvents
 pub mod ReportsAccepted

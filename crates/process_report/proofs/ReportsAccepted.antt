@@ -1,5 +1,5 @@
 -- Printed reports are accepted.
-use Rattle.std.proofs.Common.{◌≡◌, inl, inr, ℕ, zero, suc, ◌+◌, ◌-◌, ◌<◌, ◌≤◌, true, false, ◌&&◌, nat_le, List, [], ◌∷◌, ◌++◌, length, map, get_or, sym, refl, ap, ◌∙◌, subst, arith, append-nil}
+use Rattle.std.proofs.Common.{◌≡◌, ℕ, ◌-◌, ◌<◌, ◌≤◌, true, false, ◌&&◌, nat_le, List, [], ◌++◌, length, map, get_or, sym, ap, ◌∙◌, subst, arith, append-nil}
 use Rattle.std.specs.Bool.{IsTrue}
 use Rattle.std.specs.List.{list_all}
 use Rattle.std.proofs.lemmas.Bool.{and_parts, leb-true}
@@ -7,7 +7,6 @@ use Rattle.std.proofs.lemmas.List.Elements.{All-contains}
 use Rattle.process_tree.specs.Blocks.{numbers_from}
 use Rattle.process_tree.specs.Conflicts.{do_conflict}
 use Rattle.process_tree.specs.Name.{is_name}
-use Rattle.process_tree.specs.Order.{Each}
 use Rattle.process_tree.specs.declared.entry.Entry.{Entry}
 use Rattle.process_tree.specs.declared.plan.Plan.{Plan}
 use Rattle.process_tree.proofs.Tables.{do_conflict-symmetric}
@@ -41,6 +40,7 @@ use Rattle.trace_verify.proofs.StepsApplied.{each-kept}
 use Rattle.process_report.specs.Names.{step_name, names_in}
 use Rattle.process_report.specs.Report.{conflicting, report_text}
 use Rattle.process_report.specs.Laws.{AreNamed, IsCauseOf, AreCauses, PrintedReportsAreAccepted}
+use Rattle.process_report.proofs.AmongEvents.{start-in, act-in, end-in, numbers-within, each-from, each-at}
 use Rattle.process_report.proofs.LineForms.{IsPrintable}
 use Rattle.process_report.proofs.SectionsRead.{IsPrintableEvent}
 use Rattle.process_report.proofs.OtherSections.{IsPrintableCause}
@@ -48,47 +48,6 @@ use Rattle.process_report.proofs.ReportRead.{pairs_of, IsPrintableEnd, CanBeRead
 use Rattle.process_report.proofs.Accepted.{accepted}
 use Rattle.process_report.proofs.SmallSteps.{steps-small, trace-few}
 use Rattle.process_report.proofs.GoodEntries.{among-net, acts-have_steps, plan-at, all-at, op-named, process-named, entry-named}
-
-start-in : (i : ℕ) (es : List Event) → Among (Start i) es → Among i (starts es)
-start-in i [] is = is
-start-in i (Start k ∷ es) (inl e) = let same : k ≡ i = cc in inl same
-start-in i (Start k ∷ es) (inr later) = inr (start-in i es later)
-start-in i (Act a ∷ es) (inl e) = absurd (cc)
-start-in i (Act a ∷ es) (inr later) = start-in i es later
-start-in i (End k ∷ es) (inl e) = absurd (cc)
-start-in i (End k ∷ es) (inr later) = start-in i es later
-
-act-in : (a : Entry) (es : List Event) → Among (Act a) es → Among a (acts es)
-act-in a [] is = is
-act-in a (Act b ∷ es) (inl e) = let same : b ≡ a = cc in inl same
-act-in a (Act b ∷ es) (inr later) = inr (act-in a es later)
-act-in a (Start k ∷ es) (inl e) = absurd (cc)
-act-in a (Start k ∷ es) (inr later) = act-in a es later
-act-in a (End k ∷ es) (inl e) = absurd (cc)
-act-in a (End k ∷ es) (inr later) = act-in a es later
-
-end-in : (i : ℕ) (es : List Event) → Among (End i) es → Among i (ends es)
-end-in i [] is = is
-end-in i (End k ∷ es) (inl e) = let same : k ≡ i = cc in inl same
-end-in i (End k ∷ es) (inr later) = inr (end-in i es later)
-end-in i (Act a ∷ es) (inl e) = absurd (cc)
-end-in i (Act a ∷ es) (inr later) = end-in i es later
-end-in i (Start k ∷ es) (inl e) = absurd (cc)
-end-in i (Start k ∷ es) (inr later) = end-in i es later
-
-numbers-within : (i k n : ℕ) → Among i (numbers_from k n) → (k ≤ i) × (i < k + n)
-numbers-within i k zero is = absurd is
-numbers-within i k (suc n) (inl e) = (omega (arith, e), omega (arith, e))
-numbers-within i k (suc n) (inr later) = let rest = numbers-within i (k + 1) n later in (let b = rest.0 in omega (arith, b), let b = rest.1 in omega (arith, b))
-
-each-from : (P : Entry → Type 0) (es : List Entry) → ((e : Entry) → Among e es → P e) → Each P es
-each-from P [] are = tt
-each-from P (e ∷ es) are = (are e (inl refl), each-from P es (λ f is. are f (inr is)))
-
-each-at : (P : Entry → Type 0) (es : List Entry) (e : Entry) → Each P es → Among e es → P e
-each-at P [] e are is = absurd is
-each-at P (x ∷ es) e are (inl here) = subst P here are.0
-each-at P (x ∷ es) e are (inr later) = each-at P es e are.1 later
 
 module _ (c : Catalog) (h : History) (causes : List (ℕ × Cause)) (catalog : IsCatalog c) (planned : IsPlanned (length c.ops) h.plans h.events)
     (legal : IsTrue (is_legal (do_conflict c.conflicts) (courses_of h.plans) h.events)) (within : IsTrue (is_within_limits (courses_of h.plans) h.events))
