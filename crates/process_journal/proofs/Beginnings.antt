@@ -8,7 +8,6 @@ use Rattle.process_tree.specs.Conflicts.{do_conflict}
 use Rattle.process_tree.specs.declared.plan.Plan.{Plan}
 use Rattle.schedule_model.specs.declared.event.Event.{Event}
 use Rattle.schedule_model.specs.declared.event.Event.TheVariants.{Start, Act, End}
-use Rattle.schedule_model.specs.declared.history.History.{History}
 use Rattle.schedule_model.specs.Course.{courses_of}
 use Rattle.schedule_model.specs.Histories.{starts}
 use Rattle.schedule_model.specs.Laws.{plans_in}
@@ -18,10 +17,10 @@ use Rattle.schedule_model.proofs.Appends.{starts-append}
 use Rattle.schedule_model.proofs.Induction.{each_passes-prefix}
 use Rattle.schedule_model.proofs.Legal.{both-left, both-right, is_legal-prefix}
 use Rattle.schedule_model.proofs.Prefixes.{courses_in, is_legal-courses}
-use Rattle.commute_table.specs.declared.catalog.Catalog.{Catalog}
 use Rattle.process_journal.specs.Plans.{IsPlanUnder}
 use Rattle.process_journal.specs.Bodies.{event_body, event_bodies, plans_behind}
-use Rattle.process_journal.specs.Journals.{FitsItsBytes, IsHistoryUnder}
+use Rattle.process_journal.specs.Journals.{FitsItsBytes}
+use Rattle.process_journal.specs.Laws.{BeginningsAreHistories}
 use Rattle.process_journal.proofs.LimitsKept.{limits_same}
 
 pub each_front : {A : Type 0} (P : A → Type 0) (xs ys : List A) → Each P (xs ++ ys) → Each P xs
@@ -37,10 +36,6 @@ each_take P zero xs all = tt
 each_take P (suc n) [] all = tt
 each_take P (suc n) (x ∷ xs) all = (all.0, each_take P n xs all.1)
 
--- the beginning of a history, with the plans of those that started in it
-abbrev pub beginning : History → List Event → History
-beginning h g = record { plans = plans_in h.plans g; events = g }
-
 -- there are as many as started in it
 own_count : (plans : List Plan) (g k : List Event) → length plans ≡ length (starts (g ++ k)) → length (plans_in plans g) ≡ length (starts g)
 own_count plans g k each =
@@ -50,7 +45,7 @@ own_count plans g k each =
     omega arith
 
 -- a journal may have each beginning of its history
-pub beginning_is_good : (c : Catalog) (h : History) (g k : List Event) → IsHistoryUnder c h → h.events ≡ g ++ k → IsHistoryUnder c (beginning h g)
+pub beginning_is_good : BeginningsAreHistories
 beginning_is_good c h g k good is =
     let table = do_conflict c.conflicts in
     let courses = courses_of h.plans in

@@ -18,6 +18,7 @@ use Rattle.schedule_rules.specs.Keeping.{ArePlans}
 use Rattle.commute_table.specs.declared.catalog.Catalog.{Catalog}
 use Rattle.commute_table.specs.Operations.{IsCatalog}
 use Rattle.process_journal.specs.Plans.{IsPlanUnder}
+use Rattle.process_journal.specs.Laws.{HistoriesArePlanned}
 
 -- what each has, one of them has
 pub each_contains : {A : Type 0} (P : A → Type 0) (xs : List A) (x : A) → Each P xs → Contains xs x → P x
@@ -60,3 +61,9 @@ no_plans table = record { good = λ p among. absurd (none p among); known = λ p
   where
     none : (p : Plan) → Contains [] p → ⊥
     none p (k, within, is) = omega arith
+
+-- so a journal's history is what each call asks
+pub histories_are_planned : HistoriesArePlanned
+histories_are_planned c h good =
+    let plans = plans_are_good c h.plans good.catalog good.plans in
+    record { good = plans.good; one_each = good.one_each; known = plans.known }

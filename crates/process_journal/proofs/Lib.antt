@@ -11,4 +11,6 @@ pub mod Replaying
 pub mod Taking
 pub mod ReadingOn
 pub mod Beginnings
+pub mod MadeHistories
+pub mod MadeAlike
 pub mod NeverRefused

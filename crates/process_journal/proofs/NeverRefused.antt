@@ -1,10 +1,9 @@
 -- A journal is refused for no record.
-use Rattle.std.proofs.Common.{◌≡◌, ◌≤◌, ◌&&◌, ◌⊎◌, ℕ, suc, List, [], ◌∷◌, ◌++◌, length, take, Some, Result, Ok, Err, inl, inr, refl, sym, ap, ◌∙◌, subst, arith, append_assoc, length-append, append-nil}
+use Rattle.std.proofs.Common.{◌≡◌, ◌≤◌, ◌⊎◌, ℕ, suc, List, [], ◌∷◌, ◌++◌, length, take, Some, Result, Ok, Err, inl, inr, refl, sym, ap, ◌∙◌, subst, arith, append_assoc, length-append, append-nil}
 use Rattle.std.proofs.lemmas.Bool.{false≢true}
 use Rattle.process_tree.specs.Order.{Each}
 use Rattle.process_tree.specs.Conflicts.{do_conflict}
 use Rattle.process_tree.specs.declared.plan.Plan.{Plan}
-use Rattle.process_tree.specs.Form.{AreEqualPlans}
 use Rattle.schedule_model.specs.declared.event.Event.{Event}
 use Rattle.schedule_model.specs.declared.event.Event.TheVariants.{Start, Act, End}
 use Rattle.schedule_model.specs.declared.history.History.{History}
@@ -22,77 +21,20 @@ use Rattle.gate_log.specs.LogFile.{read_log}
 use Rattle.gate_log.specs.declared.errors.LogError.{LogError}
 use Rattle.gate_log.proofs.Reading.{logs_are_read}
 use Rattle.journal_records.specs.declared.record.Record.{Record}
-use Rattle.journal_records.specs.declared.record.Record.TheVariants as records
 use Rattle.journal_records.specs.Bytes.{record_of}
 use Rattle.journal_records.specs.Laws.{told}
 use Rattle.process_journal.specs.declared.errors.JournalError.{JournalError}
 use Rattle.process_journal.specs.declared.errors.JournalError.TheVariants.{DiskFault, BadHeader, BadRecord, BadHistory, NoMemory}
 use Rattle.process_journal.specs.Plans.{IsPlanUnder}
-use Rattle.process_journal.specs.Bodies.{event_bodies, journal_bodies, with_event, with_start}
-use Rattle.process_journal.specs.Journals.{FitsItsBytes, is_allowed, IsHistoryUnder, IsMadeBy}
-use Rattle.process_journal.specs.Reading.{planned, planned_record, HasNoForm, IsOutOfPlace, StopsAt, IsBadRecord, IsBadHistory, IsDue}
-use Rattle.process_journal.specs.Laws.{AreEqualInTurn, IsSameHistory, JournalsAreOpened}
-use Rattle.process_journal.proofs.PlansAlike.{plans_alike, same_courses}
+use Rattle.process_journal.specs.Bodies.{event_bodies, journal_bodies}
+use Rattle.process_journal.specs.Journals.{FitsItsBytes, IsHistoryUnder, IsMadeBy}
+use Rattle.process_journal.specs.Reading.{planned_record, HasNoForm, IsOutOfPlace, StopsAt, IsBadRecord, IsBadHistory, IsDue}
+use Rattle.process_journal.specs.Laws.{beginning, JournalsAreOpened}
 use Rattle.process_journal.proofs.EventsBack.{record_for, event_back, HasOwnOp, legal_ops}
 use Rattle.process_journal.proofs.OneHistory.{same_history}
 use Rattle.process_journal.proofs.Taking.{one_record}
-use Rattle.process_journal.proofs.Beginnings.{each_back, beginning, beginning_is_good, plans_after, find, bodies_of_own, plans_split}
-
--- what is allowed asks the courses and the events alone
-allowed_same : (c : Catalog) (h k : History) → courses_of h.plans ≡ courses_of k.plans → h.events ≡ k.events → is_allowed c h ≡ is_allowed c k
-allowed_same c h k courses events =
-    ap (λ cs. is_legal (do_conflict c.conflicts) cs h.events && is_within_limits cs h.events) courses
-    ∙ ap (λ es. is_legal (do_conflict c.conflicts) (courses_of k.plans) es && is_within_limits (courses_of k.plans) es) events
-
--- lists of equal plans with one more each
-equal_push : (ps qs : List Plan) (p q : Plan) → AreEqualInTurn ps qs → AreEqualPlans p q → AreEqualInTurn (ps ++ p ∷ []) (qs ++ q ∷ [])
-equal_push [] [] p q equal one = (one, tt)
-equal_push [] (y ∷ qs) p q equal one = absurd equal
-equal_push (x ∷ ps) [] p q equal one = absurd equal
-equal_push (x ∷ ps) (y ∷ qs) p q equal one = (equal.0, equal_push ps qs p q equal.1 one)
-
--- What a record makes of a history it makes of the same one too, and both are allowed or neither is.
-pub record MadeToo (c : Catalog) (r : Record) (k one : History) : Type 0 where
-  pub after : History
-  pub made : IsMadeBy c (planned_record k r) k after
-  pub alike : is_allowed c after ≡ is_allowed c one
-
-made_too : (c : Catalog) (r : Record) (h k one : History) → IsSameHistory h k → IsMadeBy c (planned_record h r) h one → MadeToo c r k one
-made_too c (records.Setup catalog) h k one same made = absurd made
-made_too c (records.Start i text) h k one same (p, own, is) =
-    let equal = equal_push h.plans k.plans p p same.plans (record { name = refl; tree = refl; says = refl; ops = refl }) in
-    record {
-      after = with_start k i p;
-      made = (p, own, refl);
-      alike = sym (ap (is_allowed c) is ∙ allowed_same c (with_start h i p) (with_start k i p) (same_courses (h.plans ++ p ∷ []) (k.plans ++ p ∷ []) equal) (ap (λ es. es ++ Start i ∷ []) same.events));
-    }
-made_too c (records.Act e) h k one same is =
-    let courses = same_courses h.plans k.plans same.plans in
-    let entry : planned h e ≡ planned k e = ap (λ cs. record { process = e.process; step = e.step; op = op_of cs e.process e.step; undo = e.undo }) courses in
-    record {
-      after = with_event k (Act (planned k e));
-      made = refl;
-      alike = sym (ap (is_allowed c) is ∙ allowed_same c (with_event h (Act (planned h e))) (with_event k (Act (planned k e))) courses
-          (ap (λ es. es ++ Act (planned h e) ∷ []) same.events ∙ ap (λ x. k.events ++ Act x ∷ []) entry));
-    }
-made_too c (records.End i) h k one same is = record {
-  after = with_event k (End i);
-  made = refl;
-  alike = sym (ap (is_allowed c) is ∙ allowed_same c (with_event h (End i)) (with_event k (End i)) (same_courses h.plans k.plans same.plans) (ap (λ es. es ++ End i ∷ []) same.events));
-}
-
-equal_to_itself : (ps : List Plan) → AreEqualInTurn ps ps
-equal_to_itself [] = tt
-equal_to_itself (p ∷ ps) = (record { name = refl; tree = refl; says = refl; ops = refl }, equal_to_itself ps)
-
--- two that a record makes of one history are allowed both or neither is
-made_alike : (c : Catalog) (r : Record) (k one two : History) → IsMadeBy c r k one → IsMadeBy c r k two → is_allowed c one ≡ is_allowed c two
-made_alike c (records.Setup catalog) k one two first second = absurd first
-made_alike c (records.Start i text) k one two (p, own, is) (q, other, is2) =
-    let equal = equal_push k.plans k.plans p q (equal_to_itself k.plans) (plans_alike c text p q own other) in
-    ap (is_allowed c) is ∙ allowed_same c (with_start k i p) (with_start k i q) (same_courses (k.plans ++ p ∷ []) (k.plans ++ q ∷ []) equal) refl ∙ sym (ap (is_allowed c) is2)
-made_alike c (records.Act e) k one two first second = ap (is_allowed c) (first ∙ sym second)
-made_alike c (records.End i) k one two first second = ap (is_allowed c) (first ∙ sym second)
+use Rattle.process_journal.proofs.Beginnings.{each_back, beginning_is_good, plans_after, find, bodies_of_own, plans_split}
+use Rattle.process_journal.proofs.MadeAlike.{MadeToo, made_too, made_alike}
 
 take_next : (front : List Plan) (p : Plan) (later : List Plan) → take (suc (length front)) (front ++ p ∷ later) ≡ front ++ p ∷ []
 take_next [] p later = refl

@@ -76,7 +76,7 @@ goes_on c r e t read other fits judged =
     }
 
 -- the text of a plan under a catalog is its own
-plan_under : (c : Catalog) (text : List ℕ) (p : Plan) → IsPlanOfText c text p → IsPlanUnder c p
+pub plan_under : (c : Catalog) (text : List ℕ) (p : Plan) → IsPlanOfText c text p → IsPlanUnder c p
 plan_under c text p is = subst (λ t. IsPlanOfText c t p) is.own_text.canonical is
 
 module _ (c : Catalog) (r : Replay) (text : List ℕ) (p : Plan) (read : IsReplayed c r) (is : IsPlanOfText c text p) where

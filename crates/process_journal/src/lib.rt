@@ -20,4 +20,4 @@ pub use journal_records::{Body, Record};
 #[cfg(test)]
 mod tests;
 
-pub use laws::{journals_are_opened, journals_have_one_history};
+pub use laws::{journals_are_opened, journals_have_one_history, journals_keep_histories};
