@@ -12,3 +12,10 @@ pub mod StandHere
 pub mod OpenedRows
 pub mod PendedRows
 pub mod PendingEntries
+pub mod StartMoments
+pub mod StartOwn
+pub mod StartStands
+pub mod SeatFrames
+pub mod HandStands
+pub mod SeatLists
+pub mod EventCounts

@@ -42,7 +42,7 @@ module _ (courses : List Course) where
   numbered_more h (End k) may are =
       let same = starts-append h (End k ∷ []) ∙ append-nil (starts h) in same ∙ (are ∙ ap (λ is. numbers_from 1 (length is)) (sym same))
 
-  starts_numbered : (h : List Event) → IsTrue (is_legal no_conflict courses h) → starts h ≡ numbers_from 1 (length (starts h))
+  pub starts_numbered : (h : List Event) → IsTrue (is_legal no_conflict courses h) → starts h ≡ numbers_from 1 (length (starts h))
   starts_numbered h legal = by_legal no_conflict courses (λ g. starts g ≡ numbers_from 1 (length (starts g))) (λ g e before may are. numbered_more g e may are) refl h legal
 
 -- the active ones among all numbers
