@@ -9,8 +9,8 @@ fn a_core_opens_on_nothing(rt: HostRuntime) -> Result<(), Fail> {
     let alloc = rt.alloc();
     let conflicts = Conflicts::new(alloc, 0)?;
     let history = History {
-        plans: Plans::new(Vec::new(alloc)),
-        events: Events::new(Vec::new(alloc)),
+        plans: Plans::new(Vec::new(alloc))?,
+        events: Events::new(Vec::new(alloc))?,
     };
     let core = Core::open(alloc, history, conflicts)?;
     assert!(rt; core.kept().is_empty());

@@ -38,7 +38,7 @@ fn history_of(alloc: Global, catalog: &Catalog, bodies: &[Body]) -> Result<Histo
     ensures history { IfOk result (λ h. IsHistoryUnder catalog.now h × (journal_bodies catalog.now h ≡ setup_bytes (bytes_of catalog.now) ∷ bodies.now)) }
     ensures refused { IfErr result (λ e. IsDue (Ok (setup_bytes (bytes_of catalog.now) ∷ bodies.now)) e × (e ≢ JournalError.DiskFault)) }
 {
-    let mut replay = Replay::new(alloc);
+    let mut replay = Replay::new(alloc)?;
     let mut rest = bodies;
     let mut number: u32 = 2;
     'records: while let Some((body, after)) = rest.split_first() {

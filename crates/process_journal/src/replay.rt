@@ -20,7 +20,7 @@ use commute_table::Catalog;
 use journal_records::read;
 use process_tree::{Entry, Plan};
 use schedule_rules::{Event, EventError, Events, History, Legality, Plans};
-use std::alloc::Global;
+use std::alloc::{AllocError, Global};
 
 /// A history, as far as it was read, and what its next event is judged by.
 #[derive(Drop)]
@@ -49,16 +49,15 @@ fn fits_its_bytes(event: Event)
 
 impl Replay {
     /// No record is read yet.
-    pub fn new(alloc: Global) -> Self
-        ensures none { result.history ≡ no_history }
-        ensures judged { (table : Table) → IsJudged table [] [] result.legality }
+    pub fn new(alloc: Global) -> Result<Self, AllocError>
+        ensures none { IfOk result (λ r. r.history ≡ no_history) }
+        ensures judged { IfOk result (λ r. (table : Table) → IsJudged table [] [] r.legality) }
     {
-        let history = History {
-            plans: Plans::new(Vec::new(alloc)),
-            events: Events::new(Vec::new(alloc)),
-        };
+        let plans = Plans::new(Vec::new(alloc))?;
+        let events = Events::new(Vec::new(alloc))?;
+        let history = History { plans, events };
         let legality = Legality::new(alloc);
-        Replay { history, legality }
+        Ok(Replay { history, legality })
     }
 
     // An event that starts no process comes next.
@@ -77,14 +76,13 @@ impl Replay {
     {
         fits_its_bytes(event);
         let plans = self.history.plans;
-        let mut events = self.history.events.into_items();
+        let mut events = self.history.events;
         match self
             .legality
             .with_event(alloc, &catalog.conflicts, plans.as_slice(), event)
         {
             Ok(legality) => {
-                events.push(event)?;
-                let events = Events::new(events);
+                events.try_push(event)?;
                 let history = History { plans, events };
                 Ok(Replay { history, legality })
             }
@@ -110,20 +108,18 @@ impl Replay {
     {
         let event = Event::Start(process);
         fits_its_bytes(event);
-        let mut plans = self.history.plans.into_items();
-        let mut events = self.history.events.into_items();
-        plans.push(plan)?;
+        let mut plans = self.history.plans;
+        let mut events = self.history.events;
+        plans.try_push(plan)?;
         match self
             .legality
-            .with_event(alloc, &catalog.conflicts, &plans, event)
+            .with_event(alloc, &catalog.conflicts, plans.as_slice(), event)
         {
             Ok(legality) => {
                 if !legality.is_within_limits() {
                     return Err(JournalError::BadHistory(number));
                 }
-                events.push(event)?;
-                let plans = Plans::new(plans);
-                let events = Events::new(events);
+                events.try_push(event)?;
                 let history = History { plans, events };
                 Ok(Replay { history, legality })
             }

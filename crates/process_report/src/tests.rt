@@ -123,8 +123,8 @@ fn history(alloc: Global) -> Result<History, Fail>
         Event::End(1),
     ]?;
     Ok(History {
-        plans: Plans::new(plans),
-        events: Events::new(events),
+        plans: Plans::new(plans)?,
+        events: Events::new(events)?,
     })
 }
 

@@ -16,7 +16,7 @@ use crate::ordering::in_order;
 use crate::schedule::{order_of_ends, schedule};
 use plain_list::Items;
 use process_tree::{Conflicts, Entry};
-use schedule_rules::{Events, History, TraceStep, completed};
+use schedule_rules::{Event, History, TraceStep, completed};
 use std::alloc::{AllocError, Global};
 
 /// A list of entries.
@@ -29,7 +29,7 @@ pub type TraceSteps = Items<TraceStep>;
 #[derive(Drop)]
 pub struct Reduction {
     /// What completion adds to the history.
-    pub completion: Events,
+    pub completion: Items<Event>,
     /// The schedule: what took effect in the history and in its completion.
     pub list: Entries,
     /// The printed trace.
@@ -64,7 +64,7 @@ fn printed(alloc: Global, h: &History) -> Result<Reduction, AllocError>
     let order = order_of_ends(alloc, h.events.as_slice(), &added)?;
     let (steps, serial) = trace_of(alloc, &list, &order)?;
     Ok(Reduction {
-        completion: Events::new(added),
+        completion: Items::new(added),
         list: Entries::new(list),
         steps: TraceSteps::new(steps),
         serial: Entries::new(serial),

@@ -104,8 +104,8 @@ fn shop(alloc: Global) -> Result<History, Fail>
         Event::End(1),
     ]?;
     Ok(History {
-        plans: Plans::new(plans),
-        events: Events::new(events),
+        plans: Plans::new(plans)?,
+        events: Events::new(events)?,
     })
 }
 

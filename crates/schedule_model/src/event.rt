@@ -1,5 +1,5 @@
 // Events of a history.
-use plain_list::Items;
+use crate::{MOST_EVENTS, Preallocated};
 use process_tree::Entry;
 
 /// What may happen in a history. Processes are numbered from 1 in the order of their starts.
@@ -13,5 +13,5 @@ pub enum Event {
     End(u32),
 }
 
-/// A list of events.
-pub type Events = Items<Event>;
+/// A list of events, with room for those that the limits admit.
+pub type Events = Preallocated<Event, MOST_EVENTS>;

@@ -11,6 +11,7 @@ mod event;
 mod history;
 mod laws;
 mod limits;
+mod preallocated;
 mod trace_step;
 
 pub use event::{Event, Events};
@@ -22,5 +23,6 @@ pub use laws::{
     first_illegal_is_exact, legal_histories_are_completed, limits_hold, openings_are_acyclic,
     own_order_is_completed, reducible_histories_reduce, standing_facts_hold, the_shop_is_planned,
 };
-pub use limits::{MOST_ACTIVE, MOST_ENTRIES, MOST_PROCESSES};
+pub use limits::{MOST_ACTIVE, MOST_ENTRIES, MOST_EVENTS, MOST_PROCESSES};
+pub use preallocated::Preallocated;
 pub use trace_step::TraceStep;

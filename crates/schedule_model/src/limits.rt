@@ -8,3 +8,6 @@ pub const MOST_PROCESSES: usize = 4096;
 
 /// How many acts and ends a history may have, those that its active processes may still need among them.
 pub const MOST_ENTRIES: usize = 16384;
+
+/// How many events a history within the limits has at most: a start for each process, and its entries.
+pub const MOST_EVENTS: usize = 20480;

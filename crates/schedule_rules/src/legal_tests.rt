@@ -120,8 +120,8 @@ fn history(alloc: Global, events: &[Event]) -> Result<History, Fail>
     let started = started(alloc, &all)?;
     let plans = plans(alloc, started.len())?;
     Ok(History {
-        plans: Plans::new(plans),
-        events: Events::new(all),
+        plans: Plans::new(plans)?,
+        events: Events::new(all)?,
     })
 }
 

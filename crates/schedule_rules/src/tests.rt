@@ -34,8 +34,8 @@ fn an_undo_takes_its_step_away(rt: HostRuntime) -> Result<(), Fail> {
         Event::End(1),
     ]?;
     let history = History {
-        plans: Plans::new(Vec::new(alloc)),
-        events: Events::new(events),
+        plans: Plans::new(Vec::new(alloc))?,
+        events: Events::new(events)?,
     };
     assert!(rt; !active(&history, 1));
     assert!(rt; active(&history, 2));
