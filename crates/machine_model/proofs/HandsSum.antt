@@ -105,15 +105,13 @@ pieces_stand table plans s session =
     (ap (λ xs. goes_on_from table xs (opening_moment s.opening) s.kept) (sym session.courses) ∙ session.run)
     (record { own = opening; started = tt; belong = tt }))
 
-pub bound_on_hands : BoundOnHands
-bound_on_hands table plans s session =
+-- no more pieces of a process are handed out than it can take
+pub hands_of_process : (table : ConflictRelation) (plans : List Plan) (s : Machine) → IsSession table plans s → (i : ℕ) → count (is_of i) (hands s.kept) ≤ pieces_for s.courses i
+hands_of_process table plans s session i =
     let stand = pieces_stand table plans s session in
     let ls = map (λ (l : Lost). l.piece) (now table s).lost in
     let own = subst (λ xs. Each (λ (p : Piece). Belongs xs p.process p.step p.work) (hands s.kept)) (sym session.courses)
     (subst (λ ks. Each (λ (p : Piece). Belongs (courses_of plans) p.process p.step p.work) (hands ks)) (now-kept table s) stand.belong) in
-    let started = subst (λ ks. Each (λ (p : Piece). is_in p.process (starts (history table s)) ≡ true) (hands ks)) (now-kept table s) stand.started in
-    let all = by_process (hands s.kept) (starts (history table s)) started in
-    let each = sum-most (λ i. count (is_of i) (hands s.kept)) (pieces_for s.courses) (starts (history table s)) (λ i among.
     process_bound s.courses i (hands s.kept) ls (λ b w.
     let few = hands_are_within_tries table plans s i b w session in
     let h = count-filter (is_try_of i b w) (hands s.kept) in
@@ -123,5 +121,12 @@ bound_on_hands table plans s session =
     (let one = one_is_dropped table s i session.run in
     let l = count-filter (λ (x : Lost). is_of i x.piece) (now table s).lost in
     let d = count-map (is_of i) (λ (x : Lost). x.piece) (now table s).lost in
-    omega arith)) in
+    omega arith)
+
+pub bound_on_hands : BoundOnHands
+bound_on_hands table plans s session =
+    let stand = pieces_stand table plans s session in
+    let started = subst (λ ks. Each (λ (p : Piece). is_in p.process (starts (history table s)) ≡ true) (hands ks)) (now-kept table s) stand.started in
+    let all = by_process (hands s.kept) (starts (history table s)) started in
+    let each = sum-most (λ i. count (is_of i) (hands s.kept)) (pieces_for s.courses) (starts (history table s)) (λ i among. hands_of_process table plans s session i) in
     omega arith

@@ -19,13 +19,13 @@ use std::marker::Model;
 /// The scheduler.
 #[derive(Drop)]
 pub struct Core {
-    history: History,
+    pub(crate) history: History,
     /// How many events it had at the opening.
-    opening: usize,
-    kept: Vec<Kept>,
-    served: u32,
-    holds: Holds,
-    seats: Vec<Seat>,
+    pub(crate) opening: usize,
+    pub(crate) kept: Vec<Kept>,
+    pub(crate) served: u32,
+    pub(crate) holds: Holds,
+    pub(crate) seats: Vec<Seat>,
 }
 
 impl Model for Core {
