@@ -1,9 +1,10 @@
 -- Whoever has begun to complete has started.
-use Rattle.std.proofs.Common.{◌≡◌, ◌⊎◌, inl, inr, ⊎_elim, ℕ, ◌≤◌, zero, suc, Bool, true, false, not, eqb, ◌&&◌, ◌||◌, List, [], ◌∷◌, length, Option, Some, None, is_some, is_none, if◌then◌else◌, sym, refl, ap, ◌∙◌}
+use Rattle.std.proofs.Common.{◌≡◌, ◌⊎◌, inl, inr, ⊎_elim, ℕ, ◌≤◌, zero, suc, Bool, true, false, not, eqb, ◌&&◌, ◌||◌, List, [], ◌∷◌, length, Option, Some, None, is_some, is_none, if◌then◌else◌, sym, refl, ap, subst, ◌∙◌}
 use Rattle.std.specs.Bool.{IsTrue}
 use Rattle.std.specs.List.{list_any}
 use Rattle.std.specs.Option.{option_map}
 use Rattle.std.proofs.lemmas.Bool.{and_parts, eqb-true, false≢true}
+use Rattle.process_tree.specs.Order.{Each}
 use Rattle.schedule_model.specs.Conflict.{ConflictRelation}
 use Rattle.schedule_model.specs.Course.{Course}
 use Rattle.schedule_model.specs.Graph.{Arrow, spread_by}
@@ -56,12 +57,6 @@ module _ (table : ConflictRelation) (courses : List Course) where
   started_if_active : (m : Moment) (i : ℕ) → is_active m.events i ≡ true → is_in i (starts m.events) ≡ true
   started_if_active m i is = (and_parts (is_in i (starts m.events)) (not (is_in i (ends m.events))) is).0
 
-  started_if_listed : (m : Moment) (i : ℕ) → is_in i (active m.events) ≡ true → is_in i (starts m.events) ≡ true
-  started_if_listed m i is = started_if_active m i (sym (is_active-is_in m.events i) ∙ is)
-
-  dragged_started : (m n : Moment) (j i : ℕ) (cause : Cause) → n.events ≡ m.events → IsDragged table courses n j i cause → is_in i (starts m.events) ≡ true
-  dragged_started m n j i cause same dragged = ap (λ h. is_in i (starts h)) (sym same) ∙ started_if_listed n i (dragged_active n j i cause dragged)
-
   after_refusal_still : (m : Moment) (p : Piece) → (after_refusal courses m p).events ≡ m.events
   after_refusal_still m p = by_way (is_none (way_on (progress courses m p.process)))
     where
@@ -69,31 +64,40 @@ module _ (table : ConflictRelation) (courses : List Course) where
       by_way true = (begins-still (Refused p.step) m p.process).events
       by_way false = refl
 
-  -- whoever begins had started
+  module _ (IsAmong : ℕ → Type 0) (m : Moment) where
+    dragged_among : (n : Moment) (j i : ℕ) (cause : Cause) → ((k : ℕ) → is_active m.events k ≡ true → IsAmong k) → n.events ≡ m.events → IsDragged table courses n j i cause → IsAmong i
+    dragged_among n j i cause active' same dragged = active' i (sym (is_active-is_in m.events i) ∙ (ap (λ h. is_in i (active h)) (sym same) ∙ dragged_active n j i cause dragged))
+
+    -- whoever begins is active, or has a piece that was handed out
+    pub cause_among : (k : Kept) (i : ℕ) (cause : Cause) → ((j : ℕ) → is_active m.events j ≡ true → IsAmong j) → Each (λ (q : Piece). IsAmong q.process) (hands m.kept)
+        → may_be_kept table courses m k ≡ true → HasCause table courses (noted m k) k i cause → IsAmong i
+    cause_among (Start j) i cause active' pieces may has = absurd has
+    cause_among (Hand a b c d) i cause active' pieces may has = absurd has
+    cause_among (Effect n) i cause active' pieces may has = absurd has
+    cause_among (Refuse n) i cause active' pieces may has =
+        ⊎_elim
+        (λ own. subst IsAmong (sym own.0) (Each-find (λ (q : Piece). IsAmong q.process) (λ q. eqb q.number n) (hands m.kept) has.0 pieces (sym (piece_of-plain m.kept (Refuse n) n refl) ∙ has.1)))
+        (λ dragged. dragged_among (after_refusal courses (noted m (Refuse n)) has.0) has.0.process i cause active' (after_refusal_still (noted m (Refuse n)) has.0) dragged)
+        has.3
+    cause_among (Abort j) i cause active' pieces may has =
+        ⊎_elim
+        (λ own. subst IsAmong (sym own.0) (active' j (and_parts (is_active m.events j) (not (is_exhausted courses m j)) (and_parts (is_active m.events j && not (is_exhausted courses m j)) (not (has_begun m j)) may).0).0))
+        (λ dragged. dragged_among (begins WasAborted (noted m (Abort j)) j) j i cause active' (begins-still WasAborted (noted m (Abort j)) j).events dragged)
+        has
+    cause_among (Victim j) i cause active' pieces may has =
+        ⊎_elim
+        (λ own. subst IsAmong (sym own.0) (active' j (sym (is_active-is_in m.events j) ∙ (victim-is table courses m j (by_victim (victim_of table courses m) may)).0)))
+        (λ dragged. dragged_among (begins WasVictim (noted m (Victim j)) j) j i cause active' (begins-still WasVictim (noted m (Victim j)) j).events dragged)
+        has
+      where
+        by_victim : (o : Option ℕ) → is_victim j o ≡ true → o ≡ Some j
+        by_victim None is = absurd (false≢true is)
+        by_victim (Some k) is = ap Some (sym (eqb-true j k is))
+    cause_among Restart i cause active' pieces may has = active' i (sym (is_active-is_in m.events i) ∙ has.1)
+
+  -- so whoever begins had started
   cause_started : (m : Moment) (k : Kept) (i : ℕ) (cause : Cause) → AreStarted m → may_be_kept table courses m k ≡ true → HasCause table courses (noted m k) k i cause → is_in i (starts m.events) ≡ true
-  cause_started m (Start j) i cause started may has = absurd has
-  cause_started m (Hand a b c d) i cause started may has = absurd has
-  cause_started m (Effect n) i cause started may has = absurd has
-  cause_started m (Refuse n) i cause started may has =
-      ⊎_elim
-      (λ own. ap (λ j. is_in j (starts m.events)) own.0 ∙ Each-find (λ (q : Piece). is_in q.process (starts m.events) ≡ true) (λ q. eqb q.number n) (hands m.kept) has.0 started (sym (piece_of-plain m.kept (Refuse n) n refl) ∙ has.1))
-      (λ dragged. dragged_started m (after_refusal courses (noted m (Refuse n)) has.0) has.0.process i cause (after_refusal_still (noted m (Refuse n)) has.0) dragged)
-      has.3
-  cause_started m (Abort j) i cause started may has =
-      ⊎_elim
-      (λ own. ap (λ l. is_in l (starts m.events)) own.0 ∙ started_if_active m j (and_parts (is_active m.events j) (not (is_exhausted courses m j)) (and_parts (is_active m.events j && not (is_exhausted courses m j)) (not (has_begun m j)) may).0).0)
-      (λ dragged. dragged_started m (begins WasAborted (noted m (Abort j)) j) j i cause (begins-still WasAborted (noted m (Abort j)) j).events dragged)
-      has
-  cause_started m (Victim j) i cause started may has =
-      ⊎_elim
-      (λ own. ap (λ l. is_in l (starts m.events)) own.0 ∙ started_if_listed m j (victim-is table courses m j (by_victim (victim_of table courses m) may)).0)
-      (λ dragged. dragged_started m (begins WasVictim (noted m (Victim j)) j) j i cause (begins-still WasVictim (noted m (Victim j)) j).events dragged)
-      has
-    where
-      by_victim : (o : Option ℕ) → is_victim j o ≡ true → o ≡ Some j
-      by_victim None is = absurd (false≢true is)
-      by_victim (Some k) is = ap Some (sym (eqb-true j k is))
-  cause_started m Restart i cause started may has = started_if_listed m i has.1
+  cause_started m k i cause started may has = cause_among (λ j. is_in j (starts m.events) ≡ true) m k i cause (started_if_active m) started may has
 
   -- whoever has begun to complete has started
   pub record AllStarted (m : Moment) : Type 0 where

@@ -19,3 +19,5 @@ pub mod SeatFrames
 pub mod HandStands
 pub mod SeatLists
 pub mod EventCounts
+pub mod KeptCounts
+pub mod KeptBound

@@ -2,3 +2,4 @@ pub mod Cores
 pub mod Answers
 pub mod Seats
 pub mod OpenTables
+pub mod Room
