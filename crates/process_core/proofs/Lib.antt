@@ -21,3 +21,5 @@ pub mod SeatLists
 pub mod EventCounts
 pub mod KeptCounts
 pub mod KeptBound
+pub mod OpenedRoom
+pub mod KeptRoom

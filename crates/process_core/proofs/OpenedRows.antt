@@ -80,8 +80,8 @@ module _ (conflicts : Table) (plans : List Plan) (h : List Event) (n : ℕ) wher
   pub not_open : is_open (tables_at conflicts (courses_of plans) (filter (is_active h) (numbers_from 1 n)) []) (n + 1) ≡ false
   not_open = unlisted (row_at cs []) (n + 1) before (λ k. refl) (is_in-filter (is_active h) (n + 1) (numbers_from 1 n) ∙ ap (λ t. t && is_active h (n + 1)) (beyond 1 n (n + 1) (omega arith)))
 
-  more : (t : Bool) → is_active h (n + 1) ≡ t → filter (is_active h) (numbers_from 1 (n + 1)) ≡ before ++ (if t then (n + 1) ∷ [] else [])
-  more t is =
+  pub active_more : (t : Bool) → is_active h (n + 1) ≡ t → filter (is_active h) (numbers_from 1 (n + 1)) ≡ before ++ (if t then (n + 1) ∷ [] else [])
+  active_more t is =
       let e : 1 + n ≡ n + 1 = omega arith in
       ap (filter (is_active h)) (numbers_more 1 n)
       ∙ (filter-append (is_active h) (numbers_from 1 n) ((1 + n) ∷ [])
@@ -93,10 +93,10 @@ module _ (conflicts : Table) (plans : List Plan) (h : List Event) (n : ℕ) wher
   opened_more steps many is =
       ap (λ s. opened (n + 1) s (tables_at conflicts cs before [])) (sym many)
       ∙ (ap (λ rs. record { conflicts = conflicts; net = []; processes = rs }) (sym (map-append (row_at cs []) before ((n + 1) ∷ [])))
-      ∙ ap (λ is'. tables_at conflicts cs is' []) (sym (more true is)))
+      ∙ ap (λ is'. tables_at conflicts cs is' []) (sym (active_more true is)))
 
   pub passed_more : is_active h (n + 1) ≡ false → tables_at conflicts (courses_of plans) (filter (is_active h) (numbers_from 1 n)) [] ≡ tables_at conflicts (courses_of plans) (filter (is_active h) (numbers_from 1 (n + 1))) []
-  passed_more is = ap (λ is'. tables_at conflicts cs is' []) (sym (more false is ∙ append-nil before))
+  passed_more is = ap (λ is'. tables_at conflicts cs is' []) (sym (active_more false is ∙ append-nil before))
 
 -- the plan at a place
 module _ (conflicts : Table) (plans : List Plan) (h : List Event) (core : IsCore (opened_on conflicts plans h)) (n : ℕ) (within : n < length plans) where

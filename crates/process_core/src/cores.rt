@@ -6,6 +6,7 @@ ghost use Rattle.machine_model.specs.State.{undo_next};
 
 use crate::opening::opened_seats;
 use crate::pieces::Piece;
+use crate::room::room_at_opening;
 use crate::seats::Seat;
 use crate::tables::opened_tables;
 use crate::undoing::last_pending;
@@ -22,16 +23,19 @@ pub struct Core {
     pub(crate) history: History,
     /// How many events it had at the opening.
     pub(crate) opening: usize,
+    /// There is room for `most` of them.
     pub(crate) kept: Vec<Kept>,
+    /// How many are kept at most before another process starts.
+    pub(crate) most: usize,
     pub(crate) served: u32,
     pub(crate) holds: Holds,
     pub(crate) seats: Vec<Seat>,
 }
 
 impl Model for Core {
-    ghost use Rattle.std.specs.Prelude.{take};
+    ghost use Rattle.std.specs.Prelude.{take, vec_capacity};
     ghost use Rattle.process_core.specs.Cores.{CoreState};
-    ghost use Rattle.process_core.specs.Seats.{Stands};
+    ghost use Rattle.process_core.specs.Room.{IsKept};
 
     ghost Value = { CoreState };
 
@@ -42,7 +46,7 @@ impl Model for Core {
 
     ghost view = { λ c. record { conflicts = c.holds.conflicts; plans = c.history.plans; opening = take c.opening c.history.events; kept = c.kept.items; served = c.served } };
 
-    ghost invariant = { λ c. Stands (record { conflicts = c.holds.conflicts; plans = c.history.plans; opening = take c.opening c.history.events; kept = c.kept.items; served = c.served }) c.history.events c.seats.items c.holds };
+    ghost invariant = { λ c. IsKept (record { conflicts = c.holds.conflicts; plans = c.history.plans; opening = take c.opening c.history.events; kept = c.kept.items; served = c.served }) c.history.events c.seats.items c.holds c.most (vec_capacity c.kept) };
 }
 
 impl Core {
@@ -54,10 +58,14 @@ impl Core {
         let seats = opened_seats(alloc, &history)?;
         let holds = opened_tables(alloc, &history, &c, &seats)?;
         let opening = history.events.as_slice().len();
+        let most = room_at_opening(&history, &seats);
+        let mut kept = Vec::new(alloc);
+        kept.reserve(most)?;
         Ok(Core {
             history,
             opening,
-            kept: Vec::new(alloc),
+            kept,
+            most,
             served: 0,
             holds,
             seats,

@@ -9,6 +9,7 @@ mod cores;
 mod laws;
 mod opening;
 mod pieces;
+mod room;
 mod seats;
 mod tables;
 mod undoing;

@@ -1,5 +1,5 @@
 // What is kept of each process.
-ghost use Rattle.std.specs.Prelude.{◌≡◌};
+ghost use Rattle.std.specs.Prelude.{◌≡◌, is_some};
 ghost use Rattle.std.specs.Option.{option_map};
 ghost use Rattle.machine_model.specs.ProcessState.{pending_count};
 ghost use Rattle.process_core.specs.Seats.{is_number, state_by};
@@ -39,6 +39,13 @@ fn is_number(number: Option<u32>, n: u32) -> bool
 }
 
 impl Seat {
+    /// Whether the process is active.
+    pub fn is_active(&self) -> bool
+        ensures { result ≡ is_some self.now.instance }
+    {
+        self.instance.is_some()
+    }
+
     /// How many entries at the end of its net are to be undone, while it is active.
     pub fn pending(&self) -> Option<u16>
         ensures { result ≡ option_map (λ x. pending_count x.state) self.now.instance }

@@ -7,6 +7,7 @@ use Rattle.process_core.proofs.SeatFrames.{row_frame, seat_frame}
 use Rattle.process_core.proofs.HandStands.{hand_stands}
 use Rattle.process_core.proofs.EventCounts.{events_counted}
 use Rattle.process_core.proofs.KeptBound.{bound_on_kept}
+use Rattle.process_core.proofs.KeptRoom.{kept_after, room_to_push}
 use Rattle.process_core.proofs.laws.tables_stand_for_holdings.Goals as goal
 
 pub returns : goal.returns

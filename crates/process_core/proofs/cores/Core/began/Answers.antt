@@ -7,19 +7,19 @@ use Rattle.process_core.proofs.cores.Core.began.Goals as goal
 
 pub returns-then-i-eq0 : goal.returns-then-i-eq0
 returns-then-i-eq0 c =
-    let core = subst IsCore c.self.view_is c.self.invariant.core in
+    let core = subst IsCore c.self.view_is c.self.invariant.stands.core in
     sym (none_began c.args.self.now core c.args.i (λ bounds. let low = bounds.0 in let zero = c.if-i-eq0.true in absurd (omega arith)))
 
 pub returns-then-place-count : goal.returns-then-place-count
 returns-then-place-count c =
-    let core = subst IsCore c.self.view_is c.self.invariant.core in
-    let many = seats_many c.args.self.now c.self.inside.seats.items (subst (λ v. c.self.inside.seats.items ≡ seats_of (courses_in v) (moment_of v)) c.self.view_is c.self.invariant.seats) in
+    let core = subst IsCore c.self.view_is c.self.invariant.stands.core in
+    let many = seats_many c.args.self.now c.self.inside.seats.items (subst (λ v. c.self.inside.seats.items ≡ seats_of (courses_in v) (moment_of v)) c.self.view_is c.self.invariant.stands.seats) in
     sym (none_began c.args.self.now core c.args.i (λ bounds. let low = bounds.0 in let high = bounds.1 in let past = c.if-place-count.true in let is = c.len-count.ensures in absurd (omega arith)))
 
 pub returns : goal.returns
 returns c =
     let v = c.args.self.now in
-    let seats = subst (λ v. c.self.inside.seats.items ≡ seats_of (courses_in v) (moment_of v)) c.self.view_is c.self.invariant.seats in
+    let seats = subst (λ v. c.self.inside.seats.items ≡ seats_of (courses_in v) (moment_of v)) c.self.view_is c.self.invariant.stands.seats in
     let many = seats_many v c.self.inside.seats.items seats in
     let is = c.len-count.ensures in
     let within = c.if-place-count.false in

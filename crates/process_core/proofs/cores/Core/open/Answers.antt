@@ -1,10 +1,10 @@
-use Rattle.std.proofs.Common.{◌≡◌, ◌∙◌, List, length, take, ap, refl, subst, sym, arith}
+use Rattle.std.proofs.Common.{◌≡◌, ◌∙◌, List, length, take, vec_capacity, ap, refl, subst, sym, arith}
 use Rattle.std.proofs.Math.Seq.{take-length}
 use Rattle.hold_tables.specs.Tables.{Tables}
 use Rattle.schedule_model.specs.declared.event.Event.{Event}
 use Rattle.machine_model.specs.declared.kept.Kept.{Kept}
 use Rattle.process_core.specs.Cores.{opened_on}
-use Rattle.process_core.specs.Seats.{Stands}
+use Rattle.process_core.specs.Room.{IsKept}
 use Rattle.process_tree.specs.Conflicts.{do_conflict}
 use Rattle.schedule_model.specs.Course.{courses_of}
 use Rattle.schedule_model.proofs.NoConflict.{own_order-legal}
@@ -30,6 +30,17 @@ opened_tables-requires-clause-few c =
     let each = session.one_each in
     omega arith
 
+pub room_at_opening-most-requires : goal.room_at_opening-most-requires
+room_at_opening-most-requires c = record {
+  core = (c.args.c, c.requires);
+  few =
+      let session = c.requires.session in
+      let few = few_start (courses_of c.args.history.plans) c.args.history.events session.within in
+      let each = session.one_each in
+      omega arith;
+  seats = c.deref-2.ensures.value ∙ c.in_ok-seats.ensures;
+}
+
 pub invariant_of-result : goal.invariant_of-result
 invariant_of-result c =
     let h = c.args.history in
@@ -37,7 +48,9 @@ invariant_of-result c =
     let opened : opened_on holds.conflicts h.plans (take (length c.as_slice-opening.result.now) h.events) ≡ opened_on c.args.c h.plans h.events =
     ap (λ (t : Tables). opened_on t.conflicts h.plans (take (length c.as_slice-opening.result.now) h.events)) c.in_ok-holds.ensures
     ∙ ap (opened_on c.args.c h.plans) (ap (λ (es : List Event). take (length es) h.events) c.as_slice-opening.ensures ∙ take-length h.events) in
-    let stands : Stands (opened_on c.args.c h.plans h.events) h.events c.in_ok-seats.seats.items holds =
-    record { core = c.requires; events = refl; seats = c.in_ok-seats.ensures; tables = c.in_ok-holds.ensures } in
-    subst (λ (ks : List Kept). Stands (record { conflicts = holds.conflicts; plans = h.plans; opening = take (length c.as_slice-opening.result.now) h.events; kept = ks; served = 0 }) h.events c.in_ok-seats.seats.items holds)
-    (sym c.new.ensures.items) (subst (λ v. Stands v h.events c.in_ok-seats.seats.items holds) (sym opened) stands)
+    let most = c.room_at_opening-most.result in
+    let capacity = vec_capacity c.reserve.new.self in
+    let stands : IsKept (opened_on c.args.c h.plans h.events) h.events c.in_ok-seats.seats.items holds most capacity =
+    record { stands = record { core = c.requires; events = refl; seats = c.in_ok-seats.ensures; tables = c.in_ok-holds.ensures }; room = c.room_at_opening-most.ensures; taken = let room = c.in_ok-reserve.ensures.ok in omega arith } in
+    subst (λ (ks : List Kept). IsKept (record { conflicts = holds.conflicts; plans = h.plans; opening = take (length c.as_slice-opening.result.now) h.events; kept = ks; served = 0 }) h.events c.in_ok-seats.seats.items holds most capacity)
+    (sym (c.reserve.ensures.items ∙ c.new-kept.ensures.items)) (subst (λ v. IsKept v h.events c.in_ok-seats.seats.items holds most capacity) (sym opened) stands)

@@ -8,5 +8,5 @@ use Rattle.process_core.proofs.cores.Core.undo_next.Goals as goal
 pub returns : goal.returns
 returns c =
     let v = c.args.self.now in
-    let tables = subst (λ v. c.self.inside.holds ≡ tables_of v.conflicts (courses_in v) (moment_of v)) c.self.view_is c.self.invariant.tables in
+    let tables = subst (λ v. c.self.inside.holds ≡ tables_of v.conflicts (courses_in v) (moment_of v)) c.self.view_is c.self.invariant.stands.tables in
     c.last_pending.ensures ∙ (ap (λ (t : Tables). last_pending t t.net) tables ∙ sym (undo_in_tables (courses_in v) (moment_of v) v.conflicts))
