@@ -10,3 +10,5 @@ pub mod OwedAbove
 pub mod Placed
 pub mod ProcessLaws
 pub mod AfterSteps
+pub mod CommitPoints
+pub mod CountedSteps

@@ -1,7 +1,8 @@
 // One process on its way.
-ghost use Rattle.std.specs.Prelude.{◌≡◌, [], true, IfOk};
+ghost use Rattle.std.specs.Prelude.{◌≡◌, [], true, length, IfOk};
 ghost use Rattle.machine_model.specs.ProcessState.{todo, effected, was_refused, begun, refusal, recovery, pending_count, refusal_by, are_used_up, told_task};
 ghost use Rattle.process_tree.specs.Shape.{shape_of};
+ghost use Rattle.process_tree.specs.Recovery.{forward};
 ghost use Rattle.instance_state.specs.Instances.{opened, moved_to, is_piece};
 ghost use Rattle.instance_state.specs.OwnActs.{are_in_own_order};
 
@@ -137,5 +138,11 @@ impl Instance {
         ensures { result ≡ pending_count self.now.state }
     {
         self.at.pending(&self.rows) as u16
+    }
+    /// How many steps it owes from its last commit point on.
+    pub fn owed(&self) -> usize
+        ensures { result ≡ length (forward self.now.state.progress.shape self.now.state.progress.net) }
+    {
+        self.at.owed_count(&self.rows)
     }
 }

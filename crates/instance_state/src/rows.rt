@@ -3,7 +3,7 @@ ghost use Rattle.std.specs.Prelude.{[], ◌≡◌, ◌<◌, ◌+◌, Option, ℕ
 ghost use Rattle.process_tree.specs.Blocks.{outline};
 ghost use Rattle.process_tree.specs.Making.{tree_fault};
 ghost use Rattle.process_tree.specs.Shape.{shape_of, commits, last_of, branch_to, fixed_len, last_commit};
-ghost use Rattle.process_tree.specs.Recovery.{place_of};
+ghost use Rattle.process_tree.specs.Recovery.{last_after, place_of};
 ghost use Rattle.instance_state.specs.Rows.{row_of, rows_to, way_of, done_to, way_from, no_row};
 
 use process_tree::{Fallback, Place, Plan, StepKind, Tree, branch_to};
@@ -87,6 +87,28 @@ impl Rows {
     {
         step_at(self.plan.tree.first())
     }
+
+    /// How many steps follow a step through last alternatives.
+    pub fn count_behind(&self, step: u16) -> usize
+        requires { step < length self.now.shape.kinds }
+        ensures { result ≡ length (last_after self.now.shape (done_to self.now.shape (Some step))) }
+    {
+        count_behind(&self.plan.tree, step)
+    }
+}
+
+/// How many steps of a tree follow a step through last alternatives.
+fn count_behind(tree: &Tree, step: u16) -> usize
+    requires { step < length (outline tree.now).steps }
+    ensures { result ≡ length (last_after (shape_of tree.now) (done_to (shape_of tree.now) (Some step))) }
+{
+    let mut place = tree.last_after(step);
+    let mut count = 0;
+    'behind: while let Place::Step(next) = place {
+        count += 1;
+        place = tree.last_after(next);
+    }
+    count
 }
 
 /// Whether a step of this kind is a commit point once it took effect.

@@ -341,6 +341,20 @@ impl Standing {
         }
     }
 
+    /// How many steps it owes.
+    pub fn owed_count(&self, rows: &Rows) -> usize
+        requires { Keeps rows.now.shape self.now }
+        ensures { result ≡ length (forward rows.now.shape (progress_of rows.now.shape self.now).net) }
+    {
+        let Some(last) = self.last else {
+            return 0;
+        };
+        match rows.row(last).commit {
+            None => 0,
+            Some(commit) => rows.count_behind(commit),
+        }
+    }
+
     /// It has no commit point.
     pub fn is_backward(&self, rows: &Rows) -> bool
         requires { Keeps rows.now.shape self.now }
