@@ -1,3 +1,4 @@
+pub mod FirstReserved
 pub mod Places
 pub mod Tidy
 pub mod Entries

@@ -1,5 +1,5 @@
 -- Changes: what each call makes of the tables.
-use Rattle.std.specs.Prelude.{ℕ, Bool, false, not, ◌&&◌, List, [], ◌∷◌, ◌++◌, filter, length, map, nat_eq, nat_lt, if◌then◌else◌, Option, Some, None}
+use Rattle.std.specs.Prelude.{ℕ, Bool, false, not, ◌&&◌, List, [], ◌∷◌, ◌++◌, filter, length, map, nat_eq, nat_lt, take, if◌then◌else◌, Option, Some, None}
 use Rattle.std.specs.List.{list_any}
 use Rattle.process_tree.specs.declared.entry.Entry.{Entry}
 use Rattle.process_tree.specs.Conflicts.{Table}
@@ -34,6 +34,10 @@ with_fixed n r = record { process = r.process; steps = r.steps; running = r.runn
 -- these are the reserved steps
 abbrev pub with_reserved : List (ℕ × ℕ) → OpenProcess → OpenProcess
 with_reserved pairs r = record { process = r.process; steps = r.steps; running = r.running; reserved = pairs; fixed = r.fixed; pending = r.pending }
+
+-- only the first so many steps stay reserved
+abbrev pub with_first_reserved : ℕ → OpenProcess → OpenProcess
+with_first_reserved n r = with_reserved (take n r.reserved) r
 
 -- this is the number of pending entries
 abbrev pub with_pending : ℕ → OpenProcess → OpenProcess

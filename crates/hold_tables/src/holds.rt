@@ -7,7 +7,7 @@ ghost use Rattle.process_tree.specs.declared.entry.Entry.{Entry};
 ghost use Rattle.schedule_model.specs.Histories.{of_process};
 ghost use Rattle.schedule_model.specs.Holdings.{reaches};
 ghost use Rattle.hold_tables.specs.Tables.{is_open, kept_of, holdings_of};
-ghost use Rattle.hold_tables.specs.Changes.{none_open, opened, changed, with_running, with_pending, with_reserved, run, stopped, took_effect, all_fixed, dropped, can_run, undoes};
+ghost use Rattle.hold_tables.specs.Changes.{none_open, opened, changed, with_running, with_pending, with_first_reserved, with_reserved, run, stopped, took_effect, all_fixed, dropped, can_run, undoes};
 ghost use Rattle.hold_tables.specs.Reading.{next_open, holder_against};
 ghost use Rattle.hold_tables.specs.Kept.{IsKnown, AreKnown, AreTidy};
 ghost use Rattle.hold_tables.specs.Places.{all_steps};
@@ -136,6 +136,15 @@ impl Holds {
     {
         let at = place_of(&self.rows, process);
         self.rows[at].reserve(ops);
+    }
+
+    /// Only the first so many of the reserved steps of the process stay reserved.
+    pub fn keep_reserved(&mut self, process: u32, count: usize)
+        requires open { is_open self.old process ≡ true }
+        ensures { self.new ≡ changed (with_first_reserved count) process self.old }
+    {
+        let at = place_of(&self.rows, process);
+        self.rows[at].keep_reserved(count);
     }
 
     /// So many of the last net entries of the process are to be undone.

@@ -1,7 +1,7 @@
 // What is kept of one open process.
 ghost use Rattle.std.specs.Prelude.{◌≡◌, ◌≤◌, length, IfOk, vec_capacity};
 ghost use Rattle.hold_tables.specs.Tables.{holds_nothing};
-ghost use Rattle.hold_tables.specs.Changes.{with_running, with_fixed, with_reserved, with_pending};
+ghost use Rattle.hold_tables.specs.Changes.{with_running, with_fixed, with_first_reserved, with_reserved, with_pending};
 
 use process_tree::Entry;
 use std::alloc::{AllocError, Global};
@@ -111,6 +111,12 @@ impl Row {
         ensures { self.new ≡ with_reserved steps.now self.old }
     {
         replace(&mut self.reserved, steps);
+    }
+
+    pub fn keep_reserved(&mut self, count: usize)
+        ensures { self.new ≡ with_first_reserved count self.old }
+    {
+        self.reserved.truncate(count);
     }
 }
 
