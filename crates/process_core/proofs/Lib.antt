@@ -23,3 +23,4 @@ pub mod KeptCounts
 pub mod KeptBound
 pub mod OpenedRoom
 pub mod KeptRoom
+pub mod BegunLists

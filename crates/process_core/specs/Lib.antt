@@ -3,3 +3,4 @@ pub mod Answers
 pub mod Seats
 pub mod OpenTables
 pub mod Room
+pub mod Beginnings

@@ -5,6 +5,7 @@
 //! on any legal history, and is read. Calls that start processes, hand out pieces and end them are not there yet.
 #![tactic(auto)]
 
+mod beginnings;
 mod cores;
 mod laws;
 mod opening;

@@ -2,6 +2,7 @@
 ghost use Rattle.std.specs.Prelude.{◌≡◌, is_some};
 ghost use Rattle.std.specs.Option.{option_map};
 ghost use Rattle.machine_model.specs.ProcessState.{pending_count};
+ghost use Rattle.process_core.specs.Beginnings.{can_begin};
 ghost use Rattle.process_core.specs.Seats.{is_number, state_by};
 
 use instance_state::Instance;
@@ -54,6 +55,13 @@ impl Seat {
             None => None,
             Some(instance) => Some(instance.pending()),
         }
+    }
+
+    /// Whether it is active and has not begun to complete.
+    pub fn can_begin(&self) -> bool
+        ensures { result ≡ can_begin self.now }
+    {
+        self.instance.is_some() && self.began.is_none()
     }
 
     /// What became of the piece of this number, which is of this process.

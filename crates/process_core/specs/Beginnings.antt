@@ -1,0 +1,78 @@
+-- Beginnings: what it makes of seats and tables that processes begin to complete.
+use Rattle.std.specs.Prelude.{◌≡◌, ℕ, zero, suc, ◌+◌, Bool, true, not, ◌&&◌, List, [], ◌∷◌, length, nat_eq, slice_index_or, Option, Some, None, is_some, is_none, if◌then◌else◌}
+use Rattle.std.specs.Option.{option_map}
+use Rattle.process_tree.specs.Recovery.{forward}
+use Rattle.schedule_model.specs.Histories.{is_in}
+use Rattle.machine_model.specs.declared.began.Began.{Began}
+use Rattle.machine_model.specs.declared.began.Cause.{Cause}
+use Rattle.machine_model.specs.declared.began.Cause.TheVariants.{Cascade, Restart}
+use Rattle.machine_model.specs.ProcessState.{begun, pending_count}
+use Rattle.instance_state.specs.Instances.{InstanceState, moved_to}
+use Rattle.hold_tables.specs.Tables.{OpenProcess, Tables, is_open}
+use Rattle.hold_tables.specs.Changes.{changed, with_first_reserved, with_pending, with_running}
+use Rattle.process_core.specs.declared.beginnings.Beginners.{Beginners}
+use Rattle.process_core.specs.declared.beginnings.Beginners.TheVariants.{All, DraggedBy}
+use Rattle.process_core.specs.Seats.{SeatState}
+
+-- a seat of which nothing is known
+abbrev pub no_seat : SeatState
+no_seat = record { instance = None; out = None; lost = None; began = None }
+
+-- the seat of a process that begins to complete: its piece that was out is lost
+abbrev pub begun_seat : Began → SeatState → SeatState
+begun_seat b s = record { instance = option_map (λ x. moved_to x (begun x.state)) s.instance; out = None; lost = s.out; began = Some b }
+
+-- its row: nothing is under way, what it owes stays reserved, and all that it can undo is pending
+abbrev pub begun_row_of : Option InstanceState → OpenProcess → OpenProcess
+begun_row_of None r = r
+begun_row_of (Some x) r = with_pending (pending_count (begun x.state)) (with_first_reserved (length (forward x.state.progress.shape x.state.progress.net)) (with_running None r))
+
+abbrev pub begun_row : SeatState → OpenProcess → OpenProcess
+begun_row s r = begun_row_of s.instance r
+
+-- why process i begins, if it does where it has not before: for a restart all do, and else those that go back with another
+abbrev pub cause_of : Beginners → List ℕ → ℕ → Option Cause
+cause_of All members i = Some Restart
+cause_of (DraggedBy root) members i = if not (nat_eq i root) && is_in i members then Some (Cascade root) else None
+
+-- a process is active and has not begun to complete
+abbrev pub can_begin : SeatState → Bool
+can_begin s = is_some s.instance && is_none s.began
+
+-- why a process begins, if it can
+abbrev pub cause_if : SeatState → Option Cause → Option Cause
+cause_if s cause = if can_begin s then cause else None
+
+-- its seat, where it begins for this cause at this kept event, or stays
+abbrev pub seat_with : ℕ → Option Cause → SeatState → SeatState
+seat_with event None s = s
+seat_with event (Some cause) s = begun_seat (record { event = event; cause = cause }) s
+
+-- its row
+abbrev pub row_with : SeatState → Option Cause → OpenProcess → OpenProcess
+row_with s None r = r
+row_with s (Some cause) r = begun_row s r
+
+-- the tables
+abbrev pub tables_with : ℕ → SeatState → Option Cause → Tables → Tables
+tables_with i s None t = t
+tables_with i s (Some cause) t = changed (begun_row s) i t
+
+-- the first n of these changed, each by its number, of which the first has a
+abbrev pub first_changed : {X : Type 0} → (ℕ → X → X) → ℕ → ℕ → List X → List X
+first_changed f a zero xs = xs
+first_changed f a (suc n) [] = []
+first_changed f a (suc n) (x ∷ xs) = f a x ∷ first_changed f (a + 1) n xs
+
+-- the seats where those of the first n processes that have a cause begin
+abbrev pub seats_begun : (ℕ → Option Cause) → ℕ → ℕ → List SeatState → List SeatState
+seats_begun why event n ss = first_changed (λ i s. seat_with event (cause_if s (why i)) s) 1 n ss
+
+-- and the tables, by the seats before
+abbrev pub tables_begun : (ℕ → Option Cause) → List SeatState → ℕ → Tables → Tables
+tables_begun why ss zero t = t
+tables_begun why ss (suc n) t = let s = slice_index_or ss n no_seat in tables_with (suc n) s (cause_if s (why (suc n))) (tables_begun why ss n t)
+
+-- each active process is open
+abbrev pub AreOpen : List SeatState → Tables → Type 0
+AreOpen ss t = (n : ℕ) → is_some (slice_index_or ss n no_seat).instance ≡ true → is_open t (n + 1) ≡ true

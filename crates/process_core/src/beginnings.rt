@@ -1,0 +1,87 @@
+// Processes begin to complete.
+ghost use Rattle.std.specs.Prelude.{◌≡◌, ◌≤◌, true, length, is_some};
+ghost use Rattle.hold_tables.specs.Tables.{is_open};
+ghost use Rattle.hold_tables.specs.Changes.{changed};
+ghost use Rattle.process_core.specs.Beginnings.{AreOpen, begun_row, begun_seat, can_begin, cause_if, cause_of, seat_with, seats_begun, tables_begun, tables_with};
+
+use crate::seats::Seat;
+use cascade::Members;
+use hold_tables::Holds;
+use machine_model::{Began, Cause};
+
+/// Who begins to complete, where it is active and has not before.
+#[derive(Clone, Copy)]
+pub enum Beginners {
+    All,
+    /// Whoever goes back with this process.
+    DraggedBy(u32),
+}
+
+/// Why a process begins, if it does.
+fn cause_of(who: Beginners, members: &Members, i: u32) -> Option<Cause>
+    ensures { result ≡ cause_of who members.now.members i }
+{
+    match who {
+        Beginners::All => Some(Cause::Restart),
+        Beginners::DraggedBy(root) => {
+            if i != root && members.has(i) {
+                Some(Cause::Cascade(root))
+            } else {
+                None
+            }
+        }
+    }
+}
+
+/// A process begins to complete.
+pub fn begin(seat: &mut Seat, holds: &mut Holds, i: u32, began: Began)
+    requires seat { is_some seat.old.instance ≡ true }
+    requires open { is_open holds.old i ≡ true }
+    ensures seat { seat.new ≡ begun_seat began seat.old }
+    ensures holds { holds.new ≡ changed (begun_row seat.old) i holds.old }
+{
+    let Some(instance) = &mut seat.instance else {
+        unreachable!();
+    };
+    instance.abort();
+    holds.stop(i);
+    holds.keep_reserved(i, instance.owed());
+    holds.pend(i, instance.pending());
+    seat.lost = seat.out;
+    seat.out = None;
+    seat.began = Some(began);
+}
+
+/// A process begins to complete for this cause, if it is active and has not before.
+fn begin_if(seat: &mut Seat, holds: &mut Holds, i: u32, cause: Option<Cause>, event: u32)
+    requires open { is_some seat.old.instance ≡ true → is_open holds.old i ≡ true }
+    ensures seat { seat.new ≡ seat_with event (cause_if seat.old cause) seat.old }
+    ensures holds { holds.new ≡ tables_with i seat.old (cause_if seat.old cause) holds.old }
+{
+    if !seat.can_begin() {
+        return;
+    }
+    if let Some(cause) = cause {
+        begin(seat, holds, i, Began { event, cause });
+    }
+}
+
+/// These processes begin to complete at this kept event.
+pub fn begin_each(
+    seats: &mut Vec<Seat>,
+    holds: &mut Holds,
+    members: &Members,
+    who: Beginners,
+    event: u32,
+)
+    requires open { AreOpen seats.old.items holds.old }
+    requires few { length seats.old.items ≤ 4096 }
+    ensures seats { seats.new.items ≡ seats_begun (cause_of who members.now.members) event (length seats.old.items) seats.old.items }
+    ensures holds { holds.new ≡ tables_begun (cause_of who members.now.members) seats.old.items (length seats.old.items) holds.old }
+{
+    for place in 0..seats.len() {
+        let i = place as u32 + 1;
+        let cause = cause_of(who, members, i);
+        begin_if(&mut seats[place], holds, i, cause, event);
+    }
+}
