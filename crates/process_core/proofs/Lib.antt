@@ -24,3 +24,6 @@ pub mod KeptBound
 pub mod OpenedRoom
 pub mod KeptRoom
 pub mod BegunLists
+pub mod EffectSeats
+pub mod EffectRows
+pub mod EffectSteps

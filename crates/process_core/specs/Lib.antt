@@ -4,3 +4,4 @@ pub mod Seats
 pub mod OpenTables
 pub mod Room
 pub mod Beginnings
+pub mod Effects
