@@ -27,3 +27,5 @@ pub mod BegunLists
 pub mod EffectSeats
 pub mod EffectRows
 pub mod EffectSteps
+pub mod BegunLost
+pub mod BegunOne

@@ -37,12 +37,12 @@ use Rattle.instance_state.specs.Instances.{InstanceState}
 use Rattle.machine_model.specs.ProcessState.{ProcessState}
 
 -- what process i lost at moment n, and whether it has begun, by moment m
-record StaysLost (m n : Moment) (i : ℕ) : Type 0 where
-  begun : has_begun m i ≡ true → has_begun n i ≡ true
-  lost : has_begun n i ≡ has_begun m i → lost_by n i ≡ lost_by m i
+pub record StaysLost (m n : Moment) (i : ℕ) : Type 0 where
+  pub begun : has_begun m i ≡ true → has_begun n i ≡ true
+  pub lost : has_begun n i ≡ has_begun m i → lost_by n i ≡ lost_by m i
 
 -- another process loses nothing of it
-other_losses : (i k event : ℕ) (ps : List Piece) → eqb k i ≡ false → find (λ (l : Lost). eqb l.piece.process i) (losses k event ps) ≡ None
+pub other_losses : (i k event : ℕ) (ps : List Piece) → eqb k i ≡ false → find (λ (l : Lost). eqb l.piece.process i) (losses k event ps) ≡ None
 other_losses i k event [] other = refl
 other_losses i k event (p ∷ ps) other = by_first (eqb p.process k) refl (other_losses i k event ps other)
   where
@@ -54,7 +54,7 @@ other_losses i k event (p ∷ ps) other = by_first (eqb p.process k) refl (other
         ap (λ t. find (λ (l : Lost). eqb l.piece.process i) (map (λ (q : Piece). record { piece = q; event = event }) (if t then p ∷ filter (λ (q : Piece). eqb q.process k) ps else filter (λ (q : Piece). eqb q.process k) ps))) at
         ∙ rest
 
-or_same : {X : Type 0} (o : Option X) → option_or o None ≡ o
+pub or_same : {X : Type 0} (o : Option X) → option_or o None ≡ o
 or_same None = refl
 or_same (Some x) = refl
 
@@ -83,7 +83,7 @@ module _ (m : Moment) (i : ℕ) where
     by_effect n None stays = stays
     by_effect n (Some p) stays = record { begun = stays.begun; lost = stays.lost }
 
-    entered-lost : (k : Kept) → StaysLost m (entered courses m k) i
+    pub entered-lost : (k : Kept) → StaysLost m (entered courses m k) i
     entered-lost (Start j) = record { begun = λ is. is; lost = λ same. refl }
     entered-lost (Hand a b c d) = record { begun = λ is. is; lost = λ same. refl }
     entered-lost (Effect n) = by_effect (noted m (Effect n)) (piece_of (noted m (Effect n)).kept n) (record { begun = λ is. is; lost = λ same. refl })
