@@ -1,5 +1,7 @@
 -- Seats and tables as processes begin to complete one after another.
-use Rattle.std.proofs.Common.{◌≡◌, ℕ, zero, suc, ◌+◌, ◌<◌, true, List, [], ◌∷◌, length, slice_index_or, slice_set, Option, Some, None, sym, refl, ap, ◌∙◌, arith}
+use Rattle.std.proofs.Common.{◌≡◌, ℕ, zero, suc, ◌+◌, ◌<◌, true, List, [], ◌∷◌, length, map, slice_index_or, slice_set, Option, Some, None, sym, refl, ap, ◌∙◌, arith}
+use Rattle.process_tree.specs.Blocks.{numbers_from}
+use Rattle.process_tree.specs.Order.{Each}
 use Rattle.machine_model.specs.declared.began.Cause.{Cause}
 use Rattle.instance_state.specs.Instances.{InstanceState}
 use Rattle.hold_tables.specs.Tables.{Tables, is_open}
@@ -80,3 +82,9 @@ pub at_default : {X : Type 0} (xs : List X) (n : ℕ) (d e : X) → n < length x
 at_default [] n d e within = absurd (omega arith)
 at_default (x ∷ xs) zero d e within = refl
 at_default (x ∷ xs) (suc n) d e within = at_default xs n d e (omega arith)
+
+-- all are changed, each by its number
+pub all_changed : {X : Type 0} (f : ℕ → X → X) (g h : ℕ → X) (a n : ℕ) → Each (λ k. f k (g k) ≡ h k) (numbers_from a n) → first_changed f a n (map g (numbers_from a n)) ≡ map h (numbers_from a n)
+all_changed f g h a zero each = refl
+all_changed f g h a (suc n) each =
+    ap (λ x. x ∷ first_changed f (a + 1) n (map g (numbers_from (a + 1) n))) each.0 ∙ ap (λ xs. h a ∷ xs) (all_changed f g h (a + 1) n each.1)

@@ -29,3 +29,5 @@ pub mod EffectRows
 pub mod EffectSteps
 pub mod BegunLost
 pub mod BegunOne
+pub mod BegunRows
+pub mod BegunAll
