@@ -31,3 +31,5 @@ pub mod BegunLost
 pub mod BegunOne
 pub mod BegunRows
 pub mod BegunAll
+pub mod LastEntries
+pub mod EffectUndos
