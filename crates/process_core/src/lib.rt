@@ -7,8 +7,10 @@
 
 mod beginnings;
 mod cores;
+mod effects;
 mod laws;
 mod opening;
+mod owed;
 mod pieces;
 mod room;
 mod seats;

@@ -23,7 +23,7 @@ use schedule_rules::{active, net};
 use std::alloc::{AllocError, Global};
 
 /// Whether a step of this kind is a commit point once it took effect.
-fn commits(kind: StepKind) -> bool
+pub fn commits(kind: StepKind) -> bool
     ensures { result ≡ commits kind }
 {
     match kind {
@@ -33,7 +33,7 @@ fn commits(kind: StepKind) -> bool
 }
 
 /// The kind of a step.
-fn kind_of(tree: &Tree, n: u16) -> StepKind
+pub fn kind_of(tree: &Tree, n: u16) -> StepKind
     requires { n < length (outline tree.now).steps }
     ensures { result ≡ kind_of (shape_of tree.now) n }
 {
@@ -41,7 +41,7 @@ fn kind_of(tree: &Tree, n: u16) -> StepKind
 }
 
 /// The operation of a step.
-fn op_of(ops: &[u16], step: u16) -> u16
+pub fn op_of(ops: &[u16], step: u16) -> u16
     ensures { result ≡ slice_index_or ops.now step 0 }
 {
     let place = usize::from(step);

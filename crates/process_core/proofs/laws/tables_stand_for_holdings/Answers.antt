@@ -10,7 +10,7 @@ use Rattle.process_core.proofs.KeptBound.{bound_on_kept}
 use Rattle.process_core.proofs.KeptRoom.{kept_after, room_to_push}
 use Rattle.process_core.proofs.EffectSeats.{seat_effect}
 use Rattle.process_core.proofs.EffectSteps.{tables_step}
-use Rattle.process_core.proofs.EffectUndos.{tables_end, tables_undo}
+use Rattle.process_core.proofs.EffectStands.{effect_stands}
 use Rattle.process_core.proofs.laws.tables_stand_for_holdings.Goals as goal
 
 pub returns : goal.returns
