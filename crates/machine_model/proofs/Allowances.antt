@@ -52,7 +52,7 @@ options_tries R s good =
     (some_tries s.tries z.0, three_tries s.undo_tries z.1)
 
 -- where no step is bad, the first is good, and none of the others is bad
-good_head : (n : ℕ) (s : Step) (ss : List Step) → first_bad_step n (s ∷ ss) ≡ None → (is_good_step s ≡ true) × (first_bad_step (n + 1) ss ≡ None)
+pub good_head : (n : ℕ) (s : Step) (ss : List Step) → first_bad_step n (s ∷ ss) ≡ None → (is_good_step s ≡ true) × (first_bad_step (n + 1) ss ≡ None)
 good_head n s ss none = by_test (is_good_step s) refl
   where
     by_test : (t : Bool) → is_good_step s ≡ t → (is_good_step s ≡ true) × (first_bad_step (n + 1) ss ≡ None)
@@ -65,7 +65,7 @@ steps_tries n (s ∷ ss) zero none = options_tries s.kind s (and_parts (is_amoun
 steps_tries n (s ∷ ss) (suc b) none = steps_tries (n + 1) ss b (good_head n s ss none).1
 
 -- a tree without fault has no bad step
-no_bad_step : (root : Block) → tree_fault root ≡ None → first_bad_step 0 (outline root).steps ≡ None
+pub no_bad_step : (root : Block) → tree_fault root ≡ None → first_bad_step 0 (outline root).steps ≡ None
 no_bad_step root none = by_tests (outline root).has_empty (ltb 256 (length (outline root).steps)) (ltb 16 (outline root).nesting) (outline root).odd_choice (first_same_name 0 [] (outline root).steps) (first_bad_step 0 (outline root).steps) refl refl refl refl refl refl
   where
     by_tests : (e s n : Bool) (odd same bad : Option ℕ) → (outline root).has_empty ≡ e → ltb 256 (length (outline root).steps) ≡ s → ltb 16 (outline root).nesting ≡ n

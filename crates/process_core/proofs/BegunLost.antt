@@ -56,13 +56,13 @@ module _ (i : ℕ) where
   loses-beginnings e cause n k never holds = record {
     kept = holds.kept;
     before = λ fresh.
-    let parts = or_parts (has_begun n i) (eqb k i) (sym (begins_now-has cause n k i) ∙ fresh) in (
-      find-filter (λ (p : Piece). eqb p.process i) (λ p. not (eqb p.process k)) n.out
-          (every (λ (p : Piece). eqb p.process i ≡ true → not (eqb p.process k) ≡ true) n.out
-          (λ p is. ap not (ap (λ j. eqb j k) (eqb-true p.process i is) ∙ flipped k i parts.1)))
-          ∙ (holds.before parts.0).0,
-      unchanged parts.1 ∙ (holds.before parts.0).1,
-    );
+        let parts = or_parts (has_begun n i) (eqb k i) (sym (begins_now-has cause n k i) ∙ fresh) in (
+          find-filter (λ (p : Piece). eqb p.process i) (λ p. not (eqb p.process k)) n.out
+              (every (λ (p : Piece). eqb p.process i ≡ true → not (eqb p.process k) ≡ true) n.out
+              (λ p is. ap not (ap (λ j. eqb j k) (eqb-true p.process i is) ∙ flipped k i parts.1)))
+              ∙ (holds.before parts.0).0,
+          unchanged parts.1 ∙ (holds.before parts.0).1,
+        );
     begun = λ is. by_process (eqb k i) refl is;
   }
     where

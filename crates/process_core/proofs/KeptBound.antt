@@ -130,10 +130,12 @@ module _ (table : ConflictRelation) (plans : List Plan) (good : AreGood plans) (
 
   new_since : (m : Moment) (k : Kept) → SinceStand m → may_be_kept table cs m k ≡ true → Each (λ (p : Piece). IsSince m p.process) (hands (k ∷ []))
   new_since m (Hand n i d w) stand may =
-      let parts = hand_parts table cs m (record { number = n; process = i; step = d; work = w }) may in
-      (active_since m stand i (and_parts (is_active m.events i) (is_none (running_of m i))
-        (and_parts (is_active m.events i && is_none (running_of m i)) (not (is_exhausted cs m i))
-        (and_parts ((is_active m.events i && is_none (running_of m i)) && not (is_exhausted cs m i)) (is_none (block_of table cs m i)) parts.free).0).0).0, tt)
+      let parts = hand_parts table cs m (record { number = n; process = i; step = d; work = w }) may in (
+        active_since m stand i (and_parts (is_active m.events i) (is_none (running_of m i))
+            (and_parts (is_active m.events i && is_none (running_of m i)) (not (is_exhausted cs m i))
+            (and_parts ((is_active m.events i && is_none (running_of m i)) && not (is_exhausted cs m i)) (is_none (block_of table cs m i)) parts.free).0).0).0,
+        tt,
+      )
   new_since m (Start i) stand may = tt
   new_since m (Effect n) stand may = tt
   new_since m (Refuse n) stand may = tt
@@ -164,7 +166,7 @@ module _ (table : ConflictRelation) (plans : List Plan) (good : AreGood plans) (
   fit_after m (Start i) stand legal may =
       let one : filter (λ j. not (is_in j (ends opening))) (i ∷ []) ≡ i ∷ [] = ap (λ t. if not t then i ∷ [] else []) (start_new m i stand legal may) in
       let more : length (open_since opening (advance table cs m (Start i)).events) ≡ length (open_since opening m.events) + 1
-          = ap length (since_now m (Start i) ∙ ap (λ is. open_since opening m.events ++ is) one) ∙ length-append (open_since opening m.events) (i ∷ []) in
+      = ap length (since_now m (Start i) ∙ ap (λ is. open_since opening m.events ++ is) one) ∙ length-append (open_since opening m.events) (i ∷ []) in
       subst (λ n. KeptFit (length (active opening)) n (advance table cs m (Start i))) (sym more) (start-fit table cs (length (active opening)) (length (open_since opening m.events)) m i stand.fit)
   fit_after m (Hand n i d w) stand legal may = same_room m (Hand n i d w) stand may refl
   fit_after m (Effect n) stand legal may = same_room m (Effect n) stand may refl
@@ -213,8 +215,8 @@ few_begin m is once begun =
     let ps = map beginning_piece m.beginnings in
     let many = length-map m.beginnings beginning_piece in
     let each = Each-weaker (λ (b : Beginning). list_any (λ (x : Beginning). eqb x.process b.process) m.beginnings ≡ true) (λ b. is_in b.process is ≡ true)
-        (λ b any. begun b.process (found-any (begins_in b.process) m.beginnings ∙ any)) m.beginnings
-        (each_any (λ (b x : Beginning). eqb x.process b.process) (λ b. eq-eqb b.process b.process refl) m.beginnings) in
+    (λ b any. begun b.process (found-any (begins_in b.process) m.beginnings ∙ any)) m.beginnings
+    (each_any (λ (b x : Beginning). eqb x.process b.process) (λ b. eq-eqb b.process b.process refl) m.beginnings) in
     let all = by_process ps is (each_mapped (λ (p : Piece). is_in p.process is ≡ true) beginning_piece m.beginnings each) in
     let one = ones (λ i. count (is_of i) ps) is (λ i. let c = count-map (is_of i) beginning_piece m.beginnings in let o = once.once i in omega arith) in
     omega arith
@@ -227,7 +229,7 @@ bound_on_kept table plans s session =
     let kept = ap length (now-kept table s) in
     let handed = by_process (hands m.kept) is stand.pieces in
     let each = sum-most (λ i. count (is_of i) (hands m.kept)) (pieces_for s.courses) is
-        (λ i among. subst (λ ks. count (is_of i) (hands ks) ≤ pieces_for s.courses i) (sym (now-kept table s)) (hands_of_process table plans s session i)) in
+    (λ i among. subst (λ ks. count (is_of i) (hands ks) ≤ pieces_for s.courses i) (sym (now-kept table s)) (hands_of_process table plans s session i)) in
     let alone = sum_same (pieces_for s.courses) (λ i. pieces_for (course s.courses i ∷ []) 1) is (pieces_alone s.courses) in
     let twice = sum_twice (λ i. pieces_for (course s.courses i ∷ []) 1) is in
     let begun = few_begin m is stand.once stand.begun in

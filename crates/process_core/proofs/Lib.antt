@@ -34,3 +34,9 @@ pub mod BegunLost
 pub mod BegunOne
 pub mod BegunRows
 pub mod BegunAll
+pub mod FewHands
+pub mod FewKept
+pub mod BegunRestart
+pub mod StandingFacts
+pub mod KeptEvents
+pub mod RestartKept

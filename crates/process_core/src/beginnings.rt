@@ -4,8 +4,8 @@ ghost use Rattle.hold_tables.specs.Tables.{is_open};
 ghost use Rattle.hold_tables.specs.Changes.{changed};
 ghost use Rattle.process_core.specs.Beginnings.{AreOpen, begun_row, begun_seat, can_begin, cause_if, cause_of, seat_with, seats_begun, tables_begun, tables_with};
 
+use crate::members::Cascade;
 use crate::seats::Seat;
-use cascade::Members;
 use hold_tables::Holds;
 use machine_model::{Began, Cause};
 
@@ -18,13 +18,13 @@ pub enum Beginners {
 }
 
 /// Why a process begins, if it does.
-fn cause_of(who: Beginners, members: &Members, i: u32) -> Option<Cause>
-    ensures { result ≡ cause_of who members.now.members i }
+fn cause_of(who: Beginners, cascade: &Cascade, i: u32) -> Option<Cause>
+    ensures { result ≡ cause_of who cascade.now i }
 {
     match who {
         Beginners::All => Some(Cause::Restart),
         Beginners::DraggedBy(root) => {
-            if i != root && members.has(i) {
+            if i != root && cascade.has(i) {
                 Some(Cause::Cascade(root))
             } else {
                 None
@@ -70,18 +70,18 @@ fn begin_if(seat: &mut Seat, holds: &mut Holds, i: u32, cause: Option<Cause>, ev
 pub fn begin_each(
     seats: &mut Vec<Seat>,
     holds: &mut Holds,
-    members: &Members,
+    cascade: &Cascade,
     who: Beginners,
     event: u32,
 )
     requires open { AreOpen seats.old.items holds.old }
     requires few { length seats.old.items ≤ 4096 }
-    ensures seats { seats.new.items ≡ seats_begun (cause_of who members.now.members) event (length seats.old.items) seats.old.items }
-    ensures holds { holds.new ≡ tables_begun (cause_of who members.now.members) seats.old.items (length seats.old.items) holds.old }
+    ensures seats { seats.new.items ≡ seats_begun (cause_of who cascade.now) event (length seats.old.items) seats.old.items }
+    ensures holds { holds.new ≡ tables_begun (cause_of who cascade.now) seats.old.items (length seats.old.items) holds.old }
 {
     for place in 0..seats.len() {
         let i = place as u32 + 1;
-        let cause = cause_of(who, members, i);
+        let cause = cause_of(who, cascade, i);
         begin_if(&mut seats[place], holds, i, cause, event);
     }
 }

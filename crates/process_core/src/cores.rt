@@ -4,6 +4,7 @@ ghost use Rattle.process_core.specs.Cores.{IsCore, IsHandedBy, began_in, courses
 ghost use Rattle.machine_model.specs.Pieces.{state_of};
 ghost use Rattle.machine_model.specs.State.{undo_next};
 
+use crate::members::Cascade;
 use crate::opening::opened_seats;
 use crate::pieces::Piece;
 use crate::room::room_at_opening;
@@ -30,6 +31,8 @@ pub struct Core {
     pub(crate) served: u32,
     pub(crate) holds: Holds,
     pub(crate) seats: Vec<Seat>,
+    /// Room for those that go back together.
+    pub(crate) cascade: Cascade,
 }
 
 impl Model for Core {
@@ -61,6 +64,7 @@ impl Core {
         let most = room_at_opening(&history, &seats);
         let mut kept = Vec::new(alloc);
         kept.reserve(most)?;
+        let cascade = Cascade::new(alloc)?;
         Ok(Core {
             history,
             opening,
@@ -69,6 +73,7 @@ impl Core {
             served: 0,
             holds,
             seats,
+            cascade,
         })
     }
 

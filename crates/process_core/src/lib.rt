@@ -6,9 +6,11 @@
 #![tactic(auto)]
 
 mod beginnings;
+mod completing;
 mod cores;
 mod effects;
 mod laws;
+mod members;
 mod opening;
 mod owed;
 mod pieces;

@@ -11,7 +11,7 @@ begin_if-requires c =
     let n = c.loop-place.place in
     let old = c.args.seats.now.items in
     let s = c.index_mut.result.now in
-    let why = cause_of c.args.who c.args.members.now.members in
+    let why = cause_of c.args.who c.args.cascade.now in
     let many = c.len-place-end.ensures in
     let test = c.loop-place-test.true in
     let less : n < length old = omega arith in
@@ -29,7 +29,7 @@ pub loop-place-preserved : goal.loop-place-preserved
 loop-place-preserved c =
     let n = c.loop-place.place in
     let s = c.index_mut.result.now in
-    let why = cause_of c.args.who c.args.members.now.members in
+    let why = cause_of c.args.who c.args.cascade.now in
     let f : ℕ → SeatState → SeatState = λ i x. seat_with c.args.event (cause_if x (why i)) x in
     let e : n + 1 ≡ 1 + n = omega arith in
     let many = c.len-place-end.ensures in
