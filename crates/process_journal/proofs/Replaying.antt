@@ -116,3 +116,10 @@ module _ (c : Catalog) (r : Replay) (text : List ℕ) (p : Plan) (read : IsRepla
 -- an event that may not come isn't refused for want of memory
 pub not_memory : Illegal ≡ NoMemory → ⊥
 not_memory is = cc
+
+-- a history that was read, told by equal lists
+pub replayed-alike : (c : Catalog) (plans more : List Plan) (h longer : List Event) (l : Tables) → more ≡ plans → longer ≡ h →
+    IsReplayed c (record { history = record { plans = plans; events = h }; legality = l }) → IsReplayed c (record { history = record { plans = more; events = longer }; legality = l })
+replayed-alike c plans more h longer l same_plans same_events read =
+    subst (λ ps. IsReplayed c (record { history = record { plans = ps; events = longer }; legality = l })) (sym same_plans)
+    (subst (λ es. IsReplayed c (record { history = record { plans = plans; events = es }; legality = l })) (sym same_events) read)

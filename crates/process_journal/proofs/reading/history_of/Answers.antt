@@ -6,7 +6,7 @@ use Rattle.process_journal.proofs.ReadingOn.{read_none, read_refused}
 use Rattle.process_journal.proofs.reading.history_of.Goals as goal
 
 pub records-init : goal.records-init
-records-init c = (read_none c.args.catalog.now c.args.bodies.now c.new-replay.result c.requires.catalog c.new-replay.ensures.none (c.new-replay.ensures.judged c.args.catalog.now.conflicts), omega arith)
+records-init c = (read_none c.args.catalog.now c.args.bodies.now c.in_ok-replay.replay c.requires.catalog c.in_ok-replay.ensures.none (c.in_ok-replay.ensures.judged c.args.catalog.now.conflicts), omega arith)
 
 pub returns-in-Err-clause-refused : goal.returns-in-Err-clause-refused
 returns-in-Err-clause-refused c =

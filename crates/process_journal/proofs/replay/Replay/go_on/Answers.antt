@@ -17,8 +17,7 @@ returns-in-Ok-clause-read c =
     let judged = c.in-Ok.ensures.judged events (subst (λ ps. IsJudged table ps events c.args.self.legality) (sym lent) c.requires.read.judged) in
     let read = goes_on c.args.catalog.now c.args.self event c.in-Ok.legality c.requires.read c.requires.no_start c.fits_its_bytes.ensures
     (subst (λ ps. IsJudged table ps (events ++ event ∷ []) c.in-Ok.legality) lent judged) in
-    let longer = c.new-events.ensures ∙ c.in_ok-push-in-Ok.ensures.items ∙ ap (λ es. es ++ event ∷ []) c.into_items-events.ensures in
-    subst (λ es. IsReplayed c.args.catalog.now (record { history = record { plans = plans; events = es }; legality = c.in-Ok.legality })) (sym longer) read
+    subst (λ es. IsReplayed c.args.catalog.now (record { history = record { plans = plans; events = es }; legality = c.in-Ok.legality })) (sym c.in_ok-try_push-in-Ok.ensures.pushed) read
 
 pub returns-in-Err-Illegal-clause-refused : goal.returns-in-Err-Illegal-clause-refused
 returns-in-Err-Illegal-clause-refused c =
