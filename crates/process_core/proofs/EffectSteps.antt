@@ -88,7 +88,7 @@ module _ (c : CoreState) (core : IsCore c) (d : Piece) (found : piece_of c.kept 
   steps_now = ap steps_of own_now ∙ map-append (λ (e : Entry). e.step) (net_of m.events i) (x ∷ [])
 
   -- the step goes on from what stood
-  goes : goes_on_to s w b ≡ true
+  pub goes : goes_on_to (shape (courses_in c) d.process) (net_steps (moment_of c).events d.process) d.step ≡ true
   goes =
       let facts = own c core d found out in
       on_from (relation c) c.plans core.session.good m i b

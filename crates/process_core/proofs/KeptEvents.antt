@@ -8,7 +8,7 @@ use Rattle.process_core.specs.Room.{IsKept}
 use Rattle.process_core.specs.Seats.{SeatState}
 use Rattle.process_core.proofs.HandStands.{with_event}
 
-module _ (c : CoreState) (k : Kept) (h : List Event) (ss : List SeatState) (ts : Tables) (most capacity : ℕ) (stands : IsKept (with_event c k) h ss ts most capacity)
+module _ (c : CoreState) (k : Kept) (h : List Event) (ss : List SeatState) (ts : Tables) (opening most capacity : ℕ) (stands : IsKept (with_event c k) h ss ts opening most capacity)
     (rs : List SeatState) (us : Tables) (ks : List Kept) (room : ℕ) (seats : rs ≡ ss) (tables : us ≡ ts) (items : ks ≡ c.kept ++ k ∷ []) where
   abbrev put_together : CoreState
   put_together = record { conflicts = us.conflicts; plans = c.plans; opening = c.opening; kept = ks; served = c.served }
@@ -20,8 +20,8 @@ module _ (c : CoreState) (k : Kept) (h : List Event) (ss : List SeatState) (ts :
       ∙ ap (λ x. record { conflicts = c.conflicts; plans = c.plans; opening = c.opening; kept = x; served = c.served }) items
 
   -- and stands
-  pub put_together_stands : room ≡ capacity → IsKept (record { conflicts = us.conflicts; plans = c.plans; opening = c.opening; kept = ks; served = c.served }) h rs us most room
+  pub put_together_stands : room ≡ capacity → IsKept (record { conflicts = us.conflicts; plans = c.plans; opening = c.opening; kept = ks; served = c.served }) h rs us opening most room
   put_together_stands same =
-      subst (λ x. IsKept x h rs us most room) (sym put_together_is)
-      (subst (λ xs. IsKept (with_event c k) h xs us most room) (sym seats)
-      (subst (λ t. IsKept (with_event c k) h ss t most room) (sym tables) (subst (λ n. IsKept (with_event c k) h ss ts most n) (sym same) stands)))
+      subst (λ x. IsKept x h rs us opening most room) (sym put_together_is)
+      (subst (λ xs. IsKept (with_event c k) h xs us opening most room) (sym seats)
+      (subst (λ t. IsKept (with_event c k) h ss t opening most room) (sym tables) (subst (λ n. IsKept (with_event c k) h ss ts opening most n) (sym same) stands)))

@@ -25,6 +25,8 @@ pub mod EffectSteps
 pub mod LastEntries
 pub mod EffectUndos
 pub mod EffectStands
+pub mod KeptEvents
+pub mod CoreEffects
 pub mod KeptCounts
 pub mod KeptBound
 pub mod OpenedRoom
@@ -38,5 +40,5 @@ pub mod FewHands
 pub mod FewKept
 pub mod BegunRestart
 pub mod StandingFacts
-pub mod KeptEvents
+pub mod FewEvents
 pub mod RestartKept

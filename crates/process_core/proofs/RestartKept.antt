@@ -23,7 +23,7 @@ use Rattle.process_core.proofs.StandingFacts.{some_can}
 restarted : CoreState → Bool → CoreState
 restarted c t = record { conflicts = c.conflicts; plans = c.plans; opening = c.opening; kept = c.kept ++ (if t then Restart ∷ [] else []); served = c.served }
 
-module _ {c : CoreState} {h : List Event} {ss : List SeatState} {ts : Tables} {most capacity : ℕ} (kept : IsKept c h ss ts most capacity) where
+module _ {c : CoreState} {h : List Event} {ss : List SeatState} {ts : Tables} {opening most capacity : ℕ} (kept : IsKept c h ss ts opening most capacity) where
   -- where none can begin, nothing is kept
   pub none_restarted : list_any can_begin ss ≡ false → c ≡ after_call c complete_all
   unfolding restarted
@@ -44,14 +44,14 @@ module _ {c : CoreState} {h : List Event} {ss : List SeatState} {ts : Tables} {m
       seats_are : rs ≡ seats_begun (λ i. Some Restarted) (length c.kept + 1) (length ss) ss
       seats_are = seats ∙ ap (λ n. seats_begun (λ i. Some Restarted) n (length ss) ss) at
 
-      stands : IsKept (with_event c Restart) h (seats_begun (λ i. Some Restarted) (length c.kept + 1) (length ss) ss) (tables_begun (λ i. Some Restarted) ss (length ss) ts) most capacity
+      stands : IsKept (with_event c Restart) h (seats_begun (λ i. Some Restarted) (length c.kept + 1) (length ss) ss) (tables_begun (λ i. Some Restarted) ss (length ss) ts) opening most capacity
       stands = kept_after c kept.stands.core Restart refl may kept (restart_stands c kept.stands.core may h ss ts kept.stands)
 
-      pub restarted_stands : (room : ℕ) → room ≡ capacity → IsKept (record { conflicts = us.conflicts; plans = c.plans; opening = c.opening; kept = ks; served = c.served }) h rs us most room
-      restarted_stands room same = put_together_stands c Restart h (seats_begun (λ i. Some Restarted) (length c.kept + 1) (length ss) ss) (tables_begun (λ i. Some Restarted) ss (length ss) ts) most capacity stands rs us ks room seats_are tables items same
+      pub restarted_stands : (room : ℕ) → room ≡ capacity → IsKept (record { conflicts = us.conflicts; plans = c.plans; opening = c.opening; kept = ks; served = c.served }) h rs us opening most room
+      restarted_stands room same = put_together_stands c Restart h (seats_begun (λ i. Some Restarted) (length c.kept + 1) (length ss) ss) (tables_begun (λ i. Some Restarted) ss (length ss) ts) opening most capacity stands rs us ks room seats_are tables items same
 
       pub restarted_is : record { conflicts = us.conflicts; plans = c.plans; opening = c.opening; kept = ks; served = c.served } ≡ after_call c complete_all
       unfolding restarted
       restarted_is =
-          put_together_is c Restart h (seats_begun (λ i. Some Restarted) (length c.kept + 1) (length ss) ss) (tables_begun (λ i. Some Restarted) ss (length ss) ts) most capacity stands rs us ks capacity seats_are tables items
+          put_together_is c Restart h (seats_begun (λ i. Some Restarted) (length c.kept + 1) (length ss) ss) (tables_begun (λ i. Some Restarted) ss (length ss) ts) opening most capacity stands rs us ks capacity seats_are tables items
           ∙ ap (restarted c) (sym may)

@@ -117,5 +117,5 @@ seats_open conflicts courses n ss ts seats tables place is = by_place (cases_lt 
     by_place (inr past) = absurd (false≢true (sym (ap (λ (s : SeatState). is_some s.instance) (beyond (seats_of courses n) place no_seat (let l = many in omega arith))) ∙ was))
 
 -- so it is of what a core keeps
-pub kept_open : {c : CoreState} {h : List Event} {ss : List SeatState} {ts : Tables} {most capacity : ℕ} → IsKept c h ss ts most capacity → AreOpen ss ts
+pub kept_open : {c : CoreState} {h : List Event} {ss : List SeatState} {ts : Tables} {opening most capacity : ℕ} → IsKept c h ss ts opening most capacity → AreOpen ss ts
 kept_open {c} {h} {ss} {ts} kept = seats_open c.conflicts (courses_in c) (moment_of c) ss ts kept.stands.seats kept.stands.tables

@@ -36,7 +36,9 @@ abbrev pub room_of : CoreState → ℕ
 room_of c = most_kept (courses_in c) c.opening (history_of c)
 
 -- What is kept stands, and there is room for all events that may come before another process starts.
-pub record IsKept (c : CoreState) (h : List Event) (ss : List SeatState) (ts : Tables) (most capacity : ℕ) : Type 0 where
+pub record IsKept (c : CoreState) (h : List Event) (ss : List SeatState) (ts : Tables) (opening most capacity : ℕ) : Type 0 where
   pub stands : Stands c h ss ts
+  -- the history began with so many events
+  pub opened : opening ≤ length h
   pub room : most ≡ room_of c
   pub taken : most ≤ capacity

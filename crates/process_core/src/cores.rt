@@ -49,7 +49,7 @@ impl Model for Core {
 
     ghost view = { λ c. record { conflicts = c.holds.conflicts; plans = c.history.plans; opening = take c.opening c.history.events; kept = c.kept.items; served = c.served } };
 
-    ghost invariant = { λ c. IsKept (record { conflicts = c.holds.conflicts; plans = c.history.plans; opening = take c.opening c.history.events; kept = c.kept.items; served = c.served }) c.history.events c.seats.items c.holds c.most (vec_capacity c.kept) };
+    ghost invariant = { λ c. IsKept (record { conflicts = c.holds.conflicts; plans = c.history.plans; opening = take c.opening c.history.events; kept = c.kept.items; served = c.served }) c.history.events c.seats.items c.holds c.opening c.most (vec_capacity c.kept) };
 }
 
 impl Core {

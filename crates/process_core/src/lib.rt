@@ -8,6 +8,7 @@
 mod beginnings;
 mod completing;
 mod cores;
+mod effected;
 mod effects;
 mod laws;
 mod members;

@@ -3,10 +3,11 @@ ghost use Rattle.std.specs.Prelude.{◌≡◌, is_some};
 ghost use Rattle.std.specs.Option.{option_map};
 ghost use Rattle.machine_model.specs.ProcessState.{pending_count};
 ghost use Rattle.process_core.specs.Beginnings.{can_begin};
+ghost use Rattle.process_core.specs.Effects.{pending_in, seat_effected};
 ghost use Rattle.process_core.specs.Seats.{is_number, state_by};
 
 use instance_state::Instance;
-use machine_model::{Began, PieceState};
+use machine_model::{Began, PieceState, Work};
 use std::marker::Model;
 
 /// What is kept of a process that started.
@@ -62,6 +63,23 @@ impl Seat {
         ensures { result ≡ can_begin self.now }
     {
         self.instance.is_some() && self.began.is_none()
+    }
+
+    /// Its piece that is out took effect; so many entries at the end of its net are to be undone then.
+    pub fn effected(&mut self, work: Work) -> u16
+        ensures seat { self.new ≡ seat_effected work self.old }
+        ensures pending { result ≡ pending_in (seat_effected work self.old).instance }
+    {
+        self.out = None;
+        if let Work::End = work {
+            self.instance = None;
+            return 0;
+        }
+        let Some(instance) = &mut self.instance else {
+            return 0;
+        };
+        instance.effected();
+        instance.pending()
     }
 
     /// What became of the piece of this number, which is of this process.

@@ -5,12 +5,6 @@ use Rattle.process_core.proofs.StartOwn.{row_new, seat_new}
 use Rattle.process_core.proofs.StartStands.{start_stands}
 use Rattle.process_core.proofs.SeatFrames.{row_frame, seat_frame}
 use Rattle.process_core.proofs.HandStands.{hand_stands}
-use Rattle.process_core.proofs.EventCounts.{events_counted}
-use Rattle.process_core.proofs.KeptBound.{bound_on_kept}
-use Rattle.process_core.proofs.KeptRoom.{kept_after, room_to_push}
-use Rattle.process_core.proofs.EffectSeats.{seat_effect}
-use Rattle.process_core.proofs.EffectSteps.{tables_step}
-use Rattle.process_core.proofs.EffectStands.{effect_stands}
 use Rattle.process_core.proofs.laws.tables_stand_for_holdings.Goals as goal
 
 pub returns : goal.returns

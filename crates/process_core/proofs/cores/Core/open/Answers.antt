@@ -50,7 +50,7 @@ invariant_of-result c =
     ∙ ap (opened_on c.args.c h.plans) (ap (λ (es : List Event). take (length es) h.events) c.as_slice-opening.ensures ∙ take-length h.events) in
     let most = c.room_at_opening-most.result in
     let capacity = vec_capacity c.reserve.new.self in
-    let stands : IsKept (opened_on c.args.c h.plans h.events) h.events c.in_ok-seats.seats.items holds most capacity =
-    record { stands = record { core = c.requires; events = refl; seats = c.in_ok-seats.ensures; tables = c.in_ok-holds.ensures }; room = c.room_at_opening-most.ensures; taken = let room = c.in_ok-reserve.ensures.ok in omega arith } in
-    subst (λ (ks : List Kept). IsKept (record { conflicts = holds.conflicts; plans = h.plans; opening = take (length c.as_slice-opening.result.now) h.events; kept = ks; served = 0 }) h.events c.in_ok-seats.seats.items holds most capacity)
-    (sym (c.reserve.ensures.items ∙ c.new-kept.ensures.items)) (subst (λ v. IsKept v h.events c.in_ok-seats.seats.items holds most capacity) (sym opened) stands)
+    let stands : IsKept (opened_on c.args.c h.plans h.events) h.events c.in_ok-seats.seats.items holds (length c.as_slice-opening.result.now) most capacity =
+    record { stands = record { core = c.requires; events = refl; seats = c.in_ok-seats.ensures; tables = c.in_ok-holds.ensures }; opened = let same = ap length c.as_slice-opening.ensures in omega arith; room = c.room_at_opening-most.ensures; taken = let room = c.in_ok-reserve.ensures.ok in omega arith } in
+    subst (λ (ks : List Kept). IsKept (record { conflicts = holds.conflicts; plans = h.plans; opening = take (length c.as_slice-opening.result.now) h.events; kept = ks; served = 0 }) h.events c.in_ok-seats.seats.items holds (length c.as_slice-opening.result.now) most capacity)
+    (sym (c.reserve.ensures.items ∙ c.new-kept.ensures.items)) (subst (λ v. IsKept v h.events c.in_ok-seats.seats.items holds (length c.as_slice-opening.result.now) most capacity) (sym opened) stands)
