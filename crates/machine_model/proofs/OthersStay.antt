@@ -62,10 +62,10 @@ pub record StaysFor (courses : List Course) (m n : Moment) (i : ℕ) : Type 0 wh
   pub running : has_begun n i ≡ has_begun m i → running_of n i ≡ running_of m i
 
 module _ (table : ConflictRelation) (courses : List Course) (m : Moment) (i : ℕ) where
-  abbrev Stays : Moment → Type 0
+  abbrev pub Stays : Moment → Type 0
   Stays n = StaysFor courses m n i
 
-  stays-beginnings : IsKeptByBeginnings Stays
+  pub stays-beginnings : IsKeptByBeginnings Stays
   stays-beginnings cause n k never stays = record {
     history = stays.history;
     refused = stays.refused;

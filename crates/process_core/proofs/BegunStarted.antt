@@ -43,7 +43,7 @@ spread_within arrow all set (suc n) k is =
 
 module _ (table : ConflictRelation) (courses : List Course) where
   -- each other member of a cascade is active
-  dragged_active : (m : Moment) (j i : ℕ) (cause : Cause) → IsDragged table courses m j i cause → is_in i (active m.events) ≡ true
+  pub dragged_active : (m : Moment) (j i : ℕ) (cause : Cause) → IsDragged table courses m j i cause → is_in i (active m.events) ≡ true
   dragged_active m j i cause dragged =
       ⊎_elim
       (λ root. absurd (false≢true (sym dragged.1 ∙ only (eqb i j) root)))

@@ -42,3 +42,4 @@ pub mod BegunRestart
 pub mod StandingFacts
 pub mod FewEvents
 pub mod RestartKept
+pub mod DraggedAlong

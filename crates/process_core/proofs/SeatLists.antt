@@ -21,7 +21,7 @@ module _ {X : Type 0} (f g : ℕ → X) where
       ap (λ x. x ∷ map g (numbers_from (b + 1) n)) (each.0 (ne_eqb b i (λ same. omega arith)))
       ∙ ap (λ xs. f b ∷ xs) (same_beyond (b + 1) n i (omega arith) each.1)
 
-  set_numbered : (a n i : ℕ) → a ≤ i → i < a + n → Each (λ k. eqb k i ≡ false → g k ≡ f k) (numbers_from a n)
+  pub set_numbered : (a n i : ℕ) → a ≤ i → i < a + n → Each (λ k. eqb k i ≡ false → g k ≡ f k) (numbers_from a n)
       → slice_set (map g (numbers_from a n)) (i - a) (f i) ≡ map f (numbers_from a n)
   set_numbered a zero i low high each = absurd (omega arith)
   set_numbered a (suc n) i low high each = by_place (cases_lt a i) (λ less. set_numbered (a + 1) n i (omega arith) (omega arith) each.1)

@@ -27,7 +27,7 @@ use Rattle.hold_tables.specs.Tables.{hold_in, lasts, reserved_entry}
 use Rattle.process_core.specs.OpenTables.{TablesStandForHoldings, pairs_of, row_of}
 
 -- what is left behind a place is as many of the last
-lasts_drop : {X : Type 0} (n : ℕ) (xs : List X) → lasts (length (drop n xs)) xs ≡ drop n xs
+pub lasts_drop : {X : Type 0} (n : ℕ) (xs : List X) → lasts (length (drop n xs)) xs ≡ drop n xs
 lasts_drop n xs = by_length (cases_lt (length xs) n)
   where
     by_length : (length xs < n) ⊎ (n ≤ length xs) → lasts (length (drop n xs)) xs ≡ drop n xs

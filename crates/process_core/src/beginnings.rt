@@ -1,6 +1,12 @@
 // Processes begin to complete.
-ghost use Rattle.std.specs.Prelude.{◌≡◌, ◌≤◌, true, length, is_some};
-ghost use Rattle.hold_tables.specs.Tables.{is_open};
+ghost use Rattle.std.specs.Prelude.{◌≡◌, ◌≤◌, ◌+◌, ℕ, true, length, is_some};
+ghost use Rattle.process_tree.specs.Conflicts.{do_conflict};
+ghost use Rattle.process_tree.specs.Order.{Each};
+ghost use Rattle.schedule_model.specs.Histories.{is_in, of_process};
+ghost use Rattle.machine_model.specs.Cascade.{cascade};
+ghost use Rattle.cascade.specs.Walking.{last_entries};
+ghost use Rattle.process_core.specs.declared.beginnings.Beginners.TheVariants.{DraggedBy};
+ghost use Rattle.hold_tables.specs.Tables.{holdings_of, is_open, kept_of};
 ghost use Rattle.hold_tables.specs.Changes.{changed};
 ghost use Rattle.process_core.specs.Beginnings.{AreOpen, begun_row, begun_seat, can_begin, cause_if, cause_of, seat_with, seats_begun, tables_begun, tables_with};
 
@@ -84,4 +90,26 @@ pub fn begin_each(
         let cause = cause_of(who, cascade, i);
         begin_if(&mut seats[place], holds, i, cause, event);
     }
+}
+
+/// Whoever goes back with a process, which takes back what it has pending, begins to complete at this kept event.
+pub fn drag_along(
+    seats: &mut Vec<Seat>,
+    holds: &mut Holds,
+    members: &mut Cascade,
+    root: u32,
+    event: u32,
+)
+    requires root { is_open holds.old root ≡ true }
+    requires count { (kept_of holds.old root).pending + (kept_of holds.old root).fixed ≤ length (of_process root holds.old.net) }
+    requires numbers { Each (λ r. r.process ≤ 4096) holds.old.processes }
+    requires open { AreOpen seats.old.items holds.old }
+    requires few { length seats.old.items ≤ 4096 }
+    ensures cascade { (k : ℕ) → is_in k members.new ≡ is_in k (cascade (do_conflict holds.old.conflicts) (holdings_of holds.old) root (last_entries holds.old root (kept_of holds.old root).pending)) }
+    ensures seats { seats.new.items ≡ seats_begun (cause_of (DraggedBy root) members.new) event (length seats.old.items) seats.old.items }
+    ensures holds { holds.new ≡ tables_begun (cause_of (DraggedBy root) members.new) seats.old.items (length seats.old.items) holds.old }
+{
+    let count = holds.pending(root);
+    members.form(holds, root, count);
+    begin_each(seats, holds, members, Beginners::DraggedBy(root), event);
 }
