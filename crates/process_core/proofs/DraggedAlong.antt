@@ -1,5 +1,5 @@
 -- A core stands after an event at which a process drags others along: the seats and the tables before these begin, and after.
-use Rattle.std.proofs.Common.{◌≡◌, ⊎_elim, ◌∙◌, ℕ, zero, suc, ◌+◌, ◌-◌, ◌≤◌, ◌<◌, Bool, true, false, not, eqb, ◌&&◌, ◌||◌, if◌then◌else◌, List, [], ◌∷◌, length, filter, map, slice_set, Option, Some, None, sym, refl, ap, subst, arith}
+use Rattle.std.proofs.Common.{◌≡◌, ⊎_elim, ◌∙◌, ℕ, zero, suc, ◌+◌, ◌-◌, ◌≤◌, ◌<◌, Bool, true, false, not, eqb, ◌&&◌, ◌||◌, if◌then◌else◌, List, [], ◌∷◌, length, filter, map, slice_set, Option, Some, None, is_some, sym, refl, ap, subst, arith}
 use Rattle.std.proofs.Math.Bool.{or-false}
 use Rattle.std.proofs.lemmas.Bool.{and_from, and_parts, eq-eqb, eqb-true, false≢true, or_right}
 use Rattle.std.proofs.lemmas.List.{length-drop, length-map}
@@ -36,11 +36,11 @@ use Rattle.machine_model.proofs.OthersStay.{StaysFor, stays-beginnings, stays-ho
 use Rattle.machine_model.proofs.RunInduction.{all_begin-keep}
 use Rattle.machine_model.proofs.Snoc.{all_begin-still}
 use Rattle.hold_tables.specs.Changes.{changed}
-use Rattle.hold_tables.specs.Tables.{OpenProcess, Tables, holdings_of, kept_of, lasts}
+use Rattle.hold_tables.specs.Tables.{OpenProcess, Tables, holdings_of, is_open, kept_of, lasts}
 use Rattle.cascade.specs.Walking.{last_entries}
 use Rattle.process_tree.specs.Conflicts.{do_conflict}
 use Rattle.process_core.specs.declared.beginnings.Beginners.TheVariants.{DraggedBy}
-use Rattle.process_core.specs.Beginnings.{can_begin, cause_if, cause_of, row_with, seat_with, seats_begun, tables_begun}
+use Rattle.process_core.specs.Beginnings.{AreOpen, can_begin, cause_if, cause_of, row_with, seat_with, seats_begun, tables_begun}
 use Rattle.process_core.specs.Cores.{CoreState, IsCore, courses_in, history_of, moment_of, relation}
 use Rattle.process_core.specs.OpenTables.{pairs_of, row_of, tables_of}
 use Rattle.process_core.specs.Seats.{SeatState, Stands, seat_of, seats_of}
@@ -51,6 +51,7 @@ use Rattle.process_core.proofs.HandStands.{with_event}
 use Rattle.process_core.proofs.MayStand.{numbered_map}
 use Rattle.process_core.proofs.SeatFacts.{has_plan}
 use Rattle.process_core.proofs.SeatLists.{numbers_started, set_numbered}
+use Rattle.process_core.proofs.StandingFacts.{open_by, rows_open, with_instance}
 use Rattle.process_core.proofs.StoodRows.{rows_changed, same_rows}
 use Rattle.process_core.proofs.TablesHoldings.{lasts_drop, own_net, tables_stand_for}
 
@@ -206,6 +207,14 @@ module _ (c : CoreState) (core : IsCore c) (k : Kept) (may : may_be_kept (relati
         (ap (λ (r : OpenProcess). lasts r.pending (of_process root (active_net (holdings cs middle)))) root_row
         ∙ (ap (lasts (length (pending_of cs middle root))) root_net ∙ lasts_drop (staying (progress cs middle root)) (net_of middle.events root)))
         ∙ open_holdings_drag_alike (relation c) cs middle root root_active)
+
+    -- the active ones are open in them
+    pub between_open : AreOpen (map seat_between (numbers_from 1 (length (courses_in c)))) between
+    between_open = open_by seat_between (length cs) between (λ j some. ap (λ (t : Tables). is_open t j) between_is ∙ rows_open c.conflicts cs middle j (ap (λ h. is_active h j) is.events ∙ by_test j (eqb j root) refl some))
+      where
+        by_test : (j : ℕ) (t : Bool) → eqb j root ≡ t → is_some (if t then seat_of cs after root else seat_of cs m j).instance ≡ true → is_active m.events j ≡ true
+        by_test j true at some = ap (is_active m.events) (eqb-true j root at) ∙ is.active'
+        by_test j false at some = with_instance cs m j some
 
     module _ (members : List ℕ) (are : (j : ℕ) → is_in j members ≡ is_in j (cascade_of (relation c) (courses_in c) middle root)) where
       abbrev why : ℕ → Option Cause

@@ -43,3 +43,4 @@ pub mod StandingFacts
 pub mod FewEvents
 pub mod RestartKept
 pub mod DraggedAlong
+pub mod GoesBack

@@ -99,23 +99,20 @@ with_instance courses n i is = by_active (is_active n.events i) is
 pub rows_open : (conflicts : Table) (courses : List Course) (n : Moment) (i : ℕ) → is_active n.events i ≡ true → is_open (tables_of conflicts courses n) i ≡ true
 rows_open conflicts courses n i active' = listed_open (row_of courses n) i (active n.events) (λ k. refl) (is_active-is_in n.events i ∙ active')
 
-pub seats_open : (conflicts : Table) (courses : List Course) (n : Moment) (ss : List SeatState) (ts : Tables) → ss ≡ seats_of courses n → ts ≡ tables_of conflicts courses n → AreOpen ss ts
-seats_open conflicts courses n ss ts seats tables place is = by_place (cases_lt place (length courses))
+pub open_by : (g : ℕ → SeatState) (many : ℕ) (ts : Tables) → ((i : ℕ) → is_some (g i).instance ≡ true → is_open ts i ≡ true) → AreOpen (map g (numbers_from 1 many)) ts
+open_by g many ts each place is = by_place (cases_lt place many)
   where
-    many : length (seats_of courses n) ≡ length courses
-    many = length-map (numbers_from 1 (length courses)) (seat_of courses n) ∙ length-numbers 1 (length courses)
-
-    was : is_some (slice_index_or (seats_of courses n) place no_seat).instance ≡ true
-    was = ap (λ xs. is_some (slice_index_or xs place no_seat).instance) (sym seats) ∙ is
-
-    by_place : (place < length courses) ⊎ (length courses ≤ place) → is_open ts (place + 1) ≡ true
+    by_place : (place < many) ⊎ (many ≤ place) → is_open ts (place + 1) ≡ true
     by_place (inl within) =
         let e : place + 1 - 1 ≡ place = omega arith in
-        let its : slice_index_or (seats_of courses n) place no_seat ≡ seat_of courses n (place + 1) =
-        ap (λ k. slice_index_or (seats_of courses n) k no_seat) (sym e) ∙ seat_at (seat_of courses n) (length courses) (place + 1) no_seat (omega arith) (omega arith) in
-        ap (λ (t : Tables). is_open t (place + 1)) tables ∙ rows_open conflicts courses n (place + 1) (with_instance courses n (place + 1) (ap (λ (s : SeatState). is_some s.instance) (sym its) ∙ was))
-    by_place (inr past) = absurd (false≢true (sym (ap (λ (s : SeatState). is_some s.instance) (beyond (seats_of courses n) place no_seat (let l = many in omega arith))) ∙ was))
+        let its : slice_index_or (map g (numbers_from 1 many)) place no_seat ≡ g (place + 1) =
+        ap (λ k. slice_index_or (map g (numbers_from 1 many)) k no_seat) (sym e) ∙ seat_at g many (place + 1) no_seat (omega arith) (omega arith) in
+        each (place + 1) (ap (λ (s : SeatState). is_some s.instance) (sym its) ∙ is)
+    by_place (inr past) = absurd (false≢true (sym (ap (λ (s : SeatState). is_some s.instance) (beyond (map g (numbers_from 1 many)) place no_seat (let l = length-map (numbers_from 1 many) g in let n = length-numbers 1 many in omega arith))) ∙ is))
 
 -- so it is of what a core keeps
 pub kept_open : {c : CoreState} {h : List Event} {ss : List SeatState} {ts : Tables} {opening most capacity : ℕ} → IsKept c h ss ts opening most capacity → AreOpen ss ts
-kept_open {c} {h} {ss} {ts} kept = seats_open c.conflicts (courses_in c) (moment_of c) ss ts kept.stands.seats kept.stands.tables
+kept_open {c} {h} {ss} {ts} kept =
+    subst (λ xs. AreOpen xs ts) (sym kept.stands.seats)
+    (open_by (seat_of (courses_in c) (moment_of c)) (length (courses_in c)) ts
+    (λ i some. ap (λ (t : Tables). is_open t i) kept.stands.tables ∙ rows_open c.conflicts (courses_in c) (moment_of c) i (with_instance (courses_in c) (moment_of c) i some)))

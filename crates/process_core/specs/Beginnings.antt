@@ -1,17 +1,20 @@
 -- Beginnings: what it makes of seats and tables that processes begin to complete.
-use Rattle.std.specs.Prelude.{◌≡◌, ℕ, zero, suc, ◌+◌, Bool, true, not, ◌&&◌, List, [], ◌∷◌, length, nat_eq, slice_index_or, Option, Some, None, is_some, is_none, if◌then◌else◌}
+use Rattle.std.specs.Prelude.{◌≡◌, ◌⊎◌, ℕ, zero, suc, ◌+◌, Bool, true, not, ◌&&◌, List, [], ◌∷◌, ◌++◌, length, nat_eq, slice_index_or, Option, Some, None, is_some, is_none, if◌then◌else◌}
 use Rattle.std.specs.Option.{option_map}
 use Rattle.process_tree.specs.Recovery.{forward}
 use Rattle.schedule_model.specs.Histories.{is_in}
 use Rattle.machine_model.specs.declared.began.Began.{Began}
 use Rattle.machine_model.specs.declared.began.Cause.{Cause}
-use Rattle.machine_model.specs.declared.began.Cause.TheVariants.{Cascade, Restart}
+use Rattle.machine_model.specs.declared.began.Cause.TheVariants.{Abort as WasAborted, Cascade, Restart, Victim as WasVictim}
+use Rattle.machine_model.specs.declared.kept.Kept.{Kept}
+use Rattle.machine_model.specs.declared.kept.Kept.TheVariants.{Abort, Victim}
 use Rattle.machine_model.specs.ProcessState.{begun, pending_count}
 use Rattle.instance_state.specs.Instances.{InstanceState, moved_to}
 use Rattle.hold_tables.specs.Tables.{OpenProcess, Tables, is_open}
 use Rattle.hold_tables.specs.Changes.{changed, with_first_reserved, with_pending, with_running}
 use Rattle.process_core.specs.declared.beginnings.Beginners.{Beginners}
 use Rattle.process_core.specs.declared.beginnings.Beginners.TheVariants.{All, DraggedBy}
+use Rattle.process_core.specs.Cores.{CoreState}
 use Rattle.process_core.specs.Seats.{SeatState}
 
 -- a seat of which nothing is known
@@ -76,3 +79,11 @@ tables_begun why ss (suc n) t = let s = slice_index_or ss n no_seat in tables_wi
 -- each active process is open
 abbrev pub AreOpen : List SeatState → Tables → Type 0
 AreOpen ss t = (n : ℕ) → is_some (slice_index_or ss n no_seat).instance ≡ true → is_open t (n + 1) ≡ true
+
+-- the event is a request to process i to complete, or that it is the victim, and this is the cause
+abbrev pub IsBackward : Kept → Cause → ℕ → Type 0
+IsBackward k own i = ((k ≡ Abort i) × (own ≡ WasAborted)) ⊎ ((k ≡ Victim i) × (own ≡ WasVictim))
+
+-- a core with one kept event more
+abbrev pub with_kept : CoreState → Kept → CoreState
+with_kept c k = record { conflicts = c.conflicts; plans = c.plans; opening = c.opening; kept = c.kept ++ k ∷ []; served = c.served }
