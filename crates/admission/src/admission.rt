@@ -22,7 +22,7 @@ use machine_model::Todo;
 use process_tree::{Plan, StepKind};
 
 /// Whether a process has reserved this step.
-fn is_reserved(holds: &Holds, process: u32, step: u16) -> bool
+pub fn is_reserved(holds: &Holds, process: u32, step: u16) -> bool
     requires open { is_open holds.now process ≡ true }
     ensures { result ≡ is_in step (reserved_steps holds.now process) }
 {

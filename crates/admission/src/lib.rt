@@ -13,7 +13,7 @@ mod owed;
 mod processes;
 mod victims;
 
-pub use admission::admit;
+pub use admission::{admit, is_reserved};
 pub use hold_tables::{Admitted, Blocked, Rule};
 pub use machine_model::Todo;
 pub use victims::victim;

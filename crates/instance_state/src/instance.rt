@@ -95,6 +95,13 @@ impl Instance {
         told(work, step)
     }
 
+    /// How often its next piece was refused.
+    pub fn tried(&self) -> u8
+        ensures { result ≡ self.now.state.refused }
+    {
+        self.at.refused
+    }
+
     /// Its next piece took effect.
     pub fn effected(&mut self)
         ensures { self.new ≡ moved_to self.old (effected self.old.state) }

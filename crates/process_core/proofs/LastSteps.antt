@@ -10,7 +10,7 @@ use Rattle.process_tree.specs.Shape.{Shape, branch_to, greatest, next_steps, sha
 use Rattle.process_tree.proofs.InTurn.{goes_within, greatest_is}
 use Rattle.process_core.specs.OpenTables.{pairs_behind, step_pair}
 
-last_within : (t : Shape) (c n : ℕ) (v : List ℕ) → Each (Each (λ b. b < c)) t.paths → Each (λ b. b < c) (last_path n t v)
+pub last_within : (t : Shape) (c n : ℕ) (v : List ℕ) → Each (Each (λ b. b < c)) t.paths → Each (λ b. b < c) (last_path n t v)
 last_within t c zero v within = tt
 last_within t c (suc n) v within = by_next (greatest (next_steps t v)) refl (λ d. last_within t c n (v ++ d ∷ []) within)
   where
@@ -31,7 +31,7 @@ known_op [] most b each within = absurd (omega arith)
 known_op (op ∷ ops) most zero each within = each.0
 known_op (op ∷ ops) most (suc b) each within = known_op ops most b each.1 (omega arith)
 
-known_pairs : (p : Plan) (most : ℕ) (bs : List ℕ) → Each (λ op. op < most) p.ops → Each (λ b. b < length p.ops) bs → Each (λ (pair : ℕ × ℕ). pair.1 < most) (map (step_pair p) bs)
+pub known_pairs : (p : Plan) (most : ℕ) (bs : List ℕ) → Each (λ op. op < most) p.ops → Each (λ b. b < length p.ops) bs → Each (λ (pair : ℕ × ℕ). pair.1 < most) (map (step_pair p) bs)
 known_pairs p most [] known within = tt
 known_pairs p most (b ∷ bs) known within = (known_op p.ops most b known within.0, known_pairs p most bs known within.1)
 

@@ -44,3 +44,12 @@ pub mod FewEvents
 pub mod RestartKept
 pub mod DraggedAlong
 pub mod GoesBack
+pub mod ComingUnderWay
+pub mod NumberedPieces
+pub mod SeatReplies
+pub mod Admissions
+pub mod NextTasks
+pub mod OwnPlans
+pub mod NextReplies
+pub mod RowsOpen
+pub mod ReplyKept

@@ -34,7 +34,7 @@ pub record ComesBehind (courses : List Course) (es : List Entry) (e : Entry) : T
   pub op : e.op ≡ op_of courses e.process e.step
 
 module _ (plans : List Plan) (good : AreGood plans) (h : List Event) (legal : IsTrue (is_legal no_conflict (courses_of plans) h)) where
-  comes_at : (front rest : List Entry) (e : Entry) → net h ≡ front ++ e ∷ rest → ComesBehind (courses_of plans) front e
+  pub comes_at : (front rest : List Entry) (e : Entry) → net h ≡ front ++ e ∷ rest → ComesBehind (courses_of plans) front e
   comes_at front rest e is = record {
     goes =
         let i = e.process in

@@ -5,3 +5,5 @@ pub mod OpenTables
 pub mod Room
 pub mod Beginnings
 pub mod Effects
+pub mod Upcoming
+pub mod Handing

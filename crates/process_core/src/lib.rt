@@ -10,20 +10,24 @@ mod completing;
 mod cores;
 mod effected;
 mod effects;
+mod handing;
 mod laws;
 mod members;
 mod opening;
 mod owed;
 mod pieces;
 mod room;
+mod replies;
 mod seats;
 mod tables;
+mod under_way;
 mod undoing;
 
 pub use cores::Core;
 pub use laws::tables_stand_for_holdings;
 pub use machine_model::{Began, Cause, Kept, PieceState, Work};
 pub use pieces::Piece;
+pub use replies::Admit;
 
 #[cfg(test)]
 mod tests;

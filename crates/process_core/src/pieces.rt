@@ -7,12 +7,12 @@ use std::marker::Model;
 /// One try of a step, of its undo, or the end of a process.
 #[derive(Drop)]
 pub struct Piece {
-    number: u32,
-    process: u32,
-    step: u16,
-    work: Work,
-    tried: u8,
-    refuse: u8,
+    pub(crate) number: u32,
+    pub(crate) process: u32,
+    pub(crate) step: u16,
+    pub(crate) work: Work,
+    pub(crate) tried: u8,
+    pub(crate) refuse: u8,
 }
 
 impl Model for Piece {

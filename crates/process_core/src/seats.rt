@@ -5,8 +5,9 @@ ghost use Rattle.machine_model.specs.ProcessState.{pending_count};
 ghost use Rattle.process_core.specs.Beginnings.{can_begin};
 ghost use Rattle.process_core.specs.Effects.{pending_in, seat_effected};
 ghost use Rattle.process_core.specs.Seats.{is_number, state_by};
+ghost use Rattle.process_core.specs.Upcoming.{upcoming};
 
-use instance_state::Instance;
+use instance_state::{Instance, Todo};
 use machine_model::{Began, PieceState, Work};
 use std::marker::Model;
 
@@ -28,6 +29,17 @@ impl Model for Seat {
     ghost Value = { SeatState };
 
     ghost view = { λ s. record { instance = s.instance; out = s.out; lost = s.lost; began = s.began } };
+}
+
+/// What a process does next, by its seat alone.
+#[derive(Clone, Copy)]
+pub enum Upcoming {
+    Ended,
+    Running,
+    /// This step, or its undo, was refused as often as it may be tried.
+    UsedUp(u16),
+    /// This is to be done, and was refused so often.
+    Task(Todo, u8),
 }
 
 /// Whether this number is the one.
@@ -80,6 +92,22 @@ impl Seat {
         };
         instance.effected();
         instance.pending()
+    }
+
+    /// What it does next.
+    pub fn upcoming(&self) -> Upcoming
+        ensures { result ≡ upcoming self.now }
+    {
+        let Some(instance) = &self.instance else {
+            return Upcoming::Ended;
+        };
+        if self.out.is_some() {
+            return Upcoming::Running;
+        }
+        match instance.todo() {
+            Todo::Exhausted(step) => Upcoming::UsedUp(step),
+            todo => Upcoming::Task(todo, instance.tried()),
+        }
     }
 
     /// What became of the piece of this number, which is of this process.

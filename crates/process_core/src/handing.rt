@@ -1,0 +1,110 @@
+// Pieces are handed out.
+ghost use Rattle.std.specs.Prelude.{◌≡◌, ◌<◌, ◌≤◌, ◌+◌, IfSome, None, length, true, false};
+ghost use Rattle.process_tree.specs.Blocks.{outline};
+ghost use Rattle.schedule_model.specs.Histories.{is_in, starts};
+ghost use Rattle.machine_model.specs.Calls.{admit, admitted};
+ghost use Rattle.machine_model.specs.Pieces.{hands};
+ghost use Rattle.machine_model.specs.Replies.{admit_reply, kept_hand, piece_unless};
+ghost use Rattle.machine_model.specs.Runs.{may_be_kept};
+ghost use Rattle.machine_model.specs.State.{block_of};
+ghost use Rattle.process_core.specs.Answers.{after_call, answer_in};
+ghost use Rattle.process_core.specs.Cores.{courses_in, moment_of, relation};
+ghost use Rattle.process_core.specs.Handing.{AreNumbered, IsOfPlan, admit_reply_of, piece_told, with_kept};
+ghost use Rattle.process_core.specs.Seats.{seat_of};
+ghost use Rattle.process_core.specs.Upcoming.{upcoming};
+ghost use Rattle.process_core.specs.declared.seats.Upcoming.TheVariants.{Task};
+
+use crate::cores::Core;
+use crate::pieces::Piece;
+use crate::replies::Admit;
+use crate::seats::{Seat, Upcoming};
+use crate::under_way::come_under_way;
+use admission::{Admitted, admit};
+use machine_model::{Kept, Todo, Work};
+use process_tree::Plan;
+
+/// The next piece of a process, as it is handed out with this number.
+fn piece_told(plan: &Plan, number: u32, process: u32, tried: u8, todo: Todo) -> Piece
+    requires { IsOfPlan plan.now todo }
+    ensures { result ≡ piece_told plan.now number process tried todo }
+{
+    let (work, step, refuse) = match todo {
+        Todo::Forward(step) => (Work::Forward, step, plan.tree.step(step).refuse),
+        Todo::Undo(step) => (Work::Undo, step, plan.tree.step(step).undo_refuse),
+        Todo::End => (Work::End, 0, 0),
+        Todo::Exhausted(_) => unreachable!(),
+    };
+    Piece {
+        number,
+        process,
+        step,
+        work,
+        tried,
+        refuse,
+    }
+}
+
+/// The number of the next piece, by the last that was handed out.
+fn next_number(kept: &[Kept]) -> u32
+    requires numbered { AreNumbered (hands kept.now) }
+    requires few { length (hands kept.now) < 4294967295 }
+    ensures { result ≡ length (hands kept.now) + 1 }
+{
+    let mut rest = kept;
+    'events: while let Some((last, front)) = rest.split_last() {
+        if let Kept::Hand { piece, .. } = last {
+            return *piece + 1;
+        }
+        rest = front;
+    }
+    1
+}
+
+impl Core {
+    /// The seat of a process that started.
+    fn seat(&self, i: u32) -> Option<&Seat>
+        ensures seat { IfSome result (λ s. s.now ≡ seat_of (courses_in self.now) (moment_of self.now) i) }
+        ensures started { IfSome result (λ s. is_in i (starts (moment_of self.now).events) ≡ true) }
+        ensures none { result ≡ None → is_in i (starts (moment_of self.now).events) ≡ false }
+    {
+        let count = self.seats.len();
+        if i == 0 {
+            return None;
+        }
+        let place = i as usize - 1;
+        if place >= count {
+            return None;
+        }
+        Some(&self.seats[place])
+    }
+
+    /// The next piece of an active process that may be tried, or what blocks it.
+    fn by_rules(&self, i: u32, todo: Todo, tried: u8) -> Admit
+        requires { upcoming (seat_of (courses_in self.now) (moment_of self.now) i) ≡ Task todo tried }
+        ensures { admit_reply_of result ≡ piece_unless (courses_in self.now) (moment_of self.now) i (block_of (relation self.now) (courses_in self.now) (moment_of self.now) i) }
+    {
+        let plan = &self.history.plans.as_slice()[i as usize - 1];
+        match admit(&self.holds, plan, i, todo) {
+            Admitted::Blocked(block) => Admit::Blocked(block),
+            Admitted::Free => {
+                let number = next_number(&self.kept);
+                Admit::Piece(piece_told(plan, number, i, tried, todo))
+            }
+        }
+    }
+
+    /// What a request for a piece of a process answers, with nothing kept.
+    pub(crate) fn reply_of(&self, i: u32) -> Admit
+        ensures { admit_reply_of result ≡ admit_reply (relation self.now) (courses_in self.now) (moment_of self.now) i }
+    {
+        let Some(seat) = self.seat(i) else {
+            return Admit::Unknown;
+        };
+        match seat.upcoming() {
+            Upcoming::Ended => Admit::Ended,
+            Upcoming::Running => Admit::Running,
+            Upcoming::UsedUp(step) => Admit::Exhausted(step),
+            Upcoming::Task(todo, tried) => self.by_rules(i, todo, tried),
+        }
+    }
+}
