@@ -1,0 +1,10 @@
+pub mod Places
+pub mod SoundImages
+pub mod OneStore
+pub mod OneRecord
+pub mod Counting
+pub mod Committing
+pub mod Answered
+pub mod RollingBack
+pub mod Preparing
+pub mod PrepareAnswers

@@ -1,0 +1,58 @@
+-- Files that stand for a history are sound for it, and so is each image of them.
+use Rattle.std.proofs.Common.{◌≡◌, ◌<◌, ◌+◌, ℕ, List, Option, length, refl, sym, ◌∙◌, subst, ap, arith, Some}
+use Rattle.std.specs.List.{slice_get}
+use Rattle.process_disk.specs.Disk.{Disk, FileSet, file_of}
+use Rattle.process_disk.specs.Images.{EachImage}
+use Rattle.gate_log.specs.Standing.{LogState}
+use Rattle.gate_log.specs.LogFile.{IsLog}
+use Rattle.resource_box.specs.declared.call.Kind.{Kind}
+use Rattle.schedule_model.specs.declared.history.History.{History}
+use Rattle.commute_table.specs.declared.catalog.Catalog.{Catalog}
+use Rattle.subsystem_store.specs.declared.effect.Effect.{Effect}
+use Rattle.subsystem_store.specs.Laws.{IsGoodBook}
+use Rattle.subsystem_store.specs.Opened.{Opened, Stands, IsStoreOf}
+use Rattle.process_journal.specs.Bodies.{journal_bodies}
+use Rattle.process_journal.specs.Journals.{IsHistoryUnder}
+use Rattle.process_journal.specs.Opened.{IsJournalOf}
+use Rattle.history_files.specs.Effects.{effects}
+use Rattle.history_files.specs.Sound.{IsBookOf, IsSound, counted, kind_of}
+use Rattle.history_files.specs.Standing.{AtEach, AreStores, ComeTo, Stand}
+use Rattle.history_files.proofs.Places.{place_has}
+
+-- files are sound where file 0 is the journal of a history and each other file the store of a book that comes to its effects
+pub sound_by : {B : Type 0} (c : Catalog) (h : History) (stores : List (Opened B)) (files : FileSet) → AreStores stores → IsHistoryUnder c h → IsJournalOf c h files
+    → ((q : ℕ) (s : Opened B) → slice_get stores q ≡ Some s → IsBookOf (effects c.ops h q) q files) → IsSound c h files
+sound_by c h stores files are history journal each = record {
+  history = history;
+  journal = journal;
+  books = λ q within. let has = place_has stores q (omega (arith, within, are.eight)) in each q has.0 has.1;
+}
+
+-- the file of a store is a book of effects to which it comes
+pub book_by : {B : Type 0} (es : List Effect) (q : ℕ) (s : Opened B) (files : FileSet) → s.kind ≡ kind_of q → IsGoodBook s.kind s.book s.doubt
+    → counted es s.book s.doubt ≡ es → IsStoreOf (q + 1) s.book s.doubt files → IsBookOf es q files
+book_by es q s files kind good counts store = record {
+  book = s.book;
+  doubt = s.doubt;
+  store = store;
+  good = subst (λ k. IsGoodBook k s.book s.doubt) kind good;
+  counts = counts;
+}
+
+-- Files that stand for a history read so that they are sound for it,
+pub sound_now : {B : Type 0} (c : Catalog) (h : History) (log : LogState) (stores : List (Opened B)) (disk : Disk) → AreStores stores → Stand c h log stores disk → log.file ≡ 0
+    → IsSound c h disk.files
+sound_now c h log stores disk are stand is = sound_by c h stores disk.files are stand.journal.history
+    (subst (λ k. IsLog k (journal_bodies c h) (file_of disk.files k)) is stand.journal.log.read)
+    (λ q s at. book_by _ q s disk.files (are.kind q s at) (stand.good q s at) (stand.books q s at)
+        (subst (λ k. IsStoreOf k s.book s.doubt disk.files) (are.file q s at) (stand.stores q s at).read))
+
+-- and each image from now on is.
+pub sound_each : {B : Type 0} (c : Catalog) (h : History) (log : LogState) (stores : List (Opened B)) (disk : Disk) → AreStores stores → Stand c h log stores disk → log.file ≡ 0
+    → EachImage disk disk.moment (IsSound c h)
+sound_each c h log stores disk are stand is = record {
+  has = λ files left. sound_by c h stores files are stand.journal.history
+      (subst (λ k. IsLog k (journal_bodies c h) (file_of files k)) is (stand.journal.log.each.has files left))
+      (λ q s at. book_by _ q s files (are.kind q s at) (stand.good q s at) (stand.books q s at)
+          (subst (λ k. IsStoreOf k s.book s.doubt files) (are.file q s at) ((stand.stores q s at).each.has files left)));
+}

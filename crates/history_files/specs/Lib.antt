@@ -1,0 +1,4 @@
+pub mod Effects
+pub mod Images
+pub mod Sound
+pub mod Standing

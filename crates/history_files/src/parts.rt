@@ -1,0 +1,10 @@
+// What files are made of.
+use process_disk::Rack;
+use resource_box::Resource;
+
+/// A rack, and the boxes of eight subsystems in order.
+#[derive(Drop)]
+pub struct Parts<R: Drop, B: Drop = Box<dyn Resource + Send>> {
+    pub rack: R,
+    pub resources: Vec<B>,
+}

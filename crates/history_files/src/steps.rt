@@ -1,0 +1,114 @@
+// The steps of one event over the journal and a store: prepared, recorded, committed.
+ghost use Rattle.std.specs.Prelude.{◌≢◌, ◌⊎◌, ◌↔◌, ◌≤◌, ◌≡◌, ◌<◌, ◌+◌, ◌^◌, ℕ, length, Some, None, true, false, OnOk, OnErr, IsSome};
+ghost use Rattle.std.specs.List.{slice_get};
+ghost use Rattle.process_flow.specs.Causes.{Rose, HasCause};
+ghost use Rattle.process_disk.specs.Disk.{Told};
+ghost use Rattle.process_disk.specs.Images.{EachImage, ImagesFollow};
+ghost use Rattle.schedule_model.specs.declared.history.History.{History};
+ghost use Rattle.commute_table.specs.declared.catalog.Catalog.{Catalog};
+ghost use Rattle.journal_records.specs.Bytes.{bytes_of};
+ghost use Rattle.subsystem_store.specs.Answers.{doubt_after};
+ghost use Rattle.subsystem_store.specs.Bodies.{is_amount};
+ghost use Rattle.subsystem_store.specs.Order.{may_follow};
+ghost use Rattle.subsystem_store.specs.Opened.{Opened};
+ghost use Rattle.history_files.specs.Effects.{effects};
+ghost use Rattle.process_journal.specs.Journals.{IsHistoryUnder, IsMadeBy};
+ghost use Rattle.process_journal.specs.Opened.{GoesOn};
+ghost use Rattle.history_files.specs.Sound.{IsSound, IsSoundForEither, is_among, is_barred};
+ghost use Rattle.history_files.specs.Standing.{Stand, EachFits, Doubts, DoubtIs, Changes, Commits, RollsBack, ComeTo};
+
+use crate::Files;
+use gate_log::DiskFault;
+use process_disk::Rack;
+use process_journal::Record;
+use resource_box::Resource;
+use subsystem_store::{Effect, Prepare, calls_make_good_books, effects_fit_their_bytes};
+
+impl<R: Rack + Drop, B: Resource> Files<R, B> {
+    /// Prepares an effect, which the history lacks, in the store of its subsystem.
+    pub fn prepare(&mut self, q: u8, effect: Effect) -> Prepare
+        requires subsystem { q < 8 }
+        requires fits { EachFits B.meaning B.sort self.old.stores }
+        requires may_come { (s : Opened B) → slice_get self.old.stores q ≡ Some s → (s.doubt ≡ None) × (length s.book < 16384) × (may_follow s.kind s.book effect ≡ true) }
+        requires amount { is_amount effect.call.amount ≡ true }
+        requires stand { Told (R.disk self.old.rack) → (c : Catalog) × (h : History) × Stand c h self.old.journal self.old.stores (R.disk self.old.rack) }
+        ensures acknowledged { Told (R.disk self.old.rack) → (c : Catalog) (h : History) → Stand c h self.old.journal self.old.stores (R.disk self.old.rack) →
+            is_among effect (effects c.ops h q) ≡ false → result ≢ Prepare.DiskFault → Stand c h self.new.journal self.new.stores (R.disk self.new.rack) }
+        ensures any_moment { Told (R.disk self.old.rack) → (c : Catalog) (h : History) → Stand c h self.old.journal self.old.stores (R.disk self.old.rack) →
+            is_among effect (effects c.ops h q) ≡ false → EachImage (R.disk self.new.rack) (R.disk self.old.rack).moment (IsSound c h) }
+        ensures follow { Told (R.disk self.old.rack) → ImagesFollow (R.disk self.old.rack) (R.disk self.new.rack) }
+        ensures fits { EachFits B.meaning B.sort self.new.stores }
+        ensures changes { Changes q (Doubts (doubt_after result effect)) self.old.stores self.new.stores }
+        ensures barred { (s : Opened B) → slice_get self.old.stores q ≡ Some s → (result ≡ Prepare.Barred) ↔ (is_barred s.kind s.book effect ≡ true) }
+        ensures undo { effect.undo ≡ true → (result ≡ Prepare.Prepared) ⊎ (result ≡ Prepare.DiskFault) }
+        ensures untouched { ((result ≡ Prepare.Barred) ⊎ (result ≡ Prepare.NoMemory)) → self.new.rack ≡ self.old.rack }
+        ensures tells { (R.disk self.new.rack).tells ≡ (R.disk self.old.rack).tells }
+        ensures later { R.faults self.old.rack ≤ R.faults self.new.rack }
+        ensures fault { result ≡ Prepare.DiskFault → Rose (R.faults self.old.rack) (R.faults self.new.rack) }
+    {
+        calls_make_good_books();
+        effects_fit_their_bytes(effect);
+        self.stores[usize::from(q)].prepare(&mut self.rack, effect)
+    }
+
+    /// Commits the effect that is in doubt in the store of a subsystem, which the history has.
+    pub fn commit(&mut self, q: u8) -> Result<(), DiskFault>
+        requires subsystem { q < 8 }
+        requires fits { EachFits B.meaning B.sort self.old.stores }
+        requires doubt { (s : Opened B) → slice_get self.old.stores q ≡ Some s → IsSome s.doubt }
+        requires stand { Told (R.disk self.old.rack) → (c : Catalog) × (h : History) × Stand c h self.old.journal self.old.stores (R.disk self.old.rack) }
+        ensures acknowledged { Told (R.disk self.old.rack) → (c : Catalog) (h : History) → Stand c h self.old.journal self.old.stores (R.disk self.old.rack) →
+            DoubtIs true c.ops h q self.old.stores → OnOk result (Stand c h self.new.journal self.new.stores (R.disk self.new.rack)) }
+        ensures any_moment { Told (R.disk self.old.rack) → (c : Catalog) (h : History) → Stand c h self.old.journal self.old.stores (R.disk self.old.rack) →
+            DoubtIs true c.ops h q self.old.stores → EachImage (R.disk self.new.rack) (R.disk self.old.rack).moment (IsSound c h) }
+        ensures follow { Told (R.disk self.old.rack) → ImagesFollow (R.disk self.old.rack) (R.disk self.new.rack) }
+        ensures fits { EachFits B.meaning B.sort self.new.stores }
+        ensures ok { OnOk result (Changes q Commits self.old.stores self.new.stores) }
+        ensures tells { (R.disk self.new.rack).tells ≡ (R.disk self.old.rack).tells }
+        ensures cause { HasCause (R.faults self.old.rack) (R.faults self.new.rack) result }
+    {
+        calls_make_good_books();
+        self.stores[usize::from(q)].commit(&mut self.rack)
+    }
+
+    /// Takes back the effect that is in doubt in the store of a subsystem, which the history lacks.
+    pub fn roll_back(&mut self, q: u8) -> Result<(), DiskFault>
+        requires subsystem { q < 8 }
+        requires fits { EachFits B.meaning B.sort self.old.stores }
+        requires doubt { (s : Opened B) → slice_get self.old.stores q ≡ Some s → IsSome s.doubt }
+        requires stand { Told (R.disk self.old.rack) → (c : Catalog) × (h : History) × Stand c h self.old.journal self.old.stores (R.disk self.old.rack) }
+        ensures acknowledged { Told (R.disk self.old.rack) → (c : Catalog) (h : History) → Stand c h self.old.journal self.old.stores (R.disk self.old.rack) →
+            DoubtIs false c.ops h q self.old.stores → OnOk result (Stand c h self.new.journal self.new.stores (R.disk self.new.rack)) }
+        ensures any_moment { Told (R.disk self.old.rack) → (c : Catalog) (h : History) → Stand c h self.old.journal self.old.stores (R.disk self.old.rack) →
+            DoubtIs false c.ops h q self.old.stores → EachImage (R.disk self.new.rack) (R.disk self.old.rack).moment (IsSound c h) }
+        ensures follow { Told (R.disk self.old.rack) → ImagesFollow (R.disk self.old.rack) (R.disk self.new.rack) }
+        ensures fits { EachFits B.meaning B.sort self.new.stores }
+        ensures ok { OnOk result (Changes q RollsBack self.old.stores self.new.stores) }
+        ensures tells { (R.disk self.new.rack).tells ≡ (R.disk self.old.rack).tells }
+        ensures cause { HasCause (R.faults self.old.rack) (R.faults self.new.rack) result }
+    {
+        calls_make_good_books();
+        self.stores[usize::from(q)].roll_back(&mut self.rack)
+    }
+
+    /// Adds a record to the journal. A crash leaves files that are sound for the history before it or with it.
+    pub fn record(&mut self, entry: &Record) -> Result<(), DiskFault>
+        requires size { length (bytes_of entry.now) < 2 ^ 16 }
+        requires room { self.old.journal.count < 65536 }
+        requires goes_on { Told (R.disk self.old.rack) → GoesOn self.old.journal entry.now (R.disk self.old.rack) }
+        ensures acknowledged { Told (R.disk self.old.rack) → (c : Catalog) (h after : History) → Stand c h self.old.journal self.old.stores (R.disk self.old.rack) →
+            IsMadeBy c entry.now h after → IsHistoryUnder c after → ComeTo c.ops after self.old.stores →
+            OnOk result (Stand c after self.new.journal self.new.stores (R.disk self.new.rack)) }
+        ensures any_moment { Told (R.disk self.old.rack) → (c : Catalog) (h after : History) → Stand c h self.old.journal self.old.stores (R.disk self.old.rack) →
+            IsMadeBy c entry.now h after → IsHistoryUnder c after → ComeTo c.ops after self.old.stores →
+            EachImage (R.disk self.new.rack) (R.disk self.old.rack).moment (IsSoundForEither c h after) }
+        ensures follow { Told (R.disk self.old.rack) → ImagesFollow (R.disk self.old.rack) (R.disk self.new.rack) }
+        ensures same { self.new.stores ≡ self.old.stores }
+        ensures ok { OnOk result (self.new.journal.count ≡ self.old.journal.count + 1) }
+        ensures err { OnErr result (self.new.journal ≡ self.old.journal) }
+        ensures tells { (R.disk self.new.rack).tells ≡ (R.disk self.old.rack).tells }
+        ensures cause { HasCause (R.faults self.old.rack) (R.faults self.new.rack) result }
+    {
+        self.journal.append(&mut self.rack, entry)
+    }
+}
