@@ -24,7 +24,7 @@ use Rattle.trace_verify.specs.Names.{is_among, with_name, with_names, number_amo
 use Rattle.trace_verify.specs.Verdicts.{verdict}
 use Rattle.trace_verify.specs.Laws.{printed_by}
 use Rattle.trace_verify.proofs.Meaning.{acceptance_is_exact}
-use Rattle.trace_verify.proofs.NumbersKept.{among-added, among-kept}
+use Rattle.trace_verify.proofs.NumbersKept.{among-added, among-all}
 use Rattle.trace_verify.proofs.PrintedEntries.{named-read, named-number}
 use Rattle.process_report.specs.Names.{step_name, op_name}
 use Rattle.process_report.specs.Report.{report_of}
@@ -33,11 +33,6 @@ use Rattle.process_report.proofs.SectionsRead.{named_pair}
 use Rattle.process_report.proofs.ReportRead.{pairs_of, CanBeRead, read_of, report-read}
 use Rattle.process_report.proofs.Renamed.{all-renamed, serial-renamed}
 use Rattle.process_report.proofs.SameConflicts.{report-free}
-
--- each name that was added is there
-among-all : (names ws : List (List ℕ)) (w : List ℕ) → is_among names w ≡ true → is_among (with_names names ws) w ≡ true
-among-all names [] w there = there
-among-all names (v ∷ ws) w there = among-all (with_name names v) ws w (among-kept names v w there)
 
 module _ (plans : List Plan) (ops : List Op) where
   step-there : (names all : List (List ℕ)) (es : List Entry) → all ≡ with_names names (map (λ a. a.step) (map (named plans ops) es)) → Each (λ e. is_among all (step_name plans e.process e.step) ≡ true) es

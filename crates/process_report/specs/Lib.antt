@@ -5,3 +5,4 @@ pub mod Reduced
 pub mod Blocks
 pub mod Laws
 pub mod Examples
+pub mod RecoveryExamples

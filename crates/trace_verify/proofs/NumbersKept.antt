@@ -45,6 +45,11 @@ kept names v w there = by (is_among names v)
 pub among-kept : (names : List (List ℕ)) (v w : List ℕ) → is_among names w ≡ true → is_among (with_name names v) w ≡ true
 among-kept names v w there = let both = kept names v w there in both.0
 
+-- so each name that was added is there
+pub among-all : (names ws : List (List ℕ)) (w : List ℕ) → is_among names w ≡ true → is_among (with_names names ws) w ≡ true
+among-all names [] w there = there
+among-all names (v ∷ ws) w there = among-all (with_name names v) ws w (among-kept names v w there)
+
 pub number-kept : (names ws : List (List ℕ)) (w : List ℕ) → is_among names w ≡ true → number_among (with_names names ws) w ≡ number_among names w
 number-kept names [] w there = refl
 number-kept names (v ∷ ws) w there = let one = kept names v w there in number-kept (with_name names v) ws w one.0 ∙ one.1

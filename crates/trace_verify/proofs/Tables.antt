@@ -9,16 +9,11 @@ use Rattle.schedule_rules.specs.Applying.{AreKnown}
 use Rattle.trace_verify.specs.Forms.{NamedAct}
 use Rattle.trace_verify.specs.Names.{is_among, with_name, with_names, entry_of, step_names, op_names, schedule, StandOnce}
 use Rattle.trace_verify.proofs.Naming.{number-below}
-use Rattle.trace_verify.proofs.NumbersKept.{among-added, among-kept, few-added, stand-once}
+use Rattle.trace_verify.proofs.NumbersKept.{among-added, among-all, few-added, stand-once}
 
 -- relations that answer the same are the same
 pub same-relation : (f g : ConflictRelation) → ((a b : ℕ) → f a b ≡ g a b) → f ≡ g
 same-relation f g h = λ i a b. h a b i
-
--- each name that was added is there
-among-all : (names ws : List (List ℕ)) (w : List ℕ) → is_among names w ≡ true → is_among (with_names names ws) w ≡ true
-among-all names [] w there = there
-among-all names (v ∷ ws) w there = among-all (with_name names v) ws w (among-kept names v w there)
 
 each-known : (names : List (List ℕ)) (steps ops : List (List ℕ)) (acts : List NamedAct)
     → ops ≡ with_names names (map (λ a. a.op) acts) → Each (λ e. e.op < length ops) (map (entry_of steps ops) acts)
