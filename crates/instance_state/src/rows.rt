@@ -2,7 +2,7 @@
 ghost use Rattle.std.specs.Prelude.{[], ◌≡◌, ◌<◌, ◌+◌, Option, ℕ, IfOk, IfSome, None, length, OnOk, slice_index_or, Some, if◌then◌else◌};
 ghost use Rattle.process_tree.specs.Blocks.{outline};
 ghost use Rattle.process_tree.specs.Making.{tree_fault};
-ghost use Rattle.process_tree.specs.Shape.{shape_of, commits, last_of, branch_to, fixed_len, last_commit};
+ghost use Rattle.process_tree.specs.Shape.{shape_of, last_of, branch_to, fixed_len, last_commit};
 ghost use Rattle.process_tree.specs.Recovery.{last_after, place_of};
 ghost use Rattle.instance_state.specs.Rows.{row_of, rows_to, way_of, done_to, way_from, no_row};
 
@@ -111,16 +111,6 @@ fn count_behind(tree: &Tree, step: u16) -> usize
     count
 }
 
-/// Whether a step of this kind is a commit point once it took effect.
-fn commits(kind: StepKind) -> bool
-    ensures { result ≡ commits kind }
-{
-    match kind {
-        StepKind::C => false,
-        StepKind::P | StepKind::R => true,
-    }
-}
-
 /// The step at a place, if it isn't the end.
 fn step_at(place: Place) -> Option<u16>
     ensures { (step : Option ℕ) → place ≡ place_of step → result ≡ step }
@@ -204,7 +194,7 @@ fn next_row(tree: &Tree, rows: &[Row], n: u16) -> Row
     let after = step_at(tree.after(n));
     let last_after = step_at(tree.last_after(n));
     let len = branch.len() + 1;
-    let fixes = commits(step.kind);
+    let fixes = step.kind.commits();
     let (commit, fixed) = commits_with(fixes, (Some(n), len), (commit, fixed));
     Row {
         kind: step.kind,

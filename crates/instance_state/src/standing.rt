@@ -1,6 +1,6 @@
 // Where a process stands, and what is read off.
 ghost use Rattle.std.specs.Prelude.{[], true, nat_eq, ◌&&◌, ◌≡◌, ◌≤◌, ◌<◌, false, length, Option, Some, None, is_none, if◌then◌else◌};
-ghost use Rattle.process_tree.specs.Shape.{branch_to, can_be_refused, is_whole, fixed_len, first_of, goes_on_to};
+ghost use Rattle.process_tree.specs.Shape.{branch_to, is_whole, fixed_len, first_of, goes_on_to};
 ghost use Rattle.process_tree.specs.Recovery.{forward};
 ghost use Rattle.machine_model.specs.Progress.{way_on, staying, staying_for, next_forward, pending_steps, is_only_try, same_work};
 ghost use Rattle.machine_model.specs.ProcessState.{next_piece, step_done, last_undone, past, complete_unless_on, effected, was_refused, begun, tries_in, opening_state};
@@ -11,7 +11,7 @@ ghost use Rattle.instance_state.specs.Standings.{Keeps, progress_of, state_of, w
 
 use crate::rows::Rows;
 use machine_model::Work;
-use process_tree::{Entry, StepKind};
+use process_tree::Entry;
 
 /// Where a process stands.
 #[derive(Clone, Copy)]
@@ -26,16 +26,6 @@ pub struct Standing {
     pub begun: bool,
     /// How often its next piece was refused.
     pub refused: u8,
-}
-
-/// Whether a step of this kind can be refused.
-fn can_be_refused(kind: StepKind) -> bool
-    ensures { result ≡ can_be_refused kind }
-{
-    match kind {
-        StepKind::C | StepKind::P => true,
-        StepKind::R => false,
-    }
 }
 
 /// Whether two pieces do the same.
@@ -53,7 +43,7 @@ pub fn tries(rows: &Rows, work: Work, step: u16) -> Option<u8>
     match work {
         Work::Forward => {
             let row = rows.row(step);
-            if can_be_refused(row.kind) {
+            if row.kind.can_be_refused() {
                 None
             } else {
                 Some(row.tries)
@@ -249,7 +239,7 @@ impl Standing {
         ensures { result ≡ is_only_try rows.now.shape step work }
     {
         match work {
-            Work::Forward => can_be_refused(rows.row(step).kind),
+            Work::Forward => rows.row(step).kind.can_be_refused(),
             Work::Undo | Work::End => false,
         }
     }
