@@ -14,7 +14,7 @@ use Rattle.schedule_model.specs.Histories.{is_in, starts}
 use Rattle.schedule_model.specs.Legal.{is_legal}
 use Rattle.schedule_model.specs.Laws.{IsGoodPlan}
 use Rattle.schedule_model.proofs.Prefixes.{legal-numbered}
-use Rattle.schedule_rules.specs.Keeping.{ArePlans}
+use Rattle.history_judging.specs.Keeping.{ArePlans}
 use Rattle.commute_table.specs.declared.catalog.Catalog.{Catalog}
 use Rattle.commute_table.specs.Operations.{IsCatalog}
 use Rattle.process_journal.specs.Plans.{IsPlanUnder}

@@ -12,7 +12,7 @@ use Rattle.schedule_model.proofs.Active.{is_active-is_in}
 use Rattle.schedule_model.proofs.Appends.{starts-append, is_in-append}
 use Rattle.schedule_model.proofs.Induction.{each_passes-push}
 use Rattle.schedule_model.proofs.Members.{is_in-among}
-use Rattle.schedule_rules.proofs.OneOf.{sum_same}
+use Rattle.history_judging.proofs.OneOf.{sum_same}
 
 module _ (cs ds : List Course) where
   -- both have the same courses of those that started

@@ -1,7 +1,7 @@
 -- How bodies are read one after another.
 use Rattle.std.proofs.Common.{◌≡◌, ◌≢◌, ◌+◌, ℕ, List, [], ◌∷◌, ◌++◌, length, length-append, append_assoc, append-nil, Ok, inr, refl, sym, ap, ◌∙◌, subst, arith}
 use Rattle.schedule_model.specs.declared.history.History.{History}
-use Rattle.schedule_rules.specs.Keeping.{IsJudged}
+use Rattle.history_judging.specs.Keeping.{IsJudged}
 use Rattle.commute_table.specs.declared.catalog.Catalog.{Catalog}
 use Rattle.commute_table.specs.Operations.{IsCatalog}
 use Rattle.commute_table.specs.Bytes.{bytes_of}

@@ -13,9 +13,9 @@ use Rattle.schedule_model.specs.Legal.{is_legal, may_come}
 use Rattle.schedule_model.specs.Limits.{limits, starts_within, stands_within, is_within_limits}
 use Rattle.schedule_model.proofs.Appends.{starts-append}
 use Rattle.schedule_model.proofs.Legal.{both-right, is_legal-push}
-use Rattle.schedule_rules.specs.Keeping.{Tables, IsJudged, HasPlan}
-use Rattle.schedule_rules.proofs.MorePlans.{judged-more}
-use Rattle.schedule_rules.specs.declared.legality.EventError.TheVariants.{Illegal, NoMemory}
+use Rattle.history_judging.specs.Keeping.{Tables, IsJudged, HasPlan}
+use Rattle.history_judging.proofs.MorePlans.{judged-more}
+use Rattle.history_judging.specs.declared.legality.EventError.TheVariants.{Illegal, NoMemory}
 use Rattle.commute_table.specs.declared.catalog.Catalog.{Catalog}
 use Rattle.process_journal.specs.Plans.{IsPlanOfText, IsPlanUnder}
 use Rattle.process_journal.specs.Bodies.{with_event, with_start}

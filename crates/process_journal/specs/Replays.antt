@@ -1,7 +1,7 @@
 -- What is kept while records are read, and why one is refused.
 use Rattle.std.specs.Prelude.{◌≡◌, ◌+◌, ⊤, ℕ, List, ◌++◌, length}
 use Rattle.schedule_model.specs.declared.history.History.{History}
-use Rattle.schedule_rules.specs.Keeping.{IsJudged}
+use Rattle.history_judging.specs.Keeping.{IsJudged}
 use Rattle.process_journal.specs.declared.replay.Replay.{Replay}
 use Rattle.commute_table.specs.declared.catalog.Catalog.{Catalog}
 use Rattle.process_journal.specs.declared.errors.JournalError.{JournalError}

@@ -23,7 +23,7 @@ use commute_table::{Catalog, catalog_bytes};
 use gate_log::{DiskFault, Log};
 use journal_records::{MOST_BYTES, write};
 use process_disk::Rack;
-use schedule_rules::History;
+use schedule_model::History;
 use std::alloc::{AllocError, Global};
 use std::marker::Model;
 

@@ -16,8 +16,4 @@ mod replay;
 pub use errors::JournalError;
 pub use journal::Journal;
 pub use journal_records::{Body, Record};
-
-#[cfg(test)]
-mod tests;
-
 pub use laws::{journals_are_opened, journals_have_one_history, journals_keep_histories};

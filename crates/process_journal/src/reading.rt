@@ -13,7 +13,7 @@ use crate::replay::Replay;
 use crate::{Body, JournalError, Record};
 use commute_table::{Catalog, CatalogError, read_catalog};
 use journal_records::read;
-use schedule_rules::History;
+use schedule_model::History;
 use std::alloc::Global;
 
 // The catalog of the first body.

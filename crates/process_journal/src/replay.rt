@@ -6,7 +6,7 @@ ghost use Rattle.process_tree.specs.Conflicts.{Table};
 ghost use Rattle.schedule_model.specs.declared.event.Event.{Event};
 ghost use Rattle.schedule_model.specs.declared.event.Event.TheVariants.{Start};
 ghost use Rattle.schedule_model.specs.Course.{courses_of, op_of};
-ghost use Rattle.schedule_rules.specs.Keeping.{IsJudged};
+ghost use Rattle.history_judging.specs.Keeping.{IsJudged};
 ghost use Rattle.commute_table.specs.declared.catalog.Catalog.{Catalog};
 ghost use Rattle.process_journal.specs.Plans.{IsPlanOfText};
 ghost use Rattle.process_journal.specs.Bodies.{journal_bodies, no_history, with_event, with_start};
@@ -17,9 +17,10 @@ ghost use Rattle.process_journal.specs.declared.errors.JournalError.TheVariants.
 use crate::plans::plan_of;
 use crate::{JournalError, Record};
 use commute_table::Catalog;
+use history_judging::{EventError, Legality};
 use journal_records::read;
 use process_tree::{Entry, Plan};
-use schedule_rules::{Event, EventError, Events, History, Legality, Plans};
+use schedule_model::{Event, Events, History, Plans};
 use std::alloc::{AllocError, Global};
 
 /// A history, as far as it was read, and what its next event is judged by.

@@ -31,6 +31,7 @@ pub fn apply(list: &mut Vec<Entry>, c: &Conflicts, step: TraceStep) -> Option<()
     }
 }
 
+/// Whether two entries conflict: they are of different processes, and their operations conflict.
 pub fn conflict(c: &Conflicts, a: &Entry, b: &Entry) -> bool
     requires a { a.now.op < operations_in c.now }
     requires b { b.now.op < operations_in c.now }

@@ -177,6 +177,7 @@ fn backward_of_all(
     Ok(found)
 }
 
+/// Whether one of these entries is of the same step of the same process.
 pub fn has_same_step(entries: &[Entry], entry: &Entry) -> bool
     ensures { result ≡ list_any (same_step entry.now) entries.now }
 {
@@ -269,7 +270,7 @@ fn add_closing(
     Ok(())
 }
 
-/// The operation of a step.
+/// The operation of a step, or 0 where there is none.
 pub fn op_of(ops: &[u16], step: u16) -> u16
     ensures { result ≡ slice_index_or ops.now step 0 }
 {

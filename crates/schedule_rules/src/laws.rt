@@ -1,6 +1,5 @@
 // The laws of histories that the layers above rest on.
 ghost use Rattle.schedule_model.specs.Laws.{PrefixLaw, BeginningsArePlanned};
-ghost use Rattle.schedule_rules.specs.Laws.{MorePlansJudgeAlike};
 
 use schedule_model::{beginnings_are_legal, beginnings_are_planned};
 
@@ -12,8 +11,3 @@ pub fn beginnings_are_good()
     beginnings_are_legal();
     beginnings_are_planned();
 }
-
-/// A history that was judged is so with more plans, too.
-pub fn more_plans_judge_alike()
-    ensures { MorePlansJudgeAlike }
-{}

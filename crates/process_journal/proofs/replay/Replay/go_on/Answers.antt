@@ -2,7 +2,7 @@ use Rattle.std.proofs.Common.{◌≡◌, ◌++◌, ◌∷◌, [], false, inr, �
 use Rattle.process_tree.specs.Conflicts.{do_conflict}
 use Rattle.schedule_model.specs.Course.{courses_of}
 use Rattle.schedule_model.specs.Legal.{may_come}
-use Rattle.schedule_rules.specs.Keeping.{IsJudged}
+use Rattle.history_judging.specs.Keeping.{IsJudged}
 use Rattle.process_journal.specs.Replays.{IsReplayed}
 use Rattle.process_journal.proofs.Replaying.{goes_on, not_legal, not_memory}
 use Rattle.process_journal.proofs.replay.Replay.go_on.Goals as goal

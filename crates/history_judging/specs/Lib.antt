@@ -1,0 +1,5 @@
+pub mod Conflicting
+pub mod Keeping
+pub mod Judging
+pub mod Laws
+pub mod Errors

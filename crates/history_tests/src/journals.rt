@@ -1,0 +1,173 @@
+// What no clause of `process_journal` says: each damage and each cut of a file, the bytes of a whole journal, and that each call which
+// wants memory succeeds where there is enough.
+use crate::damages::{CUTS, DAMAGES};
+use commute_table::read_catalog;
+use process_disk::{MemoryRack, Rack};
+use process_flow::Failed;
+use process_journal::{Body, Journal, JournalError, Record};
+use process_tree::Entry;
+use schedule_model::Event;
+use std::alloc::Global;
+use std::process::Abort;
+use std::test::Fail;
+
+// File 0 after the run of one process of one step.
+const FILE: [u8; 76] = *b"tpsl\x01\x00\x00\x00\
+\x01\x0b\x00\x00\x01\x01\x00\x03add\x00\x00\x00\
+\x01\x1f\x00\x01\x01\x00\x00\x00process a c x add 1 5 end\n\
+\x01\x08\x00\x02\x01\x00\x00\x00\x00\x00\x00\
+\x01\x05\x00\x03\x01\x00\x00\x00\x00";
+
+// How many events the history of file 0 has, or why there is none.
+fn events(alloc: Global, bytes: &[u8]) -> Result<Result<usize, JournalError>, Fail> {
+    let mut rack = MemoryRack::new(alloc, Vec::new(alloc))?;
+    rack.write_at(0, 0, bytes)?;
+    match Journal::open(alloc, &mut rack) {
+        Ok((_, _, history)) => Ok(Ok(history.events.as_slice().len())),
+        Err(error) => Ok(Err(error)),
+    }
+}
+
+// That file, of which no proof knows the bytes.
+fn whole_file(alloc: Global) -> Result<Vec<u8>, Fail> {
+    Ok(FILE.to_vec(alloc)?)
+}
+
+// What is answered with this byte at a place.
+fn expect_damage<H: Abort>(
+    rt: &H,
+    alloc: Global,
+    place: usize,
+    byte: u8,
+    want: Result<usize, JournalError>,
+) -> Result<(), Fail> {
+    let mut file = whole_file(alloc)?;
+    assert!(rt; place < file.len());
+    if byte != file[place] {
+        file[place] = byte;
+        assert_eq!(rt; events(alloc, &file)?, want, "{byte} at {place}");
+    }
+    Ok(())
+}
+
+#[test]
+fn each_damage_has_its_answer(rt: HostRuntime) -> Result<(), Fail> {
+    let alloc = rt.alloc();
+    assert_eq!(rt; events(alloc, &FILE)?, Ok(3));
+    let mut covered = 0;
+    for (from, to, first, middle, last, want) in DAMAGES {
+        assert!(rt; from <= covered);
+        covered = to;
+        for place in from..to {
+            for byte in [first, middle, last] {
+                expect_damage(&rt, alloc, place, byte, want)?;
+            }
+        }
+    }
+    assert_eq!(rt; covered, FILE.len());
+    Ok(())
+}
+
+#[test]
+fn each_cut_has_its_answer(rt: HostRuntime) -> Result<(), Fail> {
+    let alloc = rt.alloc();
+    for (from, to, want) in CUTS {
+        for size in from..to {
+            assert!(rt; size <= FILE.len());
+            assert_eq!(rt; events(alloc, &FILE[..size])?, want, "cut after {size}");
+        }
+    }
+    Ok(())
+}
+
+// A rack in memory of which nothing is told, so that no call asks what its files hold. Its count of faults stands at the last value.
+#[derive(Drop)]
+struct Untold {
+    rack: MemoryRack,
+}
+
+impl Rack for Untold {
+    ghost use Rattle.std.specs.Prelude.{false, []};
+    ghost use Rattle.std.proofs.Common.{rules};
+
+    ghost disk = { λ r. record { tells = false; files = []; may_leave = λ c. ⊥; moment = 0; left_since = λ t c. ⊥ } };
+
+    ghost faults = { λ r. 18446744073709551615 };
+
+    ghost honest = { λ r told. Prim.search rules };
+
+    fn len(&mut self, file: u8) -> Result<u64, Failed> {
+        self.rack.len(file)
+    }
+
+    fn read(&mut self, file: u8, at: u64, buf: &mut [u8]) -> Result<usize, Failed> {
+        self.rack.read(file, at, buf)
+    }
+
+    fn write_at(&mut self, file: u8, at: u64, bytes: &[u8]) -> Result<(), Failed> {
+        if at > self.rack.len(file)? {
+            return Err(Failed);
+        }
+        self.rack.write_at(file, at, bytes)
+    }
+
+    fn sync(&mut self) -> Result<(), Failed> {
+        self.rack.sync()
+    }
+}
+
+const STEP: Entry = Entry {
+    process: 1,
+    step: 0,
+    op: 0,
+    undo: false,
+};
+
+// Writes the journal of that run.
+fn write_run<H: Abort>(rt: &H, alloc: Global, rack: &mut Untold) -> Result<(), Fail> {
+    let Ok(catalog) = read_catalog(alloc, &FILE[12..22]) else {
+        panic!(rt; "no catalog");
+    };
+    let Ok(mut journal) = Journal::create(alloc, rack, &catalog) else {
+        panic!(rt; "no journal");
+    };
+    assert_eq!(rt; rack.len(0), Ok(23));
+    let text = Body::new(FILE[30..56].to_vec(alloc)?);
+    journal.append(rack, &Record::Start(1, text))?;
+    journal.append(rack, &Record::Act(STEP))?;
+    journal.append(rack, &Record::End(1))?;
+    Ok(())
+}
+
+// The bytes of file 0, which are fewer than 100.
+fn bytes_in(alloc: Global, rack: &mut Untold) -> Result<Vec<u8>, Fail> {
+    let mut bytes = vec![in alloc; 0; 100]?;
+    let count = rack.read(0, 0, &mut bytes)?;
+    bytes.truncate(count);
+    Ok(bytes)
+}
+
+// File 0 is the journal of that run.
+fn expect_run<H: Abort>(rt: &H, alloc: Global, rack: &mut Untold) -> Result<(), Fail> {
+    let Ok((journal, catalog, history)) = Journal::open(alloc, rack) else {
+        panic!(rt; "not opened");
+    };
+    assert_eq!(rt; journal.count(), 4);
+    assert_eq!(rt; catalog.ops.as_slice().len(), 1);
+    assert_eq!(rt; history.plans.as_slice().len(), 1);
+    let events = [Event::Start(1), Event::Act(STEP), Event::End(1)];
+    assert_eq!(rt; history.events.as_slice(), events.as_slice());
+    Ok(())
+}
+
+#[test]
+fn the_records_of_a_run_are_written_and_read(rt: HostRuntime) -> Result<(), Fail> {
+    let alloc = rt.alloc();
+    let mut rack = Untold {
+        rack: MemoryRack::new(alloc, Vec::new(alloc))?,
+    };
+    write_run(&rt, alloc, &mut rack)?;
+    assert_eq!(rt; rack.len(0), Ok(76));
+    assert!(rt; bytes_in(alloc, &mut rack)? == whole_file(alloc)?);
+    expect_run(&rt, alloc, &mut rack)
+}

@@ -1,9 +1,0 @@
-use Rattle.std.proofs.Common.{◌≡◌, ◌++◌, length}
-use Rattle.schedule_rules.specs.Recovering.{owed_by}
-use Rattle.schedule_rules.proofs.judging.add_entries.Given as goal
-
-abbrev pub invariant-loop-rest : goal.invariant-loop-rest
-invariant-loop-rest l = l.added.items ++ owed_by l.ops l.i l.rest ≡ l.fn.added.items ++ owed_by l.ops l.i l.steps
-
-abbrev pub decreases-loop-rest : goal.decreases-loop-rest
-decreases-loop-rest l = length l.rest
