@@ -27,6 +27,9 @@ pub mod EffectUndos
 pub mod EffectStands
 pub mod KeptEvents
 pub mod CoreEffects
+pub mod ActiveSums
+pub mod EntryCounts
+pub mod StartRefusals
 pub mod KeptCounts
 pub mod KeptBound
 pub mod OpenedRoom

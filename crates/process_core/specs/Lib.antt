@@ -7,3 +7,4 @@ pub mod Beginnings
 pub mod Effects
 pub mod Upcoming
 pub mod Handing
+pub mod Starting

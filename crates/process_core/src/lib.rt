@@ -12,6 +12,7 @@ mod effected;
 mod effects;
 mod handing;
 mod laws;
+mod limits;
 mod members;
 mod opening;
 mod owed;

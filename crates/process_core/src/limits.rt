@@ -1,0 +1,106 @@
+// How much a history has of what its limits count.
+ghost use Rattle.std.specs.Prelude.{◌≡◌, ◌≤◌, ◌+◌, length};
+ghost use Rattle.std.specs.List.{sum_by};
+ghost use Rattle.process_tree.specs.Blocks.{outline};
+ghost use Rattle.schedule_model.specs.Course.{course, course_of};
+ghost use Rattle.schedule_model.specs.Histories.{active};
+ghost use Rattle.schedule_model.specs.Limits.{need};
+ghost use Rattle.machine_model.specs.Runs.{start_refusal};
+ghost use Rattle.process_core.specs.Cores.{courses_in, history_of, moment_of};
+ghost use Rattle.process_core.specs.Starting.{has_active_seat, is_settled, settled_count};
+
+use crate::Core;
+use crate::seats::Seat;
+use machine_model::StartWhy;
+use process_tree::Plan;
+use schedule_model::{Event, MOST_ACTIVE, MOST_ENTRIES, MOST_PROCESSES};
+
+/// How many processes are active, and how many acts and ends they may need.
+#[derive(Clone, Copy)]
+pub struct Load {
+    pub active: usize,
+    pub needed: usize,
+}
+
+/// How many acts and ends a process may need.
+pub fn need(plan: &Plan) -> usize
+    requires { length plan.now.ops ≡ length (outline plan.now.tree).steps }
+    ensures need { result ≡ need (course_of plan.now) }
+    ensures few { result ≤ 131071 }
+{
+    2 * usize::from(plan.tree.count()) + 1
+}
+
+/// Whether a process is active.
+fn has_active_seat(seats: &[Seat], i: u32) -> bool
+    ensures { result ≡ has_active_seat seats.now i }
+{
+    let place = (i as usize).saturating_sub(1);
+    if place < seats.len() { seats[place].is_active() } else { false }
+}
+
+/// Whether an event is an end, or an act of a process that isn't active.
+fn is_settled(seats: &[Seat], event: &Event) -> bool
+    ensures { result ≡ is_settled seats.now event.now }
+{
+    match event {
+        Event::Start(_) => false,
+        Event::Act(e) => !has_active_seat(seats, e.process),
+        Event::End(_) => true,
+    }
+}
+
+/// How many such events there are.
+fn settled_count(seats: &[Seat], events: &[Event]) -> usize
+    requires { length events.now ≤ 20480 }
+    ensures count { result ≡ settled_count seats.now events.now }
+    ensures few { result ≤ 20480 }
+{
+    let mut count = 0;
+    let mut rest = events;
+    while let [event, after @ ..] = rest {
+        if is_settled(seats, event) {
+            count += 1;
+        }
+        rest = after;
+    }
+    count
+}
+
+impl Core {
+    /// How many processes are active, and how many acts and ends they may need.
+    fn load(&self) -> Load
+        ensures active { result.active ≡ length (active (history_of self.now)) }
+        ensures needed { result.needed ≡ sum_by (λ i. need (course (courses_in self.now) i)) (active (history_of self.now)) }
+        ensures few { result.needed ≤ 536866816 }
+    {
+        let mut load = Load { active: 0, needed: 0 };
+        for place in 0..self.seats.len() {
+            if self.seats[place].is_active() {
+                load.active += 1;
+                load.needed += need(&self.history.plans.as_slice()[place]);
+            }
+        }
+        load
+    }
+
+    /// Why a process of this plan can't start, memory aside.
+    pub(crate) fn start_refusal(&self, plan: &Plan) -> Option<StartWhy>
+        requires { length plan.now.ops ≡ length (outline plan.now.tree).steps }
+        ensures { result ≡ start_refusal (courses_in self.now) (moment_of self.now) (course_of plan.now) }
+    {
+        let load = self.load();
+        if load.active >= MOST_ACTIVE {
+            return Some(StartWhy::TooMany(MOST_ACTIVE as u32));
+        }
+        if self.seats.len() >= MOST_PROCESSES {
+            return Some(StartWhy::TooMany(MOST_PROCESSES as u32));
+        }
+        let settled = settled_count(&self.seats, self.history.events.as_slice());
+        let entries = settled + load.needed + need(plan);
+        if entries > MOST_ENTRIES {
+            return Some(StartWhy::NoRoom(entries as u32));
+        }
+        None
+    }
+}
