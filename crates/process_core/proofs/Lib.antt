@@ -56,3 +56,5 @@ pub mod OwnPlans
 pub mod NextReplies
 pub mod RowsOpen
 pub mod ReplyKept
+pub mod DragKept
+pub mod BackKept

@@ -1,14 +1,16 @@
 // Processes are asked to complete.
-ghost use Rattle.std.specs.Prelude.{◌≡◌};
+ghost use Rattle.std.specs.Prelude.{◌≡◌, true};
 ghost use Rattle.std.specs.List.{list_any};
 ghost use Rattle.machine_model.specs.Calls.{complete_all};
+ghost use Rattle.machine_model.specs.Runs.{may_be_kept};
 ghost use Rattle.process_core.specs.Answers.{after_call};
-ghost use Rattle.process_core.specs.Beginnings.{can_begin};
+ghost use Rattle.process_core.specs.Beginnings.{IsBackward, can_begin, with_kept};
+ghost use Rattle.process_core.specs.Cores.{courses_in, moment_of, relation};
 
-use crate::beginnings::{Beginners, begin_each};
+use crate::beginnings::{Beginners, begin, begin_each, drag_along};
 use crate::cores::Core;
 use crate::seats::Seat;
-use machine_model::Kept;
+use machine_model::{Began, Cause, Kept};
 
 /// Whether one of these can begin to complete.
 fn some_can_begin(seats: &[Seat]) -> bool
@@ -41,5 +43,28 @@ impl Core {
             event,
         );
         self.kept.push_reserved(Kept::Restart);
+    }
+    /// At this event a process begins to complete, and so does whoever goes back with it.
+    pub(crate) fn go_back(&mut self, i: u32, own: Cause, kept: Kept)
+        requires back { IsBackward kept own i }
+        requires may { may_be_kept (relation self.old) (courses_in self.old) (moment_of self.old) kept ≡ true }
+        ensures { self.new ≡ with_kept self.old kept }
+    {
+        let event = self.kept.len() as u32 + 1;
+        let place = i as usize - 1;
+        begin(
+            &mut self.seats[place],
+            &mut self.holds,
+            i,
+            Began { event, cause: own },
+        );
+        drag_along(
+            &mut self.seats,
+            &mut self.holds,
+            &mut self.cascade,
+            i,
+            event,
+        );
+        self.kept.push_reserved(kept);
     }
 }
