@@ -58,3 +58,4 @@ pub mod RowsOpen
 pub mod ReplyKept
 pub mod DragKept
 pub mod BackKept
+pub mod AbortReplies

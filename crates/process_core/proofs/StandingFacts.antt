@@ -84,6 +84,19 @@ module _ (c : CoreState) (core : IsCore c) where
       let few = few_start cs (history_of c) (runs_are_legal (relation c) c.plans (machine_of c) core.session).1 in
       omega arith
 
+-- whoever has a plan has started
+pub plan_started : (c : CoreState) → IsCore c → (i : ℕ) → 1 ≤ i → i ≤ length c.plans → is_in i (starts (moment_of c).events) ≡ true
+plan_started c core i low high =
+    let many = length-map c.plans course_of in
+    let count = length-numbers 1 (length (courses_in c)) in
+    subst (λ j. is_in j (starts (moment_of c).events) ≡ true) (seat_at (λ j. j) (length (courses_in c)) i 0 low (omega arith))
+    (each_at (numbers_from 1 (length (courses_in c))) (i - 1) (numbers_started c core) (omega arith))
+  where
+    each_at : (is : List ℕ) (n : ℕ) → Each (λ j. is_in j (starts (moment_of c).events) ≡ true) is → n < length is → is_in (slice_index_or (map (λ j. j) is) n 0) (starts (moment_of c).events) ≡ true
+    each_at [] n each within = absurd (omega arith)
+    each_at (j ∷ is) zero each within = each.0
+    each_at (j ∷ is) (suc n) each within = each_at is n each.1 (omega arith)
+
 -- whoever has an instance is active
 pub with_instance : (courses : List Course) (n : Moment) (i : ℕ) → is_some (seat_of courses n i).instance ≡ true → is_active n.events i ≡ true
 with_instance courses n i is = by_active (is_active n.events i) is

@@ -8,7 +8,10 @@ use Rattle.machine_model.specs.declared.began.Cause.{Cause}
 use Rattle.machine_model.specs.declared.began.Cause.TheVariants.{Abort as WasAborted, Cascade, Restart, Victim as WasVictim}
 use Rattle.machine_model.specs.declared.kept.Kept.{Kept}
 use Rattle.machine_model.specs.declared.kept.Kept.TheVariants.{Abort, Victim}
-use Rattle.machine_model.specs.ProcessState.{begun, pending_count}
+use Rattle.machine_model.specs.declared.replies.Aborted.{Aborted}
+use Rattle.machine_model.specs.declared.replies.Aborted.TheVariants.{Ended, Exhausted}
+use Rattle.machine_model.specs.ProcessState.{begun, has_used_up, pending_count}
+use Rattle.machine_model.specs.Replies.{abort_by_begun}
 use Rattle.instance_state.specs.Instances.{InstanceState, moved_to}
 use Rattle.hold_tables.specs.Tables.{OpenProcess, Tables, is_open}
 use Rattle.hold_tables.specs.Changes.{changed, with_first_reserved, with_pending, with_running}
@@ -87,3 +90,11 @@ IsBackward k own i = ((k ≡ Abort i) × (own ≡ WasAborted)) ⊎ ((k ≡ Victi
 -- a core with one kept event more
 abbrev pub with_kept : CoreState → Kept → CoreState
 with_kept c k = record { conflicts = c.conflicts; plans = c.plans; opening = c.opening; kept = c.kept ++ k ∷ []; served = c.served }
+
+-- what a request to complete answers, by the seat of a process that started
+abbrev pub aborted_of : Option InstanceState → Option Began → Aborted
+aborted_of None began = Ended
+aborted_of (Some x) began = if has_used_up x.course x.state then Exhausted else abort_by_begun (is_some began)
+
+abbrev pub aborted_by : SeatState → Aborted
+aborted_by s = aborted_of s.instance s.began

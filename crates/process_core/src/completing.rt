@@ -1,16 +1,18 @@
 // Processes are asked to complete.
 ghost use Rattle.std.specs.Prelude.{◌≡◌, true};
 ghost use Rattle.std.specs.List.{list_any};
-ghost use Rattle.machine_model.specs.Calls.{complete_all};
+ghost use Rattle.machine_model.specs.Calls.{abort, aborted, complete_all};
+ghost use Rattle.machine_model.specs.Replies.{abort_reply};
+ghost use Rattle.machine_model.specs.declared.kept.Kept.TheVariants.{Victim};
 ghost use Rattle.machine_model.specs.Runs.{may_be_kept};
-ghost use Rattle.process_core.specs.Answers.{after_call};
+ghost use Rattle.process_core.specs.Answers.{after_call, answer_in};
 ghost use Rattle.process_core.specs.Beginnings.{IsBackward, can_begin, with_kept};
 ghost use Rattle.process_core.specs.Cores.{courses_in, moment_of, relation};
 
 use crate::beginnings::{Beginners, begin, begin_each, drag_along};
 use crate::cores::Core;
 use crate::seats::Seat;
-use machine_model::{Began, Cause, Kept};
+use machine_model::{Aborted, Began, Cause, Kept};
 
 /// Whether one of these can begin to complete.
 fn some_can_begin(seats: &[Seat]) -> bool
@@ -66,5 +68,39 @@ impl Core {
             event,
         );
         self.kept.push_reserved(kept);
+    }
+    /// What a request to complete answers, with nothing kept.
+    fn abort_reply(&self, i: u32) -> Aborted
+        ensures { result ≡ abort_reply (courses_in self.now) (moment_of self.now) i }
+    {
+        let count = self.seats.len();
+        if i == 0 {
+            return Aborted::Unknown;
+        }
+        let place = i as usize - 1;
+        if place >= count {
+            return Aborted::Unknown;
+        }
+        self.seats[place].aborted()
+    }
+
+    /// Asks a process to complete.
+    pub fn abort(&mut self, i: u32) -> Aborted
+        ensures core { self.new ≡ after_call self.old (abort i) }
+        ensures reply { aborted result ≡ (answer_in self.old (abort i)).reply }
+    {
+        let reply = self.abort_reply(i);
+        if let Aborted::Ok = reply {
+            self.go_back(i, Cause::Abort, Kept::Abort(i));
+        }
+        reply
+    }
+
+    /// This process is the victim.
+    pub(crate) fn make_victim(&mut self, i: u32)
+        requires { may_be_kept (relation self.old) (courses_in self.old) (moment_of self.old) (Victim i) ≡ true }
+        ensures { self.new ≡ with_kept self.old (Victim i) }
+    {
+        self.go_back(i, Cause::Victim, Kept::Victim(i));
     }
 }

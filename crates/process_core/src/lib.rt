@@ -26,7 +26,7 @@ mod undoing;
 
 pub use cores::Core;
 pub use laws::tables_stand_for_holdings;
-pub use machine_model::{Began, Cause, Kept, PieceState, Work};
+pub use machine_model::{Aborted, Began, Cause, Kept, PieceState, Refusal, Work};
 pub use pieces::Piece;
 pub use replies::Admit;
 

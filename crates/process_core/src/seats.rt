@@ -2,13 +2,13 @@
 ghost use Rattle.std.specs.Prelude.{◌≡◌, is_some};
 ghost use Rattle.std.specs.Option.{option_map};
 ghost use Rattle.machine_model.specs.ProcessState.{pending_count};
-ghost use Rattle.process_core.specs.Beginnings.{can_begin};
+ghost use Rattle.process_core.specs.Beginnings.{aborted_by, can_begin};
 ghost use Rattle.process_core.specs.Effects.{pending_in, seat_effected};
 ghost use Rattle.process_core.specs.Seats.{is_number, state_by};
 ghost use Rattle.process_core.specs.Upcoming.{upcoming};
 
 use instance_state::{Instance, Todo};
-use machine_model::{Began, PieceState, Work};
+use machine_model::{Aborted, Began, PieceState, Work};
 use std::marker::Model;
 
 /// What is kept of a process that started.
@@ -67,6 +67,20 @@ impl Seat {
         match &self.instance {
             None => None,
             Some(instance) => Some(instance.pending()),
+        }
+    }
+
+    /// What a request to complete answers.
+    pub fn aborted(&self) -> Aborted
+        ensures { result ≡ aborted_by self.now }
+    {
+        let Some(instance) = &self.instance else {
+            return Aborted::Ended;
+        };
+        match instance.todo() {
+            Todo::Exhausted(_) => Aborted::Exhausted,
+            _ if self.began.is_some() => Aborted::Already,
+            _ => Aborted::Ok,
         }
     }
 

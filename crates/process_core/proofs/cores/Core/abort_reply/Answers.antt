@@ -1,0 +1,35 @@
+use Rattle.std.proofs.Common.{◌≡◌, ◌∙◌, ℕ, zero, suc, ◌≤◌, refl, ap, sym, subst, arith}
+use Rattle.process_core.specs.Beginnings.{aborted_by}
+use Rattle.process_core.specs.Cores.{IsCore, courses_in, moment_of}
+use Rattle.process_core.specs.Room.{IsKept}
+use Rattle.process_core.specs.Seats.{seats_of}
+use Rattle.process_core.proofs.AbortReplies.{abort_known, abort_unknown}
+use Rattle.process_core.proofs.SeatFacts.{seat_is, seats_many}
+use Rattle.process_core.proofs.StandingFacts.{plan_started}
+use Rattle.process_core.proofs.cores.Core.abort_reply.Goals as goal
+
+pub returns-then-i-eq0 : goal.returns-then-i-eq0
+returns-then-i-eq0 c =
+    let core = subst IsCore c.self.view_is c.self.invariant.stands.core in
+    abort_unknown c.args.self.now core c.args.i (λ bounds. let low = bounds.0 in let none = c.if-i-eq0.true in absurd (omega arith))
+
+pub returns-then-place-count : goal.returns-then-place-count
+returns-then-place-count c =
+    let core = subst IsCore c.self.view_is c.self.invariant.stands.core in
+    let many = seats_many c.args.self.now c.self.inside.seats.items (subst (λ v. c.self.inside.seats.items ≡ seats_of (courses_in v) (moment_of v)) c.self.view_is c.self.invariant.stands.seats) in
+    abort_unknown c.args.self.now core c.args.i (λ bounds. let low = bounds.0 in let high = bounds.1 in let past = c.if-place-count.true in let is = c.len-count.ensures in absurd (omega arith))
+
+pub returns : goal.returns
+returns c =
+    let v = c.args.self.now in
+    let core = subst IsCore c.self.view_is c.self.invariant.stands.core in
+    let seats = subst (λ v. c.self.inside.seats.items ≡ seats_of (courses_in v) (moment_of v)) c.self.view_is c.self.invariant.stands.seats in
+    let many = seats_many v c.self.inside.seats.items seats in
+    let is = c.len-count.ensures in
+    let within = c.if-place-count.false in
+    let low : 1 ≤ c.args.i = some c.args.i c.if-i-eq0.false in
+    c.aborted.ensures ∙ (ap aborted_by (c.index.ensures ∙ seat_is v c.self.inside.seats.items c.args.i c.index.result.now seats low (omega arith)) ∙ abort_known v core c.args.i (plan_started v core c.args.i low (omega arith)))
+  where
+    some : (i : ℕ) → (i ≡ 0 → ⊥) → 1 ≤ i
+    some zero other = absurd (other refl)
+    some (suc i) other = omega arith
