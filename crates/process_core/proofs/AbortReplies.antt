@@ -1,27 +1,16 @@
 -- What a request to complete answers, and that it may be kept where it is granted.
-use Rattle.std.proofs.Common.{◌≡◌, ◌∙◌, ℕ, ◌+◌, ◌-◌, ◌≤◌, Bool, true, false, not, ◌&&◌, if◌then◌else◌, List, [], ◌∷◌, ◌++◌, length, Option, Some, None, is_some, sym, refl, ap, subst, append-nil, arith}
+use Rattle.std.proofs.Common.{◌≡◌, ◌∙◌, ℕ, ◌≤◌, Bool, true, false, if◌then◌else◌, List, length, Option, Some, None, is_some, sym, refl, ap}
 use Rattle.std.specs.Option.{option_map}
-use Rattle.std.proofs.lemmas.Bool.{and_parts, false≢true}
-use Rattle.std.proofs.lemmas.List.{length-map}
-use Rattle.process_tree.specs.Order.{Each}
-use Rattle.schedule_model.specs.Course.{Course, course, course_of}
+use Rattle.schedule_model.specs.Course.{Course, course}
 use Rattle.schedule_model.specs.Histories.{is_active, is_in, starts}
 use Rattle.machine_model.specs.declared.began.Began.{Began}
-use Rattle.machine_model.specs.declared.kept.Kept.{Kept}
-use Rattle.machine_model.specs.declared.kept.Kept.TheVariants.{Abort}
-use Rattle.machine_model.specs.declared.replies.Aborted.{Aborted}
-use Rattle.machine_model.specs.declared.replies.Aborted.TheVariants.{Ok, Unknown, Ended, Exhausted, Already}
-use Rattle.machine_model.specs.Calls.{abort, abort_kept}
+use Rattle.machine_model.specs.declared.replies.Aborted.TheVariants.{Unknown, Exhausted}
 use Rattle.machine_model.specs.Moment.{Beginning, Moment, beginning_of, has_begun}
 use Rattle.machine_model.specs.Replies.{abort_by_active, abort_by_begun, abort_by_known, abort_by_tries, abort_reply}
-use Rattle.machine_model.specs.Runs.{goes_on_from, may_be_kept}
 use Rattle.machine_model.specs.State.{is_exhausted, process_state}
-use Rattle.machine_model.specs.Advance.{advance}
-use Rattle.machine_model.proofs.CallsKept.{abort-kept}
 use Rattle.instance_state.specs.Instances.{InstanceState}
-use Rattle.process_core.specs.Answers.{after_call}
-use Rattle.process_core.specs.Beginnings.{aborted_by, aborted_of, with_kept}
-use Rattle.process_core.specs.Cores.{CoreState, IsCore, courses_in, moment_of, relation}
+use Rattle.process_core.specs.Beginnings.{aborted_by, aborted_of}
+use Rattle.process_core.specs.Cores.{CoreState, IsCore, courses_in, moment_of}
 use Rattle.process_core.specs.Seats.{seat_of}
 use Rattle.process_core.proofs.SeatFacts.{has_plan}
 
@@ -63,28 +52,3 @@ module _ (c : CoreState) (core : IsCore c) (i : ℕ) where
       by_active true is =
           ap (λ t. aborted_of (if t then Some x else None) began) is
           ∙ (ap (λ t. if is_exhausted cs m i then Exhausted else abort_by_begun t) (same_some (beginning_of m i)) ∙ (by_tries (is_exhausted cs m i) ∙ sym (ap (abort_by_active cs m i) is)))
-
--- a request that is granted may be kept
-pub abort_may : (c : CoreState) (i : ℕ) → abort_reply (courses_in c) (moment_of c) i ≡ Ok → may_be_kept (relation c) (courses_in c) (moment_of c) (Abort i) ≡ true
-abort_may c i ok =
-    let m = moment_of c in
-    (and_parts (may_be_kept (relation c) (courses_in c) m (Abort i)) _ (sym (ap (λ r. goes_on_from (relation c) (courses_in c) m (abort_kept i r)) ok) ∙ abort-kept (relation c) (courses_in c) m i)).0
-
--- what is kept
-abort_after : CoreState → ℕ → Aborted → CoreState
-abort_after c i r = record { conflicts = c.conflicts; plans = c.plans; opening = c.opening; kept = c.kept ++ abort_kept i r; served = c.served }
-
-pub granted : (c : CoreState) (i : ℕ) → abort_reply (courses_in c) (moment_of c) i ≡ Ok → with_kept c (Abort i) ≡ after_call c (abort i)
-unfolding abort_after
-granted c i ok = ap (abort_after c i) (sym ok)
-
-pub not_granted : (c : CoreState) (i : ℕ) → (abort_reply (courses_in c) (moment_of c) i ≡ Ok → ⊥) → c ≡ after_call c (abort i)
-unfolding abort_after
-not_granted c i other = ap (λ (ks : List Kept). record { conflicts = c.conflicts; plans = c.plans; opening = c.opening; kept = ks; served = c.served }) (sym (append-nil c.kept) ∙ ap (λ (ks : List Kept). c.kept ++ ks) (sym (none (abort_reply (courses_in c) (moment_of c) i) other)))
-  where
-    none : (r : Aborted) → (r ≡ Ok → ⊥) → abort_kept i r ≡ []
-    none Ok never = absurd (never refl)
-    none Unknown never = refl
-    none Ended never = refl
-    none Exhausted never = refl
-    none Already never = refl

@@ -1,5 +1,5 @@
 -- What is kept where a process goes back: its seat and its row.
-use Rattle.std.proofs.Common.{◌≡◌, ◌∙◌, ℕ, ◌+◌, ◌-◌, ◌≤◌, true, if◌then◌else◌, not, List, [], length, map, slice_index_or, slice_set, Option, Some, None, is_some, sym, refl, ap, subst, arith}
+use Rattle.std.proofs.Common.{◌≡◌, ◌∙◌, ℕ, ◌+◌, ◌-◌, ◌≤◌, true, if◌then◌else◌, not, List, length, map, slice_index_or, slice_set, Some, None, is_some, ap, arith}
 use Rattle.std.proofs.lemmas.Bool.{and_parts}
 use Rattle.process_tree.specs.Blocks.{numbers_from}
 use Rattle.schedule_model.specs.declared.event.Event.{Event}

@@ -5,7 +5,7 @@ use Rattle.std.proofs.Math.Bool.{or-false}
 use Rattle.std.proofs.lemmas.Bool.{eqb-true, false≢true, or_parts}
 use Rattle.std.proofs.lemmas.List.Folds.{find-append}
 use Rattle.machine_model.specs.declared.kept.Kept.{Kept}
-use Rattle.machine_model.specs.Moment.{Lost, Moment, Piece, beginning_of, begins_now, has_begun, losses}
+use Rattle.machine_model.specs.Moment.{Lost, Moment, Piece, begins_now, has_begun, losses}
 use Rattle.machine_model.specs.PieceLaws.{LeavesPieceOf}
 use Rattle.machine_model.specs.Pieces.{running_of}
 use Rattle.machine_model.specs.Advance.{advance}

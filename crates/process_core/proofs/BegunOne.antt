@@ -1,5 +1,5 @@
 -- What it makes of the seat and the row of a process that it begins to complete.
-use Rattle.std.proofs.Common.{◌≡◌, ℕ, ◌+◌, Bool, true, false, not, ◌&&◌, if◌then◌else◌, List, ◌++◌, length, take, drop, map, Option, Some, None, sym, refl, ap, ◌∙◌, length-append, arith}
+use Rattle.std.proofs.Common.{◌≡◌, ℕ, ◌+◌, true, false, not, ◌&&◌, if◌then◌else◌, List, ◌++◌, length, take, Option, Some, None, sym, refl, ap, ◌∙◌, arith}
 use Rattle.std.specs.Option.{option_map}
 use Rattle.std.proofs.lemmas.Bool.{and_parts}
 use Rattle.std.proofs.lemmas.List.{length-drop, length-map, map-append}
@@ -11,7 +11,6 @@ use Rattle.schedule_model.specs.Course.{Course, course, shape}
 use Rattle.schedule_model.specs.Histories.{doing, ends, is_active, is_in, net_of, net_steps, starts, steps_of}
 use Rattle.schedule_model.specs.Holdings.{Hold}
 use Rattle.schedule_model.specs.Recovery.{backward_entries, owed}
-use Rattle.machine_model.specs.declared.began.Began.{Began}
 use Rattle.machine_model.specs.declared.kept.Kept.{Kept}
 use Rattle.machine_model.specs.HoldLaws.{running_by_piece}
 use Rattle.machine_model.specs.Moment.{Beginning, Lost, Moment, Piece, beginning_of, has_begun}

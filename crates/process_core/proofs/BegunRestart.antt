@@ -1,12 +1,10 @@
 -- At a restart all active processes begin to complete.
-use Rattle.std.proofs.Common.{◌≡◌, ◌∙◌, ℕ, ◌+◌, Bool, true, false, not, ◌&&◌, ◌||◌, eqb, if◌then◌else◌, List, [], ◌∷◌, ◌++◌, length, map, Option, Some, None, is_some, sym, refl, ap, append-nil}
-use Rattle.std.specs.List.{list_any}
-use Rattle.std.proofs.lemmas.Bool.{and_parts, both_ways, false≢true, or_right}
+use Rattle.std.proofs.Common.{◌≡◌, ◌∙◌, ℕ, ◌+◌, true, false, List, length, Option, Some, None, is_some, sym, refl, ap, append-nil}
+use Rattle.std.proofs.lemmas.Bool.{false≢true, or_right}
 use Rattle.std.proofs.lemmas.Option.{none-some}
 use Rattle.std.specs.Bool.{IsTrue}
-use Rattle.process_tree.specs.Blocks.{numbers_from}
 use Rattle.schedule_model.specs.Conflict.{no_conflict}
-use Rattle.schedule_model.specs.Histories.{active, is_active, is_in}
+use Rattle.schedule_model.specs.Histories.{active, is_in}
 use Rattle.schedule_model.specs.Legal.{is_legal}
 use Rattle.schedule_model.specs.declared.event.Event.{Event}
 use Rattle.schedule_model.proofs.Active.{is_active-is_in}
@@ -23,11 +21,11 @@ use Rattle.machine_model.proofs.Causes.{beginnings_have_causes}
 use Rattle.machine_model.proofs.OwnOrder.{run-own_order}
 use Rattle.machine_model.proofs.Snoc.{advances, now-kept}
 use Rattle.hold_tables.specs.Tables.{Tables}
-use Rattle.process_core.specs.Beginnings.{can_begin, seats_begun, tables_begun}
+use Rattle.process_core.specs.Beginnings.{seats_begun, tables_begun}
 use Rattle.process_core.specs.Cores.{CoreState, IsCore, courses_in, machine_of, moment_of, relation}
 use Rattle.process_core.specs.OpenTables.{row_of}
 use Rattle.process_core.specs.Seats.{SeatState, Stands, seat_of}
-use Rattle.process_core.proofs.BegunAll.{BeginsNow, Tells, begun_stands, can_begin_is, goes}
+use Rattle.process_core.proofs.BegunAll.{BeginsNow, Tells, begun_stands, goes}
 use Rattle.process_core.proofs.HandStands.{with_event}
 use Rattle.process_core.proofs.MayStand.{rising_apart}
 use Rattle.process_core.proofs.StoodRows.{Apart}

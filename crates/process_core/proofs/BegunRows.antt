@@ -1,6 +1,6 @@
 -- The tables, where one process after another begins to complete.
-use Rattle.std.proofs.Common.{◌≡◌, ◌⊎◌, inl, inr, ℕ, zero, suc, ◌≤◌, ◌<◌, Bool, true, false, eqb, leb, ◌&&◌, if◌then◌else◌, List, [], map, slice_index_or, Option, Some, None, is_some, is_none, sym, refl, ap, ◌∙◌, arith}
-use Rattle.std.proofs.lemmas.Bool.{cases_lt, eq-eqb, eqb-false, eqb-true, false≢true, le-leb, leb-true}
+use Rattle.std.proofs.Common.{◌≡◌, ◌⊎◌, inl, inr, ℕ, zero, suc, ◌≤◌, ◌<◌, Bool, true, false, eqb, leb, ◌&&◌, if◌then◌else◌, List, map, slice_index_or, Option, Some, None, is_some, is_none, sym, refl, ap, ◌∙◌, arith}
+use Rattle.std.proofs.lemmas.Bool.{cases_lt, eqb-false, eqb-true, false≢true, le-leb, leb-true}
 use Rattle.process_tree.specs.declared.entry.Entry.{Entry}
 use Rattle.process_tree.specs.Conflicts.{Table}
 use Rattle.schedule_model.specs.Histories.{is_in}

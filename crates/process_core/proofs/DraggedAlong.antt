@@ -1,12 +1,12 @@
 -- A core stands after an event at which a process drags others along: the seats and the tables before these begin, and after.
-use Rattle.std.proofs.Common.{◌≡◌, ⊎_elim, ◌∙◌, ℕ, zero, suc, ◌+◌, ◌-◌, ◌≤◌, ◌<◌, Bool, true, false, not, eqb, ◌&&◌, ◌||◌, if◌then◌else◌, List, [], ◌∷◌, length, filter, map, slice_set, Option, Some, None, is_some, sym, refl, ap, subst, arith}
+use Rattle.std.proofs.Common.{◌≡◌, ◌∙◌, ℕ, ◌+◌, ◌-◌, ◌≤◌, Bool, true, false, not, eqb, ◌&&◌, ◌||◌, if◌then◌else◌, List, [], length, filter, map, slice_set, Option, Some, None, is_some, sym, refl, ap, subst, arith}
 use Rattle.std.proofs.Math.Bool.{or-false}
 use Rattle.std.proofs.lemmas.Bool.{and_from, and_parts, eq-eqb, eqb-true, false≢true, or_right}
 use Rattle.std.proofs.lemmas.List.{length-drop, length-map}
 use Rattle.process_tree.specs.declared.entry.Entry.{Entry}
 use Rattle.process_tree.specs.Blocks.{numbers_from}
 use Rattle.process_tree.specs.Order.{Each}
-use Rattle.process_tree.specs.Shape.{Shape, fixed_len}
+use Rattle.process_tree.specs.Shape.{fixed_len}
 use Rattle.process_tree.proofs.Every.{Each-map, Each-weaker}
 use Rattle.schedule_model.specs.declared.event.Event.{Event}
 use Rattle.schedule_model.specs.Course.{Course, course_of, shape}

@@ -1,5 +1,5 @@
 -- No core keeps more events than can be numbered.
-use Rattle.std.proofs.Common.{◌≡◌, ℕ, ◌+◌, ◌*◌, ◌≤◌, ◌<◌, not, length, arith}
+use Rattle.std.proofs.Common.{ℕ, ◌≤◌, ◌<◌, not, length, arith}
 use Rattle.schedule_model.specs.Course.{course}
 use Rattle.schedule_model.specs.Histories.{ends, is_in, starts}
 use Rattle.schedule_model.proofs.Counts.{length_filter-most}

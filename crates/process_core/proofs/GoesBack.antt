@@ -1,5 +1,5 @@
 -- At a request to complete, and where it is the victim, a process goes back with all that it drags along.
-use Rattle.std.proofs.Common.{◌≡◌, ⊎_elim, ◌∙◌, ℕ, ◌+◌, ◌-◌, ◌≤◌, Bool, true, false, not, eqb, ◌&&◌, ◌||◌, List, [], length, Option, Some, None, sym, refl, ap, subst, arith}
+use Rattle.std.proofs.Common.{◌≡◌, ⊎_elim, ◌∙◌, ℕ, ◌+◌, Bool, true, false, not, ◌&&◌, ◌||◌, List, [], length, Option, Some, None, sym, refl, ap, subst, arith}
 use Rattle.std.proofs.Math.Bool.{or-false}
 use Rattle.std.proofs.lemmas.Bool.{and_parts, eq-eqb, eqb-true, false≢true, not-true}
 use Rattle.std.proofs.lemmas.Option.{none-some}
@@ -12,7 +12,7 @@ use Rattle.machine_model.specs.declared.began.Cause.{Cause}
 use Rattle.machine_model.specs.declared.began.Cause.TheVariants.{Abort as WasAborted, Victim as WasVictim}
 use Rattle.machine_model.specs.declared.kept.Kept.{Kept}
 use Rattle.machine_model.specs.declared.kept.Kept.TheVariants.{Abort, Victim}
-use Rattle.machine_model.specs.CauseLaws.{GoesBackBy, HasCause, IsDragged}
+use Rattle.machine_model.specs.CauseLaws.{GoesBackBy, HasCause}
 use Rattle.machine_model.specs.Moment.{Beginning, Moment, Piece, beginning_of, begins, has_begun, noted}
 use Rattle.machine_model.specs.PieceLaws.{LeavesPieceOf, piece_ended, piece_touched, state_by_piece, with_begun}
 use Rattle.machine_model.specs.ProcessState.{ProcessState}

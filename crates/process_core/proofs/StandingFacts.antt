@@ -1,5 +1,5 @@
 -- What is true of the seats and the tables of a core that stands.
-use Rattle.std.proofs.Common.{◌≡◌, ◌⊎◌, inl, inr, ◌∙◌, ℕ, zero, suc, ◌+◌, ◌-◌, ◌≤◌, ◌<◌, Bool, true, false, not, ◌&&◌, ◌||◌, if◌then◌else◌, List, [], ◌∷◌, length, map, filter, slice_index_or, Option, Some, None, is_some, sym, refl, ap, subst, arith}
+use Rattle.std.proofs.Common.{◌≡◌, ◌⊎◌, inl, inr, ◌∙◌, ℕ, zero, suc, ◌+◌, ◌-◌, ◌≤◌, ◌<◌, Bool, true, false, not, ◌&&◌, ◌||◌, if◌then◌else◌, List, [], ◌∷◌, length, map, filter, slice_index_or, Some, None, is_some, sym, refl, ap, subst, arith}
 use Rattle.std.specs.List.{list_any}
 use Rattle.std.proofs.lemmas.Bool.{cases_lt, false≢true}
 use Rattle.std.proofs.lemmas.List.{length-map}
@@ -18,7 +18,7 @@ use Rattle.machine_model.specs.Runs.{may_be_kept}
 use Rattle.machine_model.proofs.OwnOrder.{run-own_order}
 use Rattle.machine_model.proofs.RunsWithin.{runs_are_legal}
 use Rattle.instance_state.specs.Instances.{InstanceState}
-use Rattle.hold_tables.specs.Tables.{OpenProcess, Tables, is_open}
+use Rattle.hold_tables.specs.Tables.{Tables, is_open}
 use Rattle.process_core.specs.Beginnings.{AreOpen, can_begin, no_seat}
 use Rattle.process_core.specs.Cores.{CoreState, IsCore, courses_in, history_of, machine_of, moment_of, relation}
 use Rattle.process_core.specs.OpenTables.{row_of, tables_of}

@@ -1,7 +1,6 @@
-use Rattle.std.proofs.Common.{◌≡◌, ◌∙◌, ℕ, zero, suc, ◌≤◌, refl, ap, sym, subst, arith}
+use Rattle.std.proofs.Common.{◌≡◌, ◌∙◌, ℕ, zero, suc, ◌≤◌, refl, ap, subst, arith}
 use Rattle.process_core.specs.Beginnings.{aborted_by}
 use Rattle.process_core.specs.Cores.{IsCore, courses_in, moment_of}
-use Rattle.process_core.specs.Room.{IsKept}
 use Rattle.process_core.specs.Seats.{seats_of}
 use Rattle.process_core.proofs.AbortReplies.{abort_known, abort_unknown}
 use Rattle.process_core.proofs.SeatFacts.{seat_is, seats_many}

@@ -1,9 +1,8 @@
-use Rattle.std.proofs.Common.{◌≡◌, ◌∙◌, ◌+◌, ◌<◌, true, length, ap, sym, arith}
+use Rattle.std.proofs.Common.{◌≡◌, ◌∙◌, ◌+◌, length, ap, sym, arith}
 use Rattle.std.specs.List.{list_any}
 use Rattle.machine_model.specs.Calls.{complete_all}
 use Rattle.process_core.specs.Answers.{after_call}
 use Rattle.process_core.specs.Beginnings.{can_begin}
-use Rattle.process_core.specs.Cores.{courses_in, moment_of}
 use Rattle.process_core.proofs.FewKept.{kept_few}
 use Rattle.process_core.proofs.RestartKept.{none_restarted, restart_room, restarted_is, restarted_stands}
 use Rattle.process_core.proofs.StandingFacts.{kept_open, seats_few}

@@ -1,4 +1,4 @@
-use Rattle.std.proofs.Common.{◌≡◌, ◌∙◌, ◌+◌, ◌-◌, ◌<◌, ◌≤◌, true, length, ap, sym, subst, arith}
+use Rattle.std.proofs.Common.{◌≡◌, ◌∙◌, ◌+◌, true, length, ap, sym, subst, arith}
 use Rattle.machine_model.specs.Runs.{may_be_kept}
 use Rattle.process_core.specs.Beginnings.{with_kept}
 use Rattle.process_core.specs.Cores.{CoreState, courses_in, moment_of, relation}
