@@ -22,7 +22,7 @@ use Rattle.process_core.proofs.GoesBack.{GoesBack, backward_back, is_middle, mid
 use Rattle.process_core.proofs.SeatFacts.{has_plan, seat_is, seats_many}
 use Rattle.process_core.proofs.StandingFacts.{rows_open}
 
-module _ {c : CoreState} {h : List Event} {ss : List SeatState} {ts : Tables} {most capacity : ℕ} (kept : IsKept c h ss ts most capacity) (i : ℕ) (active' : is_active (moment_of c).events i ≡ true) where
+module _ {c : CoreState} {h : List Event} {ss : List SeatState} {ts : Tables} {opening most capacity : ℕ} (kept : IsKept c h ss ts opening most capacity) (i : ℕ) (active' : is_active (moment_of c).events i ≡ true) where
   bounds : (1 ≤ i) × (i ≤ length c.plans)
   bounds = has_plan c kept.stands.core i (and_parts (is_in i (starts (moment_of c).events)) (not (is_in i (ends (moment_of c).events))) active').0
 
@@ -46,7 +46,7 @@ module _ {c : CoreState} {h : List Event} {ss : List SeatState} {ts : Tables} {m
       its : InstanceState
       its = record { course = course (courses_in c) i; state = process_state (courses_in c) (moment_of c) i }
 
-module _ {c : CoreState} {h : List Event} {ss : List SeatState} {ts : Tables} {most capacity : ℕ} (kept : IsKept c h ss ts most capacity) (k : Kept) (own : Cause) (root : ℕ)
+module _ {c : CoreState} {h : List Event} {ss : List SeatState} {ts : Tables} {opening most capacity : ℕ} (kept : IsKept c h ss ts opening most capacity) (k : Kept) (own : Cause) (root : ℕ)
     (is : IsBackward k own root) (may : may_be_kept (relation c) (courses_in c) (moment_of c) k ≡ true) where
   abbrev back : GoesBack c k own root
   back = backward_back c k own root is may
@@ -70,6 +70,6 @@ module _ {c : CoreState} {h : List Event} {ss : List SeatState} {ts : Tables} {m
     back_tables us told = told ∙ (ap (λ x. changed (begun_row x) root ts) its
         ∙ tables_between c kept.stands.core k may root (middle c kept.stands.core k may own root back) back_middle (begun_row (seat_of (courses_in c) (moment_of c) root)) ts kept.stands.tables (root_row c kept.stands.core k may own root back))
 
-    pub back_drags : (new : SeatState) → new ≡ begun_seat (record { event = event; cause = own }) s → (us : Tables) → us ≡ changed (begun_row s) root ts → CanDrag c h most capacity k root (slice_set ss (root - 1) new) us
+    pub back_drags : (new : SeatState) → new ≡ begun_seat (record { event = event; cause = own }) s → (us : Tables) → us ≡ changed (begun_row s) root ts → CanDrag c h opening most capacity k root (slice_set ss (root - 1) new) us
     back_drags new told us told' =
         can_drag kept k may root (middle c kept.stands.core k may own root back) back_middle (slice_set ss (root - 1) new) (back_seats new told) us (back_tables us told')

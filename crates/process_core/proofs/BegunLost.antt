@@ -47,12 +47,12 @@ module _ (i : ℕ) where
           ∙ (later ∙ sym (ap (λ t. option_map (lost_at event) (if t then Some p else find (λ (q : Piece). eqb q.process i) ps)) at))
 
   -- moment n has of it what moment e has, but that it loses what it had under way where it has begun
-  record LosesWhatRuns (e n : Moment) : Type 0 where
-    kept : length n.kept ≡ length e.kept
-    before : has_begun n i ≡ false → (running_of n i ≡ running_of e i) × (lost_by n i ≡ None)
-    begun : has_begun n i ≡ true → lost_by n i ≡ option_map (lost_at (length e.kept)) (running_of e i)
+  pub record LosesWhatRuns (e n : Moment) : Type 0 where
+    pub kept : length n.kept ≡ length e.kept
+    pub before : has_begun n i ≡ false → (running_of n i ≡ running_of e i) × (lost_by n i ≡ None)
+    pub begun : has_begun n i ≡ true → lost_by n i ≡ option_map (lost_at (length e.kept)) (running_of e i)
 
-  loses-beginnings : (e : Moment) → IsKeptByBeginnings (LosesWhatRuns e)
+  pub loses-beginnings : (e : Moment) → IsKeptByBeginnings (LosesWhatRuns e)
   loses-beginnings e cause n k never holds = record {
     kept = holds.kept;
     before = λ fresh.
@@ -97,27 +97,31 @@ module _ (c : CoreState) (core : IsCore c) (i : ℕ) (was : has_begun (moment_of
           let its = eqb-true l.piece.process i (find-passes (λ (x : Lost). eqb x.piece.process i) m.lost l at) in
           absurd (false≢true (sym was ∙ (ap (has_begun m) (sym its) ∙ ap is_some lost.begun)))
 
-  module _ (k : Kept) (may : may_be_kept (relation c) (courses_in c) (moment_of c) k ≡ true) (away : LeavesPieceOf (moment_of c).kept k i) where
+  module _ (k : Kept) (may : may_be_kept (relation c) (courses_in c) (moment_of c) k ≡ true) where
     abbrev e : Moment
     e = entered (courses_in c) (moment_of c) k
 
     abbrev after : Moment
     after = advance (relation c) (courses_in c) (moment_of c) k
 
-    -- and then it loses what it had under way
-    pub lost_now : has_begun (advance (relation c) (courses_in c) (moment_of c) k) i ≡ true
-        → lost_by (advance (relation c) (courses_in c) (moment_of c) k) i ≡ option_map (lost_at (length c.kept + 1)) (running_of (moment_of c) i)
-    lost_now is =
-        holds.begun is
-        ∙ (ap (λ o. option_map (lost_at (length e.kept)) o) ((entered-stays (relation c) (courses_in c) m i k (run-tidy (relation c) (machine_of c) core.session.run) may away).running (entered-begun (relation c) (courses_in c) m k i))
-        ∙ ap (λ x. option_map (lost_at x) (running_of m i)) many)
-      where
-        holds : LosesWhatRuns i e after
-        holds = advance-keeps (LosesWhatRuns i e) (loses-beginnings i e) (relation c) (courses_in c) m k (record {
-          kept = refl;
-          before = λ fresh. (refl, (entered-lost m i (relation c) (courses_in c) k).lost (entered-begun (relation c) (courses_in c) m k i) ∙ none_lost);
-          begun = λ is'. absurd (false≢true (sym was ∙ (sym (entered-begun (relation c) (courses_in c) m k i) ∙ is')));
-        })
+    holds : LosesWhatRuns i e after
+    holds = advance-keeps (LosesWhatRuns i e) (loses-beginnings i e) (relation c) (courses_in c) m k (record {
+      kept = refl;
+      before = λ fresh. (refl, (entered-lost m i (relation c) (courses_in c) k).lost (entered-begun (relation c) (courses_in c) m k i) ∙ none_lost);
+      begun = λ is'. absurd (false≢true (sym was ∙ (sym (entered-begun (relation c) (courses_in c) m k i) ∙ is')));
+    })
 
-        many : length e.kept ≡ length c.kept + 1
-        many = sym holds.kept ∙ (ap length (advances (relation c) (courses_in c) m k).kept ∙ (length-append m.kept (k ∷ []) ∙ ap (λ ks. length ks + 1) (now-kept (relation c) (machine_of c))))
+    many : length e.kept ≡ length c.kept + 1
+    many = sym holds.kept ∙ (ap length (advances (relation c) (courses_in c) m k).kept ∙ (length-append m.kept (k ∷ []) ∙ ap (λ ks. length ks + 1) (now-kept (relation c) (machine_of c))))
+
+    -- and then it loses what it has under way once the event is entered
+    pub lost_then : has_begun (advance (relation c) (courses_in c) (moment_of c) k) i ≡ true
+        → lost_by (advance (relation c) (courses_in c) (moment_of c) k) i ≡ option_map (lost_at (length c.kept + 1)) (running_of (entered (courses_in c) (moment_of c) k) i)
+    lost_then is = holds.begun is ∙ ap (λ x. option_map (lost_at x) (running_of e i)) many
+
+    -- which is what it had, unless the event is of its piece
+    pub lost_now : LeavesPieceOf (moment_of c).kept k i → has_begun (advance (relation c) (courses_in c) (moment_of c) k) i ≡ true
+        → lost_by (advance (relation c) (courses_in c) (moment_of c) k) i ≡ option_map (lost_at (length c.kept + 1)) (running_of (moment_of c) i)
+    lost_now away is =
+        lost_then is
+        ∙ ap (option_map (lost_at (length c.kept + 1))) ((entered-stays (relation c) (courses_in c) m i k (run-tidy (relation c) (machine_of c) core.session.run) may away).running (entered-begun (relation c) (courses_in c) m k i))

@@ -57,7 +57,7 @@ module _ (table : ConflictRelation) (courses : List Course) where
   started_if_active : (m : Moment) (i : ℕ) → is_active m.events i ≡ true → is_in i (starts m.events) ≡ true
   started_if_active m i is = (and_parts (is_in i (starts m.events)) (not (is_in i (ends m.events))) is).0
 
-  after_refusal_still : (m : Moment) (p : Piece) → (after_refusal courses m p).events ≡ m.events
+  pub after_refusal_still : (m : Moment) (p : Piece) → (after_refusal courses m p).events ≡ m.events
   after_refusal_still m p = by_way (is_none (way_on (progress courses m p.process)))
     where
       by_way : (t : Bool) → (if t then begins (Refused p.step) m p.process else m).events ≡ m.events

@@ -35,7 +35,7 @@ plans_few c core =
     let few = few_start (courses_in c) (history_of c) (runs_are_legal (relation c) c.plans (machine_of c) core.session).1 in
     omega arith
 
-module _ {c : CoreState} {h : List Event} {ss : List SeatState} {ts : Tables} {most capacity : ℕ} (kept : IsKept c h ss ts most capacity) (k : Kept)
+module _ {c : CoreState} {h : List Event} {ss : List SeatState} {ts : Tables} {opening most capacity : ℕ} (kept : IsKept c h ss ts opening most capacity) (k : Kept)
     (may : may_be_kept (relation c) (courses_in c) (moment_of c) k ≡ true) (root : ℕ) (middle : Moment) (is : IsMiddle c kept.stands.core k may root middle)
     (xs : List SeatState) (seats : xs ≡ map (seat_between c kept.stands.core k may root middle) (numbers_from 1 (length (courses_in c)))) (us : Tables) (tables : us ≡ between c kept.stands.core k may root middle) where
   then_is : us ≡ tables_of c.conflicts (courses_in c) middle
@@ -73,20 +73,20 @@ module _ {c : CoreState} {h : List Event} {ss : List SeatState} {ts : Tables} {m
         ∙ (ap (λ (t : Tables). is_in j (cascade (do_conflict t.conflicts) (holdings_of t) root (last_entries t root (kept_of t root).pending))) then_is
         ∙ ap (is_in j) (cascade_is c kept.stands.core k may root middle is))
 
-    stands : IsKept (with_kept c k) h (seats_begun (cause_of (DraggedBy root) members) (length c.kept + 1) (length xs) xs) (tables_begun (cause_of (DraggedBy root) members) xs (length xs) us) most capacity
+    stands : IsKept (with_kept c k) h (seats_begun (cause_of (DraggedBy root) members) (length c.kept + 1) (length xs) xs) (tables_begun (cause_of (DraggedBy root) members) xs (length xs) us) opening most capacity
     stands = kept_after c kept.stands.core k is.nobody may kept (dragged_stands c kept.stands.core k may root middle is members members_are h xs us kept.stands.events seats tables)
 
     seats_are : rs ≡ seats_begun (cause_of (DraggedBy root) members) (length c.kept + 1) (length xs) xs
     seats_are = seats' ∙ ap (λ n. seats_begun (cause_of (DraggedBy root) members) n (length xs) xs) at
 
-    pub drag_stands : (room : ℕ) → room ≡ capacity → IsKept (record { conflicts = vs.conflicts; plans = c.plans; opening = c.opening; kept = ks; served = c.served }) h rs vs most room
-    drag_stands room same = put_together_stands c k h (seats_begun (cause_of (DraggedBy root) members) (length c.kept + 1) (length xs) xs) (tables_begun (cause_of (DraggedBy root) members) xs (length xs) us) most capacity stands rs vs ks room seats_are tables' items same
+    pub drag_stands : (room : ℕ) → room ≡ capacity → IsKept (record { conflicts = vs.conflicts; plans = c.plans; opening = c.opening; kept = ks; served = c.served }) h rs vs opening most room
+    drag_stands room same = put_together_stands c k h (seats_begun (cause_of (DraggedBy root) members) (length c.kept + 1) (length xs) xs) (tables_begun (cause_of (DraggedBy root) members) xs (length xs) us) opening most capacity stands rs vs ks room seats_are tables' items same
 
     pub drag_is : record { conflicts = vs.conflicts; plans = c.plans; opening = c.opening; kept = ks; served = c.served } ≡ with_kept c k
-    drag_is = put_together_is c k h (seats_begun (cause_of (DraggedBy root) members) (length c.kept + 1) (length xs) xs) (tables_begun (cause_of (DraggedBy root) members) xs (length xs) us) most capacity stands rs vs ks capacity seats_are tables' items
+    drag_is = put_together_is c k h (seats_begun (cause_of (DraggedBy root) members) (length c.kept + 1) (length xs) xs) (tables_begun (cause_of (DraggedBy root) members) xs (length xs) us) opening most capacity stands rs vs ks capacity seats_are tables' items
 
 -- All that is asked of the seats and the tables where others are dragged along, and what comes of it.
-pub record CanDrag (c : CoreState) (h : List Event) (most capacity : ℕ) (k : Kept) (root : ℕ) (xs : List SeatState) (us : Tables) : Type 0 where
+pub record CanDrag (c : CoreState) (h : List Event) (opening most capacity : ℕ) (k : Kept) (root : ℕ) (xs : List SeatState) (us : Tables) : Type 0 where
   pub root_open : is_open us root ≡ true
   pub count : (kept_of us root).pending + (kept_of us root).fixed ≤ length (of_process root us.net)
   pub numbers : Each (λ (r : OpenProcess). r.process ≤ 4096) us.processes
@@ -97,13 +97,13 @@ pub record CanDrag (c : CoreState) (h : List Event) (most capacity : ℕ) (k : K
       → ((j : ℕ) → is_in j members ≡ is_in j (cascade (do_conflict us.conflicts) (holdings_of us) root (last_entries us root (kept_of us root).pending)))
       → (rs : List SeatState) (vs : Tables) (ks : List Kept) → rs ≡ seats_begun (cause_of (DraggedBy root) members) event (length xs) xs
       → vs ≡ tables_begun (cause_of (DraggedBy root) members) xs (length xs) us → ks ≡ c.kept ++ k ∷ []
-      → ((n : ℕ) → n ≡ capacity → IsKept (record { conflicts = vs.conflicts; plans = c.plans; opening = c.opening; kept = ks; served = c.served }) h rs vs most n)
+      → ((n : ℕ) → n ≡ capacity → IsKept (record { conflicts = vs.conflicts; plans = c.plans; opening = c.opening; kept = ks; served = c.served }) h rs vs opening most n)
       × (record { conflicts = vs.conflicts; plans = c.plans; opening = c.opening; kept = ks; served = c.served } ≡ with_kept c k)
 
-pub can_drag : {c : CoreState} {h : List Event} {ss : List SeatState} {ts : Tables} {most capacity : ℕ} (kept : IsKept c h ss ts most capacity) (k : Kept)
+pub can_drag : {c : CoreState} {h : List Event} {ss : List SeatState} {ts : Tables} {opening most capacity : ℕ} (kept : IsKept c h ss ts opening most capacity) (k : Kept)
     (may : may_be_kept (relation c) (courses_in c) (moment_of c) k ≡ true) (root : ℕ) (middle : Moment) → IsMiddle c kept.stands.core k may root middle
     → (xs : List SeatState) → xs ≡ map (seat_between c kept.stands.core k may root middle) (numbers_from 1 (length (courses_in c)))
-    → (us : Tables) → us ≡ between c kept.stands.core k may root middle → CanDrag c h most capacity k root xs us
+    → (us : Tables) → us ≡ between c kept.stands.core k may root middle → CanDrag c h opening most capacity k root xs us
 can_drag kept k may root middle is xs seats us tables = record {
   root_open = drag_root kept k may root middle is xs seats us tables;
   count = drag_count kept k may root middle is xs seats us tables;

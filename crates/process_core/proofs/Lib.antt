@@ -59,3 +59,4 @@ pub mod ReplyKept
 pub mod DragKept
 pub mod BackKept
 pub mod AbortReplies
+pub mod RefusedOwn
