@@ -1,26 +1,23 @@
 -- What the tables say against the next piece of a process is what the machine says.
-use Rattle.std.proofs.Common.{◌≡◌, ⊎_elim, ℕ, ◌+◌, ◌-◌, ◌≤◌, Bool, true, false, not, eqb, ◌&&◌, ◌||◌, if◌then◌else◌, List, [], ◌∷◌, ◌++◌, length, map, filter, find, slice_index_or, Option, Some, None, sym, refl, ap, subst, ◌∙◌, append-nil, arith}
-use Rattle.std.specs.List.{list_any}
+use Rattle.std.proofs.Common.{◌≡◌, ℕ, Bool, true, false, if◌then◌else◌, List, [], ◌∷◌, ◌++◌, map, slice_index_or, None, sym, refl, ap, ◌∙◌, append-nil}
 use Rattle.process_tree.specs.declared.entry.Entry.{Entry}
 use Rattle.process_tree.specs.declared.plan.Plan.{Plan}
 use Rattle.process_tree.specs.declared.step.StepKind.{StepKind}
 use Rattle.process_tree.specs.declared.step.StepKind.TheVariants.{C, P, R}
 use Rattle.process_tree.specs.Conflicts.{Table, do_conflict}
 use Rattle.process_tree.specs.Entries.{entry_of}
-use Rattle.process_tree.specs.Recovery.{StepClass, class_by_kind, committing, forward, last_after, reserved, undoable}
-use Rattle.process_tree.specs.Shape.{Shape, branch_to, commits, goes_on_to, kind_of, shape_of}
-use Rattle.schedule_model.specs.Blocking.{Clashes, against_end, against_step, against_undo}
+use Rattle.process_tree.specs.Recovery.{StepClass, class_by_kind, committing, last_after, reserved, undoable}
+use Rattle.process_tree.specs.Shape.{Shape, branch_to, commits, kind_of, shape_of}
+use Rattle.schedule_model.specs.Blocking.{against_step}
 use Rattle.schedule_model.specs.Conflict.{ConflictRelation}
 use Rattle.schedule_model.specs.Course.{Course, course, course_of, shape}
-use Rattle.schedule_model.specs.Histories.{active, doing, is_active, is_in, net, net_of, net_steps}
-use Rattle.schedule_model.specs.Holdings.{Holdings, active_net}
+use Rattle.schedule_model.specs.Histories.{active, doing, is_in, net_steps}
+use Rattle.schedule_model.specs.Holdings.{Holdings}
 use Rattle.schedule_model.specs.Legal.{class_in}
 use Rattle.schedule_model.specs.Recovery.{owed, owed_after, owed_steps}
-use Rattle.schedule_model.proofs.Active.{is_active-is_in}
-use Rattle.machine_model.specs.Moment.{Moment, Piece}
+use Rattle.machine_model.specs.Moment.{Moment}
 use Rattle.machine_model.specs.Pieces.{running_of}
-use Rattle.machine_model.specs.State.{hold_of, holdings, owed_soon}
-use Rattle.machine_model.specs.Laws.{open_only}
+use Rattle.machine_model.specs.State.{hold_of, owed_soon}
 use Rattle.hold_tables.specs.Tables.{OpenProcess, Tables, holdings_of, kept_of}
 use Rattle.admission.specs.Admission.{class_in_tables, owed_behind, reserved_steps}
 use Rattle.process_core.specs.OpenTables.{pairs_of, row_of, tables_of}
@@ -73,7 +70,7 @@ module _ (conflicts : Table) (courses : List Course) (m : Moment) (i : ℕ) (p :
   entries_are (b ∷ bs) = ap (λ (e : Entry). e ∷ map (entry_of p i) bs) (entry_is b) ∙ ap (λ es. doing courses i b ∷ es) (entries_are bs)
 
   module _ (idle : running_of m i ≡ None) where
-    reserved_are : (hold_of courses m i).reserved ≡ owed courses m.events i
+    pub reserved_are : (hold_of courses m i).reserved ≡ owed courses m.events i
     reserved_are = ap (λ o. owed courses m.events i ++ owed_soon courses m.events o) idle ∙ append-nil (owed courses m.events i)
 
     -- it has reserved what it owes
@@ -90,7 +87,7 @@ module _ (conflicts : Table) (courses : List Course) (m : Moment) (i : ℕ) (p :
         ∙ ap (λ (x : Shape). if is_in b (owed_steps courses m.events i) then reserved else class_by_kind (kind_of x b)) same_shape
 
     -- what would be owed behind a new commit point that goes on
-    owed_is : (b : ℕ) → branch_to t b ≡ w → class_in courses m.events i b ≡ committing → owed_behind p i b ≡ owed_after courses m.events i b
+    pub owed_is : (b : ℕ) → branch_to t b ≡ w → class_in courses m.events i b ≡ committing → owed_behind p i b ≡ owed_after courses m.events i b
     owed_is b branch class =
         ap (λ (x : Shape). map (entry_of p i) (last_after x (branch_to x b ++ b ∷ []))) same_shape
         ∙ (entries_are (last_after t (branch_to t b ++ b ∷ []))

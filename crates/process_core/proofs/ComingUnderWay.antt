@@ -1,5 +1,5 @@
 -- What comes under way, by its class.
-use Rattle.std.proofs.Common.{◌≡◌, Bool, true, false, refl}
+use Rattle.std.proofs.Common.{◌≡◌, true, refl}
 use Rattle.std.proofs.lemmas.Bool.{false≢true}
 use Rattle.process_tree.specs.Recovery.{StepClass, reserved, committing, undoable}
 use Rattle.process_core.specs.Handing.{is_committing}

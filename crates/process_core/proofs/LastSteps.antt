@@ -18,7 +18,7 @@ last_within t c (suc n) v within = by_next (greatest (next_steps t v)) refl (λ 
     by_next None is rest = tt
     by_next (Some d) is rest = (goes_within t c v d within (greatest_is (next_steps t v) d is), rest d)
 
-last_few : (t : Shape) (n : ℕ) (v : List ℕ) → length (last_path n t v) ≤ n
+pub last_few : (t : Shape) (n : ℕ) (v : List ℕ) → length (last_path n t v) ≤ n
 last_few t zero v = omega arith
 last_few t (suc n) v = by_next (greatest (next_steps t v)) (λ d. last_few t n (v ++ d ∷ []))
   where

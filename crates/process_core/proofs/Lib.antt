@@ -54,9 +54,10 @@ pub mod Admissions
 pub mod NextTasks
 pub mod OwnPlans
 pub mod NextReplies
-pub mod RowsOpen
 pub mod ReplyKept
 pub mod DragKept
 pub mod BackKept
 pub mod AbortReplies
 pub mod RefusedOwn
+pub mod ReservedFits
+pub mod HandTables

@@ -1,27 +1,21 @@
 -- What a core finds of the next piece of a process is what the machine replies.
-use Rattle.std.proofs.Common.{◌≡◌, ℕ, ◌+◌, ◌<◌, true, List, length, map, filter, find, slice_index_or, Option, Some, None, sym, refl, ap, subst, ◌∙◌, arith}
+use Rattle.std.proofs.Common.{◌≡◌, ℕ, ◌+◌, true, List, length, filter, find, slice_index_or, Option, Some, None, sym, refl, ap, ◌∙◌, arith}
 use Rattle.process_tree.specs.declared.entry.Entry.{Entry}
 use Rattle.process_tree.specs.declared.plan.Plan.{Plan}
-use Rattle.process_tree.specs.Blocks.{outline}
-use Rattle.process_tree.specs.Conflicts.{do_conflict}
 use Rattle.schedule_model.specs.Blocking.{Clashes}
-use Rattle.schedule_model.specs.Course.{Course, course, course_of, usual}
-use Rattle.schedule_model.specs.Histories.{active, doing, is_active, is_in, net}
-use Rattle.schedule_model.specs.Holdings.{Holdings, holders}
+use Rattle.schedule_model.specs.Course.{Course, usual}
+use Rattle.schedule_model.specs.Histories.{is_active, is_in, net}
 use Rattle.schedule_model.proofs.Active.{is_active-is_in}
-use Rattle.machine_model.specs.declared.blocked.Admitted.{Admitted}
 use Rattle.machine_model.specs.declared.blocked.Admitted.TheVariants.{Free, Blocked as BlockedBy}
 use Rattle.machine_model.specs.declared.blocked.Blocked.{Blocked}
 use Rattle.machine_model.specs.declared.kept.Work.{Work}
 use Rattle.machine_model.specs.declared.kept.Work.TheVariants.{Forward, Undo, End}
 use Rattle.machine_model.specs.Blocks.{blocks_of, least_block}
-use Rattle.machine_model.specs.Laws.{open_only}
-use Rattle.machine_model.specs.Moment.{Moment, Piece}
+use Rattle.machine_model.specs.Moment.{Moment}
 use Rattle.machine_model.specs.Pieces.{hands, running_of}
-use Rattle.machine_model.specs.Progress.{Task}
-use Rattle.machine_model.specs.ProcessState.{allowance_in, told_task}
-use Rattle.machine_model.specs.State.{against_work, block_of, holdings, next_of, progress, tried}
-use Rattle.machine_model.specs.Replies.{Handed, hand_to, refuse_by}
+use Rattle.machine_model.specs.ProcessState.{told_task}
+use Rattle.machine_model.specs.State.{against_work, block_of, next_of, progress, tried}
+use Rattle.machine_model.specs.Replies.{hand_to, refuse_by}
 use Rattle.machine_model.proofs.OpenHoldings.{holders-active}
 use Rattle.machine_model.proofs.OpenRuns.{open_holdings_are_enough}
 use Rattle.hold_tables.specs.Tables.{Tables, holdings_of}
@@ -30,7 +24,7 @@ use Rattle.process_core.specs.Cores.{CoreState, IsCore, courses_in, machine_of, 
 use Rattle.process_core.specs.Handing.{IsOfPlan, piece_for, piece_told}
 use Rattle.process_core.specs.OpenTables.{tables_of}
 use Rattle.process_core.proofs.Admissions.{against_forward}
-use Rattle.process_core.proofs.NextTasks.{end_step, more_than_fixed, net_ends, next_branch, next_within, undone_is, undone_within}
+use Rattle.process_core.proofs.NextTasks.{end_step, next_branch, next_within, undone_is, undone_within}
 use Rattle.process_core.proofs.OwnPlans.{OwnPlan, own_steps}
 use Rattle.process_core.proofs.TablesHoldings.{tables_stand_for}
 

@@ -1,25 +1,24 @@
 -- What is known of the next piece of an active process of a core.
-use Rattle.std.proofs.Common.{◌≡◌, inl, inr, ℕ, zero, suc, ◌+◌, ◌-◌, ◌≤◌, ◌<◌, Bool, true, false, not, eqb, ltb, ◌&&◌, ◌||◌, if◌then◌else◌, List, [], ◌∷◌, ◌++◌, length, map, filter, find, drop, take, slice_index_or, Option, Some, None, sym, refl, ap, subst, ◌∙◌, append_assoc, length-append, arith}
+use Rattle.std.proofs.Common.{◌≡◌, inl, inr, ℕ, zero, suc, ◌<◌, Bool, true, false, eqb, ltb, ◌||◌, if◌then◌else◌, List, [], ◌∷◌, ◌++◌, length, filter, find, drop, take, Option, Some, None, sym, refl, ap, subst, ◌∙◌, append_assoc, length-append, arith}
 use Rattle.std.specs.Bool.{IsTrue}
 use Rattle.std.specs.List.{list_any, list_all}
-use Rattle.std.proofs.lemmas.Bool.{and_from, and_parts, eq-eqb, eqb-true, false≢true, lt-ltb, or_left, or_right}
-use Rattle.std.proofs.lemmas.List.{length-map, map-append, take-append-drop}
+use Rattle.std.proofs.lemmas.Bool.{and_from, and_parts, eq-eqb, eqb-true, false≢true}
+use Rattle.std.proofs.lemmas.List.{take-append-drop}
 use Rattle.std.proofs.lemmas.List.Elements.{All-contains}
 use Rattle.process_tree.specs.declared.entry.Entry.{Entry}
-use Rattle.process_tree.specs.Shape.{Shape, branch_to, fixed_len, goes_on_to}
+use Rattle.process_tree.specs.Shape.{branch_to, fixed_len, goes_on_to}
 use Rattle.schedule_model.specs.Conflict.{no_conflict}
 use Rattle.schedule_model.specs.Course.{Course, op_of, shape}
-use Rattle.schedule_model.specs.Histories.{active, acts, doing, done_steps, is_active, is_in, net, net_of, net_steps, of_process, same_step, steps_of, undoing}
+use Rattle.schedule_model.specs.Histories.{active, acts, doing, done_steps, is_active, is_in, net, net_of, net_steps, undoing}
 use Rattle.schedule_model.specs.Legal.{is_legal}
 use Rattle.schedule_model.specs.OwnOrder.{goes_on, is_of_last}
 use Rattle.schedule_model.specs.Recovery.{backward_entries}
 use Rattle.schedule_model.proofs.Active.{is_active-is_in}
 use Rattle.schedule_model.proofs.CompletionFirst.{net-of_plans}
 use Rattle.schedule_model.proofs.Entries.{net_acts-forward}
-use Rattle.schedule_model.proofs.Members.{Among, among-filter, among-right, among_there, any-among, contains-from_among, in_filter}
+use Rattle.schedule_model.proofs.Members.{Among, among-filter, among_there, any-among, contains-from_among, in_filter}
 use Rattle.schedule_model.proofs.Undoing.{EndsWith, ends_with}
 use Rattle.machine_model.proofs.WaysOn.{drop_past}
-use Rattle.machine_model.specs.declared.kept.Work.{Work}
 use Rattle.machine_model.specs.declared.kept.Work.TheVariants.{Forward, Undo, End}
 use Rattle.machine_model.specs.Moment.{Moment}
 use Rattle.machine_model.specs.Progress.{Progress, Task, next_forward, next_task, pending_steps, step_or_end, undo_or, way_on}
@@ -31,7 +30,7 @@ use Rattle.schedule_model.specs.OwnOrder.{keeps_order}
 use Rattle.process_tree.specs.Shape.{first_of, last_of}
 use Rattle.process_tree.specs.Recovery.{forward}
 use Rattle.admission.specs.Admission.{is_of_step}
-use Rattle.process_core.specs.Cores.{CoreState, IsCore, courses_in, history_of, machine_of, moment_of, relation}
+use Rattle.process_core.specs.Cores.{CoreState, IsCore, courses_in, machine_of, moment_of, relation}
 use Rattle.process_core.proofs.NetEntries.{ComesBehind, branch_is_net, comes_at, step_is_new, step_is_one}
 
 -- an end has step 0
@@ -117,7 +116,7 @@ module _ (c : CoreState) (core : IsCore c) (i : ℕ) (active' : is_active (momen
       ∙ ap (λ s. record { process = i; step = s; op = op_of cs i s; undo = false }) step))
 
   module _ (b : ℕ) (next : next_of (courses_in c) (moment_of c) i ≡ record { work = Undo; step = b }) where
-    pub last_is : is_of_last (backward_entries cs m.events i) (undoing (doing cs i b)) ≡ true
+    last_is : is_of_last (backward_entries cs m.events i) (undoing (doing cs i b)) ≡ true
     last_is = (and_parts _ (is_of_last (backward_entries cs m.events i) (undoing (doing cs i b))) (subst Keeps next keeps)).1
 
     abbrev ends : EndsWith (undoing (doing cs i b)) (backward_entries cs m.events i)
@@ -138,8 +137,8 @@ module _ (c : CoreState) (core : IsCore c) (i : ℕ) (active' : is_active (momen
         let same = and_parts (eqb ends.last.process i) (eqb ends.last.step b) ends.same in
         net_entry_is ends.last last_among b (eqb-true ends.last.process i same.0) (eqb-true ends.last.step b same.1)
 
-    pub net_ends : net_of (moment_of c).events i ≡ (take (fixed_len (shape (courses_in c) i) (net_steps (moment_of c).events i)) (net_of (moment_of c).events i) ++ ends.front) ++ doing (courses_in c) i b ∷ []
-    net_ends = net_split ∙ ap (λ e. (take f (net_of m.events i) ++ ends.front) ++ e ∷ []) last_entry
+    pub net_ends : (front : List Entry) × (net_of (moment_of c).events i ≡ front ++ doing (courses_in c) i b ∷ [])
+    net_ends = (take f (net_of m.events i) ++ ends.front, net_split ∙ ap (λ e. (take f (net_of m.events i) ++ ends.front) ++ e ∷ []) last_entry)
 
     -- which is one of its steps
     pub undone_within : b < length (shape (courses_in c) i).kinds

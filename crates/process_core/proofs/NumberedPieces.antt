@@ -1,5 +1,5 @@
 -- Pieces are numbered from 1 in the order in which they were handed out.
-use Rattle.std.proofs.Common.{◌≡◌, ℕ, suc, ◌+◌, true, List, [], ◌∷◌, ◌++◌, length, map, drop, slice_index_or, sym, refl, ap, subst, ◌∙◌, append-nil, length-append, arith}
+use Rattle.std.proofs.Common.{◌≡◌, ℕ, ◌+◌, true, List, [], ◌∷◌, ◌++◌, length, map, drop, slice_index_or, sym, refl, ap, subst, ◌∙◌, append-nil, length-append, arith}
 use Rattle.std.proofs.lemmas.List.{map-append}
 use Rattle.process_tree.specs.Blocks.{numbers_from}
 use Rattle.machine_model.specs.declared.kept.Kept.{Kept}
@@ -7,7 +7,6 @@ use Rattle.machine_model.specs.declared.kept.Kept.TheVariants.{Start, Hand, Effe
 use Rattle.machine_model.specs.declared.kept.Work.{Work}
 use Rattle.machine_model.specs.Moment.{Moment, Piece}
 use Rattle.machine_model.specs.Pieces.{hands}
-use Rattle.machine_model.specs.Advance.{advance}
 use Rattle.machine_model.specs.Runs.{may_be_kept}
 use Rattle.machine_model.proofs.RunInduction.{run-keeps}
 use Rattle.machine_model.proofs.RunningNext.{hand_parts}

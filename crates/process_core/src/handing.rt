@@ -107,4 +107,34 @@ impl Core {
             Upcoming::Task(todo, tried) => self.by_rules(i, todo, tried),
         }
     }
+
+    /// A piece that may be handed out is under way from now on.
+    pub(crate) fn hand(&mut self, piece: &Piece)
+        requires { may_be_kept (relation self.old) (courses_in self.old) (moment_of self.old) (kept_hand piece.now) ≡ true }
+        ensures { self.new ≡ with_kept self.old (kept_hand piece.now) }
+    {
+        let plans = self.history.plans.as_slice();
+        let place = piece.process as usize - 1;
+        let plan = &plans[place];
+        come_under_way(&mut self.holds, plan, piece.process, piece.step, piece.work);
+        self.seats[place].out = Some(piece.number);
+        self.kept.push_reserved(Kept::Hand {
+            piece: piece.number,
+            process: piece.process,
+            step: piece.step,
+            work: piece.work,
+        });
+    }
+
+    /// Hands out the next piece of a process, or says why not.
+    pub fn admit(&mut self, i: u32) -> Admit
+        ensures core { self.new ≡ after_call self.old (admit i) }
+        ensures reply { admitted (admit_reply_of result) ≡ (answer_in self.old (admit i)).reply }
+    {
+        let reply = self.reply_of(i);
+        if let Admit::Piece(piece) = &reply {
+            self.hand(piece);
+        }
+        reply
+    }
 }

@@ -1,9 +1,5 @@
-use Rattle.std.proofs.Common.{◌≡◌, ◌∙◌, ◌+◌, ◌<◌, ◌++◌, ◌∷◌, [], List, length, sym, refl, ap, subst, append-nil, length-append, arith}
+use Rattle.std.proofs.Common.{◌∙◌, ◌++◌, ◌∷◌, [], ap, arith}
 use Rattle.machine_model.specs.declared.kept.Kept.{Kept}
-use Rattle.machine_model.specs.Moment.{Piece}
-use Rattle.machine_model.specs.Pieces.{hands}
-use Rattle.machine_model.proofs.Snoc.{hands-append}
-use Rattle.process_core.specs.Handing.{AreNumbered}
 use Rattle.process_core.proofs.NumberedPieces.{hand_behind, no_hand, no_hand_behind}
 use Rattle.process_core.proofs.handing.next_number.Goals as goal
 

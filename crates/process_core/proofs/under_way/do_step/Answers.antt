@@ -1,12 +1,12 @@
-use Rattle.std.proofs.Common.{◌≡◌, ◌∙◌, ◌+◌, ◌≤◌, ◌++◌, length, ap, sym, subst}
+use Rattle.std.proofs.Common.{◌∙◌, ◌+◌, ◌≤◌, ◌++◌, length, ap, sym, subst}
 use Rattle.process_tree.specs.Blocks.{outline}
 use Rattle.hold_tables.specs.Kept.{AreKnown}
 use Rattle.process_tree.specs.Entries.{entry_of}
-use Rattle.process_tree.specs.Recovery.{StepClass, reserved, committing, undoable}
-use Rattle.hold_tables.specs.Changes.{changed, run, with_reserved, with_running}
+use Rattle.process_tree.specs.Recovery.{committing}
+use Rattle.hold_tables.specs.Changes.{changed, run, with_reserved}
 use Rattle.hold_tables.specs.Tables.{OpenProcess, Tables, is_open, kept_of}
 use Rattle.admission.specs.Admission.{IsPlanFor, class_in_tables}
-use Rattle.process_core.specs.Handing.{FitsClass, is_committing, step_under_way}
+use Rattle.process_core.specs.Handing.{FitsClass, step_under_way}
 use Rattle.process_core.specs.OpenTables.{pairs_behind}
 use Rattle.process_core.proofs.RowChanges.{run_open, run_row}
 use Rattle.process_core.proofs.ComingUnderWay.{committing_is}

@@ -1,4 +1,4 @@
-use Rattle.std.proofs.Common.{◌≡◌, ◌∙◌, ◌+◌, ◌<◌, ◌≤◌, ◌++◌, length, ap, sym, subst, length-append, arith}
+use Rattle.std.proofs.Common.{◌∙◌, ◌<◌, ◌++◌, length, ap, sym, subst, arith}
 use Rattle.process_tree.specs.Conflicts.{operations_in}
 use Rattle.process_tree.specs.Order.{Each}
 use Rattle.process_tree.specs.Shape.{shape_of}

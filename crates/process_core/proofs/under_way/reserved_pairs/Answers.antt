@@ -1,4 +1,4 @@
-use Rattle.std.proofs.Common.{◌≡◌, ◌∙◌, ◌<◌, ◌++◌, ◌∷◌, [], length, take, ap, sym, add-one, arith}
+use Rattle.std.proofs.Common.{◌∙◌, ◌<◌, ◌++◌, ◌∷◌, [], length, take, ap, sym, add-one, arith}
 use Rattle.std.proofs.Math.Seq.{take-suc}
 use Rattle.hold_tables.specs.Tables.{kept_of}
 use Rattle.process_core.proofs.under_way.reserved_pairs.Goals as goal

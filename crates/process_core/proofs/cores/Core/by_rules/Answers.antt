@@ -1,11 +1,7 @@
-use Rattle.std.proofs.Common.{◌≡◌, ◌∙◌, ◌+◌, ◌-◌, ◌<◌, ◌≤◌, ℕ, List, length, true, not, ◌&&◌, None, refl, ap, subst, sym, arith}
-use Rattle.std.proofs.lemmas.Bool.{and_parts}
-use Rattle.process_tree.specs.declared.plan.Plan.{Plan}
-use Rattle.schedule_model.specs.Histories.{ends, is_in, starts}
+use Rattle.std.proofs.Common.{◌≡◌, ◌∙◌, ◌+◌, ◌<◌, List, length, refl, ap, subst, sym, arith}
 use Rattle.schedule_model.proofs.Active.{is_active-is_in}
 use Rattle.machine_model.specs.declared.kept.Kept.{Kept}
 use Rattle.machine_model.specs.declared.replies.Todo.{Todo}
-use Rattle.machine_model.specs.Moment.{Moment}
 use Rattle.machine_model.specs.Pieces.{hands}
 use Rattle.machine_model.specs.Replies.{piece, piece_unless}
 use Rattle.machine_model.specs.State.{next_of}
@@ -19,8 +15,10 @@ use Rattle.process_core.specs.OpenTables.{tables_of}
 use Rattle.process_core.proofs.FewHands.{hands_few}
 use Rattle.process_core.proofs.NextReplies.{admission_is, admitted_blocked, admitted_free, piece_is, step_of_plan, within_plan}
 use Rattle.process_core.proofs.NumberedPieces.{hands_numbered}
-use Rattle.process_core.proofs.OwnPlans.{OwnPlan, own_plan}
-use Rattle.process_core.proofs.RowsOpen.{active_open}
+use Rattle.process_core.proofs.OwnPlans.{own_plan}
+use Rattle.process_core.proofs.PendedRows.{listed_open}
+use Rattle.process_core.specs.OpenTables.{row_of}
+use Rattle.schedule_model.specs.Histories.{active}
 use Rattle.process_core.proofs.SeatFacts.{has_plan}
 use Rattle.process_core.proofs.SeatReplies.{started_if, upcoming_is}
 use Rattle.process_core.proofs.cores.Core.by_rules.Goals as goal
@@ -40,7 +38,7 @@ pub admit-requires-clause-open : goal.admit-requires-clause-open
 admit-requires-clause-open c =
     let v = c.args.self.now in
     let m = moment_of v in
-    ap (λ (t : Tables). is_open t c.args.i) (subst (λ x. c.self.inside.holds ≡ tables_of x.conflicts (courses_in x) (moment_of x)) c.self.view_is c.self.invariant.stands.tables) ∙ active_open v.conflicts (courses_in v) m c.args.i (is_active-is_in m.events c.args.i ∙ (upcoming_is (courses_in c.args.self.now) (moment_of c.args.self.now) c.args.i c.args.todo c.args.tried c.requires).active')
+    ap (λ (t : Tables). is_open t c.args.i) (subst (λ x. c.self.inside.holds ≡ tables_of x.conflicts (courses_in x) (moment_of x)) c.self.view_is c.self.invariant.stands.tables) ∙ listed_open (row_of (courses_in v) m) c.args.i (active m.events) (λ k. refl) (is_active-is_in m.events c.args.i ∙ (upcoming_is (courses_in c.args.self.now) (moment_of c.args.self.now) c.args.i c.args.todo c.args.tried c.requires).active')
 
 pub admit-requires-clause-plan : goal.admit-requires-clause-plan
 admit-requires-clause-plan c =

@@ -1,4 +1,4 @@
-use Rattle.std.proofs.Common.{◌≡◌, ◌∙◌, ℕ, zero, suc, ◌<◌, ◌≤◌, refl, subst, arith}
+use Rattle.std.proofs.Common.{◌≡◌, ◌∙◌, ℕ, zero, suc, ◌≤◌, refl, subst, arith}
 use Rattle.process_core.specs.Cores.{IsCore, courses_in, moment_of}
 use Rattle.process_core.specs.Seats.{seats_of}
 use Rattle.process_core.proofs.SeatFacts.{seat_is, seats_many}
