@@ -1,22 +1,20 @@
--- The same answer, told of equal words, equal files and an equal status.
+-- The same answer, told of equal words, an equal world before and an equal number.
 use Rattle.std.specs.Prelude.{List}
 use Rattle.std.proofs.Common.{◌≡◌, ℕ, subst}
-use Rattle.process_top.specs.Told.{Output}
-use Rattle.process_top.specs.Reply.{Input, Files, IsAnswered, IsComplete}
+use Rattle.process_top.specs.Worlds.{World}
+use Rattle.process_top.specs.Commands.{IsAnswered, IsComplete}
 
-pub same_answer : (words words' : List (List ℕ)) (input input_after : Input) (files files' files_after : Files) (output output_after : Output) (status status' : ℕ)
-    → words ≡ words' → files ≡ files' → status ≡ status'
-    → IsAnswered words input input_after files files_after output output_after status → IsAnswered words' input input_after files' files_after output output_after status'
-same_answer words words' input input_after files files' files_after output output_after status status' by_words by_files by_status answered =
-    subst (λ s. IsAnswered words' input input_after files' files_after output output_after s) by_status
-    (subst (λ f. IsAnswered words' input input_after f files_after output output_after status) by_files
-    (subst (λ w. IsAnswered w input input_after files files_after output output_after status) by_words answered))
+pub same_answer : (words words' : List (List ℕ)) (before before' after : World) (number number' : ℕ) → words ≡ words' → before ≡ before' → number ≡ number'
+    → IsAnswered words before after number → IsAnswered words' before' after number'
+same_answer words words' before before' after number number' by_words by_before by_number answered =
+    subst (λ n. IsAnswered words' before' after n) by_number
+    (subst (λ b. IsAnswered words' b after number) by_before
+    (subst (λ w. IsAnswered w before after number) by_words answered))
 
 -- and as complete
-pub same_complete : (words words' : List (List ℕ)) (input input_after : Input) (files files' files_after : Files) (output output_after : Output) (status status' : ℕ)
-    → words ≡ words' → files ≡ files' → status ≡ status'
-    → IsComplete words input input_after files files_after output output_after status → IsComplete words' input input_after files' files_after output output_after status'
-same_complete words words' input input_after files files' files_after output output_after status status' by_words by_files by_status complete =
-    subst (λ s. IsComplete words' input input_after files' files_after output output_after s) by_status
-    (subst (λ f. IsComplete words' input input_after f files_after output output_after status) by_files
-    (subst (λ w. IsComplete w input input_after files files_after output output_after status) by_words complete))
+pub same_complete : (words words' : List (List ℕ)) (before before' after : World) (number number' : ℕ) → words ≡ words' → before ≡ before' → number ≡ number'
+    → IsComplete words before after number → IsComplete words' before' after number'
+same_complete words words' before before' after number number' by_words by_before by_number complete =
+    subst (λ n. IsComplete words' before' after n) by_number
+    (subst (λ b. IsComplete words' b after number) by_before
+    (subst (λ w. IsComplete w before after number) by_words complete))

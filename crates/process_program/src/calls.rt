@@ -2,12 +2,14 @@
 ghost use Rattle.std.specs.Prelude.{◌≡◌, drop, map, string_bytes, IfOk};
 ghost use Rattle.std.specs.Process.{exit_status};
 ghost use Rattle.std.specs.Vec.Iter.{into_iter_items, into_iter_len};
+ghost use Rattle.process_top.specs.Worlds.{world};
 ghost use Rattle.process_program.specs.Ends.{EndsSo};
 ghost use Rattle.process_program.specs.Words.{words_behind};
 
 use file_rack::{FileRack, Folder, SystemFolder};
 use process_flow::{Sink, Source, StdSink, StdSource};
 use process_top::{Finished, only_reads, top};
+use program_lines::Status;
 use std::alloc::{AllocError, Global};
 use std::env::Args;
 use std::fs::File;
@@ -15,8 +17,6 @@ use std::io::{Read, Write};
 use std::process::ExitCode;
 use std::rt::{Env, Files};
 use std::{env, io};
-
-const NO_MEMORY: u8 = 13;
 
 /// What a call of the program ends with, and the rack that it leaves.
 pub struct Ended<D: Folder + Drop> {
@@ -57,17 +57,13 @@ pub fn program<H, S: Source, K: Sink, D: Folder + Drop>(
     folder: D,
 ) -> Ended<D>
     ensures ends { EndsSo (words_behind args)
-        (record { left = S.left source.old; faults = S.faults source.old })
-        (record { left = S.left source.new; faults = S.faults source.new })
-        (record { disk = D.disk folder; faults = 0 })
-        (record { disk = D.disk result.rack.folder; faults = result.rack.faults })
-        (record { taken = K.taken sink.old; faults = K.faults sink.old })
-        (record { taken = K.taken sink.new; faults = K.faults sink.new })
+        (world (S.left source.old) (S.faults source.old) (D.disk folder) 0 (K.taken sink.old) (K.faults sink.old))
+        (world (S.left source.new) (S.faults source.new) (D.disk result.rack.folder) result.rack.faults (K.taken sink.new) (K.faults sink.new))
         (exit_status result.code) ((source.new ≡ source.old) × (sink.new ≡ sink.old) × (result.rack.folder ≡ folder)) }
 {
     let Ok(words) = words(alloc, args) else {
         return Ended {
-            code: ExitCode::from(NO_MEMORY),
+            code: ExitCode::from(Status::NoMemory.number()),
             rack: FileRack::over(folder, false),
         };
     };

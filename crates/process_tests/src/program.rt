@@ -1,7 +1,7 @@
 // The program over real files, and over a folder in memory.
 use crate::check::words_of;
 use crate::run::{JOURNAL, TEXT};
-use crate::show::LINES;
+use crate::show::{LINES, SHOWN};
 use file_rack::{FileRack, Folder, MemoryFolder, SystemFolder};
 use gate_log::Log;
 use process_disk::{MemoryRack, Rack};
@@ -69,7 +69,7 @@ fn what_is_run_on_real_files_is_shown_and_not_run_over(rt: HostRuntime) -> Resul
     drop(said(&rt, alloc, "run", odd, SystemFolder::new(&rt), 2, fault)?);
     assert!(rt; !fs::exists(&rt, "tps.0")?);
     drop(said(&rt, alloc, "run", TEXT, SystemFolder::new(&rt), 0, LINES)?);
-    drop(said(&rt, alloc, "show", b"", SystemFolder::new(&rt), 0, LINES)?);
+    drop(said(&rt, alloc, "show", b"", SystemFolder::new(&rt), 0, SHOWN)?);
     drop(said(
         &rt,
         alloc,
@@ -103,7 +103,15 @@ fn a_second_program_on_the_folder_changes_nothing(rt: HostRuntime) -> Result<(),
         10,
         b"disk fault\n",
     )?);
-    drop(said(&rt, alloc, "show", b"", SystemFolder::new(&rt), 0, b"")?);
+    drop(said(
+        &rt,
+        alloc,
+        "show",
+        b"",
+        SystemFolder::new(&rt),
+        6,
+        b"bad record file 0 at 1\n",
+    )?);
     let after = fs::read(&rt, "tps.0")?;
     assert_eq!(rt; after.as_slice(), before.as_slice());
     log.append(&mut first, b"first")?;
@@ -133,7 +141,7 @@ fn short_transfers_write_the_same_journal(rt: HostRuntime) -> Result<(), Fail> {
         assert_eq!(rt; &bytes[..99], JOURNAL);
         // The first of the eleven syncs was of all nine files, and one of the names.
         assert_eq!(rt; rack.folder.syncs, [11, 1, 1, 1, 1, 1, 1, 1, 1, 11]);
-        let shown = said(&rt, alloc, "show", b"", rack.folder, 0, LINES)?;
+        let shown = said(&rt, alloc, "show", b"", rack.folder, 0, SHOWN)?;
         drop(shown);
     }
     Ok(())

@@ -26,18 +26,48 @@ fn show_on<H: Abort>(
     Ok(rack)
 }
 
+// What a run prints.
 pub const LINES: &[u8] = b"start 1 a\ndo 1.x add\ndo 1.y add\nend 1\n";
 
-// Where the line of each record ends: none for the catalog.
-const ENDS: [usize; 6] = [0, 0, 10, 21, 32, 38];
+// What is shown of that run.
+pub const SHOWN: &[u8] =
+    b"conflicts\nhistory\nstart 1 a\ndo 1.x add\ndo 1.y add\nend 1\ncompletion\nends\n\
+    1 a path x y\ncauses\ntrace\nserial\ndo 1.x add\ndo 1.y add\n";
+
+// What is told of its first records: of none, of the catalog alone, with the start, and with one step and two.
+const NO_RECORD: &[u8] = b"bad record file 0 at 1\n";
+
+const CATALOG_ALONE: &[u8] = b"conflicts\nhistory\ncompletion\nends\ncauses\ntrace\nserial\n";
+
+const STARTED: &[u8] =
+    b"conflicts\nhistory\nstart 1 a\ncompletion\nend 1\nends\n1 a active\ncauses\ntrace\nserial\n";
+
+const ONE_STEP: &[u8] =
+    b"conflicts\nhistory\nstart 1 a\ndo 1.x add\ncompletion\nundo 1.x add\nend 1\nends\n\
+    1 a active\ncauses\ntrace\ncancel 1\nserial\n";
+
+const TWO_STEPS: &[u8] = b"conflicts\nhistory\nstart 1 a\ndo 1.x add\ndo 1.y add\n\
+    completion\nundo 1.y add\nundo 1.x add\nend 1\nends\n\
+    1 a active\ncauses\ntrace\ncancel 2\ncancel 1\nserial\n";
+
+const TOLD: [&[u8]; 6] = [
+    b"bad record file 0 at 1\n",
+    b"conflicts\nhistory\ncompletion\nends\ncauses\ntrace\nserial\n",
+    b"conflicts\nhistory\nstart 1 a\ncompletion\nend 1\nends\n1 a active\ncauses\ntrace\nserial\n",
+    b"conflicts\nhistory\nstart 1 a\ndo 1.x add\ncompletion\nundo 1.x add\nend 1\nends\n\
+    1 a active\ncauses\ntrace\ncancel 1\nserial\n",
+    b"conflicts\nhistory\nstart 1 a\ndo 1.x add\ndo 1.y add\ncompletion\nundo 1.y add\nundo 1.x add\nend 1\nends\n\
+    1 a active\ncauses\ntrace\ncancel 2\ncancel 1\nserial\n",
+    SHOWN,
+];
 
 #[test]
 fn what_was_run_is_shown(rt: HostRuntime) -> Result<(), Fail> {
     let alloc = rt.alloc();
     let rack = MemoryRack::new(alloc, Vec::new(alloc))?;
     let rack = run_on(&rt, alloc, TEXT, rack, 0, LINES)?;
-    let rack = show_on(&rt, alloc, rack, 0, LINES)?;
-    let rack = show_on(&rt, alloc, rack, 0, LINES)?;
+    let rack = show_on(&rt, alloc, rack, 0, SHOWN)?;
+    let rack = show_on(&rt, alloc, rack, 0, SHOWN)?;
     drop(rack);
     Ok(())
 }
@@ -53,25 +83,22 @@ const ACT_1: &[u8] = &[2, 1, 0, 0, 0, 1, 0, 0];
 const END: &[u8] = &[3, 1, 0, 0, 0];
 
 // Bodies in file 0, and what is told of them.
-const ROWS: [(&[&[u8]], u8, &[u8]); 15] = [
-    (&[], 0, b""),
-    (&[SETUP], 0, b""),
-    (&[SETUP, START], 0, b"start 1 a\n"),
-    (
-        &[SETUP, START, ACT_0, ACT_1],
-        0,
-        b"start 1 a\ndo 1.x add\ndo 1.y add\n",
-    ),
-    (&[SETUP, START, ACT_0, ACT_1, END], 0, LINES),
+const ROWS: [(&[&[u8]], u8, &[u8]); 16] = [
+    (&[], 6, NO_RECORD),
+    (&[SETUP], 0, CATALOG_ALONE),
+    (&[SETUP, START], 0, STARTED),
+    (&[SETUP, START, ACT_0], 0, ONE_STEP),
+    (&[SETUP, START, ACT_0, ACT_1], 0, TWO_STEPS),
+    (&[SETUP, START, ACT_0, ACT_1, END], 0, SHOWN),
     (&[START], 6, b"bad record file 0 at 1\n"),
     (&[SETUP, SETUP], 6, b"bad record file 0 at 2\n"),
     // another process's number
     (
         &[SETUP, b"\x01\x02\x00\x00\x00process a c x add 1 5 end\n"],
         6,
-        b"bad record file 0 at 2\n",
+        b"bad history at record 2\n",
     ),
-    // no canonical text, no text, no step of `add`, and two processes
+    // no canonical text, no text, an operation that the catalog lacks, and two processes
     (
         &[SETUP, b"\x01\x01\x00\x00\x00process a c x add 1 5 end"],
         6,
@@ -95,12 +122,12 @@ const ROWS: [(&[&[u8]], u8, &[u8]); 15] = [
         6,
         b"bad record file 0 at 2\n",
     ),
-    (&[SETUP, START, ACT_1], 6, b"bad record file 0 at 3\n"),
-    (&[SETUP, START, ACT_0, END], 6, b"bad record file 0 at 4\n"),
+    (&[SETUP, START, ACT_1], 6, b"bad history at record 3\n"),
+    (&[SETUP, START, ACT_0, END], 6, b"bad history at record 4\n"),
     (
         &[SETUP, START, ACT_0, ACT_1, END, END],
         6,
-        b"bad record file 0 at 6\n",
+        b"bad history at record 6\n",
     ),
 ];
 
@@ -118,7 +145,7 @@ fn rack_of(alloc: Global, bodies: &[&[u8]]) -> Result<MemoryRack, Fail> {
 }
 
 #[test]
-fn the_first_odd_record_is_named(rt: HostRuntime) -> Result<(), Fail> {
+fn a_history_is_shown_or_the_first_record_at_fault_is_named(rt: HostRuntime) -> Result<(), Fail> {
     let alloc = rt.alloc();
     for (bodies, status, output) in ROWS {
         let rack = show_on(&rt, alloc, rack_of(alloc, bodies)?, status, output)?;
@@ -167,15 +194,15 @@ const BEFORE: [(u32, u32, u8, u8, &[u8]); 8] = [
     (0, 0, 0x07, 6, b"bad header file 0\n"),
     (1, 0, 0x00, 6, b"bad header file 0\n"),
     (1, 7, 0xff, 6, b"bad header file 0\n"),
-    (1, 8, 0x00, 0, b""),
+    (1, 8, 0x00, 6, b"bad record file 0 at 1\n"),
     (1, 8, 0xff, 6, b"bad record file 0 at 1\n"),
     (2, 1, 0x07, 6, b"bad header file 0\n"),
     (2, 8, 0x07, 6, b"bad record file 0 at 1\n"),
-    (2, 9, 0xff, 0, b""),
+    (2, 9, 0xff, 6, b"bad record file 0 at 1\n"),
 ];
 
 #[test]
-fn a_stop_before_the_log_is_there_leaves_no_line(rt: HostRuntime) -> Result<(), Fail> {
+fn a_stop_before_the_first_record_leaves_no_history(rt: HostRuntime) -> Result<(), Fail> {
     let alloc = rt.alloc();
     let rack = MemoryRack::new(alloc, Vec::new(alloc))?;
     let whole = run_on(&rt, alloc, TEXT, rack, 0, LINES)?;
@@ -194,7 +221,7 @@ fn kept_by(call: u32) -> usize {
 }
 
 #[test]
-fn a_stop_leaves_a_beginning_of_the_lines(rt: HostRuntime) -> Result<(), Fail> {
+fn a_stop_leaves_a_beginning_of_the_history(rt: HostRuntime) -> Result<(), Fail> {
     let alloc = rt.alloc();
     let rack = MemoryRack::new(alloc, Vec::new(alloc))?;
     let whole = run_on(&rt, alloc, TEXT, rack, 0, LINES)?;
@@ -219,17 +246,13 @@ fn a_stop_leaves_a_beginning_of_the_lines(rt: HostRuntime) -> Result<(), Fail> {
             let finished = top(&rt, alloc, &words, &mut source, &mut sink, left);
             let Finished { status, rack } = finished;
             drop(rack);
-            assert_eq!(rt; status, 0, "within call {call}");
             // The records that were acknowledged, or one more.
             let kept = kept_by(call);
             assert!(rt; kept < 5);
-            let (fewer, more) = (ENDS[kept], ENDS[kept + 1]);
-            assert!(rt; fewer <= LINES.len() && more <= LINES.len());
             let shown = sink.bytes();
-            assert!(rt;
-                shown == &LINES[..fewer] || shown == &LINES[..more],
-                "within call {call}"
-            );
+            let fewer = status == (if kept == 0 { 6 } else { 0 }) && shown == TOLD[kept];
+            let more = status == 0 && shown == TOLD[kept + 1];
+            assert!(rt; fewer || more, "within call {call}");
         }
     }
     Ok(())

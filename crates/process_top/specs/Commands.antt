@@ -1,68 +1,90 @@
--- What each command answers.
-use Rattle.std.specs.Prelude.{◌≡◌, ◌≤◌, ◌⊎◌, ℕ, IfSome, length, take, List, [], ◌∷◌, Bool, if◌then◌else◌}
-use Rattle.std.specs.List.{concat}
-use Rattle.std.specs.Io.KnownBytes.{IsAtEnd}
-use Rattle.process_disk.specs.Disk.{Disk, Told}
-use Rattle.process_disk.specs.Images.{AllAsBefore}
-use Rattle.process_tree.specs.declared.tree.Named.{Named}
-use Rattle.process_top.specs.declared.refusal.Refusal.{Refusal}
-use Rattle.process_top.specs.declared.refusal.Refusal.TheVariants.{NotYet}
-use Rattle.process_top.specs.Verdict.{AreLines}
-use Rattle.process_top.specs.Refused.{IsRefusalTold}
-use Rattle.process_top.specs.Life.{lines_of}
-use Rattle.process_top.specs.Journal.{IsRun, IsRefusedRun, IsAddProcess}
-use Rattle.process_top.specs.Reply.{most_input, Input, Files, AreUntouched, IsRead, IsUnread, IsOneAddProcess, IsShown, IsNotShown}
-use Rattle.process_top.specs.Told.{Output, IsTold}
+-- What is answered on a list of words: on these words, from this world before to this world after, with this number.
+use Rattle.std.specs.Prelude.{◌≡◌, ◌⊎◌, ℕ, Bool, true, false, List, [], ◌∷◌, codes, Option, Some, None, ⊤}
+use Rattle.std.specs.Str.{bytes_eq}
+use Rattle.program_words.specs.Commands.{asked}
+use Rattle.program_words.specs.declared.reading.Command.{Command}
+use Rattle.program_words.specs.declared.reading.Command.TheVariants.{Check, Run, Show, Verify}
+use Rattle.process_flow.specs.Causes.{Rose}
+use Rattle.program_lines.specs.Statuses.{number_of}
+use Rattle.program_lines.specs.declared.status.Status.{Status}
+use Rattle.program_lines.specs.declared.status.Status.TheVariants as statuses
+use Rattle.program_lines.specs.declared.refusal.Refusal.TheVariants.{BadWords, NoMemory}
+use Rattle.process_top.specs.Worlds.{World, Input, Files}
+use Rattle.process_top.specs.FilesLeft.{AreUntouched}
+use Rattle.process_top.specs.Replies.{Reply, refused, status_of, text_of}
+use Rattle.process_top.specs.Told.{IsTold}
+use Rattle.process_top.specs.Check.{IsCheckDue, IsCheckComplete}
+use Rattle.process_top.specs.Run.{IsRunDue, IsRunComplete}
+use Rattle.process_top.specs.Show.{IsShowDue, IsShowComplete}
+use Rattle.process_top.specs.Verify.{IsVerifyDue, IsVerifyComplete}
 
--- the source was read to its end, and had this text
-abbrev pub IsWholeText : Input → Input → List ℕ → Type 0
-IsWholeText before after text = IsAtEnd after.left × (length text ≤ most_input) × IfSome before.left (λ given. text ≡ given)
+-- what may be due to a command; to words that ask for none, that they are bad, or that memory was wanting for them
+abbrev pub IsDueTo : Option Command → Input → Input → Files → Files → Reply → Type 0
+IsDueTo None before after files files_after reply = ((reply ≡ refused BadWords) ⊎ (reply ≡ refused NoMemory)) × AreUntouched files files_after
+IsDueTo (Some Check) before after files files_after reply = IsCheckDue before after reply × AreUntouched files files_after
+IsDueTo (Some Run) before after files files_after reply = IsRunDue before after files files_after reply
+IsDueTo (Some Show) before after files files_after reply = IsShowDue files files_after reply × AreUntouched files files_after
+IsDueTo (Some Verify) before after files files_after reply = IsVerifyDue before after reply × AreUntouched files files_after
 
--- the text of the source was checked
-abbrev pub IsChecked : Input → Input → List ℕ → ℕ → Type 0
-IsChecked input input_after lines status =
-    (ps : List Named) × (any : Bool) × IsRead input input_after ps × AreLines ps any lines × (status ≡ (if any then 3 else 0))
+-- what may be due on words
+abbrev pub IsDue : List (List ℕ) → World → World → Reply → Type 0
+IsDue words before after reply = IsDueTo (asked words) before.input after.input before.files after.files reply
 
--- what `check` answers
-abbrev pub IsCheckAnswered : Input → Input → Output → Output → ℕ → Type 0
-IsCheckAnswered input input_after output output_after result =
-    ((lines : List ℕ) × (status : ℕ) × IsChecked input input_after lines status × IsTold status lines output output_after result)
-    ⊎ ((r : Refusal) × IsUnread r input input_after × IsRefusalTold r output output_after result)
+-- Some reply was due, and it was told: its text went out and the number is that of its status, or the sink failed.
+pub record IsAnswered (words : List (List ℕ)) (before after : World) (number : ℕ) : Type 0 where
+  pub reply : Reply
+  pub due : IsDue words before after reply
+  pub told : IsTold (status_of reply) (text_of reply) before.output after.output number
 
--- one of these processes, the only one, was run
-abbrev pub IsOnlyRun : List Named → Disk → Disk → List ℕ → Type 0
-IsOnlyRun ps before after lines = (p : Named) × (ps ≡ p ∷ []) × IsAddProcess p × (Told before → IsRun p before after) × (lines ≡ concat (lines_of p))
+-- what a command does where nothing fails
+abbrev pub DoesItsWork : Option Command → World → ℕ → Type 0
+DoesItsWork None before number = ⊤
+DoesItsWork (Some Check) before number = IsCheckComplete before.input number
+DoesItsWork (Some Run) before number = IsRunComplete before.input before.files.disk number
+DoesItsWork (Some Show) before number = IsShowComplete before.files.disk number
+DoesItsWork (Some Verify) before number = IsVerifyComplete before.input number
 
--- why it was not run, or not to its end
-abbrev pub IsOnlyRefused : Refusal → List Named → Disk → Disk → ℕ → ℕ → Type 0
-IsOnlyRefused r ps before after faults faults_after =
-    ((r ≡ NotYet) × (¬ IsOneAddProcess ps) × (Told before → AllAsBefore before after))
-    ⊎ ((p : Named) × (ps ≡ p ∷ []) × IsOneAddProcess (p ∷ []) × IsRefusedRun r p before after faults faults_after)
+-- the command reads the input
+abbrev pub reads_input : Option Command → Bool
+reads_input None = false
+reads_input (Some Check) = true
+reads_input (Some Run) = true
+reads_input (Some Show) = false
+reads_input (Some Verify) = true
 
--- the text of the source was run
-abbrev pub IsRunOf : Input → Input → Files → Files → List ℕ → Type 0
-IsRunOf input input_after files files_after lines =
-    (p : Named) × IsRead input input_after (p ∷ []) × IsAddProcess p × (Told files.disk → IsRun p files.disk files_after.disk) × (lines ≡ concat (lines_of p))
+-- the command calls the rack
+abbrev pub uses_files : Option Command → Bool
+uses_files None = false
+uses_files (Some Check) = false
+uses_files (Some Run) = true
+uses_files (Some Show) = true
+uses_files (Some Verify) = false
 
--- why it was not run, or not to its end
-abbrev pub IsNotRun : Refusal → Input → Input → Files → Files → Type 0
-IsNotRun r input input_after files files_after =
-    (IsUnread r input input_after × AreUntouched files files_after)
-    ⊎ ((r ≡ NotYet) × ((ps : List Named) × IsRead input input_after ps × (¬ IsOneAddProcess ps) × AreUntouched files files_after))
-    ⊎ ((p : Named) × IsRead input input_after (p ∷ []) × IsOneAddProcess (p ∷ []) × IsRefusedRun r p files.disk files_after.disk files.faults files_after.faults)
+-- no call failed of the source, the rack and the sink, as far as the command uses them
+pub record IsQuiet (asked : Option Command) (before after : World) : Type 0 where
+  pub input : reads_input asked ≡ true → ¬ Rose before.input.faults after.input.faults
+  pub files : uses_files asked ≡ true → ¬ Rose before.files.faults after.files.faults
+  pub output : ¬ Rose before.output.faults after.output.faults
 
--- what `run` answers
-abbrev pub IsRunAnswered : Input → Input → Files → Files → Output → Output → ℕ → Type 0
-IsRunAnswered input input_after files files_after output output_after result =
-    ((lines : List ℕ) × IsRunOf input input_after files files_after lines × IsTold 0 lines output output_after result)
-    ⊎ ((r : Refusal) × IsNotRun r input input_after files files_after × IsRefusalTold r output output_after result)
+-- Where no call failed, a command does what it is for, or memory is wanting.
+abbrev pub IsComplete : List (List ℕ) → World → World → ℕ → Type 0
+IsComplete words before after number = IsQuiet (asked words) before after → DoesItsWork (asked words) before number
 
--- the first records of a process were found in file 0, and these are their lines
-abbrev pub IsShownAs : Files → Files → List ℕ → Type 0
-IsShownAs files files_after lines = (p : Named) × (n : ℕ) × IsShown p n files files_after × (lines ≡ concat (take n (lines_of p)))
+-- the statuses that come before a command touches the files
+abbrev pub comes_before_files : Status → Bool
+comes_before_files statuses.BadWords = true
+comes_before_files statuses.BadInput = true
+comes_before_files statuses.IllFormed = true
+comes_before_files statuses.Limit = true
+comes_before_files statuses.ReadFault = true
+comes_before_files statuses.NotReduced = true
+comes_before_files status = false
 
--- what `show` answers
-abbrev pub IsShowAnswered : Files → Files → Output → Output → ℕ → Type 0
-IsShowAnswered files files_after output output_after result =
-    ((lines : List ℕ) × IsShownAs files files_after lines × IsTold 0 lines output output_after result)
-    ⊎ ((r : Refusal) × IsNotShown r files files_after × IsRefusalTold r output output_after result)
+-- the number is that of such a status
+abbrev pub IsBeforeFiles : ℕ → Type 0
+IsBeforeFiles number = (status : Status) × (comes_before_files status ≡ true) × (number ≡ number_of status)
+
+-- the first word is `show`
+abbrev pub first_is_show : List (List ℕ) → Bool
+first_is_show [] = false
+first_is_show (word ∷ words) = bytes_eq word (codes "show")

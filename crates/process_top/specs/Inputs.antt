@@ -1,7 +1,17 @@
--- The input and the files of a command.
-use Rattle.std.specs.Prelude.{◌≤◌, ℕ, List, length, Option, IfSome}
-use Rattle.process_disk.specs.Disk.{Disk, Told}
-use Rattle.process_disk.specs.Images.{AllAsBefore}
+-- The input of a command, and what is refused of it.
+use Rattle.std.specs.Prelude.{◌≡◌, ◌≤◌, ◌<◌, ◌⊎◌, ℕ, nat_lt, List, [], ◌∷◌, length, Option, Some, None, IfSome, ⊤, if◌then◌else◌}
+use Rattle.std.specs.Option.{option_map}
+use Rattle.std.specs.Io.KnownBytes.{IsAtEnd}
+use Rattle.process_flow.specs.Causes.{Rose}
+use Rattle.process_tree.specs.declared.tree.Named.{Named}
+use Rattle.process_text.specs.Words.{words_of}
+use Rattle.process_text.specs.Grammar.{IsReading}
+use Rattle.process_text.specs.Places.{text_error}
+use Rattle.process_text.specs.declared.error.TextError.{TextError}
+use Rattle.process_text.specs.declared.error.TextError.TheVariants as errors
+use Rattle.program_lines.specs.declared.faults.Counted.TheVariants as counted
+use Rattle.program_lines.specs.declared.refusal.Refusal.{Refusal}
+use Rattle.program_lines.specs.declared.refusal.Refusal.TheVariants.{Text, Limit, ReadFault, NoMemory}
 
 -- the greatest size of an input, in bytes
 abbrev pub most_input : ℕ
@@ -12,15 +22,57 @@ pub record Input : Type 0 where
   pub left : Option (List ℕ)
   pub faults : ℕ
 
--- a rack at some moment: what it tells of its files, and its count of faults
-pub record Files : Type 1 where
-  pub disk : Disk
-  pub faults : ℕ
+abbrev pub input : Option (List ℕ) → ℕ → Input
+input left faults = record { left = left; faults = faults }
 
 -- the input, where it is told, is within its limit and has this
 abbrev pub OnInput : Input → (List ℕ → Type 0) → Type 0
 OnInput input P = IfSome input.left (λ text. (length text ≤ most_input) × P text)
 
--- all files, where they are told, read as before, and a crash leaves nothing that one at the start might not have left
-abbrev pub AreUntouched : Files → Files → Type 0
-AreUntouched before after = Told before.disk → AllAsBefore before.disk after.disk
+-- the source was read to its end, and had this text
+abbrev pub IsWholeText : Input → Input → List ℕ → Type 0
+IsWholeText before after text = IsAtEnd after.left × (length text ≤ most_input) × IfSome before.left (λ given. text ≡ given)
+
+-- the source was read to its end, where it tells, and had the text of these processes within the limit
+abbrev pub IsRead : Input → Input → List Named → Type 0
+IsRead before after ps = IsAtEnd after.left × OnInput before (λ text. IsReading (words_of text) ps)
+
+-- the first refusal of these tests, if one of them refuses
+abbrev pub first_refusal : List (Option Refusal) → Option Refusal
+first_refusal [] = None
+first_refusal (None ∷ tests) = first_refusal tests
+first_refusal (Some r ∷ tests) = Some r
+
+-- the text has more bytes than an input may have; the first that is too many is named
+abbrev pub too_long : List ℕ → Option Refusal
+too_long text = if nat_lt most_input (length text) then Some (Limit counted.Input 1048577) else None
+
+-- the text has a fault: its first
+abbrev pub bad_text : List ℕ → Option Refusal
+bad_text text = option_map Text (text_error text)
+
+-- the tests of any input
+abbrev pub input_tests : List ℕ → List (Option Refusal)
+input_tests text = too_long text ∷ []
+
+-- the tests of a text of processes, in their order
+abbrev pub text_tests : List ℕ → List (Option Refusal)
+text_tests text = too_long text ∷ bad_text text ∷ []
+
+-- The input is refused: by the first of its tests that refuses it; or its source failed; or memory was wanting, which is free.
+abbrev pub IsRefused : (List ℕ → List (Option Refusal)) → Refusal → Input → Input → Type 0
+IsRefused tests ReadFault before after = Rose before.faults after.faults
+IsRefused tests NoMemory before after = ⊤
+IsRefused tests r before after = IfSome before.left (λ text. first_refusal (tests text) ≡ Some r)
+
+-- no text came: there was more of it than may be, or the source failed, or memory was wanting
+abbrev pub HasNoText : Refusal → Input → Input → Type 0
+HasNoText r before after =
+    ((r ≡ Limit counted.Input 1048577) × IfSome before.left (λ text. most_input < length text)) ⊎ ((r ≡ ReadFault) × Rose before.faults after.faults) ⊎ (r ≡ NoMemory)
+
+-- what is told of a text that was not read
+abbrev pub text_refusal : TextError → Refusal
+text_refusal (errors.BadText line column expected) = Text (errors.BadText line column expected)
+text_refusal (errors.Limit what n) = Text (errors.Limit what n)
+text_refusal (errors.SameName line name) = Text (errors.SameName line name)
+text_refusal errors.NoMemory = NoMemory

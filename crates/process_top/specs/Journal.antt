@@ -11,8 +11,8 @@ use Rattle.process_text.specs.Words.{words_of}
 use Rattle.process_text.specs.Grammar.{IsReading}
 use Rattle.process_text.specs.Canonical.{canonical_text}
 use Rattle.process_top.specs.Life.{is_add_process, records_of}
-use Rattle.process_top.specs.declared.refusal.Refusal.{Refusal}
-use Rattle.process_top.specs.declared.refusal.Refusal.TheVariants.{NotEmpty, NotBegun, CutOff, NoMemory}
+use Rattle.process_top.specs.declared.run.RunFault.{RunFault}
+use Rattle.process_top.specs.declared.run.RunFault.TheVariants.{NotEmpty, NotBegun, CutOff, NoMemory}
 
 -- the records of a process of `add` steps alone; its start has its canonical text
 abbrev pub life : Named → List (List ℕ)
@@ -53,11 +53,11 @@ abbrev pub IsBegunAtMost : Disk → Disk → Type 0
 IsBegunAtMost before after = AllAsBefore before after ⊎ ((file_of before.files 0 ≡ []) × RunBy (TornIn 0 0 9) before after)
 
 -- why the journal was not begun, on a rack that was so before and is so after, with these counts of faults
-abbrev pub IsRefusedBefore : Refusal → Disk → Disk → ℕ → ℕ → Type 0
+abbrev pub IsRefusedBefore : RunFault → Disk → Disk → ℕ → ℕ → Type 0
 IsRefusedBefore NotEmpty before after faults faults_after = Told before → (¬ (file_of before.files 0 ≡ [])) × AllAsBefore before after
 IsRefusedBefore NotBegun before after faults faults_after = Rose faults faults_after × (Told before → IsBegunAtMost before after)
 IsRefusedBefore NoMemory before after faults faults_after = Told before → AllAsBefore before after
-IsRefusedBefore r before after faults faults_after = ⊥
+IsRefusedBefore CutOff before after faults faults_after = ⊥
 
 -- the rack failed while a record of this process was appended, behind the first n
 abbrev pub IsCutOff : Named → Disk → Disk → ℕ → ℕ → Type 0
@@ -65,6 +65,6 @@ IsCutOff p before after faults faults_after =
     Rose faults faults_after × IsAddProcess p × (Told before → (n : ℕ) × (n < length (life p)) × HasAppended (life p) n before after)
 
 -- why a process was not run to its end
-abbrev pub IsRefusedRun : Refusal → Named → Disk → Disk → ℕ → ℕ → Type 0
+abbrev pub IsRefusedRun : RunFault → Named → Disk → Disk → ℕ → ℕ → Type 0
 IsRefusedRun CutOff p before after faults faults_after = IsCutOff p before after faults faults_after
 IsRefusedRun r p before after faults faults_after = IsRefusedBefore r before after faults faults_after

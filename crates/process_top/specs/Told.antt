@@ -1,19 +1,37 @@
 -- How a reply is told.
-use Rattle.std.specs.Prelude.{◌≡◌, ◌<◌, ◌⊎◌, ℕ, List, length, take, codes, Option}
+use Rattle.std.specs.Prelude.{◌≡◌, ◌<◌, ◌⊎◌, ℕ, true, List, ◌++◌, length, take, codes, Option}
 use Rattle.std.specs.Io.KnownBytes.{Appends}
 use Rattle.process_flow.specs.Causes.{Rose}
+use Rattle.program_lines.specs.Statuses.{number_of}
+use Rattle.program_lines.specs.declared.status.Status.{Status}
+use Rattle.program_lines.specs.declared.status.Status.TheVariants.{WriteFault}
+use Rattle.program_lines.specs.declared.refusal.Refusal.{Refusal}
+use Rattle.program_lines.specs.declared.refusal.Refusal.TheVariants.{NoMemory}
+use Rattle.program_lines.specs.Refusals.{refusal_status, refusal_text, needs_memory}
 
 -- a sink at some moment: what it has taken, where it tells, and its count of faults
 pub record Output : Type 0 where
   pub taken : Option (List ℕ)
   pub faults : ℕ
 
--- the text went out and this is the status, or it is 9, the sink's count rose and a beginning of the text went out
-abbrev pub IsTold : ℕ → List ℕ → Output → Output → ℕ → Type 0
-IsTold status text before after result =
-    ((result ≡ status) × Appends before.taken after.taken text)
-    ⊎ ((result ≡ 9) × Rose before.faults after.faults × ((sent : ℕ) × (sent < length text) × Appends before.taken after.taken (take sent text)))
+abbrev pub output : Option (List ℕ) → ℕ → Output
+output taken faults = record { taken = taken; faults = faults }
 
--- the same, or that there was no memory for the text
-abbrev pub IsToldOrNoMemory : ℕ → List ℕ → Output → Output → ℕ → Type 0
-IsToldOrNoMemory status text before after result = IsTold status text before after result ⊎ IsTold 13 (codes "no memory\n") before after result
+-- the text went out and the number is that of the status; or it is that of a write fault, the sink's count rose, and a beginning of
+-- the text went out
+abbrev pub IsTold : Status → List ℕ → Output → Output → ℕ → Type 0
+IsTold status text before after number =
+    ((number ≡ number_of status) × Appends before.taken after.taken text)
+    ⊎ ((number ≡ number_of WriteFault) × Rose before.faults after.faults × ((sent : ℕ) × (sent < length text) × Appends before.taken after.taken (take sent text)))
+
+-- the line of a refusal
+abbrev pub refusal_line : Refusal → List ℕ
+refusal_line r = refusal_text r ++ codes "\n"
+
+-- a refusal was told
+abbrev pub IsLineTold : Refusal → Output → Output → ℕ → Type 0
+IsLineTold r before after number = IsTold (refusal_status r) (refusal_line r) before after number
+
+-- or its line needs memory, and it was told that there is none
+abbrev pub IsRefusalTold : Refusal → Output → Output → ℕ → Type 0
+IsRefusalTold r before after number = IsLineTold r before after number ⊎ ((needs_memory r ≡ true) × IsLineTold NoMemory before after number)

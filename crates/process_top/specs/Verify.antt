@@ -1,47 +1,46 @@
--- The verification of a report.
-use Rattle.std.specs.Prelude.{◌≡◌, ◌<◌, ◌⊎◌, ℕ, List, ◌++◌, length, codes, decimal, IfSome, ⊤}
+-- The command `verify`.
+use Rattle.std.specs.Prelude.{◌≡◌, ◌≤◌, ℕ, [], ◌∷◌, length, IfSome}
 use Rattle.std.specs.Io.KnownBytes.{IsAtEnd}
-use Rattle.process_flow.specs.Causes.{Rose}
 use Rattle.trace_verify.specs.declared.verdict.Verified.{Verified}
-use Rattle.trace_verify.specs.declared.verdict.Verified.TheVariants.{Accepted, BadText, StepRefused, NotSerial, SerialDiffers, NoMemory}
+use Rattle.trace_verify.specs.declared.verdict.Verified.TheVariants as verdicts
 use Rattle.trace_verify.specs.Verdicts.{verdict}
 use Rattle.trace_verify.specs.Laws.{Means}
-use Rattle.process_top.specs.declared.refusal.Refusal.{Refusal}
-use Rattle.process_top.specs.declared.refusal.Refusal.TheVariants as refusals
-use Rattle.process_top.specs.Inputs.{most_input, Input, OnInput}
-use Rattle.process_top.specs.Refused.{IsRefusalTold}
-use Rattle.process_top.specs.Told.{Output, IsToldOrNoMemory}
+use Rattle.program_lines.specs.declared.faults.ReportFault.{ReportFault}
+use Rattle.program_lines.specs.declared.faults.ReportFault.TheVariants.{BadText, StepRefused, NotSerial, SerialDiffers}
+use Rattle.program_lines.specs.declared.refusal.Refusal.TheVariants.{Report}
+use Rattle.program_lines.specs.declared.status.Status.{Status}
+use Rattle.program_lines.specs.declared.status.Status.TheVariants.{Done, BadInput, NotReduced, NoMemory}
+use Rattle.program_lines.specs.Statuses.{IsOneOf}
+use Rattle.process_top.specs.Inputs.{Input, most_input, OnInput, IsRefused, input_tests}
+use Rattle.process_top.specs.Replies.{Reply, accepted, refused}
 
-abbrev pub verified_status : Verified → ℕ
-verified_status Accepted = 0
-verified_status (BadText n) = 2
-verified_status (StepRefused k) = 12
-verified_status (NotSerial n) = 12
-verified_status (SerialDiffers n) = 12
-verified_status NoMemory = 13
+-- the verdict that is this fault of a report
+abbrev pub verdict_of : ReportFault → Verified
+verdict_of (BadText n) = verdicts.BadText n
+verdict_of (StepRefused k) = verdicts.StepRefused k
+verdict_of (NotSerial n) = verdicts.NotSerial n
+verdict_of (SerialDiffers n) = verdicts.SerialDiffers n
 
-abbrev pub verified_text : Verified → List ℕ
-verified_text Accepted = codes "accepted\n"
-verified_text (BadText n) = codes "bad text at line " ++ decimal n ++ codes "\n"
-verified_text (StepRefused k) = codes "step " ++ decimal k ++ codes " refused\n"
-verified_text (NotSerial n) = codes "not serial at " ++ decimal n ++ codes "\n"
-verified_text (SerialDiffers n) = codes "serial differs at " ++ decimal n ++ codes "\n"
-verified_text NoMemory = codes "no memory\n"
+-- the source was read to its end, where it tells, and this is the verdict on its text; it means what it says
+abbrev pub IsVerdictOn : Input → Input → Verified → Type 0
+IsVerdictOn before after v = IsAtEnd after.left × OnInput before (λ text. (verdict text ≡ v) × Means text v)
 
--- why no text came, from a source that was so before and is so after
-abbrev pub IsNotGot : Refusal → Input → Input → Type 0
-IsNotGot refusals.TooLong before after = IfSome before.left (λ text. most_input < length text)
-IsNotGot refusals.ReadFault before after = Rose before.faults after.faults
-IsNotGot refusals.NoMemory before after = ⊤
-IsNotGot r before after = ⊥
+-- that the report is accepted, or its fault; or what is refused of the input before it is read as a report
+abbrev pub IsVerifyDue : Input → Input → Reply → Type 0
+IsVerifyDue before after accepted = IsVerdictOn before after verdicts.Accepted
+IsVerifyDue before after (refused (Report fault)) = IsVerdictOn before after (verdict_of fault)
+IsVerifyDue before after (refused r) = IsRefused input_tests r before after
+IsVerifyDue before after reply = ⊥
 
--- the source was read to its end, where it tells, and this is the verdict on its text within the limit, but for want of memory; it
--- means what it says
-abbrev pub IsVerified : Input → Input → Verified → Type 0
-IsVerified before after v = IsAtEnd after.left × OnInput before (λ text. ((v ≡ NoMemory) ⊎ (v ≡ verdict text)) × Means text v)
+-- the status of a verdict
+abbrev pub verified_status : Verified → Status
+verified_status verdicts.Accepted = Done
+verified_status (verdicts.BadText n) = BadInput
+verified_status (verdicts.StepRefused k) = NotReduced
+verified_status (verdicts.NotSerial n) = NotReduced
+verified_status (verdicts.SerialDiffers n) = NotReduced
+verified_status verdicts.NoMemory = NoMemory
 
--- what `verify` answers
-abbrev pub IsVerifyAnswered : Input → Input → Output → Output → ℕ → Type 0
-IsVerifyAnswered input input_after output output_after result =
-    ((v : Verified) × IsVerified input input_after v × IsToldOrNoMemory (verified_status v) (verified_text v) output output_after result)
-    ⊎ ((r : Refusal) × IsNotGot r input input_after × IsRefusalTold r output output_after result)
+-- an input within the limit has the status of the verdict on it, or memory is wanting; so a report that is accepted ends well
+abbrev pub IsVerifyComplete : Input → ℕ → Type 0
+IsVerifyComplete input number = IfSome input.left (λ text. length text ≤ most_input → IsOneOf number (verified_status (verdict text) ∷ NoMemory ∷ []))

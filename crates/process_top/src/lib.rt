@@ -1,16 +1,18 @@
 //! The commands of the program.
+//!
+//! `answer` and `top` are its front door. `specs/Commands` says what may be due on a list of words, over what a source, a rack and a sink
+//! tell before and after (`specs/Worlds`), and what a command does where nothing fails; each command has a file of its own there, and
+//! `specs/Replies` has the status and the text of each reply. The lines themselves are `program_lines`' and `process_report`'s.
 #![tactic(auto)]
 
-mod answers;
-mod commands;
+mod check;
+mod door;
+mod input;
 mod journal;
 mod life;
-mod refusal;
 mod run;
 mod show;
-mod story;
-mod tell;
-mod verdicts;
+mod told;
 mod verify;
 
-pub use answers::{Finished, answer, only_reads, top};
+pub use door::{Finished, answer, only_reads, top};

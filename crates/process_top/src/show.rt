@@ -1,54 +1,62 @@
-// Showing what a journal tells.
-ghost use Rattle.std.specs.Prelude.{◌≡◌, ◌≤◌, IfOk, IfErr, true};
+// The command `show`.
+ghost use Rattle.std.specs.Prelude.{◌≡◌, ◌≤◌, false, IfOk, IfErr};
+ghost use Rattle.program_lines.specs.Refusals.{refusal_status};
 ghost use Rattle.process_disk.specs.Disk.{Told};
 ghost use Rattle.process_disk.specs.Images.{AllAsBefore};
-ghost use Rattle.process_top.specs.Refused.{is_before_files};
-ghost use Rattle.process_top.specs.Reply.{IsNotShown};
-ghost use Rattle.process_top.specs.Commands.{IsShownAs, IsShowAnswered};
+ghost use Rattle.process_top.specs.FilesLeft.{files};
+ghost use Rattle.process_top.specs.Said.{Says, status_in};
+ghost use Rattle.process_top.specs.Commands.{comes_before_files};
+ghost use Rattle.process_top.specs.Show.{journal_refusal, IsNotOpened, IsShown, IsShowDue};
 
-use crate::refusal::{Refusal, tell_refusal};
-use crate::story::story;
-use crate::tell::tell;
-use gate_log::{Log, LogError};
+use crate::told::Said;
+use commute_table::Catalog;
 use process_disk::Rack;
-use process_flow::Sink;
+use process_journal::{Journal, JournalError};
+use process_report::report;
+use program_lines::{FileFault, Refusal, Status};
+use schedule_model::History;
 use std::alloc::Global;
 
-// The lines of the records in file 0.
-fn shown<R: Rack>(alloc: Global, rack: &mut R) -> Result<Vec<u8>, Refusal>
-    ensures shown { IfOk result (λ lines. IsShownAs
-        (record { disk = R.disk rack.old; faults = R.faults rack.old })
-        (record { disk = R.disk rack.new; faults = R.faults rack.new }) lines.items) }
-    ensures refused { IfErr result (λ e. IsNotShown e
-        (record { disk = R.disk rack.old; faults = R.faults rack.old })
-        (record { disk = R.disk rack.new; faults = R.faults rack.new })) }
-    ensures all { Told (R.disk rack.old) → AllAsBefore (R.disk rack.old) (R.disk rack.new) }
-    ensures tells { (R.disk rack.new).tells ≡ (R.disk rack.old).tells }
-    ensures later { R.faults rack.old ≤ R.faults rack.new }
+fn journal_refusal(error: JournalError) -> Refusal
+    ensures refusal { result ≡ journal_refusal error }
+    ensures late { comes_before_files (refusal_status result) ≡ false }
 {
-    match Log::open(alloc, rack, 0) {
-        Ok((_, bodies)) => story(alloc, &bodies),
-        Err(LogError::BadHeader) => Err(Refusal::BadHeader),
-        Err(LogError::BadRecord(n)) => Err(Refusal::BadRecord(n)),
-        Err(LogError::DiskFault) => Err(Refusal::NotBegun),
-        Err(LogError::NoMemory) => Err(Refusal::NoMemory),
+    match error {
+        JournalError::DiskFault => Refusal::DiskFault,
+        JournalError::BadHeader => Refusal::File(FileFault::BadHeader(0)),
+        JournalError::BadRecord(n) => Refusal::File(FileFault::BadRecord(0, n)),
+        JournalError::BadHistory(n) => Refusal::File(FileFault::BadHistory(n)),
+        JournalError::NoMemory => Refusal::NoMemory,
     }
 }
 
-/// Shows the records of file 0.
-pub fn show<K: Sink, R: Rack>(alloc: Global, sink: &mut K, rack: &mut R) -> u8
-    ensures answered { IsShowAnswered
-        (record { disk = R.disk rack.old; faults = R.faults rack.old })
-        (record { disk = R.disk rack.new; faults = R.faults rack.new })
-        (record { taken = K.taken sink.old; faults = K.faults sink.old })
-        (record { taken = K.taken sink.new; faults = K.faults sink.new }) result }
+// The catalog and the history of which file 0 is the journal.
+fn opened<R: Rack>(alloc: Global, rack: &mut R) -> Result<(Catalog, History), Refusal>
+    ensures shown { IfOk result (λ opened. IsShown opened.0 opened.1 (files (R.disk rack.old) (R.faults rack.old)) (files (R.disk rack.new) (R.faults rack.new))) }
+    ensures refused { IfErr result (λ r. IsNotOpened r (files (R.disk rack.old) (R.faults rack.old)) (files (R.disk rack.new) (R.faults rack.new))) }
     ensures all { Told (R.disk rack.old) → AllAsBefore (R.disk rack.old) (R.disk rack.new) }
     ensures tells { (R.disk rack.new).tells ≡ (R.disk rack.old).tells }
     ensures later { R.faults rack.old ≤ R.faults rack.new }
-    ensures early { is_before_files result ≡ true → rack.new ≡ rack.old }
+    ensures late { IfErr result (λ r. comes_before_files (refusal_status r) ≡ false) }
 {
-    match shown(alloc, rack) {
-        Ok(lines) => tell(sink, &lines, 0),
-        Err(refusal) => tell_refusal(alloc, sink, &refusal),
+    match Journal::open(alloc, rack) {
+        Ok((_, catalog, history)) => Ok((catalog, history)),
+        Err(error) => Err(journal_refusal(error)),
     }
+}
+
+/// Shows the history of file 0.
+pub fn show<R: Rack>(alloc: Global, rack: &mut R) -> Result<Said, Refusal>
+    ensures due { Says (IsShowDue (files (R.disk rack.old) (R.faults rack.old)) (files (R.disk rack.new) (R.faults rack.new))) result }
+    ensures all { Told (R.disk rack.old) → AllAsBefore (R.disk rack.old) (R.disk rack.new) }
+    ensures tells { (R.disk rack.new).tells ≡ (R.disk rack.old).tells }
+    ensures later { R.faults rack.old ≤ R.faults rack.new }
+    ensures late { comes_before_files (status_in result) ≡ false }
+{
+    let (catalog, history) = opened(alloc, rack)?;
+    let text = report(alloc, &catalog, &history, &[])?;
+    Ok(Said {
+        text,
+        status: Status::Done,
+    })
 }

@@ -1,75 +1,42 @@
-// Verifying a report.
-ghost use Rattle.std.specs.Prelude.{◌≡◌, ◌≢◌, ◌++◌, codes, decimal, string_bytes, IfOk, IfErr};
-ghost use Rattle.process_top.specs.Told.{IsToldOrNoMemory};
-ghost use Rattle.process_top.specs.Verify.{verified_status, verified_text, IsNotGot, IsVerified, IsVerifyAnswered};
+// The command `verify`.
+ghost use Rattle.std.specs.Prelude.{◌≡◌, ◌⊎◌, IfErr, OnOk};
+ghost use Rattle.trace_verify.specs.declared.verdict.Verified.TheVariants as verdicts;
+ghost use Rattle.program_lines.specs.declared.faults.ReportFault.{ReportFault};
+ghost use Rattle.program_lines.specs.declared.refusal.Refusal.TheVariants.{Report, NoMemory};
+ghost use Rattle.process_top.specs.Inputs.{input};
+ghost use Rattle.process_top.specs.Said.{Says};
+ghost use Rattle.process_top.specs.Verify.{verdict_of, IsVerifyDue};
 
-use crate::commands::text_of;
-use crate::refusal::{Refusal, tell_refusal};
-use crate::tell::tell;
-use process_flow::{Sink, Source};
-use std::alloc::{AllocError, Global};
+use crate::input::text_of;
+use crate::told::Said;
+use process_flow::Source;
+use program_lines::{Refusal, ReportFault, Status};
+use std::alloc::Global;
 use trace_verify::Verified;
 
-// The verdict on the text of the source.
-fn verdict_on<S: Source>(alloc: Global, source: &mut S) -> Result<Verified, Refusal>
-    ensures verified { IfOk result (λ verified. IsVerified
-        (record { left = S.left source.old; faults = S.faults source.old })
-        (record { left = S.left source.new; faults = S.faults source.new }) verified) }
-    ensures refused { IfErr result (λ e. IsNotGot e
-        (record { left = S.left source.old; faults = S.faults source.old })
-        (record { left = S.left source.new; faults = S.faults source.new })) }
+// Nothing, where a report is accepted.
+fn fault_of(verified: Verified) -> Result<(), Refusal>
+    ensures accepted { OnOk result (verified ≡ verdicts.Accepted) }
+    ensures fault { IfErr result (λ r. (r ≡ NoMemory) ⊎ ((fault : ReportFault) × (r ≡ Report fault) × (verified ≡ verdict_of fault))) }
+{
+    match verified {
+        Verified::Accepted => Ok(()),
+        Verified::BadText(n) => Err(Refusal::Report(ReportFault::BadText(n))),
+        Verified::StepRefused(k) => Err(Refusal::Report(ReportFault::StepRefused(k))),
+        Verified::NotSerial(n) => Err(Refusal::Report(ReportFault::NotSerial(n))),
+        Verified::SerialDiffers(n) => Err(Refusal::Report(ReportFault::SerialDiffers(n))),
+        Verified::NoMemory => Err(Refusal::NoMemory),
+    }
+}
+
+/// Verifies the report that is the source's text.
+pub fn verify<S: Source>(alloc: Global, source: &mut S) -> Result<Said, Refusal>
+    ensures { Says (IsVerifyDue (input (S.left source.old) (S.faults source.old)) (input (S.left source.new) (S.faults source.new))) result }
 {
     let text = text_of(alloc, source)?;
-    Ok(trace_verify::verify(alloc, &text))
-}
-
-// The line of a verdict.
-fn verdict_line(alloc: Global, verified: Verified) -> Result<String, AllocError>
-    ensures { IfOk result (λ line. string_bytes line ≡ verified_text verified) }
-{
-    match verified {
-        Verified::Accepted => format!(in alloc; "accepted\n"),
-        Verified::BadText(n) => format!(in alloc; "bad text at line {n}\n"),
-        Verified::StepRefused(k) => format!(in alloc; "step {k} refused\n"),
-        Verified::NotSerial(n) => format!(in alloc; "not serial at {n}\n"),
-        Verified::SerialDiffers(n) => format!(in alloc; "serial differs at {n}\n"),
-        Verified::NoMemory => format!(in alloc; "no memory\n"),
-    }
-}
-
-fn verified_status(verified: Verified) -> u8
-    ensures { result ≡ verified_status verified }
-{
-    match verified {
-        Verified::Accepted => 0,
-        Verified::BadText(_) => 2,
-        Verified::StepRefused(_) | Verified::NotSerial(_) | Verified::SerialDiffers(_) => 12,
-        Verified::NoMemory => 13,
-    }
-}
-
-// Writes the line of a verdict and answers its status, or says that there is no memory for the line.
-fn tell_verdict<K: Sink>(alloc: Global, sink: &mut K, verified: Verified) -> u8
-    ensures { IsToldOrNoMemory (verified_status verified) (verified_text verified)
-        (record { taken = K.taken sink.old; faults = K.faults sink.old })
-        (record { taken = K.taken sink.new; faults = K.faults sink.new }) result }
-{
-    match verdict_line(alloc, verified) {
-        Ok(line) => tell(sink, line.as_bytes(), verified_status(verified)),
-        Err(_) => tell(sink, b"no memory\n", 13),
-    }
-}
-
-/// Verifies the text of the source.
-pub fn verify<S: Source, K: Sink>(alloc: Global, source: &mut S, sink: &mut K) -> u8
-    ensures { IsVerifyAnswered
-        (record { left = S.left source.old; faults = S.faults source.old })
-        (record { left = S.left source.new; faults = S.faults source.new })
-        (record { taken = K.taken sink.old; faults = K.faults sink.old })
-        (record { taken = K.taken sink.new; faults = K.faults sink.new }) result }
-{
-    match verdict_on(alloc, source) {
-        Ok(verified) => tell_verdict(alloc, sink, verified),
-        Err(refusal) => tell_refusal(alloc, sink, &refusal),
-    }
+    fault_of(trace_verify::verify(alloc, &text))?;
+    Ok(Said {
+        text: b"accepted\n".to_vec(alloc)?,
+        status: Status::Done,
+    })
 }

@@ -1,5 +1,17 @@
-use Rattle.std.proofs.Common.{inl}
+use Rattle.std.proofs.Common.{◌≡◌, rules, Err, refl}
+use Rattle.program_lines.specs.declared.refusal.Refusal.TheVariants.{NoMemory}
+use Rattle.process_top.specs.Replies.{shown}
+use Rattle.process_top.specs.FilesLeft.{files}
+use Rattle.process_top.proofs.Saying.{is_planned, no_memory_shown}
 use Rattle.process_top.proofs.show.show.Goals as goal
 
-pub returns-in-Ok-clause-answered : goal.returns-in-Ok-clause-answered
-returns-in-Ok-clause-answered g c = inl (c.deref.result.now, rw c.deref.ensures.value c.in-Ok.ensures.shown, c.tell.ensures)
+pub report-requires-clause-planned : goal.report-requires-clause-planned
+report-requires-clause-planned g c = is_planned c.in_ok-catalog.catalog c.in_ok-catalog.history c.in_ok-catalog.ensures.shown.0
+
+pub returns-in_err-text-clause-due : goal.returns-in_err-text-clause-due
+returns-in_err-text-clause-due g c =
+    let failed : c.from_residual-in_err-text.result ≡ Err NoMemory = search rules in
+    rw failed (no_memory_shown (files (g.R.Rack.disk c.args.rack.now) (g.R.Rack.faults c.args.rack.now)) (files (g.R.Rack.disk c.opened.new.rack) (g.R.Rack.faults c.opened.new.rack)))
+
+pub returns-clause-due : goal.returns-clause-due
+returns-clause-due g c = (shown c.in_ok-catalog.catalog c.in_ok-catalog.history, c.in_ok-catalog.ensures.shown, c.in_ok-text.ensures, refl)

@@ -1,5 +1,0 @@
-use Rattle.std.proofs.Common.{inl}
-use Rattle.process_top.proofs.commands.run.Goals as goal
-
-pub returns-in-Ok-clause-answered : goal.returns-in-Ok-clause-answered
-returns-in-Ok-clause-answered g c = inl (c.deref.result.now, rw c.deref.ensures.value c.in-Ok.ensures.ran, c.tell.ensures)

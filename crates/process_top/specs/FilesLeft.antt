@@ -1,0 +1,25 @@
+-- The files of a command, and what it leaves of them.
+use Rattle.std.specs.Prelude.{◌≡◌, ◌≤◌, ℕ}
+use Rattle.process_disk.specs.Disk.{Disk, Told}
+use Rattle.process_disk.specs.Images.{AllAsBefore, OthersAsBefore}
+
+-- a rack at some moment: what it tells of its files, and its count of faults
+pub record Files : Type 1 where
+  pub disk : Disk
+  pub faults : ℕ
+
+abbrev pub files : Disk → ℕ → Files
+files disk faults = record { disk = disk; faults = faults }
+
+-- all files, where they are told, read as before, and a crash leaves nothing that one at the start might not have left
+abbrev pub AreUntouched : Files → Files → Type 0
+AreUntouched before after = Told before.disk → AllAsBefore before.disk after.disk
+
+-- What every command leaves of the files.
+pub record AreLeft (before after : Files) : Type 0 where
+  -- those but file 0 read as before, and stand together in each crash image as a crash at the start may leave them
+  pub others : Told before.disk → OthersAsBefore 0 before.disk after.disk
+  -- the rack tells as before
+  pub tells : after.disk.tells ≡ before.disk.tells
+  -- its count of faults didn't fall
+  pub later : before.faults ≤ after.faults

@@ -1,0 +1,48 @@
+-- The command `show`.
+use Rattle.std.specs.Prelude.{◌≡◌, ℕ, [], ◌∷◌}
+use Rattle.process_flow.specs.Causes.{Rose}
+use Rattle.process_disk.specs.Disk.{Disk, Told, file_of}
+use Rattle.process_disk.specs.Images.{EachImage}
+use Rattle.gate_log.specs.LogFile.{read_log}
+use Rattle.commute_table.specs.declared.catalog.Catalog.{Catalog}
+use Rattle.schedule_model.specs.declared.history.History.{History}
+use Rattle.process_journal.specs.declared.errors.JournalError.{JournalError}
+use Rattle.process_journal.specs.declared.errors.JournalError.TheVariants as journal
+use Rattle.process_journal.specs.Journals.{IsHistoryUnder}
+use Rattle.process_journal.specs.Opened.{IsJournalOf}
+use Rattle.process_journal.specs.Reading.{IsDue}
+use Rattle.program_lines.specs.declared.faults.FileFault.TheVariants.{BadHeader, BadRecord, BadHistory}
+use Rattle.program_lines.specs.declared.refusal.Refusal.{Refusal}
+use Rattle.program_lines.specs.declared.refusal.Refusal.TheVariants as refusals
+use Rattle.program_lines.specs.declared.status.Status.TheVariants.{Done, NoMemory}
+use Rattle.program_lines.specs.Statuses.{IsOneOf}
+use Rattle.process_top.specs.FilesLeft.{Files}
+use Rattle.process_top.specs.Replies.{Reply, shown, refused}
+
+-- what is told of a journal that was not opened
+abbrev pub journal_refusal : JournalError → Refusal
+journal_refusal journal.DiskFault = refusals.DiskFault
+journal_refusal journal.BadHeader = refusals.File (BadHeader 0)
+journal_refusal (journal.BadRecord n) = refusals.File (BadRecord 0 n)
+journal_refusal (journal.BadHistory n) = refusals.File (BadHistory n)
+journal_refusal journal.NoMemory = refusals.NoMemory
+
+-- File 0 was not opened: it is no log, or a record is at fault, the first in order; or the rack failed; or memory was wanting.
+abbrev pub IsNotOpened : Refusal → Files → Files → Type 0
+IsNotOpened r before after =
+    (e : JournalError) × (r ≡ journal_refusal e) × (Told before.disk → IsDue (read_log 0 (file_of before.disk.files 0)) e) × (e ≡ journal.DiskFault → Rose before.faults after.faults)
+
+-- File 0, where it is told, is the journal of this catalog and history, and so is each image of it from then on.
+abbrev pub IsShown : Catalog → History → Files → Files → Type 0
+IsShown c h before after =
+    IsHistoryUnder c h × (Told before.disk → IsJournalOf c h before.disk.files × EachImage after.disk after.disk.moment (IsJournalOf c h))
+
+-- the history of file 0, or why there is none
+abbrev pub IsShowDue : Files → Files → Reply → Type 0
+IsShowDue before after (shown c h) = IsShown c h before after
+IsShowDue before after (refused r) = IsNotOpened r before after
+IsShowDue before after reply = ⊥
+
+-- where file 0 is the journal of a history, it is shown, or memory is wanting
+abbrev pub IsShowComplete : Disk → ℕ → Type 0
+IsShowComplete disk number = (c : Catalog) (h : History) → IsHistoryUnder c h → Told disk → IsJournalOf c h disk.files → IsOneOf number (Done ∷ NoMemory ∷ [])

@@ -1,0 +1,20 @@
+// The command `check`.
+ghost use Rattle.process_top.specs.Inputs.{input};
+ghost use Rattle.process_top.specs.Check.{IsCheckDue};
+ghost use Rattle.process_top.specs.Said.{Says};
+
+use crate::input::processes_of;
+use crate::told::Said;
+use process_flow::Source;
+use program_lines::{Refusal, Status, verdicts};
+use std::alloc::Global;
+
+/// Checks the processes of the source's text.
+pub fn check<S: Source>(alloc: Global, source: &mut S) -> Result<Said, Refusal>
+    ensures { Says (IsCheckDue (input (S.left source.old) (S.faults source.old)) (input (S.left source.new) (S.faults source.new))) result }
+{
+    let processes = processes_of(alloc, source)?;
+    let (text, any) = verdicts(alloc, &processes)?;
+    let status = if any { Status::IllFormed } else { Status::Done };
+    Ok(Said { text, status })
+}

@@ -1,0 +1,31 @@
+-- How faults of files and of reports read.
+use Rattle.std.specs.Prelude.{ℕ, List, ◌++◌, codes, decimal}
+use Rattle.program_lines.specs.declared.faults.Counted.{Counted}
+use Rattle.program_lines.specs.declared.faults.Counted.TheVariants.{Input, Operations, Processes, Active, Entries}
+use Rattle.program_lines.specs.declared.faults.FileFault.{FileFault}
+use Rattle.program_lines.specs.declared.faults.FileFault.TheVariants.{NotEmpty, BadHeader, BadRecord, BadHistory, BadBook}
+use Rattle.program_lines.specs.declared.faults.ReportFault.{ReportFault}
+use Rattle.program_lines.specs.declared.faults.ReportFault.TheVariants.{BadText, StepRefused, NotSerial, SerialDiffers}
+
+-- the word of what there is too much of
+abbrev pub counted_word : Counted → List ℕ
+counted_word Input = codes "input"
+counted_word Operations = codes "operations"
+counted_word Processes = codes "processes"
+counted_word Active = codes "active"
+counted_word Entries = codes "entries"
+
+-- what is wrong with the files
+abbrev pub file_text : FileFault → List ℕ
+file_text (NotEmpty file) = codes "not empty file " ++ decimal file
+file_text (BadHeader file) = codes "bad header file " ++ decimal file
+file_text (BadRecord file n) = codes "bad record file " ++ decimal file ++ codes " at " ++ decimal n
+file_text (BadHistory n) = codes "bad history at record " ++ decimal n
+file_text (BadBook file n) = codes "bad book file " ++ decimal file ++ codes " at record " ++ decimal n
+
+-- what is wrong with a report
+abbrev pub report_text : ReportFault → List ℕ
+report_text (BadText n) = codes "bad text at line " ++ decimal n
+report_text (StepRefused k) = codes "step " ++ decimal k ++ codes " refused"
+report_text (NotSerial n) = codes "not serial at " ++ decimal n
+report_text (SerialDiffers n) = codes "serial differs at " ++ decimal n

@@ -1,0 +1,26 @@
+-- The statuses and their numbers.
+use Rattle.std.specs.Prelude.{◌≡◌, ◌⊎◌, ℕ, List, [], ◌∷◌}
+use Rattle.program_lines.specs.declared.status.Status.{Status}
+use Rattle.program_lines.specs.declared.status.Status.TheVariants.{Done, BadWords, BadInput, IllFormed, Limit, Unfinished, BadFile, BookDiffers, ReadFault, WriteFault, DiskFault, Exhausted, NotReduced, NoMemory}
+
+-- the number with which the program ends
+abbrev pub number_of : Status → ℕ
+number_of Done = 0
+number_of BadWords = 1
+number_of BadInput = 2
+number_of IllFormed = 3
+number_of Limit = 4
+number_of Unfinished = 5
+number_of BadFile = 6
+number_of BookDiffers = 7
+number_of ReadFault = 8
+number_of WriteFault = 9
+number_of DiskFault = 10
+number_of Exhausted = 11
+number_of NotReduced = 12
+number_of NoMemory = 13
+
+-- the number of one of these statuses
+abbrev pub IsOneOf : ℕ → List Status → Type 0
+IsOneOf n [] = ⊥
+IsOneOf n (s ∷ statuses) = (n ≡ number_of s) ⊎ IsOneOf n statuses
