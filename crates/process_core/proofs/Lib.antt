@@ -30,6 +30,7 @@ pub mod CoreEffects
 pub mod ActiveSums
 pub mod EntryCounts
 pub mod StartRefusals
+pub mod StartKept
 pub mod KeptCounts
 pub mod KeptBound
 pub mod OpenedRoom

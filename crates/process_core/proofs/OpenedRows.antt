@@ -59,7 +59,7 @@ beyond : (a n k : ℕ) → a + n ≤ k → is_in k (numbers_from a n) ≡ false
 beyond a zero k past = refl
 beyond a (suc n) k past = or_from (eqb k a) (is_in k (numbers_from (a + 1) n)) (ne_eqb k a (λ same. omega arith)) (beyond (a + 1) n k (omega arith))
 
-unlisted : (g : ℕ → OpenProcess) (i : ℕ) (is : List ℕ) → ((k : ℕ) → (g k).process ≡ k) → is_in i is ≡ false → has_number i (map g is) ≡ false
+pub unlisted : (g : ℕ → OpenProcess) (i : ℕ) (is : List ℕ) → ((k : ℕ) → (g k).process ≡ k) → is_in i is ≡ false → has_number i (map g is) ≡ false
 unlisted g i [] named out = refl
 unlisted g i (k ∷ is) named out =
     let parts = or_none (eqb i k) (is_in i is) out in

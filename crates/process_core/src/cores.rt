@@ -21,6 +21,7 @@ use std::marker::Model;
 /// The scheduler.
 #[derive(Drop)]
 pub struct Core {
+    pub(crate) alloc: Global,
     pub(crate) history: History,
     /// How many events it had at the opening.
     pub(crate) opening: usize,
@@ -66,6 +67,7 @@ impl Core {
         kept.reserve(most)?;
         let cascade = Cascade::new(alloc)?;
         Ok(Core {
+            alloc,
             history,
             opening,
             kept,

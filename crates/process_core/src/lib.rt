@@ -20,15 +20,17 @@ mod pieces;
 mod replies;
 mod room;
 mod seats;
+mod starting;
 mod tables;
 mod under_way;
 mod undoing;
 
 pub use cores::Core;
 pub use laws::tables_stand_for_holdings;
-pub use machine_model::{Aborted, Began, Cause, Kept, PieceState, Refusal, Work};
+pub use machine_model::{Aborted, Began, Cause, Kept, PieceState, Refusal, StartWhy, Work};
 pub use pieces::Piece;
 pub use replies::Admit;
+pub use starting::StartRefused;
 
 #[cfg(test)]
 mod tests;
