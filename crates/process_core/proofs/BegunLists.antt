@@ -1,7 +1,10 @@
 -- Seats and tables as processes begin to complete one after another.
-use Rattle.std.proofs.Common.{◌≡◌, ℕ, zero, suc, ◌+◌, ◌<◌, true, List, [], ◌∷◌, length, map, slice_index_or, slice_set, Option, Some, None, sym, refl, ap, ◌∙◌, arith}
+use Rattle.std.proofs.Common.{is_none, if◌then◌else◌, false, Bool, ◌≡◌, ℕ, zero, suc, ◌+◌, ◌<◌, true, List, [], ◌∷◌, length, map, slice_index_or, slice_set, Option, Some, None, sym, refl, ap, ◌∙◌, arith}
 use Rattle.process_tree.specs.Blocks.{numbers_from}
 use Rattle.process_tree.specs.Order.{Each}
+use Rattle.process_tree.specs.Recovery.{forward}
+use Rattle.machine_model.specs.ProcessState.{ProcessState, complete_unless_on, completing, next_piece, past, was_refused}
+use Rattle.machine_model.specs.Progress.{is_only_try, way_on}
 use Rattle.machine_model.specs.declared.began.Cause.{Cause}
 use Rattle.instance_state.specs.Instances.{InstanceState}
 use Rattle.hold_tables.specs.Tables.{Tables, is_open}
@@ -88,3 +91,17 @@ pub all_changed : {X : Type 0} (f : ℕ → X → X) (g h : ℕ → X) (a n : �
 all_changed f g h a zero each = refl
 all_changed f g h a (suc n) each =
     ap (λ x. x ∷ first_changed f (a + 1) n (map g (numbers_from (a + 1) n))) each.0 ∙ ap (λ xs. h a ∷ xs) (all_changed f g h (a + 1) n each.1)
+
+-- a refusal leaves what a process owes
+pub refused_owes : (s : ProcessState) → length (forward (was_refused s).progress.shape (was_refused s).progress.net) ≡ length (forward s.progress.shape s.progress.net)
+refused_owes s = by_try (is_only_try s.progress.shape (next_piece s).step (next_piece s).work)
+  where
+    by_way : (t : Bool) → let q = past s.progress (next_piece s).step in
+        length (forward (if t then completing q else q).shape (if t then completing q else q).net) ≡ length (forward s.progress.shape s.progress.net)
+    by_way true = refl
+    by_way false = refl
+
+    by_try : (t : Bool) → let x : ProcessState = if t then record { progress = complete_unless_on (past s.progress (next_piece s).step); refused = 0 } else record { progress = s.progress; refused = s.refused + 1 } in
+        length (forward x.progress.shape x.progress.net) ≡ length (forward s.progress.shape s.progress.net)
+    by_try true = by_way (is_none (way_on (past s.progress (next_piece s).step)))
+    by_try false = refl

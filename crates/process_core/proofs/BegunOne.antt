@@ -39,6 +39,15 @@ use Rattle.process_core.proofs.SeatFrames.{active_stays}
 first_part : {X : Type 0} (xs ys : List X) (n : ℕ) → n ≡ length xs → take n (xs ++ ys) ≡ xs
 first_part xs ys n is = ap (λ k. take k (xs ++ ys)) is ∙ take-append_seam xs ys
 
+-- of what is reserved the first is what the process owes
+pub owed_first : (courses : List Course) (n : Moment) (i : ℕ) → pairs_of (owed courses n.events i) ≡ take (length (forward (shape courses i) (net_steps n.events i))) (pairs_of (hold_of courses n i).reserved)
+owed_first courses n i =
+    let o = owed courses n.events i in
+    let later = owed_soon courses n.events (running_of n i) in
+    let owes = forward (shape courses i) (net_steps n.events i) in
+    let many : length owes ≡ length (pairs_of o) = sym (length-map o (λ (e : Entry). (e.step, e.op)) ∙ length-map owes (doing courses i)) in
+    sym (ap (take (length owes)) (map-append (λ (e : Entry). (e.step, e.op)) o later) ∙ first_part (pairs_of o) (pairs_of later) (length owes) many)
+
 module _ (c : CoreState) (core : IsCore c) (k : Kept) (may : may_be_kept (relation c) (courses_in c) (moment_of c) k ≡ true) (i : ℕ) (away : LeavesPieceOf c.kept k i)
     (plain : state_by_piece k i (process_state (courses_in c) (moment_of c) i) (piece_ended c.kept k) ≡ process_state (courses_in c) (moment_of c) i)
     (active' : is_active (moment_of c).events i ≡ true) (was : has_begun (moment_of c) i ≡ false) (is : has_begun (advance (relation c) (courses_in c) (moment_of c) k) i ≡ true) where
@@ -106,15 +115,6 @@ module _ (c : CoreState) (core : IsCore c) (k : Kept) (may : may_be_kept (relati
       let d = length-map (net_of m.events i) (λ (e : Entry). e.step) in
       omega arith
 
-  -- of what is reserved what it owes stays
-  owed_stays : pairs_of (owed cs m.events i) ≡ take (length (forward (shape cs i) (net_steps m.events i))) (pairs_of (hold_of cs m i).reserved)
-  owed_stays =
-      let o = owed cs m.events i in
-      let later = owed_soon cs m.events (running_of m i) in
-      let many : length (forward (shape cs i) (net_steps m.events i)) ≡ length (pairs_of o) =
-      sym (length-map o (λ (e : Entry). (e.step, e.op)) ∙ length-map (forward (shape cs i) (net_steps m.events i)) (doing cs i)) in
-      sym (ap (take (length (forward (shape cs i) (net_steps m.events i)))) (map-append (λ (e : Entry). (e.step, e.op)) o later) ∙ first_part (pairs_of o) (pairs_of later) (length (forward (shape cs i) (net_steps m.events i))) many)
-
   steps_stay : net_steps after.events i ≡ net_steps m.events i
   steps_stay = ap steps_of (advance-stays (relation c) cs m i k (run-tidy (relation c) (machine_of c) core.session.run) may away_now).history.net
 
@@ -124,6 +124,6 @@ module _ (c : CoreState) (core : IsCore c) (k : Kept) (may : may_be_kept (relati
       let f = fixed_len (shape cs i) (net_steps m.events i) in
       ap (λ t. begun_row_of (if t then Some (record { course = course cs i; state = s }) else None) (row_of cs m i)) active'
       ∙ (ap (λ p. row_by None (take (length (forward (shape cs i) (net_steps m.events i))) (pairs_of (hold_of cs m i).reserved)) f p) (sym pending_is)
-      ∙ (ap (λ pairs. row_by None pairs f (length (backward_entries cs m.events i))) (sym owed_stays)
+      ∙ (ap (λ pairs. row_by None pairs f (length (backward_entries cs m.events i))) (sym (owed_first cs m i))
       ∙ (ap (λ w. row_by None (pairs_of (owed cs m.events i)) (fixed_len (shape cs i) w) (length (backward_entries cs m.events i))) (sym steps_stay)
       ∙ sym (ap (λ (h : Hold). row_by h.running (pairs_of h.reserved) (fixed_len (shape cs i) (net_steps after.events i)) (length h.pending)) (beginnings_stop (relation c) (machine_of c) k i core.session.run may was is)))))

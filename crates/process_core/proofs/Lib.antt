@@ -62,3 +62,5 @@ pub mod AbortReplies
 pub mod RefusedOwn
 pub mod ReservedFits
 pub mod HandTables
+pub mod RefusedSeat
+pub mod RefusedReplies

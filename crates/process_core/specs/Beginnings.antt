@@ -1,16 +1,18 @@
 -- Beginnings: what it makes of seats and tables that processes begin to complete.
-use Rattle.std.specs.Prelude.{◌≡◌, ◌⊎◌, ℕ, zero, suc, ◌+◌, Bool, true, not, ◌&&◌, List, [], ◌∷◌, ◌++◌, length, nat_eq, slice_index_or, Option, Some, None, is_some, is_none, if◌then◌else◌}
+use Rattle.std.specs.Prelude.{◌≡◌, ◌⊎◌, ℕ, zero, suc, ◌+◌, Bool, true, false, not, ◌&&◌, List, [], ◌∷◌, ◌++◌, length, nat_eq, slice_index_or, Option, Some, None, is_some, is_none, if◌then◌else◌}
 use Rattle.std.specs.Option.{option_map}
 use Rattle.process_tree.specs.Recovery.{forward}
 use Rattle.schedule_model.specs.Histories.{is_in}
 use Rattle.machine_model.specs.declared.began.Began.{Began}
 use Rattle.machine_model.specs.declared.began.Cause.{Cause}
-use Rattle.machine_model.specs.declared.began.Cause.TheVariants.{Abort as WasAborted, Cascade, Restart, Victim as WasVictim}
+use Rattle.machine_model.specs.declared.began.Cause.TheVariants.{Abort as WasAborted, Cascade, Refused, Restart, Victim as WasVictim}
 use Rattle.machine_model.specs.declared.kept.Kept.{Kept}
 use Rattle.machine_model.specs.declared.kept.Kept.TheVariants.{Abort, Victim}
 use Rattle.machine_model.specs.declared.replies.Aborted.{Aborted}
 use Rattle.machine_model.specs.declared.replies.Aborted.TheVariants.{Ended, Exhausted}
-use Rattle.machine_model.specs.ProcessState.{begun, has_used_up, pending_count}
+use Rattle.machine_model.specs.declared.replies.Refusal.{Refusal}
+use Rattle.machine_model.specs.declared.replies.Refusal.TheVariants.{Alternative, Exhausted as NoOtherTry, Retry, RollBack}
+use Rattle.machine_model.specs.ProcessState.{begun, has_used_up, pending_count, refusal, was_refused}
 use Rattle.machine_model.specs.Replies.{abort_by_begun}
 use Rattle.instance_state.specs.Instances.{InstanceState, moved_to}
 use Rattle.hold_tables.specs.Tables.{OpenProcess, Tables, is_open}
@@ -98,3 +100,40 @@ aborted_of (Some x) began = if has_used_up x.course x.state then Exhausted else 
 
 abbrev pub aborted_by : SeatState → Aborted
 aborted_by s = aborted_of s.instance s.began
+
+-- when and why a process began, where its piece of step b was refused at this kept event, which led to this
+abbrev pub began_refused : ℕ → ℕ → Refusal → Option Began → Option Began
+began_refused event b RollBack None = Some (record { event = event; cause = Refused b })
+began_refused event b RollBack (Some x) = Some x
+began_refused event b Alternative o = o
+began_refused event b (Retry n) o = o
+began_refused event b NoOtherTry o = o
+
+-- what the refusal of its piece leads to; nothing for a process that isn't active
+abbrev pub refusal_of : Option InstanceState → Refusal
+refusal_of None = NoOtherTry
+refusal_of (Some x) = refusal x.course x.state
+
+-- the seat of a process whose piece of step b was refused
+abbrev pub refused_seat : ℕ → ℕ → SeatState → SeatState
+refused_seat event b s = record {
+  instance = option_map (λ x. moved_to x (was_refused x.state)) s.instance;
+  out = None;
+  lost = s.lost;
+  began = began_refused event b (refusal_of s.instance) s.began;
+}
+
+-- its row: nothing is under way, what it owes stays reserved, and what it has to undo now is pending
+abbrev pub refused_row_of : Option InstanceState → OpenProcess → OpenProcess
+refused_row_of None r = r
+refused_row_of (Some x) r = with_pending (pending_count (was_refused x.state)) (with_first_reserved (length (forward x.state.progress.shape x.state.progress.net)) (with_running None r))
+
+abbrev pub refused_row : SeatState → OpenProcess → OpenProcess
+refused_row s r = refused_row_of s.instance r
+
+-- whether others may go back with a process whose refusal led to this: it was the one try of a step
+abbrev pub drags_along : Refusal → Bool
+drags_along RollBack = true
+drags_along Alternative = true
+drags_along (Retry n) = false
+drags_along NoOtherTry = false

@@ -17,6 +17,7 @@ mod members;
 mod opening;
 mod owed;
 mod pieces;
+mod refusing;
 mod replies;
 mod room;
 mod seats;
