@@ -8,3 +8,7 @@ pub mod Answered
 pub mod RollingBack
 pub mod Preparing
 pub mod PrepareAnswers
+pub mod Clearing
+pub mod MadeStores
+pub mod UsedFiles
+pub mod Unused

@@ -1,3 +1,5 @@
+pub mod Boxes
+pub mod Creating
 pub mod Effects
 pub mod Images
 pub mod Sound

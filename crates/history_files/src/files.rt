@@ -1,4 +1,10 @@
 // The journal and the stores of eight subsystems, under one rack.
+ghost use Rattle.process_disk.specs.Disk.{Told};
+ghost use Rattle.process_disk.specs.Images.{EachImage};
+ghost use Rattle.schedule_model.specs.declared.history.History.{History};
+ghost use Rattle.commute_table.specs.declared.catalog.Catalog.{Catalog};
+ghost use Rattle.history_files.specs.Sound.{IsSound};
+ghost use Rattle.history_files.specs.Standing.{Stand};
 
 use process_disk::Rack;
 use process_journal::Journal;
@@ -25,4 +31,15 @@ impl<R: Rack + Drop, B: Drop> Model for Files<R, B> {
     ghost view = { λ f. record { rack = f.rack; journal = f.journal; stores = f.stores.items } };
 
     ghost invariant = { λ f. AreStores f.stores.items × (f.journal.file ≡ 0) × (f.emptied.items ≡ []) × (8 ≤ vec_capacity f.emptied) };
+}
+
+impl<R: Rack + Drop, B: Drop> Files<R, B> {
+    /// Files that stand for a history are sound for it, and so is each image of them from now on.
+    pub fn are_sound(&self)
+        ensures read { Told (R.disk self.now.rack) → (c : Catalog) (h : History) → Stand c h self.now.journal self.now.stores (R.disk self.now.rack) → IsSound c h (R.disk self.now.rack).files }
+        ensures each { Told (R.disk self.now.rack) → (c : Catalog) (h : History) → Stand c h self.now.journal self.now.stores (R.disk self.now.rack) →
+            EachImage (R.disk self.now.rack) (R.disk self.now.rack).moment (IsSound c h) }
+    {
+        let _ = &self.journal;
+    }
 }

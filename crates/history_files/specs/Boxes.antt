@@ -1,0 +1,19 @@
+-- The boxes of eight subsystems, while they are in stores, and not.
+use Rattle.std.specs.Prelude.{◌≡◌, List, [], ◌++◌, map, reverse}
+use Rattle.resource_box.specs.declared.call.Kind.{Kind}
+use Rattle.resource_box.specs.Meaning.{Pairs}
+use Rattle.subsystem_store.specs.Opened.{Opened}
+use Rattle.history_files.specs.Sound.{kinds}
+use Rattle.history_files.specs.Standing.{AtEach}
+
+-- the boxes are those of the eight subsystems, in order
+abbrev pub AreBoxes : {B : Type 0} → (B → Kind) → List B → Type 0
+AreBoxes sort boxes = map sort boxes ≡ kinds
+
+-- each box is empty
+abbrev pub AreEmpty : {B : Type 0} → (B → Pairs) → List B → Type 0
+AreEmpty meaning boxes = AtEach (λ q b. (meaning b).items ≡ []) boxes
+
+-- the stores of the first subsystems, and the boxes of the others, the last one first
+abbrev pub AreParted : {B : Type 0} → (B → Kind) → List (Opened B) → List B → Type 0
+AreParted sort stores boxes = map (λ s. s.kind) stores ++ reverse (map sort boxes) ≡ kinds
