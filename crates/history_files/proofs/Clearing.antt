@@ -124,3 +124,16 @@ kinds_in_place {B} sort stores boxes parted q s at =
   where
     kind : Opened B → Kind
     kind s = s.kind
+
+-- and so has the box that comes next
+pub next_kind : {B : Type 0} (sort : B → Kind) (stores : List (Opened B)) (boxes : List B) (b : B) → AreParted sort stores (boxes ++ b ∷ []) → sort b ≡ kind_of (length stores)
+next_kind {B} sort stores boxes b parted =
+    kind_at (length stores) (sort b) (omega (arith, parted_count sort stores (boxes ++ b ∷ []) parted, length-append boxes (b ∷ [])))
+        (ap (λ ks. slice_get ks (length stores)) (sym (ap (λ ks. map kind stores ++ ks) (sym (reverse_push sort boxes b)) ∙ parted))
+            ∙ ap (slice_get (map kind stores ++ sort b ∷ reverse (map sort boxes))) (count (length stores) (length (map kind stores)) (length-map stores kind))
+            ∙ slice_get-right (map kind stores) (sort b ∷ reverse (map sort boxes)) 0)
+  where
+    kind : Opened B → Kind
+    kind s = s.kind
+    count : (n m : ℕ) → m ≡ n → n ≡ m + 0
+    count n m same = omega (arith, same)

@@ -12,3 +12,4 @@ pub mod Clearing
 pub mod MadeStores
 pub mod UsedFiles
 pub mod Unused
+pub mod ReadStores

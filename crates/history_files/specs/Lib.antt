@@ -1,6 +1,8 @@
 pub mod Boxes
 pub mod Creating
 pub mod Effects
+mod Examples
 pub mod Images
+pub mod Opening
 pub mod Sound
 pub mod Standing

@@ -1,5 +1,6 @@
 // Why files were not made or opened.
 ghost use Rattle.std.specs.Prelude.{◌≡◌, ◌≢◌, ◌⊎◌};
+ghost use Rattle.history_files.specs.Opening.{of_store_error};
 ghost use Rattle.history_files.specs.declared.faults.CreateError.TheVariants.{DiskFault as Fault, NoMemory};
 
 use crate::Parts;
@@ -22,6 +23,23 @@ pub enum CreateError {
     DiskFault,
     /// The first file that has a byte.
     NotEmpty(u8),
+    NoMemory,
+}
+
+#[derive(Clone, Copy, Debug, PartialEq, Eq)]
+pub enum OpenError {
+    /// A call of the rack failed.
+    DiskFault,
+    /// The first file that has no header.
+    BadHeader(u8),
+    /// The first file at fault, and its first record, counted from 1, that is not whole or has no form of a record.
+    BadRecord(u8, u32),
+    /// The first record of the journal that does not continue a legal history within the limits.
+    BadHistory(u32),
+    /// The first file at fault, and its first record that is out of place.
+    BadBook(u8, u32),
+    /// The first subsystem whose book is not that of the history.
+    BookDiffers(BookFault),
     NoMemory,
 }
 
@@ -51,5 +69,18 @@ pub fn of_journal(why: JournalError) -> CreateError
     match why {
         JournalError::NoMemory => CreateError::NoMemory,
         _ => CreateError::DiskFault,
+    }
+}
+
+/// Why a store was not opened.
+pub fn of_opened(file: u8, why: StoreError) -> OpenError
+    ensures { result ≡ of_store_error file why }
+{
+    match why {
+        StoreError::DiskFault => OpenError::DiskFault,
+        StoreError::BadHeader => OpenError::BadHeader(file),
+        StoreError::BadRecord(number) => OpenError::BadRecord(file, number),
+        StoreError::BadBook(number) => OpenError::BadBook(file, number),
+        StoreError::NoMemory => OpenError::NoMemory,
     }
 }

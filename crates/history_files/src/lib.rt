@@ -3,12 +3,15 @@
 
 mod boxes;
 mod creating;
+mod effects;
 mod faults;
 mod files;
 mod making;
 mod parts;
+mod reading;
 mod steps;
 
-pub use faults::{BookFault, CreateError, CreateRefused};
+pub use faults::{BookFault, CreateError, CreateRefused, OpenError};
+pub use effects::{effect_of, subsystem_of};
 pub use files::Files;
 pub use parts::Parts;
