@@ -1,5 +1,7 @@
 // What no clause of `process_journal` says: each damage and each cut of a file, the bytes of a whole journal, and that each call which
 // wants memory succeeds where there is enough.
+ghost use Rattle.std.specs.Prelude.{◌≡◌, ◌<◌, IfOk};
+
 use crate::damages::{CUTS, DAMAGES};
 use commute_table::read_catalog;
 use process_disk::{MemoryRack, Rack};
@@ -123,15 +125,23 @@ const STEP: Entry = Entry {
     undo: false,
 };
 
-// Writes the journal of that run.
-fn write_run<H: Abort>(rt: &H, alloc: Global, rack: &mut Untold) -> Result<(), Fail> {
+// The journal of no record yet.
+fn new_journal<H: Abort>(rt: &H, alloc: Global, rack: &mut Untold) -> Result<Journal, Fail>
+    ensures { IfOk result (λ journal. journal.count ≡ 1) }
+{
     let Ok(catalog) = read_catalog(alloc, &FILE[12..22]) else {
         panic!(rt; "no catalog");
     };
-    let Ok(mut journal) = Journal::create(alloc, rack, &catalog) else {
+    let Ok(journal) = Journal::create(alloc, rack, &catalog) else {
         panic!(rt; "no journal");
     };
-    assert_eq!(rt; rack.len(0), Ok(23));
+    Ok(journal)
+}
+
+// Appends the records of that run.
+fn append_run(alloc: Global, rack: &mut Untold, journal: &mut Journal) -> Result<(), Fail>
+    requires { journal.old.count < 100 }
+{
     let text = Body::new(FILE[30..56].to_vec(alloc)?);
     journal.append(rack, &Record::Start(1, text))?;
     journal.append(rack, &Record::Act(STEP))?;
@@ -166,7 +176,9 @@ fn the_records_of_a_run_are_written_and_read(rt: HostRuntime) -> Result<(), Fail
     let mut rack = Untold {
         rack: MemoryRack::new(alloc, Vec::new(alloc))?,
     };
-    write_run(&rt, alloc, &mut rack)?;
+    let mut journal = new_journal(&rt, alloc, &mut rack)?;
+    assert_eq!(rt; rack.len(0), Ok(23));
+    append_run(alloc, &mut rack, &mut journal)?;
     assert_eq!(rt; rack.len(0), Ok(76));
     assert!(rt; bytes_in(alloc, &mut rack)? == whole_file(alloc)?);
     expect_run(&rt, alloc, &mut rack)
