@@ -33,7 +33,6 @@ pub mod StartRefusals
 pub mod StartKept
 pub mod KeptCounts
 pub mod KeptBound
-pub mod OpenedRoom
 pub mod KeptRoom
 pub mod BegunLists
 pub mod BegunLost

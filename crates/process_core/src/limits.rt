@@ -85,7 +85,7 @@ impl Core {
     }
 
     /// Why a process of this plan can't start, memory aside.
-    pub(crate) fn start_refusal(&self, plan: &Plan) -> Option<StartWhy>
+    pub fn start_refusal(&self, plan: &Plan) -> Option<StartWhy>
         requires { length plan.now.ops ≡ length (outline plan.now.tree).steps }
         ensures { result ≡ start_refusal (courses_in self.now) (moment_of self.now) (course_of plan.now) }
     {

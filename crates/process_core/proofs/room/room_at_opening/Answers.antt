@@ -1,23 +1,27 @@
 use Rattle.std.proofs.Common.{◌≡◌, ◌∙◌, ◌+◌, length, ap, sym, arith}
-use Rattle.process_core.proofs.OpenedRoom.{has_operations, room_all, room_more, room_passed, seat_active, with_plan}
+use Rattle.std.specs.List.{sum_by}
+use Rattle.schedule_model.specs.Course.{course, courses_of}
+use Rattle.process_core.specs.Cores.{opened_on}
+use Rattle.process_core.specs.Room.{kept_for}
+use Rattle.process_core.proofs.ActiveSums.{active_by_seat, all_active, none_more, plan_operations, seat_with_plan, sum_more}
 use Rattle.process_core.proofs.PendedRows.{seats_count}
 use Rattle.process_core.proofs.room.room_at_opening.Goals as goal
 use Rattle.process_core.proofs.room.room_at_opening.Goals.{then-is_active, else-is_active}
 
 pub bounds-plans-place : goal.bounds-plans-place
 bounds-plans-place c =
-    let less = with_plan c.requires.core.0 c.args.h.now.plans c.args.h.now.events c.requires.core.1 c.loop-place.place c.args.seats.now c.requires.seats c.loop-place-test.true in
+    let less = seat_with_plan (opened_on c.requires.core.0 c.args.h.now.plans c.args.h.now.events) c.requires.core.1 c.loop-place.place c.args.seats.now c.requires.seats c.loop-place-test.true in
     let same = ap length c.as_slice-plans.ensures in
     omega arith
 
 pub kept_for-room-requires : goal.kept_for-room-requires
-kept_for-room-requires c = has_operations c.requires.core.0 c.args.h.now.plans c.args.h.now.events c.requires.core.1 c.loop-place.place c.args.seats.now c.requires.seats c.loop-place-test.true
+kept_for-room-requires c = plan_operations (opened_on c.requires.core.0 c.args.h.now.plans c.args.h.now.events) c.requires.core.1 c.loop-place.place c.args.seats.now c.requires.seats c.loop-place-test.true
     c.as_slice-plans.result.now c.as_slice-plans.ensures c.index-plans-place.result c.index-plans-place.is
 
 pub overflow_add-room : goal.overflow_add-room
 overflow_add-room c =
     let few = c.requires.few in
-    let less = with_plan c.requires.core.0 c.args.h.now.plans c.args.h.now.events c.requires.core.1 c.loop-place.place c.args.seats.now c.requires.seats c.loop-place-test.true in
+    let less = seat_with_plan (opened_on c.requires.core.0 c.args.h.now.plans c.args.h.now.events) c.requires.core.1 c.loop-place.place c.args.seats.now c.requires.seats c.loop-place-test.true in
     let room = c.loop-place.invariant.few in
     let one = c.kept_for-room.ensures.few in
     omega arith
@@ -25,9 +29,9 @@ overflow_add-room c =
 pub loop-place-preserved : goal.loop-place-preserved
 loop-place-preserved c = elim c.if-is_active.branch [
   | then-is_active w ↦
-      let is = sym (seat_active c.requires.core.0 c.args.h.now.plans c.args.h.now.events c.requires.core.1 c.loop-place.place c.args.seats.now c.requires.seats c.loop-place-test.true c.index-seats-place.result c.index-seats-place.is) ∙ (sym c.is_active.ensures ∙ w.if-is_active.true) in
-      let more = room_more c.requires.core.0 c.args.h.now.plans c.args.h.now.events c.requires.core.1 c.loop-place.place c.args.seats.now c.requires.seats c.loop-place-test.true
-      c.as_slice-plans.result.now c.as_slice-plans.ensures w.index-plans-place.result w.index-plans-place.is is in
+      let is = sym (active_by_seat (opened_on c.requires.core.0 c.args.h.now.plans c.args.h.now.events) c.requires.core.1 c.loop-place.place c.args.seats.now c.requires.seats c.loop-place-test.true c.index-seats-place.result c.index-seats-place.is) ∙ (sym c.is_active.ensures ∙ w.if-is_active.true) in
+      let more = sum_more (opened_on c.requires.core.0 c.args.h.now.plans c.args.h.now.events) c.requires.core.1 c.loop-place.place c.args.seats.now c.requires.seats c.loop-place-test.true
+      c.as_slice-plans.result.now c.as_slice-plans.ensures w.index-plans-place.result w.index-plans-place.is kept_for is in
       let few = c.loop-place.invariant.few in
       let one = w.kept_for-room.ensures.few in
       let same = w.kept_for-room.ensures.kept in
@@ -35,8 +39,8 @@ loop-place-preserved c = elim c.if-is_active.branch [
       let now = w.room-is in
       record { room = omega arith; few = omega arith }
   | else-is_active w ↦
-      let is = sym (seat_active c.requires.core.0 c.args.h.now.plans c.args.h.now.events c.requires.core.1 c.loop-place.place c.args.seats.now c.requires.seats c.loop-place-test.true c.index-seats-place.result c.index-seats-place.is) ∙ (sym c.is_active.ensures ∙ w.if-is_active.false) in
-      let same = room_passed c.requires.core.0 c.args.h.now.plans c.args.h.now.events c.requires.core.1 c.loop-place.place c.args.seats.now c.requires.seats c.loop-place-test.true is in
+      let is = sym (active_by_seat (opened_on c.requires.core.0 c.args.h.now.plans c.args.h.now.events) c.requires.core.1 c.loop-place.place c.args.seats.now c.requires.seats c.loop-place-test.true c.index-seats-place.result c.index-seats-place.is) ∙ (sym c.is_active.ensures ∙ w.if-is_active.false) in
+      let same = ap (sum_by (λ i. kept_for (course (courses_of c.args.h.now.plans) i))) (none_more (opened_on c.requires.core.0 c.args.h.now.plans c.args.h.now.events) c.requires.core.1 c.loop-place.place c.args.seats.now c.requires.seats c.loop-place-test.true is) in
       let few = c.loop-place.invariant.few in
       let now = w.room-is in
       record { room = now ∙ (c.loop-place.invariant.room ∙ same); few = omega arith }
@@ -47,4 +51,4 @@ returns c =
     let many = seats_count c.args.h.now.plans c.args.h.now.events c.args.seats.now c.requires.seats in
     let past = c.loop-place-test.false in
     let low = c.loop-place.auto.place-end in
-    c.loop-place.invariant.room ∙ room_all c.requires.core.0 c.args.h.now.plans c.args.h.now.events c.requires.core.1 c.loop-place.place (omega arith)
+    c.loop-place.invariant.room ∙ ap (sum_by (λ i. kept_for (course (courses_of c.args.h.now.plans) i))) (all_active (opened_on c.requires.core.0 c.args.h.now.plans c.args.h.now.events) c.requires.core.1 c.loop-place.place (omega arith))
