@@ -1,13 +1,11 @@
 -- Sums over the active processes of a core.
-use Rattle.std.proofs.Common.{◌≡◌, ◌∙◌, ℕ, ◌+◌, ◌-◌, ◌≤◌, ◌<◌, Bool, true, false, not, ◌&&◌, if◌then◌else◌, List, [], ◌∷◌, ◌++◌, length, filter, is_some, Some, None, slice_index_or, refl, sym, ap, subst, append-nil, length-append, arith}
+use Rattle.std.proofs.Common.{◌≡◌, ◌∙◌, ℕ, ◌+◌, ◌-◌, ◌<◌, Bool, true, false, not, ◌&&◌, if◌then◌else◌, List, [], ◌∷◌, length, filter, is_some, Some, None, slice_index_or, refl, sym, ap, subst, append-nil, length-append, arith}
 use Rattle.std.specs.List.{sum_by}
 use Rattle.std.proofs.lemmas.List.{length-map}
 use Rattle.std.proofs.lemmas.List.Sums.{sum_by_push}
 use Rattle.process_tree.specs.Blocks.{numbers_from, outline}
 use Rattle.process_tree.specs.declared.plan.Plan.{Plan}
-use Rattle.schedule_model.specs.Conflict.{no_conflict}
-use Rattle.schedule_model.specs.declared.event.Event.{Event}
-use Rattle.schedule_model.specs.Course.{Course, course, course_of, courses_of}
+use Rattle.schedule_model.specs.Course.{Course, course, course_of}
 use Rattle.schedule_model.specs.Histories.{active, ends, is_active, is_in, starts}
 use Rattle.schedule_model.proofs.Members.{contains-from_among, filter-agree, is_in-among}
 use Rattle.machine_model.proofs.OwnOrder.{run-own_order}

@@ -1,21 +1,19 @@
 -- What a core has of a piece that takes effect, and what it answers.
-use Rattle.std.proofs.Common.{◌≡◌, ◌∙◌, ℕ, zero, suc, ◌+◌, ◌-◌, ◌≤◌, ◌<◌, true, false, Bool, if◌then◌else◌, List, [], ◌∷◌, ◌++◌, length, take, slice_index_or, Option, Some, None, is_some, sym, refl, ap, subst, arith}
+use Rattle.std.proofs.Common.{◌≡◌, ◌∙◌, ℕ, zero, suc, ◌+◌, ◌-◌, ◌≤◌, ◌<◌, true, false, Bool, if◌then◌else◌, List, [], ◌∷◌, ◌++◌, length, slice_index_or, Some, is_some, sym, refl, ap, subst, arith}
 use Rattle.std.proofs.lemmas.Bool.{false≢true}
 use Rattle.std.proofs.lemmas.List.{length-map}
-use Rattle.process_tree.specs.declared.entry.Entry.{Entry}
 use Rattle.process_tree.specs.declared.plan.Plan.{Plan}
 use Rattle.process_tree.specs.declared.play.Outcome.TheVariants.{Done}
 use Rattle.process_tree.specs.declared.step.Step.{Step}
 use Rattle.process_tree.specs.Blocks.{outline}
-use Rattle.process_tree.specs.Conflicts.{Table, operations_in}
+use Rattle.process_tree.specs.Conflicts.{operations_in}
 use Rattle.process_tree.specs.Order.{Each}
 use Rattle.process_tree.specs.Shape.{commits, kind_of, shape_of}
 use Rattle.schedule_model.specs.declared.event.Event.{Event}
-use Rattle.schedule_model.specs.Course.{Course, course, course_of, courses_of}
+use Rattle.schedule_model.specs.Course.{Course, course, course_of}
 use Rattle.schedule_model.specs.Histories.{active, doing, net}
 use Rattle.schedule_model.specs.Laws.{IsGoodPlan}
 use Rattle.schedule_model.proofs.Members.{contains-from_among}
-use Rattle.machine_model.specs.declared.kept.Kept.{Kept}
 use Rattle.machine_model.specs.declared.kept.Kept.TheVariants.{Effect}
 use Rattle.machine_model.specs.declared.kept.Work.{Work}
 use Rattle.machine_model.specs.declared.kept.Work.TheVariants.{End, Forward, Undo}
@@ -24,7 +22,7 @@ use Rattle.machine_model.specs.Calls.{finish}
 use Rattle.machine_model.specs.Moment.{Moment, Piece}
 use Rattle.machine_model.specs.Pieces.{dropped_at, piece_of, runs, state_of}
 use Rattle.machine_model.specs.Progress.{same_work}
-use Rattle.machine_model.specs.Replies.{Finish, effected, finish_by, finish_kept, finish_piece, finish_reply, out_finish}
+use Rattle.machine_model.specs.Replies.{effected, finish_by, finish_kept, finish_piece, finish_reply, out_finish}
 use Rattle.machine_model.specs.State.{entry_by, entry_of}
 use Rattle.machine_model.proofs.CallsKept.{out_runs}
 use Rattle.machine_model.proofs.Snoc.{now-kept}
@@ -34,7 +32,7 @@ use Rattle.process_core.specs.Answers.{after_call}
 use Rattle.process_core.specs.Cores.{CoreState, IsCore, courses_in, history_of, machine_of, moment_of, relation}
 use Rattle.process_core.specs.Effects.{HoldsWork, tables_effected}
 use Rattle.process_core.specs.OpenTables.{pairs_behind, row_of}
-use Rattle.process_core.specs.Seats.{SeatState, Stands, seat_of}
+use Rattle.process_core.specs.Seats.{SeatState, Stands}
 use Rattle.process_core.proofs.EffectRows.{its_row, listed, runs_it}
 use Rattle.process_core.proofs.EffectSteps.{goes}
 use Rattle.process_core.proofs.HandStands.{with_event}

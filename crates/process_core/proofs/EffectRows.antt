@@ -1,6 +1,5 @@
 -- What the effect of a piece makes of the rows, whichever work it is.
-use Rattle.std.proofs.Common.{◌≡◌, ◌∙◌, ℕ, Bool, true, false, eqb, List, [], ◌∷◌, ◌++◌, length, map, filter, Option, Some, None, sym, refl, ap, arith}
-use Rattle.std.specs.Bool.{IsTrue}
+use Rattle.std.proofs.Common.{◌≡◌, ◌∙◌, ℕ, Bool, true, false, eqb, List, length, map, filter, Option, Some, None, sym, refl, ap, arith}
 use Rattle.std.proofs.lemmas.Bool.{eqb-true, false≢true}
 use Rattle.std.proofs.lemmas.List.{length-drop, length-map}
 use Rattle.process_tree.specs.declared.entry.Entry.{Entry}
@@ -8,10 +7,9 @@ use Rattle.process_tree.specs.Shape.{fixed_len}
 use Rattle.schedule_model.specs.Conflict.{no_conflict}
 use Rattle.schedule_model.specs.Course.{Course, shape}
 use Rattle.schedule_model.specs.Histories.{active, is_in, net, net_of, net_steps, of_process}
-use Rattle.schedule_model.specs.Holdings.{Hold, active_net}
+use Rattle.schedule_model.specs.Holdings.{active_net}
 use Rattle.schedule_model.proofs.Active.{is_active-is_in}
 use Rattle.schedule_model.proofs.Starts.{active-rising}
-use Rattle.machine_model.specs.declared.kept.Kept.{Kept}
 use Rattle.machine_model.specs.declared.kept.Kept.TheVariants.{Effect}
 use Rattle.machine_model.specs.Moment.{Moment, Piece}
 use Rattle.machine_model.specs.Pieces.{piece_of, running_of, runs}
@@ -98,8 +96,14 @@ module _ (c : CoreState) (core : IsCore c) (d : Piece) (found : piece_of c.kept 
 
   pub row_after : row_of (courses_in c) (advance (relation c) (courses_in c) (moment_of c) (Effect d.number)) d.process
       ≡ (let g = hold_of (courses_in c) (advance (relation c) (courses_in c) (moment_of c) (Effect d.number)) d.process in
-      record { process = d.process; steps = length (shape (courses_in c) d.process).kinds; running = None; reserved = pairs_of g.reserved;
-        fixed = fixed_len (shape (courses_in c) d.process) (net_steps (advance (relation c) (courses_in c) (moment_of c) (Effect d.number)).events d.process); pending = length g.pending })
+      record {
+        process = d.process;
+        steps = length (shape (courses_in c) d.process).kinds;
+        running = None;
+        reserved = pairs_of g.reserved;
+        fixed = fixed_len (shape (courses_in c) d.process) (net_steps (advance (relation c) (courses_in c) (moment_of c) (Effect d.number)).events d.process);
+        pending = length g.pending;
+      })
   row_after =
       let g = hold_of cs after i in
       ap (λ (o : Option Piece). record { process = i; steps = length (shape cs i).kinds; running = entry_of cs o; reserved = pairs_of g.reserved; fixed = fixed_len (shape cs i) (net_steps after.events i); pending = length g.pending })

@@ -1,11 +1,8 @@
 -- What the effect of a piece makes of the seat of its process, and of the history.
 use Rattle.std.proofs.Common.{◌≡◌, ◌∙◌, ℕ, Bool, true, false, not, eqb, ◌&&◌, if◌then◌else◌, List, [], ◌∷◌, ◌++◌, filter, Option, Some, None, sym, refl, ap, subst}
-use Rattle.std.specs.Bool.{IsTrue}
 use Rattle.std.specs.Option.{option_map}
 use Rattle.std.proofs.lemmas.Bool.{and_parts, eq-eqb, false≢true}
 use Rattle.std.proofs.lemmas.Option.{same_Some}
-use Rattle.schedule_model.specs.declared.event.Event.{Event}
-use Rattle.schedule_model.specs.declared.event.Event.TheVariants.{Act}
 use Rattle.schedule_model.specs.Course.{Course, course}
 use Rattle.schedule_model.specs.Histories.{active, doing, is_active, is_in, starts, undoing}
 use Rattle.schedule_model.proofs.Active.{is_active-is_in, is_in-filter}
@@ -22,7 +19,6 @@ use Rattle.machine_model.specs.ProcessState.{ProcessState, begun, effected, work
 use Rattle.machine_model.specs.Progress.{Progress, next_task, same_work}
 use Rattle.machine_model.specs.State.{process_state}
 use Rattle.machine_model.specs.Advance.{advance, event_by, event_of, with_piece}
-use Rattle.machine_model.specs.Runs.{may_be_kept}
 use Rattle.machine_model.proofs.Frames.{piece_of-plain}
 use Rattle.machine_model.proofs.HoldChanges.{ends_go}
 use Rattle.machine_model.proofs.HoldSteps.{running_goes_by_pieces}

@@ -1,13 +1,9 @@
 -- A core stands after the effect of a piece.
-use Rattle.std.proofs.Common.{◌≡◌, ◌∙◌, ℕ, ◌+◌, ◌-◌, ◌≤◌, true, false, Bool, eqb, if◌then◌else◌, List, [], ◌∷◌, ◌++◌, length, map, Option, Some, None, slice_set, unwrap_or, sym, refl, ap, arith}
-use Rattle.std.specs.Option.{option_map}
+use Rattle.std.proofs.Common.{◌≡◌, ◌∙◌, ℕ, ◌-◌, ◌≤◌, true, false, if◌then◌else◌, List, [], ◌∷◌, ◌++◌, length, Some, None, slice_set, sym, refl, ap, arith}
 use Rattle.std.proofs.lemmas.List.{length-map}
-use Rattle.process_tree.specs.declared.entry.Entry.{Entry}
 use Rattle.process_tree.specs.declared.plan.Plan.{Plan}
 use Rattle.schedule_model.specs.declared.event.Event.{Event}
 use Rattle.schedule_model.specs.Course.{Course, course, course_of}
-use Rattle.schedule_model.specs.Histories.{is_active}
-use Rattle.machine_model.specs.declared.kept.Kept.{Kept}
 use Rattle.machine_model.specs.declared.kept.Kept.TheVariants.{Effect}
 use Rattle.machine_model.specs.declared.kept.Work.{Work}
 use Rattle.machine_model.specs.declared.kept.Work.TheVariants.{End, Forward, Undo}
@@ -16,12 +12,11 @@ use Rattle.machine_model.specs.Pieces.{piece_of, runs}
 use Rattle.machine_model.specs.Progress.{same_work}
 use Rattle.machine_model.specs.State.{entry_by, entry_of, hold_of, process_state}
 use Rattle.machine_model.specs.Advance.{advance, event_by, event_of}
-use Rattle.instance_state.specs.Instances.{InstanceState}
 use Rattle.hold_tables.specs.Tables.{OpenProcess, Tables, kept_of}
-use Rattle.process_core.specs.Cores.{CoreState, IsCore, courses_in, moment_of, relation}
-use Rattle.process_core.specs.Effects.{event_told, instance_effected, pending_in, seat_effected, tables_effected}
-use Rattle.process_core.specs.OpenTables.{row_of, tables_of}
-use Rattle.process_core.specs.Seats.{SeatState, Stands, instance_of, seat_of, seats_of}
+use Rattle.process_core.specs.Cores.{CoreState, courses_in, moment_of, relation}
+use Rattle.process_core.specs.Effects.{event_told, pending_in, seat_effected, tables_effected}
+use Rattle.process_core.specs.OpenTables.{tables_of}
+use Rattle.process_core.specs.Seats.{SeatState, Stands, seat_of, seats_of}
 use Rattle.process_core.proofs.EffectRows.{its_row, pending_at, runs_it}
 use Rattle.process_core.proofs.EffectSeats.{act_active, begun_same, events_are, its_started, others_away, seat_effect}
 use Rattle.process_core.proofs.EffectSteps.{tables_step}

@@ -1,5 +1,5 @@
 -- What the effect of a step makes of the tables.
-use Rattle.std.proofs.Common.{◌≡◌, ◌∙◌, ℕ, ◌+◌, Bool, true, false, eqb, if◌then◌else◌, List, [], ◌∷◌, ◌++◌, length, map, filter, slice_index_or, Option, Some, None, sym, refl, ap, append-nil, length-append, arith}
+use Rattle.std.proofs.Common.{◌≡◌, ◌∙◌, ℕ, ◌+◌, Bool, true, false, eqb, if◌then◌else◌, List, [], ◌∷◌, ◌++◌, length, map, filter, slice_index_or, Some, None, sym, refl, ap, append-nil, length-append, arith}
 use Rattle.std.specs.List.{list_any}
 use Rattle.std.proofs.lemmas.Bool.{false≢true}
 use Rattle.std.proofs.lemmas.List.{length-map, map-append}
@@ -11,7 +11,6 @@ use Rattle.process_tree.specs.declared.step.StepKind.TheVariants.{C, P, R}
 use Rattle.process_tree.specs.Recovery.{class_by_kind, class_of, forward, last_after, reserved}
 use Rattle.process_tree.specs.Shape.{Shape, branch_to, commits, fixed_len, goes_on_to, kind_of, shape_of}
 use Rattle.process_tree.proofs.Fixed.{fixed_more}
-use Rattle.schedule_model.specs.declared.event.Event.{Event}
 use Rattle.schedule_model.specs.declared.event.Event.TheVariants.{Act}
 use Rattle.schedule_model.specs.Course.{Course, course, course_of, shape}
 use Rattle.schedule_model.specs.Histories.{active, doing, is_in, net, net_of, net_steps, of_process, steps_of}
@@ -28,12 +27,12 @@ use Rattle.machine_model.specs.Advance.{advance, event_by}
 use Rattle.machine_model.proofs.OwnOrder.{on_from, piece_keeps}
 use Rattle.hold_tables.specs.Changes.{all_fixed, change_numbered, changed, net_after, took_effect, with_fixed, with_pending, with_reserved, with_running}
 use Rattle.hold_tables.specs.Tables.{OpenProcess, Tables, kept_of}
-use Rattle.process_core.specs.Cores.{CoreState, IsCore, courses_in, machine_of, moment_of, relation}
+use Rattle.process_core.specs.Cores.{CoreState, IsCore, courses_in, moment_of, relation}
 use Rattle.process_core.specs.Effects.{step_effected}
 use Rattle.process_core.specs.OpenTables.{pairs_behind, pairs_of, row_of, step_pair, tables_of}
 use Rattle.process_core.proofs.EffectRows.{its_row, listed, net_listed, own_listed, row_after, row_by, rows_are, runs_it}
 use Rattle.process_core.proofs.EffectSeats.{events_are, is_next, its_active, own, stopped}
-use Rattle.process_core.proofs.NetEntries.{ComesBehind, branch_is_net}
+use Rattle.process_core.proofs.NetEntries.{branch_is_net}
 use Rattle.process_core.proofs.StoodRows.{changed_twice, owes_behind, owes_same}
 
 -- a step that doesn't commit makes nothing be owed anew

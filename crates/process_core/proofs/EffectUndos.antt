@@ -1,21 +1,18 @@
 -- What the effect of an undo makes of the tables, and that of an end.
-use Rattle.std.proofs.Common.{◌≡◌, ◌∙◌, ℕ, ◌+◌, ◌-◌, Bool, true, false, not, eqb, ◌&&◌, if◌then◌else◌, List, [], ◌∷◌, ◌++◌, length, map, filter, take, drop, Option, Some, None, sym, refl, ap, subst, append-nil, append_assoc, length-append, arith}
-use Rattle.std.proofs.lemmas.Bool.{eq-eqb}
+use Rattle.std.proofs.Common.{◌≡◌, ◌∙◌, ℕ, ◌-◌, Bool, true, false, not, eqb, ◌&&◌, if◌then◌else◌, List, [], ◌∷◌, ◌++◌, length, map, filter, take, Some, None, sym, refl, ap, subst, append-nil, append_assoc, length-append, arith}
 use Rattle.std.proofs.lemmas.List.{length-drop, length-map, length-take, take-append-drop}
 use Rattle.std.proofs.lemmas.List.Elements.{filter-append}
 use Rattle.process_tree.specs.declared.entry.Entry.{Entry}
 use Rattle.process_tree.specs.Order.{Each}
 use Rattle.process_tree.specs.Shape.{Shape, fixed_len}
-use Rattle.schedule_model.specs.declared.event.Event.TheVariants.{Act, End as Ended}
+use Rattle.schedule_model.specs.declared.event.Event.TheVariants.{Act}
 use Rattle.schedule_model.specs.Course.{Course, shape}
 use Rattle.schedule_model.specs.Histories.{active, doing, is_in, net, net_of, net_steps, of_process, same_step, undoing}
 use Rattle.schedule_model.specs.Holdings.{Hold, active_net}
-use Rattle.schedule_model.specs.Recovery.{backward_entries}
 use Rattle.schedule_model.proofs.Active.{is_in-filter}
 use Rattle.schedule_model.proofs.Members.{filter-agree}
 use Rattle.schedule_model.proofs.Recoveries.{fixed_len-most}
 use Rattle.schedule_model.proofs.Snoc.{active-do, net-end, net-undo}
-use Rattle.machine_model.specs.declared.kept.Kept.{Kept}
 use Rattle.machine_model.specs.declared.kept.Kept.TheVariants.{Effect}
 use Rattle.machine_model.specs.declared.kept.Work.TheVariants.{End, Undo}
 use Rattle.machine_model.specs.HoldLaws.{UndoTakesEffect}

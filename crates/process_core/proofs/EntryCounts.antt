@@ -1,18 +1,17 @@
 -- The acts and ends of a history, done and reserved, are those that are settled and all that the active processes may need.
-use Rattle.std.proofs.Common.{◌≡◌, ◌∙◌, inl, inr, ℕ, suc, ◌+◌, ◌-◌, ◌*◌, ◌≤◌, Bool, true, false, not, cond, eqb, ◌||◌, if◌then◌else◌, List, [], ◌∷◌, length, filter, map, is_some, Some, None, slice_index_or, refl, sym, ap, arith}
+use Rattle.std.proofs.Common.{◌≡◌, ◌∙◌, inl, inr, ℕ, suc, ◌+◌, ◌-◌, ◌≤◌, Bool, true, false, not, cond, eqb, ◌||◌, if◌then◌else◌, List, [], ◌∷◌, length, filter, is_some, Some, None, slice_index_or, refl, sym, ap, arith}
 use Rattle.std.specs.Bool.{IsTrue}
 use Rattle.std.specs.List.{sum_by}
-use Rattle.std.proofs.lemmas.Bool.{eqb-true, false≢true}
+use Rattle.std.proofs.lemmas.Bool.{eqb-true}
 use Rattle.std.proofs.lemmas.List.{length-map}
 use Rattle.std.proofs.lemmas.List.Sums.{sum_by-cons}
 use Rattle.process_tree.specs.declared.entry.Entry.{Entry}
-use Rattle.process_tree.specs.Order.{Each}
 use Rattle.schedule_model.specs.Conflict.{no_conflict}
 use Rattle.schedule_model.specs.declared.event.Event.{Event}
 use Rattle.schedule_model.specs.declared.event.Event.TheVariants.{Start, Act, End}
 use Rattle.schedule_model.specs.Course.{course, course_of}
-use Rattle.schedule_model.specs.Histories.{active, acts, ends, is_active, is_in, of_process, starts}
-use Rattle.schedule_model.specs.Limits.{entries, need, still_needed}
+use Rattle.schedule_model.specs.Histories.{active, acts, ends, is_active, is_in, of_process}
+use Rattle.schedule_model.specs.Limits.{entries, need}
 use Rattle.schedule_model.specs.Legal.{is_legal}
 use Rattle.schedule_model.proofs.Active.{is_active-is_in}
 use Rattle.schedule_model.proofs.FewActs.{acts-few}

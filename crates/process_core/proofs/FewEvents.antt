@@ -1,15 +1,9 @@
 -- The history of a core has no more events than the limits admit.
-use Rattle.std.proofs.Common.{◌≡◌, ◌∙◌, ℕ, ◌+◌, ◌≤◌, Bool, true, ◌&&◌, List, [], ◌∷◌, ◌++◌, length, leb, sym, ap, subst, arith}
-use Rattle.std.specs.Bool.{IsTrue}
-use Rattle.std.specs.List.{sum_by}
+use Rattle.std.proofs.Common.{◌≤◌, ◌&&◌, length, leb, arith}
 use Rattle.std.proofs.lemmas.Bool.{and_parts, leb-true}
-use Rattle.schedule_model.specs.declared.event.Event.{Event}
-use Rattle.schedule_model.specs.Course.{courses_of}
-use Rattle.schedule_model.specs.Histories.{active, acts, ends, starts}
-use Rattle.schedule_model.specs.Limits.{entries, limits, most_active, most_entries, most_processes, still_needed}
-use Rattle.schedule_model.proofs.NoConflict.{own_order-legal}
+use Rattle.schedule_model.specs.Histories.{active, starts}
+use Rattle.schedule_model.specs.Limits.{entries, limits, most_active, most_entries, most_processes}
 use Rattle.schedule_model.proofs.WithinLimits.{limits-hold}
-use Rattle.machine_model.proofs.LegalRuns.{session-legal}
 use Rattle.machine_model.proofs.OwnOrderLaws.{runs_keep_own_order}
 use Rattle.machine_model.proofs.RunsWithin.{runs_are_legal}
 use Rattle.process_core.specs.Cores.{CoreState, IsCore, courses_in, history_of, machine_of, relation}

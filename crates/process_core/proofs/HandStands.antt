@@ -1,5 +1,5 @@
 -- One more kept event that starts nobody keeps a core, and what a hand makes of the seats and the tables.
-use Rattle.std.proofs.Common.{◌≡◌, ℕ, ◌+◌, ◌-◌, ◌≤◌, Bool, true, false, not, eqb, ◌&&◌, if◌then◌else◌, List, [], ◌∷◌, ◌++◌, length, filter, find, map, Option, Some, None, is_none, slice_set, sym, refl, ap, ◌∙◌, arith}
+use Rattle.std.proofs.Common.{◌≡◌, ℕ, ◌-◌, ◌≤◌, Bool, true, false, not, eqb, ◌&&◌, if◌then◌else◌, List, [], ◌∷◌, ◌++◌, length, filter, map, Option, Some, None, is_none, slice_set, sym, refl, ap, ◌∙◌, arith}
 use Rattle.std.specs.Option.{option_map, option_or}
 use Rattle.std.proofs.lemmas.Bool.{and_from, and_parts, eq-eqb, false≢true}
 use Rattle.std.proofs.lemmas.List.Folds.{find-append}
@@ -19,21 +19,20 @@ use Rattle.schedule_model.specs.Holdings.{Hold, active_net}
 use Rattle.schedule_model.proofs.Active.{is_active-is_in}
 use Rattle.machine_model.specs.declared.kept.Kept.{Kept}
 use Rattle.machine_model.specs.declared.kept.Kept.TheVariants.{Hand}
-use Rattle.machine_model.specs.Moment.{Lost, Beginning, Moment, Piece, beginning_of, has_begun}
+use Rattle.machine_model.specs.Moment.{Moment, Piece, has_begun}
 use Rattle.machine_model.specs.Pieces.{running_of}
-use Rattle.machine_model.specs.PieceLaws.{LeavesPieceOf, begun_where}
-use Rattle.machine_model.specs.ProcessState.{ProcessState, begun}
+use Rattle.machine_model.specs.PieceLaws.{LeavesPieceOf}
+use Rattle.machine_model.specs.ProcessState.{begun}
 use Rattle.machine_model.specs.State.{block_of, entry_by, hold_of, holdings, is_exhausted, owed_by_work, process_state}
 use Rattle.machine_model.specs.Advance.{advance}
 use Rattle.machine_model.specs.Runs.{may_be_kept}
 use Rattle.machine_model.proofs.CoursesRuns.{started_by}
 use Rattle.machine_model.proofs.HoldChanges.{hands_reserve}
 use Rattle.machine_model.proofs.OpenHoldings.{holders-active}
-use Rattle.machine_model.proofs.RunningNext.{MayBeHanded, flipped, hand_parts}
+use Rattle.machine_model.proofs.RunningNext.{flipped, hand_parts}
 use Rattle.machine_model.proofs.SessionCalls.{session-longer}
 use Rattle.machine_model.proofs.Snoc.{is_run-push, now-push}
 use Rattle.machine_model.proofs.StateSteps.{states_go_by_transitions}
-use Rattle.instance_state.specs.Instances.{InstanceState}
 use Rattle.hold_tables.specs.Changes.{changed, with_reserved, with_running}
 use Rattle.hold_tables.specs.Tables.{OpenProcess, Tables}
 use Rattle.process_core.specs.Cores.{CoreState, IsCore, courses_in, machine_of, moment_of, relation}

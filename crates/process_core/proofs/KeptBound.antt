@@ -1,5 +1,5 @@
 -- No run keeps more events than there is room for.
-use Rattle.std.proofs.Common.{◌≡◌, ⊎_elim, ℕ, ◌+◌, ◌*◌, ◌≤◌, Bool, true, false, not, eqb, ◌&&◌, if◌then◌else◌, List, [], ◌∷◌, ◌++◌, length, map, filter, Option, Some, None, is_none, is_some, sym, refl, ap, subst, ◌∙◌, append-nil, length-append, arith}
+use Rattle.std.proofs.Common.{◌≡◌, ℕ, ◌+◌, ◌*◌, ◌≤◌, Bool, true, false, not, eqb, ◌&&◌, if◌then◌else◌, List, [], ◌∷◌, ◌++◌, length, map, filter, Option, Some, None, is_none, is_some, sym, refl, ap, subst, ◌∙◌, append-nil, length-append, arith}
 use Rattle.std.specs.Bool.{IsTrue}
 use Rattle.std.specs.List.{list_any, sum_by}
 use Rattle.std.proofs.lemmas.List.{length-map}
@@ -19,7 +19,7 @@ use Rattle.schedule_model.specs.Conflict.{ConflictRelation, no_conflict}
 use Rattle.schedule_model.specs.Course.{Course, course, courses_of, shape}
 use Rattle.schedule_model.specs.Histories.{active, ends, is_active, is_in, starts}
 use Rattle.schedule_model.specs.Laws.{AreGood}
-use Rattle.schedule_model.specs.Legal.{is_clear, is_legal}
+use Rattle.schedule_model.specs.Legal.{is_legal}
 use Rattle.schedule_model.specs.OwnOrder.{keeps_order}
 use Rattle.schedule_model.proofs.Active.{is_in-filter}
 use Rattle.schedule_model.proofs.Appends.{ends-append, is_in-append}
@@ -41,13 +41,12 @@ use Rattle.machine_model.proofs.Dropped.{each_any}
 use Rattle.machine_model.proofs.HandSums.{by_process}
 use Rattle.machine_model.proofs.HandsSum.{hands_of_process}
 use Rattle.machine_model.proofs.OneOut.{is_of}
-use Rattle.machine_model.proofs.OpenCascade.{each_listed}
 use Rattle.machine_model.proofs.OwnOrder.{InOwnOrder, advance-own_order, run-own_order}
 use Rattle.machine_model.proofs.RunInduction.{goes_on-keeps}
 use Rattle.machine_model.proofs.RunningNext.{hand_parts}
 use Rattle.machine_model.proofs.Snoc.{added, advances, hands-append, now-kept}
 use Rattle.machine_model.proofs.Sums.{sum-most}
-use Rattle.process_core.specs.Room.{BoundOnKept, kept_for, most_kept, open_since}
+use Rattle.process_core.specs.Room.{BoundOnKept, open_since}
 use Rattle.process_core.proofs.BegunStarted.{cause_among}
 use Rattle.process_core.proofs.KeptCounts.{BeginOnce, KeptFit, advance-fit, advance-once, begins_in, start-fit}
 

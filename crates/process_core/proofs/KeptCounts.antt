@@ -1,5 +1,5 @@
 -- How many events are kept, by what starts, what begins to complete and what is handed out.
-use Rattle.std.proofs.Common.{◌≡◌, ◌⊎◌, inl, inr, ℕ, suc, ◌+◌, ◌*◌, ◌≤◌, Bool, true, false, not, cond, eqb, ◌&&◌, ◌||◌, List, [], ◌∷◌, ◌++◌, length, filter, find, Option, Some, None, is_some, sym, refl, ap, subst, ◌∙◌, length-append, arith}
+use Rattle.std.proofs.Common.{◌≡◌, ◌⊎◌, inl, inr, ℕ, suc, ◌+◌, ◌*◌, ◌≤◌, Bool, true, false, not, cond, eqb, ◌&&◌, ◌||◌, List, [], ◌∷◌, ◌++◌, length, filter, Option, Some, None, sym, refl, ap, subst, ◌∙◌, length-append, arith}
 use Rattle.std.specs.List.{list_any}
 use Rattle.std.proofs.lemmas.Bool.{and_parts, cases_eq, eq-eqb, eqb-true, false≢true, ne_eqb, not-true}
 use Rattle.schedule_model.specs.Conflict.{ConflictRelation}
@@ -7,10 +7,9 @@ use Rattle.schedule_model.specs.Course.{Course}
 use Rattle.schedule_model.specs.Histories.{active, is_active}
 use Rattle.machine_model.specs.declared.kept.Kept.{Kept}
 use Rattle.machine_model.specs.declared.kept.Kept.TheVariants.{Start, Hand, Effect, Refuse, Abort, Victim, Restart}
-use Rattle.machine_model.specs.declared.began.Began.{Began}
 use Rattle.machine_model.specs.declared.began.Cause.{Cause}
 use Rattle.machine_model.specs.declared.began.Cause.TheVariants.{Abort as WasAborted, Victim as WasVictim, Restart as Restarted}
-use Rattle.machine_model.specs.Moment.{Beginning, Moment, Piece, all_begin, beginning_of, begins, begins_now, happened, has_begun, noted, out_after, without}
+use Rattle.machine_model.specs.Moment.{Beginning, Moment, Piece, all_begin, begins, begins_now, happened, has_begun, noted, out_after, without}
 use Rattle.machine_model.specs.Pieces.{hands, piece_of, runs}
 use Rattle.machine_model.specs.State.{is_exhausted, victim_of}
 use Rattle.machine_model.specs.Advance.{advance, event_of, with_piece}

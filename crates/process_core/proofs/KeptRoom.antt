@@ -1,17 +1,16 @@
 -- One more event that starts nobody has room, and leaves the room that there is.
-use Rattle.std.proofs.Common.{◌≡◌, ◌∙◌, ℕ, ◌+◌, ◌≤◌, ◌<◌, true, List, [], ◌∷◌, ◌++◌, length, filter, take, not, sym, ap, subst, append-nil, length-append, arith}
+use Rattle.std.proofs.Common.{◌≡◌, ◌∙◌, ℕ, ◌≤◌, ◌<◌, true, List, [], ◌∷◌, ◌++◌, length, filter, take, not, sym, ap, subst, append-nil, length-append, arith}
 use Rattle.process_tree.specs.declared.plan.Plan.{Plan}
 use Rattle.process_tree.specs.Conflicts.{Table}
 use Rattle.schedule_model.specs.declared.event.Event.{Event}
 use Rattle.schedule_model.specs.Histories.{ends, is_in, starts}
 use Rattle.machine_model.specs.declared.kept.Kept.{Kept}
 use Rattle.machine_model.specs.Moment.{Moment}
-use Rattle.machine_model.specs.Advance.{advance}
 use Rattle.machine_model.specs.Runs.{may_be_kept}
 use Rattle.machine_model.proofs.CoursesRuns.{started_by, starts-after}
 use Rattle.hold_tables.specs.Tables.{Tables}
 use Rattle.process_core.specs.Cores.{CoreState, IsCore, courses_in, machine_of, moment_of, relation}
-use Rattle.process_core.specs.Room.{IsKept, most_kept, room_of}
+use Rattle.process_core.specs.Room.{IsKept, room_of}
 use Rattle.process_core.specs.Seats.{SeatState, Stands}
 use Rattle.process_core.proofs.HandStands.{core_kept, moment_kept, with_event}
 use Rattle.process_core.proofs.KeptBound.{bound_on_kept}

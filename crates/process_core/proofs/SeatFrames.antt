@@ -1,17 +1,14 @@
 -- A kept event that is of no piece of a process, and doesn't make it begin to complete, leaves its seat and its row.
-use Rattle.std.proofs.Common.{◌≡◌, ⊎_elim, Bool, true, false, not, eqb, ◌&&◌, ◌||◌, if◌then◌else◌, ℕ, List, [], ◌∷◌, ◌++◌, length, map, filter, find, Option, Some, None, is_some, sym, refl, ap, subst, ◌∙◌}
+use Rattle.std.proofs.Common.{◌≡◌, ⊎_elim, Bool, true, false, not, eqb, ◌&&◌, ◌||◌, if◌then◌else◌, ℕ, List, [], ◌∷◌, length, map, filter, find, Option, Some, None, is_some, sym, refl, ap, ◌∙◌}
 use Rattle.std.specs.Option.{option_map, option_or}
 use Rattle.std.proofs.Math.Bool.{or-false}
 use Rattle.std.proofs.lemmas.Bool.{both_ways, eq-eqb, eqb-true, false≢true, or_left}
 use Rattle.std.proofs.lemmas.List.Folds.{find-append}
-use Rattle.process_tree.specs.declared.entry.Entry.{Entry}
-use Rattle.process_tree.specs.Order.{Each}
 use Rattle.process_tree.specs.Shape.{fixed_len}
 use Rattle.schedule_model.specs.Conflict.{ConflictRelation}
 use Rattle.schedule_model.specs.Course.{Course, course, shape}
 use Rattle.schedule_model.specs.Histories.{ends, is_active, is_in, net_steps, starts, steps_of}
 use Rattle.schedule_model.specs.Holdings.{Hold}
-use Rattle.machine_model.specs.declared.began.Cause.{Cause}
 use Rattle.machine_model.specs.declared.kept.Kept.{Kept}
 use Rattle.machine_model.specs.declared.kept.Kept.TheVariants.{Start, Hand, Effect, Refuse, Abort, Victim, Restart}
 use Rattle.machine_model.specs.Moment.{Beginning, Lost, Moment, Piece, beginning_of, begins_now, happened, has_begun, losses, noted}
@@ -19,12 +16,11 @@ use Rattle.machine_model.specs.Pieces.{piece_of, running_of}
 use Rattle.machine_model.specs.PieceLaws.{LeavesPieceOf, piece_touched}
 use Rattle.machine_model.specs.State.{hold_of, process_state}
 use Rattle.machine_model.specs.Advance.{advance, event_of, with_piece}
-use Rattle.machine_model.specs.Runs.{may_be_kept, now}
+use Rattle.machine_model.specs.Runs.{may_be_kept}
 use Rattle.machine_model.proofs.Begun.{begins_now-has}
 use Rattle.machine_model.proofs.Causes.{beginnings_stay}
 use Rattle.machine_model.proofs.CoursesRuns.{starts-stay}
 use Rattle.machine_model.proofs.EndedFree.{EndNow, ended_before}
-use Rattle.machine_model.proofs.HoldSteps.{find_none}
 use Rattle.machine_model.proofs.OneCounter.{still_open}
 use Rattle.machine_model.proofs.OthersStay.{advance-stays, others_stay}
 use Rattle.machine_model.proofs.RunInduction.{IsKeptByBeginnings, advance-keeps, entered}

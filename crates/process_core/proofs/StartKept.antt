@@ -1,5 +1,5 @@
 -- After a start there is room for what the new process can take too.
-use Rattle.std.proofs.Common.{◌≡◌, ◌∙◌, ℕ, ◌+◌, ◌≤◌, ◌<◌, Bool, true, false, not, if◌then◌else◌, List, [], ◌∷◌, ◌++◌, length, filter, Option, Some, None, sym, refl, ap, subst, length-append, arith}
+use Rattle.std.proofs.Common.{◌≡◌, ◌∙◌, ℕ, ◌+◌, ◌≤◌, ◌<◌, Bool, true, false, not, if◌then◌else◌, List, [], ◌∷◌, ◌++◌, length, filter, Some, None, sym, refl, ap, subst, length-append, arith}
 use Rattle.std.specs.List.{sum_by}
 use Rattle.std.proofs.lemmas.Bool.{and_parts}
 use Rattle.std.proofs.lemmas.List.{map-append}
@@ -11,26 +11,24 @@ use Rattle.process_tree.specs.Conflicts.{Table, operations_in}
 use Rattle.process_tree.specs.Order.{Each}
 use Rattle.schedule_model.specs.declared.event.Event.{Event}
 use Rattle.schedule_model.specs.declared.event.Event.TheVariants.{Start as Started}
-use Rattle.schedule_model.specs.Conflict.{no_conflict}
-use Rattle.schedule_model.specs.Course.{Course, course, course_of, courses_of}
-use Rattle.schedule_model.specs.Histories.{active, ends, is_active, is_in, starts}
+use Rattle.schedule_model.specs.Course.{Course, course, course_of}
+use Rattle.schedule_model.specs.Histories.{active, ends, is_in, starts}
 use Rattle.schedule_model.specs.Laws.{IsGoodPlan}
-use Rattle.schedule_model.proofs.Active.{is_active-is_in, is_in-filter}
+use Rattle.schedule_model.proofs.Active.{is_active-is_in}
 use Rattle.schedule_model.proofs.Appends.{starts-append}
 use Rattle.schedule_model.proofs.Prefixes.{legal-numbered}
 use Rattle.schedule_model.proofs.Started.{ends-started}
 use Rattle.machine_model.specs.declared.kept.Kept.{Kept}
 use Rattle.machine_model.specs.declared.kept.Kept.TheVariants.{Start}
-use Rattle.machine_model.specs.declared.replies.StartWhy.{StartWhy}
-use Rattle.machine_model.specs.Calls.{Reply, answer_start, start_unless, started}
-use Rattle.machine_model.specs.Moment.{Moment, opening_moment}
+use Rattle.machine_model.specs.Calls.{answer_start, start_unless, started}
+use Rattle.machine_model.specs.Moment.{opening_moment}
 use Rattle.machine_model.specs.Runs.{start_refusal}
 use Rattle.machine_model.proofs.CoursesRuns.{starts-most}
 use Rattle.machine_model.proofs.RunsWithin.{runs_are_legal}
 use Rattle.instance_state.specs.Instances.{opened as instance_opened}
 use Rattle.hold_tables.specs.Changes.{opened}
 use Rattle.hold_tables.specs.Tables.{Tables, is_open}
-use Rattle.process_core.specs.Answers.{after_start, answer_in}
+use Rattle.process_core.specs.Answers.{after_start}
 use Rattle.process_core.specs.Cores.{CoreState, IsCore, courses_in, history_of, machine_of, moment_of, relation}
 use Rattle.process_core.specs.OpenTables.{row_of, tables_of}
 use Rattle.process_core.specs.Room.{IsKept, kept_for, most_kept, open_since, room_of}
@@ -40,7 +38,7 @@ use Rattle.machine_model.proofs.TidyMoments.{Each-filter}
 use Rattle.process_core.proofs.FewEvents.{few_events}
 use Rattle.process_core.proofs.KeptBound.{bound_on_kept}
 use Rattle.process_core.proofs.OpenedRows.{unlisted}
-use Rattle.process_core.proofs.StartMoments.{another, its_course, not_started, same_started}
+use Rattle.process_core.proofs.StartMoments.{its_course, not_started, same_started}
 use Rattle.process_core.proofs.StartStands.{start_stands, with_start}
 use Rattle.process_core.proofs.StartedProcesses.{few_start}
 

@@ -1,16 +1,13 @@
 -- The moment after a start, and what stays of the processes that had started.
-use Rattle.std.proofs.Common.{◌≡◌, ℕ, ◌+◌, ◌-◌, ◌≤◌, Bool, true, false, eqb, ◌||◌, if◌then◌else◌, List, [], ◌∷◌, ◌++◌, length, filter, slice_index_or, Option, Some, None, sym, refl, ap, subst, ◌∙◌, arith}
-use Rattle.std.proofs.lemmas.Bool.{and_parts, eq-eqb, eqb-true, ne_eqb}
-use Rattle.std.proofs.lemmas.List.{length-map, map-append}
-use Rattle.std.proofs.lemmas.List.Elements.{Contains-append_cases}
+use Rattle.std.proofs.Common.{◌≡◌, ℕ, ◌+◌, ◌-◌, ◌≤◌, Bool, true, false, eqb, ◌||◌, if◌then◌else◌, List, [], ◌∷◌, ◌++◌, length, filter, slice_index_or, Some, None, sym, refl, ap, ◌∙◌, arith}
+use Rattle.std.proofs.lemmas.Bool.{eq-eqb, ne_eqb}
+use Rattle.std.proofs.lemmas.List.{length-map}
 use Rattle.std.proofs.Math.Seq.{take-append_seam}
-use Rattle.std.specs.List.{Contains}
 use Rattle.process_tree.specs.declared.entry.Entry.{Entry}
 use Rattle.process_tree.specs.declared.plan.Plan.{Plan}
-use Rattle.process_tree.specs.Order.{Each}
 use Rattle.process_tree.specs.Shape.{Shape, fixed_len}
 use Rattle.schedule_model.specs.Conflict.{no_conflict}
-use Rattle.schedule_model.specs.Course.{Course, course, course_of, courses_of, no_course, shape}
+use Rattle.schedule_model.specs.Course.{Course, course, course_of, no_course, shape}
 use Rattle.schedule_model.specs.Histories.{active, is_active, is_in, net_steps, starts, steps_of}
 use Rattle.schedule_model.specs.Holdings.{Hold}
 use Rattle.schedule_model.specs.declared.event.Event.TheVariants.{Start as Started}
@@ -20,8 +17,7 @@ use Rattle.schedule_model.proofs.Courses.{SameCourse}
 use Rattle.schedule_model.proofs.Prefixes.{course-take, legal-numbered}
 use Rattle.schedule_model.proofs.WithinLimits.{active-start_new}
 use Rattle.machine_model.specs.declared.kept.Kept.TheVariants.{Start}
-use Rattle.machine_model.specs.Moment.{Moment, Piece, happened, noted, opening_moment}
-use Rattle.machine_model.specs.Pieces.{refused_pieces}
+use Rattle.machine_model.specs.Moment.{Moment, happened, noted, opening_moment}
 use Rattle.machine_model.specs.State.{hold_of, process_state}
 use Rattle.machine_model.specs.Advance.{advance, advance_all}
 use Rattle.machine_model.specs.Runs.{goes_on_from, now}
@@ -36,7 +32,7 @@ use Rattle.instance_state.specs.Instances.{InstanceState}
 use Rattle.hold_tables.specs.Tables.{OpenProcess}
 use Rattle.process_core.specs.Cores.{CoreState, IsCore, courses_in, machine_of, moment_of, relation}
 use Rattle.process_core.specs.OpenTables.{pairs_of, row_of}
-use Rattle.process_core.specs.Seats.{SeatState, instance_of, seat_of}
+use Rattle.process_core.specs.Seats.{instance_of, seat_of}
 
 at_seam : (cs : List Course) (c d : Course) → slice_index_or (cs ++ c ∷ []) (length cs) d ≡ c
 at_seam [] c d = refl

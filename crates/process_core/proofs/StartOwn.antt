@@ -1,6 +1,6 @@
 -- What is kept of a process that starts.
-use Rattle.std.proofs.Common.{◌≡◌, ℕ, ◌+◌, Bool, true, false, eqb, ◌&&◌, ◌||◌, if◌then◌else◌, List, [], ◌∷◌, ◌++◌, length, map, filter, drop, Option, Some, None, is_some, sym, refl, ap, subst, ◌∙◌, append-nil, arith}
-use Rattle.std.proofs.lemmas.Bool.{and_parts, eq-eqb, false≢true, ne_eqb, or_right}
+use Rattle.std.proofs.Common.{◌≡◌, ℕ, ◌+◌, Bool, true, false, eqb, ◌&&◌, ◌||◌, if◌then◌else◌, List, [], ◌∷◌, ◌++◌, length, map, filter, drop, Option, Some, None, is_some, sym, refl, ap, ◌∙◌, append-nil, arith}
+use Rattle.std.proofs.lemmas.Bool.{and_parts, eq-eqb, false≢true, or_right}
 use Rattle.std.proofs.lemmas.List.{length-map}
 use Rattle.process_tree.specs.Blocks.{outline}
 use Rattle.process_tree.specs.declared.entry.Entry.{Entry}
@@ -19,7 +19,6 @@ use Rattle.schedule_model.specs.declared.event.Event.TheVariants.{Start as Start
 use Rattle.schedule_model.proofs.Active.{is_active-is_in}
 use Rattle.schedule_model.proofs.Appends.{acts-append, is_in-append}
 use Rattle.schedule_model.proofs.Members.{filter-none}
-use Rattle.schedule_model.proofs.Snoc.{net_of-start}
 use Rattle.schedule_model.proofs.Started.{acts-started}
 use Rattle.machine_model.specs.declared.kept.Kept.TheVariants.{Start}
 use Rattle.machine_model.specs.Moment.{Beginning, Lost, Moment, Piece, beginning_of, has_begun, opening_moment}
@@ -37,7 +36,7 @@ use Rattle.instance_state.specs.Instances.{InstanceState, opened}
 use Rattle.hold_tables.specs.Tables.{holds_nothing}
 use Rattle.process_core.specs.Cores.{CoreState, IsCore, courses_in, machine_of, moment_of, relation}
 use Rattle.process_core.specs.OpenTables.{pairs_of, row_of}
-use Rattle.process_core.specs.Seats.{SeatState, instance_of, lost_by, seat_of}
+use Rattle.process_core.specs.Seats.{SeatState, lost_by, seat_of}
 use Rattle.process_core.proofs.BegunStarted.{run-started}
 use Rattle.process_core.proofs.ProcessActs.{net_own, opens_by_acts}
 use Rattle.process_core.proofs.StartMoments.{active_after, after_start, another, its_course, not_started, own}

@@ -4,7 +4,6 @@ use Rattle.std.proofs.lemmas.Bool.{le-leb, le-ltb, lt-leb, lt-ltb}
 use Rattle.schedule_model.specs.Course.{Course}
 use Rattle.schedule_model.specs.Histories.{active, starts}
 use Rattle.schedule_model.specs.Limits.{entries, most_entries, need}
-use Rattle.machine_model.specs.declared.replies.StartWhy.{StartWhy}
 use Rattle.machine_model.specs.declared.replies.StartWhy.TheVariants.{NoRoom, TooMany}
 use Rattle.machine_model.specs.Moment.{Moment}
 use Rattle.machine_model.specs.Runs.{no_room, start_refusal, too_many_active, too_many_started}

@@ -1,19 +1,19 @@
 -- After a start what is kept is what was kept, with one seat and one row more.
-use Rattle.std.proofs.Common.{◌≡◌, ◌⊎◌, inl, inr, ℕ, zero, suc, ◌+◌, ◌<◌, Bool, true, false, ◌||◌, List, [], ◌∷◌, ◌++◌, length, map, filter, Some, None, sym, refl, ap, subst, ◌∙◌, append-nil, length-append, arith}
+use Rattle.std.proofs.Common.{◌≡◌, ◌⊎◌, inl, inr, ℕ, zero, suc, ◌+◌, ◌<◌, Bool, true, false, ◌||◌, List, [], ◌∷◌, ◌++◌, length, map, filter, Some, None, sym, refl, ap, subst, ◌∙◌, length-append, arith}
 use Rattle.std.specs.List.{Contains}
 use Rattle.std.proofs.lemmas.Bool.{and_parts}
-use Rattle.std.proofs.lemmas.List.{length-map, map-append}
+use Rattle.std.proofs.lemmas.List.{map-append}
 use Rattle.std.proofs.lemmas.List.Elements.{Contains-append_cases}
 use Rattle.process_tree.specs.Blocks.{numbers_from, outline}
-use Rattle.process_tree.specs.Conflicts.{Table, operations_in}
+use Rattle.process_tree.specs.Conflicts.{operations_in}
 use Rattle.process_tree.specs.Order.{Each}
 use Rattle.process_tree.specs.declared.entry.Entry.{Entry}
 use Rattle.process_tree.specs.declared.plan.Plan.{Plan}
 use Rattle.process_tree.proofs.Every.{Each-weaker}
 use Rattle.schedule_model.specs.Conflict.{no_conflict}
-use Rattle.schedule_model.specs.Course.{Course, course_of, courses_of}
-use Rattle.schedule_model.specs.Histories.{active, is_active, is_in, net, starts}
-use Rattle.schedule_model.specs.Holdings.{active_net, holders}
+use Rattle.schedule_model.specs.Course.{Course, course_of}
+use Rattle.schedule_model.specs.Histories.{active, is_in, net, starts}
+use Rattle.schedule_model.specs.Holdings.{active_net}
 use Rattle.schedule_model.specs.Laws.{IsGoodPlan}
 use Rattle.schedule_model.specs.declared.event.Event.{Event}
 use Rattle.schedule_model.specs.declared.event.Event.TheVariants.{Start as Started}
@@ -32,15 +32,14 @@ use Rattle.machine_model.proofs.OpenHoldings.{holders-active}
 use Rattle.machine_model.proofs.SessionCalls.{started_session}
 use Rattle.instance_state.specs.Instances.{opened as instance_opened}
 use Rattle.hold_tables.specs.Changes.{opened}
-use Rattle.hold_tables.specs.Tables.{OpenProcess, Tables, holds_nothing}
-use Rattle.process_core.specs.Cores.{CoreState, IsCore, courses_in, history_of, machine_of, moment_of, relation}
+use Rattle.hold_tables.specs.Tables.{Tables, holds_nothing}
+use Rattle.process_core.specs.Cores.{CoreState, IsCore, courses_in, machine_of, moment_of, relation}
 use Rattle.process_core.specs.OpenTables.{row_of, tables_of}
 use Rattle.process_core.specs.Seats.{SeatState, Stands, seat_of, seats_of}
 use Rattle.process_core.proofs.OpenedRows.{starts_numbered}
 use Rattle.process_core.proofs.StartedProcesses.{numbers_more}
 use Rattle.process_core.proofs.StartMoments.{active_after, after_start, another, as_many, moment_after, own, row_stays, seat_stays}
 use Rattle.process_core.proofs.StartOwn.{row_new, seat_new}
-use Rattle.schedule_model.proofs.NoConflict.{legal-from_own_order}
 
 same_each : {X : Type 0} (f g : ℕ → X) (is : List ℕ) → Each (λ k. f k ≡ g k) is → map f is ≡ map g is
 same_each f g [] each = refl

@@ -57,14 +57,7 @@ fn effect_step(holds: &mut Holds, plan: &Plan, process: u32, step: u16)
 }
 
 /// A piece took effect, and so many entries of its process are to be undone then.
-pub fn effect(
-    holds: &mut Holds,
-    plan: &Plan,
-    process: u32,
-    step: u16,
-    work: Work,
-    pending: u16,
-)
+pub fn effect(holds: &mut Holds, plan: &Plan, process: u32, step: u16, work: Work, pending: u16)
     requires { HoldsWork plan.now process step work holds.old }
     ensures { holds.new ≡ tables_effected plan.now process step work pending holds.old }
 {

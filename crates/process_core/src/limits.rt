@@ -36,7 +36,11 @@ fn has_active_seat(seats: &[Seat], i: u32) -> bool
     ensures { result ≡ has_active_seat seats.now i }
 {
     let place = (i as usize).saturating_sub(1);
-    if place < seats.len() { seats[place].is_active() } else { false }
+    if place < seats.len() {
+        seats[place].is_active()
+    } else {
+        false
+    }
 }
 
 /// Whether an event is an end, or an act of a process that isn't active.
@@ -74,7 +78,10 @@ impl Core {
         ensures needed { result.needed ≡ sum_by (λ i. need (course (courses_in self.now) i)) (active (history_of self.now)) }
         ensures few { result.needed ≤ 536866816 }
     {
-        let mut load = Load { active: 0, needed: 0 };
+        let mut load = Load {
+            active: 0,
+            needed: 0,
+        };
         for place in 0..self.seats.len() {
             if self.seats[place].is_active() {
                 load.active += 1;

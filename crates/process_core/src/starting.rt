@@ -69,8 +69,13 @@ impl Core {
             return Err(StartRefused { plan, why });
         }
         let number = self.seats.len() as u32 + 1;
-        let Ok((instance, most)) = room_for(self.alloc, &plan, &mut self.kept, &mut self.seats, self.most)
-        else {
+        let Ok((instance, most)) = room_for(
+            self.alloc,
+            &plan,
+            &mut self.kept,
+            &mut self.seats,
+            self.most,
+        ) else {
             return Err(StartRefused {
                 plan,
                 why: StartWhy::NoMemory,

@@ -1,4 +1,4 @@
-use Rattle.std.proofs.Common.{◌≡◌, ◌∙◌, ap}
+use Rattle.std.proofs.Common.{◌∙◌, ap}
 use Rattle.hold_tables.specs.Tables.{Tables, is_open}
 use Rattle.process_core.proofs.RowChanges.{effect_open, step_open}
 use Rattle.process_core.proofs.effects.effect.Goals as goal

@@ -1,10 +1,8 @@
-use Rattle.std.proofs.Common.{◌≡◌, ◌∙◌, ◌<◌, ◌++◌, length, ap, sym, subst, arith}
-use Rattle.process_tree.specs.Blocks.{outline}
+use Rattle.std.proofs.Common.{◌∙◌, ◌<◌, ◌++◌, length, ap, sym, subst, arith}
 use Rattle.process_tree.specs.Conflicts.{operations_in}
 use Rattle.process_tree.specs.Order.{Each}
 use Rattle.process_tree.specs.Shape.{shape_of}
 use Rattle.process_tree.proofs.Trees.{few_steps, tree_laid_out}
-use Rattle.hold_tables.specs.Changes.{undoes}
 use Rattle.hold_tables.specs.Kept.{AreKnown}
 use Rattle.hold_tables.specs.Tables.{OpenProcess, Tables, is_open, kept_of}
 use Rattle.process_core.specs.OpenTables.{pairs_behind}

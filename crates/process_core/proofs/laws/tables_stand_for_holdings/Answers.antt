@@ -1,10 +1,5 @@
 use Rattle.process_core.proofs.TablesHoldings.{tables_stand_for}
 -- What a start and a hand make of what is kept: named here so that it is checked, until the calls use it.
-use Rattle.process_core.proofs.StartMoments.{seat_stays}
-use Rattle.process_core.proofs.StartOwn.{row_new, seat_new}
-use Rattle.process_core.proofs.StartStands.{start_stands}
-use Rattle.process_core.proofs.SeatFrames.{row_frame, seat_frame}
-use Rattle.process_core.proofs.HandStands.{hand_stands}
 use Rattle.process_core.proofs.laws.tables_stand_for_holdings.Goals as goal
 
 pub returns : goal.returns

@@ -1,7 +1,5 @@
-use Rattle.std.proofs.Common.{◌≡◌, ◌∙◌, ◌+◌, ◌<◌, ◌≤◌, suc, List, ◌++◌, ◌∷◌, [], length, map, slice_index_or, ap, sym, subst, append_assoc, length-append, arith}
+use Rattle.std.proofs.Common.{◌∙◌, ◌<◌, ◌++◌, ◌∷◌, [], length, map, slice_index_or, ap, sym, subst, append_assoc, length-append, arith}
 use Rattle.process_tree.specs.Blocks.{outline}
-use Rattle.process_tree.specs.Recovery.{last_place_after}
-use Rattle.process_tree.specs.Shape.{shape_of}
 use Rattle.process_tree.specs.Stands.{left_from}
 use Rattle.process_tree.specs.declared.play.Place.TheVariants.{Step}
 use Rattle.admission.specs.Admission.{steps_owed_after}

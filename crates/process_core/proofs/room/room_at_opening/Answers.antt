@@ -1,4 +1,4 @@
-use Rattle.std.proofs.Common.{◌≡◌, ◌∙◌, ◌+◌, length, ap, sym, arith}
+use Rattle.std.proofs.Common.{◌∙◌, length, ap, sym, arith}
 use Rattle.std.specs.List.{sum_by}
 use Rattle.schedule_model.specs.Course.{course, courses_of}
 use Rattle.process_core.specs.Cores.{opened_on}

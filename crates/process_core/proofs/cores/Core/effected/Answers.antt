@@ -1,7 +1,4 @@
-use Rattle.std.proofs.Common.{◌≡◌, ◌∙◌, ◌-◌, ◌≤◌, ◌+◌, ◌++◌, ◌∷◌, [], ℕ, List, length, take, slice_index_or, slice_set, vec_capacity, refl, ap, sym, subst, length-append, arith}
-use Rattle.process_tree.specs.declared.plan.Plan.{Plan}
-use Rattle.schedule_model.specs.declared.event.Event.{Event}
-use Rattle.machine_model.specs.declared.kept.Kept.{Kept}
+use Rattle.std.proofs.Common.{◌≡◌, ◌∙◌, ◌-◌, ◌+◌, ◌++◌, ◌∷◌, [], length, take, slice_index_or, slice_set, vec_capacity, refl, ap, sym, subst, length-append, arith}
 use Rattle.machine_model.specs.declared.kept.Kept.TheVariants.{Effect}
 use Rattle.machine_model.specs.Calls.{finished}
 use Rattle.machine_model.specs.Replies.{effected}
@@ -10,10 +7,10 @@ use Rattle.hold_tables.specs.Tables.{Tables, is_open, kept_of}
 use Rattle.process_core.specs.Cores.{CoreState, courses_in, history_of, moment_of}
 use Rattle.process_core.specs.Effects.{HoldsWork, event_told, pending_in, seat_effected, tables_effected}
 use Rattle.process_core.specs.Room.{IsKept}
-use Rattle.process_core.specs.Seats.{SeatState, seat_of}
+use Rattle.process_core.specs.Seats.{seat_of}
 use Rattle.process_core.proofs.CoreEffects.{effected_after, has_its_plan, holds_work, plan_is, reply_is, same_conflicts, takes_effect}
 use Rattle.process_core.proofs.EffectStands.{effect_stands, event_is}
-use Rattle.process_core.proofs.HandStands.{core_kept, with_event}
+use Rattle.process_core.proofs.HandStands.{with_event}
 use Rattle.process_core.proofs.FewEvents.{few_events}
 use Rattle.process_core.proofs.KeptRoom.{kept_after, kept_same, opening_stays, room_to_push, view_grown}
 use Rattle.process_core.proofs.SeatFacts.{handed_has_plan, seat_is, seats_many}

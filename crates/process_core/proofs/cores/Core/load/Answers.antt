@@ -1,4 +1,4 @@
-use Rattle.std.proofs.Common.{◌≡◌, ◌∙◌, ◌+◌, ◌<◌, length, vec_capacity, ap, sym, subst, arith}
+use Rattle.std.proofs.Common.{◌≡◌, ◌∙◌, ◌<◌, length, vec_capacity, ap, sym, subst, arith}
 use Rattle.std.specs.List.{sum_by}
 use Rattle.schedule_model.specs.Course.{course}
 use Rattle.schedule_model.specs.Limits.{need}

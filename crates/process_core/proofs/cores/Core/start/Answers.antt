@@ -1,8 +1,7 @@
-use Rattle.std.proofs.Common.{◌≡◌, ◌∙◌, ◌+◌, ◌≤◌, ◌<◌, ◌++◌, ◌∷◌, [], List, length, take, vec_capacity, Some, None, refl, ap, sym, subst, arith}
+use Rattle.std.proofs.Common.{◌≡◌, ◌∙◌, ◌+◌, ◌≤◌, ◌<◌, ◌++◌, ◌∷◌, [], length, take, vec_capacity, Some, None, ap, sym, subst, arith}
 use Rattle.process_tree.specs.Blocks.{outline}
-use Rattle.process_tree.specs.Conflicts.{Table, operations_in}
+use Rattle.process_tree.specs.Conflicts.{operations_in}
 use Rattle.process_tree.specs.Order.{Each}
-use Rattle.schedule_model.specs.declared.event.Event.{Event}
 use Rattle.schedule_model.specs.declared.event.Event.TheVariants.{Start as Started}
 use Rattle.schedule_model.specs.Course.{course_of}
 use Rattle.schedule_model.specs.Histories.{starts}
@@ -11,13 +10,13 @@ use Rattle.machine_model.specs.Calls.{started}
 use Rattle.instance_state.specs.Instances.{opened as instance_opened}
 use Rattle.hold_tables.specs.Changes.{opened}
 use Rattle.hold_tables.specs.Tables.{Tables, is_open}
-use Rattle.process_core.specs.Cores.{CoreState, courses_in, moment_of}
+use Rattle.process_core.specs.Cores.{CoreState, moment_of}
 use Rattle.process_core.specs.Room.{IsKept, kept_for}
 use Rattle.process_core.specs.Seats.{SeatState}
 use Rattle.process_core.proofs.KeptRoom.{kept_same, opening_stays}
 use Rattle.process_core.proofs.SeatFacts.{seats_many}
 use Rattle.process_core.proofs.StandingFacts.{seats_few}
-use Rattle.process_core.proofs.StartKept.{not_open_yet, roomier, start_fits, start_kept, started_after, started_reply, view_started}
+use Rattle.process_core.proofs.StartKept.{not_open_yet, start_fits, start_kept, started_after, started_reply, view_started}
 use Rattle.process_core.proofs.StartStands.{with_start}
 use Rattle.process_core.proofs.cores.Core.start.Goals as goal
 
