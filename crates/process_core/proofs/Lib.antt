@@ -63,3 +63,5 @@ pub mod ReservedFits
 pub mod HandTables
 pub mod RefusedSeat
 pub mod RefusedReplies
+pub mod RefusedKept
+pub mod RefusedCore

@@ -96,6 +96,9 @@ module _ (c : CoreState) (core : IsCore c) (d : Piece) (found : piece_of c.kept 
   away : (j : ℕ) → eqb j root ≡ false → LeavesPieceOf c.kept k j
   away j other q is = ap (λ (x : Piece). eqb x.process j) (same_Some q d (sym is ∙ found)) ∙ flipped j root other
 
+  pub refused_away : (j : ℕ) → eqb j d.process ≡ false → LeavesPieceOf c.kept (Refuse d.number) j
+  refused_away j other = away j other
+
   away_now : (j : ℕ) → eqb j root ≡ false → LeavesPieceOf m.kept k j
   away_now j other q is = away j other q (ap (λ ks. piece_touched ks k) (sym (now-kept (relation c) (machine_of c))) ∙ is)
 

@@ -1,6 +1,7 @@
 -- That a piece that is out may be refused, and what is answered.
-use Rattle.std.proofs.Common.{◌≡◌, ◌∙◌, ℕ, ◌+◌, ◌≤◌, ◌<◌, Bool, true, false, not, eqb, leb, ◌&&◌, if◌then◌else◌, List, [], ◌∷◌, ◌++◌, length, filter, Option, Some, None, sym, refl, ap, subst, arith}
+use Rattle.std.proofs.Common.{◌≡◌, ◌∙◌, ℕ, ◌+◌, ◌≤◌, ◌<◌, Bool, true, false, not, eqb, leb, ltb, ◌&&◌, if◌then◌else◌, List, [], ◌∷◌, ◌++◌, length, filter, Option, Some, None, sym, refl, ap, subst, arith}
 use Rattle.std.proofs.lemmas.Bool.{and_from, and_parts, eq-eqb, false≢true, leb-true}
+use Rattle.std.proofs.lemmas.Option.{none-some}
 use Rattle.process_tree.specs.declared.play.Outcome.TheVariants.{Refused}
 use Rattle.process_tree.specs.Shape.{can_be_refused, kind_of}
 use Rattle.schedule_model.specs.Course.{Course, course, shape}
@@ -34,7 +35,7 @@ use Rattle.process_core.specs.Cores.{CoreState, IsCore, courses_in, machine_of, 
 use Rattle.process_core.proofs.CoreEffects.{takes_effect}
 use Rattle.process_core.proofs.HandStands.{core_kept, moment_kept, with_event}
 use Rattle.process_core.proofs.RefusedOwn.{refused_next}
-use Rattle.process_core.proofs.RefusedSeat.{refusal_is}
+use Rattle.process_core.proofs.RefusedSeat.{refusal_is, refused_again, untried}
 
 module _ (c : CoreState) (d : Piece) (found : piece_of c.kept d.number ≡ Some d) (out : state_of (moment_of c) d.number ≡ Out) (no_end : same_work d.work End ≡ false) where
   abbrev m : Moment
@@ -115,3 +116,44 @@ module _ (c : CoreState) (d : Piece) (found : piece_of c.kept d.number ≡ Some 
       where
         used_up : Todo
         used_up = NoPiece (next_piece s).step
+
+    -- what is answered is what the seat tells
+    told_by : (o : Option ℕ) → tries_in (course cs root) d.step d.work ≡ o
+        → refusal_by (tries_in (course cs root) d.step d.work) (was_refused s).refused (has_begun after root) ≡ refusal_by (tries_in (course cs root) d.step d.work) (refusals after.kept root d.step d.work) (has_begun after root)
+    told_by None is = ap (λ o. refusal_by o (was_refused s).refused (has_begun after root)) is ∙ sym (ap (λ o. refusal_by o (refusals after.kept root d.step d.work) (has_begun after root)) is)
+    told_by (Some tries) is = by_try (is_only_try (shape cs root) d.step d.work) refl
+      where
+        by_try : (t : Bool) → is_only_try (shape cs root) d.step d.work ≡ t
+            → refusal_by (tries_in (course cs root) d.step d.work) (was_refused s).refused (has_begun after root) ≡ refusal_by (tries_in (course cs root) d.step d.work) (refusals after.kept root d.step d.work) (has_begun after root)
+        by_try true only = absurd (none-some tries (sym (untried c core d found refused_may only) ∙ is))
+        by_try false other = ap (λ n. refusal_by (tries_in (course cs root) d.step d.work) n (has_begun after root)) (refused_again c core d found refused_may other ∙ sym once_more)
+
+    pub refused_told : refused (refusal (course (courses_in c) d.process) (process_state (courses_in c) (moment_of c) d.process)) ≡ finish_reply (relation c) (courses_in c) (moment_of c) d.number Refused
+    refused_told = ap refused (refusal_is c core d found refused_may ∙ told_by (tries_in (course cs root) d.step d.work) refl) ∙ sym refused_reply
+
+    tries_of : is_only_try (shape cs root) d.step d.work ≡ false → (tries : ℕ) × (tries_in (course cs root) d.step d.work ≡ Some tries)
+    tries_of other = by_work d.work other no_end
+      where
+        by_work : (w : Work) → is_only_try (shape cs root) d.step w ≡ false → same_work w End ≡ false → (tries : ℕ) × (tries_in (course cs root) d.step w ≡ Some tries)
+        by_work Forward is not_end = ((allowance_in (course cs root) d.step).tries, ap (λ t. if t then None else Some (allowance_in (course cs root) d.step).tries) is)
+        by_work Undo is not_end = ((allowance_in (course cs root) d.step).undo_tries, refl)
+        by_work End is not_end = absurd (false≢true (sym not_end))
+
+    -- others may go back with its process exactly where it was the one try of a step
+    pub drags_told : drags_along (refusal (course (courses_in c) d.process) (process_state (courses_in c) (moment_of c) d.process)) ≡ is_only_try (shape (courses_in c) d.process) d.step d.work
+    drags_told = ap drags_along (refusal_is c core d found refused_may) ∙ by_try (is_only_try (shape cs root) d.step d.work) refl
+      where
+        none_drags : (b : Bool) → drags_along (if b then RollBack else Alternative) ≡ true
+        none_drags true = refl
+        none_drags false = refl
+
+        some_drags : (n : ℕ) (b : Bool) → drags_along (if b then Retry n else NoOtherTry) ≡ false
+        some_drags n true = refl
+        some_drags n false = refl
+
+        by_try : (t : Bool) → is_only_try (shape cs root) d.step d.work ≡ t
+            → drags_along (refusal_by (tries_in (course cs root) d.step d.work) (was_refused s).refused (has_begun after root)) ≡ is_only_try (shape cs root) d.step d.work
+        by_try true only = ap (λ o. drags_along (refusal_by o (was_refused s).refused (has_begun after root))) (untried c core d found refused_may only) ∙ (none_drags (has_begun after root) ∙ sym only)
+        by_try false other =
+            let tries = tries_of other in
+            ap (λ o. drags_along (refusal_by o (was_refused s).refused (has_begun after root))) tries.1 ∙ (some_drags (was_refused s).refused (ltb (was_refused s).refused tries.0) ∙ sym other)

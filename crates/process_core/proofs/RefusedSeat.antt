@@ -126,6 +126,10 @@ module _ (c : CoreState) (core : IsCore c) (d : Piece) (found : piece_of c.kept 
       either true = refl
       either false = refl
 
+  -- what is tried again was refused once more
+  pub refused_again : is_only_try (shape (courses_in c) d.process) d.step d.work ≡ false → (was_refused (process_state (courses_in c) (moment_of c) d.process)).refused ≡ (process_state (courses_in c) (moment_of c) d.process).refused + 1
+  refused_again other = ap (λ t. (refused_by t).refused) (only_next ∙ other)
+
   -- what its refusal leads to
   pub refusal_is : refusal (course (courses_in c) d.process) (process_state (courses_in c) (moment_of c) d.process)
       ≡ refusal_by (tries_in (course (courses_in c) d.process) d.step d.work) (was_refused (process_state (courses_in c) (moment_of c) d.process)).refused (has_begun (advance (relation c) (courses_in c) (moment_of c) (Refuse d.number)) d.process)
@@ -143,7 +147,7 @@ module _ (c : CoreState) (core : IsCore c) (d : Piece) (found : piece_of c.kept 
       by_try true only = only
       by_try false other = absurd (false≢true (sym was ∙ (sym (ap (λ o. has_begun o root) (tried_again c core d found may other)) ∙ is)))
 
-  untried : is_only_try (shape cs root) d.step d.work ≡ true → tries_in (course cs root) d.step d.work ≡ None
+  pub untried : is_only_try (shape (courses_in c) d.process) d.step d.work ≡ true → tries_in (course (courses_in c) d.process) d.step d.work ≡ None
   untried only = by_work d.work only
     where
       by_work : (w : Work) → is_only_try (shape cs root) d.step w ≡ true → tries_in (course cs root) d.step w ≡ None
