@@ -16,7 +16,8 @@ use Rattle.machine_model.proofs.RunsWithin.{runs_are_legal}
 use Rattle.hold_tables.specs.Tables.{OpenProcess, Tables, holdings_of, is_open, kept_of}
 use Rattle.cascade.specs.Walking.{last_entries}
 use Rattle.process_core.specs.declared.beginnings.Beginners.TheVariants.{DraggedBy}
-use Rattle.process_core.specs.Beginnings.{AreOpen, cause_of, seats_begun, tables_begun, with_kept}
+use Rattle.process_core.specs.Beginnings.{AreOpen, cause_of, seats_begun, tables_begun}
+use Rattle.process_core.specs.Handing.{with_kept}
 use Rattle.process_core.specs.Cores.{CoreState, IsCore, courses_in, history_of, machine_of, moment_of, relation}
 use Rattle.process_core.specs.OpenTables.{tables_of}
 use Rattle.process_core.specs.Room.{IsKept}

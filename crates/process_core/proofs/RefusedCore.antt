@@ -21,7 +21,8 @@ use Rattle.instance_state.specs.Instances.{InstanceState, is_piece}
 use Rattle.hold_tables.specs.Changes.{changed}
 use Rattle.hold_tables.specs.Tables.{Tables, is_open}
 use Rattle.process_core.specs.Answers.{after_call}
-use Rattle.process_core.specs.Beginnings.{drags_along, refusal_of, refused_row, refused_seat, with_kept}
+use Rattle.process_core.specs.Beginnings.{drags_along, refusal_of, refused_row, refused_seat}
+use Rattle.process_core.specs.Handing.{with_kept}
 use Rattle.process_core.specs.Cores.{CoreState, courses_in, moment_of, relation}
 use Rattle.process_core.specs.Room.{IsKept}
 use Rattle.process_core.specs.Seats.{SeatState, seat_of}

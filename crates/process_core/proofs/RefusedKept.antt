@@ -21,7 +21,8 @@ use Rattle.machine_model.proofs.OpenHoldings.{holders-active}
 use Rattle.machine_model.proofs.Snoc.{advances}
 use Rattle.hold_tables.specs.Changes.{changed}
 use Rattle.hold_tables.specs.Tables.{OpenProcess, Tables}
-use Rattle.process_core.specs.Beginnings.{refused_row, refused_seat, with_kept}
+use Rattle.process_core.specs.Beginnings.{refused_row, refused_seat}
+use Rattle.process_core.specs.Handing.{with_kept}
 use Rattle.process_core.specs.Cores.{CoreState, IsCore, courses_in, history_of, moment_of, relation}
 use Rattle.process_core.specs.OpenTables.{row_of, tables_of}
 use Rattle.process_core.specs.Room.{IsKept}

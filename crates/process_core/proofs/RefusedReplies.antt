@@ -30,7 +30,8 @@ use Rattle.machine_model.proofs.TidyMoments.{run-tidy}
 use Rattle.machine_model.proofs.WithinTries.{refusals_are_within_tries}
 use Rattle.instance_state.specs.Instances.{is_piece}
 use Rattle.process_core.specs.Answers.{after_call}
-use Rattle.process_core.specs.Beginnings.{drags_along, with_kept}
+use Rattle.process_core.specs.Beginnings.{drags_along}
+use Rattle.process_core.specs.Handing.{with_kept}
 use Rattle.process_core.specs.Cores.{CoreState, IsCore, courses_in, machine_of, moment_of, relation}
 use Rattle.process_core.proofs.CoreEffects.{takes_effect}
 use Rattle.process_core.proofs.HandStands.{core_kept, moment_kept, with_event}

@@ -1,5 +1,5 @@
 -- Beginnings: what it makes of seats and tables that processes begin to complete.
-use Rattle.std.specs.Prelude.{◌≡◌, ◌⊎◌, ℕ, zero, suc, ◌+◌, Bool, true, false, not, ◌&&◌, List, [], ◌∷◌, ◌++◌, length, nat_eq, slice_index_or, Option, Some, None, is_some, is_none, if◌then◌else◌}
+use Rattle.std.specs.Prelude.{◌≡◌, ◌⊎◌, ℕ, zero, suc, ◌+◌, Bool, true, false, not, ◌&&◌, List, [], ◌∷◌, length, nat_eq, slice_index_or, Option, Some, None, is_some, is_none, if◌then◌else◌}
 use Rattle.std.specs.Option.{option_map}
 use Rattle.process_tree.specs.Recovery.{forward}
 use Rattle.schedule_model.specs.Histories.{is_in}
@@ -19,7 +19,6 @@ use Rattle.hold_tables.specs.Tables.{OpenProcess, Tables, is_open}
 use Rattle.hold_tables.specs.Changes.{changed, with_first_reserved, with_pending, with_running}
 use Rattle.process_core.specs.declared.beginnings.Beginners.{Beginners}
 use Rattle.process_core.specs.declared.beginnings.Beginners.TheVariants.{All, DraggedBy}
-use Rattle.process_core.specs.Cores.{CoreState}
 use Rattle.process_core.specs.Seats.{SeatState}
 
 -- a seat of which nothing is known
@@ -88,10 +87,6 @@ AreOpen ss t = (n : ℕ) → is_some (slice_index_or ss n no_seat).instance ≡ 
 -- the event is a request to process i to complete, or that it is the victim, and this is the cause
 abbrev pub IsBackward : Kept → Cause → ℕ → Type 0
 IsBackward k own i = ((k ≡ Abort i) × (own ≡ WasAborted)) ⊎ ((k ≡ Victim i) × (own ≡ WasVictim))
-
--- a core with one kept event more
-abbrev pub with_kept : CoreState → Kept → CoreState
-with_kept c k = record { conflicts = c.conflicts; plans = c.plans; opening = c.opening; kept = c.kept ++ k ∷ []; served = c.served }
 
 -- what a request to complete answers, by the seat of a process that started
 abbrev pub aborted_of : Option InstanceState → Option Began → Aborted

@@ -6,7 +6,8 @@ ghost use Rattle.machine_model.specs.Replies.{abort_reply};
 ghost use Rattle.machine_model.specs.declared.kept.Kept.TheVariants.{Victim};
 ghost use Rattle.machine_model.specs.Runs.{may_be_kept};
 ghost use Rattle.process_core.specs.Answers.{after_call, answer_in};
-ghost use Rattle.process_core.specs.Beginnings.{IsBackward, can_begin, with_kept};
+ghost use Rattle.process_core.specs.Beginnings.{IsBackward, can_begin};
+ghost use Rattle.process_core.specs.Handing.{with_kept};
 ghost use Rattle.process_core.specs.Cores.{courses_in, moment_of, relation};
 
 use crate::beginnings::{Beginners, begin, begin_each, drag_along};

@@ -1,6 +1,6 @@
 use Rattle.std.proofs.Common.{◌≡◌, ◌∙◌, ◌+◌, true, length, ap, sym, subst, arith}
 use Rattle.machine_model.specs.Runs.{may_be_kept}
-use Rattle.process_core.specs.Beginnings.{with_kept}
+use Rattle.process_core.specs.Handing.{with_kept}
 use Rattle.process_core.specs.Cores.{CoreState, courses_in, moment_of, relation}
 use Rattle.process_core.proofs.BackKept.{back_drags, back_facts, row_there, seat_active, seat_there}
 use Rattle.process_core.proofs.FewKept.{kept_few}
