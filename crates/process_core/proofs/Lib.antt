@@ -65,3 +65,5 @@ pub mod RefusedSeat
 pub mod RefusedReplies
 pub mod RefusedKept
 pub mod RefusedCore
+pub mod Rotations
+pub mod Waits

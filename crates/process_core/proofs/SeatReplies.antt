@@ -61,7 +61,7 @@ told_upcoming n End b = refl
 
 module _ (courses : List Course) (m : Moment) (i : ℕ) where
   -- what comes next by whether it is active, runs and is exhausted
-  abbrev by_parts : Bool → Option Piece → Bool → Upcoming
+  abbrev pub by_parts : Bool → Option Piece → Bool → Upcoming
   by_parts false o e = Ended
   by_parts true (Some p) e = Running
   by_parts true None true = UsedUp (next_of courses m i).step
@@ -117,7 +117,7 @@ module _ (courses : List Course) (m : Moment) (i : ℕ) where
     reply_by (UsedUp b) = exhausted b
     reply_by (Task t n) = piece_unless courses m i (block_of table courses m i)
 
-    reply_parts : (a : Bool) (o : Option Piece) (e : Bool) → is_active m.events i ≡ a → running_of m i ≡ o → is_exhausted courses m i ≡ e → admit_reply table courses m i ≡ reply_by (by_parts a o e)
+    pub reply_parts : (a : Bool) (o : Option Piece) (e : Bool) → is_active m.events i ≡ a → running_of m i ≡ o → is_exhausted courses m i ≡ e → admit_reply table courses m i ≡ reply_by (by_parts a o e)
     reply_parts false o e active' runs left = ap (admit_by_known table courses m i) started ∙ ap (admit_by_active table courses m i) active'
     reply_parts true (Some p) e active' runs left =
         ap (admit_by_known table courses m i) started ∙ (ap (admit_by_active table courses m i) active' ∙ ap (λ r. admit_by_running table courses m i (is_some r)) runs)

@@ -8,3 +8,4 @@ pub mod Effects
 pub mod Upcoming
 pub mod Handing
 pub mod Starting
+pub mod Rotation

@@ -20,6 +20,7 @@ mod pieces;
 mod refusing;
 mod replies;
 mod room;
+mod rotation;
 mod seats;
 mod starting;
 mod tables;
@@ -30,7 +31,7 @@ pub use cores::Core;
 pub use laws::tables_stand_for_holdings;
 pub use machine_model::{Aborted, Began, Cause, Kept, PieceState, Refusal, StartWhy, Work};
 pub use pieces::Piece;
-pub use replies::Admit;
+pub use replies::{Admit, Next, Waiting};
 pub use starting::StartRefused;
 
 #[cfg(test)]

@@ -1,0 +1,32 @@
+-- Rotation: looking for the first process of which something is told.
+use Rattle.std.specs.Prelude.{ℕ, List, [], ◌∷◌, Option, Some, None}
+use Rattle.std.specs.Option.{option_or}
+use Rattle.machine_model.specs.Replies.{Handed, Admit, piece, blocked, running, unknown, ended, exhausted, BlockedProcess}
+use Rattle.process_core.specs.declared.replies.Waiting.{Waiting}
+
+-- what f tells of the first of these of which it tells something
+abbrev pub first_told : {X : Type 0} → (ℕ → Option X) → List ℕ → Option X
+first_told f [] = None
+first_told f (i ∷ is) = option_or (f i) (first_told f is)
+
+-- the piece of a reply, if it has one
+abbrev pub piece_in : Admit → Option Handed
+piece_in (piece d) = Some d
+piece_in (blocked b) = None
+piece_in running = None
+piece_in unknown = None
+piece_in ended = None
+piece_in (exhausted b) = None
+
+-- process i with its block, if the reply is that it is blocked
+abbrev pub waiting_in : ℕ → Admit → Option Waiting
+waiting_in i (blocked b) = Some (record { process = i; block = b })
+waiting_in i (piece d) = None
+waiting_in i running = None
+waiting_in i unknown = None
+waiting_in i ended = None
+waiting_in i (exhausted b) = None
+
+-- a blocked process, as the machine has it
+abbrev pub waiting_of : Waiting → BlockedProcess
+waiting_of w = record { process = w.process; block = w.block }
