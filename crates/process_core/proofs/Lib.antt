@@ -67,3 +67,4 @@ pub mod RefusedKept
 pub mod RefusedCore
 pub mod Rotations
 pub mod Waits
+pub mod RunningSeats

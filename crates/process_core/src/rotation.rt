@@ -1,6 +1,6 @@
 // The first of the processes in rotation of which something is told.
-ghost use Rattle.std.specs.Prelude.{◌≡◌, ◌≤◌, ◌-◌, find};
-ghost use Rattle.std.specs.List.{slice_get};
+ghost use Rattle.std.specs.Prelude.{◌≡◌, ◌≤◌, ◌-◌, find, is_some, length, nat_eq, not};
+ghost use Rattle.std.specs.List.{list_any, slice_get};
 ghost use Rattle.std.specs.Option.{option_map};
 ghost use Rattle.process_tree.specs.Blocks.{numbers_from};
 ghost use Rattle.machine_model.specs.Replies.{admit_reply, blocked_in_rotation, hand_to, rotation};
@@ -11,8 +11,30 @@ ghost use Rattle.process_core.specs.Rotation.{first_told, piece_in, waiting_in, 
 use crate::cores::Core;
 use crate::pieces::Piece;
 use crate::replies::{Admit, Waiting};
+use crate::seats::Seat;
+
+/// Whether one of these has a piece that is out.
+fn some_runs(seats: &[Seat]) -> bool
+    ensures { result ≡ list_any (λ s. is_some s.out) seats.now }
+{
+    let mut rest = seats;
+    'seats: while let Some((seat, after)) = rest.split_first() {
+        if seat.is_running() {
+            return true;
+        }
+        rest = after;
+    }
+    false
+}
 
 impl Core {
+    /// Whether a piece is running.
+    pub(crate) fn is_running(&self) -> bool
+        ensures { result ≡ not (nat_eq (length (moment_of self.now).out) 0) }
+    {
+        some_runs(&self.seats)
+    }
+
     /// The first piece that may be handed out, of the processes from one number to before another.
     fn first_piece(&self, from: u32, to: u32) -> Option<Piece>
         requires { from ≤ to }

@@ -60,6 +60,13 @@ impl Seat {
         self.instance.is_some()
     }
 
+    /// Whether it has a piece that is out.
+    pub fn is_running(&self) -> bool
+        ensures { result ≡ is_some self.now.out }
+    {
+        self.out.is_some()
+    }
+
     /// How many entries at the end of its net are to be undone, while it is active.
     pub fn pending(&self) -> Option<u16>
         ensures { result ≡ option_map (λ x. pending_count x.state) self.now.instance }
