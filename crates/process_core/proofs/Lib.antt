@@ -68,3 +68,4 @@ pub mod RefusedCore
 pub mod Rotations
 pub mod Waits
 pub mod RunningSeats
+pub mod Greatest

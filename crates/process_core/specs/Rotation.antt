@@ -1,5 +1,5 @@
 -- Rotation: looking for the first process of which something is told.
-use Rattle.std.specs.Prelude.{ℕ, List, [], ◌∷◌, Option, Some, None}
+use Rattle.std.specs.Prelude.{ℕ, Bool, false, not, List, [], ◌∷◌, Option, Some, None}
 use Rattle.std.specs.Option.{option_or}
 use Rattle.machine_model.specs.Replies.{Handed, Admit, piece, blocked, running, unknown, ended, exhausted, BlockedProcess}
 use Rattle.process_core.specs.declared.replies.Waiting.{Waiting}
@@ -30,3 +30,12 @@ waiting_in i (exhausted b) = None
 -- a blocked process, as the machine has it
 abbrev pub waiting_of : Waiting → BlockedProcess
 waiting_of w = record { process = w.process; block = w.block }
+
+-- by whether a process has begun to complete and by the reply: it is blocked and has not
+abbrev pub can_be_victim : Bool → Admit → Bool
+can_be_victim begun (blocked b) = not begun
+can_be_victim begun (piece d) = false
+can_be_victim begun running = false
+can_be_victim begun unknown = false
+can_be_victim begun ended = false
+can_be_victim begun (exhausted b) = false

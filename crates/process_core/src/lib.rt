@@ -26,6 +26,7 @@ mod starting;
 mod tables;
 mod under_way;
 mod undoing;
+mod victims;
 
 pub use cores::Core;
 pub use laws::tables_stand_for_holdings;

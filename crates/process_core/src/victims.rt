@@ -1,0 +1,40 @@
+// The victim of a stall.
+ghost use Rattle.std.specs.Prelude.{◌≡◌, filter};
+ghost use Rattle.process_tree.specs.Blocks.{numbers_from};
+ghost use Rattle.process_tree.specs.Shape.{greatest};
+ghost use Rattle.machine_model.specs.Moment.{has_begun};
+ghost use Rattle.machine_model.specs.Replies.{admit_reply};
+ghost use Rattle.process_core.specs.Cores.{courses_in, moment_of, relation};
+ghost use Rattle.process_core.specs.Rotation.{can_be_victim};
+
+use crate::cores::Core;
+use crate::replies::Admit;
+
+impl Core {
+    /// Whether a process is blocked and has not begun to complete.
+    fn can_be_victim(&self, i: u32) -> bool
+        ensures { result ≡ can_be_victim (has_begun (moment_of self.now) i) (admit_reply (relation self.now) (courses_in self.now) (moment_of self.now) i) }
+    {
+        if self.began(i).is_some() {
+            return false;
+        }
+        match self.reply_of(i) {
+            Admit::Blocked(_) => true,
+            _ => false,
+        }
+    }
+
+    /// The greatest such process of those up to a number.
+    fn greatest_victim(&self, count: u32) -> Option<u32>
+        ensures { result ≡ greatest (filter (λ i. can_be_victim (has_begun (moment_of self.now) i) (admit_reply (relation self.now) (courses_in self.now) (moment_of self.now) i)) (numbers_from 1 count)) }
+    {
+        let mut left = count;
+        while left > 0 {
+            if self.can_be_victim(left) {
+                return Some(left);
+            }
+            left -= 1;
+        }
+        None
+    }
+}
