@@ -1,6 +1,6 @@
 // Why files were not made or opened.
 ghost use Rattle.std.specs.Prelude.{◌≡◌, ◌≢◌, ◌⊎◌};
-ghost use Rattle.history_files.specs.Opening.{of_store_error};
+ghost use Rattle.history_files.specs.Opening.{of_store_error, of_journal_error};
 ghost use Rattle.history_files.specs.declared.faults.CreateError.TheVariants.{DiskFault as Fault, NoMemory};
 
 use crate::Parts;
@@ -82,5 +82,18 @@ pub fn of_opened(file: u8, why: StoreError) -> OpenError
         StoreError::BadRecord(number) => OpenError::BadRecord(file, number),
         StoreError::BadBook(number) => OpenError::BadBook(file, number),
         StoreError::NoMemory => OpenError::NoMemory,
+    }
+}
+
+/// Why a journal was not opened.
+pub fn of_opened_journal(why: JournalError) -> OpenError
+    ensures { result ≡ of_journal_error why }
+{
+    match why {
+        JournalError::DiskFault => OpenError::DiskFault,
+        JournalError::BadHeader => OpenError::BadHeader(0),
+        JournalError::BadRecord(number) => OpenError::BadRecord(0, number),
+        JournalError::BadHistory(number) => OpenError::BadHistory(number),
+        JournalError::NoMemory => OpenError::NoMemory,
     }
 }
