@@ -1,5 +1,5 @@
 -- What holds of an answer.
-use Rattle.std.proofs.Common.{◌≡◌, OnOk}
+use Rattle.std.proofs.Common.{OnOk}
 use Rattle.std.specs.Prelude.{Result, Ok, Err}
 
 -- what follows from what holds where it is Ok, holds there

@@ -1,5 +1,5 @@
 -- Boxes that are emptied one after another, and that come back from stores.
-use Rattle.std.proofs.Common.{◌≡◌, ◌≢◌, ◌⊎◌, inl, inr, ◌<◌, ◌≤◌, ◌+◌, ℕ, zero, suc, List, [], ◌∷◌, ◌++◌, map, length, refl, sym, ◌∙◌, ap, subst, arith, Some}
+use Rattle.std.proofs.Common.{◌≡◌, ◌≢◌, ◌⊎◌, inl, inr, ◌<◌, ◌+◌, ℕ, zero, suc, List, [], ◌∷◌, ◌++◌, map, length, refl, sym, ◌∙◌, ap, subst, arith, Some}
 use Rattle.std.specs.Prelude.{slice_set, get_or, reverse, unwrap_or}
 use Rattle.std.proofs.lemmas.Option.{none-some}
 use Rattle.history_files.specs.Sound.{kinds, kind_of}
@@ -91,7 +91,7 @@ each_with P (a ∷ xs) y each own (suc q) x at = each_with (λ k. P (suc k)) xs 
 pub parted_count : {B : Type 0} (sort : B → Kind) (stores : List (Opened B)) (boxes : List B) → AreParted sort stores boxes → length stores + length boxes ≡ 8
 parted_count {B} sort stores boxes parted =
     sym (length-append (map kind stores) (reverse (map sort boxes)) ∙ ap (λ n. n + length (reverse (map sort boxes))) (length-map stores kind)
-        ∙ ap (λ n. length stores + n) (length-reverse (map sort boxes) ∙ length-map boxes sort)) ∙ ap length parted
+    ∙ ap (λ n. length stores + n) (length-reverse (map sort boxes) ∙ length-map boxes sort)) ∙ ap length parted
   where
     kind : Opened B → Kind
     kind s = s.kind
@@ -120,7 +120,7 @@ kinds_in_place {B} sort stores boxes parted q s at =
     let here = at_map kind stores q s at in
     let within = slice_get_within stores q s at in
     kind_at q s.kind (omega (arith, within, parted_count sort stores boxes parted))
-        (ap (λ ks. slice_get ks q) (sym parted) ∙ slice_get-left (map kind stores) (reverse (map sort boxes)) q (slice_get_within (map kind stores) q s.kind here) ∙ here)
+    (ap (λ ks. slice_get ks q) (sym parted) ∙ slice_get-left (map kind stores) (reverse (map sort boxes)) q (slice_get_within (map kind stores) q s.kind here) ∙ here)
   where
     kind : Opened B → Kind
     kind s = s.kind
@@ -129,11 +129,12 @@ kinds_in_place {B} sort stores boxes parted q s at =
 pub next_kind : {B : Type 0} (sort : B → Kind) (stores : List (Opened B)) (boxes : List B) (b : B) → AreParted sort stores (boxes ++ b ∷ []) → sort b ≡ kind_of (length stores)
 next_kind {B} sort stores boxes b parted =
     kind_at (length stores) (sort b) (omega (arith, parted_count sort stores (boxes ++ b ∷ []) parted, length-append boxes (b ∷ [])))
-        (ap (λ ks. slice_get ks (length stores)) (sym (ap (λ ks. map kind stores ++ ks) (sym (reverse_push sort boxes b)) ∙ parted))
-            ∙ ap (slice_get (map kind stores ++ sort b ∷ reverse (map sort boxes))) (count (length stores) (length (map kind stores)) (length-map stores kind))
-            ∙ slice_get-right (map kind stores) (sort b ∷ reverse (map sort boxes)) 0)
+    (ap (λ ks. slice_get ks (length stores)) (sym (ap (λ ks. map kind stores ++ ks) (sym (reverse_push sort boxes b)) ∙ parted))
+    ∙ ap (slice_get (map kind stores ++ sort b ∷ reverse (map sort boxes))) (count (length stores) (length (map kind stores)) (length-map stores kind))
+    ∙ slice_get-right (map kind stores) (sort b ∷ reverse (map sort boxes)) 0)
   where
     kind : Opened B → Kind
     kind s = s.kind
+
     count : (n m : ℕ) → m ≡ n → n ≡ m + 0
     count n m same = omega (arith, same)

@@ -1,5 +1,5 @@
 -- What the commit of an effect in doubt leaves.
-use Rattle.std.proofs.Common.{◌≡◌, ◌+◌, ℕ, List, [], ◌∷◌, ◌++◌, Bool, true, Option, Some, None, refl, sym, ◌∙◌, subst}
+use Rattle.std.proofs.Common.{◌≡◌, ℕ, List, [], ◌∷◌, ◌++◌, true, Some, None, sym, ◌∙◌, subst}
 use Rattle.std.specs.Prelude.{IsSome, IfSome, slice_set}
 use Rattle.std.specs.List.{slice_get}
 use Rattle.process_disk.specs.Disk.{Disk, IsHonest}
@@ -32,6 +32,7 @@ is_due law c h log stores disk q s e are stand at due is = record {
   where
     good : IsGoodBook (kind_of q) s.book (Some e)
     good = subst (λ k. IsGoodBook k s.book (Some e)) (are.kind q s at) (subst (IsGoodBook s.kind s.book) is (stand.good q s at))
+
     counts : counted (effects c.ops h q) s.book (Some e) ≡ effects c.ops h q
     counts = subst (λ d. counted (effects c.ops h q) s.book d ≡ effects c.ops h q) is (stand.books q s at)
 
@@ -45,7 +46,7 @@ images_of_commit law c h log stores old new q s honest are zero stand at some du
     let e = some_of s.doubt some in
     let is = is_due law c h log stores old q s e.0 are stand at due e.1 in
     images_of_store c h log stores old new q _ _ honest are zero stand (subst (λ k. OthersAsBefore k old new) (are.file q s at) others) is.before is.after
-        (subst (λ k. EachImage new old.moment (IsStoreOfEither k (s.book, Some e.0) (s.book ++ e.0 ∷ [], None))) (are.file q s at) (each e.0 e.1))
+    (subst (λ k. EachImage new old.moment (IsStoreOfEither k (s.book, Some e.0) (s.book ++ e.0 ∷ [], None))) (are.file q s at) (each e.0 e.1))
 
 -- and then the files stand for the history.
 pub stands_with_commit : {B : Type 0} → CommittedIsGood → (c : Catalog) (h : History) (log : LogState) (stores : List (Opened B)) (old new : Disk) (q : ℕ) (s t : Opened B)
@@ -56,7 +57,7 @@ stands_with_commit law c h log stores old new q s t honest honest_new are zero s
     let is = is_due law c h log stores old q s e.0 are stand at due e.1 in
     let book : t.book ≡ s.book ++ e.0 ∷ [] = subst (λ d. IfSome d (λ x. t.book ≡ s.book ++ x ∷ [])) e.1 commits.1 in
     stands_with_store c h log stores old new q t honest honest_new are zero stand (subst (λ k. OthersAsBefore k old new) (are.file q s at) others) stands
-        (subst (λ k. IsGoodBook k t.book t.doubt) (sym (kind ∙ are.kind q s at))
-            (subst (λ d. IsGoodBook (kind_of q) t.book d) (sym commits.0) (subst (λ b. IsGoodBook (kind_of q) b None) (sym book) is.after.good)))
-        (subst (λ d. counted (effects c.ops h q) t.book d ≡ effects c.ops h q) (sym commits.0)
-            (subst (λ b. b ≡ effects c.ops h q) (sym book) is.after.counts))
+    (subst (λ k. IsGoodBook k t.book t.doubt) (sym (kind ∙ are.kind q s at))
+    (subst (λ d. IsGoodBook (kind_of q) t.book d) (sym commits.0) (subst (λ b. IsGoodBook (kind_of q) b None) (sym book) is.after.good)))
+    (subst (λ d. counted (effects c.ops h q) t.book d ≡ effects c.ops h q) (sym commits.0)
+    (subst (λ b. b ≡ effects c.ops h q) (sym book) is.after.counts))

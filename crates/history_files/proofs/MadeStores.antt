@@ -1,7 +1,6 @@
 -- Stores that are made of empty files, one after another.
-use Rattle.std.proofs.Common.{◌≡◌, ◌≢◌, ◌<◌, ◌≤◌, ◌+◌, ℕ, List, [], ◌∷◌, ◌++◌, length, refl, sym, ◌∙◌, ap, subst, arith, Some}
-use Rattle.std.specs.List.{slice_get}
-use Rattle.process_disk.specs.Disk.{Disk, FileSet, IsHonest, file_of}
+use Rattle.std.proofs.Common.{◌≡◌, ◌<◌, ◌≤◌, ◌+◌, ℕ, List, [], ◌∷◌, ◌++◌, length, ◌∙◌, arith}
+use Rattle.process_disk.specs.Disk.{Disk, IsHonest, file_of}
 use Rattle.process_disk.specs.Images.{ImagesFollow, OthersAsBefore}
 use Rattle.process_disk.proofs.Images.{follow_none, follow_then}
 use Rattle.gate_log.specs.Standing.{LogState, StandsFor}
@@ -35,7 +34,7 @@ pub made_more : {B : Type 0} (start old new : Disk) (stores : List (Opened B)) (
 made_more start old new stores s honest honest_new files made others stands = record {
   stand = each_with (λ q x. Stands x new) stores s
       (λ q x at. stands_still (length stores + 1) x.log (store_bodies x.book x.doubt) old new honest honest_new
-          (λ same. absurd (omega (arith, same, files q x at, slice_get_within stores q x at))) others (made.stand q x at))
+      (λ same. absurd (omega (arith, same, files q x at, slice_get_within stores q x at))) others (made.stand q x at))
       stands;
   empty = λ k from within. others.read.others k (λ same. absurd (omega (arith, same, from, length-append stores (s ∷ [])))) ∙ made.empty k (omega (arith, from, length-append stores (s ∷ []))) within;
   journal = λ log bodies zero before. stands_still (length stores + 1) log bodies old new honest honest_new (λ same. absurd (omega (arith, same, zero))) others (made.journal log bodies zero before);

@@ -1,5 +1,5 @@
 -- What a record of the journal leaves, where the books come to the effects of the history before it and with it.
-use Rattle.std.proofs.Common.{◌≡◌, ◌⊎◌, inl, inr, ◌+◌, ℕ, List, refl, sym, ◌∙◌, subst, arith, Some}
+use Rattle.std.proofs.Common.{◌≡◌, inl, inr, ℕ, List, subst, arith, Some}
 use Rattle.std.specs.List.{slice_get}
 use Rattle.process_disk.specs.Disk.{Disk, FileSet, IsHonest}
 use Rattle.process_disk.specs.Images.{EachImage, OthersAsBefore}
@@ -10,9 +10,9 @@ use Rattle.commute_table.specs.declared.catalog.Catalog.{Catalog}
 use Rattle.subsystem_store.specs.Bodies.{store_bodies}
 use Rattle.subsystem_store.specs.Opened.{Opened, IsStoreOf}
 use Rattle.process_journal.specs.Journals.{IsHistoryUnder}
-use Rattle.process_journal.specs.Opened.{Stands, IsJournalOf, IsJournalOfEither}
+use Rattle.process_journal.specs.Opened.{Stands, IsJournalOfEither}
 use Rattle.history_files.specs.Effects.{effects}
-use Rattle.history_files.specs.Sound.{IsBookOf, IsSound, IsSoundForEither}
+use Rattle.history_files.specs.Sound.{IsBookOf, IsSoundForEither}
 use Rattle.history_files.specs.Standing.{AreStores, ComeTo, Stand}
 use Rattle.history_files.proofs.SoundImages.{sound_by, book_by}
 
@@ -22,7 +22,7 @@ pub books_beside : {B : Type 0} (c : Catalog) (h k : History) (log : LogState) (
     → (files : FileSet) → new.left_since old.moment files → (q : ℕ) (s : Opened B) → slice_get stores q ≡ Some s → IsBookOf (effects c.ops k q) q files
 books_beside c h k log stores old new honest are stand others come files left q s at = book_by _ q s files (are.kind q s at) (stand.good q s at) (come q s at)
     (subst (λ n. IsStoreOf n s.book s.doubt files) (are.file q s at)
-        ((images_still 0 s.log (store_bodies s.book s.doubt) old new honest (λ same. absurd (omega (arith, same, are.file q s at))) others (stand.stores q s at)).has files left))
+    ((images_still 0 s.log (store_bodies s.book s.doubt) old new honest (λ same. absurd (omega (arith, same, are.file q s at))) others (stand.stores q s at)).has files left))
 
 -- Each image of a record is sound for the history before it or with it.
 pub images_of_record : {B : Type 0} (c : Catalog) (h after : History) (log : LogState) (stores : List (Opened B)) (old new : Disk)

@@ -1,5 +1,5 @@
 -- What a call on one store leaves, where the books of before and of after come to the effects of one history.
-use Rattle.std.proofs.Common.{◌≡◌, ◌≢◌, ◌⊎◌, inl, inr, ◌+◌, ℕ, List, Option, Bool, true, false, length, refl, sym, ◌∙◌, subst, arith, Some}
+use Rattle.std.proofs.Common.{◌≡◌, ◌≢◌, ◌⊎◌, inl, inr, ◌+◌, ℕ, List, Option, true, false, sym, ◌∙◌, subst, arith, Some}
 use Rattle.std.specs.Prelude.{slice_set, nat_eq}
 use Rattle.std.proofs.lemmas.Bool.Decides.{eqb_tells}
 use Rattle.std.specs.List.{slice_get}
@@ -17,7 +17,7 @@ use Rattle.subsystem_store.specs.Opened.{Opened, Stands, IsStoreOf, IsStoreOfEit
 use Rattle.process_journal.specs.Bodies.{journal_bodies}
 use Rattle.history_files.specs.Effects.{effects}
 use Rattle.history_files.specs.Sound.{IsBookOf, IsSound, counted, kind_of}
-use Rattle.history_files.specs.Standing.{AtEach, AreStores, Stand}
+use Rattle.history_files.specs.Standing.{AreStores, Stand}
 use Rattle.history_files.proofs.Places.{set_each, length-set}
 use Rattle.history_files.proofs.SoundImages.{sound_by, book_by}
 
@@ -40,7 +40,7 @@ pub images_of_store : {B : Type 0} (c : Catalog) (h : History) (log : LogState) 
 images_of_store {B} c h log stores old new q one two honest are is stand others first second each = record {
   has = λ files left. sound_by c h stores files are stand.journal.history
       (subst (λ k. IsLog k (journal_bodies c h) (file_of files k)) is
-          ((images_still (q + 1) log (journal_bodies c h) old new honest (λ same. absurd (omega (arith, same, is))) others stand.journal.log).has files left))
+      ((images_still (q + 1) log (journal_bodies c h) old new honest (λ same. absurd (omega (arith, same, is))) others stand.journal.log).has files left))
       (λ k s at. book_of_each files left k s at (eqb_tells k q));
 }
   where
@@ -50,7 +50,7 @@ images_of_store {B} c h log stores old new q one two honest are is stand others 
         subst (λ n. IsBookOf (effects c.ops h n) n files) (sym here.1) (either_book _ q one two files first second (each.has files left))
     book_of_each files left k s at (inr there) = book_by _ k s files (are.kind k s at) (stand.good k s at) (stand.books k s at)
         (subst (λ n. IsStoreOf n s.book s.doubt files) (are.file k s at)
-            ((images_still (q + 1) s.log (store_bodies s.book s.doubt) old new honest (λ is. there.1 (omega (arith, is, are.file k s at))) others (stand.stores k s at)).has files left))
+        ((images_still (q + 1) s.log (store_bodies s.book s.doubt) old new honest (λ is. there.1 (omega (arith, is, are.file k s at))) others (stand.stores k s at)).has files left))
 
 -- After it the files stand for the history, where the store stands for a book that comes to its effects.
 pub stands_with_store : {B : Type 0} (c : Catalog) (h : History) (log : LogState) (stores : List (Opened B)) (old new : Disk) (q : ℕ) (s : Opened B)

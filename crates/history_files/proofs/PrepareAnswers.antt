@@ -20,9 +20,9 @@ doubts_one NoMemory e d is = inr is
 same : {R B : Type 0} (disk : R → Disk) (old new : R) (s t : Opened B) → s.doubt ≡ None → Stands s (disk old) → t.book ≡ s.book → t.doubt ≡ None → (new ≡ old) × (t.log ≡ s.log) → Stands t (disk new)
 same disk old new s t settled stands book doubt is =
     subst (λ r. StandsFor t.log (store_bodies t.book t.doubt) (disk r)) (sym is.0)
-        (subst (λ l. StandsFor l (store_bodies t.book t.doubt) (disk old)) (sym is.1)
-            (subst (λ b. StandsFor s.log (store_bodies b t.doubt) (disk old)) (sym book)
-                (subst (λ d. StandsFor s.log (store_bodies s.book d) (disk old)) (settled ∙ sym doubt) stands)))
+    (subst (λ l. StandsFor l (store_bodies t.book t.doubt) (disk old)) (sym is.1)
+    (subst (λ b. StandsFor s.log (store_bodies b t.doubt) (disk old)) (sym book)
+    (subst (λ d. StandsFor s.log (store_bodies s.book d) (disk old)) (settled ∙ sym doubt) stands)))
 
 -- unless a call of the rack failed, the store stands for its book with what is in doubt
 pub stands_after : {R B : Type 0} (disk : R → Disk) (old new : R) (s t : Opened B) (result : Prepare) (e : Effect)

@@ -1,6 +1,6 @@
 -- What preparing an effect leaves.
-use Rattle.std.proofs.Common.{inl, inr, ◌≡◌, ◌+◌, ℕ, List, [], ◌∷◌, ◌++◌, Bool, false, Option, Some, None, refl, sym, ◌∙◌, subst}
-use Rattle.std.specs.Prelude.{◌<◌, ◌≢◌, ◌⊎◌, true, length, slice_set}
+use Rattle.std.proofs.Common.{inl, inr, ◌≡◌, ℕ, List, false, Option, Some, None, sym, ◌∙◌, subst}
+use Rattle.std.specs.Prelude.{◌<◌, ◌⊎◌, true, length, slice_set}
 use Rattle.std.specs.List.{slice_get}
 use Rattle.process_disk.specs.Disk.{Disk, IsHonest}
 use Rattle.process_disk.specs.Images.{EachImage, OthersAsBefore}
@@ -41,6 +41,7 @@ is_ready law c h log stores disk q s e are stand at new may = record {
   where
     good : IsGoodBook (kind_of q) s.book None
     good = subst (λ k. IsGoodBook k s.book None) (are.kind q s at) (subst (IsGoodBook s.kind s.book) may.settled (stand.good q s at))
+
     counts : s.book ≡ effects c.ops h q
     counts = subst (λ d. counted (effects c.ops h q) s.book d ≡ effects c.ops h q) may.settled (stand.books q s at)
 
@@ -53,7 +54,7 @@ pub images_of_prepare : {B : Type 0} → PreparedIsGood → (c : Catalog) (h : H
 images_of_prepare law c h log stores old new q s e honest are zero stand at lacks may others each =
     let is = is_ready law c h log stores old q s e are stand at lacks may in
     images_of_store c h log stores old new q (s.book, None) (s.book, Some e) honest are zero stand (subst (λ k. OthersAsBefore k old new) (are.file q s at) others) is.before is.after
-        (subst (λ k. EachImage new old.moment (IsStoreOfEither k (s.book, None) (s.book, Some e))) (are.file q s at) each)
+    (subst (λ k. EachImage new old.moment (IsStoreOfEither k (s.book, None) (s.book, Some e))) (are.file q s at) each)
 
 -- and the files stand for the history with the effect in doubt or with nothing in doubt, as the store does.
 pub stands_with_prepare : {B : Type 0} → PreparedIsGood → (c : Catalog) (h : History) (log : LogState) (stores : List (Opened B)) (old new : Disk) (q : ℕ) (s t : Opened B) (e : Effect)
@@ -63,12 +64,14 @@ stands_with_prepare law c h log stores old new q s t e honest honest_new are zer
   where
     is : IsReady c h q s e
     is = is_ready law c h log stores old q s e are stand at lacks may
+
     with_book : (d : Option Effect) → t.doubt ≡ d → MayBe (effects c.ops h q) q (s.book, d) → Stand c h log (slice_set stores q t) new
     with_book d doubts may_be = stands_with_store c h log stores old new q t honest honest_new are zero stand (subst (λ k. OthersAsBefore k old new) (are.file q s at) others) stands
         (subst (λ k. IsGoodBook k t.book t.doubt) (sym (kind ∙ are.kind q s at))
-            (subst (λ x. IsGoodBook (kind_of q) t.book x) (sym doubts) (subst (λ b. IsGoodBook (kind_of q) b d) (sym book) may_be.good)))
+        (subst (λ x. IsGoodBook (kind_of q) t.book x) (sym doubts) (subst (λ b. IsGoodBook (kind_of q) b d) (sym book) may_be.good)))
         (subst (λ x. counted (effects c.ops h q) t.book x ≡ effects c.ops h q) (sym doubts)
-            (subst (λ b. counted (effects c.ops h q) b d ≡ effects c.ops h q) (sym book) may_be.counts))
+        (subst (λ b. counted (effects c.ops h q) b d ≡ effects c.ops h q) (sym book) may_be.counts))
+
     by : (t.doubt ≡ Some e) ⊎ (t.doubt ≡ None) → Stand c h log (slice_set stores q t) new
     by (inl some) = with_book (Some e) some is.after
     by (inr none) = with_book None none is.before

@@ -1,8 +1,7 @@
 -- Stores that are opened, one after another.
-use Rattle.std.proofs.Common.{◌≡◌, ◌≢◌, ◌<◌, ◌≤◌, ◌+◌, ℕ, List, [], ◌∷◌, ◌++◌, length, refl, sym, ◌∙◌, ap, subst, arith, Some}
+use Rattle.std.proofs.Common.{◌≡◌, ◌<◌, ◌+◌, ℕ, List, [], ◌∷◌, ◌++◌, length, refl, subst, arith}
 use Rattle.std.specs.Prelude.{Ok}
-use Rattle.std.specs.List.{slice_get}
-use Rattle.process_disk.specs.Disk.{Disk, FileSet, IsHonest, file_of}
+use Rattle.process_disk.specs.Disk.{Disk, IsHonest, file_of}
 use Rattle.process_disk.specs.Images.{AllAsBefore}
 use Rattle.process_disk.proofs.Images.{all_then, others_of_all, run_none}
 use Rattle.gate_log.proofs.Standing.{stands_still}
@@ -37,13 +36,13 @@ read_none disk honest = record {
 pub read_next : (start now : Disk) (q file : ℕ) (kind : Kind) (b : Book) → AllAsBefore start now → kind ≡ kind_of q → file ≡ q + 1 → read_store kind file (file_of now.files file) ≡ Ok b → book_in start.files q ≡ Ok b
 read_next start now q file kind b all is_kind is_file read =
     subst (λ fs. book_in fs q ≡ Ok b) all.read
-        (subst (λ k. read_store k (q + 1) (file_of now.files (q + 1)) ≡ Ok b) is_kind (subst (λ n. read_store kind n (file_of now.files n) ≡ Ok b) is_file read))
+    (subst (λ k. read_store k (q + 1) (file_of now.files (q + 1)) ≡ Ok b) is_kind (subst (λ n. read_store kind n (file_of now.files n) ≡ Ok b) is_file read))
 
 -- and what is refused of it
 pub refused_next : (start now : Disk) (q file : ℕ) (kind : Kind) (why : StoreError) → AllAsBefore start now → kind ≡ kind_of q → file ≡ q + 1 → RefusedAs (read_store kind file (file_of now.files file)) why → RefusedAs (book_in start.files q) why
 refused_next start now q file kind why all is_kind is_file refused =
     subst (λ fs. RefusedAs (book_in fs q) why) all.read
-        (subst (λ k. RefusedAs (read_store k (q + 1) (file_of now.files (q + 1))) why) is_kind (subst (λ n. RefusedAs (read_store kind n (file_of now.files n)) why) is_file refused))
+    (subst (λ k. RefusedAs (read_store k (q + 1) (file_of now.files (q + 1))) why) is_kind (subst (λ n. RefusedAs (read_store kind n (file_of now.files n)) why) is_file refused))
 
 -- one more, on the next file
 pub read_more : {B : Type 0} (start old new : Disk) (stores : List (Opened B)) (s : Opened B) → IsHonest old → IsHonest new → AtEach (λ q s. s.log.file ≡ q + 1) stores

@@ -1,6 +1,6 @@
 -- What taking back an effect in doubt leaves.
-use Rattle.std.proofs.Common.{◌≡◌, ◌+◌, ℕ, List, [], ◌∷◌, ◌++◌, Bool, false, Option, Some, None, refl, sym, ◌∙◌, subst}
-use Rattle.std.specs.Prelude.{IsSome, IfSome, slice_set}
+use Rattle.std.proofs.Common.{◌≡◌, ℕ, List, false, Some, None, sym, ◌∙◌, subst}
+use Rattle.std.specs.Prelude.{IsSome, slice_set}
 use Rattle.std.specs.List.{slice_get}
 use Rattle.process_disk.specs.Disk.{Disk, IsHonest}
 use Rattle.process_disk.specs.Images.{EachImage, OthersAsBefore}
@@ -30,6 +30,7 @@ is_undue law c h log stores disk q s e are stand at due is = record {
   where
     good : IsGoodBook (kind_of q) s.book s.doubt
     good = subst (λ k. IsGoodBook k s.book s.doubt) (are.kind q s at) (stand.good q s at)
+
     counts : counted (effects c.ops h q) s.book (Some e) ≡ effects c.ops h q
     counts = subst (λ d. counted (effects c.ops h q) s.book d ≡ effects c.ops h q) is (stand.books q s at)
 
@@ -43,7 +44,7 @@ images_of_roll_back law c h log stores old new q s honest are zero stand at some
     let e = some_of s.doubt some in
     let is = is_undue law c h log stores old q s e.0 are stand at due e.1 in
     images_of_store c h log stores old new q (s.book, None) (s.book, s.doubt) honest are zero stand (subst (λ k. OthersAsBefore k old new) (are.file q s at) others) is.after is.before
-        (subst (λ k. EachImage new old.moment (IsStoreOfEither k (s.book, None) (s.book, s.doubt))) (are.file q s at) each)
+    (subst (λ k. EachImage new old.moment (IsStoreOfEither k (s.book, None) (s.book, s.doubt))) (are.file q s at) each)
 
 -- and then the files stand for the history.
 pub stands_with_roll_back : {B : Type 0} → RolledBackIsGood → (c : Catalog) (h : History) (log : LogState) (stores : List (Opened B)) (old new : Disk) (q : ℕ) (s t : Opened B)
@@ -53,7 +54,7 @@ stands_with_roll_back law c h log stores old new q s t honest honest_new are zer
     let e = some_of s.doubt some in
     let is = is_undue law c h log stores old q s e.0 are stand at due e.1 in
     stands_with_store c h log stores old new q t honest honest_new are zero stand (subst (λ k. OthersAsBefore k old new) (are.file q s at) others) stands
-        (subst (λ k. IsGoodBook k t.book t.doubt) (sym (kind ∙ are.kind q s at))
-            (subst (λ d. IsGoodBook (kind_of q) t.book d) (sym back.0) (subst (λ b. IsGoodBook (kind_of q) b None) (sym back.1) is.after.good)))
-        (subst (λ d. counted (effects c.ops h q) t.book d ≡ effects c.ops h q) (sym back.0)
-            (subst (λ b. b ≡ effects c.ops h q) (sym back.1) is.after.counts))
+    (subst (λ k. IsGoodBook k t.book t.doubt) (sym (kind ∙ are.kind q s at))
+    (subst (λ d. IsGoodBook (kind_of q) t.book d) (sym back.0) (subst (λ b. IsGoodBook (kind_of q) b None) (sym back.1) is.after.good)))
+    (subst (λ d. counted (effects c.ops h q) t.book d ≡ effects c.ops h q) (sym back.0)
+    (subst (λ b. b ≡ effects c.ops h q) (sym back.1) is.after.counts))

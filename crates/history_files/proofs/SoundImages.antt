@@ -1,22 +1,21 @@
 -- Files that stand for a history are sound for it, and so is each image of them.
-use Rattle.std.proofs.Common.{◌≡◌, ◌<◌, ◌+◌, ℕ, List, Option, length, refl, sym, ◌∙◌, subst, ap, arith, Some}
+use Rattle.std.proofs.Common.{◌≡◌, ◌+◌, ℕ, List, subst, arith, Some}
 use Rattle.std.specs.List.{slice_get}
 use Rattle.process_disk.specs.Disk.{Disk, FileSet, file_of}
 use Rattle.process_disk.specs.Images.{EachImage}
 use Rattle.gate_log.specs.Standing.{LogState}
 use Rattle.gate_log.specs.LogFile.{IsLog}
-use Rattle.resource_box.specs.declared.call.Kind.{Kind}
 use Rattle.schedule_model.specs.declared.history.History.{History}
 use Rattle.commute_table.specs.declared.catalog.Catalog.{Catalog}
 use Rattle.subsystem_store.specs.declared.effect.Effect.{Effect}
 use Rattle.subsystem_store.specs.Laws.{IsGoodBook}
-use Rattle.subsystem_store.specs.Opened.{Opened, Stands, IsStoreOf}
+use Rattle.subsystem_store.specs.Opened.{Opened, IsStoreOf}
 use Rattle.process_journal.specs.Bodies.{journal_bodies}
 use Rattle.process_journal.specs.Journals.{IsHistoryUnder}
 use Rattle.process_journal.specs.Opened.{IsJournalOf}
 use Rattle.history_files.specs.Effects.{effects}
 use Rattle.history_files.specs.Sound.{IsBookOf, IsSound, counted, kind_of}
-use Rattle.history_files.specs.Standing.{AtEach, AreStores, ComeTo, Stand}
+use Rattle.history_files.specs.Standing.{AreStores, Stand}
 use Rattle.history_files.proofs.Places.{place_has}
 
 -- files are sound where file 0 is the journal of a history and each other file the store of a book that comes to its effects
@@ -45,7 +44,7 @@ pub sound_now : {B : Type 0} (c : Catalog) (h : History) (log : LogState) (store
 sound_now c h log stores disk are stand is = sound_by c h stores disk.files are stand.journal.history
     (subst (λ k. IsLog k (journal_bodies c h) (file_of disk.files k)) is stand.journal.log.read)
     (λ q s at. book_by _ q s disk.files (are.kind q s at) (stand.good q s at) (stand.books q s at)
-        (subst (λ k. IsStoreOf k s.book s.doubt disk.files) (are.file q s at) (stand.stores q s at).read))
+    (subst (λ k. IsStoreOf k s.book s.doubt disk.files) (are.file q s at) (stand.stores q s at).read))
 
 -- and each image from now on is.
 pub sound_each : {B : Type 0} (c : Catalog) (h : History) (log : LogState) (stores : List (Opened B)) (disk : Disk) → AreStores stores → Stand c h log stores disk → log.file ≡ 0
@@ -54,5 +53,5 @@ sound_each c h log stores disk are stand is = record {
   has = λ files left. sound_by c h stores files are stand.journal.history
       (subst (λ k. IsLog k (journal_bodies c h) (file_of files k)) is (stand.journal.log.each.has files left))
       (λ q s at. book_by _ q s files (are.kind q s at) (stand.good q s at) (stand.books q s at)
-          (subst (λ k. IsStoreOf k s.book s.doubt files) (are.file q s at) ((stand.stores q s at).each.has files left)));
+      (subst (λ k. IsStoreOf k s.book s.doubt files) (are.file q s at) ((stand.stores q s at).each.has files left)));
 }

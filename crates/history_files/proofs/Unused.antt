@@ -1,5 +1,5 @@
 -- Files without an event.
-use Rattle.std.proofs.Common.{◌≡◌, List, [], None, refl, sym, subst, ap, ◌∙◌}
+use Rattle.std.proofs.Common.{◌≡◌, List, [], None, refl, sym, subst}
 use Rattle.process_disk.specs.Disk.{Disk}
 use Rattle.gate_log.specs.Standing.{LogState, StandsFor}
 use Rattle.commute_table.specs.declared.catalog.Catalog.{Catalog}

@@ -1,10 +1,10 @@
 -- The first file that has a byte.
-use Rattle.std.proofs.Common.{◌⊎◌, inl, inr, nat_eq, ◌≡◌, ◌≢◌, ◌<◌, ◌≤◌, ◌+◌, ◌-◌, ℕ, zero, suc, Bool, true, false, List, [], ◌∷◌, length, Option, Some, None, refl, sym, ◌∙◌, ap, subst, arith}
+use Rattle.std.proofs.Common.{◌⊎◌, inl, inr, nat_eq, ◌≡◌, ◌≢◌, ◌<◌, ◌≤◌, ◌+◌, ◌-◌, ℕ, zero, suc, true, false, List, [], ◌∷◌, length, Option, Some, None, refl, sym, ◌∙◌, ap, subst, arith}
 use Rattle.std.specs.Prelude.{if◌then◌else◌}
 use Rattle.std.proofs.lemmas.Option.{none-some}
 use Rattle.std.proofs.lemmas.Bool.Decides.{eqb_tells}
 use Rattle.process_disk.specs.Disk.{FileSet, file_of}
-use Rattle.history_files.specs.Creating.{first_used, first_used_from, has_byte}
+use Rattle.history_files.specs.Creating.{first_used_from, has_byte}
 
 -- a file has a byte, or none
 is_used : (file : List ℕ) → 0 < length file → has_byte file ≡ true
@@ -26,7 +26,7 @@ pub used_later : (q : ℕ) (files : FileSet) → q < 9 → length (file_of files
 used_later q files within none =
     let more : suc (9 - (q + 1)) ≡ 9 - q = omega (arith, within) in
     subst (λ n. first_used_from (9 - (q + 1)) (q + 1) files ≡ first_used_from n q files) more
-        (sym (ap (λ b. if b then Some q else first_used_from (9 - (q + 1)) (q + 1) files) (is_unused (file_of files q) none)))
+    (sym (ap (λ b. if b then Some q else first_used_from (9 - (q + 1)) (q + 1) files) (is_unused (file_of files q) none)))
 
 -- the first of some files is empty, and the first that has a byte is one of the others
 empty_first : (file : List ℕ) (q : ℕ) (later : Option ℕ) → (if has_byte file then Some q else later) ≡ None → (file ≡ []) × (later ≡ None)

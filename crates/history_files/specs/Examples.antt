@@ -1,12 +1,12 @@
 -- Worked effects: two steps on subsystem 0 and one on subsystem 4, of which the first is undone.
-use Rattle.std.specs.Prelude.{◌≡◌, ℕ, pos, Bool, true, false, List, [], ◌∷◌, Some, None, refl}
+use Rattle.std.specs.Prelude.{◌≡◌, ℕ, pos, Bool, true, false, List, [], ◌∷◌, Some, refl}
 use Rattle.process_tree.specs.declared.entry.Entry.{Entry}
 use Rattle.commute_table.specs.declared.op.Op.{Op}
 use Rattle.commute_table.specs.declared.op.Verb.{Verb}
-use Rattle.commute_table.specs.declared.op.Verb.TheVariants.{Add, Put, Look}
+use Rattle.commute_table.specs.declared.op.Verb.TheVariants.{Add, Put}
 use Rattle.subsystem_store.specs.declared.effect.Effect.{Effect}
 use Rattle.history_files.specs.Effects.{effects_from}
-use Rattle.history_files.specs.Sound.{counted, kinds, kind_of}
+use Rattle.history_files.specs.Sound.{counted}
 
 -- operation 0 adds on subsystem 0, and operation 1 puts on subsystem 4
 abbrev ops : List Op

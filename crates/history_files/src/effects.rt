@@ -1,7 +1,6 @@
 // The effects of a history.
 ghost use Rattle.std.specs.Prelude.{◌≡◌, ◌<◌, ◌^◌, length, IfOk};
 ghost use Rattle.schedule_model.specs.Histories.{acts};
-
 ghost use Rattle.history_files.specs.Effects.{verb_of, subsystem_of, key_of, amount_of, effect_of, effects_from};
 
 use commute_table::{Op, Verb};

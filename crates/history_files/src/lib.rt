@@ -11,7 +11,7 @@ mod parts;
 mod reading;
 mod steps;
 
-pub use faults::{BookFault, CreateError, CreateRefused, OpenError};
 pub use effects::{effect_of, subsystem_of};
+pub use faults::{BookFault, CreateError, CreateRefused, OpenError};
 pub use files::Files;
 pub use parts::Parts;

@@ -1,4 +1,4 @@
-use Rattle.std.proofs.Common.{◌≡◌, ◌∙◌, ap, sym, [], arith}
+use Rattle.std.proofs.Common.{◌≡◌, ◌∙◌, ap, [], arith}
 use Rattle.std.proofs.lemmas.Option.{slice_get_within}
 use Rattle.history_files.proofs.Clearing.{map-set, so_below}
 use Rattle.history_files.proofs.boxes.clear_all.Goals as goal

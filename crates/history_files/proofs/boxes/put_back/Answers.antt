@@ -1,5 +1,5 @@
-use Rattle.std.proofs.Common.{◌≡◌, ◌∙◌, ap, sym, subst, arith, map, [], ◌∷◌, ◌++◌}
-use Rattle.subsystem_store.specs.Opened.{Opened, Fits, account_of}
+use Rattle.std.proofs.Common.{◌∙◌, ap, sym, subst, arith, map}
+use Rattle.subsystem_store.specs.Opened.{Fits, account_of}
 use Rattle.history_files.specs.Boxes.{AreParted}
 use Rattle.history_files.specs.Standing.{AtEach}
 use Rattle.history_files.proofs.Clearing.{comes_back, each_of_more, last_of_more, map_reverse, no_stores}
@@ -27,4 +27,4 @@ returns-clause-boxes g c =
     let sort = g.B.Resource.sort in
     let old = c.loop-store in
     c.clear_all.ensures.kinds ∙ ap (map sort) c.reverse.ensures.items ∙ map_reverse sort old.boxes.items
-        ∙ no_stores sort old.stores.items old.boxes.items (omega (arith, c.in_default.ensures.cases, old.stores.ok)) old.invariant.parted
+    ∙ no_stores sort old.stores.items old.boxes.items (omega (arith, c.in_default.ensures.cases, old.stores.ok)) old.invariant.parted

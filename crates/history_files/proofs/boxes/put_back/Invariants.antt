@@ -1,4 +1,4 @@
-use Rattle.std.proofs.Common.{◌≡◌, ◌≤◌, ◌+◌, vec_len, vec_capacity}
+use Rattle.std.proofs.Common.{◌≤◌, ◌+◌, vec_len, vec_capacity}
 use Rattle.history_files.specs.Boxes.{AreParted}
 use Rattle.history_files.specs.Standing.{EachFits}
 use Rattle.history_files.proofs.boxes.put_back.Given as goal

@@ -1,4 +1,4 @@
-use Rattle.std.proofs.Common.{◌≡◌, ◌<◌, ◌≤◌, ◌∙◌, ap, sym, subst, arith, length}
+use Rattle.std.proofs.Common.{◌<◌, ◌≤◌, ◌∙◌, sym, subst, arith, length}
 use Rattle.process_disk.specs.Disk.{file_of}
 use Rattle.process_disk.proofs.Images.{all_then, run_look}
 use Rattle.history_files.proofs.UsedFiles.{used_here, used_later}
@@ -18,7 +18,7 @@ returns-then-branch-gt0-clause-all g c told =
     let honest = g.met.R.Rack.honest old.rack told_old in
     let honest_new = g.met.R.Rack.honest c.len.new.self (c.in_ok-len.ensures.looks.tells ∙ told_old) in
     all_then (g.R.Rack.disk c.args.rack.now) (g.R.Rack.disk old.rack) (g.R.Rack.disk c.len.new.self) honest honest_new (old.invariant.all told)
-        (run_look (g.R.Rack.disk old.rack) (g.R.Rack.disk c.len.new.self) honest honest_new (c.in_ok-len.ensures.looks.looks told_old))
+    (run_look (g.R.Rack.disk old.rack) (g.R.Rack.disk c.len.new.self) honest honest_new (c.in_ok-len.ensures.looks.looks told_old))
 
 pub loop-file-preserved : goal.loop-file-preserved
 loop-file-preserved g c =
@@ -34,7 +34,7 @@ loop-file-preserved g c =
           let honest = g.met.R.Rack.honest old.rack told_old in
           let honest_new = g.met.R.Rack.honest c.len.new.self (c.in_ok-len.ensures.looks.tells ∙ told_old) in
           all_then (g.R.Rack.disk c.args.rack.now) (g.R.Rack.disk old.rack) (g.R.Rack.disk c.len.new.self) honest honest_new (old.invariant.all told)
-              (run_look (g.R.Rack.disk old.rack) (g.R.Rack.disk c.len.new.self) honest honest_new (c.in_ok-len.ensures.looks.looks told_old));
+          (run_look (g.R.Rack.disk old.rack) (g.R.Rack.disk c.len.new.self) honest honest_new (c.in_ok-len.ensures.looks.looks told_old));
       tells = c.in_ok-len.ensures.looks.tells ∙ old.invariant.tells;
       later = omega (arith, old.invariant.later, c.in_ok-len.ensures.faults.cause.later);
     }

@@ -1,4 +1,4 @@
-use Rattle.std.proofs.Common.{◌≡◌, ◌<◌, ◌≤◌, ◌∙◌, ℕ, ap, sym, subst, arith, map, []}
+use Rattle.std.proofs.Common.{◌∙◌, ap, sym, arith, map}
 use Rattle.std.specs.Prelude.{reverse}
 use Rattle.std.proofs.lemmas.List.{reverse-reverse}
 use Rattle.process_disk.specs.Disk.{file_of}
@@ -12,7 +12,7 @@ pub create-requires-clause-empty : goal.create-requires-clause-empty
 create-requires-clause-empty g c told =
     let told_old = sym c.in-Ok-None.ensures.tells ∙ told in
     ap (λ fs. file_of fs 0) (c.in-Ok-None.ensures.all told_old).read
-        ∙ none_used 9 0 (g.R.Rack.disk c.args.rack.now).files (sym (c.in-Ok-None.ensures.found told_old) ∙ c.in-Ok-None.field-0-is) 0 (omega arith) (omega arith)
+    ∙ none_used 9 0 (g.R.Rack.disk c.args.rack.now).files (sym (c.in-Ok-None.ensures.found told_old) ∙ c.in-Ok-None.field-0-is) 0 (omega arith) (omega arith)
 
 pub make_stores-requires-clause-parted : goal.make_stores-requires-clause-parted
 make_stores-requires-clause-parted g c =
@@ -24,8 +24,8 @@ make_stores-requires-clause-empty g c told k from within =
     let told_first = sym c.in-Ok-create.ensures.tells ∙ told in
     let told_old = sym c.in-Ok-None.ensures.tells ∙ told_first in
     (c.in-Ok-create.ensures.others told_first).read.others k (λ same. absurd (omega (arith, same, from)))
-        ∙ ap (λ fs. file_of fs k) (c.in-Ok-None.ensures.all told_old).read
-        ∙ none_used 9 0 (g.R.Rack.disk c.args.rack.now).files (sym (c.in-Ok-None.ensures.found told_old) ∙ c.in-Ok-None.field-0-is) k (omega arith) (omega (arith, within))
+    ∙ ap (λ fs. file_of fs k) (c.in-Ok-None.ensures.all told_old).read
+    ∙ none_used 9 0 (g.R.Rack.disk c.args.rack.now).files (sym (c.in-Ok-None.ensures.found told_old) ∙ c.in-Ok-None.field-0-is) k (omega arith) (omega (arith, within))
 
 pub returns-in-Ok-make_stores-clause-stand : goal.returns-in-Ok-make_stores-clause-stand
 returns-in-Ok-make_stores-clause-stand g c told =
@@ -35,8 +35,8 @@ returns-in-Ok-make_stores-clause-stand g c told =
     let stands = c.in-Ok-create.ensures.stands told_first in
     let made = c.in-Ok-make_stores.ensures in
     stand_unused c.calls_make_good_books.ensures.create c.args.catalog.now journal c.in-Ok-make_stores.stores.items (g.R.Rack.disk c.make_stores.new.rack) stands.history
-        (made.journal told_made journal (journal_bodies c.args.catalog.now no_history) c.in-Ok-create.ensures.journal.0 stands.log)
-        (made.stand told_made) made.unused
+    (made.journal told_made journal (journal_bodies c.args.catalog.now no_history) c.in-Ok-create.ensures.journal.0 stands.log)
+    (made.stand told_made) made.unused
 
 pub returns-in-Ok-make_stores-clause-empty : goal.returns-in-Ok-make_stores-clause-empty
 returns-in-Ok-make_stores-clause-empty g c told = sym (c.in-Ok-None.ensures.found told) ∙ c.in-Ok-None.field-0-is

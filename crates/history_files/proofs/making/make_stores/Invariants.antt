@@ -1,8 +1,5 @@
-use Rattle.std.proofs.Common.{◌≡◌, ◌≤◌, ◌<◌, ◌+◌, ℕ, List, [], length, None, vec_len, vec_capacity}
-use Rattle.process_disk.specs.Disk.{Told, file_of}
-use Rattle.process_disk.specs.Images.{ImagesFollow}
-use Rattle.gate_log.specs.Standing.{LogState, StandsFor}
-use Rattle.subsystem_store.specs.Opened.{Stands}
+use Rattle.std.proofs.Common.{◌≡◌, ◌≤◌, ◌+◌, [], None, vec_len, vec_capacity}
+use Rattle.process_disk.specs.Disk.{Told}
 use Rattle.history_files.specs.Boxes.{AreParted}
 use Rattle.history_files.specs.Standing.{AtEach, EachFits}
 use Rattle.history_files.proofs.MadeStores.{Made}

@@ -1,6 +1,6 @@
 use Rattle.std.proofs.Common.{◌≡◌, ◌∙◌, ◌+◌, ap, sym, subst, arith, length, [], ◌∷◌, ◌++◌}
 use Rattle.process_disk.proofs.Images.{all_then}
-use Rattle.subsystem_store.specs.Opened.{Opened, Fits, account_of}
+use Rattle.subsystem_store.specs.Opened.{Fits, account_of}
 use Rattle.history_files.specs.Boxes.{AreParted}
 use Rattle.history_files.specs.Opening.{of_store_error}
 use Rattle.history_files.specs.Sound.{kind_of}
@@ -32,11 +32,11 @@ loop-resource-preserved g c =
           let told_new = made.tells ∙ told_old in
           let kind = last_of_more (λ q s. s.kind ≡ kind_of q) old.stores.items store (kinds_in_place sort (old.stores.items ++ store ∷ []) c.pop.new.self.items parted) in
           subst (Read (g.R.Rack.disk c.args.rack.now) (g.R.Rack.disk c.open.new.rack)) (sym pushed)
-              (read_more (g.R.Rack.disk c.args.rack.now) (g.R.Rack.disk old.rack) (g.R.Rack.disk c.open.new.rack) old.stores.items store
-                  (g.met.R.Rack.honest old.rack told_old) (g.met.R.Rack.honest c.open.new.rack told_new) old.invariant.files (old.invariant.told told)
-                  (made.all told_old) (made.stands told_old)
-                  (read_next (g.R.Rack.disk c.args.rack.now) (g.R.Rack.disk old.rack) (length old.stores.items) (c.len.result + 1) (sort c.in-Some.resource) (record { book = store.book; doubt = store.doubt })
-                      (old.invariant.told told).all (sym made.store.1 ∙ kind) same (made.answer told_old)));
+          (read_more (g.R.Rack.disk c.args.rack.now) (g.R.Rack.disk old.rack) (g.R.Rack.disk c.open.new.rack) old.stores.items store
+          (g.met.R.Rack.honest old.rack told_old) (g.met.R.Rack.honest c.open.new.rack told_new) old.invariant.files (old.invariant.told told)
+          (made.all told_old) (made.stands told_old)
+          (read_next (g.R.Rack.disk c.args.rack.now) (g.R.Rack.disk old.rack) (length old.stores.items) (c.len.result + 1) (sort c.in-Some.resource) (record { book = store.book; doubt = store.doubt })
+          (old.invariant.told told).all (sym made.store.1 ∙ kind) same (made.answer told_old)));
       tells = made.tells ∙ old.invariant.tells;
       later = omega (arith, old.invariant.later, made.later);
     }
@@ -52,7 +52,7 @@ returns-in-Err-clause-all g c told =
     let old = c.loop-resource in
     let told_old = old.invariant.tells ∙ told in
     all_then (g.R.Rack.disk c.args.rack.now) (g.R.Rack.disk old.rack) (g.R.Rack.disk c.open.new.rack) (g.met.R.Rack.honest old.rack told_old) (g.met.R.Rack.honest c.open.new.rack (c.in-Err.ensures.tells ∙ told_old))
-        (old.invariant.told told).all (c.in-Err.ensures.all told_old)
+    (old.invariant.told told).all (c.in-Err.ensures.all told_old)
 
 pub returns-clause-stores : goal.returns-clause-stores
 returns-clause-stores g c =

@@ -1,4 +1,4 @@
-use Rattle.std.proofs.Common.{◌≡◌, ◌∙◌, ap, sym, subst, arith, map}
+use Rattle.std.proofs.Common.{◌≡◌, ◌∙◌, ap, subst, arith, map}
 use Rattle.std.specs.Prelude.{reverse, Ok}
 use Rattle.std.proofs.lemmas.List.{reverse-reverse}
 use Rattle.process_disk.proofs.Images.{all_then, others_of_all}
@@ -37,12 +37,12 @@ pub returns-in-Ok-open_stores-clause-all : goal.returns-in-Ok-open_stores-clause
 returns-in-Ok-open_stores-clause-all g c told =
     let told_mid = c.in-Ok-open.ensures.tells ∙ told in
     all_then (g.R.Rack.disk c.args.rack.now) (g.R.Rack.disk c.open.new.rack) (g.R.Rack.disk c.open_stores.new.rack)
-        (g.met.R.Rack.honest c.open.new.rack told_mid) (g.met.R.Rack.honest c.open_stores.new.rack (c.in-Ok-open_stores.ensures.tells ∙ told_mid))
-        (c.in-Ok-open.ensures.all told) (c.in-Ok-open_stores.ensures.all told_mid)
+    (g.met.R.Rack.honest c.open.new.rack told_mid) (g.met.R.Rack.honest c.open_stores.new.rack (c.in-Ok-open_stores.ensures.tells ∙ told_mid))
+    (c.in-Ok-open.ensures.all told) (c.in-Ok-open_stores.ensures.all told_mid)
 
 pub returns-in-Err-open_stores-clause-all : goal.returns-in-Err-open_stores-clause-all
 returns-in-Err-open_stores-clause-all g c told =
     let told_mid = c.in-Ok-open.ensures.tells ∙ told in
     all_then (g.R.Rack.disk c.args.rack.now) (g.R.Rack.disk c.open.new.rack) (g.R.Rack.disk c.open_stores.new.rack)
-        (g.met.R.Rack.honest c.open.new.rack told_mid) (g.met.R.Rack.honest c.open_stores.new.rack (c.in-Err-open_stores.ensures.tells ∙ told_mid))
-        (c.in-Ok-open.ensures.all told) (c.in-Err-open_stores.ensures.all told_mid)
+    (g.met.R.Rack.honest c.open.new.rack told_mid) (g.met.R.Rack.honest c.open_stores.new.rack (c.in-Err-open_stores.ensures.tells ∙ told_mid))
+    (c.in-Ok-open.ensures.all told) (c.in-Err-open_stores.ensures.all told_mid)

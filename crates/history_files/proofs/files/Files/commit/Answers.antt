@@ -1,12 +1,12 @@
-use Rattle.std.proofs.Common.{rules, ◌≡◌, ℕ, Some, true, refl, sym, ◌∙◌, ap, subst, arith, OnOk}
+use Rattle.std.proofs.Common.{◌≡◌, Some, true, sym, ◌∙◌, ap, subst, OnOk}
 use Rattle.std.specs.Prelude.{slice_set, IsSome}
 use Rattle.std.specs.List.{slice_get}
 use Rattle.process_disk.specs.Disk.{Told}
-use Rattle.process_disk.specs.Images.{EachImage, ImagesFollow}
+use Rattle.process_disk.specs.Images.{EachImage}
 use Rattle.schedule_model.specs.declared.history.History.{History}
 use Rattle.commute_table.specs.declared.catalog.Catalog.{Catalog}
 use Rattle.history_files.specs.Sound.{IsSound}
-use Rattle.history_files.specs.Standing.{FilesState, AreStores, Stand, EachFits, DoubtIs}
+use Rattle.history_files.specs.Standing.{AreStores, Stand, EachFits, DoubtIs}
 use Rattle.history_files.proofs.Committing.{images_of_commit, stands_with_commit}
 use Rattle.history_files.proofs.Places.{set_each, at_place}
 use Rattle.subsystem_store.specs.Opened.{Fits, account_of}
@@ -29,10 +29,13 @@ commit-requires-clause-stands g c =
 pub invariant_of-self : goal.invariant_of-self
 invariant_of-self g c =
     let at = at_place c.self.inside.stores.items c.args.q c.from.result c.index_mut.result.now c.from.ensures c.self.invariant.0.eight c.requires.subsystem c.index_mut.ensures.value in
-    let are = c.self.invariant.0 in
-    (subst (λ r. AreStores (slice_set c.self.inside.stores.items r c.commit.new.self)) (sym c.from.ensures)
-        (stores_with_store c.self.inside.stores.items c.args.q c.commit.new.self are (c.commit.ensures.same.0 ∙ are.file c.args.q c.index_mut.result.now at) (c.commit.ensures.same.1 ∙ are.kind c.args.q c.index_mut.result.now at)),
-      c.self.invariant.1, c.self.invariant.2, c.self.invariant.3)
+    let are = c.self.invariant.0 in (
+      subst (λ r. AreStores (slice_set c.self.inside.stores.items r c.commit.new.self)) (sym c.from.ensures)
+          (stores_with_store c.self.inside.stores.items c.args.q c.commit.new.self are (c.commit.ensures.same.0 ∙ are.file c.args.q c.index_mut.result.now at) (c.commit.ensures.same.1 ∙ are.kind c.args.q c.index_mut.result.now at)),
+      c.self.invariant.1,
+      c.self.invariant.2,
+      c.self.invariant.3,
+    )
 
 pub returns-clause-acknowledged : goal.returns-clause-acknowledged
 returns-clause-acknowledged g c =
@@ -40,11 +43,11 @@ returns-clause-acknowledged g c =
     let at = at_place c.self.inside.stores.items c.args.q c.from.result c.index_mut.result.now c.from.ensures c.self.invariant.0.eight c.requires.subsystem c.index_mut.ensures.value in
     let some = subst (λ f. (s : _) → slice_get f.stores q ≡ Some s → IsSome s.doubt) (sym c.self.view_is) c.requires.doubt c.index_mut.result.now at in
     subst (λ f. Told (g.R.Rack.disk f.rack) → (c' : Catalog) (h : History) → Stand c' h f.journal f.stores (g.R.Rack.disk f.rack) → DoubtIs true c'.ops h q f.stores → OnOk c.commit.result (Stand c' h c.self.inside.journal (slice_set c.self.inside.stores.items c.from.result c.commit.new.self) (g.R.Rack.disk c.commit.new.rack)))
-        c.self.view_is
-        (λ told c' h stand due. OnOk-both (λ commits stands. subst (λ r. Stand c' h c.self.inside.journal (slice_set c.self.inside.stores.items r c.commit.new.self) (g.R.Rack.disk c.commit.new.rack)) (sym c.from.ensures)
-            (stands_with_commit c.calls_make_good_books.ensures.commit c' h c.self.inside.journal c.self.inside.stores.items (g.R.Rack.disk c.self.inside.rack) (g.R.Rack.disk c.commit.new.rack) q c.index_mut.result.now c.commit.new.self
-            (g.met.R.Rack.honest c.self.inside.rack told) (g.met.R.Rack.honest c.commit.new.rack (c.commit.ensures.tells ∙ told)) c.self.invariant.0 c.self.invariant.1 stand at some due (c.commit.ensures.others told) c.commit.ensures.same.1 commits stands))
-            c.commit.result c.commit.ensures.ok (c.commit.ensures.acknowledged told))
+    c.self.view_is
+    (λ told c' h stand due. OnOk-both (λ commits stands. subst (λ r. Stand c' h c.self.inside.journal (slice_set c.self.inside.stores.items r c.commit.new.self) (g.R.Rack.disk c.commit.new.rack)) (sym c.from.ensures)
+    (stands_with_commit c.calls_make_good_books.ensures.commit c' h c.self.inside.journal c.self.inside.stores.items (g.R.Rack.disk c.self.inside.rack) (g.R.Rack.disk c.commit.new.rack) q c.index_mut.result.now c.commit.new.self
+    (g.met.R.Rack.honest c.self.inside.rack told) (g.met.R.Rack.honest c.commit.new.rack (c.commit.ensures.tells ∙ told)) c.self.invariant.0 c.self.invariant.1 stand at some due (c.commit.ensures.others told) c.commit.ensures.same.1 commits stands))
+    c.commit.result c.commit.ensures.ok (c.commit.ensures.acknowledged told))
 
 pub returns-clause-any_moment : goal.returns-clause-any_moment
 returns-clause-any_moment g c =
@@ -52,15 +55,15 @@ returns-clause-any_moment g c =
     let at = at_place c.self.inside.stores.items c.args.q c.from.result c.index_mut.result.now c.from.ensures c.self.invariant.0.eight c.requires.subsystem c.index_mut.ensures.value in
     let some = subst (λ f. (s : _) → slice_get f.stores q ≡ Some s → IsSome s.doubt) (sym c.self.view_is) c.requires.doubt c.index_mut.result.now at in
     subst (λ f. Told (g.R.Rack.disk f.rack) → (c' : Catalog) (h : History) → Stand c' h f.journal f.stores (g.R.Rack.disk f.rack) → DoubtIs true c'.ops h q f.stores → EachImage (g.R.Rack.disk c.commit.new.rack) (g.R.Rack.disk f.rack).moment (IsSound c' h))
-        c.self.view_is
-        (λ told c' h stand due. images_of_commit c.calls_make_good_books.ensures.commit c' h c.self.inside.journal c.self.inside.stores.items (g.R.Rack.disk c.self.inside.rack) (g.R.Rack.disk c.commit.new.rack) q c.index_mut.result.now
-            (g.met.R.Rack.honest c.self.inside.rack told) c.self.invariant.0 c.self.invariant.1 stand at some due (c.commit.ensures.others told) (c.commit.ensures.any_moment told))
+    c.self.view_is
+    (λ told c' h stand due. images_of_commit c.calls_make_good_books.ensures.commit c' h c.self.inside.journal c.self.inside.stores.items (g.R.Rack.disk c.self.inside.rack) (g.R.Rack.disk c.commit.new.rack) q c.index_mut.result.now
+    (g.met.R.Rack.honest c.self.inside.rack told) c.self.invariant.0 c.self.invariant.1 stand at some due (c.commit.ensures.others told) (c.commit.ensures.any_moment told))
 
 pub returns-clause-fits : goal.returns-clause-fits
 returns-clause-fits g c =
     subst (λ r. EachFits g.B.Resource.meaning g.B.Resource.sort (slice_set c.self.inside.stores.items r c.commit.new.self)) (sym c.from.ensures)
-        (set_each (λ k s. Fits g.B.Resource.meaning g.B.Resource.sort (account_of s)) c.self.inside.stores.items c.args.q c.commit.new.self c.commit.ensures.fits
-            (λ k s other at. subst (λ f. EachFits g.B.Resource.meaning g.B.Resource.sort f.stores) (sym c.self.view_is) c.requires.fits k s at))
+    (set_each (λ k s. Fits g.B.Resource.meaning g.B.Resource.sort (account_of s)) c.self.inside.stores.items c.args.q c.commit.new.self c.commit.ensures.fits
+    (λ k s other at. subst (λ f. EachFits g.B.Resource.meaning g.B.Resource.sort f.stores) (sym c.self.view_is) c.requires.fits k s at))
 
 pub returns-clause-ok : goal.returns-clause-ok
 returns-clause-ok g c =

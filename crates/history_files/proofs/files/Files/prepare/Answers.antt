@@ -1,8 +1,8 @@
-use Rattle.std.proofs.Common.{◌≡◌, ◌≢◌, ◌<◌, length, None, true, ℕ, Some, false, refl, sym, ◌∙◌, ap, subst, arith, OnOk}
-use Rattle.std.specs.Prelude.{slice_set, IsSome}
+use Rattle.std.proofs.Common.{◌≡◌, ◌≢◌, ◌<◌, length, None, true, Some, false, sym, ◌∙◌, ap, subst}
+use Rattle.std.specs.Prelude.{slice_set}
 use Rattle.std.specs.List.{slice_get}
 use Rattle.process_disk.specs.Disk.{Told}
-use Rattle.process_disk.specs.Images.{EachImage, ImagesFollow}
+use Rattle.process_disk.specs.Images.{EachImage}
 use Rattle.schedule_model.specs.declared.history.History.{History}
 use Rattle.commute_table.specs.declared.catalog.Catalog.{Catalog}
 use Rattle.std.specs.Prelude.{◌↔◌, unwrap_or}
@@ -10,8 +10,8 @@ use Rattle.subsystem_store.specs.Order.{may_follow}
 use Rattle.subsystem_store.specs.declared.errors.Prepare.TheVariants.{Barred, DiskFault as Fault}
 use Rattle.history_files.specs.Effects.{effects}
 use Rattle.history_files.specs.Sound.{IsSound, is_among, is_barred}
-use Rattle.history_files.specs.Standing.{FilesState, AreStores, Stand, EachFits, DoubtIs}
-use Rattle.history_files.proofs.Preparing.{MayCome, images_of_prepare, stands_with_prepare}
+use Rattle.history_files.specs.Standing.{AreStores, Stand, EachFits}
+use Rattle.history_files.proofs.Preparing.{images_of_prepare, stands_with_prepare}
 use Rattle.history_files.proofs.Places.{set_each, at_place}
 use Rattle.subsystem_store.specs.Opened.{Opened, Fits, account_of}
 use Rattle.history_files.proofs.OneStore.{stores_with_store}
@@ -54,10 +54,13 @@ prepare-requires-clause-stands g c =
 pub invariant_of-self : goal.invariant_of-self
 invariant_of-self g c =
     let at = at_place c.self.inside.stores.items c.args.q c.from.result c.index_mut.result.now c.from.ensures c.self.invariant.0.eight c.requires.subsystem c.index_mut.ensures.value in
-    let are = c.self.invariant.0 in
-    (subst (λ r. AreStores (slice_set c.self.inside.stores.items r c.prepare.new.self)) (sym c.from.ensures)
-        (stores_with_store c.self.inside.stores.items c.args.q c.prepare.new.self are (c.prepare.ensures.same.0 ∙ are.file c.args.q c.index_mut.result.now at) (c.prepare.ensures.same.1 ∙ are.kind c.args.q c.index_mut.result.now at)),
-      c.self.invariant.1, c.self.invariant.2, c.self.invariant.3)
+    let are = c.self.invariant.0 in (
+      subst (λ r. AreStores (slice_set c.self.inside.stores.items r c.prepare.new.self)) (sym c.from.ensures)
+          (stores_with_store c.self.inside.stores.items c.args.q c.prepare.new.self are (c.prepare.ensures.same.0 ∙ are.file c.args.q c.index_mut.result.now at) (c.prepare.ensures.same.1 ∙ are.kind c.args.q c.index_mut.result.now at)),
+      c.self.invariant.1,
+      c.self.invariant.2,
+      c.self.invariant.3,
+    )
 
 pub returns-clause-acknowledged : goal.returns-clause-acknowledged
 returns-clause-acknowledged g c =
@@ -65,15 +68,15 @@ returns-clause-acknowledged g c =
     let at = at_place c.self.inside.stores.items c.args.q c.from.result c.index_mut.result.now c.from.ensures c.self.invariant.0.eight c.requires.subsystem c.index_mut.ensures.value in
     let may = subst (λ f. (s : _) → slice_get f.stores q ≡ Some s → (s.doubt ≡ None) × (length s.book < 16384) × (may_follow s.kind s.book c.args.effect ≡ true)) (sym c.self.view_is) c.requires.may_come c.index_mut.result.now at in
     subst (λ f. Told (g.R.Rack.disk f.rack) → (c' : Catalog) (h : History) → Stand c' h f.journal f.stores (g.R.Rack.disk f.rack) → is_among c.args.effect (effects c'.ops h q) ≡ false → c.prepare.result ≢ Fault →
-            Stand c' h c.self.inside.journal (slice_set c.self.inside.stores.items c.from.result c.prepare.new.self) (g.R.Rack.disk c.prepare.new.rack))
-        c.self.view_is
-        (λ told c' h stand lacks sound. subst (λ r. Stand c' h c.self.inside.journal (slice_set c.self.inside.stores.items r c.prepare.new.self) (g.R.Rack.disk c.prepare.new.rack)) (sym c.from.ensures)
-            (stands_with_prepare c.calls_make_good_books.ensures.prepare c' h c.self.inside.journal c.self.inside.stores.items (g.R.Rack.disk c.self.inside.rack) (g.R.Rack.disk c.prepare.new.rack) q c.index_mut.result.now c.prepare.new.self c.args.effect
-            (g.met.R.Rack.honest c.self.inside.rack told) (g.met.R.Rack.honest c.prepare.new.rack (c.prepare.ensures.tells ∙ told)) c.self.invariant.0 c.self.invariant.1 stand at lacks
-            (record { settled = may.0; few = may.1; follows = may.2; fits = c.effects_fit_their_bytes.ensures })
-            (c.prepare.ensures.others told) c.prepare.ensures.same.1 c.prepare.ensures.same.2
-            (doubts_one c.prepare.result c.args.effect _ c.prepare.ensures.doubt)
-            (stands_after g.R.Rack.disk c.self.inside.rack c.prepare.new.rack c.index_mut.result.now c.prepare.new.self c.prepare.result c.args.effect may.0 ((stand.stores q c.index_mut.result.now at)) c.prepare.ensures.same.2 c.prepare.ensures.doubt c.prepare.ensures.untouched (c.prepare.ensures.acknowledged told) sound)))
+    Stand c' h c.self.inside.journal (slice_set c.self.inside.stores.items c.from.result c.prepare.new.self) (g.R.Rack.disk c.prepare.new.rack))
+    c.self.view_is
+    (λ told c' h stand lacks sound. subst (λ r. Stand c' h c.self.inside.journal (slice_set c.self.inside.stores.items r c.prepare.new.self) (g.R.Rack.disk c.prepare.new.rack)) (sym c.from.ensures)
+    (stands_with_prepare c.calls_make_good_books.ensures.prepare c' h c.self.inside.journal c.self.inside.stores.items (g.R.Rack.disk c.self.inside.rack) (g.R.Rack.disk c.prepare.new.rack) q c.index_mut.result.now c.prepare.new.self c.args.effect
+    (g.met.R.Rack.honest c.self.inside.rack told) (g.met.R.Rack.honest c.prepare.new.rack (c.prepare.ensures.tells ∙ told)) c.self.invariant.0 c.self.invariant.1 stand at lacks
+    (record { settled = may.0; few = may.1; follows = may.2; fits = c.effects_fit_their_bytes.ensures })
+    (c.prepare.ensures.others told) c.prepare.ensures.same.1 c.prepare.ensures.same.2
+    (doubts_one c.prepare.result c.args.effect _ c.prepare.ensures.doubt)
+    (stands_after g.R.Rack.disk c.self.inside.rack c.prepare.new.rack c.index_mut.result.now c.prepare.new.self c.prepare.result c.args.effect may.0 ((stand.stores q c.index_mut.result.now at)) c.prepare.ensures.same.2 c.prepare.ensures.doubt c.prepare.ensures.untouched (c.prepare.ensures.acknowledged told) sound)))
 
 pub returns-clause-any_moment : goal.returns-clause-any_moment
 returns-clause-any_moment g c =
@@ -81,17 +84,17 @@ returns-clause-any_moment g c =
     let at = at_place c.self.inside.stores.items c.args.q c.from.result c.index_mut.result.now c.from.ensures c.self.invariant.0.eight c.requires.subsystem c.index_mut.ensures.value in
     let may = subst (λ f. (s : _) → slice_get f.stores q ≡ Some s → (s.doubt ≡ None) × (length s.book < 16384) × (may_follow s.kind s.book c.args.effect ≡ true)) (sym c.self.view_is) c.requires.may_come c.index_mut.result.now at in
     subst (λ f. Told (g.R.Rack.disk f.rack) → (c' : Catalog) (h : History) → Stand c' h f.journal f.stores (g.R.Rack.disk f.rack) → is_among c.args.effect (effects c'.ops h q) ≡ false → EachImage (g.R.Rack.disk c.prepare.new.rack) (g.R.Rack.disk f.rack).moment (IsSound c' h))
-        c.self.view_is
-        (λ told c' h stand lacks. images_of_prepare c.calls_make_good_books.ensures.prepare c' h c.self.inside.journal c.self.inside.stores.items (g.R.Rack.disk c.self.inside.rack) (g.R.Rack.disk c.prepare.new.rack) q c.index_mut.result.now c.args.effect
-            (g.met.R.Rack.honest c.self.inside.rack told) c.self.invariant.0 c.self.invariant.1 stand at lacks
-            (record { settled = may.0; few = may.1; follows = may.2; fits = c.effects_fit_their_bytes.ensures })
-            (c.prepare.ensures.others told) (c.prepare.ensures.any_moment told))
+    c.self.view_is
+    (λ told c' h stand lacks. images_of_prepare c.calls_make_good_books.ensures.prepare c' h c.self.inside.journal c.self.inside.stores.items (g.R.Rack.disk c.self.inside.rack) (g.R.Rack.disk c.prepare.new.rack) q c.index_mut.result.now c.args.effect
+    (g.met.R.Rack.honest c.self.inside.rack told) c.self.invariant.0 c.self.invariant.1 stand at lacks
+    (record { settled = may.0; few = may.1; follows = may.2; fits = c.effects_fit_their_bytes.ensures })
+    (c.prepare.ensures.others told) (c.prepare.ensures.any_moment told))
 
 pub returns-clause-fits : goal.returns-clause-fits
 returns-clause-fits g c =
     subst (λ r. EachFits g.B.Resource.meaning g.B.Resource.sort (slice_set c.self.inside.stores.items r c.prepare.new.self)) (sym c.from.ensures)
-        (set_each (λ k s. Fits g.B.Resource.meaning g.B.Resource.sort (account_of s)) c.self.inside.stores.items c.args.q c.prepare.new.self c.prepare.ensures.fits
-            (λ k s other at. subst (λ f. EachFits g.B.Resource.meaning g.B.Resource.sort f.stores) (sym c.self.view_is) c.requires.fits k s at))
+    (set_each (λ k s. Fits g.B.Resource.meaning g.B.Resource.sort (account_of s)) c.self.inside.stores.items c.args.q c.prepare.new.self c.prepare.ensures.fits
+    (λ k s other at. subst (λ f. EachFits g.B.Resource.meaning g.B.Resource.sort f.stores) (sym c.self.view_is) c.requires.fits k s at))
 
 pub returns-clause-changes : goal.returns-clause-changes
 returns-clause-changes g c =
