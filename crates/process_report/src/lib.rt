@@ -2,7 +2,7 @@
 //!
 //! `specs/Report` says what is printed of a catalog, a history and the causes of a session: seven sections, each a title and lines.
 //! `specs/Lines` has the words of each line, and `specs/Names` the names that stand for numbers. `report` answers that text, and
-//! `blocked_text` what a piece waits on (`specs/Blocks`). What a history means is `schedule_model`'s, and `docs/FORMATS.md` has the
+//! `blocked_text` what a piece waits on (`specs/Blocks`). What names a step on a line, and a line of words, is offered to the layers above. What a history means is `schedule_model`'s, and `docs/FORMATS.md` has the
 //! format. Reading a report is no work of this crate; `printed_reports_are_accepted` carries that `verify` of `trace_verify` accepts what
 //! is printed.
 #![tactic(auto)]
@@ -18,8 +18,10 @@ mod names;
 mod printing;
 mod steps;
 
-pub use blocks::blocked_text;
+pub use blocks::{blocked_text, place_word};
 pub use laws::printed_reports_are_accepted;
+pub use lines::put_line;
+pub use names::step_name;
 pub use printing::{report, report_of};
 
 #[cfg(test)]

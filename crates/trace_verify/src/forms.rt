@@ -11,8 +11,8 @@ use schedule_model::TraceStep;
 
 const MOST: u64 = 4294967295;
 
-// The number that a word writes.
-fn number_of(word: &[u8]) -> Option<u32>
+/// The number that a word writes, if it is at most 4,294,967,295.
+pub fn number_of(word: &[u8]) -> Option<u32>
     ensures { result ≡ number_of word.now }
 {
     match number(word, MOST) {

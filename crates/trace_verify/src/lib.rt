@@ -18,6 +18,8 @@ mod report;
 mod section;
 mod verdict;
 
+pub use cutting::cut;
+pub use forms::number_of;
 pub use laws::{acceptance_is_exact, numbers_are_names, verdicts_mean};
 pub use verdict::{Verified, verify};
 

@@ -1,0 +1,5 @@
+pub mod Forms
+pub mod Sessions
+pub mod Answers
+pub mod Examples
+mod AnswerExamples

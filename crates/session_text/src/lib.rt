@@ -1,0 +1,16 @@
+//! The language of sessions: the lines that a session reads, and those that it prints.
+//!
+//! `specs/Sessions` says how a text is divided into a scenario and event lines and what these say, line by line, or which line is the
+//! first that has no form; `specs/Forms` has the form of each line. `divide` and `read_lines` answer that. `specs/Answers`
+//! has the line of each answer of the machine, and the functions of `answers` write these. What a line does, and which answer is due, is
+//! no question of this crate.
+#![tactic(auto)]
+
+mod answers;
+mod forms;
+mod line;
+mod reading;
+
+pub use answers::{put_block, put_exhausted, put_number, put_piece};
+pub use line::{Line, LinesError};
+pub use reading::{Divided, divide, read_lines};
