@@ -1,5 +1,5 @@
 -- Worked examples in which processes go back, are refused or are cut off: their reports, computed.
-use Rattle.std.specs.Prelude.{◌≡◌, List, [], ◌∷◌, ◌++◌, Vec, codes, refl}
+use Rattle.std.specs.Prelude.{◌≡◌, [], ◌∷◌, ◌++◌, Vec, codes, refl}
 use Rattle.std.specs.Fmt.{digits}
 use Rattle.std.specs.declared.alloc.Global.{Global}
 use Rattle.process_tree.specs.declared.step.StepKind.TheVariants.{C, P, R}
