@@ -1,4 +1,4 @@
-use Rattle.std.proofs.Common.{◌≡◌, ◌++◌, ◌∷◌, [], false, inr, ⊎_elim, refl, sym, ap, ◌∙◌, subst}
+use Rattle.std.proofs.Common.{◌≡◌, ◌++◌, ◌∷◌, [], false, inr, ⊎_elim, refl, sym, ◌∙◌, subst}
 use Rattle.process_tree.specs.Conflicts.{do_conflict}
 use Rattle.schedule_model.specs.Course.{courses_of}
 use Rattle.schedule_model.specs.Legal.{may_come}

@@ -1,10 +1,9 @@
-use Rattle.std.proofs.Common.{◌≡◌, ◌++◌, ◌∷◌, [], false, inr, ⊎_elim, refl, sym, ap, ◌∙◌, subst}
+use Rattle.std.proofs.Common.{◌≡◌, ◌++◌, ◌∷◌, [], false, inr, ⊎_elim, refl, sym, ◌∙◌, subst}
 use Rattle.process_tree.specs.Conflicts.{do_conflict}
 use Rattle.schedule_model.specs.declared.event.Event.TheVariants.{Start}
 use Rattle.schedule_model.specs.Course.{courses_of}
 use Rattle.schedule_model.specs.Legal.{may_come}
 use Rattle.history_judging.specs.Keeping.{IsJudged}
-use Rattle.process_journal.specs.Replays.{IsReplayed}
 use Rattle.process_journal.proofs.Replaying.{judged_before, process_starts, replayed-alike, not_legal, not_within, not_memory}
 use Rattle.process_journal.proofs.replay.Replay.with_process.Goals as goal
 
