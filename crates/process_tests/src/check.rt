@@ -179,19 +179,14 @@ fn texts_are_checked(rt: HostRuntime) -> Result<(), Fail> {
     Ok(())
 }
 
+const BAD_WORDS: [&[&str]; 3] = [&[], &["chec"], &["check", "check"]];
+
 #[test]
 fn other_words_are_bad(rt: HostRuntime) -> Result<(), Fail> {
     let text = b"process a c x add 1 5 end";
-    expect(&rt, rt.alloc(), &[], text, 1, b"bad words\n")?;
-    expect(&rt, rt.alloc(), &["chec"], text, 1, b"bad words\n")?;
-    expect(
-        &rt,
-        rt.alloc(),
-        &["check", "check"],
-        text,
-        1,
-        b"bad words\n",
-    )?;
+    for words in BAD_WORDS {
+        expect(&rt, rt.alloc(), words, text, 1, b"bad words\n")?;
+    }
     Ok(())
 }
 
@@ -238,31 +233,30 @@ fn limits_are_kept(rt: HostRuntime) -> Result<(), Fail> {
             status
         );
     }
-    expect(
-        &rt,
-        alloc,
-        &["check"],
-        &nested(alloc, 16)?,
-        0,
-        b"a: well-formed\n",
-    )?;
-    expect(
-        &rt,
-        alloc,
-        &["check"],
-        &nested(alloc, 17)?,
-        4,
-        b"limit nesting 17\n",
-    )?;
-    expect(&rt, alloc, &["check"], &blanks(alloc, 1048576)?, 0, b"")?;
-    expect(
-        &rt,
-        alloc,
-        &["check"],
-        &blanks(alloc, 1048577)?,
-        4,
-        b"limit input 1048577\n",
-    )?;
+    Ok(())
+}
+
+const DEPTHS: [(u32, u8, &[u8]); 2] = [
+    (16, 0, b"a: well-formed\n"),
+    (17, 4, b"limit nesting 17\n"),
+];
+
+const LENGTHS: [(usize, u8, &[u8]); 2] = [
+    (1048576, 0, b""),
+    (1048577, 4, b"limit input 1048577\n"),
+];
+
+#[test]
+fn choices_and_bytes_are_limited(rt: HostRuntime) -> Result<(), Fail> {
+    let alloc = rt.alloc();
+    for (depth, status, output) in DEPTHS {
+        let text = nested(alloc, depth)?;
+        expect(&rt, alloc, &["check"], &text, status, output)?;
+    }
+    for (length, status, output) in LENGTHS {
+        let text = blanks(alloc, length)?;
+        expect(&rt, alloc, &["check"], &text, status, output)?;
+    }
     Ok(())
 }
 
