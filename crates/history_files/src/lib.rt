@@ -1,4 +1,10 @@
 //! Nine files as one history: the journal, and the books of eight subsystems.
+//!
+//! `specs/Effects` says which effects a history has on a subsystem, `specs/Sound` which files are sound for a history, and
+//! `specs/Standing` for which history files stand. `Files` makes nine empty files stand for no history (`create`), and takes the
+//! steps of an event: an effect is prepared, the event is recorded, and the effect is committed or rolled back. Of each step a clause
+//! says what a crash within it leaves; `are_sound` leads from `Stand` to sound images. Which event comes next is decided by the
+//! layer above. What is read of nine files is not compared with their history yet, so there is no `open`.
 #![tactic(auto)]
 
 mod boxes;
