@@ -4,3 +4,4 @@ pub mod Reading
 pub mod Kept
 pub mod Places
 pub mod Walks
+pub mod Spare

@@ -11,11 +11,13 @@ ghost use Rattle.hold_tables.specs.Changes.{none_open, opened, changed, with_run
 ghost use Rattle.hold_tables.specs.Reading.{next_open, holder_against};
 ghost use Rattle.hold_tables.specs.Kept.{IsKnown, AreKnown, AreTidy};
 ghost use Rattle.hold_tables.specs.Places.{all_steps};
+ghost use Rattle.hold_tables.specs.Spare.{IsRoomIn};
 
 use crate::against::{Sought, least_of, least_reserved, least_running};
 use crate::looking::{all_steps, count_of, least_from, place_of, settle};
 use crate::reach::{MOST, Marks, renew};
 use crate::row::Row;
+use crate::spare::Spare;
 use process_tree::{Conflicts, Entry, Plan};
 use std::alloc::{AllocError, Global};
 use std::marker::Model;
@@ -64,17 +66,38 @@ impl Holds {
         ensures opened { OnOk result (self.new ≡ opened process (length (outline plan.now.tree).steps) self.old) }
         ensures err { OnErr result (self.new ≡ self.old) }
     {
+        let spare = self.spare(plan)?;
+        self.open_with(process, spare);
+        Ok(())
+    }
+
+    /// The room that a process of this plan needs in the tables as they are.
+    pub fn spare(&self, plan: &Plan) -> Result<Spare, AllocError>
+        ensures steps { IfOk result (λ spare. spare.steps ≡ length (outline plan.now.tree).steps) }
+        ensures room { IfOk result (λ spare. IsRoomIn self.now spare) }
+    {
         if self.rows.len() >= MOST {
             return Err(AllocError);
         }
         let steps = plan.tree.count();
-        let row = Row::new(self.alloc, process, steps)?;
-        take_room(&mut self.net, &mut self.rows, steps)?;
-        self.walks.reserve(1)?;
+        let room = room_with(&self.rows, steps)?;
+        let net = self.net.len().checked_add(room).ok_or(AllocError)?;
+        Spare::new(self.alloc, steps, net, self.rows.len() + 1)
+    }
+
+    /// A process begins to hold, in room that was taken for it.
+    pub fn open_with(&mut self, process: u32, spare: Spare)
+        requires closed { is_open self.old process ≡ false }
+        requires room { IsRoomIn self.old spare }
+        ensures { self.new ≡ opened process spare.steps self.old }
+    {
+        let row = Row::new(process, spare.steps, spare.reserved);
+        spare.net.give_to(&mut self.net);
+        spare.rows.give_to(&mut self.rows);
+        spare.walks.give_to(&mut self.walks);
         self.rows.push_reserved(row);
         self.walks.push_reserved([false; MOST]);
         renew(&mut self.walks, &self.conflicts, &self.rows, &self.net);
-        Ok(())
     }
 
     /// The entry comes under way in its process.
@@ -274,18 +297,6 @@ impl Holds {
         let running = least_running(&self.conflicts, sought, &self.rows, reserved);
         least_of(&self.conflicts, sought, &self.net, running)
     }
-}
-
-/// Takes the room for one process more, of so many steps.
-fn take_room(net: &mut Vec<Entry>, rows: &mut Vec<Row>, steps: u16) -> Result<(), AllocError>
-    ensures same { (net.new.items ≡ net.old.items) × (rows.new.items ≡ rows.old.items) }
-    ensures capacity { vec_capacity net.old ≤ vec_capacity net.new }
-    ensures net { OnOk result (length net.old.items + (all_steps rows.old.items + steps) ≤ vec_capacity net.new) }
-    ensures rows { OnOk result (vec_len rows.new < vec_capacity rows.new) }
-{
-    let room = room_with(rows, steps)?;
-    net.reserve(room)?;
-    rows.reserve(1)
 }
 
 /// The room that the net needs with a process of so many steps.

@@ -3,7 +3,8 @@
 //! `Holds` is seen as a record of plain lists (`Tables` of `specs`): the net entries of the open processes in joint order, and
 //! of each open process what is under way, what is reserved, how many of its entries are fixed and how many are pending. They
 //! stand for holdings of `schedule_model` (`holdings_of`), over which the blocking rules and the conflict graph are defined.
-//! Each call changes what it names and nothing else. `new` and `open` alone take memory.
+//! Each call changes what it names and nothing else. `new`, `open` and `spare` alone take memory: a `Spare` is the room for a
+//! process that opens later, by `open_with`.
 #![tactic(auto)]
 
 mod against;
@@ -11,8 +12,10 @@ mod holds;
 mod looking;
 mod reach;
 mod row;
+mod spare;
 
 pub use holds::Holds;
+pub use spare::{Spare, SpareCapacity};
 
 #[cfg(test)]
 mod tests;

@@ -1,10 +1,10 @@
 // What is kept of one open process.
-ghost use Rattle.std.specs.Prelude.{◌≡◌, ◌≤◌, length, IfOk, vec_capacity};
+ghost use Rattle.std.specs.Prelude.{◌≡◌, ◌≤◌, length, vec_capacity};
 ghost use Rattle.hold_tables.specs.Tables.{holds_nothing};
 ghost use Rattle.hold_tables.specs.Changes.{with_running, with_fixed, with_first_reserved, with_reserved, with_pending};
 
+use crate::spare::SpareCapacity;
 use process_tree::Entry;
-use std::alloc::{AllocError, Global};
 use std::marker::Model;
 
 /// An open process, with room for as many reserved steps as its plan has steps.
@@ -30,19 +30,19 @@ impl Model for Row {
 }
 
 impl Row {
-    pub fn new(alloc: Global, process: u32, steps: u16) -> Result<Row, AllocError>
-        ensures { IfOk result (λ row. row ≡ holds_nothing process steps) }
+    /// A process that holds nothing, with this room for reserved steps.
+    pub fn new(process: u32, steps: u16, reserved: SpareCapacity<(u16, u16)>) -> Row
+        requires { steps ≤ reserved }
+        ensures { result ≡ holds_nothing process steps }
     {
-        let mut reserved = Vec::new(alloc);
-        reserved.reserve(usize::from(steps))?;
-        Ok(Row {
+        Row {
             process,
             steps,
             running: None,
-            reserved,
+            reserved: reserved.into_list(),
             fixed: 0,
             pending: 0,
-        })
+        }
     }
 
     pub fn process(&self) -> u32
