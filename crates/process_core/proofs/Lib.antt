@@ -69,3 +69,4 @@ pub mod Rotations
 pub mod Waits
 pub mod RunningSeats
 pub mod Greatest
+pub mod Stalls

@@ -33,7 +33,7 @@ told-append f [] ys = refl
 told-append f (x ∷ xs) ys = ap (option_or (f x)) (told-append f xs ys) ∙ sym (told_or (f x) (first_told f xs) (first_told f ys))
 
 -- where nothing is told of those that don't pass
-told-filter : {X : Type 0} (f : ℕ → Option X) (r : ℕ → Bool) (xs : List ℕ) → ((i : ℕ) → r i ≡ false → f i ≡ None) → first_told f (filter r xs) ≡ first_told f xs
+pub told-filter : {X : Type 0} (f : ℕ → Option X) (r : ℕ → Bool) (xs : List ℕ) → ((i : ℕ) → r i ≡ false → f i ≡ None) → first_told f (filter r xs) ≡ first_told f xs
 told-filter f r [] none = refl
 told-filter f r (x ∷ xs) none = by_first (r x) refl (told-filter f r xs none)
   where
@@ -145,7 +145,7 @@ found_told q g (x ∷ xs) = by_first (q x) (found_told q g xs)
     by_first true rest = refl
     by_first false rest = rest
 
-same_told : {X : Type 0} (f g : ℕ → Option X) (xs : List ℕ) → ((i : ℕ) → f i ≡ g i) → first_told f xs ≡ first_told g xs
+pub same_told : {X : Type 0} (f g : ℕ → Option X) (xs : List ℕ) → ((i : ℕ) → f i ≡ g i) → first_told f xs ≡ first_told g xs
 same_told f g [] same = refl
 same_told f g (x ∷ xs) same = ap (λ o. option_or o (first_told f xs)) (same x) ∙ ap (option_or (g x)) (same_told f g xs same)
 
@@ -169,7 +169,7 @@ module _ (table : ConflictRelation) (courses : List Course) (m : Moment) where
           ∙ sym (ap (λ t. if t && not (is_in i (ends m.events)) && is_none (running_of m i) && not (is_exhausted courses m i) && is_none (block_of table courses m i) then Some (hand_to courses m i) else None) is)
 
   -- nothing is told of whoever has ended
-  ended_reply : (i : ℕ) → is_in i (ends m.events) ≡ true → is_free table courses m i ≡ false
+  pub ended_reply : (i : ℕ) → is_in i (ends m.events) ≡ true → is_free table courses m i ≡ false
   ended_reply i is = by_started (is_in i (starts m.events))
       (ap (λ t. (is_in i (starts m.events) && not t) && is_none (running_of m i) && not (is_exhausted courses m i) && is_none (block_of table courses m i)) is)
     where

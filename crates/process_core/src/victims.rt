@@ -4,6 +4,7 @@ ghost use Rattle.process_tree.specs.Blocks.{numbers_from};
 ghost use Rattle.process_tree.specs.Shape.{greatest};
 ghost use Rattle.machine_model.specs.Moment.{has_begun};
 ghost use Rattle.machine_model.specs.Replies.{admit_reply};
+ghost use Rattle.machine_model.specs.State.{victim_of};
 ghost use Rattle.process_core.specs.Cores.{courses_in, moment_of, relation};
 ghost use Rattle.process_core.specs.Rotation.{can_be_victim};
 
@@ -36,5 +37,19 @@ impl Core {
             left -= 1;
         }
         None
+    }
+
+    /// The victim, where nothing runs and no piece is free.
+    pub(crate) fn stalled_victim(&self) -> Option<u32>
+        ensures { result ≡ victim_of (relation self.now) (courses_in self.now) (moment_of self.now) }
+    {
+        let count = self.seats.len() as u32;
+        if self.is_running() {
+            return None;
+        }
+        if self.first_piece(1, count + 1).is_some() {
+            return None;
+        }
+        self.greatest_victim(count)
     }
 }

@@ -1,0 +1,146 @@
+-- A stall, by what is replied to requests for a piece of each process.
+use Rattle.std.proofs.Common.{◌≡◌, ℕ, ◌+◌, Bool, true, false, not, eqb, ◌&&◌, ◌||◌, if◌then◌else◌, List, [], ◌∷◌, filter, find, length, Option, Some, None, is_none, is_some, sym, refl, ap, ◌∙◌, arith}
+use Rattle.std.specs.List.{list_all}
+use Rattle.std.specs.Option.{option_or}
+use Rattle.std.proofs.lemmas.Bool.{and_parts, eqb-true, false≢true, ne_eqb, not-true}
+use Rattle.process_tree.specs.Blocks.{numbers_from}
+use Rattle.process_tree.specs.Order.{Each}
+use Rattle.process_tree.specs.Shape.{greatest}
+use Rattle.process_tree.proofs.Every.{Each-weaker}
+use Rattle.schedule_model.specs.Conflict.{ConflictRelation}
+use Rattle.schedule_model.specs.Course.{Course}
+use Rattle.schedule_model.specs.Histories.{active, ends, is_active, is_in, starts}
+use Rattle.schedule_model.proofs.Active.{is_active-is_in}
+use Rattle.machine_model.specs.declared.blocked.Blocked.{Blocked}
+use Rattle.machine_model.specs.Moment.{Moment, Piece, has_begun}
+use Rattle.machine_model.specs.Pieces.{running_of}
+use Rattle.machine_model.specs.Replies.{Handed, admit_by_active, admit_by_known, admit_reply, hand_to, piece_unless}
+use Rattle.machine_model.specs.State.{block_of, is_blocked, is_exhausted, is_free, is_stalled, victim_of}
+use Rattle.machine_model.proofs.OpenCascade.{each_listed}
+use Rattle.machine_model.proofs.OpenHoldings.{filter-kept}
+use Rattle.process_core.specs.Rotation.{can_be_victim, first_told, piece_in}
+use Rattle.process_core.proofs.Rotations.{ended_reply, free_told, same_told, told-filter}
+use Rattle.process_core.proofs.SeatReplies.{reply_parts, started_if}
+
+-- nothing is told where none passes
+none_told : {X : Type 0} (q : ℕ → Bool) (g : ℕ → X) (xs : List ℕ) → is_none (first_told (λ i. if q i then Some (g i) else None) xs) ≡ list_all (λ i. not (q i)) xs
+none_told q g [] = refl
+none_told {X = X} q g (x ∷ xs) = by_first (q x) (none_told q g xs)
+  where
+    by_first : (t : Bool) → is_none (first_told (λ i. if q i then Some (g i) else None) xs) ≡ list_all (λ i. not (q i)) xs
+        → is_none (option_or (if t then Some (g x) else None) (first_told (λ i. if q i then Some (g i) else None) xs)) ≡ (not t && list_all (λ i. not (q i)) xs)
+    by_first true rest = refl
+    by_first false rest = rest
+
+all_alike : (p q : ℕ → Bool) (xs : List ℕ) → Each (λ i. p i ≡ q i) xs → list_all p xs ≡ list_all q xs
+all_alike p q [] same = refl
+all_alike p q (x ∷ xs) same = ap (λ t. t && list_all p xs) same.0 ∙ ap (λ t. q x && t) (all_alike p q xs same.1)
+
+filter_alike : (p q : ℕ → Bool) (xs : List ℕ) → Each (λ i. p i ≡ q i) xs → filter p xs ≡ filter q xs
+filter_alike p q [] same = refl
+filter_alike p q (x ∷ xs) same = ap (λ t. if t then x ∷ filter p xs else filter p xs) same.0 ∙ ap (λ ys. if q x then x ∷ ys else ys) (filter_alike p q xs same.1)
+
+all_have : (P : ℕ → Type 0) (xs : List ℕ) → ((i : ℕ) → P i) → Each P xs
+all_have P [] each = tt
+all_have P (x ∷ xs) each = (each x, all_have P xs each)
+
+not-false : (t : Bool) → not t ≡ false → t ≡ true
+not-false true is = refl
+not-false false is = absurd (false≢true (sym is))
+
+some_none : {X : Type 0} (o : Option X) → is_some o ≡ true → is_none o ≡ false
+some_none None is = absurd (false≢true is)
+some_none (Some x) is = refl
+
+none_some : {X : Type 0} (o : Option X) → is_some o ≡ false → is_none o ≡ true
+none_some None is = refl
+none_some (Some x) is = absurd (false≢true (sym is))
+
+nothing : {X : Type 0} (xs : List X) → length xs ≡ 0 → xs ≡ []
+nothing [] is = refl
+nothing (x ∷ xs) is = absurd (omega arith)
+
+pub idle_now : (m : Moment) → not (eqb (length m.out) 0) ≡ false → eqb (length m.out) 0 ≡ true
+idle_now m is = not-false (eqb (length m.out) 0) is
+
+module _ (table : ConflictRelation) (courses : List Course) (m : Moment) where
+  -- whether a process can be the victim
+  abbrev pub victim_at : ℕ → Bool
+  victim_at i = can_be_victim (has_begun m i) (admit_reply table courses m i)
+
+  ended_victim : (i : ℕ) → not (is_in i (ends m.events)) ≡ false → victim_at i ≡ false
+  ended_victim i is = by_started (is_in i (starts m.events)) refl
+    where
+      by_started : (t : Bool) → is_in i (starts m.events) ≡ t → victim_at i ≡ false
+      by_started false at = ap (λ t. can_be_victim (has_begun m i) (admit_by_known table courses m i t)) at
+      by_started true at =
+          ap (λ t. can_be_victim (has_begun m i) (admit_by_known table courses m i t)) at
+          ∙ ap (λ a. can_be_victim (has_begun m i) (admit_by_active table courses m i a)) (ap (λ t. t && not (is_in i (ends m.events))) at ∙ is)
+
+  abbrev pieces : ℕ → Option Handed
+  pieces i = piece_in (admit_reply table courses m i)
+
+  module _ (idle : eqb (length m.out) 0 ≡ true) where
+    nobody : (i : ℕ) → running_of m i ≡ None
+    nobody i = ap (λ (ps : List Piece). find (λ (p : Piece). eqb p.process i) ps) (nothing m.out (eqb-true (length m.out) 0 idle))
+
+    -- an active process isn't free where it is exhausted or blocked
+    not_free : (i : ℕ) → is_in i (active m.events) ≡ true → not (is_free table courses m i) ≡ (is_exhausted courses m i || is_blocked table courses m i)
+    not_free i listed =
+        ap (λ a. not (a && is_none (running_of m i) && not (is_exhausted courses m i) && is_none (block_of table courses m i))) (sym (is_active-is_in m.events i) ∙ listed)
+        ∙ (ap (λ (o : Option Piece). not (true && is_none o && not (is_exhausted courses m i) && is_none (block_of table courses m i))) (nobody i)
+        ∙ by_both (is_exhausted courses m i) (block_of table courses m i))
+      where
+        by_both : (e : Bool) (k : Option Blocked) → not (true && true && not e && is_none k) ≡ (e || (not e && is_some k))
+        by_both true k = refl
+        by_both false None = refl
+        by_both false (Some b) = refl
+
+    victim_by : (i : ℕ) (e : Bool) (k : Option Blocked) → is_active m.events i ≡ true → is_exhausted courses m i ≡ e → block_of table courses m i ≡ k
+        → victim_at i ≡ ((not e && is_some k) && not (has_begun m i))
+    victim_by i true k active' left block = ap (can_be_victim (has_begun m i)) (reply_parts courses m i table (started_if m.events i active') true None true active' (nobody i) left)
+    victim_by i false None active' left block =
+        ap (can_be_victim (has_begun m i)) (reply_parts courses m i table (started_if m.events i active') true None false active' (nobody i) left) ∙ ap (λ b. can_be_victim (has_begun m i) (piece_unless courses m i b)) block
+    victim_by i false (Some b) active' left block =
+        ap (can_be_victim (has_begun m i)) (reply_parts courses m i table (started_if m.events i active') true None false active' (nobody i) left) ∙ ap (λ b. can_be_victim (has_begun m i) (piece_unless courses m i b)) block
+
+    victim_told : (i : ℕ) → is_in i (active m.events) ≡ true → victim_at i ≡ (is_blocked table courses m i && not (has_begun m i))
+    victim_told i listed = victim_by i (is_exhausted courses m i) (block_of table courses m i) (sym (is_active-is_in m.events i) ∙ listed) refl refl
+
+    -- who can be the victim, of all numbers
+    pub victims_numbered : (n : ℕ) → starts m.events ≡ numbers_from 1 n
+        → filter (λ i. is_blocked table courses m i && not (has_begun m i)) (active m.events) ≡ filter victim_at (numbers_from 1 n)
+    victims_numbered n numbered =
+        filter_alike (λ i. is_blocked table courses m i && not (has_begun m i)) victim_at (active m.events)
+        (Each-weaker (λ i. is_in i (active m.events) ≡ true) (λ i. (is_blocked table courses m i && not (has_begun m i)) ≡ victim_at i) (λ i listed. sym (victim_told i listed)) (active m.events) (each_listed (active m.events)))
+        ∙ (filter-kept victim_at (λ i. not (is_in i (ends m.events))) (starts m.events) (all_have (λ i. not (is_in i (ends m.events)) ≡ false → victim_at i ≡ false) (starts m.events) ended_victim)
+        ∙ ap (filter victim_at) numbered)
+
+    -- each active process is blocked or exhausted exactly where no piece is free
+    pub stalled_told : (n : ℕ) → starts m.events ≡ numbers_from 1 n → is_stalled table courses m ≡ is_none (first_told (λ i. piece_in (admit_reply table courses m i)) (numbers_from 1 n))
+    stalled_told n numbered =
+        ap (λ t. t && list_all (λ i. is_exhausted courses m i || is_blocked table courses m i) (active m.events)) idle
+        ∙ sym (ap (λ is. is_none (first_told pieces is)) (sym numbered)
+        ∙ (ap is_none (sym (told-filter pieces (λ i. not (is_in i (ends m.events))) (starts m.events) (λ i is. free_told table courses m i ∙ ap (λ t. if t then Some (hand_to courses m i) else None) (ended_reply table courses m i (not-false (is_in i (ends m.events)) is))))
+        ∙ same_told pieces (λ i. if is_free table courses m i then Some (hand_to courses m i) else None) (active m.events) (free_told table courses m))
+        ∙ (none_told (is_free table courses m) (hand_to courses m) (active m.events)
+        ∙ all_alike (λ i. not (is_free table courses m i)) (λ i. is_exhausted courses m i || is_blocked table courses m i) (active m.events)
+        (Each-weaker (λ i. is_in i (active m.events) ≡ true) (λ i. not (is_free table courses m i) ≡ (is_exhausted courses m i || is_blocked table courses m i)) not_free (active m.events) (each_listed (active m.events))))))
+
+    -- a piece is free, so there is no victim
+    pub no_stall : (n : ℕ) → starts m.events ≡ numbers_from 1 n → is_some (first_told (λ i. piece_in (admit_reply table courses m i)) (numbers_from 1 n)) ≡ true → victim_of table courses m ≡ None
+    no_stall n numbered is = ap (λ t. if t then greatest (filter (λ i. is_blocked table courses m i && not (has_begun m i)) (active m.events)) else None)
+        (stalled_told n numbered ∙ some_none (first_told pieces (numbers_from 1 n)) is)
+
+    -- none is, so it is the greatest that can be
+    pub stall_victim : (n : ℕ) → starts m.events ≡ numbers_from 1 n → is_some (first_told (λ i. piece_in (admit_reply table courses m i)) (numbers_from 1 n)) ≡ false
+        → victim_of table courses m ≡ greatest (filter (λ i. can_be_victim (has_begun m i) (admit_reply table courses m i)) (numbers_from 1 n))
+    stall_victim n numbered is =
+        ap (λ t. if t then greatest (filter (λ i. is_blocked table courses m i && not (has_begun m i)) (active m.events)) else None)
+        (stalled_told n numbered ∙ none_some (first_told pieces (numbers_from 1 n)) is)
+        ∙ ap greatest (victims_numbered n numbered)
+
+  -- a piece runs, so there is no victim
+  pub runs_on : not (eqb (length m.out) 0) ≡ true → victim_of table courses m ≡ None
+  runs_on is = ap (λ t. if t && list_all (λ i. is_exhausted courses m i || is_blocked table courses m i) (active m.events) then greatest (filter (λ i. is_blocked table courses m i && not (has_begun m i)) (active m.events)) else None)
+      (not-true (eqb (length m.out) 0) is)
