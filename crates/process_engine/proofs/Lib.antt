@@ -1,0 +1,2 @@
+pub mod SameHistory
+pub mod StillUnder

@@ -1,0 +1,50 @@
+// Calls that touch no file.
+ghost use Rattle.std.specs.Prelude.{◌≡◌, ◌≢◌, OnOk, OnErr, IfOk, IfErr};
+ghost use Rattle.machine_model.specs.Calls.{abort, aborted, admit, admitted, complete_all};
+ghost use Rattle.process_core.specs.Answers.{after_call, answer_in};
+ghost use Rattle.process_core.specs.Handing.{admit_reply_of};
+ghost use Rattle.process_engine.specs.Engines.{IsClosed, with_core};
+ghost use Rattle.process_engine.specs.declared.engines.Phase.TheVariants as phase;
+
+use crate::{Closed, Engine};
+use process_core::{Aborted, Admit};
+use process_disk::Rack;
+use resource_box::Resource;
+
+impl<R: Rack + Drop, B: Drop> Engine<R, B> {
+    /// Hands out the next piece of a process, or says why not.
+    pub fn admit(&mut self, i: u32) -> Result<Admit, Closed>
+        ensures engine { OnOk result (self.new ≡ with_core self.old (after_call self.old.core (admit i))) }
+        ensures reply { IfOk result (λ reply. admitted (admit_reply_of reply) ≡ (answer_in self.old.core (admit i)).reply) }
+        ensures open { OnOk result (self.old.phase ≢ phase.Closed) }
+        ensures closed { IfErr result (IsClosed self.old) }
+        ensures left { OnErr result (self.new ≡ self.old) }
+    {
+        self.open()?;
+        Ok(self.core.admit(i))
+    }
+
+    /// Asks a process to complete.
+    pub fn abort(&mut self, i: u32) -> Result<Aborted, Closed>
+        ensures engine { OnOk result (self.new ≡ with_core self.old (after_call self.old.core (abort i))) }
+        ensures reply { IfOk result (λ reply. aborted reply ≡ (answer_in self.old.core (abort i)).reply) }
+        ensures open { OnOk result (self.old.phase ≢ phase.Closed) }
+        ensures closed { IfErr result (IsClosed self.old) }
+        ensures left { OnErr result (self.new ≡ self.old) }
+    {
+        self.open()?;
+        Ok(self.core.abort(i))
+    }
+
+    /// Every active process that has not begun to complete begins to.
+    pub fn complete_all(&mut self) -> Result<(), Closed>
+        ensures engine { OnOk result (self.new ≡ with_core self.old (after_call self.old.core complete_all)) }
+        ensures open { OnOk result (self.old.phase ≢ phase.Closed) }
+        ensures closed { IfErr result (IsClosed self.old) }
+        ensures left { OnErr result (self.new ≡ self.old) }
+    {
+        self.open()?;
+        self.core.complete_all();
+        Ok(())
+    }
+}

@@ -1,0 +1,10 @@
+//! The engine: the scheduler over the journal and the stores of eight subsystems.
+//!
+//! An engine is seen as a core, a catalog and files (`specs/Engines`). While nothing is under way and no call of the rack failed, its
+//! files stand for the history of its core, and each book is the effects of that history.
+#![tactic(auto)]
+
+mod asking;
+mod engines;
+
+pub use engines::{Closed, Engine, Phase};
