@@ -13,3 +13,5 @@ pub mod MadeStores
 pub mod UsedFiles
 pub mod Unused
 pub mod ReadStores
+pub mod NextEffects
+pub mod NextBooks

@@ -3,6 +3,7 @@ pub mod Creating
 pub mod Effects
 mod Examples
 pub mod Images
+pub mod Laws
 pub mod Opening
 pub mod Sound
 pub mod Standing
