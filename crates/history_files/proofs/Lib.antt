@@ -15,3 +15,5 @@ pub mod Unused
 pub mod ReadStores
 pub mod NextEffects
 pub mod NextBooks
+pub mod PlansOfEffects
+pub mod Amounts
