@@ -31,6 +31,7 @@ pub mod ActiveSums
 pub mod EntryCounts
 pub mod StartRefusals
 pub mod StartKept
+pub mod StartRooms
 pub mod KeptCounts
 pub mod KeptBound
 pub mod KeptRoom

@@ -9,3 +9,4 @@ pub mod Upcoming
 pub mod Handing
 pub mod Starting
 pub mod Rotation
+pub mod StartRoom

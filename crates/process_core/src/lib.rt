@@ -22,6 +22,7 @@ mod replies;
 mod room;
 mod rotation;
 mod seats;
+mod start_room;
 mod starting;
 mod tables;
 mod under_way;
@@ -33,6 +34,7 @@ pub use laws::tables_stand_for_holdings;
 pub use machine_model::{Aborted, Began, Cause, Kept, PieceState, Refusal, StartWhy, Work};
 pub use pieces::Piece;
 pub use replies::{Admit, Next, Waiting};
+pub use start_room::StartRoom;
 pub use starting::StartRefused;
 
 #[cfg(test)]
