@@ -71,3 +71,6 @@ pub mod Waits
 pub mod RunningSeats
 pub mod Greatest
 pub mod Stalls
+pub mod VictimsKept
+pub mod Exhausted
+pub mod NextKept

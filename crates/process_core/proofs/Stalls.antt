@@ -60,8 +60,19 @@ nothing : {X : Type 0} (xs : List X) → length xs ≡ 0 → xs ≡ []
 nothing [] is = refl
 nothing (x ∷ xs) is = absurd (omega arith)
 
+-- the active that pass, of all numbers
+pub active_numbered : (m : Moment) (n : ℕ) (p q : ℕ → Bool) → starts m.events ≡ numbers_from 1 n → ((i : ℕ) → is_in i (active m.events) ≡ true → p i ≡ q i) → ((i : ℕ) → not (is_in i (ends m.events)) ≡ false → q i ≡ false)
+    → filter p (active m.events) ≡ filter q (numbers_from 1 n)
+active_numbered m n p q numbered same ended =
+    filter_alike p q (active m.events) (Each-weaker (λ i. is_in i (active m.events) ≡ true) (λ i. p i ≡ q i) same (active m.events) (each_listed (active m.events)))
+    ∙ (filter-kept q (λ i. not (is_in i (ends m.events))) (starts m.events) (all_have (λ i. not (is_in i (ends m.events)) ≡ false → q i ≡ false) (starts m.events) ended)
+    ∙ ap (filter q) numbered)
+
 pub idle_now : (m : Moment) → not (eqb (length m.out) 0) ≡ false → eqb (length m.out) 0 ≡ true
 idle_now m is = not-false (eqb (length m.out) 0) is
+
+pub runs_now : (m : Moment) → not (eqb (length m.out) 0) ≡ true → eqb (length m.out) 0 ≡ false
+runs_now m is = not-true (eqb (length m.out) 0) is
 
 module _ (table : ConflictRelation) (courses : List Course) (m : Moment) where
   -- whether a process can be the victim
@@ -81,7 +92,7 @@ module _ (table : ConflictRelation) (courses : List Course) (m : Moment) where
   pieces i = piece_in (admit_reply table courses m i)
 
   module _ (idle : eqb (length m.out) 0 ≡ true) where
-    nobody : (i : ℕ) → running_of m i ≡ None
+    pub nobody : (i : ℕ) → running_of m i ≡ None
     nobody i = ap (λ (ps : List Piece). find (λ (p : Piece). eqb p.process i) ps) (nothing m.out (eqb-true (length m.out) 0 idle))
 
     -- an active process isn't free where it is exhausted or blocked
@@ -110,11 +121,7 @@ module _ (table : ConflictRelation) (courses : List Course) (m : Moment) where
     -- who can be the victim, of all numbers
     pub victims_numbered : (n : ℕ) → starts m.events ≡ numbers_from 1 n
         → filter (λ i. is_blocked table courses m i && not (has_begun m i)) (active m.events) ≡ filter victim_at (numbers_from 1 n)
-    victims_numbered n numbered =
-        filter_alike (λ i. is_blocked table courses m i && not (has_begun m i)) victim_at (active m.events)
-        (Each-weaker (λ i. is_in i (active m.events) ≡ true) (λ i. (is_blocked table courses m i && not (has_begun m i)) ≡ victim_at i) (λ i listed. sym (victim_told i listed)) (active m.events) (each_listed (active m.events)))
-        ∙ (filter-kept victim_at (λ i. not (is_in i (ends m.events))) (starts m.events) (all_have (λ i. not (is_in i (ends m.events)) ≡ false → victim_at i ≡ false) (starts m.events) ended_victim)
-        ∙ ap (filter victim_at) numbered)
+    victims_numbered n numbered = active_numbered m n (λ i. is_blocked table courses m i && not (has_begun m i)) victim_at numbered (λ i listed. sym (victim_told i listed)) ended_victim
 
     -- each active process is blocked or exhausted exactly where no piece is free
     pub stalled_told : (n : ℕ) → starts m.events ≡ numbers_from 1 n → is_stalled table courses m ≡ is_none (first_told (λ i. piece_in (admit_reply table courses m i)) (numbers_from 1 n))
@@ -143,4 +150,4 @@ module _ (table : ConflictRelation) (courses : List Course) (m : Moment) where
   -- a piece runs, so there is no victim
   pub runs_on : not (eqb (length m.out) 0) ≡ true → victim_of table courses m ≡ None
   runs_on is = ap (λ t. if t && list_all (λ i. is_exhausted courses m i || is_blocked table courses m i) (active m.events) then greatest (filter (λ i. is_blocked table courses m i && not (has_begun m i)) (active m.events)) else None)
-      (not-true (eqb (length m.out) 0) is)
+      (runs_now m is)

@@ -84,6 +84,14 @@ MayComeUnderWay p i b t End = Unit
 abbrev pub with_kept : CoreState → Kept → CoreState
 with_kept c k = record { conflicts = c.conflicts; plans = c.plans; opening = c.opening; kept = c.kept ++ k ∷ []; served = c.served }
 
+-- a core that has kept these events more
+abbrev pub with_all : CoreState → List Kept → CoreState
+with_all c ks = record { conflicts = c.conflicts; plans = c.plans; opening = c.opening; kept = c.kept ++ ks; served = c.served }
+
+-- a core whose rotation goes on after process i
+abbrev pub with_served : CoreState → ℕ → CoreState
+with_served c i = record { conflicts = c.conflicts; plans = c.plans; opening = c.opening; kept = c.kept; served = i }
+
 -- these pieces are numbered from 1, in order
 abbrev pub AreNumbered : List Piece → Type 0
 AreNumbered ps = map (λ (p : Piece). p.number) ps ≡ numbers_from 1 (length ps)

@@ -1,7 +1,9 @@
 -- Rotation: looking for the first process of which something is told.
 use Rattle.std.specs.Prelude.{ℕ, Bool, false, not, List, [], ◌∷◌, Option, Some, None}
-use Rattle.std.specs.Option.{option_or}
-use Rattle.machine_model.specs.Replies.{Handed, Admit, piece, blocked, running, unknown, ended, exhausted, BlockedProcess}
+use Rattle.std.specs.Option.{option_map, option_or}
+use Rattle.machine_model.specs.Replies.{Handed, Admit, piece, blocked, running, unknown, ended, exhausted, BlockedProcess, Next as NextReply, chosen, wait, all_ended, stuck}
+use Rattle.process_core.specs.declared.replies.Next.{Next}
+use Rattle.process_core.specs.declared.replies.Next.TheVariants.{Piece as IsPiece, Wait, AllEnded, Stuck}
 use Rattle.process_core.specs.declared.replies.Waiting.{Waiting}
 
 -- what f tells of the first of these of which it tells something
@@ -31,6 +33,15 @@ waiting_in i (exhausted b) = None
 abbrev pub waiting_of : Waiting → BlockedProcess
 waiting_of w = record { process = w.process; block = w.block }
 
+-- process i, if the reply is that it is exhausted
+abbrev pub exhausted_in : ℕ → Admit → Option ℕ
+exhausted_in i (exhausted b) = Some i
+exhausted_in i (piece d) = None
+exhausted_in i (blocked b) = None
+exhausted_in i running = None
+exhausted_in i unknown = None
+exhausted_in i ended = None
+
 -- by whether a process has begun to complete and by the reply: it is blocked and has not
 abbrev pub can_be_victim : Bool → Admit → Bool
 can_be_victim begun (blocked b) = not begun
@@ -39,3 +50,10 @@ can_be_victim begun running = false
 can_be_victim begun unknown = false
 can_be_victim begun ended = false
 can_be_victim begun (exhausted b) = false
+
+-- a reply to a request for any piece, as the machine has it
+abbrev pub next_reply_of : Next → NextReply
+next_reply_of (IsPiece d) = chosen d
+next_reply_of (Wait w) = wait (option_map waiting_of w)
+next_reply_of AllEnded = all_ended
+next_reply_of (Stuck i) = stuck i

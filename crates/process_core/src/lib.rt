@@ -2,10 +2,11 @@
 //!
 //! A core is seen as a machine of `machine_model` with the plans of its processes (`specs/Cores`). What it keeps is what the machine
 //! says at its moment: an instance for each active process, and the tables of what these hold (`specs/Seats`, `OpenTables`). It opens
-//! on any legal history, and is read. Calls that start processes, hand out pieces and end them are not there yet.
+//! on any legal history. Each call keeps and answers what the machine does (`specs/Answers`); only `open` and `start` take memory.
 #![tactic(auto)]
 
 mod beginnings;
+mod choosing;
 mod completing;
 mod cores;
 mod effected;

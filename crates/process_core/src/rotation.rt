@@ -6,7 +6,7 @@ ghost use Rattle.process_tree.specs.Blocks.{numbers_from};
 ghost use Rattle.machine_model.specs.Replies.{admit_reply, blocked_in_rotation, hand_to, rotation};
 ghost use Rattle.machine_model.specs.State.{is_free};
 ghost use Rattle.process_core.specs.Cores.{courses_in, moment_of, relation};
-ghost use Rattle.process_core.specs.Rotation.{first_told, piece_in, waiting_in, waiting_of};
+ghost use Rattle.process_core.specs.Rotation.{exhausted_in, first_told, piece_in, waiting_in, waiting_of};
 
 use crate::cores::Core;
 use crate::pieces::Piece;
@@ -68,6 +68,19 @@ impl Core {
         for i in from..to {
             if let Admit::Blocked(block) = self.reply_of(i) {
                 return Some(Waiting { process: i, block });
+            }
+        }
+        None
+    }
+
+    /// The first exhausted process of those from one number to before another.
+    pub(crate) fn first_exhausted(&self, from: u32, to: u32) -> Option<u32>
+        requires { from ≤ to }
+        ensures { result ≡ first_told (λ i. exhausted_in i (admit_reply (relation self.now) (courses_in self.now) (moment_of self.now) i)) (numbers_from from (to - from)) }
+    {
+        for i in from..to {
+            if let Admit::Exhausted(_) = self.reply_of(i) {
+                return Some(i);
             }
         }
         None

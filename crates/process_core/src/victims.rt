@@ -3,9 +3,10 @@ ghost use Rattle.std.specs.Prelude.{◌≡◌, filter};
 ghost use Rattle.process_tree.specs.Blocks.{numbers_from};
 ghost use Rattle.process_tree.specs.Shape.{greatest};
 ghost use Rattle.machine_model.specs.Moment.{has_begun};
-ghost use Rattle.machine_model.specs.Replies.{admit_reply};
+ghost use Rattle.machine_model.specs.Replies.{admit_reply, all_victims};
 ghost use Rattle.machine_model.specs.State.{victim_of};
 ghost use Rattle.process_core.specs.Cores.{courses_in, moment_of, relation};
+ghost use Rattle.process_core.specs.Handing.{with_all};
 ghost use Rattle.process_core.specs.Rotation.{can_be_victim};
 
 use crate::cores::Core;
@@ -51,5 +52,14 @@ impl Core {
             return None;
         }
         self.greatest_victim(count)
+    }
+
+    /// As long as there is a stall with a victim, this one begins to complete.
+    pub(crate) fn make_victims(&mut self)
+        ensures { self.new ≡ with_all self.old (all_victims (relation self.old) (courses_in self.old) (moment_of self.old)) }
+    {
+        'stalls: while let Some(i) = self.stalled_victim() {
+            self.make_victim(i);
+        }
     }
 }

@@ -1,0 +1,1 @@
+use Rattle.process_core.proofs.cores.Core.serve.Goals as goal

@@ -1,0 +1,50 @@
+// Any piece is asked for.
+ghost use Rattle.std.specs.Prelude.{◌≡◌};
+ghost use Rattle.machine_model.specs.Calls.{next, next_is};
+ghost use Rattle.machine_model.specs.Replies.{none_free_reply};
+ghost use Rattle.process_core.specs.Answers.{after_call, answer_in};
+ghost use Rattle.process_core.specs.Cores.{courses_in, moment_of, relation};
+ghost use Rattle.process_core.specs.Handing.{with_served};
+ghost use Rattle.process_core.specs.Rotation.{next_reply_of};
+
+use crate::cores::Core;
+use crate::replies::Next;
+
+impl Core {
+    /// Why no piece is free.
+    fn none_free(&self) -> Next
+        ensures { next_reply_of result ≡ none_free_reply (relation self.now) (courses_in self.now) (moment_of self.now) self.now.served }
+    {
+        if self.holds.next_open(0).is_none() {
+            return Next::AllEnded;
+        }
+        if self.is_running() {
+            return Next::Wait(self.next_waiting());
+        }
+        let count = self.seats.len() as u32;
+        Next::Stuck(self.first_exhausted(1, count + 1).unwrap_or(0))
+    }
+
+    /// The rotation goes on after this process.
+    fn serve(&mut self, process: u32)
+        ensures { self.new ≡ with_served self.old process }
+    {
+        self.served = process;
+    }
+
+    /// Makes the victims of a stall, and hands out the first free piece in rotation, or says why there is none.
+    pub fn next(&mut self) -> Next
+        ensures core { self.new ≡ after_call self.old next }
+        ensures reply { next_is (next_reply_of result) ≡ (answer_in self.old next).reply }
+    {
+        self.make_victims();
+        match self.next_piece() {
+            None => self.none_free(),
+            Some(piece) => {
+                self.hand(&piece);
+                self.serve(piece.process());
+                Next::Piece(piece)
+            }
+        }
+    }
+}
