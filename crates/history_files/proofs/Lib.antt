@@ -17,3 +17,7 @@ pub mod NextEffects
 pub mod NextBooks
 pub mod PlansOfEffects
 pub mod Amounts
+pub mod FewEffects
+pub mod Undoables
+pub mod StandingSteps
+pub mod MayBePrepared

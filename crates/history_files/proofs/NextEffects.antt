@@ -32,7 +32,7 @@ module _ (ops : List Op) (plans : List Plan) (q : ℕ) where
       by false is = is
 
   -- of one entry
-  one_effect : (n : ℕ) (e : Entry) → subsystem_of ops e.op ≡ q → effects_from ops plans q n (e ∷ []) ≡ effect_of ops plans n e ∷ []
+  pub one_effect : (n : ℕ) (e : Entry) → subsystem_of ops e.op ≡ q → effects_from ops plans q n (e ∷ []) ≡ effect_of ops plans n e ∷ []
   one_effect n e on = by (eqb_tells (subsystem_of ops e.op) q)
     where
       by : ((eqb (subsystem_of ops e.op) q ≡ true) × (subsystem_of ops e.op ≡ q)) ⊎ ((eqb (subsystem_of ops e.op) q ≡ false) × (subsystem_of ops e.op ≢ q))
@@ -40,7 +40,7 @@ module _ (ops : List Op) (plans : List Plan) (q : ℕ) where
       by (inl here) = ap (λ b. if b then effect_of ops plans n e ∷ [] else []) here.0
       by (inr there) = absurd (there.1 on)
 
-  no_effect : (n : ℕ) (e : Entry) → subsystem_of ops e.op ≢ q → effects_from ops plans q n (e ∷ []) ≡ []
+  pub no_effect : (n : ℕ) (e : Entry) → subsystem_of ops e.op ≢ q → effects_from ops plans q n (e ∷ []) ≡ []
   no_effect n e off = by (eqb_tells (subsystem_of ops e.op) q)
     where
       by : ((eqb (subsystem_of ops e.op) q ≡ true) × (subsystem_of ops e.op ≡ q)) ⊎ ((eqb (subsystem_of ops e.op) q ≡ false) × (subsystem_of ops e.op ≢ q))
