@@ -1,5 +1,5 @@
 -- The amounts of effects are within their limit, as those of the steps are.
-use Rattle.std.proofs.Common.{◌≡◌, ◌⊎◌, inl, inr, ◌+◌, ◌-◌, ltb, zero, suc, ℤ, pos, negsuc, ℕ, Bool, true, false, List, [], ◌∷◌, length, not, map, refl, sym, ◌∙◌, ap, arith, Option, Some, None, if◌then◌else◌}
+use Rattle.std.proofs.Common.{◌≡◌, inl, inr, ◌+◌, ◌-◌, ltb, zero, suc, ℤ, pos, negsuc, ℕ, Bool, true, false, List, [], ◌∷◌, length, not, map, refl, sym, ◌∙◌, ap, arith, Option, Some, None, if◌then◌else◌}
 use Rattle.std.specs.Prelude.{slice_index_or, int_lt}
 use Rattle.std.proofs.lemmas.Bool.{and_parts, and_from, leb-true, ltb-true, le-ltb}
 use Rattle.std.proofs.lemmas.Option.{none-some}

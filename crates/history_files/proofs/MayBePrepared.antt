@@ -10,7 +10,7 @@ use Rattle.schedule_model.specs.Course.{Course, courses_of}
 use Rattle.schedule_model.specs.declared.event.Event.{Event}
 use Rattle.schedule_model.specs.declared.event.Event.TheVariants.{Act}
 use Rattle.schedule_model.specs.declared.history.History.{History}
-use Rattle.schedule_model.specs.Histories.{active, acts, ends, starts}
+use Rattle.schedule_model.specs.Histories.{active, acts, ends}
 use Rattle.schedule_model.specs.Laws.{AreGood}
 use Rattle.schedule_model.specs.Legal.{is_legal, may_come}
 use Rattle.schedule_model.specs.Limits.{entries, is_within_limits, limits, stands_within, still_needed}
@@ -26,7 +26,7 @@ use Rattle.process_journal.specs.Bodies.{with_event}
 use Rattle.process_journal.specs.Journals.{IsHistoryUnder}
 use Rattle.process_journal.proofs.GoodPlans.{plans_are_good}
 use Rattle.history_files.specs.Effects.{effects, subsystem_of}
-use Rattle.history_files.specs.Laws.{MayBePrepared, NextEffectsMayBePrepared, next_effect}
+use Rattle.history_files.specs.Laws.{NextEffectsMayBePrepared, next_effect}
 use Rattle.history_files.specs.Sound.{kind_of}
 use Rattle.history_files.proofs.Amounts.{amount_within}
 use Rattle.history_files.proofs.FewEffects.{few_effects, is_above_all}

@@ -1,11 +1,10 @@
 -- What books come to when an act is prepared behind settled stores, and when it is committed.
-use Rattle.std.proofs.Common.{◌≡◌, ◌≢◌, ◌⊎◌, inl, inr, ℕ, zero, suc, Bool, true, false, List, [], ◌∷◌, ◌++◌, ◌||◌, refl, sym, ◌∙◌, ap, subst, Option, Some, None, if◌then◌else◌}
+use Rattle.std.proofs.Common.{◌≡◌, ◌≢◌, ◌⊎◌, inl, inr, ℕ, zero, suc, Bool, true, false, List, [], ◌∷◌, ◌++◌, ◌||◌, refl, sym, ◌∙◌, ap, subst, Some, None, if◌then◌else◌}
 use Rattle.std.specs.Prelude.{slice_set, IfSome}
 use Rattle.std.specs.List.{slice_get, list_any}
 use Rattle.std.proofs.lemmas.Bool.{eq-eqb, or_right}
 use Rattle.std.proofs.lemmas.Cmp.{int_eq_equiv}
 use Rattle.std.proofs.lemmas.List.Folds.{list_any-append}
-use Rattle.std.proofs.lemmas.Option.{same_Some}
 use Rattle.process_tree.specs.declared.entry.Entry.{Entry}
 use Rattle.schedule_model.specs.declared.event.Event.TheVariants.{Act}
 use Rattle.schedule_model.specs.declared.history.History.{History}
@@ -19,7 +18,7 @@ use Rattle.process_journal.specs.Bodies.{with_event}
 use Rattle.history_files.specs.Effects.{effects, subsystem_of}
 use Rattle.history_files.specs.Laws.{AreSettled, CommittedAreSettled, PreparedComeTo, next_effect}
 use Rattle.history_files.specs.Sound.{counted, is_among, same_effect}
-use Rattle.history_files.specs.Standing.{Changes, ComeTo, Commits, Doubts}
+use Rattle.history_files.specs.Standing.{ComeTo, Commits}
 use Rattle.history_files.proofs.NextEffects.{acts_add_their_effect}
 use Rattle.history_files.proofs.Places.{place_of_set, set_each}
 

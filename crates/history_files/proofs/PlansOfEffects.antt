@@ -1,5 +1,5 @@
 -- Effects stay with other plans that have the same steps: with one plan more, and with equal plans that lie elsewhere in memory.
-use Rattle.std.proofs.Common.{◌≡◌, ◌⊎◌, inl, inr, ◌+◌, ◌-◌, ◌<◌, ◌==◌, pos, ℕ, Bool, true, false, List, [], ◌∷◌, ◌++◌, length, map, refl, sym, ◌∙◌, ap, subst, arith, append-nil, if◌then◌else◌}
+use Rattle.std.proofs.Common.{◌≡◌, inl, inr, ◌+◌, ◌-◌, ◌<◌, ◌==◌, pos, ℕ, Bool, true, false, List, [], ◌∷◌, ◌++◌, length, map, refl, sym, ◌∙◌, ap, arith, append-nil, if◌then◌else◌}
 use Rattle.std.specs.Prelude.{slice_index_or}
 use Rattle.std.proofs.lemmas.Bool.{and_parts}
 use Rattle.std.proofs.lemmas.List.{get_or_append_left, map-append, length-map}
@@ -18,11 +18,8 @@ use Rattle.schedule_model.proofs.Appends.{acts-append}
 use Rattle.schedule_model.proofs.Members.{Among}
 use Rattle.schedule_model.proofs.Prefixes.{legal-numbered}
 use Rattle.schedule_model.proofs.Started.{acts-started}
-use Rattle.commute_table.specs.declared.catalog.Catalog.{Catalog}
 use Rattle.commute_table.specs.declared.op.Op.{Op}
 use Rattle.subsystem_store.specs.declared.effect.Effect.{Effect}
-use Rattle.process_journal.specs.Bodies.{with_start}
-use Rattle.process_journal.specs.Journals.{IsHistoryUnder}
 use Rattle.process_journal.specs.Laws.{AreEqualInTurn, IsSameHistory}
 use Rattle.history_files.specs.Effects.{effect_of, effects, effects_from, steps_of_process, subsystem_of, verb_of}
 use Rattle.history_files.specs.Laws.{StartsAddNone}

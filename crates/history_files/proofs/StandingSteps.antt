@@ -1,6 +1,5 @@
 -- Each step that stands on a subsystem is one that the book of its effects can undo, after any history.
-use Rattle.std.proofs.Common.{◌≡◌, ◌≢◌, ◌⊎◌, inl, inr, ⊎_elim, ◌+◌, eqb, ℕ, Bool, true, false, not, ◌||◌, List, [], ◌∷◌, ◌++◌, length, refl, sym, ◌∙◌, ap, subst, append-nil, if◌then◌else◌}
-use Rattle.std.specs.Prelude.{fold}
+use Rattle.std.proofs.Common.{◌≡◌, ◌≢◌, ◌⊎◌, inl, inr, ◌+◌, eqb, ℕ, Bool, true, false, not, ◌||◌, List, [], ◌∷◌, ◌++◌, length, refl, sym, ◌∙◌, ap, subst, append-nil, if◌then◌else◌}
 use Rattle.std.proofs.lemmas.Bool.{and_from, and_parts, eq-eqb, eqb-true, false≢true, or_left, or_right}
 use Rattle.std.specs.Bool.{IsTrue}
 use Rattle.std.proofs.lemmas.List.Elements.{All-contains}
@@ -32,7 +31,7 @@ use Rattle.subsystem_store.specs.declared.effect.Undoable.{Undoable}
 use Rattle.subsystem_store.specs.Values.{Settled, can_undo, done, is_of, settle, settled, take_last, undone, unused}
 use Rattle.history_files.specs.Effects.{effect_of, effects_from, subsystem_of}
 use Rattle.history_files.proofs.NextEffects.{effects_from-append, no_effect, one_effect}
-use Rattle.history_files.proofs.Undoables.{can_be_of, found_where_is, left, of_itself, of_one_step, others_stay, undone_leaves}
+use Rattle.history_files.proofs.Undoables.{can_be_of, found_where_is, of_itself, of_one_step, others_stay, undone_leaves}
 
 module _ (ops : List Op) (plans : List Plan) (q : ℕ) (kind : Kind) where
   -- what the book of these entries can undo

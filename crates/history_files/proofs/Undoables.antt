@@ -1,27 +1,13 @@
 -- Each step that stands on a subsystem is one that its book can undo.
-use Rattle.std.proofs.Common.{◌≡◌, ◌≢◌, ◌⊎◌, inl, inr, ◌+◌, eqb, ℕ, ℤ, Bool, true, false, not, ◌&&◌, ◌||◌, List, [], ◌∷◌, ◌++◌, length, refl, sym, ◌∙◌, ap, subst, arith, append-nil, Option, Some, None, if◌then◌else◌}
-use Rattle.std.specs.Prelude.{fold, is_some}
+use Rattle.std.proofs.Common.{◌≡◌, eqb, ℤ, Bool, true, false, ◌&&◌, ◌||◌, List, [], ◌∷◌, refl, sym, ◌∙◌, ap, subst, Option, Some, None, if◌then◌else◌}
+use Rattle.std.specs.Prelude.{is_some}
 use Rattle.std.specs.List.{list_any}
-use Rattle.std.proofs.lemmas.Bool.{and_parts, and_from, eq-eqb, eqb-true, false≢true, or_left, or_right}
-use Rattle.std.proofs.lemmas.Bool.Decides.{eqb_tells}
-use Rattle.std.proofs.lemmas.List.Folds.{list_any-append}
-use Rattle.std.proofs.lemmas.List.Sums.{fold-append}
-use Rattle.process_tree.specs.declared.entry.Entry.{Entry}
-use Rattle.process_tree.specs.declared.plan.Plan.{Plan}
-use Rattle.schedule_model.specs.declared.event.Event.{Event}
-use Rattle.schedule_model.specs.declared.event.Event.TheVariants.{Start, Act, End}
-use Rattle.schedule_model.specs.Histories.{acts, net, same_step}
-use Rattle.schedule_model.proofs.Appends.{acts-append}
-use Rattle.schedule_model.proofs.Members.{Among, among-append, among-filter}
-use Rattle.schedule_model.proofs.Snoc.{net-do, net-end, net-start, net-undo}
-use Rattle.commute_table.specs.declared.op.Op.{Op}
+use Rattle.std.proofs.lemmas.Bool.{and_parts, and_from, eq-eqb, eqb-true, false≢true}
 use Rattle.resource_box.specs.declared.call.Kind.{Kind}
 use Rattle.subsystem_store.specs.declared.effect.Effect.{Effect}
 use Rattle.subsystem_store.specs.declared.effect.Undoable.{Undoable}
-use Rattle.subsystem_store.specs.Values.{Settled, done, is_of, same_call, settle, settled, take_last, take_later, undone, unused}
-use Rattle.history_files.specs.Effects.{effect_of, effects_from, subsystem_of}
+use Rattle.subsystem_store.specs.Values.{Settled, is_of, same_call, take_last, take_later, undone}
 use Rattle.history_files.proofs.NextBooks.{call_itself}
-use Rattle.history_files.proofs.NextEffects.{effects_from-append, no_effect, one_effect}
 
 -- an effect can be the undo of one of these
 abbrev pub can_be_of : Effect → List Undoable → Bool
