@@ -134,7 +134,7 @@ module _ (c : CoreState) (core : IsCore c) (k : Kept) (may : may_be_kept (relati
     away = λ j other. away j;
     plain = λ j other. back.plain j (process_state cs m j);
     causes = λ j other b was found.
-    ⊎_elim
+        ⊎_elim
         (λ its. absurd (false≢true (sym other ∙ eq-eqb j root its.0)))
         (λ dragged. dragged)
         (back.by_cause j b.began.cause (beginnings_have_causes (relation c) cs m k j b (no_beginning (beginning_of m j) was) found).2);

@@ -119,20 +119,22 @@ module _ (v : CoreState) where
     pub next_given : (d : Handed) → Some d ≡ option_map (hand_to (courses_in w) (moment_of w)) (find (is_free (relation w) (courses_in w) (moment_of w)) (rotation (moment_of w) w.served))
         → (with_served (with_kept w (kept_hand d)) d.piece.process ≡ after_call v next) × (next_is (chosen d) ≡ (answer_in v next).reply)
     next_given d first =
-        let reply = given (courses_in v) n none_free found d (first ∙ ap found_in is) in
-        (ap (λ x. with_served (with_kept x (kept_hand d)) d.piece.process) is
-        ∙ (ap (λ ks. record { conflicts = v.conflicts; plans = v.plans; opening = v.opening; kept = ks; served = d.piece.process }) (append_assoc v.kept vs (kept_hand d ∷ []))
-        ∙ sym (after_is ∙ ap after reply)),
-        sym (reply_is ∙ ap next_is reply))
+        let reply = given (courses_in v) n none_free found d (first ∙ ap found_in is) in (
+          ap (λ x. with_served (with_kept x (kept_hand d)) d.piece.process) is
+              ∙ (ap (λ ks. record { conflicts = v.conflicts; plans = v.plans; opening = v.opening; kept = ks; served = d.piece.process }) (append_assoc v.kept vs (kept_hand d ∷ []))
+              ∙ sym (after_is ∙ ap after reply)),
+          sym (reply_is ∙ ap next_is reply),
+        )
 
     -- and where none is free
     pub next_none : None ≡ option_map (hand_to (courses_in w) (moment_of w)) (find (is_free (relation w) (courses_in w) (moment_of w)) (rotation (moment_of w) w.served))
         → (r : Next) → r ≡ none_free_reply (relation w) (courses_in w) (moment_of w) w.served → (w ≡ after_call v next) × (next_is r ≡ (answer_in v next).reply)
     next_none first r told =
-        let reply = none_given (courses_in v) n none_free found (first ∙ ap found_in is) in
-        (is
-        ∙ (ap (λ ks. record { conflicts = v.conflicts; plans = v.plans; opening = v.opening; kept = ks; served = v.served }) (ap (λ ks. v.kept ++ ks) (sym (append-nil vs)))
-        ∙ (ap (λ ks. record { conflicts = v.conflicts; plans = v.plans; opening = v.opening; kept = v.kept ++ (vs ++ ks); served = v.served }) (sym (kept_none v n v.served))
-        ∙ (ap (λ s. record { conflicts = v.conflicts; plans = v.plans; opening = v.opening; kept = v.kept ++ (vs ++ next_kept none_free); served = s }) (sym (served_none v n v.served))
-        ∙ sym (after_is ∙ ap after reply)))),
-        ap next_is (told ∙ ap (λ x. none_free_reply (relation x) (courses_in x) (moment_of x) x.served) is) ∙ sym (reply_is ∙ ap next_is reply))
+        let reply = none_given (courses_in v) n none_free found (first ∙ ap found_in is) in (
+          is
+              ∙ (ap (λ ks. record { conflicts = v.conflicts; plans = v.plans; opening = v.opening; kept = ks; served = v.served }) (ap (λ ks. v.kept ++ ks) (sym (append-nil vs)))
+              ∙ (ap (λ ks. record { conflicts = v.conflicts; plans = v.plans; opening = v.opening; kept = v.kept ++ (vs ++ ks); served = v.served }) (sym (kept_none v n v.served))
+              ∙ (ap (λ s. record { conflicts = v.conflicts; plans = v.plans; opening = v.opening; kept = v.kept ++ (vs ++ next_kept none_free); served = s }) (sym (served_none v n v.served))
+              ∙ sym (after_is ∙ ap after reply)))),
+          ap next_is (told ∙ ap (λ x. none_free_reply (relation x) (courses_in x) (moment_of x) x.served) is) ∙ sym (reply_is ∙ ap next_is reply),
+        )

@@ -77,7 +77,13 @@ impl Core {
     {
         let event = self.kept.len() as u32 + 1;
         let place = process as usize - 1;
-        let refusal = refuse(&mut self.seats[place], &mut self.holds, process, step, event);
+        let refusal = refuse(
+            &mut self.seats[place],
+            &mut self.holds,
+            process,
+            step,
+            event,
+        );
         if !drags_along(refusal) {
             self.kept.push_reserved(Kept::Refuse(number));
             return refusal;
@@ -101,11 +107,6 @@ impl Core {
         ensures core { self.new ≡ after_call self.old (finish piece.piece.number Refused) }
         ensures reply { finished (refused result) ≡ (answer_in self.old (finish piece.piece.number Refused)).reply }
     {
-        self.refuse_piece(
-            piece.number(),
-            piece.process(),
-            piece.step(),
-            piece.work(),
-        )
+        self.refuse_piece(piece.number(), piece.process(), piece.step(), piece.work())
     }
 }

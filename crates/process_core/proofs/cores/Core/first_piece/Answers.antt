@@ -15,6 +15,8 @@ returns-in-Piece c =
 pub loop-i-preserved : goal.loop-i-preserved
 loop-i-preserved c =
     let v = c.args.self.now in
-    let low = c.loop-i.invariant.1 in
-    (told_next (λ i. piece_in (admit_reply (relation v) (courses_in v) (moment_of v) i)) c.args.from c.loop-i.i low c.loop-i.invariant.0
-    ∙ (ap piece_in (sym c.reply_of.ensures) ∙ no_piece c.reply_of.result c.in_default.not-Piece), omega arith)
+    let low = c.loop-i.invariant.1 in (
+      told_next (λ i. piece_in (admit_reply (relation v) (courses_in v) (moment_of v) i)) c.args.from c.loop-i.i low c.loop-i.invariant.0
+          ∙ (ap piece_in (sym c.reply_of.ensures) ∙ no_piece c.reply_of.result c.in_default.not-Piece),
+      omega arith,
+    )

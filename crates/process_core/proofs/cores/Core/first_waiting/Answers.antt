@@ -16,6 +16,8 @@ returns-in-Blocked c =
 pub loop-i-preserved : goal.loop-i-preserved
 loop-i-preserved c =
     let v = c.args.self.now in
-    let low = c.loop-i.invariant.1 in
-    (told_next (λ i. waiting_in i (admit_reply (relation v) (courses_in v) (moment_of v) i)) c.args.from c.loop-i.i low c.loop-i.invariant.0
-    ∙ (ap (waiting_in c.loop-i.i) (sym c.reply_of.ensures) ∙ no_block c.loop-i.i c.reply_of.result c.in_default.not-Blocked), omega arith)
+    let low = c.loop-i.invariant.1 in (
+      told_next (λ i. waiting_in i (admit_reply (relation v) (courses_in v) (moment_of v) i)) c.args.from c.loop-i.i low c.loop-i.invariant.0
+          ∙ (ap (waiting_in c.loop-i.i) (sym c.reply_of.ensures) ∙ no_block c.loop-i.i c.reply_of.result c.in_default.not-Blocked),
+      omega arith,
+    )
