@@ -2,7 +2,8 @@
 //!
 //! A core is seen as a machine of `machine_model` with the plans of its processes (`specs/Cores`). What it keeps is what the machine
 //! says at its moment: an instance for each active process, and the tables of what these hold (`specs/Seats`, `OpenTables`). It opens
-//! on any legal history. Each call keeps and answers what the machine does (`specs/Answers`); only `open` and `start` take memory.
+//! on any legal history. Each call keeps and answers what the machine does (`specs/Answers`); only `open`, `make_room` and `start` take
+//! memory, and `start_in` starts a process in room that was made before (`specs/StartRoom`).
 #![tactic(auto)]
 
 mod beginnings;

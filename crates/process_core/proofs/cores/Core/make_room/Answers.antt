@@ -1,4 +1,4 @@
-use Rattle.std.proofs.Common.{◌≤◌, ◌∙◌, sym, subst, arith, vec_capacity, length}
+use Rattle.std.proofs.Common.{◌∙◌, vec_capacity, sym, subst, arith}
 use Rattle.process_core.specs.Room.{IsKept}
 use Rattle.process_core.proofs.StandingFacts.{seats_few}
 use Rattle.process_core.proofs.StartRooms.{room_is}
