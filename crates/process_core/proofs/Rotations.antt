@@ -52,7 +52,7 @@ filter_swap p q (x ∷ xs) = by_both (p x) (q x) refl refl (filter_swap p q xs)
     by_both false true is at rest = ap (λ c. if c then x ∷ filter p (filter q xs) else filter p (filter q xs)) is ∙ rest
     by_both false false is at rest = rest
 
-numbers_split : (a k n : ℕ) → numbers_from a (k + n) ≡ numbers_from a k ++ numbers_from (a + k) n
+pub numbers_split : (a k n : ℕ) → numbers_from a (k + n) ≡ numbers_from a k ++ numbers_from (a + k) n
 numbers_split a zero n =
     let e : a ≡ a + 0 = omega arith in
     let z : zero + n ≡ n = omega arith in

@@ -1,23 +1,30 @@
 -- The victims of a core, as they are kept one after another.
-use Rattle.std.proofs.Common.{◌≡◌, ℕ, suc, ◌≤◌, ◌<◌, true, not, List, [], ◌∷◌, ◌++◌, length, Option, Some, None, sym, refl, ap, subst, ◌∙◌, append_assoc, append-nil, arith}
-use Rattle.std.proofs.lemmas.Bool.{eq-eqb}
+use Rattle.std.proofs.Common.{◌≡◌, ℕ, suc, false, find, is_some, ◌≤◌, ◌<◌, true, not, List, [], ◌∷◌, ◌++◌, length, Option, Some, None, sym, refl, ap, subst, ◌∙◌, append_assoc, append-nil, arith}
+use Rattle.std.specs.Option.{option_map}
+use Rattle.std.proofs.lemmas.Bool.{eq-eqb, false≢true}
 use Rattle.schedule_model.specs.Histories.{active}
 use Rattle.schedule_model.proofs.Counts.{length_filter-most}
 use Rattle.machine_model.specs.declared.kept.Kept.{Kept}
 use Rattle.machine_model.specs.declared.kept.Kept.TheVariants.{Victim}
 use Rattle.machine_model.specs.Advance.{advance}
 use Rattle.machine_model.specs.Moment.{Moment, has_begun}
-use Rattle.machine_model.specs.Replies.{all_victims, victim_then, victims}
+use Rattle.machine_model.specs.Replies.{Handed, all_victims, hand_to, rotation, victim_then, victims}
 use Rattle.machine_model.specs.Runs.{is_victim, may_be_kept}
-use Rattle.machine_model.specs.State.{victim_of}
+use Rattle.machine_model.specs.State.{is_free, victim_of}
 use Rattle.machine_model.proofs.Snoc.{now-push}
 use Rattle.machine_model.proofs.Victims.{not_begun, victim-active, victim-fewer, victims-same}
 use Rattle.process_core.specs.Cores.{CoreState, courses_in, machine_of, moment_of, relation}
 use Rattle.process_core.specs.Handing.{with_all, with_kept}
+use Rattle.process_core.proofs.Stalls.{free_victim}
 
 -- a core once its victims are made
 abbrev pub with_victims : CoreState → CoreState
 with_victims v = with_all v (all_victims (relation v) (courses_in v) (moment_of v))
+
+-- where nothing is mapped there is nothing
+pub none_mapped : {X : Type 0} (g : ℕ → X) (o : Option ℕ) → is_some (option_map g o) ≡ false → o ≡ None
+none_mapped g None is = refl
+none_mapped g (Some i) is = absurd (false≢true (sym is))
 
 module _ (v : CoreState) where
   abbrev m : Moment
@@ -45,6 +52,12 @@ module _ (v : CoreState) where
   pub victims_over : (o : Option ℕ) → o ≡ victim_of (relation v) (courses_in v) (moment_of v) → ((i : ℕ) → o ≡ Some i → ⊥) → with_victims v ≡ v
   victims_over None is none = victims_end is
   victims_over (Some i) is none = absurd (none i refl)
+
+  -- where a piece is free there is none
+  pub victims_free : (first : Option Handed) → first ≡ option_map (hand_to (courses_in v) (moment_of v)) (find (is_free (relation v) (courses_in v) (moment_of v)) (rotation (moment_of v) v.served))
+      → is_some first ≡ true → with_victims v ≡ v
+  victims_free None is some = absurd (false≢true some)
+  victims_free (Some d) is some = victims_end (sym (free_victim (relation v) (courses_in v) (moment_of v) v.served d is))
 
   module _ (i : ℕ) (is : Some i ≡ victim_of (relation v) (courses_in v) (moment_of v)) where
     -- where there is one, it may be kept

@@ -37,8 +37,7 @@ impl Core {
         ensures core { self.new ≡ after_call self.old next }
         ensures reply { next_is (next_reply_of result) ≡ (answer_in self.old next).reply }
     {
-        self.make_victims();
-        match self.next_piece() {
+        match self.free_piece() {
             None => self.none_free(),
             Some(piece) => {
                 self.hand(&piece);

@@ -36,7 +36,7 @@ impl Core {
     }
 
     /// The first piece that may be handed out, of the processes from one number to before another.
-    pub(crate) fn first_piece(&self, from: u32, to: u32) -> Option<Piece>
+    fn first_piece(&self, from: u32, to: u32) -> Option<Piece>
         requires { from ≤ to }
         ensures { result ≡ first_told (λ i. piece_in (admit_reply (relation self.now) (courses_in self.now) (moment_of self.now) i)) (numbers_from from (to - from)) }
     {

@@ -1,15 +1,17 @@
 // The victim of a stall.
-ghost use Rattle.std.specs.Prelude.{◌≡◌, filter};
+ghost use Rattle.std.specs.Prelude.{◌≡◌, None, filter, find};
+ghost use Rattle.std.specs.Option.{option_map};
 ghost use Rattle.process_tree.specs.Blocks.{numbers_from};
 ghost use Rattle.process_tree.specs.Shape.{greatest};
 ghost use Rattle.machine_model.specs.Moment.{has_begun};
-ghost use Rattle.machine_model.specs.Replies.{admit_reply, all_victims};
-ghost use Rattle.machine_model.specs.State.{victim_of};
+ghost use Rattle.machine_model.specs.Replies.{admit_reply, all_victims, hand_to, rotation};
+ghost use Rattle.machine_model.specs.State.{is_free, victim_of};
 ghost use Rattle.process_core.specs.Cores.{courses_in, moment_of, relation};
 ghost use Rattle.process_core.specs.Handing.{with_all};
 ghost use Rattle.process_core.specs.Rotation.{can_be_victim};
 
 use crate::cores::Core;
+use crate::pieces::Piece;
 use crate::replies::Admit;
 
 impl Core {
@@ -32,34 +34,41 @@ impl Core {
     {
         let mut left = count;
         while left > 0 {
-            if self.can_be_victim(left) {
-                return Some(left);
+            let i = left;
+            if self.can_be_victim(i) {
+                return Some(i);
             }
             left -= 1;
         }
         None
     }
 
-    /// The victim, where nothing runs and no piece is free.
-    pub(crate) fn stalled_victim(&self) -> Option<u32>
+    /// The victim, where no piece is free. There is none while a piece runs.
+    fn blocked_victim(&self) -> Option<u32>
+        requires { find (is_free (relation self.now) (courses_in self.now) (moment_of self.now)) (rotation (moment_of self.now) self.now.served) ≡ None }
         ensures { result ≡ victim_of (relation self.now) (courses_in self.now) (moment_of self.now) }
     {
         let count = self.seats.len() as u32;
         if self.is_running() {
-            return None;
+            None
+        } else {
+            self.greatest_victim(count)
         }
-        if self.first_piece(1, count + 1).is_some() {
-            return None;
-        }
-        self.greatest_victim(count)
     }
 
-    /// As long as there is a stall with a victim, this one begins to complete.
-    pub(crate) fn make_victims(&mut self)
-        ensures { self.new ≡ with_all self.old (all_victims (relation self.old) (courses_in self.old) (moment_of self.old)) }
+    /// The first free piece in rotation, once the victims are made.
+    pub(crate) fn free_piece(&mut self) -> Option<Piece>
+        ensures core { self.new ≡ with_all self.old (all_victims (relation self.old) (courses_in self.old) (moment_of self.old)) }
+        ensures piece { result ≡ option_map (hand_to (courses_in self.new) (moment_of self.new)) (find (is_free (relation self.new) (courses_in self.new) (moment_of self.new)) (rotation (moment_of self.new) self.new.served)) }
     {
-        'stalls: while let Some(i) = self.stalled_victim() {
+        let mut first = self.next_piece();
+        'stalls: while first.is_none() {
+            let Some(i) = self.blocked_victim() else {
+                return None;
+            };
             self.make_victim(i);
+            first = self.next_piece();
         }
+        first
     }
 }

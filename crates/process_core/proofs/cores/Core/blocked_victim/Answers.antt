@@ -1,0 +1,37 @@
+use Rattle.std.proofs.Common.{◌≡◌, ◌∙◌, ℕ, ◌+◌, filter, length, sym, ap, subst, arith}
+use Rattle.process_tree.specs.Blocks.{numbers_from}
+use Rattle.process_tree.specs.Shape.{greatest}
+use Rattle.machine_model.specs.Moment.{has_begun}
+use Rattle.machine_model.specs.Replies.{admit_reply}
+use Rattle.process_core.specs.Cores.{IsCore, courses_in, moment_of, relation}
+use Rattle.process_core.specs.Rotation.{can_be_victim}
+use Rattle.process_core.specs.Seats.{seats_of}
+use Rattle.process_core.proofs.Rotations.{few_plans, numbered_now}
+use Rattle.process_core.proofs.SeatFacts.{seats_many}
+use Rattle.process_core.proofs.Stalls.{blocked_victim, idle_now, runs_now, runs_on}
+use Rattle.process_core.proofs.cores.Core.blocked_victim.Goals as goal
+
+pub overflow_cast-count : goal.overflow_cast-count
+overflow_cast-count c =
+    let v = c.args.self.now in
+    let core = subst IsCore c.self.view_is c.self.invariant.stands.core in
+    let many = seats_many v c.self.inside.seats.items (subst (λ x. c.self.inside.seats.items ≡ seats_of (courses_in x) (moment_of x)) c.self.view_is c.self.invariant.stands.seats) in
+    let few = few_plans v core in
+    let is = c.len-count.ensures in
+    omega arith
+
+pub returns-then-is_running : goal.returns-then-is_running
+returns-then-is_running c =
+    let v = c.args.self.now in
+    sym (runs_on (relation v) (courses_in v) (moment_of v) (runs_now (moment_of v) (sym c.is_running.ensures ∙ c.if-is_running.true)))
+
+pub returns-else-is_running : goal.returns-else-is_running
+returns-else-is_running c =
+    let v = c.args.self.now in
+    let core = subst IsCore c.self.view_is c.self.invariant.stands.core in
+    let all = seats_many v c.self.inside.seats.items (subst (λ x. c.self.inside.seats.items ≡ seats_of (courses_in x) (moment_of x)) c.self.view_is c.self.invariant.stands.seats) in
+    let is = c.len-count.ensures in
+    let same : c.len-count.result ≡ length v.plans = omega arith in
+    c.greatest_victim.ensures
+    ∙ (ap (λ k. greatest (filter (λ i. can_be_victim (has_begun (moment_of v) i) (admit_reply (relation v) (courses_in v) (moment_of v) i)) (numbers_from 1 k))) same
+    ∙ sym (blocked_victim (relation v) (courses_in v) (moment_of v) (length v.plans) v.served (numbered_now v core) (idle_now (moment_of v) (sym c.is_running.ensures ∙ c.if-is_running.false)) c.requires))
