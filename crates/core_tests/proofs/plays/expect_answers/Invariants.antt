@@ -1,0 +1,5 @@
+use Rattle.core_tests.specs.Pieces.{AreHandedBy}
+use Rattle.core_tests.proofs.plays.expect_answers.Given as goal
+
+abbrev pub invariant-loop-turn : goal.invariant-loop-turn
+invariant-loop-turn g l = AreHandedBy l.core l.pieces.items

@@ -1,0 +1,140 @@
+// Calls of a core by the numbers of processes and pieces.
+ghost use Rattle.std.specs.Prelude.{◌≡◌, ◌<◌, length, IfOk, IfSome};
+ghost use Rattle.machine_model.specs.declared.replies.PieceState.TheVariants.{Out};
+ghost use Rattle.machine_model.specs.Pieces.{state_of};
+ghost use Rattle.process_core.specs.Cores.{IsHandedBy, moment_of};
+ghost use Rattle.core_tests.specs.Pieces.{AreHandedBy, StayHanded};
+
+use machine_model::Blocked;
+use process_core::{Aborted, Admit, Core, Piece, PieceState, Refusal, Work};
+use std::test::Fail;
+
+/// A call of a core.
+#[derive(Clone, Copy, Debug, PartialEq, Eq)]
+pub enum Call {
+    /// A piece of this process is asked for.
+    Admit(u32),
+    /// This piece took effect.
+    Done(u32),
+    /// This piece was refused.
+    Refused(u32),
+    /// This process is asked to complete.
+    Abort(u32),
+    /// All are.
+    CompleteAll,
+}
+
+/// What it answers.
+#[derive(Clone, Copy, Debug, PartialEq, Eq)]
+pub enum Answer {
+    /// This piece: its number, its process, its step, and what it does.
+    Piece(u32, u32, u16, Work),
+    Blocked(Blocked),
+    Running,
+    Unknown,
+    Ended,
+    Exhausted(u16),
+    /// The history has so many events then.
+    Effected(u32),
+    Refused(Refusal),
+    /// An end isn't refused.
+    NoRefusal,
+    /// The piece was dropped at this kept event.
+    Dropped(u32),
+    Over,
+    /// No such piece was handed out, or it came back before.
+    NoPiece,
+    Aborted(Aborted),
+    AllComplete,
+}
+
+fn answer_of(piece: &Piece) -> Answer {
+    Answer::Piece(piece.number(), piece.process(), piece.step(), piece.work())
+}
+
+// Asks for a piece of a process, and keeps it.
+fn admitted(core: &mut Core, pieces: &mut Vec<Piece>, i: u32) -> Result<Answer, Fail>
+    requires { AreHandedBy core.old pieces.old.items }
+    ensures { IfOk result (λ _. AreHandedBy core.new pieces.new.items) }
+{
+    core.is_run();
+    match core.admit(i) {
+        Admit::Piece(piece) => {
+            let answer = answer_of(&piece);
+            pieces.push(piece)?;
+            Ok(answer)
+        }
+        Admit::Blocked(block) => Ok(Answer::Blocked(block)),
+        Admit::Running => Ok(Answer::Running),
+        Admit::Unknown => Ok(Answer::Unknown),
+        Admit::Ended => Ok(Answer::Ended),
+        Admit::Exhausted(step) => Ok(Answer::Exhausted(step)),
+    }
+}
+
+// The place of the piece of a number.
+fn place_of(pieces: &[Piece], number: u32) -> Option<usize>
+    ensures { IfSome result (λ place. place < length pieces.now) }
+{
+    for place in 0..pieces.len() {
+        if pieces[place].number() == number {
+            return Some(place);
+        }
+    }
+    None
+}
+
+// The piece of a number comes back.
+fn take_back(core: &Core, pieces: &mut Vec<Piece>, number: u32) -> Option<Piece>
+    requires { AreHandedBy core.now pieces.old.items }
+    ensures piece { IfSome result (λ piece. IsHandedBy core.now piece.piece) }
+    ensures pieces { AreHandedBy core.now pieces.new.items }
+{
+    let place = place_of(pieces, number)?;
+    Some(pieces.remove(place))
+}
+
+// A piece is refused, if it is no end.
+fn refused(core: &mut Core, piece: Piece) -> Answer
+    requires handed { IsHandedBy core.old piece.piece }
+    requires out { state_of (moment_of core.old) piece.piece.number ≡ Out }
+    ensures { StayHanded core.old core.new }
+{
+    match piece.work() {
+        Work::End => Answer::NoRefusal,
+        Work::Forward | Work::Undo => Answer::Refused(core.refused(piece)),
+    }
+}
+
+// A piece takes effect or is refused, if it is out.
+fn finished(core: &mut Core, pieces: &mut Vec<Piece>, number: u32, is_done: bool) -> Answer
+    requires { AreHandedBy core.old pieces.old.items }
+    ensures { AreHandedBy core.new pieces.new.items }
+{
+    let Some(piece) = take_back(core, pieces, number) else {
+        return Answer::NoPiece;
+    };
+    match core.state(&piece) {
+        PieceState::Out if is_done => Answer::Effected(core.effected(piece)),
+        PieceState::Out => refused(core, piece),
+        PieceState::Dropped(event) => Answer::Dropped(event),
+        PieceState::Over => Answer::Over,
+    }
+}
+
+/// What a call answers.
+pub fn reply_to(core: &mut Core, pieces: &mut Vec<Piece>, call: Call) -> Result<Answer, Fail>
+    requires { AreHandedBy core.old pieces.old.items }
+    ensures { IfOk result (λ _. AreHandedBy core.new pieces.new.items) }
+{
+    match call {
+        Call::Admit(i) => admitted(core, pieces, i),
+        Call::Done(number) => Ok(finished(core, pieces, number, true)),
+        Call::Refused(number) => Ok(finished(core, pieces, number, false)),
+        Call::Abort(i) => Ok(Answer::Aborted(core.abort(i))),
+        Call::CompleteAll => {
+            core.complete_all();
+            Ok(Answer::AllComplete)
+        }
+    }
+}

@@ -1,0 +1,13 @@
+//! Tests of the scheduler: plays of two processes, whose answers, histories and causes follow from the rules.
+//!
+//! They stand apart from the crates that they test, since a crate with tests is proved twice.
+#![tactic(auto)]
+
+#[cfg(test)]
+mod calls;
+#[cfg(test)]
+mod plays;
+#[cfg(test)]
+mod starts;
+#[cfg(test)]
+mod worked;

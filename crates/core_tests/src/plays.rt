@@ -1,0 +1,88 @@
+// Plays: calls of a core on which processes have started, and what comes of them.
+use crate::calls::{Answer, Call, reply_to};
+use crate::starts::started;
+use process_core::{Began, Core};
+use process_tree::Entry;
+use schedule_model::Event;
+use std::alloc::Global;
+use std::process::Abort;
+use std::test::Fail;
+
+/// What happens in a play.
+#[derive(Clone, Copy, Debug, PartialEq, Eq)]
+pub enum Happens {
+    Start(u32),
+    /// This process does this step, which has this operation.
+    Do(u32, u16, u16),
+    /// It undoes it.
+    Undo(u32, u16, u16),
+    End(u32),
+}
+
+pub struct Play {
+    pub name: &'static str,
+    /// The processes that start, in this order.
+    pub texts: &'static [&'static [u8]],
+    /// Each call with its answer.
+    pub turns: &'static [(Call, Answer)],
+    /// The history after these.
+    pub events: &'static [Happens],
+    /// When and why these processes began to complete, if they did.
+    pub began: &'static [(u32, Option<Began>)],
+}
+
+fn act(process: u32, step: u16, op: u16, undo: bool) -> Event {
+    Event::Act(Entry {
+        process,
+        step,
+        op,
+        undo,
+    })
+}
+
+fn event_of(happens: Happens) -> Event {
+    match happens {
+        Happens::Start(i) => Event::Start(i),
+        Happens::Do(i, step, op) => act(i, step, op, false),
+        Happens::Undo(i, step, op) => act(i, step, op, true),
+        Happens::End(i) => Event::End(i),
+    }
+}
+
+// Each call has its answer.
+fn expect_answers<H: Abort>(
+    rt: &H,
+    alloc: Global,
+    core: &mut Core,
+    play: &Play,
+) -> Result<(), Fail> {
+    let mut pieces = Vec::new(alloc);
+    for (turn, (call, wanted)) in play.turns.iter().enumerate() {
+        let answered = reply_to(core, &mut pieces, *call)?;
+        assert_eq!(rt; answered, *wanted, "{}, turn {turn}", play.name);
+    }
+    Ok(())
+}
+
+fn expect_history<H: Abort>(rt: &H, core: &Core, play: &Play) {
+    let events = core.history().events.as_slice();
+    assert_eq!(rt; events.len(), play.events.len(), "{}", play.name);
+    for (event, wanted) in events.iter().zip(play.events) {
+        assert_eq!(rt; *event, event_of(*wanted), "{}", play.name);
+    }
+}
+
+fn expect_beginnings<H: Abort>(rt: &H, core: &Core, play: &Play) {
+    for (i, wanted) in play.began {
+        assert_eq!(rt; core.began(*i), *wanted, "{}", play.name);
+    }
+}
+
+/// The play goes as it should.
+pub fn expect_play<H: Abort>(rt: &H, alloc: Global, play: &Play) -> Result<(), Fail> {
+    let mut core = started(alloc, play.texts)?;
+    expect_answers(rt, alloc, &mut core, play)?;
+    expect_history(rt, &core, play);
+    expect_beginnings(rt, &core, play);
+    Ok(())
+}

@@ -1,0 +1,115 @@
+// Processes start from their text, over a catalog of nine operations.
+ghost use Rattle.std.specs.Prelude.{◌≡◌, ◌<◌, None, IfOk};
+ghost use Rattle.process_tree.specs.Conflicts.{operations_in};
+ghost use Rattle.process_tree.specs.Making.{tree_fault};
+ghost use Rattle.process_tree.specs.Order.{Each};
+ghost use Rattle.commute_table.specs.Operations.{IsCatalog};
+ghost use Rattle.schedule_model.specs.Laws.{IsGoodPlan};
+
+use commute_table::{Catalog, bind, read_catalog};
+use process_core::Core;
+use process_text::read;
+use process_tree::{Conflicts, Named, Plan};
+use schedule_model::{Events, History, Plans};
+use std::alloc::Global;
+use std::test::Fail;
+use well_formed::{Verdict, check};
+
+pub const ADD: u16 = 0;
+
+pub const TAKE: u16 = 1;
+
+pub const PAY: u16 = 2;
+
+pub const SHIP: u16 = 3;
+
+pub const NOTE: u16 = 4;
+
+// Adding conflicts with taking, taking with taking, noting with noting, and booking with booking.
+const CATALOG: [u8; 109] = [
+    // version, and nine operations
+    1, 9, 0, 3, b'a', b'd', b'd', 0, 0, // add
+    4, b't', b'a', b'k', b'e', 0, 1, // take
+    3, b'p', b'a', b'y', 1, 0, // pay
+    4, b's', b'h', b'i', b'p', 2, 0, // ship
+    4, b'n', b'o', b't', b'e', 4, 3, // note
+    4, b'b', b'o', b'o', b'k', 6, 4, // book
+    4, b'l', b'o', b'a', b'd', 2, 0, // load
+    4, b'h', b'a', b'u', b'l', 2, 0, // haul
+    4, b'm', b'a', b'i', b'l', 3, 0, // mail
+    // the pairs of each operation with itself and the later ones
+    0, 1, 0, 0, 0, 0, 0, 0, 0, 1, 0, 0, 0, 0, 0, 0, 0, 0, 0, 0, 0, 0, 0, 0, 0, 0, 0, 0, 0, 0, 1, 0,
+    0, 0, 0, 1, 0, 0, 0, 0, 0, 0, 0, 0, 0,
+];
+
+fn catalog(alloc: Global) -> Result<Catalog, Fail>
+    ensures { IfOk result IsCatalog }
+{
+    let Ok(catalog) = read_catalog(alloc, &CATALOG) else {
+        return Err("no catalog".into());
+    };
+    Ok(catalog)
+}
+
+// A core on which nothing has happened.
+fn opened(alloc: Global, conflicts: Conflicts) -> Result<Core, Fail>
+    ensures { IfOk result (λ core. core.conflicts ≡ conflicts) }
+{
+    let plans = Plans::new(Vec::new(alloc))?;
+    let events = Events::new(Vec::new(alloc))?;
+    Ok(Core::open(alloc, History { plans, events }, conflicts)?)
+}
+
+// The plan of a process that can't get stuck.
+fn plan(alloc: Global, named: Named, catalog: &Catalog) -> Result<Plan, Fail>
+    requires catalog { IsCatalog catalog.now }
+    requires tree { tree_fault named.tree ≡ None }
+    ensures good { IfOk result IsGoodPlan }
+    ensures known { IfOk result (λ plan. Each (λ op. op < operations_in catalog.now.conflicts) plan.ops) }
+{
+    let Verdict::Good = check(alloc, &named.tree) else {
+        return Err("not well-formed".into());
+    };
+    let Ok(plan) = bind(alloc, named, catalog) else {
+        return Err("unknown operation".into());
+    };
+    Ok(plan)
+}
+
+// The process of a text.
+fn process(alloc: Global, text: &[u8]) -> Result<Named, Fail>
+    ensures { IfOk result (λ named. tree_fault named.tree ≡ None) }
+{
+    let Ok(mut found) = read(alloc, text) else {
+        return Err("no process text".into());
+    };
+    let Some(last) = found.pop() else {
+        return Err("no process".into());
+    };
+    Ok(last)
+}
+
+// Starts the process of a text.
+fn start(alloc: Global, core: &mut Core, text: &[u8], catalog: &Catalog) -> Result<u32, Fail>
+    requires catalog { IsCatalog catalog.now }
+    requires conflicts { core.old.conflicts ≡ catalog.now.conflicts }
+    ensures { IfOk result (λ i. core.new.conflicts ≡ catalog.now.conflicts) }
+{
+    let named = process(alloc, text)?;
+    let plan = plan(alloc, named, catalog)?;
+    match core.start(plan) {
+        Ok(number) => Ok(number),
+        Err(_) => Err("not started".into()),
+    }
+}
+
+/// A core on which the processes of these texts have started.
+pub fn started(alloc: Global, texts: &[&[u8]]) -> Result<Core, Fail> {
+    let catalog = catalog(alloc)?;
+    let conflicts = catalog.conflicts.copy(alloc)?;
+    let mut core = opened(alloc, conflicts)?;
+    for text in texts {
+        start(alloc, &mut core, text, &catalog)?;
+    }
+    Ok(core)
+}
