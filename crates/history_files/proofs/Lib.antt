@@ -21,3 +21,4 @@ pub mod FewEffects
 pub mod Undoables
 pub mod StandingSteps
 pub mod MayBePrepared
+pub mod BoxKinds

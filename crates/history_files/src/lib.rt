@@ -13,11 +13,13 @@ mod effects;
 mod faults;
 mod files;
 mod laws;
+mod handing_back;
 mod making;
 mod parts;
 mod reading;
 mod steps;
 
+pub use boxes::clear_all;
 pub use effects::{effect_of, subsystem_of};
 pub use faults::{BookFault, CreateError, CreateRefused, OpenError};
 pub use files::Files;
