@@ -15,6 +15,7 @@ pub mod Unused
 pub mod ReadStores
 pub mod NextEffects
 pub mod NextBooks
+pub mod Differences
 pub mod PlansOfEffects
 pub mod Amounts
 pub mod FewEffects

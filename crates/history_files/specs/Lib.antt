@@ -1,4 +1,5 @@
 pub mod Boxes
+pub mod Comparing
 pub mod Creating
 pub mod Effects
 mod Examples

@@ -8,6 +8,7 @@
 #![tactic(auto)]
 
 mod boxes;
+mod comparing;
 mod creating;
 mod effects;
 mod faults;

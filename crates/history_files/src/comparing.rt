@@ -1,0 +1,171 @@
+// Books beside the effects of a history.
+ghost use Rattle.std.specs.Prelude.{◌≡◌, ◌<◌, ◌+◌, ◌++◌, ◌^◌, [], length, option_copied};
+ghost use Rattle.commute_table.specs.Bytes.{verb_code};
+ghost use Rattle.subsystem_store.specs.Laws.{in_doubt};
+ghost use Rattle.subsystem_store.specs.Values.{same_call};
+ghost use Rattle.history_files.specs.Comparing.{difference_from, difference, counting};
+ghost use Rattle.history_files.specs.Sound.{same_effect, is_among};
+
+use crate::BookFault;
+use commute_table::Verb;
+use resource_box::{Call, Resource};
+use subsystem_store::{Effect, Store};
+
+fn code_of(verb: Verb) -> u8
+    ensures { result ≡ verb_code verb }
+{
+    match verb {
+        Verb::Add => 0,
+        Verb::Take => 1,
+        Verb::Look => 2,
+        Verb::Put => 3,
+        Verb::Hold => 4,
+        Verb::Free => 5,
+    }
+}
+
+fn same_call(a: &Call, b: &Call) -> bool
+    ensures { result ≡ same_call a.now b.now }
+{
+    code_of(a.verb) == code_of(b.verb) && a.key == b.key && a.amount == b.amount
+}
+
+fn same_effect(a: &Effect, b: &Effect) -> bool
+    ensures { result ≡ same_effect a.now b.now }
+{
+    let same_undo = if a.undo { b.undo } else { !b.undo };
+    a.number == b.number
+        && a.process == b.process
+        && a.step == b.step
+        && same_undo
+        && same_call(&a.call, &b.call)
+}
+
+/// Whether an effect stands among these.
+pub fn is_among(effect: &Effect, effects: &[Effect]) -> bool
+    ensures { result ≡ is_among effect.now effects.now }
+{
+    let mut rest = effects;
+    while let [first, others @ ..] = rest {
+        if same_effect(effect, first) {
+            return true;
+        }
+        rest = others;
+    }
+    false
+}
+
+// The difference of no effect and some effects.
+fn left_over(subsystem: u8, at: u32, acts: &[Effect]) -> Option<BookFault>
+    ensures { result ≡ difference_from subsystem at [] acts.now }
+{
+    match acts {
+        [] => None,
+        [act, ..] => Some(BookFault {
+            subsystem,
+            at,
+            book: None,
+            acts: Some(*act),
+        }),
+    }
+}
+
+// The difference of at most one effect and some effects.
+fn last_difference(
+    subsystem: u8,
+    at: u32,
+    last: Option<Effect>,
+    acts: &[Effect],
+) -> Option<BookFault>
+    requires few { at + 1 < 2 ^ 32 }
+    ensures { result ≡ difference_from subsystem at (in_doubt last) acts.now }
+{
+    let Some(own) = last else {
+        return left_over(subsystem, at, acts);
+    };
+    match acts {
+        [] => Some(BookFault {
+            subsystem,
+            at,
+            book: Some(own),
+            acts: None,
+        }),
+        [act, later @ ..] => {
+            if same_effect(&own, act) {
+                return left_over(subsystem, at + 1, later);
+            }
+            Some(BookFault {
+                subsystem,
+                at,
+                book: Some(own),
+                acts: Some(*act),
+            })
+        }
+    }
+}
+
+/// The first difference of a book, with one effect more if there is one, and the effects of a history.
+pub fn first_difference(
+    subsystem: u8,
+    book: &[Effect],
+    last: Option<Effect>,
+    acts: &[Effect],
+) -> Option<BookFault>
+    requires few { length book.now + 2 < 2 ^ 32 }
+    ensures { result ≡ difference subsystem (book.now ++ in_doubt last) acts.now }
+{
+    let mut at = 1;
+    let mut rest = book;
+    let mut acts = acts;
+    while let [own, others @ ..] = rest {
+        let [act, later @ ..] = acts else {
+            return Some(BookFault {
+                subsystem,
+                at,
+                book: Some(*own),
+                acts: None,
+            });
+        };
+        if !same_effect(own, act) {
+            return Some(BookFault {
+                subsystem,
+                at,
+                book: Some(*own),
+                acts: Some(*act),
+            });
+        }
+        at += 1;
+        rest = others;
+        acts = later;
+    }
+    last_difference(subsystem, at, last, acts)
+}
+
+// The effect in doubt, where it stands among the effects of the history.
+fn counting(doubt: Option<&Effect>, acts: &[Effect]) -> Option<Effect>
+    ensures { result ≡ counting acts.now (option_copied doubt.entry) }
+{
+    match doubt {
+        Some(effect) => {
+            if is_among(effect, acts) {
+                Some(*effect)
+            } else {
+                None
+            }
+        }
+        None => None,
+    }
+}
+
+/// The first difference of what the book of a store comes to and the effects of the history.
+pub fn store_difference<B: Resource>(
+    subsystem: u8,
+    store: &Store<B>,
+    acts: &[Effect],
+) -> Option<BookFault>
+    requires few { length store.now.book + 2 < 2 ^ 32 }
+    ensures { result ≡ difference subsystem (store.now.book ++ in_doubt (counting acts.now store.now.doubt)) acts.now }
+{
+    let last = counting(store.in_doubt(), acts);
+    first_difference(subsystem, store.book(), last, acts)
+}
