@@ -13,7 +13,7 @@ use Rattle.subsystem_store.specs.declared.effect.Effect.{Effect}
 use Rattle.subsystem_store.specs.Laws.{in_doubt}
 use Rattle.subsystem_store.specs.Values.{same_call}
 use Rattle.history_files.specs.declared.faults.BookFault.{BookFault}
-use Rattle.history_files.specs.Comparing.{counting, difference_from}
+use Rattle.history_files.specs.Comparing.{counting, difference, difference_from}
 use Rattle.history_files.specs.Sound.{counted, is_among, same_effect}
 use Rattle.history_files.proofs.NextBooks.{effect_itself}
 
@@ -78,3 +78,7 @@ counted_is es book (Some e) = by (is_among e es)
     by : (b : Bool) → (if b then book ++ e ∷ [] else book) ≡ book ++ in_doubt (if b then Some e else None)
     by true = refl
     by false = sym (append-nil book)
+
+-- so a book without a difference comes to the effects
+pub comes_to : (es book : List Effect) (doubt : Option Effect) (q : ℕ) → difference q (book ++ in_doubt (counting es doubt)) es ≡ None → counted es book doubt ≡ es
+comes_to es book doubt q none = counted_is es book doubt ∙ no_difference q 1 (book ++ in_doubt (counting es doubt)) es none

@@ -16,7 +16,7 @@ use Rattle.subsystem_store.specs.Opened.{Opened}
 use Rattle.subsystem_store.specs.Values.{same_call}
 use Rattle.process_journal.specs.Bodies.{with_event}
 use Rattle.history_files.specs.Effects.{effects, subsystem_of}
-use Rattle.history_files.specs.Laws.{AreSettled, CommittedAreSettled, PreparedComeTo, next_effect}
+use Rattle.history_files.specs.Laws.{AreSettled, BarredAreSettled, CommittedAreSettled, PreparedComeTo, next_effect}
 use Rattle.history_files.specs.Sound.{counted, is_among, same_effect}
 use Rattle.history_files.specs.Standing.{ComeTo, Commits}
 use Rattle.history_files.proofs.NextEffects.{acts_add_their_effect}
@@ -67,6 +67,14 @@ prepared_come_to ops h e q old new on settled changes =
     (set_each (λ k s. counted (effects ops (with_event h (Act e)) k) s.book s.doubt ≡ effects ops (with_event h (Act e)) k) old q changes.after
     (counts_prepared ops h e q on changes.after changes.by.0 (changes.by.1 ∙ (settled q changes.before changes.at).1))
     (λ k s not_q at. counts_settled ops h e q on k s (settled k s at) not_q))
+
+-- with nothing in doubt they stay settled
+pub barred_are_settled : {B : Type 0} → BarredAreSettled B
+barred_are_settled ops h q old new settled changes =
+    subst (AreSettled ops h) (sym changes.is)
+    (set_each (λ k s. (s.doubt ≡ None) × (s.book ≡ effects ops h k)) old q changes.after
+    (changes.by.0, changes.by.1 ∙ (settled q changes.before changes.at).1)
+    (λ k s not_q at. settled k s at))
 
 -- a store at the place of one that was set is that one
 the_set : {A : Type 0} (xs : List A) (q : ℕ) (y z : A) → slice_get (slice_set xs q y) q ≡ Some z → z ≡ y

@@ -52,6 +52,10 @@ abbrev pub CommittedAreSettled : Type 0 → Type 0
 CommittedAreSettled B = (ops : List Op) (h : History) (e : Entry) (q : ℕ) (old new last : List (Opened B)) → subsystem_of ops e.op ≡ q → AreSettled ops h old
     → Changes q (Doubts (Some (next_effect ops h e))) old new → Changes q Commits new last → AreSettled ops (with_event h (Act e)) last
 
+-- Where nothing came to be in doubt they stay settled for the history.
+abbrev pub BarredAreSettled : Type 0 → Type 0
+BarredAreSettled B = (ops : List Op) (h : History) (q : ℕ) (old new : List (Opened B)) → AreSettled ops h old → Changes q (Doubts None) old new → AreSettled ops h new
+
 -- What a store is asked of an effect that is prepared.
 pub record MayBePrepared (c : Catalog) (h : History) (e : Entry) (q : ℕ) : Type 0 where
   pub few : length (effects c.ops h q) < 16384

@@ -1,5 +1,5 @@
 // What is proved of the effects of histories: each function says it, and does nothing.
-ghost use Rattle.history_files.specs.Laws.{ActsAddTheirEffect, EndsAddNone, StartsAddNone, NextEffectsMayBePrepared, PreparedComeTo, CommittedAreSettled};
+ghost use Rattle.history_files.specs.Laws.{ActsAddTheirEffect, EndsAddNone, StartsAddNone, NextEffectsMayBePrepared, PreparedComeTo, CommittedAreSettled, BarredAreSettled};
 
 /// An act adds its effect to those of the history on its subsystem, and neither a start nor an end adds any.
 pub fn events_add_effects()
@@ -13,8 +13,10 @@ pub fn next_effects_may_be_prepared()
     ensures { NextEffectsMayBePrepared }
 {}
 
-/// Once the effect of an act is prepared, the books come to the effects of the history with the act; committed, they have them.
+/// Once the effect of an act is prepared, the books come to the effects of the history with the act; committed, they have them;
+/// refused, they have those of before.
 pub fn books_come_to_acts<B: Drop>()
     ensures prepared { PreparedComeTo B }
     ensures committed { CommittedAreSettled B }
+    ensures barred { BarredAreSettled B }
 {}
