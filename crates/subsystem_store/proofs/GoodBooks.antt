@@ -12,7 +12,7 @@ use Rattle.subsystem_store.specs.declared.effect.Record.TheVariants.{Prepared, C
 use Rattle.subsystem_store.specs.declared.errors.StoreError.{StoreError}
 use Rattle.subsystem_store.specs.declared.errors.StoreError.TheVariants.{BadBook}
 use Rattle.subsystem_store.specs.Bodies.{record_of}
-use Rattle.subsystem_store.specs.Order.{Book, may_follow, after_prepared, after_committed, after_body, placed, read_on, read_bodies, of_log}
+use Rattle.subsystem_store.specs.Order.{Book, may_follow, after_prepared, after_committed, after_body, placed, read_on, read_bodies, of_log, no_book}
 use Rattle.subsystem_store.specs.Laws.{FitsItsBytes, ComeInOrder, in_doubt, IsGoodBook, EmptyIsGood, PreparedIsGood, CommittedIsGood, RolledBackIsGood, ReadIsGood}
 use Rattle.subsystem_store.proofs.BodiesBack.{read_fits}
 use Rattle.subsystem_store.proofs.BooksBack.{book_with}
@@ -123,14 +123,19 @@ one_at_most : (doubt : Option Effect) → length (in_doubt doubt) ≤ 1
 one_at_most None = omega arith
 one_at_most (Some e) = omega arith
 
-pub read_is_good : ReadIsGood
-read_is_good kind q file b is = by (read_log q file) is
+-- a book that is made of bodies is one that a store may have,
+pub bodies_are_good : (kind : Kind) (bodies : List (List ℕ)) (b : Book) → read_bodies kind 1 bodies no_book ≡ Ok b → IsGoodBook kind b.book b.doubt
+bodies_are_good kind bodies b is = good (1 + length bodies) (all_read kind 1 bodies no_book b (record { count = omega arith; few = omega arith; order = tt }) is)
   where
     good : (n : ℕ) → AreRead kind n b → IsGoodBook kind b.book b.doubt
     good n read = record { few = omega (arith, read.count, read.few, length-append b.book (in_doubt b.doubt), one_at_most b.doubt); order = read.order }
 
+-- and so is one that is read
+pub read_is_good : ReadIsGood
+read_is_good kind q file b is = by (read_log q file) is
+  where
     by : (found : Result (List (List ℕ)) LogError) → of_log kind found ≡ Ok b → IsGoodBook kind b.book b.doubt
-    by (Ok bodies) is = good (1 + length bodies) (all_read kind 1 bodies (book_with [] None) b (record { count = omega arith; few = omega arith; order = tt }) is)
+    by (Ok bodies) is = bodies_are_good kind bodies b is
     by (Err LogFault) is = absurd cc
     by (Err NoHeader) is = absurd cc
     by (Err (NoRecord n)) is = absurd cc

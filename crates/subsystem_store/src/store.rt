@@ -9,6 +9,7 @@ ghost use Rattle.subsystem_store.specs.declared.effect.Effect.{Effect};
 ghost use Rattle.subsystem_store.specs.Bodies.{is_amount};
 ghost use Rattle.subsystem_store.specs.Values.{values};
 ghost use Rattle.subsystem_store.specs.Order.{may_follow, read_store};
+ghost use Rattle.subsystem_store.specs.Laws.{IsGoodBook};
 ghost use Rattle.subsystem_store.specs.Answers.{OpensAs, doubt_after};
 ghost use Rattle.subsystem_store.specs.Opened.{Opened, Fits, Stands, account_of, IsStoreOf, IsStoreOfEither};
 
@@ -84,6 +85,7 @@ impl<B: Resource> Store<B> {
         ensures stands { Told (R.disk rack.old) → IfOk result (λ s. Stands s (R.disk rack.new)) }
         ensures fits { IfOk result (λ s. Fits B.meaning B.sort (account_of s)) }
         ensures store { IfOk result (λ s. (s.log.file ≡ file) × (s.kind ≡ B.sort resource)) }
+        ensures good { IfOk result (λ s. IsGoodBook s.kind s.book s.doubt) }
         ensures cleared { IfErr result (λ r. ((B.meaning r.resource).items ≡ []) × (B.sort r.resource ≡ B.sort resource)) }
         ensures fault { IfErr result (λ r. r.why ≡ StoreError.DiskFault → Rose (R.faults rack.old) (R.faults rack.new)) }
         ensures all { Told (R.disk rack.old) → AllAsBefore (R.disk rack.old) (R.disk rack.new) }

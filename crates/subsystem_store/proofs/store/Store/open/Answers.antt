@@ -1,4 +1,7 @@
-use Rattle.std.proofs.Common.{◌∙◌, ap, length, arith}
+use Rattle.std.proofs.Common.{◌∙◌, ap, sym, subst, length, arith}
+use Rattle.subsystem_store.specs.Laws.{IsGoodBook}
+use Rattle.subsystem_store.specs.Opened.{book_of}
+use Rattle.subsystem_store.proofs.GoodBooks.{bodies_are_good}
 use Rattle.subsystem_store.proofs.StoreFiles.{opened_room}
 use Rattle.subsystem_store.proofs.store.Store.open.Goals as goal
 
@@ -8,3 +11,8 @@ invariant_of-result g c =
     let bodies = c.in-Ok.bodies.items in
     let is = c.in_ok-account-in-Ok.ensures.bodies ∙ c.deref.ensures.value in
     opened_room account.book account.doubt bodies _ _ is c.in-Ok.ensures.log.1 (omega (arith, c.in_ok-account-in-Ok.ensures.small, ap length c.deref.ensures.value)) c.in-Ok.ensures.last
+
+pub returns-in_ok-account-in-Ok-clause-good : goal.returns-in_ok-account-in-Ok-clause-good
+returns-in_ok-account-in-Ok-clause-good g c =
+    let account = c.in_ok-account-in-Ok.account in
+    subst (λ k. IsGoodBook k account.book account.doubt) (sym c.in_ok-account-in-Ok.ensures.kind) (bodies_are_good c.new-account.result.kind c.deref.result.now (book_of account) c.in_ok-account-in-Ok.ensures.read)
