@@ -7,6 +7,7 @@ pub mod Committing
 pub mod Answered
 pub mod RollingBack
 pub mod Preparing
+pub mod GoodBooks
 pub mod PrepareAnswers
 pub mod Clearing
 pub mod MadeStores

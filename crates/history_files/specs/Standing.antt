@@ -35,6 +35,10 @@ pub record AreStores {B : Type 0} (stores : List (Opened B)) : Type 0 where
 abbrev pub EachFits : {B : Type 0} → (B → Pairs) → (B → Kind) → List (Opened B) → Type 0
 EachFits meaning sort stores = AtEach (λ q s. Fits meaning sort (account_of s)) stores
 
+-- each book, with what is in doubt, is one that its store may have
+abbrev pub AreGoodBooks : {B : Type 0} → List (Opened B) → Type 0
+AreGoodBooks stores = AtEach (λ q s. IsGoodBook s.kind s.book s.doubt) stores
+
 -- each book comes to the effects of the history on its subsystem
 abbrev pub ComeTo : {B : Type 0} → List Op → History → List (Opened B) → Type 0
 ComeTo ops h stores = AtEach (λ q s. counted (effects ops h q) s.book s.doubt ≡ effects ops h q) stores
@@ -68,5 +72,5 @@ Doubts doubt before after = (after.doubt ≡ doubt) × (after.book ≡ before.bo
 pub record Stand {B : Type 0} (c : Catalog) (h : History) (log : LogState) (all : List (Opened B)) (disk : Disk) : Type 0 where
   pub journal : JournalStands log c h disk
   pub stores : AtEach (λ q s. Stands s disk) all
-  pub good : AtEach (λ q s. IsGoodBook s.kind s.book s.doubt) all
+  pub good : AreGoodBooks all
   pub books : ComeTo c.ops h all

@@ -7,7 +7,7 @@ ghost use Rattle.commute_table.specs.Operations.{IsCatalog};
 ghost use Rattle.process_journal.specs.Bodies.{no_history};
 ghost use Rattle.history_files.specs.Boxes.{AreBoxes, AreEmpty};
 ghost use Rattle.history_files.specs.Creating.{first_used, IsDueToFiles};
-ghost use Rattle.history_files.specs.Standing.{AtEach, AreStores, EachFits, Stand};
+ghost use Rattle.history_files.specs.Standing.{AtEach, AreStores, EachFits, AreGoodBooks, Stand};
 ghost use Rattle.history_files.specs.declared.faults.CreateError.TheVariants.{DiskFault as Fault, NoMemory};
 
 use crate::boxes::clear_all;
@@ -54,6 +54,7 @@ fn made<R: Rack, B: Resource>(
     ensures stores { IfOk result (λ made. AreStores made.1.items) }
     ensures unused { IfOk result (λ made. AtEach (λ q s. (s.book ≡ []) × (s.doubt ≡ None)) made.1.items) }
     ensures fits { IfOk result (λ made. EachFits B.meaning B.sort made.1.items) }
+    ensures good { IfOk result (λ made. AreGoodBooks made.1.items) }
     ensures emptied { OnOk result (boxes.new.items ≡ []) }
     ensures back { IfErr result (λ e. AreBoxes B.sort boxes.new.items × AreEmpty B.meaning boxes.new.items) }
     ensures room { 8 ≤ vec_capacity boxes.new }
@@ -95,6 +96,7 @@ impl<R: Rack + Drop, B: Resource> Files<R, B> {
         ensures stand { Told (R.disk parts.rack) → IfOk result (λ f. Stand catalog.now no_history f.journal f.stores (R.disk f.rack)) }
         ensures unused { IfOk result (λ f. AtEach (λ q s. (s.book ≡ []) × (s.doubt ≡ None)) f.stores) }
         ensures fits { IfOk result (λ f. EachFits B.meaning B.sort f.stores) }
+        ensures good { IfOk result (λ f. AreGoodBooks f.stores) }
         ensures count { IfOk result (λ f. f.journal.count ≡ 1) }
         ensures empty { Told (R.disk parts.rack) → OnOk result (first_used (R.disk parts.rack).files ≡ None) }
         ensures due { Told (R.disk parts.rack) → IfErr result (λ r. IsDueToFiles (first_used (R.disk parts.rack).files) r.why) }

@@ -15,7 +15,7 @@ ghost use Rattle.history_files.specs.Effects.{effects};
 ghost use Rattle.process_journal.specs.Journals.{IsHistoryUnder, IsMadeBy};
 ghost use Rattle.process_journal.specs.Opened.{GoesOn};
 ghost use Rattle.history_files.specs.Sound.{IsSound, IsSoundForEither, is_among, is_barred};
-ghost use Rattle.history_files.specs.Standing.{Stand, EachFits, Doubts, DoubtIs, Changes, Commits, RollsBack, ComeTo};
+ghost use Rattle.history_files.specs.Standing.{Stand, EachFits, AreGoodBooks, Doubts, DoubtIs, Changes, Commits, RollsBack, ComeTo};
 
 use crate::Files;
 use gate_log::DiskFault;
@@ -38,6 +38,8 @@ impl<R: Rack + Drop, B: Resource> Files<R, B> {
             is_among effect (effects c.ops h q) ≡ false → EachImage (R.disk self.new.rack) (R.disk self.old.rack).moment (IsSound c h) }
         ensures follow { Told (R.disk self.old.rack) → ImagesFollow (R.disk self.old.rack) (R.disk self.new.rack) }
         ensures fits { EachFits B.meaning B.sort self.new.stores }
+        ensures good { AreGoodBooks self.old.stores → AreGoodBooks self.new.stores }
+        ensures journal { self.new.journal ≡ self.old.journal }
         ensures changes { Changes q (Doubts (doubt_after result effect)) self.old.stores self.new.stores }
         ensures barred { (s : Opened B) → slice_get self.old.stores q ≡ Some s → (result ≡ Prepare.Barred) ↔ (is_barred s.kind s.book effect ≡ true) }
         ensures undo { effect.undo ≡ true → (result ≡ Prepare.Prepared) ⊎ (result ≡ Prepare.DiskFault) }
@@ -63,6 +65,8 @@ impl<R: Rack + Drop, B: Resource> Files<R, B> {
             DoubtIs true c.ops h q self.old.stores → EachImage (R.disk self.new.rack) (R.disk self.old.rack).moment (IsSound c h) }
         ensures follow { Told (R.disk self.old.rack) → ImagesFollow (R.disk self.old.rack) (R.disk self.new.rack) }
         ensures fits { EachFits B.meaning B.sort self.new.stores }
+        ensures good { AreGoodBooks self.old.stores → AreGoodBooks self.new.stores }
+        ensures journal { self.new.journal ≡ self.old.journal }
         ensures ok { OnOk result (Changes q Commits self.old.stores self.new.stores) }
         ensures tells { (R.disk self.new.rack).tells ≡ (R.disk self.old.rack).tells }
         ensures cause { HasCause (R.faults self.old.rack) (R.faults self.new.rack) result }
@@ -83,6 +87,8 @@ impl<R: Rack + Drop, B: Resource> Files<R, B> {
             DoubtIs false c.ops h q self.old.stores → EachImage (R.disk self.new.rack) (R.disk self.old.rack).moment (IsSound c h) }
         ensures follow { Told (R.disk self.old.rack) → ImagesFollow (R.disk self.old.rack) (R.disk self.new.rack) }
         ensures fits { EachFits B.meaning B.sort self.new.stores }
+        ensures good { AreGoodBooks self.old.stores → AreGoodBooks self.new.stores }
+        ensures journal { self.new.journal ≡ self.old.journal }
         ensures ok { OnOk result (Changes q RollsBack self.old.stores self.new.stores) }
         ensures tells { (R.disk self.new.rack).tells ≡ (R.disk self.old.rack).tells }
         ensures cause { HasCause (R.faults self.old.rack) (R.faults self.new.rack) result }

@@ -5,7 +5,7 @@ use Rattle.process_disk.specs.Disk.{file_of}
 use Rattle.process_journal.specs.Bodies.{journal_bodies, no_history}
 use Rattle.history_files.proofs.Clearing.{map_reverse}
 use Rattle.history_files.proofs.UsedFiles.{none_used}
-use Rattle.history_files.proofs.Unused.{stand_unused}
+use Rattle.history_files.proofs.Unused.{stand_unused, unused_are_good}
 use Rattle.history_files.proofs.creating.made.Goals as goal
 
 pub create-requires-clause-empty : goal.create-requires-clause-empty
@@ -40,3 +40,6 @@ returns-in-Ok-make_stores-clause-stand g c told =
 
 pub returns-in-Ok-make_stores-clause-empty : goal.returns-in-Ok-make_stores-clause-empty
 returns-in-Ok-make_stores-clause-empty g c told = sym (c.in-Ok-None.ensures.found told) ∙ c.in-Ok-None.field-0-is
+
+pub returns-in-Ok-make_stores-clause-good : goal.returns-in-Ok-make_stores-clause-good
+returns-in-Ok-make_stores-clause-good g c = unused_are_good c.calls_make_good_books.ensures.create c.in-Ok-make_stores.stores.items c.in-Ok-make_stores.ensures.unused

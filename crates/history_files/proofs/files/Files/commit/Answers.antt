@@ -6,12 +6,13 @@ use Rattle.process_disk.specs.Images.{EachImage}
 use Rattle.schedule_model.specs.declared.history.History.{History}
 use Rattle.commute_table.specs.declared.catalog.Catalog.{Catalog}
 use Rattle.history_files.specs.Sound.{IsSound}
-use Rattle.history_files.specs.Standing.{AreStores, Stand, EachFits, DoubtIs}
+use Rattle.history_files.specs.Standing.{AreStores, AreGoodBooks, Stand, EachFits, DoubtIs}
 use Rattle.history_files.proofs.Committing.{images_of_commit, stands_with_commit}
 use Rattle.history_files.proofs.Places.{set_each, at_place}
 use Rattle.subsystem_store.specs.Opened.{Fits, account_of}
 use Rattle.history_files.proofs.OneStore.{stores_with_store}
 use Rattle.history_files.proofs.Answered.{OnOk-then, OnOk-both}
+use Rattle.history_files.proofs.GoodBooks.{good_with, good_committed}
 use Rattle.history_files.proofs.files.Files.commit.Goals as goal
 
 pub commit-requires-clause-fits : goal.commit-requires-clause-fits
@@ -75,3 +76,13 @@ returns-clause-ok g c =
       is = subst (λ f. slice_set c.self.inside.stores.items c.from.result c.commit.new.self ≡ slice_set f.stores c.args.q c.commit.new.self) c.self.view_is (ap (λ r. slice_set c.self.inside.stores.items r c.commit.new.self) c.from.ensures);
       by = commits;
     }) c.commit.result c.commit.ensures.ok
+
+pub returns-clause-good : goal.returns-clause-good
+returns-clause-good g c =
+    let at = at_place c.self.inside.stores.items c.args.q c.from.result c.index_mut.result.now c.from.ensures c.self.invariant.0.eight c.requires.subsystem c.index_mut.ensures.value in
+    let some = subst (λ f. (s : _) → slice_get f.stores c.args.q ≡ Some s → IsSome s.doubt) (sym c.self.view_is) c.requires.doubt c.index_mut.result.now at in
+    subst (λ f. AreGoodBooks f.stores → AreGoodBooks (slice_set c.self.inside.stores.items c.from.result c.commit.new.self))
+    c.self.view_is
+    (λ all. good_with c.self.inside.stores.items c.from.result c.commit.new.self all
+    (good_committed c.calls_make_good_books.ensures.commit c.index_mut.result.now c.commit.new.self c.commit.result some (all c.args.q c.index_mut.result.now at)
+    c.commit.ensures.same.1 c.commit.ensures.ok c.commit.ensures.err))

@@ -10,12 +10,13 @@ use Rattle.subsystem_store.specs.Order.{may_follow}
 use Rattle.subsystem_store.specs.declared.errors.Prepare.TheVariants.{Barred, DiskFault as Fault}
 use Rattle.history_files.specs.Effects.{effects}
 use Rattle.history_files.specs.Sound.{IsSound, is_among, is_barred}
-use Rattle.history_files.specs.Standing.{AreStores, Stand, EachFits}
+use Rattle.history_files.specs.Standing.{AreStores, AreGoodBooks, Stand, EachFits}
 use Rattle.history_files.proofs.Preparing.{images_of_prepare, stands_with_prepare}
 use Rattle.history_files.proofs.Places.{set_each, at_place}
 use Rattle.subsystem_store.specs.Opened.{Opened, Fits, account_of}
 use Rattle.history_files.proofs.OneStore.{stores_with_store}
 use Rattle.history_files.proofs.PrepareAnswers.{doubts_one, stands_after}
+use Rattle.history_files.proofs.GoodBooks.{good_with, good_prepared}
 use Rattle.history_files.proofs.files.Files.prepare.Goals as goal
 
 pub prepare-requires-clause-settled : goal.prepare-requires-clause-settled
@@ -112,3 +113,14 @@ returns-clause-barred g c s at_s =
     let at = at_place c.self.inside.stores.items c.args.q c.from.result c.index_mut.result.now c.from.ensures c.self.invariant.0.eight c.requires.subsystem c.index_mut.ensures.value in
     let is : c.index_mut.result.now ≡ s = ap (λ o. unwrap_or o s) (sym at ∙ subst (λ f. slice_get f.stores c.args.q ≡ Some s) (sym c.self.view_is) at_s) in
     subst (λ (x : Opened _). (c.prepare.result ≡ Barred) ↔ (is_barred x.kind x.book c.args.effect ≡ true)) is c.prepare.ensures.barred
+
+pub returns-clause-good : goal.returns-clause-good
+returns-clause-good g c =
+    let at = at_place c.self.inside.stores.items c.args.q c.from.result c.index_mut.result.now c.from.ensures c.self.invariant.0.eight c.requires.subsystem c.index_mut.ensures.value in
+    let may = subst (λ f. (s : _) → slice_get f.stores c.args.q ≡ Some s → (s.doubt ≡ None) × (length s.book < 16384) × (may_follow s.kind s.book c.args.effect ≡ true)) (sym c.self.view_is) c.requires.may_come c.index_mut.result.now at in
+    subst (λ f. AreGoodBooks f.stores → AreGoodBooks (slice_set c.self.inside.stores.items c.from.result c.prepare.new.self))
+    c.self.view_is
+    (λ all. good_with c.self.inside.stores.items c.from.result c.prepare.new.self all
+    (good_prepared c.calls_make_good_books.ensures.prepare c.index_mut.result.now c.prepare.new.self c.args.effect (all c.args.q c.index_mut.result.now at)
+    (record { settled = may.0; few = may.1; follows = may.2; fits = c.effects_fit_their_bytes.ensures }) c.prepare.ensures.same.1 c.prepare.ensures.same.2
+    (doubts_one c.prepare.result c.args.effect _ c.prepare.ensures.doubt)))

@@ -6,12 +6,13 @@ use Rattle.process_disk.specs.Images.{EachImage}
 use Rattle.schedule_model.specs.declared.history.History.{History}
 use Rattle.commute_table.specs.declared.catalog.Catalog.{Catalog}
 use Rattle.history_files.specs.Sound.{IsSound}
-use Rattle.history_files.specs.Standing.{AreStores, Stand, EachFits, DoubtIs}
+use Rattle.history_files.specs.Standing.{AreStores, AreGoodBooks, Stand, EachFits, DoubtIs}
 use Rattle.history_files.proofs.RollingBack.{images_of_roll_back, stands_with_roll_back}
 use Rattle.history_files.proofs.Places.{set_each, at_place}
 use Rattle.subsystem_store.specs.Opened.{Fits, account_of}
 use Rattle.history_files.proofs.OneStore.{stores_with_store}
 use Rattle.history_files.proofs.Answered.{OnOk-then, OnOk-both}
+use Rattle.history_files.proofs.GoodBooks.{good_with, good_rolled_back}
 use Rattle.history_files.proofs.files.Files.roll_back.Goals as goal
 
 pub roll_back-requires-clause-fits : goal.roll_back-requires-clause-fits
@@ -75,3 +76,12 @@ returns-clause-ok g c =
       is = subst (λ f. slice_set c.self.inside.stores.items c.from.result c.roll_back.new.self ≡ slice_set f.stores c.args.q c.roll_back.new.self) c.self.view_is (ap (λ r. slice_set c.self.inside.stores.items r c.roll_back.new.self) c.from.ensures);
       by = (settled, c.roll_back.ensures.same.2);
     }) c.roll_back.result c.roll_back.ensures.ok
+
+pub returns-clause-good : goal.returns-clause-good
+returns-clause-good g c =
+    let at = at_place c.self.inside.stores.items c.args.q c.from.result c.index_mut.result.now c.from.ensures c.self.invariant.0.eight c.requires.subsystem c.index_mut.ensures.value in
+    subst (λ f. AreGoodBooks f.stores → AreGoodBooks (slice_set c.self.inside.stores.items c.from.result c.roll_back.new.self))
+    c.self.view_is
+    (λ all. good_with c.self.inside.stores.items c.from.result c.roll_back.new.self all
+    (good_rolled_back c.calls_make_good_books.ensures.roll_back c.index_mut.result.now c.roll_back.new.self c.roll_back.result (all c.args.q c.index_mut.result.now at)
+    c.roll_back.ensures.same.1 c.roll_back.ensures.same.2 c.roll_back.ensures.ok c.roll_back.ensures.err))
