@@ -1,2 +1,3 @@
 pub mod SameHistory
 pub mod StillUnder
+pub mod NewEngine

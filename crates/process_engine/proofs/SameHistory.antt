@@ -1,8 +1,10 @@
 -- Calls that make no event of the history.
-use Rattle.std.proofs.Common.{◌≡◌, ◌∙◌, ℕ, Bool, true, false, cond, List, [], ◌∷◌, ◌++◌, ap, refl}
+use Rattle.std.proofs.Common.{◌≡◌, ◌∙◌, ℕ, zero, suc, Bool, true, false, cond, List, [], ◌∷◌, ◌++◌, length, Option, Some, None, ap, refl}
 use Rattle.process_tree.specs.Order.{Each}
+use Rattle.process_tree.proofs.Every.{Each-append}
 use Rattle.schedule_model.specs.Conflict.{ConflictRelation}
 use Rattle.schedule_model.specs.Course.{Course}
+use Rattle.schedule_model.specs.Histories.{active}
 use Rattle.schedule_model.specs.declared.event.Event.{Event}
 use Rattle.machine_model.specs.declared.kept.Kept.{Kept}
 use Rattle.machine_model.specs.declared.kept.Kept.TheVariants.{Start, Hand, Effect, Refuse, Abort, Victim, Restart}
@@ -10,9 +12,10 @@ use Rattle.machine_model.specs.declared.replies.Aborted.{Aborted}
 use Rattle.machine_model.specs.declared.replies.Aborted.TheVariants.{Ok, Unknown, Ended, Exhausted, Already}
 use Rattle.machine_model.specs.Moment.{Moment, opening_moment}
 use Rattle.machine_model.specs.Advance.{advance, advance_all}
-use Rattle.machine_model.specs.Replies.{Admit, piece, blocked, running, unknown, ended, exhausted, admit_reply, abort_reply}
+use Rattle.machine_model.specs.Replies.{Admit, piece, blocked, running, unknown, ended, exhausted, admit_reply, abort_reply, Next, chosen, wait, all_ended, stuck, all_victims, next_reply, victim_then, victims}
 use Rattle.machine_model.specs.Runs.{may_be_kept}
-use Rattle.machine_model.specs.Calls.{Call, admit, abort, complete_all, admit_kept, abort_kept}
+use Rattle.machine_model.specs.Calls.{Call, admit, abort, complete_all, next, admit_kept, abort_kept, next_kept}
+use Rattle.machine_model.specs.State.{victim_of}
 use Rattle.machine_model.proofs.Snoc.{added, advances, advance_all-append}
 use Rattle.std.proofs.lemmas.List.{append-nil}
 use Rattle.process_core.specs.Answers.{after_call, answer_in}
@@ -71,9 +74,31 @@ restart_quiet : (t : Bool) → Each IsQuiet (cond t (Restart ∷ []) [])
 restart_quiet true = (tt, tt)
 restart_quiet false = tt
 
+then_quiet : (rest : ℕ → List Kept) → ((i : ℕ) → Each IsQuiet (rest i)) → (v : Option ℕ) → Each IsQuiet (victim_then rest v)
+then_quiet rest quiet None = tt
+then_quiet rest quiet (Some i) = (tt, quiet i)
+
+victims_quiet : (table : ConflictRelation) (courses : List Course) (n : ℕ) (m : Moment) → Each IsQuiet (victims n table courses m)
+victims_quiet table courses zero m = tt
+victims_quiet table courses (suc n) m =
+    then_quiet (λ i. victims n table courses (advance table courses m (Victim i))) (λ i. victims_quiet table courses n (advance table courses m (Victim i))) (victim_of table courses m)
+
+next_quiet : (r : Next) → Each IsQuiet (next_kept r)
+next_quiet (chosen d) = (tt, tt)
+next_quiet (wait b) = tt
+next_quiet all_ended = tt
+next_quiet (stuck i) = tt
+
 -- so a request for a piece does, a request to complete, and one that all complete
 pub admit_same : (c : CoreState) (i : ℕ) → full_history (after_call c (admit i)) ≡ full_history c
 admit_same c i = same_history c (admit i) (admit_quiet (admit_reply (relation c) (courses_in c) (moment_of c) i))
+
+pub next_same : (c : CoreState) → full_history (after_call c next) ≡ full_history c
+next_same c =
+    let m = moment_of c in
+    let vs = all_victims (relation c) (courses_in c) m in
+    let reply = next_reply (relation c) (courses_in c) (advance_all (relation c) (courses_in c) m vs) c.served in
+    same_history c next (Each-append IsQuiet vs (next_kept reply) (victims_quiet (relation c) (courses_in c) (length (active m.events)) m) (next_quiet reply))
 
 pub abort_same : (c : CoreState) (i : ℕ) → full_history (after_call c (abort i)) ≡ full_history c
 abort_same c i = same_history c (abort i) (abort_quiet i (abort_reply (courses_in c) (moment_of c) i))

@@ -1,11 +1,11 @@
 -- What an engine is seen as, and what holds of one.
-use Rattle.std.specs.Prelude.{◌≡◌, ℕ, ◌+◌, List, length, None}
+use Rattle.std.specs.Prelude.{◌≡◌, ℕ, ◌+◌, List, [], length, None}
 use Rattle.process_disk.specs.Disk.{Disk, Told}
 use Rattle.schedule_model.specs.declared.history.History.{History}
 use Rattle.commute_table.specs.declared.catalog.Catalog.{Catalog}
 use Rattle.subsystem_store.specs.Laws.{IsGoodBook}
 use Rattle.process_journal.specs.Journals.{IsHistoryUnder}
-use Rattle.process_core.specs.Cores.{CoreState, history_of}
+use Rattle.process_core.specs.Cores.{CoreState, history_of, opened_on}
 use Rattle.history_files.specs.Effects.{effects}
 use Rattle.history_files.specs.Standing.{AtEach, FilesState, Stand}
 use Rattle.process_engine.specs.declared.engines.Phase.{Phase}
@@ -40,6 +40,12 @@ pub record AreAtRest {R B : Type 0} (c : Catalog) (h : History) (files : FilesSt
 -- the engine after a call that came to this core and touched no file
 abbrev pub with_core : {R B : Type 0} → EngineState R B → CoreState → EngineState R B
 with_core e core = record { core = core; catalog = e.catalog; files = e.files; phase = e.phase }
+
+-- An engine in which nothing has happened under this catalog.
+pub record IsNew {R B : Type 0} (c : Catalog) (e : EngineState R B) : Type 0 where
+  pub core : e.core ≡ opened_on c.conflicts [] []
+  pub catalog : e.catalog ≡ c
+  pub phase : e.phase ≡ phase.Settled
 
 -- a refusal because the engine is closed tells how many events it has kept
 pub record IsClosed {R B : Type 0} (e : EngineState R B) (refusal : Closed) : Type 0 where

@@ -1,13 +1,14 @@
 // Calls that touch no file.
 ghost use Rattle.std.specs.Prelude.{◌≡◌, ◌≢◌, OnOk, OnErr, IfOk, IfErr};
-ghost use Rattle.machine_model.specs.Calls.{abort, aborted, admit, admitted, complete_all};
+ghost use Rattle.machine_model.specs.Calls.{abort, aborted, admit, admitted, complete_all, next, next_is};
 ghost use Rattle.process_core.specs.Answers.{after_call, answer_in};
 ghost use Rattle.process_core.specs.Handing.{admit_reply_of};
+ghost use Rattle.process_core.specs.Rotation.{next_reply_of};
 ghost use Rattle.process_engine.specs.Engines.{IsClosed, with_core};
 ghost use Rattle.process_engine.specs.declared.engines.Phase.TheVariants as phase;
 
 use crate::{Closed, Engine};
-use process_core::{Aborted, Admit};
+use process_core::{Aborted, Admit, Next};
 use process_disk::Rack;
 use resource_box::Resource;
 
@@ -22,6 +23,18 @@ impl<R: Rack + Drop, B: Drop> Engine<R, B> {
     {
         self.open()?;
         Ok(self.core.admit(i))
+    }
+
+    /// Makes the victims of a stall, and hands out the first free piece in rotation, or says why there is none.
+    pub fn next(&mut self) -> Result<Next, Closed>
+        ensures engine { OnOk result (self.new ≡ with_core self.old (after_call self.old.core next)) }
+        ensures reply { IfOk result (λ reply. next_is (next_reply_of reply) ≡ (answer_in self.old.core next).reply) }
+        ensures open { OnOk result (self.old.phase ≢ phase.Closed) }
+        ensures closed { IfErr result (IsClosed self.old) }
+        ensures left { OnErr result (self.new ≡ self.old) }
+    {
+        self.open()?;
+        Ok(self.core.next())
     }
 
     /// Asks a process to complete.
