@@ -6,11 +6,12 @@ use Rattle.process_text.specs.Canonical.{line_of}
 use Rattle.machine_model.specs.declared.kept.Work.TheVariants.{Forward, Undo}
 use Rattle.machine_model.specs.declared.blocked.Rule.TheVariants.{A2, A3}
 use Rattle.machine_model.specs.declared.replies.Aborted.TheVariants.{Ok, Already}
-use Rattle.machine_model.specs.declared.replies.Refusal.TheVariants.{Exhausted}
+use Rattle.machine_model.specs.declared.replies.Refusal.TheVariants.{Retry, Alternative, Exhausted}
+use Rattle.machine_model.specs.declared.replies.StartWhy.TheVariants.{TooMany, NoRoom}
 use Rattle.machine_model.specs.Replies.{piece, blocked, chosen, wait, all_ended, Handed, effected, refused, over}
 use Rattle.process_report.specs.Examples.{purchase, sale}
 use Rattle.process_report.specs.Lines.{text_of}
-use Rattle.session_text.specs.Answers.{admit_words, next_words, next_lines, finish_words, abort_words, no_process_words}
+use Rattle.session_text.specs.Answers.{admit_words, next_words, next_lines, finish_words, abort_words, no_process_words, no_refusal_words, not_started_words, refusal_words, started_words, waiting_words}
 
 abbrev pub plans : List Plan
 plans = purchase ∷ sale ∷ []
@@ -64,3 +65,29 @@ aborted_before = refl
 
 pub no_such_process : line_of (no_process_words (codes "a")) ≡ codes "no process a\n"
 no_such_process = refl
+
+pub a_start : line_of (started_words 2 (codes "b")) ≡ codes "started 2 b\n"
+unfolding digits
+a_start = refl
+
+pub too_many_active : line_of (not_started_words (TooMany 256)) ≡ codes "too many 256\n"
+unfolding digits
+too_many_active = refl
+
+pub no_room : line_of (not_started_words (NoRoom 16387)) ≡ codes "no room 16387\n"
+unfolding digits
+no_room = refl
+
+pub another_try : line_of (refusal_words plans 2 1 (Retry 1)) ≡ codes "retry 1\n"
+unfolding digits
+another_try = refl
+
+pub another_way : line_of (refusal_words plans 1 0 Alternative) ≡ codes "failed\n"
+another_way = refl
+
+pub an_end_that_is_refused : line_of (no_refusal_words 4) ≡ codes "end is not refused 4\n"
+unfolding digits
+an_end_that_is_refused = refl
+
+pub nobody_waits : line_of waiting_words ≡ codes "wait\n"
+nobody_waits = refl

@@ -56,37 +56,53 @@ admit_words plans i unknown = numbered (codes "unknown") i
 admit_words plans i ended = numbered (codes "ended") i
 admit_words plans i (exhausted b) = exhausted_words plans i b
 
+-- `wait`
+abbrev pub waiting_words : Line
+waiting_words = codes "wait" ∷ []
+
 -- what is waited for, if something is blocked
 abbrev pub wait_words : List Plan → Option BlockedProcess → Line
-wait_words plans None = codes "wait" ∷ []
+wait_words plans None = waiting_words
 wait_words plans (Some w) = codes "wait" ∷ block_words plans w.process w.block
+
+-- `all ended`
+abbrev pub all_ended_words : Line
+all_ended_words = codes "all" ∷ codes "ended" ∷ []
 
 -- the answer to `next`, behind the victims
 abbrev pub next_words : List Plan → Next → Line
 next_words plans (chosen d) = piece_words plans d.piece
 next_words plans (wait w) = wait_words plans w
-next_words plans all_ended = codes "all" ∷ codes "ended" ∷ []
+next_words plans all_ended = all_ended_words
 next_words plans (stuck i) = numbered (codes "stuck") i
 
 -- the lines of `next`: `victim I` for each victim, and then its answer
 abbrev pub next_lines : List Plan → List ℕ → Next → List Line
 next_lines plans victims reply = map (numbered (codes "victim")) victims ++ next_words plans reply ∷ []
 
--- what became of a piece that was refused
-abbrev pub refusal_words : List Plan → Piece → Refusal → Line
-refusal_words plans p (refusals.Retry t) = numbered (codes "retry") t
-refusal_words plans p refusals.Alternative = codes "failed" ∷ []
-refusal_words plans p refusals.RollBack = codes "failed" ∷ []
-refusal_words plans p refusals.Exhausted = exhausted_words plans p.process p.step
+-- what became of a piece of step b of process i that was refused
+abbrev pub refusal_words : List Plan → ℕ → ℕ → Refusal → Line
+refusal_words plans i b (refusals.Retry t) = numbered (codes "retry") t
+refusal_words plans i b refusals.Alternative = codes "failed" ∷ []
+refusal_words plans i b refusals.RollBack = codes "failed" ∷ []
+refusal_words plans i b refusals.Exhausted = exhausted_words plans i b
+
+-- `no piece N`: no piece of this number is unfinished
+abbrev pub no_piece_words : ℕ → Line
+no_piece_words n = codes "no" ∷ numbered (codes "piece") n
+
+-- `end is not refused N`: piece N is an end
+abbrev pub no_refusal_words : ℕ → Line
+no_refusal_words n = codes "end" ∷ codes "is" ∷ codes "not" ∷ numbered (codes "refused") n
 
 -- the answer to the end of piece p
 abbrev pub finish_words : List Plan → Piece → Finish → Line
 finish_words plans p (effected e) = numbered (codes "effected") e
-finish_words plans p (refused r) = refusal_words plans p r
-finish_words plans p over = codes "no" ∷ numbered (codes "piece") p.number
+finish_words plans p (refused r) = refusal_words plans p.process p.step r
+finish_words plans p over = no_piece_words p.number
 finish_words plans p (dropped k) = numbered (codes "dropped") k
-finish_words plans p no_piece = codes "no" ∷ numbered (codes "piece") p.number
-finish_words plans p no_refusal = codes "end" ∷ codes "is" ∷ codes "not" ∷ numbered (codes "refused") p.number
+finish_words plans p no_piece = no_piece_words p.number
+finish_words plans p no_refusal = no_refusal_words p.number
 
 -- the answer to `abort I`, where these processes began to complete
 abbrev pub abort_words : ℕ → List ℕ → Aborted → Line
