@@ -1,3 +1,6 @@
 pub mod SameHistory
 pub mod StillUnder
+pub mod StartedHistory
+pub mod StartedRest
+pub mod StartRecord
 pub mod NewEngine

@@ -1,5 +1,5 @@
 -- What an engine is seen as, and what holds of one.
-use Rattle.std.specs.Prelude.{◌≡◌, ℕ, ◌+◌, List, [], length, None}
+use Rattle.std.specs.Prelude.{◌≡◌, ◌+◌, [], length, None}
 use Rattle.process_disk.specs.Disk.{Disk, Told}
 use Rattle.schedule_model.specs.declared.history.History.{History}
 use Rattle.commute_table.specs.declared.catalog.Catalog.{Catalog}

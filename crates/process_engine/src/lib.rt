@@ -5,10 +5,12 @@
 #![tactic(auto)]
 
 mod asking;
+mod beginning;
 mod engines;
 mod gates;
 mod making;
 
+pub use beginning::{EngineStart, EngineStartWhy};
 pub use engines::{Closed, Engine, Phase};
 pub use gates::{Answer, Gate};
 pub use history_files::{CreateError, CreateRefused, Parts};
