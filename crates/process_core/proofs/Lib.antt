@@ -74,3 +74,4 @@ pub mod Stalls
 pub mod VictimsKept
 pub mod Exhausted
 pub mod NextKept
+pub mod WithinLimits

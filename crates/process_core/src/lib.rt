@@ -33,6 +33,7 @@ mod victims;
 
 pub use cores::Core;
 pub use laws::tables_stand_for_holdings;
+pub use limits::Counts;
 pub use machine_model::{Aborted, Began, Cause, Kept, PieceState, Refusal, StartWhy, Work};
 pub use pieces::Piece;
 pub use replies::{Admit, Next, Waiting};

@@ -3,8 +3,8 @@ ghost use Rattle.std.specs.Prelude.{◌≡◌, ◌≤◌, ◌+◌, length};
 ghost use Rattle.std.specs.List.{sum_by};
 ghost use Rattle.process_tree.specs.Blocks.{outline};
 ghost use Rattle.schedule_model.specs.Course.{course, course_of};
-ghost use Rattle.schedule_model.specs.Histories.{active};
-ghost use Rattle.schedule_model.specs.Limits.{need};
+ghost use Rattle.schedule_model.specs.Histories.{active, starts};
+ghost use Rattle.schedule_model.specs.Limits.{entries, most_active, most_entries, most_processes, need};
 ghost use Rattle.machine_model.specs.Runs.{start_refusal};
 ghost use Rattle.process_core.specs.Cores.{courses_in, history_of, moment_of};
 ghost use Rattle.process_core.specs.Starting.{has_active_seat, is_settled, settled_count};
@@ -20,6 +20,17 @@ use schedule_model::{Event, MOST_ACTIVE, MOST_ENTRIES, MOST_PROCESSES};
 pub struct Load {
     pub active: usize,
     pub needed: usize,
+}
+
+/// How much a history has of what its limits count.
+#[derive(Clone, Copy, Debug, PartialEq, Eq)]
+pub struct Counts {
+    /// How many processes have started.
+    pub processes: u32,
+    /// How many are active.
+    pub active: u32,
+    /// How many acts and ends are done and reserved.
+    pub entries: u32,
 }
 
 /// How many acts and ends a process may need.
@@ -89,6 +100,22 @@ impl Core {
             }
         }
         load
+    }
+
+    /// How much its history has of what the limits count, which is within them.
+    pub fn counts(&self) -> Counts
+        ensures processes { result.processes ≡ length (starts (history_of self.now)) }
+        ensures active { result.active ≡ length (active (history_of self.now)) }
+        ensures entries { result.entries ≡ entries (courses_in self.now) (history_of self.now) }
+        ensures within { (result.processes ≤ most_processes) × (result.active ≤ most_active) × (result.entries ≤ most_entries) }
+    {
+        let load = self.load();
+        let settled = settled_count(&self.seats, self.history.events.as_slice());
+        Counts {
+            processes: self.seats.len() as u32,
+            active: load.active as u32,
+            entries: (settled + load.needed) as u32,
+        }
     }
 
     /// Why a process of this plan can't start, memory aside.
