@@ -1,10 +1,11 @@
 -- The boxes of the stores of eight subsystems are those of the eight.
-use Rattle.std.proofs.Common.{◌≡◌, ℕ, zero, suc, ◌+◌, List, [], ◌∷◌, ◌∙◌, map, length, refl, sym, ap, subst, arith, Some}
+use Rattle.std.proofs.Common.{◌≡◌, ℕ, zero, suc, ◌+◌, List, [], ◌∷◌, ◌++◌, ◌∙◌, append-nil, map, length, refl, sym, ap, arith, Some}
+use Rattle.std.specs.Prelude.{reverse}
 use Rattle.std.specs.List.{slice_get}
 use Rattle.resource_box.specs.Meaning.{Pairs}
 use Rattle.resource_box.specs.declared.call.Kind.{Kind}
 use Rattle.subsystem_store.specs.Opened.{Opened}
-use Rattle.history_files.specs.Boxes.{AreBoxes}
+use Rattle.history_files.specs.Boxes.{AreBoxes, AreParted}
 use Rattle.history_files.specs.Sound.{kind_of}
 use Rattle.history_files.specs.Standing.{AreStores, EachFits}
 
@@ -27,3 +28,16 @@ kinds_of sort box (x ∷ xs) (suc n) q many each =
 -- each box has the kind of its place
 pub are_boxes : {B : Type 0} (meaning : B → Pairs) (sort : B → Kind) (stores : List (Opened B)) → AreStores stores → EachFits meaning sort stores → AreBoxes sort (map (λ s. s.resource) stores)
 are_boxes {B} meaning sort stores are fits = kinds_of sort (λ (s : Opened B). s.resource) stores 8 0 are.eight (λ k s at. let here : k ≡ 0 + k = omega arith in (fits k s at).kind ∙ are.kind k s at ∙ ap kind_of here)
+
+map_same : (ks : List Kind) → map (λ k. k) ks ≡ ks
+map_same [] = refl
+map_same (k ∷ ks) = ap (λ xs. k ∷ xs) (map_same ks)
+
+-- and so has each store; with no box left they are all
+pub all_parted : {B : Type 0} (sort : B → Kind) (stores : List (Opened B)) (boxes : List B) → AreStores stores → boxes ≡ [] → AreParted sort stores boxes
+all_parted {B} sort stores boxes are none =
+    ap (λ bs. map kind stores ++ reverse (map sort bs)) none ∙ append-nil (map kind stores) ∙ sym (map_same (map kind stores))
+    ∙ kinds_of (λ k. k) kind stores 8 0 are.eight (λ k s at. let here : k ≡ 0 + k = omega arith in are.kind k s at ∙ ap kind_of here)
+  where
+    kind : Opened B → Kind
+    kind s = s.kind

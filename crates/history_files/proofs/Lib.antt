@@ -8,6 +8,11 @@ pub mod Answered
 pub mod RollingBack
 pub mod Preparing
 pub mod GoodBooks
+pub mod Differing
+pub mod SettledStores
+pub mod Opened
+pub mod SoundOpened
+pub mod FewActs
 pub mod PrepareAnswers
 pub mod Clearing
 pub mod MadeStores

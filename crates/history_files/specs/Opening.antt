@@ -1,7 +1,12 @@
 -- What is read of the stores.
-use Rattle.std.specs.Prelude.{◌≡◌, ◌⊎◌, ℕ, ◌+◌, ◌<◌, Result, Ok}
+use Rattle.std.specs.Prelude.{◌≡◌, ◌⊎◌, ℕ, ◌+◌, ◌<◌, List, Option, Some, None, Result, Ok, Err}
 use Rattle.process_disk.specs.Disk.{FileSet, file_of}
 use Rattle.gate_log.specs.LogFile.{read_log}
+use Rattle.schedule_model.specs.declared.history.History.{History}
+use Rattle.commute_table.specs.declared.catalog.Catalog.{Catalog}
+use Rattle.commute_table.specs.declared.op.Op.{Op}
+use Rattle.process_journal.specs.Journals.{IsHistoryUnder}
+use Rattle.process_journal.specs.Opened.{IsJournalOf}
 use Rattle.process_journal.specs.declared.errors.JournalError.{JournalError}
 use Rattle.process_journal.specs.declared.errors.JournalError.TheVariants as journal
 use Rattle.process_journal.specs.Reading.{IsDue}
@@ -9,8 +14,12 @@ use Rattle.subsystem_store.specs.declared.errors.StoreError.{StoreError}
 use Rattle.subsystem_store.specs.declared.errors.StoreError.TheVariants as store
 use Rattle.subsystem_store.specs.Answers.{RefusedAs}
 use Rattle.subsystem_store.specs.Order.{Book, read_store}
+use Rattle.subsystem_store.specs.declared.effect.Effect.{Effect}
+use Rattle.history_files.specs.declared.faults.BookFault.{BookFault}
 use Rattle.history_files.specs.declared.faults.OpenError.{OpenError}
-use Rattle.history_files.specs.declared.faults.OpenError.TheVariants.{DiskFault, BadHeader, BadRecord, BadHistory, BadBook, NoMemory}
+use Rattle.history_files.specs.declared.faults.OpenError.TheVariants.{DiskFault, BadHeader, BadRecord, BadHistory, BadBook, BookDiffers, NoMemory}
+use Rattle.history_files.specs.Comparing.{book_difference}
+use Rattle.history_files.specs.Effects.{effects}
 use Rattle.history_files.specs.Sound.{kind_of}
 
 -- what a store's refusal is of the files
@@ -28,6 +37,7 @@ book_in files q = read_store (kind_of q) (q + 1) (file_of files (q + 1))
 -- A refusal is due where a store was refused so, and those of the subsystems before it were read.
 pub record IsDueToStore (files : FileSet) (e : OpenError) : Type 0 where
   pub subsystem : ℕ
+  pub within : subsystem < 8
   pub why : StoreError
   pub is : e ≡ of_store_error (subsystem + 1) why
   pub refused : RefusedAs (book_in files subsystem) why
@@ -47,6 +57,36 @@ pub record IsDueToJournal (files : FileSet) (e : OpenError) : Type 0 where
   pub is : e ≡ of_journal_error why
   pub refused : IsDue (read_log 0 (file_of files 0)) why
 
+-- file 0 is the journal of this history, which one of this catalog may have
+abbrev pub IsReadOf : Catalog → History → FileSet → Type 0
+IsReadOf c h files = IsHistoryUnder c h × IsJournalOf c h files
+
 -- or where a store was, and the journal wasn't
 abbrev pub IsDueToReading : FileSet → OpenError → Type 0
-IsDueToReading files e = IsDueToJournal files e ⊎ IsDueToStore files e
+IsDueToReading files e = IsDueToJournal files e ⊎ ((c : Catalog) × (h : History) × IsReadOf c h files × IsDueToStore files e)
+
+-- where the book of subsystem q in these files differs first from the effects of a history; a file that is no store has no book
+abbrev pub difference_of_read : List Effect → ℕ → Result Book StoreError → Option BookFault
+difference_of_read es q (Ok b) = book_difference q es b.book b.doubt
+difference_of_read es q (Err e) = None
+
+abbrev pub difference_in : List Op → History → FileSet → ℕ → Option BookFault
+difference_in ops h files q = difference_of_read (effects ops h q) q (book_in files q)
+
+-- A refusal is due where all nine files were read, and a book differs from the effects of the journal's history; those of the
+-- subsystems before it don't.
+pub record IsDueToBook (files : FileSet) (e : OpenError) : Type 0 where
+  pub catalog : Catalog
+  pub history : History
+  pub journal : IsReadOf catalog history files
+  pub stores : (p : ℕ) → p < 8 → (b : Book) × (book_in files p ≡ Ok b)
+  pub subsystem : ℕ
+  pub within : subsystem < 8
+  pub fault : BookFault
+  pub is : e ≡ BookDiffers fault
+  pub differs : difference_in catalog.ops history files subsystem ≡ Some fault
+  pub earlier : (p : ℕ) → p < subsystem → difference_in catalog.ops history files p ≡ None
+
+-- why files are not opened: a file that is no journal or store, or a book; want of memory and faults of the rack are free here
+abbrev pub IsDueToOpening : FileSet → OpenError → Type 0
+IsDueToOpening files e = (e ≡ NoMemory) ⊎ IsDueToReading files e ⊎ IsDueToBook files e

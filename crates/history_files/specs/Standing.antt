@@ -1,5 +1,5 @@
 -- What nine files are seen as, and for which history they stand.
-use Rattle.std.specs.Prelude.{◌≡◌, ℕ, ◌+◌, Bool, List, [], ◌∷◌, ◌++◌, length, Option, Some, None, IfSome, slice_set}
+use Rattle.std.specs.Prelude.{◌≡◌, ◌<◌, ℕ, ◌+◌, Bool, List, [], ◌∷◌, ◌++◌, length, Option, Some, None, IfSome, slice_set}
 use Rattle.std.specs.List.{slice_get}
 use Rattle.process_disk.specs.Disk.{Disk}
 use Rattle.gate_log.specs.Standing.{LogState}
@@ -42,6 +42,10 @@ AreGoodBooks stores = AtEach (λ q s. IsGoodBook s.kind s.book s.doubt) stores
 -- each book comes to the effects of the history on its subsystem
 abbrev pub ComeTo : {B : Type 0} → List Op → History → List (Opened B) → Type 0
 ComeTo ops h stores = AtEach (λ q s. counted (effects ops h q) s.book s.doubt ≡ effects ops h q) stores
+
+-- in the stores of the subsystems below n nothing is in doubt, and the books have the effects of the history
+abbrev pub AreSettledBelow : {B : Type 0} → ℕ → List Op → History → List (Opened B) → Type 0
+AreSettledBelow n ops h stores = AtEach (λ q s. q < n → (s.doubt ≡ None) × (s.book ≡ effects ops h q)) stores
 
 -- whether the effect in doubt in the store of subsystem q stands among the effects of the history
 abbrev pub DoubtIs : {B : Type 0} → Bool → List Op → History → ℕ → List (Opened B) → Type 0

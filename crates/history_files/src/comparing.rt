@@ -1,14 +1,19 @@
 // Books beside the effects of a history.
-ghost use Rattle.std.specs.Prelude.{◌≡◌, ◌<◌, ◌+◌, ◌++◌, ◌^◌, [], length, option_copied};
+ghost use Rattle.std.specs.Prelude.{◌≡◌, ◌<◌, ◌+◌, ◌++◌, ◌^◌, [], length, IfOk, option_copied};
+ghost use Rattle.schedule_model.specs.Histories.{acts};
 ghost use Rattle.commute_table.specs.Bytes.{verb_code};
 ghost use Rattle.subsystem_store.specs.Laws.{in_doubt};
 ghost use Rattle.subsystem_store.specs.Values.{same_call};
-ghost use Rattle.history_files.specs.Comparing.{difference_from, difference, counting};
+ghost use Rattle.history_files.specs.Comparing.{difference_from, difference, counting, books_difference};
 ghost use Rattle.history_files.specs.Sound.{same_effect, is_among};
+ghost use Rattle.history_files.specs.Standing.{AreGoodBooks};
 
 use crate::BookFault;
-use commute_table::Verb;
+use crate::effects::effects_on;
+use commute_table::{Op, Verb};
 use resource_box::{Call, Resource};
+use schedule_rules::History;
+use std::alloc::{AllocError, Global};
 use subsystem_store::{Effect, Store};
 
 fn code_of(verb: Verb) -> u8
@@ -30,7 +35,8 @@ fn same_call(a: &Call, b: &Call) -> bool
     code_of(a.verb) == code_of(b.verb) && a.key == b.key && a.amount == b.amount
 }
 
-fn same_effect(a: &Effect, b: &Effect) -> bool
+/// Whether two effects are the same.
+pub fn same_effect(a: &Effect, b: &Effect) -> bool
     ensures { result ≡ same_effect a.now b.now }
 {
     let same_undo = if a.undo { b.undo } else { !b.undo };
@@ -168,4 +174,32 @@ pub fn store_difference<B: Resource>(
 {
     let last = counting(store.in_doubt(), acts);
     first_difference(subsystem, store.book(), last, acts)
+}
+
+/// The first difference of the first store whose book comes to other effects than those of a history.
+pub fn books_difference<B: Resource>(
+    alloc: Global,
+    stores: &[Store<B>],
+    ops: &[Op],
+    history: &History,
+) -> Result<Option<BookFault>, AllocError>
+    requires few { length (acts history.now.events) < 2 ^ 32 }
+    requires eight { length stores.now ≡ 8 }
+    requires good { AreGoodBooks stores.now }
+    ensures { IfOk result (λ found. found ≡ books_difference ops.now history.now 0 stores.now) }
+{
+    let plans = history.plans.as_slice();
+    let events = history.events.as_slice();
+    let mut q = 0;
+    let mut rest = stores;
+    while let Some((store, others)) = rest.split_first() {
+        let acts = effects_on(alloc, ops, plans, events, q)?;
+        let difference = store_difference(q, store, &acts);
+        if difference.is_some() {
+            return Ok(difference);
+        }
+        q += 1;
+        rest = others;
+    }
+    Ok(None)
 }

@@ -2,7 +2,9 @@
 ghost use Rattle.std.specs.Prelude.{◌≡◌, ◌<◌, ◌^◌, length, IfOk};
 ghost use Rattle.schedule_model.specs.Histories.{acts};
 ghost use Rattle.history_files.specs.Effects.{verb_of, subsystem_of, key_of, amount_of, effect_of, effects_from};
+ghost use Rattle.history_files.specs.Sound.{is_among};
 
+use crate::comparing::same_effect;
 use commute_table::{Op, Verb};
 use process_tree::{Entry, Plan};
 use resource_box::Call;
@@ -85,4 +87,25 @@ pub fn effects_on(
         rest = after;
     }
     Ok(found)
+}
+
+/// Whether an effect is one of those of some events on a subsystem. It takes no memory.
+pub fn has_effect(ops: &[Op], plans: &[Plan], events: &[Event], q: u8, effect: &Effect) -> bool
+    requires few { length (acts events.now) < 2 ^ 32 }
+    ensures { result ≡ is_among effect.now (effects_from ops.now plans.now q 0 (acts events.now)) }
+{
+    let mut number = 0;
+    let mut rest = events;
+    while let [event, after @ ..] = rest {
+        if let Event::Act(entry) = event {
+            if subsystem_of(ops, entry.op) == q
+                && same_effect(effect, &effect_of(ops, plans, number, entry))
+            {
+                return true;
+            }
+            number += 1;
+        }
+        rest = after;
+    }
+    false
 }

@@ -50,6 +50,13 @@ pub struct CreateRefused<R: Drop, B: Drop = Box<dyn Resource + Send>> {
     pub why: CreateError,
 }
 
+/// Files that were not opened: what they were to be opened from, with the boxes empty, and why.
+#[derive(Drop)]
+pub struct OpenRefused<R: Drop, B: Drop = Box<dyn Resource + Send>> {
+    pub parts: Parts<R, B>,
+    pub why: OpenError,
+}
+
 /// Why a store was not made.
 pub fn of_store(why: StoreError) -> CreateError
     ensures either { (result ≡ Fault) ⊎ (result ≡ NoMemory) }

@@ -9,7 +9,7 @@ ghost use Rattle.process_journal.specs.Journals.{IsHistoryUnder};
 ghost use Rattle.process_journal.specs.Opened.{Stands as JournalStands};
 ghost use Rattle.history_files.specs.Boxes.{AreBoxes, AreEmpty, AreParted};
 ghost use Rattle.history_files.specs.Opening.{book_in, IsDueToStore, IsDueToReading};
-ghost use Rattle.history_files.specs.Standing.{AtEach, AreStores, EachFits};
+ghost use Rattle.history_files.specs.Standing.{AtEach, AreGoodBooks, AreStores, EachFits};
 ghost use Rattle.history_files.specs.declared.faults.OpenError.TheVariants.{DiskFault as Fault, NoMemory};
 
 use crate::OpenError;
@@ -37,6 +37,7 @@ pub fn open_stores<R: Rack, B: Resource>(
     ensures stand { Told (R.disk rack.old) → IfOk result (λ ss. AtEach (λ q s. Stands s (R.disk rack.new)) ss.items) }
     ensures read { Told (R.disk rack.old) → IfOk result (λ ss. AtEach (λ q s. book_in (R.disk rack.old).files q ≡ Ok (record { book = s.book; doubt = s.doubt })) ss.items) }
     ensures fits { IfOk result (λ ss. EachFits B.meaning B.sort ss.items) }
+    ensures good { IfOk result (λ ss. AreGoodBooks ss.items) }
     ensures emptied { OnOk result (boxes.new.items ≡ []) }
     ensures back { OnErr result (AreBoxes B.sort boxes.new.items × AreEmpty B.meaning boxes.new.items) }
     ensures room { 8 ≤ vec_capacity boxes.new }
@@ -84,6 +85,7 @@ pub fn read_files<R: Rack, B: Resource>(
     ensures stand { Told (R.disk rack.old) → IfOk result (λ r. AtEach (λ q s. Stands s (R.disk rack.new)) r.stores.items) }
     ensures read { Told (R.disk rack.old) → IfOk result (λ r. AtEach (λ q s. book_in (R.disk rack.old).files q ≡ Ok (record { book = s.book; doubt = s.doubt })) r.stores.items) }
     ensures fits { IfOk result (λ r. EachFits B.meaning B.sort r.stores.items) }
+    ensures good { IfOk result (λ r. AreGoodBooks r.stores.items) }
     ensures emptied { OnOk result (boxes.new.items ≡ []) }
     ensures back { IfErr result (λ e. AreBoxes B.sort boxes.new.items × AreEmpty B.meaning boxes.new.items) }
     ensures room { 8 ≤ vec_capacity boxes.new }

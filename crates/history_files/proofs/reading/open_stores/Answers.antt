@@ -1,10 +1,11 @@
-use Rattle.std.proofs.Common.{◌≡◌, ◌∙◌, ◌+◌, ap, sym, subst, arith, length, [], ◌∷◌, ◌++◌}
+use Rattle.std.proofs.Common.{◌≡◌, ◌∙◌, ◌+◌, ap, sym, subst, arith, length, length-append, [], ◌∷◌, ◌++◌}
 use Rattle.process_disk.proofs.Images.{all_then}
+use Rattle.subsystem_store.specs.Laws.{IsGoodBook}
 use Rattle.subsystem_store.specs.Opened.{Fits, account_of}
 use Rattle.history_files.specs.Boxes.{AreParted}
 use Rattle.history_files.specs.Opening.{of_store_error}
 use Rattle.history_files.specs.Sound.{kind_of}
-use Rattle.history_files.specs.Standing.{AtEach}
+use Rattle.history_files.specs.Standing.{AreGoodBooks, AtEach}
 use Rattle.history_files.proofs.Clearing.{goes_in, each_with, last_of_more, parted_count, kinds_in_place, next_kind}
 use Rattle.history_files.proofs.ReadStores.{Read, read_more, read_next, refused_next, read_earlier}
 use Rattle.history_files.proofs.reading.open_stores.Goals as goal
@@ -25,6 +26,7 @@ loop-resource-preserved g c =
       files = subst (AtEach (λ q s. s.log.file ≡ q + 1)) (sym pushed) files;
       fits = subst (AtEach (λ q s. Fits meaning sort (account_of s))) (sym pushed)
           (each_with (λ q s. Fits meaning sort (account_of s)) old.stores.items store old.invariant.fits made.fits);
+      good = subst AreGoodBooks (sym pushed) (each_with (λ q s. IsGoodBook s.kind s.book s.doubt) old.stores.items store old.invariant.good made.good);
       stores_room = omega (arith, old.invariant.stores_room, c.push_reserved.ensures.capacity);
       boxes_room = omega (arith, old.invariant.boxes_room, c.pop.ensures.capacity);
       told = λ told.
@@ -77,8 +79,10 @@ returns-in-Err-clause-due g c told =
     let read = old.invariant.told told in
     let same : c.len.result + 1 ≡ length old.stores.items + 1 = omega (arith, c.len.ensures, old.stores.ok) in
     let kind = next_kind sort old.stores.items c.pop.new.self.items c.in-Some.resource (subst (AreParted sort old.stores.items) c.in-Some.ensures.items old.invariant.parted) in
+    let count = parted_count sort old.stores.items (c.pop.new.self.items ++ c.in-Some.resource ∷ []) (subst (AreParted sort old.stores.items) c.in-Some.ensures.items old.invariant.parted) in
     record {
       subsystem = length old.stores.items;
+      within = omega (arith, count, length-append c.pop.new.self.items (c.in-Some.resource ∷ []));
       why = c.in-Err.refused.why;
       is = c.of_opened.ensures ∙ ap (λ n. of_store_error n c.in-Err.refused.why) same;
       refused = refused_next (g.R.Rack.disk c.args.rack.now) (g.R.Rack.disk old.rack) (length old.stores.items) (c.len.result + 1) (sort c.in-Some.resource) c.in-Err.refused.why read.all kind same (c.in-Err.ensures.answer (old.invariant.tells ∙ told));

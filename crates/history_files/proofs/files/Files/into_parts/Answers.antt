@@ -1,4 +1,4 @@
-use Rattle.std.proofs.Common.{◌∙◌, ap, map, subst, sym}
+use Rattle.std.proofs.Common.{subst, sym}
 use Rattle.history_files.specs.Boxes.{AreBoxes}
 use Rattle.history_files.specs.Standing.{EachFits}
 use Rattle.history_files.proofs.BoxKinds.{are_boxes}
