@@ -35,7 +35,7 @@ effect_itself e = by e.number e.process e.step e.undo e.call
     by number process step false call = rw (eq-eqb number number refl, eq-eqb process process refl, eq-eqb step step refl) (call_itself call)
 
 -- so the last of some effects is among them,
-last_is_among : (es : List Effect) (e : Effect) → is_among e (es ++ e ∷ []) ≡ true
+pub last_is_among : (es : List Effect) (e : Effect) → is_among e (es ++ e ∷ []) ≡ true
 last_is_among es e = list_any-append (same_effect e) es (e ∷ []) ∙ or_right (list_any (same_effect e) es) (list_any (same_effect e) (e ∷ [])) (ap (λ b. b || false) (effect_itself e))
 
 -- and in doubt behind the others it counts
@@ -77,7 +77,7 @@ barred_are_settled ops h q old new settled changes =
     (λ k s not_q at. settled k s at))
 
 -- a store at the place of one that was set is that one
-the_set : {A : Type 0} (xs : List A) (q : ℕ) (y z : A) → slice_get (slice_set xs q y) q ≡ Some z → z ≡ y
+pub the_set : {A : Type 0} (xs : List A) (q : ℕ) (y z : A) → slice_get (slice_set xs q y) q ≡ Some z → z ≡ y
 the_set xs q y z at = by (place_of_set xs q y q z at)
   where
     by : ((q ≡ q) × (z ≡ y)) ⊎ ((q ≢ q) × (slice_get xs q ≡ Some z)) → z ≡ y

@@ -4,7 +4,7 @@ ghost use Rattle.process_disk.specs.Images.{EachImage};
 ghost use Rattle.schedule_model.specs.declared.history.History.{History};
 ghost use Rattle.commute_table.specs.declared.catalog.Catalog.{Catalog};
 ghost use Rattle.history_files.specs.Sound.{IsSound};
-ghost use Rattle.history_files.specs.Standing.{Stand};
+ghost use Rattle.history_files.specs.Standing.{AreStores, Stand};
 
 use process_disk::Rack;
 use process_journal::Journal;
@@ -39,6 +39,12 @@ impl<R: Rack + Drop, B: Drop> Files<R, B> {
         ensures read { Told (R.disk self.now.rack) → (c : Catalog) (h : History) → Stand c h self.now.journal self.now.stores (R.disk self.now.rack) → IsSound c h (R.disk self.now.rack).files }
         ensures each { Told (R.disk self.now.rack) → (c : Catalog) (h : History) → Stand c h self.now.journal self.now.stores (R.disk self.now.rack) →
             EachImage (R.disk self.now.rack) (R.disk self.now.rack).moment (IsSound c h) }
+    {
+        let _ = &self.journal;
+    }
+    /// There are eight stores, each of its kind and on its file.
+    pub fn are_stores(&self)
+        ensures { AreStores self.now.stores }
     {
         let _ = &self.journal;
     }
