@@ -4,3 +4,9 @@ pub mod StartedHistory
 pub mod StartedRest
 pub mod StartRecord
 pub mod NewEngine
+pub mod NextHistory
+pub mod PreparedStores
+pub mod RecordedStores
+pub mod RecordedPieces
+pub mod Subsystems
+pub mod PreparedPieces

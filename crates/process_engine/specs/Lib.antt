@@ -1,2 +1,4 @@
 pub mod Beginning
 pub mod Engines
+pub mod Pieces
+pub mod UnderWay

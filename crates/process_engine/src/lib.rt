@@ -9,8 +9,10 @@ mod beginning;
 mod engines;
 mod gates;
 mod making;
+mod pieces;
 
 pub use beginning::{EngineStart, EngineStartWhy};
 pub use engines::{Closed, Engine, Phase};
 pub use gates::{Answer, Gate};
 pub use history_files::{CreateError, CreateRefused, Parts};
+pub use pieces::{PreparePiece, Prepared, Recorded};
