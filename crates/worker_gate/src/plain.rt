@@ -1,0 +1,52 @@
+// The plain gate.
+ghost use Rattle.std.specs.Prelude.{◌≡◌, ◌≤◌, ◌+◌, ◌-◌, ◌^◌, min};
+ghost use Rattle.process_flow.specs.Causes.{Rose};
+ghost use Rattle.worker_gate.specs.Gates.{plain_answer};
+
+use process_core::Piece;
+use process_engine::{Answer, Gate};
+use std::marker::Model;
+
+/// Refuses each piece as often as its step says, and does it then.
+#[derive(Drop)]
+pub struct PlainGate {
+    refusals: u64,
+}
+
+impl Model for PlainGate {
+    ghost use Rattle.worker_gate.specs.Gates.{PlainState};
+
+    ghost Value = { PlainState };
+
+    ghost view = { λ g. record { refusals = g.refusals } };
+}
+
+impl PlainGate {
+    pub fn new() -> Self
+        ensures { result.refusals ≡ 0 }
+    {
+        PlainGate { refusals: 0 }
+    }
+}
+
+impl Gate for PlainGate {
+    ghost use Rattle.std.specs.Prelude.{Some};
+    ghost use Rattle.worker_gate.specs.Gates.{plain_answer};
+
+    ghost answers = { λ p. Some (plain_answer p) };
+
+    ghost refusals = { λ g. g.refusals };
+
+    fn work(&mut self, piece: &Piece) -> Answer
+        ensures told { result ≡ plain_answer piece.now }
+        ensures later { self.old.refusals ≤ self.new.refusals }
+        ensures counted { result ≡ Answer.Refused → self.new.refusals ≡ min (self.old.refusals + 1) (2 ^ 64 - 1) }
+    {
+        if piece.tried() < piece.refuse() {
+            self.refusals = self.refusals.saturating_add(1);
+            Answer::Refused
+        } else {
+            Answer::Done
+        }
+    }
+}
