@@ -1,11 +1,30 @@
 -- How a call of the program ends.
 use Rattle.std.specs.Prelude.{◌≡◌, ◌⊎◌, ℕ, List}
+use Rattle.process_flow.specs.declared.source.Source.{Ghosts as Sources}
+use Rattle.process_flow.specs.declared.sink.Sink.{Ghosts as Sinks}
+use Rattle.file_rack.specs.declared.folder.Folder.{Ghosts as Folders}
 use Rattle.program_lines.specs.Statuses.{number_of}
 use Rattle.program_lines.specs.declared.status.Status.TheVariants.{NoMemory}
-use Rattle.process_top.specs.Worlds.{World}
-use Rattle.process_top.specs.Commands.{IsAnswered, IsComplete}
+use Rattle.process_top.specs.Worlds.{World, input, output}
+use Rattle.process_top.specs.Commands.{Answers}
 
--- what `top` answers to these words, and in full where nothing fails; or there is no memory for the words, and nothing is touched
-pub record EndsSo (words : List (List ℕ)) (before after : World) (number : ℕ) (untouched : Type 0) : Type 0 where
-  pub answered : IsAnswered words before after number ⊎ ((number ≡ number_of NoMemory) × untouched)
-  pub complete : IsComplete words before after number ⊎ (number ≡ number_of NoMemory)
+-- the world of a source, a sink and a folder, over which so many calls of a rack have failed
+abbrev pub world_over : {S K D : Type 0} → Sources S → Sinks K → Folders D → S → K → D → ℕ → World S K D
+world_over s k d source sink folder faults = record {
+  source = source;
+  sink = sink;
+  rack = folder;
+  input = input s source;
+  output = output k sink;
+  files = record { disk = d.disk folder; faults = faults };
+}
+
+-- all is as it was
+pub record AreSame {S K D : Type 0} (before after : World S K D) : Type 0 where
+  pub source : after.source ≡ before.source
+  pub sink : after.sink ≡ before.sink
+  pub folder : after.rack ≡ before.rack
+
+-- what `top` answers to these words; or there is no memory for the words, and all is as it was
+abbrev pub EndsSo : {S K D : Type 0} → List (List ℕ) → World S K D → World S K D → ℕ → Type 0
+EndsSo words before after number = Answers words before after number ⊎ ((number ≡ number_of NoMemory) × AreSame before after)

@@ -2,8 +2,7 @@
 ghost use Rattle.std.specs.Prelude.{◌≡◌, drop, map, string_bytes, IfOk};
 ghost use Rattle.std.specs.Process.{exit_status};
 ghost use Rattle.std.specs.Vec.Iter.{into_iter_items, into_iter_len};
-ghost use Rattle.process_top.specs.Worlds.{world};
-ghost use Rattle.process_program.specs.Ends.{EndsSo};
+ghost use Rattle.process_program.specs.Ends.{EndsSo, world_over};
 ghost use Rattle.process_program.specs.Words.{words_behind};
 
 use file_rack::{FileRack, Folder, SystemFolder};
@@ -56,10 +55,8 @@ pub fn program<H, S: Source, K: Sink, D: Folder + Drop>(
     sink: &mut K,
     folder: D,
 ) -> Ended<D>
-    ensures ends { EndsSo (words_behind args)
-        (world (S.left source.old) (S.faults source.old) (D.disk folder) 0 (K.taken sink.old) (K.faults sink.old))
-        (world (S.left source.new) (S.faults source.new) (D.disk result.rack.folder) result.rack.faults (K.taken sink.new) (K.faults sink.new))
-        (exit_status result.code) ((source.new ≡ source.old) × (sink.new ≡ sink.old) × (result.rack.folder ≡ folder)) }
+    // On these words, from this world to that one, the call ends with this number.
+    ensures ends { EndsSo (words_behind args) (world_over S.Source K.Sink D.Folder source.old sink.old folder 0) (world_over S.Source K.Sink D.Folder source.new sink.new result.rack.folder result.rack.faults) (exit_status result.code) }
 {
     let Ok(words) = words(alloc, args) else {
         return Ended {

@@ -17,7 +17,7 @@ use Rattle.process_journal.specs.Opened.{IsJournalOf}
 use Rattle.process_journal.specs.declared.errors.JournalError.{JournalError}
 use Rattle.process_journal.specs.declared.errors.JournalError.TheVariants as journal
 use Rattle.process_journal.proofs.NeverRefused.{journals_are_opened}
-use Rattle.program_lines.specs.Statuses.{number_of, IsOneOf}
+use Rattle.program_lines.specs.Statuses.{IsOneOf}
 use Rattle.program_lines.specs.declared.status.Status.{Status}
 use Rattle.program_lines.specs.declared.status.Status.TheVariants.{Done, IllFormed, NoMemory}
 use Rattle.program_lines.specs.declared.refusal.Refusal.{Refusal}
@@ -25,7 +25,7 @@ use Rattle.program_lines.specs.declared.refusal.Refusal.TheVariants as refusals
 use Rattle.program_lines.specs.Refusals.{error_status, refusal_status}
 use Rattle.process_top.specs.declared.run.RunFault.{RunFault}
 use Rattle.process_top.specs.declared.run.RunFault.TheVariants as faults
-use Rattle.process_top.specs.Inputs.{Input, input, most_input, first_refusal, text_tests, IsRefused}
+use Rattle.process_top.specs.Inputs.{Input, most_input, first_refusal, text_tests, IsRefused}
 use Rattle.process_top.specs.FilesLeft.{Files}
 use Rattle.process_top.specs.Told.{Output, IsTold}
 use Rattle.process_top.specs.Life.{is_add_process}
@@ -35,27 +35,32 @@ use Rattle.process_top.specs.Show.{journal_refusal, IsNotOpened}
 use Rattle.process_top.proofs.InputRefusals.{is_within}
 use Rattle.process_top.proofs.Stories.{adds_again}
 
--- without a fault of the sink, the number is that of the reply's status
-pub told_well : (status : Status) (text : List ℕ) (before after : Output) (number : ℕ) → IsTold status text before after number → ¬ Rose before.faults after.faults → number ≡ number_of status
-told_well status text before after number (inl well) quiet = well.0
-told_well status text before after number (inr failed) quiet = absurd (quiet failed.1)
+-- an input that is told, and its count of faults
+abbrev pub given : Option (List ℕ) → ℕ → Input
+given left faults = record { left = left; faults = faults }
+
+-- without a fault of the sink, the status is that of the reply
+pub told_well : (status : Status) (text : List ℕ) (before after : Output) (ended : Status) → IsTold status text before after ended → ¬ Rose before.faults after.faults → ended ≡ status
+told_well status text before after ended (inl well) quiet = well.0
+told_well status text before after ended (inr failed) quiet = absurd (quiet failed.1)
 
 -- without a fault of the source, an input is refused by its tests, or memory was wanting
-pub quietly_refused : (tests : List ℕ → List (Option Refusal)) (r : Refusal) (text : List ℕ) (faults : ℕ) (after : Input) → IsRefused tests r (input (Some text) faults) after → ¬ Rose faults after.faults
+pub quietly_refused : (tests : List ℕ → List (Option Refusal)) (r : Refusal) (text : List ℕ) (faults : ℕ) (after : Input) → IsRefused tests r (given (Some text) faults) after → ¬ Rose faults after.faults
     → (first_refusal (tests text) ≡ Some r → refusal_status r ≡ NoMemory) → refusal_status r ≡ NoMemory
-quietly_refused tests refusals.BadWords text faults after why quiet by = by why
-quietly_refused tests refusals.NotYet text faults after why quiet by = by why
-quietly_refused tests (refusals.Text e) text faults after why quiet by = by why
-quietly_refused tests (refusals.CatalogDiffers n) text faults after why quiet by = by why
-quietly_refused tests (refusals.BadLine n) text faults after why quiet by = by why
-quietly_refused tests (refusals.Limit counted n) text faults after why quiet by = by why
-quietly_refused tests (refusals.Unfinished i) text faults after why quiet by = by why
-quietly_refused tests (refusals.File fault) text faults after why quiet by = by why
-quietly_refused tests (refusals.BookDiffers q n) text faults after why quiet by = by why
-quietly_refused tests (refusals.Report fault) text faults after why quiet by = by why
+quietly_refused tests refusals.BadWords text faults after why quiet by = by why.1
+quietly_refused tests refusals.NotYet text faults after why quiet by = by why.1
+quietly_refused tests (refusals.Text e) text faults after why quiet by = by why.1
+quietly_refused tests (refusals.Scenario fault) text faults after why quiet by = by why.1
+quietly_refused tests (refusals.CatalogDiffers n) text faults after why quiet by = by why.1
+quietly_refused tests (refusals.BadLine n) text faults after why quiet by = by why.1
+quietly_refused tests (refusals.Limit quantity n) text faults after why quiet by = by why.1
+quietly_refused tests (refusals.Unfinished i) text faults after why quiet by = by why.1
+quietly_refused tests (refusals.File fault) text faults after why quiet by = by why.1
+quietly_refused tests (refusals.BookDiffers q n) text faults after why quiet by = by why.1
+quietly_refused tests (refusals.Report fault) text faults after why quiet by = by why.1
 quietly_refused tests refusals.ReadFault text faults after why quiet by = absurd (quiet why)
-quietly_refused tests refusals.DiskFault text faults after why quiet by = by why
-quietly_refused tests (refusals.Exhausted i step) text faults after why quiet by = by why
+quietly_refused tests refusals.DiskFault text faults after why quiet by = by why.1
+quietly_refused tests (refusals.Exhausted i step) text faults after why quiet by = by why.1
 quietly_refused tests refusals.NoMemory text faults after why quiet by = refl
 
 no_fault_or_memory : (text : List ℕ) (e : TextError) (ps : List Named) → IsReading (words_of text) ps → (e ≡ errors.NoMemory) ⊎ ((qs : List Named) → ¬ IsReading (words_of text) qs) → e ≡ errors.NoMemory
@@ -76,9 +81,9 @@ text_passes text r ps within reading first =
     passed_by text (text_error text) r ps refl reading (subst (λ (o : Option Refusal). first_refusal (o ∷ option_map refusals.Text (text_error text) ∷ []) ≡ Some r) (is_within text within) first)
 
 -- the status of verdicts is one of two
-pub by_any : (any : Bool) (number : ℕ) → number ≡ number_of (if any then IllFormed else Done) → IsOneOf number (Done ∷ IllFormed ∷ NoMemory ∷ [])
-by_any true number is = inr (inl is)
-by_any false number is = inl is
+pub by_any : (any : Bool) (status : Status) → status ≡ (if any then IllFormed else Done) → IsOneOf status (Done ∷ IllFormed ∷ NoMemory ∷ [])
+by_any true status is = inr (inl is)
+by_any false status is = inl is
 
 run_quiet : (fault : RunFault) (p : Named) (files files_after : Files) → IsRefusedRun fault p files.disk files_after.disk files.faults files_after.faults → ¬ Rose files.faults files_after.faults → Told files.disk
     → file_of files.disk.files 0 ≡ [] → refusal_status (run_refusal fault) ≡ NoMemory
@@ -88,7 +93,7 @@ run_quiet faults.CutOff p files files_after why quiet told empty = absurd (quiet
 run_quiet faults.NoMemory p files files_after why quiet told empty = refl
 
 -- one process of `add` steps alone is run on an empty file 0, or memory was wanting
-pub not_run_quietly : (r : Refusal) (text : List ℕ) (faults : ℕ) (after : Input) (files files_after : Files) (p : Named) → IsNotRun r (input (Some text) faults) after files files_after
+pub not_run_quietly : (r : Refusal) (text : List ℕ) (faults : ℕ) (after : Input) (files files_after : Files) (p : Named) → IsNotRun r (given (Some text) faults) after files files_after
     → ¬ Rose faults after.faults → ¬ Rose files.faults files_after.faults → length text ≤ most_input → IsReading (words_of text) (p ∷ []) → is_add_process p.tree ≡ true → Told files.disk
     → file_of files.disk.files 0 ≡ [] → refusal_status r ≡ NoMemory
 not_run_quietly r text faults after files files_after p (inl why) quiet quiet_files within reading adds told empty =

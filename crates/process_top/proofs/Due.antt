@@ -1,25 +1,21 @@
--- What is due where there is no memory, and on words that ask for nothing; and that what is said is an answer.
-use Rattle.std.proofs.Common.{◌≡◌, ℕ, List, true, false, Option, Some, None, Result, Ok, Err, refl, sym, ap, subst, ◌∙◌, inl, inr}
+-- What is due where there is no memory, and on words that ask for nothing.
+use Rattle.std.proofs.Common.{◌≡◌, ℕ, List, true, false, Option, Some, None, refl, sym, ap, ◌∙◌, inl, inr}
 use Rattle.process_tree.specs.declared.tree.Named.{Named}
 use Rattle.process_journal.specs.declared.errors.JournalError.TheVariants as journal
 use Rattle.program_words.specs.Commands.{asked}
 use Rattle.program_words.specs.declared.reading.Command.{Command}
 use Rattle.program_words.specs.declared.reading.Command.TheVariants.{Check, Run, Show, Verify}
-use Rattle.program_lines.specs.declared.status.Status.{Status}
 use Rattle.program_lines.specs.declared.refusal.Refusal.{Refusal}
 use Rattle.program_lines.specs.declared.refusal.Refusal.TheVariants.{NoMemory}
 use Rattle.program_lines.specs.Refusals.{needs_memory}
 use Rattle.process_top.specs.declared.run.RunFault.{RunFault}
 use Rattle.process_top.specs.declared.run.RunFault.TheVariants as faults
-use Rattle.process_top.specs.declared.told.Said.{Said}
 use Rattle.process_top.specs.Journal.{IsRefusedRun}
-use Rattle.process_top.specs.Worlds.{World, Input, Files}
+use Rattle.process_top.specs.Worlds.{Input, Files}
 use Rattle.process_top.specs.FilesLeft.{AreUntouched}
 use Rattle.process_top.specs.Run.{IsNotRun, run_refusal}
-use Rattle.process_top.specs.Replies.{refused, status_of}
-use Rattle.process_top.specs.Told.{IsTold, IsRefusalTold}
-use Rattle.process_top.specs.Said.{Says, IsResultTold}
-use Rattle.process_top.specs.Commands.{IsDueTo, IsAnswered}
+use Rattle.process_top.specs.Replies.{refused}
+use Rattle.process_top.specs.Commands.{IsDueTo}
 
 -- a run that was refused by a line that needs memory left the files as they were
 unless_memory : (fault : RunFault) (p : Named) (files files_after : Files) → IsRefusedRun fault p files.disk files_after.disk files.faults files_after.faults → needs_memory (run_refusal fault) ≡ true
@@ -53,26 +49,3 @@ no_words_due (Some Check) before after files files_after untouched = (tt, untouc
 no_words_due (Some Run) before after files files_after untouched = inl (tt, untouched)
 no_words_due (Some Show) before after files files_after untouched = ((journal.NoMemory, refl, λ told. tt, λ is. absurd (cc)), untouched)
 no_words_due (Some Verify) before after files files_after untouched = (tt, untouched)
-
--- what was said and told is an answer
-pub said_is_answered : (words : List (List ℕ)) (before after : World) (number : ℕ) (said : Said) → Says (IsDueTo (asked words) before.input after.input before.files after.files) (Ok said)
-    → IsTold said.status said.text.items before.output after.output number → IsAnswered words before after number
-said_is_answered words before after number said says told = record {
-  reply = says.0;
-  due = says.1;
-  told = subst (λ (text : List ℕ). IsTold (status_of says.0) text before.output after.output number) says.2
-      (subst (λ (status : Status). IsTold status said.text.items before.output after.output number) says.3 told);
-}
-
--- and so is what was refused and told
-pub refused_is_answered : (words : List (List ℕ)) (before after : World) (number : ℕ) (r : Refusal) → IsDueTo (asked words) before.input after.input before.files after.files (refused r)
-    → IsRefusalTold r before.output after.output number → IsAnswered words before after number
-refused_is_answered words before after number r due (inl told) = record { reply = refused r; due = due; told = told }
-refused_is_answered words before after number r due (inr told) =
-    record { reply = refused NoMemory; due = no_memory_due (asked words) r before.input after.input before.files after.files due told.0; told = told.1 }
-
--- either way
-pub result_is_answered : (words : List (List ℕ)) (before after : World) (number : ℕ) (result : Result Said Refusal) → Says (IsDueTo (asked words) before.input after.input before.files after.files) result
-    → IsResultTold result before.output after.output number → IsAnswered words before after number
-result_is_answered words before after number (Ok said) says told = said_is_answered words before after number said says told
-result_is_answered words before after number (Err r) says told = refused_is_answered words before after number r says told

@@ -6,9 +6,8 @@ pub mod Runs
 pub mod OnWay
 pub mod Stories
 pub mod InputRefusals
-pub mod StatusNumbers
 pub mod Due
 pub mod Completing
 pub mod Complete
 pub mod Saying
-pub mod Early
+pub mod Answered

@@ -1,5 +1,5 @@
 -- What the commands say is due.
-use Rattle.std.proofs.Common.{◌≡◌, ℕ, List, [], ◌∷◌, Bool, Result, Ok, Err, IfOk, IfErr, Vec, refl, ap, subst, ◌∙◌, inl, inr, if◌then◌else◌, length}
+use Rattle.std.proofs.Common.{◌≡◌, ℕ, List, [], ◌∷◌, Bool, false, Result, Ok, Err, IfOk, IfErr, Vec, refl, ap, subst, ◌∙◌, inl, inr, if◌then◌else◌, length}
 use Rattle.std.specs.declared.alloc.Global.{Global}
 use Rattle.std.specs.List.{concat}
 use Rattle.process_disk.specs.Disk.{Told}
@@ -20,15 +20,15 @@ use Rattle.process_top.specs.Inputs.{Input, IsRead}
 use Rattle.process_top.specs.FilesLeft.{Files}
 use Rattle.process_top.specs.Life.{lines_of}
 use Rattle.process_top.specs.Journal.{IsAddProcess, IsRun}
-use Rattle.process_top.specs.Replies.{Reply, checked, status_of, text_of}
+use Rattle.process_top.specs.Replies.{Reply, checked, is_refused, status_of, text_of}
 use Rattle.process_top.specs.Check.{IsCheckDue}
 use Rattle.process_top.specs.Run.{IsNotRun, IsOnlyRun, IsOnlyRefused, IsRunOf}
 use Rattle.process_top.specs.Show.{IsNotOpened}
 
 -- the verdicts on what was read
 pub check_says : (before after : Input) (ps : List Named) (any : Bool) (text : List ℕ) (status : Status) → IsRead before after ps → AreLines ps any text → status ≡ (if any then IllFormed else Done)
-    → (reply : Reply) × IsCheckDue before after reply × (text ≡ text_of reply) × (status ≡ status_of reply)
-check_says before after ps any text status read are is = (checked ps are.0, (read, are.1), are.2, is ∙ ap (λ b. if b then IllFormed else Done) are.3)
+    → (reply : Reply) × (is_refused reply ≡ false) × IsCheckDue before after reply × (text ≡ text_of reply) × (status ≡ status_of reply)
+check_says before after ps any text status read are is = (checked ps are.0, refl, (read, are.1), are.2, is ∙ ap (λ b. if b then IllFormed else Done) are.3)
 
 -- want of memory for the report of a journal
 pub no_memory_shown : (before after : Files) → IsNotOpened refusals.NoMemory before after

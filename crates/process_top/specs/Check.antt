@@ -1,11 +1,12 @@
 -- The command `check`.
-use Rattle.std.specs.Prelude.{◌≤◌, ℕ, List, [], ◌∷◌, length, IfSome}
+use Rattle.std.specs.Prelude.{◌≤◌, List, [], ◌∷◌, length, IfSome}
 use Rattle.process_tree.specs.declared.tree.Named.{Named}
 use Rattle.process_text.specs.Words.{words_of}
 use Rattle.process_text.specs.Grammar.{IsReading}
+use Rattle.program_lines.specs.declared.status.Status.{Status}
 use Rattle.program_lines.specs.declared.status.Status.TheVariants.{Done, IllFormed, NoMemory}
-use Rattle.program_lines.specs.Statuses.{IsOneOf}
 use Rattle.program_lines.specs.Verdicts.{AreVerdicts}
+use Rattle.program_lines.specs.Statuses.{IsOneOf}
 use Rattle.process_top.specs.Inputs.{Input, most_input, IsRead, IsRefused, text_tests}
 use Rattle.process_top.specs.Replies.{Reply, checked, refused}
 
@@ -16,6 +17,6 @@ IsCheckDue before after (refused r) = IsRefused text_tests r before after
 IsCheckDue before after reply = ⊥
 
 -- where the input is in the grammar, there are verdicts, or memory is wanting
-abbrev pub IsCheckComplete : Input → ℕ → Type 0
-IsCheckComplete input number =
-    IfSome input.left (λ text. (ps : List Named) → length text ≤ most_input → IsReading (words_of text) ps → IsOneOf number (Done ∷ IllFormed ∷ NoMemory ∷ []))
+abbrev pub IsCheckComplete : Input → Status → Type 0
+IsCheckComplete input status =
+    IfSome input.left (λ text. (ps : List Named) → length text ≤ most_input → IsReading (words_of text) ps → IsOneOf status (Done ∷ IllFormed ∷ NoMemory ∷ []))

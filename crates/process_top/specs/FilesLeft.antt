@@ -1,5 +1,6 @@
 -- The files of a command, and what it leaves of them.
 use Rattle.std.specs.Prelude.{◌≡◌, ◌≤◌, ℕ}
+use Rattle.process_disk.specs.declared.rack.Rack.{Ghosts as Racks}
 use Rattle.process_disk.specs.Disk.{Disk, Told}
 use Rattle.process_disk.specs.Images.{AllAsBefore, OthersAsBefore}
 
@@ -8,8 +9,8 @@ pub record Files : Type 1 where
   pub disk : Disk
   pub faults : ℕ
 
-abbrev pub files : Disk → ℕ → Files
-files disk faults = record { disk = disk; faults = faults }
+abbrev pub files : {R : Type 0} → Racks R → R → Files
+files r rack = record { disk = r.disk rack; faults = r.faults rack }
 
 -- all files, where they are told, read as before, and a crash leaves nothing that one at the start might not have left
 abbrev pub AreUntouched : Files → Files → Type 0

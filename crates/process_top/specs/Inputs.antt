@@ -1,5 +1,5 @@
 -- The input of a command, and what is refused of it.
-use Rattle.std.specs.Prelude.{◌≡◌, ◌≤◌, ◌<◌, ◌⊎◌, ℕ, nat_lt, List, [], ◌∷◌, length, Option, Some, None, IfSome, ⊤, if◌then◌else◌}
+use Rattle.std.specs.Prelude.{◌≡◌, ◌≤◌, ◌<◌, ◌⊎◌, ℕ, true, nat_lt, List, [], ◌∷◌, length, Option, Some, None, IfSome, ⊤, if◌then◌else◌}
 use Rattle.std.specs.Option.{option_map}
 use Rattle.std.specs.Io.KnownBytes.{IsAtEnd}
 use Rattle.process_flow.specs.Causes.{Rose}
@@ -9,9 +9,11 @@ use Rattle.process_text.specs.Grammar.{IsReading}
 use Rattle.process_text.specs.Places.{text_error}
 use Rattle.process_text.specs.declared.error.TextError.{TextError}
 use Rattle.process_text.specs.declared.error.TextError.TheVariants as errors
-use Rattle.program_lines.specs.declared.faults.Counted.TheVariants as counted
+use Rattle.process_flow.specs.declared.source.Source.{Ghosts as Sources}
+use Rattle.program_lines.specs.declared.faults.Quantity.TheVariants as quantities
 use Rattle.program_lines.specs.declared.refusal.Refusal.{Refusal}
 use Rattle.program_lines.specs.declared.refusal.Refusal.TheVariants.{Text, Limit, ReadFault, NoMemory}
+use Rattle.process_top.specs.Early.{comes_before_files}
 
 -- the greatest size of an input, in bytes
 abbrev pub most_input : ℕ
@@ -22,8 +24,8 @@ pub record Input : Type 0 where
   pub left : Option (List ℕ)
   pub faults : ℕ
 
-abbrev pub input : Option (List ℕ) → ℕ → Input
-input left faults = record { left = left; faults = faults }
+abbrev pub input : {S : Type 0} → Sources S → S → Input
+input s source = record { left = s.left source; faults = s.faults source }
 
 -- the input, where it is told, is within its limit and has this
 abbrev pub OnInput : Input → (List ℕ → Type 0) → Type 0
@@ -45,7 +47,7 @@ first_refusal (Some r ∷ tests) = Some r
 
 -- the text has more bytes than an input may have; the first that is too many is named
 abbrev pub too_long : List ℕ → Option Refusal
-too_long text = if nat_lt most_input (length text) then Some (Limit counted.Input 1048577) else None
+too_long text = if nat_lt most_input (length text) then Some (Limit quantities.Input 1048577) else None
 
 -- the text has a fault: its first
 abbrev pub bad_text : List ℕ → Option Refusal
@@ -59,16 +61,17 @@ input_tests text = too_long text ∷ []
 abbrev pub text_tests : List ℕ → List (Option Refusal)
 text_tests text = too_long text ∷ bad_text text ∷ []
 
--- The input is refused: by the first of its tests that refuses it; or its source failed; or memory was wanting, which is free.
+-- The input is refused, before the rack is called: by the first of its tests that refuses it; or its source failed; or memory was
+-- wanting, which is free.
 abbrev pub IsRefused : (List ℕ → List (Option Refusal)) → Refusal → Input → Input → Type 0
 IsRefused tests ReadFault before after = Rose before.faults after.faults
 IsRefused tests NoMemory before after = ⊤
-IsRefused tests r before after = IfSome before.left (λ text. first_refusal (tests text) ≡ Some r)
+IsRefused tests r before after = (comes_before_files r ≡ true) × IfSome before.left (λ text. first_refusal (tests text) ≡ Some r)
 
 -- no text came: there was more of it than may be, or the source failed, or memory was wanting
 abbrev pub HasNoText : Refusal → Input → Input → Type 0
 HasNoText r before after =
-    ((r ≡ Limit counted.Input 1048577) × IfSome before.left (λ text. most_input < length text)) ⊎ ((r ≡ ReadFault) × Rose before.faults after.faults) ⊎ (r ≡ NoMemory)
+    ((r ≡ Limit quantities.Input 1048577) × IfSome before.left (λ text. most_input < length text)) ⊎ ((r ≡ ReadFault) × Rose before.faults after.faults) ⊎ (r ≡ NoMemory)
 
 -- what is told of a text that was not read
 abbrev pub text_refusal : TextError → Refusal

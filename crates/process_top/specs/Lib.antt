@@ -1,3 +1,4 @@
+pub mod Early
 pub mod Inputs
 pub mod FilesLeft
 pub mod Told

@@ -1,5 +1,5 @@
 -- What there is to say: for each command and end a reply, with its status and its text.
-use Rattle.std.specs.Prelude.{ℕ, List, [], Option, codes, if◌then◌else◌}
+use Rattle.std.specs.Prelude.{ℕ, Bool, true, false, List, [], Option, codes, if◌then◌else◌}
 use Rattle.std.specs.List.{concat}
 use Rattle.process_tree.specs.declared.tree.Named.{Named}
 use Rattle.process_tree.specs.Termination.{Fault}
@@ -25,6 +25,10 @@ pub data Reply : Type 0 where
   accepted : Reply
   -- the command did not do what it is for
   refused : Refusal → Reply
+
+abbrev pub is_refused : Reply → Bool
+is_refused (refused r) = true
+is_refused reply = false
 
 abbrev pub status_of : Reply → Status
 status_of (checked ps verdicts) = if any_fault verdicts then IllFormed else Done

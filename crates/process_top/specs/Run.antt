@@ -9,6 +9,7 @@ use Rattle.program_lines.specs.declared.refusal.Refusal.TheVariants as refusals
 use Rattle.program_lines.specs.declared.faults.FileFault.TheVariants as file
 use Rattle.process_top.specs.declared.run.RunFault.{RunFault}
 use Rattle.process_top.specs.declared.run.RunFault.TheVariants as faults
+use Rattle.program_lines.specs.declared.status.Status.{Status}
 use Rattle.program_lines.specs.declared.status.Status.TheVariants.{Done, NoMemory}
 use Rattle.program_lines.specs.Statuses.{IsOneOf}
 use Rattle.process_top.specs.Inputs.{Input, most_input, IsRead, IsRefused, text_tests}
@@ -60,7 +61,7 @@ IsRunDue before after files files_after (refused r) = IsNotRun r before after fi
 IsRunDue before after files files_after reply = ⊥
 
 -- where the input is one process of `add` steps alone and file 0 is empty, it is run, or memory is wanting
-abbrev pub IsRunComplete : Input → Disk → ℕ → Type 0
-IsRunComplete input disk number =
+abbrev pub IsRunComplete : Input → Disk → Status → Type 0
+IsRunComplete input disk status =
     IfSome input.left (λ text. (p : Named) → length text ≤ most_input → IsReading (words_of text) (p ∷ []) → is_add_process p.tree ≡ true
-    → Told disk → file_of disk.files 0 ≡ [] → IsOneOf number (Done ∷ NoMemory ∷ []))
+    → Told disk → file_of disk.files 0 ≡ [] → IsOneOf status (Done ∷ NoMemory ∷ []))

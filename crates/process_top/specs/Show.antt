@@ -1,5 +1,5 @@
 -- The command `show`.
-use Rattle.std.specs.Prelude.{◌≡◌, ℕ, [], ◌∷◌}
+use Rattle.std.specs.Prelude.{◌≡◌, [], ◌∷◌}
 use Rattle.process_flow.specs.Causes.{Rose}
 use Rattle.process_disk.specs.Disk.{Disk, Told, file_of}
 use Rattle.process_disk.specs.Images.{EachImage}
@@ -14,6 +14,7 @@ use Rattle.process_journal.specs.Reading.{IsDue}
 use Rattle.program_lines.specs.declared.faults.FileFault.TheVariants.{BadHeader, BadRecord, BadHistory}
 use Rattle.program_lines.specs.declared.refusal.Refusal.{Refusal}
 use Rattle.program_lines.specs.declared.refusal.Refusal.TheVariants as refusals
+use Rattle.program_lines.specs.declared.status.Status.{Status}
 use Rattle.program_lines.specs.declared.status.Status.TheVariants.{Done, NoMemory}
 use Rattle.program_lines.specs.Statuses.{IsOneOf}
 use Rattle.process_top.specs.FilesLeft.{Files}
@@ -44,5 +45,5 @@ IsShowDue before after (refused r) = IsNotOpened r before after
 IsShowDue before after reply = ⊥
 
 -- where file 0 is the journal of a history, it is shown, or memory is wanting
-abbrev pub IsShowComplete : Disk → ℕ → Type 0
-IsShowComplete disk number = (c : Catalog) (h : History) → IsHistoryUnder c h → Told disk → IsJournalOf c h disk.files → IsOneOf number (Done ∷ NoMemory ∷ [])
+abbrev pub IsShowComplete : Disk → Status → Type 0
+IsShowComplete disk status = (c : Catalog) (h : History) → IsHistoryUnder c h → Told disk → IsJournalOf c h disk.files → IsOneOf status (Done ∷ NoMemory ∷ [])

@@ -1,5 +1,5 @@
 -- The command `verify`.
-use Rattle.std.specs.Prelude.{◌≡◌, ◌≤◌, ℕ, [], ◌∷◌, length, IfSome}
+use Rattle.std.specs.Prelude.{◌≡◌, ◌≤◌, [], ◌∷◌, length, IfSome}
 use Rattle.std.specs.Io.KnownBytes.{IsAtEnd}
 use Rattle.trace_verify.specs.declared.verdict.Verified.{Verified}
 use Rattle.trace_verify.specs.declared.verdict.Verified.TheVariants as verdicts
@@ -42,5 +42,5 @@ verified_status (verdicts.SerialDiffers n) = NotReduced
 verified_status verdicts.NoMemory = NoMemory
 
 -- an input within the limit has the status of the verdict on it, or memory is wanting; so a report that is accepted ends well
-abbrev pub IsVerifyComplete : Input → ℕ → Type 0
-IsVerifyComplete input number = IfSome input.left (λ text. length text ≤ most_input → IsOneOf number (verified_status (verdict text) ∷ NoMemory ∷ []))
+abbrev pub IsVerifyComplete : Input → Status → Type 0
+IsVerifyComplete input status = IfSome input.left (λ text. length text ≤ most_input → IsOneOf status (verified_status (verdict text) ∷ NoMemory ∷ []))

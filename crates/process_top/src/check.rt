@@ -11,7 +11,7 @@ use std::alloc::Global;
 
 /// Checks the processes of the source's text.
 pub fn check<S: Source>(alloc: Global, source: &mut S) -> Result<Said, Refusal>
-    ensures { Says (IsCheckDue (input (S.left source.old) (S.faults source.old)) (input (S.left source.new) (S.faults source.new))) result }
+    ensures { Says (IsCheckDue (input S.Source source.old) (input S.Source source.new)) result }
 {
     let processes = processes_of(alloc, source)?;
     let (text, any) = verdicts(alloc, &processes)?;

@@ -1,10 +1,11 @@
 // The front door: answers to lists of words.
-ghost use Rattle.std.specs.Prelude.{◌≡◌, true, false, map, string_bytes};
+ghost use Rattle.std.specs.Prelude.{◌≡◌, true, false, map, string_bytes, IfErr};
 ghost use Rattle.program_words.specs.Commands.{asked};
 ghost use Rattle.process_top.specs.FilesLeft.{AreLeft};
-ghost use Rattle.process_top.specs.Said.{Says, status_in};
+ghost use Rattle.process_top.specs.Early.{comes_before_files};
+ghost use Rattle.process_top.specs.Said.{Says};
 ghost use Rattle.process_top.specs.Worlds.{files, input, world};
-ghost use Rattle.process_top.specs.Commands.{comes_before_files, first_is_show, reads_input, uses_files, IsAnswered, IsBeforeFiles, IsComplete, IsDueTo};
+ghost use Rattle.process_top.specs.Commands.{first_is_show, reads_input, uses_files, Answers, IsDueTo};
 
 use crate::check::check;
 use crate::run::run;
@@ -40,12 +41,12 @@ fn said<S: Source, R: Rack>(
     source: &mut S,
     rack: &mut R,
 ) -> Result<Said, Refusal>
-    ensures due { Says (IsDueTo (asked (map string_bytes words.now)) (input (S.left source.old) (S.faults source.old)) (input (S.left source.new) (S.faults source.new))
-        (files (R.disk rack.old) (R.faults rack.old)) (files (R.disk rack.new) (R.faults rack.new))) result }
-    ensures left { AreLeft (files (R.disk rack.old) (R.faults rack.old)) (files (R.disk rack.new) (R.faults rack.new)) }
+    ensures due { Says (IsDueTo (asked (map string_bytes words.now)) (input S.Source source.old) (input S.Source source.new)
+        (files R.Rack rack.old) (files R.Rack rack.new)) result }
+    ensures left { AreLeft (files R.Rack rack.old) (files R.Rack rack.new) }
     ensures untouched { uses_files (asked (map string_bytes words.now)) ≡ false → rack.new ≡ rack.old }
     ensures unread { reads_input (asked (map string_bytes words.now)) ≡ false → source.new ≡ source.old }
-    ensures early { comes_before_files (status_in result) ≡ true → rack.new ≡ rack.old }
+    ensures early { IfErr result (λ r. comes_before_files r ≡ true → rack.new ≡ rack.old) }
 {
     match read_words(alloc, words) {
         Ok(Command::Check) => check(alloc, source),
@@ -65,26 +66,12 @@ pub fn answer<S: Source, K: Sink, R: Rack>(
     sink: &mut K,
     rack: R,
 ) -> Finished<R>
-    // On these words, from this world to that one, some reply was due; it was told, and this is the number of its status.
-    ensures answered { IsAnswered (map string_bytes words.now)
-        (world (S.left source.old) (S.faults source.old) (R.disk rack) (R.faults rack) (K.taken sink.old) (K.faults sink.old))
-        (world (S.left source.new) (S.faults source.new) (R.disk result.rack) (R.faults result.rack) (K.taken sink.new) (K.faults sink.new)) result.status }
-    // Where no call failed, the command did what it is for, or memory is wanting.
-    ensures complete { IsComplete (map string_bytes words.now)
-        (world (S.left source.old) (S.faults source.old) (R.disk rack) (R.faults rack) (K.taken sink.old) (K.faults sink.old))
-        (world (S.left source.new) (S.faults source.new) (R.disk result.rack) (R.faults result.rack) (K.taken sink.new) (K.faults sink.new)) result.status }
-    // The files but file 0 stay as they are, in each crash image too.
-    ensures left { AreLeft (files (R.disk rack) (R.faults rack)) (files (R.disk result.rack) (R.faults result.rack)) }
-    // A command that needs no files leaves the rack as it is, whatever it tells.
-    ensures untouched { uses_files (asked (map string_bytes words.now)) ≡ false → result.rack ≡ rack }
-    // A command that needs no input leaves the source as it is.
-    ensures unread { reads_input (asked (map string_bytes words.now)) ≡ false → source.new ≡ source.old }
-    // So does each refusal of the words and the input leave the rack, and a verdict.
-    ensures early { IsBeforeFiles result.status → result.rack ≡ rack }
+    // On these words, from this world to that one, at this status, this was answered.
+    ensures { Answers (map string_bytes words.now) (world S.Source K.Sink R.Rack source.old sink.old rack) (world S.Source K.Sink R.Rack source.new sink.new result.rack) result.status }
 {
     let mut rack = rack;
     let found = said(alloc, words, source, &mut rack);
-    let status = tell_result(alloc, sink, &found);
+    let status = tell_result(alloc, sink, &found).number();
     Finished { status, rack }
 }
 
@@ -97,22 +84,8 @@ pub fn top<H, S: Source, K: Sink, R: Rack>(
     sink: &mut K,
     rack: R,
 ) -> Finished<R>
-    // On these words, from this world to that one, some reply was due; it was told, and this is the number of its status.
-    ensures answered { IsAnswered (map string_bytes words.now)
-        (world (S.left source.old) (S.faults source.old) (R.disk rack) (R.faults rack) (K.taken sink.old) (K.faults sink.old))
-        (world (S.left source.new) (S.faults source.new) (R.disk result.rack) (R.faults result.rack) (K.taken sink.new) (K.faults sink.new)) result.status }
-    // Where no call failed, the command did what it is for, or memory is wanting.
-    ensures complete { IsComplete (map string_bytes words.now)
-        (world (S.left source.old) (S.faults source.old) (R.disk rack) (R.faults rack) (K.taken sink.old) (K.faults sink.old))
-        (world (S.left source.new) (S.faults source.new) (R.disk result.rack) (R.faults result.rack) (K.taken sink.new) (K.faults sink.new)) result.status }
-    // The files but file 0 stay as they are, in each crash image too.
-    ensures left { AreLeft (files (R.disk rack) (R.faults rack)) (files (R.disk result.rack) (R.faults result.rack)) }
-    // A command that needs no files leaves the rack as it is, whatever it tells.
-    ensures untouched { uses_files (asked (map string_bytes words.now)) ≡ false → result.rack ≡ rack }
-    // A command that needs no input leaves the source as it is.
-    ensures unread { reads_input (asked (map string_bytes words.now)) ≡ false → source.new ≡ source.old }
-    // So does each refusal of the words and the input leave the rack, and a verdict.
-    ensures early { IsBeforeFiles result.status → result.rack ≡ rack }
+    // On these words, from this world to that one, at this status, this was answered.
+    ensures { Answers (map string_bytes words.now) (world S.Source K.Sink R.Rack source.old sink.old rack) (world S.Source K.Sink R.Rack source.new sink.new result.rack) result.status }
 {
     answer(alloc, words, source, sink, rack)
 }

@@ -1,6 +1,5 @@
 // The command `run`, of one process of `add` steps alone.
 ghost use Rattle.std.specs.Prelude.{◌≡◌, ◌≢◌, ◌≤◌, ◌<◌, [], ℕ, true, false, length, IfOk, IfErr};
-ghost use Rattle.program_lines.specs.Refusals.{refusal_status};
 ghost use Rattle.std.specs.List.{concat};
 ghost use Rattle.process_disk.specs.Disk.{Told, TornIn, file_of};
 ghost use Rattle.process_disk.specs.Images.{RunBy, OthersAsBefore, AllAsBefore};
@@ -10,8 +9,8 @@ ghost use Rattle.process_top.specs.Life.{is_add_process, lines_of};
 ghost use Rattle.process_top.specs.declared.run.RunFault.TheVariants.{NoMemory};
 ghost use Rattle.process_top.specs.Inputs.{input};
 ghost use Rattle.process_top.specs.FilesLeft.{files, AreLeft};
-ghost use Rattle.process_top.specs.Said.{Says, status_in};
-ghost use Rattle.process_top.specs.Commands.{comes_before_files};
+ghost use Rattle.process_top.specs.Early.{comes_before_files};
+ghost use Rattle.process_top.specs.Said.{Says};
 ghost use Rattle.process_top.specs.Run.{run_refusal, IsOnlyRun, IsOnlyRefused, IsRunDue};
 ghost use Rattle.process_top.specs.Journal.{IsAddProcess, IsRun, IsRefusedBefore, IsRefusedRun};
 
@@ -111,7 +110,7 @@ pub fn run_process<R: Rack>(
 
 fn run_refusal(fault: RunFault) -> Refusal
     ensures refusal { result ≡ run_refusal fault }
-    ensures late { comes_before_files (refusal_status result) ≡ false }
+    ensures late { comes_before_files result ≡ false }
 {
     match fault {
         RunFault::NotEmpty => Refusal::File(FileFault::NotEmpty(0)),
@@ -122,10 +121,10 @@ fn run_refusal(fault: RunFault) -> Refusal
 
 // Runs one of these processes, if it is the only one and has `add` steps alone.
 fn run_only<R: Rack>(alloc: Global, rack: &mut R, processes: &[Named]) -> Result<Vec<u8>, Refusal>
-    ensures ran { IfOk result (λ lines. IsOnlyRun processes.now (files (R.disk rack.old) (R.faults rack.old)) (files (R.disk rack.new) (R.faults rack.new)) lines.items) }
-    ensures refused { IfErr result (λ r. IsOnlyRefused r processes.now (files (R.disk rack.old) (R.faults rack.old)) (files (R.disk rack.new) (R.faults rack.new))) }
-    ensures left { AreLeft (files (R.disk rack.old) (R.faults rack.old)) (files (R.disk rack.new) (R.faults rack.new)) }
-    ensures early { IfErr result (λ r. comes_before_files (refusal_status r) ≡ true → rack.new ≡ rack.old) }
+    ensures ran { IfOk result (λ lines. IsOnlyRun processes.now (files R.Rack rack.old) (files R.Rack rack.new) lines.items) }
+    ensures refused { IfErr result (λ r. IsOnlyRefused r processes.now (files R.Rack rack.old) (files R.Rack rack.new)) }
+    ensures left { AreLeft (files R.Rack rack.old) (files R.Rack rack.new) }
+    ensures early { IfErr result (λ r. comes_before_files r ≡ true → rack.new ≡ rack.old) }
 {
     let [process] = processes else {
         return Err(Refusal::NotYet);
@@ -141,10 +140,10 @@ fn run_only<R: Rack>(alloc: Global, rack: &mut R, processes: &[Named]) -> Result
 
 /// Runs the process of the source's text.
 pub fn run<S: Source, R: Rack>(alloc: Global, source: &mut S, rack: &mut R) -> Result<Said, Refusal>
-    ensures due { Says (IsRunDue (input (S.left source.old) (S.faults source.old)) (input (S.left source.new) (S.faults source.new))
-        (files (R.disk rack.old) (R.faults rack.old)) (files (R.disk rack.new) (R.faults rack.new))) result }
-    ensures left { AreLeft (files (R.disk rack.old) (R.faults rack.old)) (files (R.disk rack.new) (R.faults rack.new)) }
-    ensures early { comes_before_files (status_in result) ≡ true → rack.new ≡ rack.old }
+    ensures due { Says (IsRunDue (input S.Source source.old) (input S.Source source.new)
+        (files R.Rack rack.old) (files R.Rack rack.new)) result }
+    ensures left { AreLeft (files R.Rack rack.old) (files R.Rack rack.new) }
+    ensures early { IfErr result (λ r. comes_before_files r ≡ true → rack.new ≡ rack.old) }
 {
     let processes = processes_of(alloc, source)?;
     let text = run_only(alloc, rack, &processes)?;

@@ -1,11 +1,10 @@
 // The command `show`.
 ghost use Rattle.std.specs.Prelude.{◌≡◌, ◌≤◌, false, IfOk, IfErr};
-ghost use Rattle.program_lines.specs.Refusals.{refusal_status};
 ghost use Rattle.process_disk.specs.Disk.{Told};
 ghost use Rattle.process_disk.specs.Images.{AllAsBefore};
 ghost use Rattle.process_top.specs.FilesLeft.{files};
-ghost use Rattle.process_top.specs.Said.{Says, status_in};
-ghost use Rattle.process_top.specs.Commands.{comes_before_files};
+ghost use Rattle.process_top.specs.Early.{comes_before_files};
+ghost use Rattle.process_top.specs.Said.{Says};
 ghost use Rattle.process_top.specs.Show.{journal_refusal, IsNotOpened, IsShown, IsShowDue};
 
 use crate::told::Said;
@@ -19,7 +18,7 @@ use std::alloc::Global;
 
 fn journal_refusal(error: JournalError) -> Refusal
     ensures refusal { result ≡ journal_refusal error }
-    ensures late { comes_before_files (refusal_status result) ≡ false }
+    ensures late { comes_before_files result ≡ false }
 {
     match error {
         JournalError::DiskFault => Refusal::DiskFault,
@@ -32,12 +31,12 @@ fn journal_refusal(error: JournalError) -> Refusal
 
 // The catalog and the history of which file 0 is the journal.
 fn opened<R: Rack>(alloc: Global, rack: &mut R) -> Result<(Catalog, History), Refusal>
-    ensures shown { IfOk result (λ opened. IsShown opened.0 opened.1 (files (R.disk rack.old) (R.faults rack.old)) (files (R.disk rack.new) (R.faults rack.new))) }
-    ensures refused { IfErr result (λ r. IsNotOpened r (files (R.disk rack.old) (R.faults rack.old)) (files (R.disk rack.new) (R.faults rack.new))) }
+    ensures shown { IfOk result (λ opened. IsShown opened.0 opened.1 (files R.Rack rack.old) (files R.Rack rack.new)) }
+    ensures refused { IfErr result (λ r. IsNotOpened r (files R.Rack rack.old) (files R.Rack rack.new)) }
     ensures all { Told (R.disk rack.old) → AllAsBefore (R.disk rack.old) (R.disk rack.new) }
     ensures tells { (R.disk rack.new).tells ≡ (R.disk rack.old).tells }
     ensures later { R.faults rack.old ≤ R.faults rack.new }
-    ensures late { IfErr result (λ r. comes_before_files (refusal_status r) ≡ false) }
+    ensures late { IfErr result (λ r. comes_before_files r ≡ false) }
 {
     match Journal::open(alloc, rack) {
         Ok((_, catalog, history)) => Ok((catalog, history)),
@@ -47,11 +46,11 @@ fn opened<R: Rack>(alloc: Global, rack: &mut R) -> Result<(Catalog, History), Re
 
 /// Shows the history of file 0.
 pub fn show<R: Rack>(alloc: Global, rack: &mut R) -> Result<Said, Refusal>
-    ensures due { Says (IsShowDue (files (R.disk rack.old) (R.faults rack.old)) (files (R.disk rack.new) (R.faults rack.new))) result }
+    ensures due { Says (IsShowDue (files R.Rack rack.old) (files R.Rack rack.new)) result }
     ensures all { Told (R.disk rack.old) → AllAsBefore (R.disk rack.old) (R.disk rack.new) }
     ensures tells { (R.disk rack.new).tells ≡ (R.disk rack.old).tells }
     ensures later { R.faults rack.old ≤ R.faults rack.new }
-    ensures late { comes_before_files (status_in result) ≡ false }
+    ensures late { IfErr result (λ r. comes_before_files r ≡ false) }
 {
     let (catalog, history) = opened(alloc, rack)?;
     let text = report(alloc, &catalog, &history, &[])?;

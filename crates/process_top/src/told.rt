@@ -15,13 +15,13 @@ pub struct Said {
     pub status: Status,
 }
 
-// Writes the text and answers the number of the status, or that of a write fault.
-fn tell<K: Sink>(sink: &mut K, text: &[u8], status: Status) -> u8
-    ensures { IsTold status text.now (output (K.taken sink.old) (K.faults sink.old)) (output (K.taken sink.new) (K.faults sink.new)) result }
+// Writes the text and answers the status, or that of a write fault.
+fn tell<K: Sink>(sink: &mut K, text: &[u8], status: Status) -> Status
+    ensures { IsTold status text.now (output K.Sink sink.old) (output K.Sink sink.new) result }
 {
     match write_all(sink, text) {
-        Ok(()) => status.number(),
-        Err(_) => Status::WriteFault.number(),
+        Ok(()) => status,
+        Err(_) => Status::WriteFault,
     }
 }
 
@@ -33,9 +33,9 @@ fn line_of(alloc: Global, refusal: &Refusal) -> Result<String, AllocError>
 }
 
 // Writes the line of a refusal, or that there is no memory for it.
-fn tell_line<K: Sink>(alloc: Global, sink: &mut K, refusal: &Refusal) -> u8
-    ensures { IsLineTold refusal.now (output (K.taken sink.old) (K.faults sink.old)) (output (K.taken sink.new) (K.faults sink.new)) result
-        ⊎ IsLineTold NoMemory (output (K.taken sink.old) (K.faults sink.old)) (output (K.taken sink.new) (K.faults sink.new)) result }
+fn tell_line<K: Sink>(alloc: Global, sink: &mut K, refusal: &Refusal) -> Status
+    ensures { IsLineTold refusal.now (output K.Sink sink.old) (output K.Sink sink.new) result
+        ⊎ IsLineTold NoMemory (output K.Sink sink.old) (output K.Sink sink.new) result }
 {
     match line_of(alloc, refusal) {
         Ok(line) => tell(sink, line.as_bytes(), refusal.status()),
@@ -43,9 +43,9 @@ fn tell_line<K: Sink>(alloc: Global, sink: &mut K, refusal: &Refusal) -> u8
     }
 }
 
-// Writes the line of a refusal and answers the number of its status; or says that there is no memory for a line that needs it.
-fn tell_refusal<K: Sink>(alloc: Global, sink: &mut K, refusal: &Refusal) -> u8
-    ensures { IsRefusalTold refusal.now (output (K.taken sink.old) (K.faults sink.old)) (output (K.taken sink.new) (K.faults sink.new)) result }
+// Writes the line of a refusal and answers its status; or says that there is no memory for a line that needs it.
+fn tell_refusal<K: Sink>(alloc: Global, sink: &mut K, refusal: &Refusal) -> Status
+    ensures { IsRefusalTold refusal.now (output K.Sink sink.old) (output K.Sink sink.new) result }
 {
     match refusal.fixed_line() {
         Some(line) => tell(sink, line, refusal.status()),
@@ -54,8 +54,8 @@ fn tell_refusal<K: Sink>(alloc: Global, sink: &mut K, refusal: &Refusal) -> u8
 }
 
 /// Tells what a command has to say, or why it did not do what it is for.
-pub fn tell_result<K: Sink>(alloc: Global, sink: &mut K, found: &Result<Said, Refusal>) -> u8
-    ensures { IsResultTold found.now (output (K.taken sink.old) (K.faults sink.old)) (output (K.taken sink.new) (K.faults sink.new)) result }
+pub fn tell_result<K: Sink>(alloc: Global, sink: &mut K, found: &Result<Said, Refusal>) -> Status
+    ensures { IsResultTold found.now (output K.Sink sink.old) (output K.Sink sink.new) result }
 {
     match found {
         Ok(said) => tell(sink, &said.text, said.status),

@@ -31,7 +31,7 @@ fn fault_of(verified: Verified) -> Result<(), Refusal>
 
 /// Verifies the report that is the source's text.
 pub fn verify<S: Source>(alloc: Global, source: &mut S) -> Result<Said, Refusal>
-    ensures { Says (IsVerifyDue (input (S.left source.old) (S.faults source.old)) (input (S.left source.new) (S.faults source.new))) result }
+    ensures { Says (IsVerifyDue (input S.Source source.old) (input S.Source source.new)) result }
 {
     let text = text_of(alloc, source)?;
     fault_of(trace_verify::verify(alloc, &text))?;

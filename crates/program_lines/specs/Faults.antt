@@ -1,19 +1,28 @@
--- How faults of files and of reports read.
+-- How faults of scenarios, of files and of reports read.
 use Rattle.std.specs.Prelude.{ℕ, List, ◌++◌, codes, decimal}
-use Rattle.program_lines.specs.declared.faults.Counted.{Counted}
-use Rattle.program_lines.specs.declared.faults.Counted.TheVariants.{Input, Operations, Processes, Active, Entries}
+use Rattle.program_lines.specs.declared.faults.Quantity.{Quantity}
+use Rattle.program_lines.specs.declared.faults.Quantity.TheVariants.{Input, Operations, Processes, Active, Entries}
+use Rattle.program_lines.specs.declared.faults.ScenarioFault.{ScenarioFault}
+use Rattle.program_lines.specs.declared.faults.ScenarioFault.TheVariants.{BadToml, BadKey, UnknownOperation, SameOperation}
 use Rattle.program_lines.specs.declared.faults.FileFault.{FileFault}
 use Rattle.program_lines.specs.declared.faults.FileFault.TheVariants.{NotEmpty, BadHeader, BadRecord, BadHistory, BadBook}
 use Rattle.program_lines.specs.declared.faults.ReportFault.{ReportFault}
 use Rattle.program_lines.specs.declared.faults.ReportFault.TheVariants.{BadText, StepRefused, NotSerial, SerialDiffers}
 
 -- the word of what there is too much of
-abbrev pub counted_word : Counted → List ℕ
-counted_word Input = codes "input"
-counted_word Operations = codes "operations"
-counted_word Processes = codes "processes"
-counted_word Active = codes "active"
-counted_word Entries = codes "entries"
+abbrev pub quantity_word : Quantity → List ℕ
+quantity_word Input = codes "input"
+quantity_word Operations = codes "operations"
+quantity_word Processes = codes "processes"
+quantity_word Active = codes "active"
+quantity_word Entries = codes "entries"
+
+-- what is wrong with a scenario
+abbrev pub scenario_text : ScenarioFault → List ℕ
+scenario_text BadToml = codes "bad toml"
+scenario_text (BadKey key) = codes "bad key " ++ key
+scenario_text (UnknownOperation name) = codes "unknown operation " ++ name
+scenario_text (SameOperation name) = codes "same operation " ++ name
 
 -- what is wrong with the files
 abbrev pub file_text : FileFault → List ℕ

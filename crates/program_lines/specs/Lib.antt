@@ -1,4 +1,6 @@
 pub mod Statuses
+pub mod Shown
 pub mod Faults
 pub mod Refusals
 pub mod Verdicts
+pub mod Examples

@@ -5,11 +5,12 @@ use Rattle.process_text.specs.declared.error.TextError.TheVariants as errors
 use Rattle.process_text.specs.Texts.{error_text}
 use Rattle.program_lines.specs.declared.status.Status.{Status}
 use Rattle.program_lines.specs.declared.status.Status.TheVariants as statuses
+use Rattle.program_lines.specs.declared.faults.ScenarioFault.TheVariants.{BadToml}
 use Rattle.program_lines.specs.declared.faults.ReportFault.{ReportFault}
 use Rattle.program_lines.specs.declared.faults.ReportFault.TheVariants as faults
 use Rattle.program_lines.specs.declared.refusal.Refusal.{Refusal}
-use Rattle.program_lines.specs.declared.refusal.Refusal.TheVariants.{BadWords, NotYet, Text, CatalogDiffers, BadLine, Limit, Unfinished, File, BookDiffers, Report, ReadFault, DiskFault, Exhausted, NoMemory}
-use Rattle.program_lines.specs.Faults.{counted_word, file_text, report_text}
+use Rattle.program_lines.specs.declared.refusal.Refusal.TheVariants.{BadWords, NotYet, Text, Scenario, CatalogDiffers, BadLine, Limit, Unfinished, File, BookDiffers, Report, ReadFault, DiskFault, Exhausted, NoMemory}
+use Rattle.program_lines.specs.Faults.{quantity_word, scenario_text, file_text, report_text}
 
 -- of a text
 abbrev pub error_status : TextError → Status
@@ -29,9 +30,10 @@ abbrev pub refusal_status : Refusal → Status
 refusal_status BadWords = statuses.BadWords
 refusal_status NotYet = statuses.BadInput
 refusal_status (Text e) = error_status e
+refusal_status (Scenario fault) = statuses.BadInput
 refusal_status (CatalogDiffers n) = statuses.BadInput
 refusal_status (BadLine n) = statuses.BadInput
-refusal_status (Limit counted n) = statuses.Limit
+refusal_status (Limit quantity n) = statuses.Limit
 refusal_status (Unfinished i) = statuses.Unfinished
 refusal_status (File fault) = statuses.BadFile
 refusal_status (BookDiffers q n) = statuses.BookDiffers
@@ -46,9 +48,10 @@ abbrev pub refusal_text : Refusal → List ℕ
 refusal_text BadWords = codes "bad words"
 refusal_text NotYet = codes "not yet"
 refusal_text (Text e) = error_text e
+refusal_text (Scenario fault) = scenario_text fault
 refusal_text (CatalogDiffers n) = codes "catalog differs at byte " ++ decimal n
 refusal_text (BadLine n) = codes "bad line " ++ decimal n
-refusal_text (Limit counted n) = codes "limit " ++ counted_word counted ++ codes " " ++ decimal n
+refusal_text (Limit quantity n) = codes "limit " ++ quantity_word quantity ++ codes " " ++ decimal n
 refusal_text (Unfinished i) = codes "unfinished " ++ decimal i
 refusal_text (File fault) = file_text fault
 refusal_text (BookDiffers q n) = codes "book differs subsystem " ++ decimal q ++ codes " at " ++ decimal n
@@ -62,6 +65,7 @@ refusal_text NoMemory = codes "no memory"
 abbrev pub needs_memory : Refusal → Bool
 needs_memory BadWords = false
 needs_memory NotYet = false
+needs_memory (Scenario BadToml) = false
 needs_memory ReadFault = false
 needs_memory DiskFault = false
 needs_memory NoMemory = false

@@ -20,7 +20,7 @@ number_of Exhausted = 11
 number_of NotReduced = 12
 number_of NoMemory = 13
 
--- the number of one of these statuses
-abbrev pub IsOneOf : ℕ → List Status → Type 0
-IsOneOf n [] = ⊥
-IsOneOf n (s ∷ statuses) = (n ≡ number_of s) ⊎ IsOneOf n statuses
+-- one of these statuses
+abbrev pub IsOneOf : Status → List Status → Type 0
+IsOneOf s [] = ⊥
+IsOneOf s (t ∷ statuses) = (s ≡ t) ⊎ IsOneOf s statuses

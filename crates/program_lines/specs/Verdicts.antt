@@ -1,5 +1,5 @@
 -- Verdicts: what the check says of a process.
-use Rattle.std.specs.Prelude.{◌≡◌, ℕ, Bool, false, ◌||◌, List, [], ◌∷◌, ◌++◌, map, slice_index_or, codes, Option, Some, None, is_some, ⊤}
+use Rattle.std.specs.Prelude.{◌≡◌, ◌⊎◌, ℕ, Bool, false, ◌||◌, List, [], ◌∷◌, ◌++◌, map, slice_index_or, codes, Option, Some, None, is_some, ⊤}
 use Rattle.std.specs.List.{join_with_byte}
 use Rattle.process_tree.specs.declared.block.Block.{Block}
 use Rattle.process_tree.specs.declared.tree.Named.{Named}
@@ -69,3 +69,14 @@ IsLineAdded p any old new = (v : Option Fault) × IsVerdict (shape_of p.tree) v 
 -- these are the verdict lines of these processes
 abbrev pub AreLines : List Named → Bool → List ℕ → Type 0
 AreLines ps any lines = (vs : List (Option Fault)) × AreVerdicts ps vs × (lines ≡ verdict_lines ps vs) × (any ≡ any_fault vs)
+
+-- a process that isn't well-formed, and its verdict line
+abbrev pub IsBad : Named → Option (List ℕ) → Type 0
+IsBad p None = ⊥
+IsBad p (Some line) = (fault : Fault) × IsFirstFault (shape_of p.tree) fault × (line ≡ verdict_line p (Some fault))
+
+-- the verdict line of the first process that isn't well-formed, or none where each is
+abbrev pub IsFirstVerdict : List Named → Option (List ℕ) → Type 0
+IsFirstVerdict [] None = ⊤
+IsFirstVerdict [] (Some line) = ⊥
+IsFirstVerdict (p ∷ ps) found = IsBad p found ⊎ (IsWellFormed (shape_of p.tree) × IsFirstVerdict ps found)

@@ -1,12 +1,14 @@
-// What can be wrong with files and reports, and what there can be too much of.
+// What can be wrong with scenarios, files and reports, and what there can be too much of.
 ghost use Rattle.std.specs.Prelude.{Some};
-ghost use Rattle.program_lines.specs.Faults.{counted_word, file_text, report_text};
+ghost use Rattle.program_lines.specs.Faults.{quantity_word, scenario_text, file_text, report_text};
 
+use crate::ShownWord;
+use process_tree::Name;
 use std::fmt;
 
 /// What there is too much of.
 #[derive(Clone, Copy, Debug, PartialEq, Eq)]
-pub enum Counted {
+pub enum Quantity {
     /// Bytes of the input.
     Input,
     Operations,
@@ -18,17 +20,43 @@ pub enum Counted {
     Entries,
 }
 
-impl fmt::Display for Counted {
-    ghost output = { λ c. Some (counted_word c) };
+impl fmt::Display for Quantity {
+    ghost output = { λ q. Some (quantity_word q) };
 
     fn fmt<W: fmt::Write>(&self, f: &mut fmt::Formatter<W>) -> fmt::Result {
         f.write_str(match self {
-            Counted::Input => "input",
-            Counted::Operations => "operations",
-            Counted::Processes => "processes",
-            Counted::Active => "active",
-            Counted::Entries => "entries",
+            Quantity::Input => "input",
+            Quantity::Operations => "operations",
+            Quantity::Processes => "processes",
+            Quantity::Active => "active",
+            Quantity::Entries => "entries",
         })
+    }
+}
+
+/// What is wrong first with a scenario.
+#[derive(Drop)]
+pub enum ScenarioFault {
+    /// It is no TOML document.
+    BadToml,
+    /// This key is unknown, missing, of another type or out of range.
+    BadKey(ShownWord),
+    /// There is no operation of this name, which a conflict or a step has.
+    UnknownOperation(ShownWord),
+    /// Two operations have this name.
+    SameOperation(Name),
+}
+
+impl fmt::Display for ScenarioFault {
+    ghost output = { λ e. Some (scenario_text e) };
+
+    fn fmt<W: fmt::Write>(&self, f: &mut fmt::Formatter<W>) -> fmt::Result {
+        match self {
+            ScenarioFault::BadToml => f.write_str("bad toml"),
+            ScenarioFault::BadKey(key) => write!(f, "bad key {key}"),
+            ScenarioFault::UnknownOperation(name) => write!(f, "unknown operation {name}"),
+            ScenarioFault::SameOperation(name) => write!(f, "same operation {name}"),
+        }
     }
 }
 

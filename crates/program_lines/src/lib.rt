@@ -6,10 +6,12 @@
 
 mod faults;
 mod refusal;
+mod shown;
 mod status;
 mod verdict;
 
-pub use faults::{Counted, FileFault, ReportFault};
+pub use faults::{FileFault, Quantity, ReportFault, ScenarioFault};
 pub use refusal::Refusal;
+pub use shown::ShownWord;
 pub use status::Status;
-pub use verdict::verdicts;
+pub use verdict::{first_verdict, verdicts};

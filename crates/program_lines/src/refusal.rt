@@ -3,7 +3,7 @@ ghost use Rattle.std.specs.Prelude.{◌≡◌, ◌++◌, Some, true, codes, IfSo
 ghost use Rattle.program_lines.specs.Refusals.{error_status, report_status, refusal_status, refusal_text, needs_memory};
 ghost use Rattle.program_lines.specs.declared.refusal.Refusal.TheVariants.{NoMemory};
 
-use crate::{Counted, FileFault, ReportFault, Status};
+use crate::{FileFault, Quantity, ReportFault, ScenarioFault, Status};
 use process_text::TextError;
 use process_tree::Name;
 use std::alloc::{AllocError, AllocFailed};
@@ -19,12 +19,13 @@ pub enum Refusal {
     NotYet,
     /// What is wrong first with a text of processes.
     Text(TextError),
+    Scenario(ScenarioFault),
     /// The first byte, counted from 0, at which the catalog of a scenario differs from that of the files.
     CatalogDiffers(u32),
     /// The first line of the input that is no line of a session, counted from 1.
     BadLine(u32),
     /// There are so many of these, which is more than may be.
-    Limit(Counted, u32),
+    Limit(Quantity, u32),
     /// The least active process of the files.
     Unfinished(u32),
     File(FileFault),
@@ -67,7 +68,10 @@ impl Refusal {
     {
         match self {
             Refusal::BadWords => Status::BadWords,
-            Refusal::NotYet | Refusal::CatalogDiffers(_) | Refusal::BadLine(_) => Status::BadInput,
+            Refusal::NotYet
+            | Refusal::Scenario(_)
+            | Refusal::CatalogDiffers(_)
+            | Refusal::BadLine(_) => Status::BadInput,
             Refusal::Text(error) => error_status(error),
             Refusal::Limit(_, _) => Status::Limit,
             Refusal::Unfinished(_) => Status::Unfinished,
@@ -89,6 +93,7 @@ impl Refusal {
         match self {
             Refusal::BadWords => Some(b"bad words\n"),
             Refusal::NotYet => Some(b"not yet\n"),
+            Refusal::Scenario(ScenarioFault::BadToml) => Some(b"bad toml\n"),
             Refusal::ReadFault => Some(b"read fault\n"),
             Refusal::DiskFault => Some(b"disk fault\n"),
             Refusal::NoMemory => Some(b"no memory\n"),
@@ -105,9 +110,10 @@ impl fmt::Display for Refusal {
             Refusal::BadWords => f.write_str("bad words"),
             Refusal::NotYet => f.write_str("not yet"),
             Refusal::Text(error) => write!(f, "{error}"),
+            Refusal::Scenario(fault) => write!(f, "{fault}"),
             Refusal::CatalogDiffers(n) => write!(f, "catalog differs at byte {n}"),
             Refusal::BadLine(n) => write!(f, "bad line {n}"),
-            Refusal::Limit(counted, n) => write!(f, "limit {counted} {n}"),
+            Refusal::Limit(quantity, n) => write!(f, "limit {quantity} {n}"),
             Refusal::Unfinished(i) => write!(f, "unfinished {i}"),
             Refusal::File(fault) => write!(f, "{fault}"),
             Refusal::BookDiffers(q, n) => write!(f, "book differs subsystem {q} at {n}"),

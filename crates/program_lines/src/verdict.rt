@@ -1,8 +1,8 @@
 // The verdict lines of processes.
-ghost use Rattle.std.specs.Prelude.{◌≡◌, ◌++◌, Some, map, IfOk, OnOk};
+ghost use Rattle.std.specs.Prelude.{◌≡◌, ◌++◌, Some, map, option_map, IfOk, OnOk};
 ghost use Rattle.std.specs.List.{join_with_byte};
 ghost use Rattle.process_tree.specs.Termination.{stuck_at, unreachable_at};
-ghost use Rattle.program_lines.specs.Verdicts.{step_name, path_text, outcome_word, outcomes_text, fault_text, IsFaultAdded, IsLineAdded, AreLines};
+ghost use Rattle.program_lines.specs.Verdicts.{step_name, path_text, outcome_word, outcomes_text, fault_text, IsFaultAdded, IsLineAdded, IsFirstVerdict, AreLines};
 
 use process_tree::{Named, Outcome, Tree};
 use std::alloc::{AllocError, Global};
@@ -144,4 +144,19 @@ pub fn verdicts(alloc: Global, processes: &[Named]) -> Result<(Vec<u8>, bool), A
         any = any || fault;
     }
     Ok((text, any))
+}
+
+/// The verdict line of the first of these processes that is not well-formed, if there is one.
+pub fn first_verdict(alloc: Global, processes: &[Named]) -> Result<Option<Vec<u8>>, AllocError>
+    ensures { IfOk result (λ line. IsFirstVerdict processes.now (option_map (λ text. text.items) line)) }
+{
+    let mut rest = processes;
+    while let [process, after @ ..] = rest {
+        let mut line = Vec::new(alloc);
+        if add_verdict(alloc, &mut line, process)? {
+            return Ok(Some(line));
+        }
+        rest = after;
+    }
+    Ok(None)
 }

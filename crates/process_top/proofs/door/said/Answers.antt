@@ -8,6 +8,6 @@ use Rattle.process_top.proofs.door.said.Goals as goal
 
 pub returns-in-Err-NoMemory-clause-due : goal.returns-in-Err-NoMemory-clause-due
 returns-in-Err-NoMemory-clause-due g c =
-    let before : Input = input (g.S.Source.left c.args.source.now) (g.S.Source.faults c.args.source.now) in
-    let found : Files = files (g.R.Rack.disk c.args.rack.now) (g.R.Rack.faults c.args.rack.now) in
+    let before : Input = input g.S.Source c.args.source.now in
+    let found : Files = files g.R.Rack c.args.rack.now in
     no_words_due (asked (map string_bytes c.args.words.now)) before before found found (untouched found.disk (g.met.R.Rack.honest c.args.rack.now))

@@ -7,18 +7,18 @@ use Rattle.process_top.proofs.run.run.Goals as goal
 
 pub returns-in_err-text-clause-due : goal.returns-in_err-text-clause-due
 returns-in_err-text-clause-due g c =
-    let before : Input = input (g.S.Source.left c.args.source.now) (g.S.Source.faults c.args.source.now) in
-    let after : Input = input (g.S.Source.left c.processes_of.new.source) (g.S.Source.faults c.processes_of.new.source) in
-    let found : Files = files (g.R.Rack.disk c.args.rack.now) (g.R.Rack.faults c.args.rack.now) in
-    let left : Files = files (g.R.Rack.disk c.run_only.new.rack) (g.R.Rack.faults c.run_only.new.rack) in
+    let before : Input = input g.S.Source c.args.source.now in
+    let after : Input = input g.S.Source c.processes_of.new.source in
+    let found : Files = files g.R.Rack c.args.rack.now in
+    let left : Files = files g.R.Rack c.run_only.new.rack in
     let failed : c.from_residual-in_err-text.result ≡ Err c.in_err-text.field-0.0 = search rules in
     rw failed (not_run_by before after found left c.deref.result.now c.in_err-text.field-0.0 (rw c.deref.ensures.value c.in_ok-processes.ensures.read) c.in_err-text.ensures.refused)
 
 pub returns-clause-due : goal.returns-clause-due
 returns-clause-due g c =
-    let before : Input = input (g.S.Source.left c.args.source.now) (g.S.Source.faults c.args.source.now) in
-    let after : Input = input (g.S.Source.left c.processes_of.new.source) (g.S.Source.faults c.processes_of.new.source) in
-    let found : Files = files (g.R.Rack.disk c.args.rack.now) (g.R.Rack.faults c.args.rack.now) in
-    let left : Files = files (g.R.Rack.disk c.run_only.new.rack) (g.R.Rack.faults c.run_only.new.rack) in
+    let before : Input = input g.S.Source c.args.source.now in
+    let after : Input = input g.S.Source c.processes_of.new.source in
+    let found : Files = files g.R.Rack c.args.rack.now in
+    let left : Files = files g.R.Rack c.run_only.new.rack in
     let run = run_of before after found left c.deref.result.now c.in_ok-text.text.items (rw c.deref.ensures.value c.in_ok-processes.ensures.read) c.in_ok-text.ensures.ran in
-    (ran run.0, run.1, run.2, refl)
+    (ran run.0, refl, run.1, run.2, refl)

@@ -11,7 +11,7 @@ report-requires-clause-planned g c = is_planned c.in_ok-catalog.catalog c.in_ok-
 pub returns-in_err-text-clause-due : goal.returns-in_err-text-clause-due
 returns-in_err-text-clause-due g c =
     let failed : c.from_residual-in_err-text.result ≡ Err NoMemory = search rules in
-    rw failed (no_memory_shown (files (g.R.Rack.disk c.args.rack.now) (g.R.Rack.faults c.args.rack.now)) (files (g.R.Rack.disk c.opened.new.rack) (g.R.Rack.faults c.opened.new.rack)))
+    rw failed (no_memory_shown (files g.R.Rack c.args.rack.now) (files g.R.Rack c.opened.new.rack))
 
 pub returns-clause-due : goal.returns-clause-due
-returns-clause-due g c = (shown c.in_ok-catalog.catalog c.in_ok-catalog.history, c.in_ok-catalog.ensures.shown, c.in_ok-text.ensures, refl)
+returns-clause-due g c = (shown c.in_ok-catalog.catalog c.in_ok-catalog.history, refl, c.in_ok-catalog.ensures.shown, c.in_ok-text.ensures, refl)
