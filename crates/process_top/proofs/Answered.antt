@@ -1,5 +1,5 @@
 -- What was said on words and told is an answer to them.
-use Rattle.std.proofs.Common.{◌≡◌, ℕ, List, true, false, Result, Ok, Err, IfErr, refl, subst, inl, inr}
+use Rattle.std.proofs.Common.{◌≡◌, ℕ, List, true, false, Result, Ok, Err, IfErr, subst, inl, inr}
 use Rattle.program_words.specs.Commands.{asked}
 use Rattle.program_lines.specs.Statuses.{number_of}
 use Rattle.program_lines.specs.declared.status.Status.{Status}

@@ -1,8 +1,7 @@
 -- What is due where there is no memory, and on words that ask for nothing.
-use Rattle.std.proofs.Common.{◌≡◌, ℕ, List, true, false, Option, Some, None, refl, sym, ap, ◌∙◌, inl, inr}
+use Rattle.std.proofs.Common.{◌≡◌, true, false, Option, Some, None, refl, sym, ap, ◌∙◌, inl, inr}
 use Rattle.process_tree.specs.declared.tree.Named.{Named}
 use Rattle.process_journal.specs.declared.errors.JournalError.TheVariants as journal
-use Rattle.program_words.specs.Commands.{asked}
 use Rattle.program_words.specs.declared.reading.Command.{Command}
 use Rattle.program_words.specs.declared.reading.Command.TheVariants.{Check, Run, Show, Verify}
 use Rattle.program_lines.specs.declared.refusal.Refusal.{Refusal}

@@ -10,4 +10,5 @@ pub mod Due
 pub mod Completing
 pub mod Complete
 pub mod Saying
+pub mod Planning
 pub mod Answered

@@ -4,6 +4,7 @@ pub mod FilesLeft
 pub mod Told
 pub mod Worlds
 pub mod Replies
+pub mod Scenarios
 pub mod Check
 pub mod Run
 pub mod Show

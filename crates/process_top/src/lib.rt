@@ -11,8 +11,10 @@ mod input;
 mod journal;
 mod life;
 mod run;
+mod scenario;
 mod show;
 mod told;
 mod verify;
 
 pub use door::{Finished, answer, only_reads, top};
+pub use scenario::{Bound, NoPlans, scenario_of};
