@@ -12,3 +12,5 @@ pub mod Complete
 pub mod Saying
 pub mod Planning
 pub mod Answered
+pub mod StatusNumbers
+pub mod EarlyStatuses
