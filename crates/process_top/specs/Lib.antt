@@ -14,3 +14,4 @@ pub mod Said
 pub mod Life
 pub mod Journal
 pub mod Examples
+pub mod ScenarioExamples
