@@ -1,4 +1,4 @@
-use Rattle.std.proofs.Common.{◌≡◌, ◌∙◌, ap, sym, inl}
+use Rattle.std.proofs.Common.{◌∙◌, ap, sym, inl}
 use Rattle.std.specs.Prelude.{map, string_bytes}
 use Rattle.process_top.specs.Worlds.{World}
 use Rattle.process_program.specs.Ends.{world_over}
