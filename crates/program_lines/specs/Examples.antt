@@ -1,7 +1,7 @@
 -- Worked lines of refusals, each of which holds by computing.
-use Rattle.std.specs.Prelude.{◌≡◌, refl, ℕ, List, [], ◌∷◌, ◌++◌, codes, length, replicate}
+use Rattle.std.specs.Prelude.{◌≡◌, refl, [], ◌∷◌, codes, length, replicate}
 use Rattle.std.specs.Fmt.{digits}
-use Rattle.program_lines.specs.declared.faults.Quantity.TheVariants.{Input, Operations, Active, Entries}
+use Rattle.program_lines.specs.declared.faults.Quantity.TheVariants.{Input, Operations, Entries}
 use Rattle.program_lines.specs.declared.faults.ScenarioFault.TheVariants.{BadToml, BadKey, UnknownOperation, SameOperation}
 use Rattle.program_lines.specs.declared.faults.FileFault.TheVariants.{NotEmpty, BadHeader, BadRecord, BadHistory, BadBook}
 use Rattle.program_lines.specs.declared.refusal.Refusal.TheVariants.{Scenario, CatalogDiffers, BadLine, Limit, Unfinished, File, BookDiffers, Exhausted}
