@@ -10,3 +10,4 @@ pub mod RecordedStores
 pub mod RecordedPieces
 pub mod Subsystems
 pub mod PreparedPieces
+pub mod StoresThere

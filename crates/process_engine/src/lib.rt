@@ -8,6 +8,7 @@ mod asking;
 mod beginning;
 mod engines;
 mod gates;
+mod handing_back;
 mod making;
 mod pieces;
 
