@@ -6,7 +6,7 @@ ghost use Rattle.process_core.specs.Cores.{IsHandedBy, moment_of};
 ghost use Rattle.core_tests.specs.Pieces.{AreHandedBy, StayHanded};
 
 use machine_model::Blocked;
-use process_core::{Aborted, Admit, Core, Piece, PieceState, Refusal, Work};
+use process_core::{Aborted, Admit, Core, Next, Piece, PieceState, Refusal, Waiting, Work};
 use std::test::Fail;
 
 /// A call of a core.
@@ -14,6 +14,8 @@ use std::test::Fail;
 pub enum Call {
     /// A piece of this process is asked for.
     Admit(u32),
+    /// Any piece is asked for.
+    Next,
     /// This piece took effect.
     Done(u32),
     /// This piece was refused.
@@ -29,11 +31,18 @@ pub enum Call {
 pub enum Answer {
     /// This piece: its number, its process, its step, and what it does.
     Piece(u32, u32, u16, Work),
+    /// The same of a piece that was refused before, and how often.
+    Again(u32, u32, u16, Work, u8),
     Blocked(Blocked),
     Running,
     Unknown,
     Ended,
     Exhausted(u16),
+    /// Nothing is free while a piece runs. The first in rotation that is blocked, if any is.
+    Wait(Option<Waiting>),
+    AllEnded,
+    /// Nothing is free and nothing runs. The least process that is exhausted.
+    Stuck(u32),
     /// The history has so many events then.
     Effected(u32),
     Refused(Refusal),
@@ -49,16 +58,27 @@ pub enum Answer {
 }
 
 fn answer_of(piece: &Piece) -> Answer {
-    Answer::Piece(piece.number(), piece.process(), piece.step(), piece.work())
+    let (number, process, step, work) = (
+        piece.number(),
+        piece.process(),
+        piece.step(),
+        piece.work(),
+    );
+    match piece.tried() {
+        0 => Answer::Piece(number, process, step, work),
+        tried => Answer::Again(number, process, step, work, tried),
+    }
 }
 
 // Asks for a piece of a process, and keeps it.
 fn admitted(core: &mut Core, pieces: &mut Vec<Piece>, i: u32) -> Result<Answer, Fail>
     requires { AreHandedBy core.old pieces.old.items }
-    ensures { IfOk result (λ _. AreHandedBy core.new pieces.new.items) }
+    ensures pieces { IfOk result (λ _. AreHandedBy core.new pieces.new.items) }
+    ensures conflicts { IfOk result (λ _. core.new.conflicts ≡ core.old.conflicts) }
 {
+    let reply = core.admit(i);
     core.is_run();
-    match core.admit(i) {
+    match reply {
         Admit::Piece(piece) => {
             let answer = answer_of(&piece);
             pieces.push(piece)?;
@@ -69,6 +89,26 @@ fn admitted(core: &mut Core, pieces: &mut Vec<Piece>, i: u32) -> Result<Answer, 
         Admit::Unknown => Ok(Answer::Unknown),
         Admit::Ended => Ok(Answer::Ended),
         Admit::Exhausted(step) => Ok(Answer::Exhausted(step)),
+    }
+}
+
+// Asks for any piece, and keeps it.
+fn chosen(core: &mut Core, pieces: &mut Vec<Piece>) -> Result<Answer, Fail>
+    requires { AreHandedBy core.old pieces.old.items }
+    ensures pieces { IfOk result (λ _. AreHandedBy core.new pieces.new.items) }
+    ensures conflicts { IfOk result (λ _. core.new.conflicts ≡ core.old.conflicts) }
+{
+    let reply = core.next();
+    core.is_run();
+    match reply {
+        Next::Piece(piece) => {
+            let answer = answer_of(&piece);
+            pieces.push(piece)?;
+            Ok(answer)
+        }
+        Next::Wait(waiting) => Ok(Answer::Wait(waiting)),
+        Next::AllEnded => Ok(Answer::AllEnded),
+        Next::Stuck(i) => Ok(Answer::Stuck(i)),
     }
 }
 
@@ -98,7 +138,8 @@ fn take_back(core: &Core, pieces: &mut Vec<Piece>, number: u32) -> Option<Piece>
 fn refused(core: &mut Core, piece: Piece) -> Answer
     requires handed { IsHandedBy core.old piece.piece }
     requires out { state_of (moment_of core.old) piece.piece.number ≡ Out }
-    ensures { StayHanded core.old core.new }
+    ensures pieces { StayHanded core.old core.new }
+    ensures conflicts { core.new.conflicts ≡ core.old.conflicts }
 {
     match piece.work() {
         Work::End => Answer::NoRefusal,
@@ -109,7 +150,8 @@ fn refused(core: &mut Core, piece: Piece) -> Answer
 // A piece takes effect or is refused, if it is out.
 fn finished(core: &mut Core, pieces: &mut Vec<Piece>, number: u32, is_done: bool) -> Answer
     requires { AreHandedBy core.old pieces.old.items }
-    ensures { AreHandedBy core.new pieces.new.items }
+    ensures pieces { AreHandedBy core.new pieces.new.items }
+    ensures conflicts { core.new.conflicts ≡ core.old.conflicts }
 {
     let Some(piece) = take_back(core, pieces, number) else {
         return Answer::NoPiece;
@@ -125,10 +167,12 @@ fn finished(core: &mut Core, pieces: &mut Vec<Piece>, number: u32, is_done: bool
 /// What a call answers.
 pub fn reply_to(core: &mut Core, pieces: &mut Vec<Piece>, call: Call) -> Result<Answer, Fail>
     requires { AreHandedBy core.old pieces.old.items }
-    ensures { IfOk result (λ _. AreHandedBy core.new pieces.new.items) }
+    ensures pieces { IfOk result (λ _. AreHandedBy core.new pieces.new.items) }
+    ensures conflicts { IfOk result (λ _. core.new.conflicts ≡ core.old.conflicts) }
 {
     match call {
         Call::Admit(i) => admitted(core, pieces, i),
+        Call::Next => chosen(core, pieces),
         Call::Done(number) => Ok(finished(core, pieces, number, true)),
         Call::Refused(number) => Ok(finished(core, pieces, number, false)),
         Call::Abort(i) => Ok(Answer::Aborted(core.abort(i))),

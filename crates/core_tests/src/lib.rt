@@ -1,4 +1,4 @@
-//! Tests of the scheduler: plays of two processes, whose answers, histories and causes follow from the rules.
+//! Tests of the scheduler: plays of up to three processes, whose answers, histories and causes follow from the rules.
 //!
 //! They stand apart from the crates that they test, since a crate with tests is proved twice.
 #![tactic(auto)]
@@ -6,8 +6,12 @@
 #[cfg(test)]
 mod calls;
 #[cfg(test)]
+mod choosing;
+#[cfg(test)]
+mod going_back;
+#[cfg(test)]
 mod plays;
 #[cfg(test)]
 mod starts;
 #[cfg(test)]
-mod worked;
+mod waiting;

@@ -1,6 +1,8 @@
 // Plays: calls of a core on which processes have started, and what comes of them.
+ghost use Rattle.std.specs.Prelude.{◌≡◌, IfOk};
+
 use crate::calls::{Answer, Call, reply_to};
-use crate::starts::started;
+use crate::starts::{catalog, started};
 use process_core::{Began, Core};
 use process_tree::Entry;
 use schedule_model::Event;
@@ -49,17 +51,20 @@ fn event_of(happens: Happens) -> Event {
     }
 }
 
-// Each call has its answer.
-fn expect_answers<H: Abort>(
+/// Each call has its answer.
+pub fn expect_answers<H: Abort>(
     rt: &H,
     alloc: Global,
     core: &mut Core,
-    play: &Play,
-) -> Result<(), Fail> {
+    name: &str,
+    turns: &[(Call, Answer)],
+) -> Result<(), Fail>
+    ensures { IfOk result (λ _. core.new.conflicts ≡ core.old.conflicts) }
+{
     let mut pieces = Vec::new(alloc);
-    for (turn, (call, wanted)) in play.turns.iter().enumerate() {
+    for (turn, (call, wanted)) in turns.iter().enumerate() {
         let answered = reply_to(core, &mut pieces, *call)?;
-        assert_eq!(rt; answered, *wanted, "{}, turn {turn}", play.name);
+        assert_eq!(rt; answered, *wanted, "{name}, turn {turn}");
     }
     Ok(())
 }
@@ -78,11 +83,20 @@ fn expect_beginnings<H: Abort>(rt: &H, core: &Core, play: &Play) {
     }
 }
 
-/// The play goes as it should.
-pub fn expect_play<H: Abort>(rt: &H, alloc: Global, play: &Play) -> Result<(), Fail> {
-    let mut core = started(alloc, play.texts)?;
-    expect_answers(rt, alloc, &mut core, play)?;
+// The play goes as it should.
+fn expect_play<H: Abort>(rt: &H, alloc: Global, play: &Play) -> Result<(), Fail> {
+    let catalog = catalog(alloc)?;
+    let mut core = started(alloc, &catalog, play.texts)?;
+    expect_answers(rt, alloc, &mut core, play.name, play.turns)?;
     expect_history(rt, &core, play);
     expect_beginnings(rt, &core, play);
+    Ok(())
+}
+
+/// So do all of these.
+pub fn expect_plays<H: Abort>(rt: &H, alloc: Global, plays: &[Play]) -> Result<(), Fail> {
+    for play in plays {
+        expect_play(rt, alloc, play)?;
+    }
     Ok(())
 }

@@ -25,6 +25,10 @@ pub const SHIP: u16 = 3;
 
 pub const NOTE: u16 = 4;
 
+pub const PURCHASE: &[u8] = b"process a c x add 1 5 p y pay 1 5 end";
+
+pub const SALE: &[u8] = b"process b c u take 1 2 p v pay 2 2 end";
+
 // Adding conflicts with taking, taking with taking, noting with noting, and booking with booking.
 const CATALOG: [u8; 109] = [
     // version, and nine operations
@@ -42,7 +46,7 @@ const CATALOG: [u8; 109] = [
     0, 0, 0, 1, 0, 0, 0, 0, 0, 0, 0, 0, 0,
 ];
 
-fn catalog(alloc: Global) -> Result<Catalog, Fail>
+pub fn catalog(alloc: Global) -> Result<Catalog, Fail>
     ensures { IfOk result IsCatalog }
 {
     let Ok(catalog) = read_catalog(alloc, &CATALOG) else {
@@ -51,8 +55,8 @@ fn catalog(alloc: Global) -> Result<Catalog, Fail>
     Ok(catalog)
 }
 
-// A core on which nothing has happened.
-fn opened(alloc: Global, conflicts: Conflicts) -> Result<Core, Fail>
+/// A core on which nothing has happened.
+pub fn opened(alloc: Global, conflicts: Conflicts) -> Result<Core, Fail>
     ensures { IfOk result (λ core. core.conflicts ≡ conflicts) }
 {
     let plans = Plans::new(Vec::new(alloc))?;
@@ -89,14 +93,23 @@ fn process(alloc: Global, text: &[u8]) -> Result<Named, Fail>
     Ok(last)
 }
 
-// Starts the process of a text.
-fn start(alloc: Global, core: &mut Core, text: &[u8], catalog: &Catalog) -> Result<u32, Fail>
+/// The plan of the process of a text.
+pub fn planned(alloc: Global, text: &[u8], catalog: &Catalog) -> Result<Plan, Fail>
+    requires catalog { IsCatalog catalog.now }
+    ensures good { IfOk result IsGoodPlan }
+    ensures known { IfOk result (λ plan. Each (λ op. op < operations_in catalog.now.conflicts) plan.ops) }
+{
+    let named = process(alloc, text)?;
+    plan(alloc, named, catalog)
+}
+
+/// Starts the process of a text.
+pub fn start(alloc: Global, core: &mut Core, text: &[u8], catalog: &Catalog) -> Result<u32, Fail>
     requires catalog { IsCatalog catalog.now }
     requires conflicts { core.old.conflicts ≡ catalog.now.conflicts }
     ensures { IfOk result (λ i. core.new.conflicts ≡ catalog.now.conflicts) }
 {
-    let named = process(alloc, text)?;
-    let plan = plan(alloc, named, catalog)?;
+    let plan = planned(alloc, text, catalog)?;
     match core.start(plan) {
         Ok(number) => Ok(number),
         Err(_) => Err("not started".into()),
@@ -104,12 +117,14 @@ fn start(alloc: Global, core: &mut Core, text: &[u8], catalog: &Catalog) -> Resu
 }
 
 /// A core on which the processes of these texts have started.
-pub fn started(alloc: Global, texts: &[&[u8]]) -> Result<Core, Fail> {
-    let catalog = catalog(alloc)?;
+pub fn started(alloc: Global, catalog: &Catalog, texts: &[&[u8]]) -> Result<Core, Fail>
+    requires catalog { IsCatalog catalog.now }
+    ensures { IfOk result (λ core. core.conflicts ≡ catalog.now.conflicts) }
+{
     let conflicts = catalog.conflicts.copy(alloc)?;
     let mut core = opened(alloc, conflicts)?;
     for text in texts {
-        start(alloc, &mut core, text, &catalog)?;
+        start(alloc, &mut core, text, catalog)?;
     }
     Ok(core)
 }

@@ -1,81 +1,15 @@
-// Plays of a few steps in which each answer follows from the rules.
+// Plays in which processes go back, or another way.
 use crate::calls::{Answer, Call};
-use crate::plays::{Happens, Play, expect_play};
-use crate::starts::{ADD, NOTE, PAY, SHIP, TAKE};
+use crate::plays::{Happens, Play, expect_plays};
+use crate::starts::{ADD, PAY, PURCHASE, SALE, SHIP, TAKE};
 use machine_model::{Blocked, Rule};
 use process_core::{Aborted, Began, Cause, Refusal, Work};
 use std::test::Fail;
 
-const PURCHASE: &[u8] = b"process a c x add 1 5 p y pay 1 5 end";
-
-const SALE: &[u8] = b"process b c u take 1 2 p v pay 2 2 end";
-
 const CHOICE: &[u8] =
     b"process b p x pay 1 5 choose c y take 1 2 c z ship 1 1 or c m ship 2 1 or r t ship 3 1 done end";
 
-const PLAYS: [Play; 13] = [
-    Play {
-        name: "two that don't conflict take turns",
-        texts: &[PURCHASE, b"process b c u add 1 7 r v ship 1 1 end"],
-        turns: &[
-            (Call::Admit(1), Answer::Piece(1, 1, 0, Work::Forward)),
-            (Call::Done(1), Answer::Effected(3)),
-            (Call::Admit(2), Answer::Piece(2, 2, 0, Work::Forward)),
-            (Call::Done(2), Answer::Effected(4)),
-            (Call::Admit(2), Answer::Piece(3, 2, 1, Work::Forward)),
-            (Call::Done(3), Answer::Effected(5)),
-            (Call::Admit(1), Answer::Piece(4, 1, 1, Work::Forward)),
-            (Call::Done(4), Answer::Effected(6)),
-            (Call::Admit(2), Answer::Piece(5, 2, 0, Work::End)),
-            (Call::Done(5), Answer::Effected(7)),
-            (Call::Admit(1), Answer::Piece(6, 1, 0, Work::End)),
-            (Call::Done(6), Answer::Effected(8)),
-        ],
-        events: &[
-            Happens::Start(1),
-            Happens::Start(2),
-            Happens::Do(1, 0, ADD),
-            Happens::Do(2, 0, ADD),
-            Happens::Do(2, 1, SHIP),
-            Happens::Do(1, 1, PAY),
-            Happens::End(2),
-            Happens::End(1),
-        ],
-        began: &[(1, None), (2, None)],
-    },
-    Play {
-        name: "a sale is paid once the purchase on which it builds has ended",
-        texts: &[PURCHASE, SALE],
-        turns: &[
-            (Call::Admit(1), Answer::Piece(1, 1, 0, Work::Forward)),
-            (Call::Done(1), Answer::Effected(3)),
-            (Call::Admit(2), Answer::Piece(2, 2, 0, Work::Forward)),
-            (Call::Done(2), Answer::Effected(4)),
-            (
-                Call::Admit(2),
-                Answer::Blocked(Blocked {
-                    on: 1,
-                    other: 0,
-                    own: 0,
-                    rule: Rule::A3,
-                }),
-            ),
-            (Call::Admit(1), Answer::Piece(3, 1, 1, Work::Forward)),
-            (Call::Done(3), Answer::Effected(5)),
-            (Call::Admit(1), Answer::Piece(4, 1, 0, Work::End)),
-            (Call::Done(4), Answer::Effected(6)),
-            (Call::Admit(2), Answer::Piece(5, 2, 1, Work::Forward)),
-        ],
-        events: &[
-            Happens::Start(1),
-            Happens::Start(2),
-            Happens::Do(1, 0, ADD),
-            Happens::Do(2, 0, TAKE),
-            Happens::Do(1, 1, PAY),
-            Happens::End(1),
-        ],
-        began: &[(1, None), (2, None)],
-    },
+const GOING_BACK: [Play; 7] = [
     Play {
         name: "a purchase that is called off takes the sale along, which goes back first",
         texts: &[PURCHASE, SALE],
@@ -94,14 +28,15 @@ const PLAYS: [Play; 13] = [
                     rule: Rule::A5,
                 }),
             ),
-            (Call::Admit(2), Answer::Piece(3, 2, 0, Work::Undo)),
+            (Call::Next, Answer::Piece(3, 2, 0, Work::Undo)),
             (Call::Done(3), Answer::Effected(5)),
-            (Call::Admit(1), Answer::Piece(4, 1, 0, Work::Undo)),
+            (Call::Next, Answer::Piece(4, 1, 0, Work::Undo)),
             (Call::Done(4), Answer::Effected(6)),
-            (Call::Admit(2), Answer::Piece(5, 2, 0, Work::End)),
+            (Call::Next, Answer::Piece(5, 2, 0, Work::End)),
             (Call::Done(5), Answer::Effected(7)),
-            (Call::Admit(1), Answer::Piece(6, 1, 0, Work::End)),
+            (Call::Next, Answer::Piece(6, 1, 0, Work::End)),
             (Call::Done(6), Answer::Effected(8)),
+            (Call::Next, Answer::AllEnded),
             (Call::Abort(1), Answer::Aborted(Aborted::Ended)),
         ],
         events: &[
@@ -132,39 +67,6 @@ const PLAYS: [Play; 13] = [
         ],
     },
     Play {
-        name: "a running pivot reserves what it will owe, until it is refused",
-        texts: &[
-            b"process a p x pay 1 5 r y take 1 0 end",
-            b"process b c u add 1 7 end",
-        ],
-        turns: &[
-            (Call::Admit(1), Answer::Piece(1, 1, 0, Work::Forward)),
-            (
-                Call::Admit(2),
-                Answer::Blocked(Blocked {
-                    on: 1,
-                    other: 1,
-                    own: 0,
-                    rule: Rule::A1,
-                }),
-            ),
-            (Call::Refused(1), Answer::Refused(Refusal::RollBack)),
-            (Call::Admit(2), Answer::Piece(2, 2, 0, Work::Forward)),
-            (Call::Admit(1), Answer::Piece(3, 1, 0, Work::End)),
-        ],
-        events: &[Happens::Start(1), Happens::Start(2)],
-        began: &[
-            (
-                1,
-                Some(Began {
-                    event: 4,
-                    cause: Cause::Refused(0),
-                }),
-            ),
-            (2, None),
-        ],
-    },
-    Play {
         name: "who is dragged along behind its pivot goes the last way of its choice",
         texts: &[b"process a c w add 1 5 end", CHOICE],
         turns: &[
@@ -175,16 +77,17 @@ const PLAYS: [Play; 13] = [
             (Call::Admit(2), Answer::Piece(3, 2, 1, Work::Forward)),
             (Call::Done(3), Answer::Effected(5)),
             (Call::Abort(1), Answer::Aborted(Aborted::Ok)),
-            (Call::Admit(2), Answer::Piece(4, 2, 1, Work::Undo)),
+            (Call::Next, Answer::Piece(4, 2, 1, Work::Undo)),
             (Call::Done(4), Answer::Effected(6)),
-            (Call::Admit(1), Answer::Piece(5, 1, 0, Work::Undo)),
+            (Call::Next, Answer::Piece(5, 1, 0, Work::Undo)),
             (Call::Done(5), Answer::Effected(7)),
-            (Call::Admit(2), Answer::Piece(6, 2, 4, Work::Forward)),
+            (Call::Next, Answer::Piece(6, 2, 4, Work::Forward)),
             (Call::Done(6), Answer::Effected(8)),
-            (Call::Admit(1), Answer::Piece(7, 1, 0, Work::End)),
+            (Call::Next, Answer::Piece(7, 1, 0, Work::End)),
             (Call::Done(7), Answer::Effected(9)),
-            (Call::Admit(2), Answer::Piece(8, 2, 0, Work::End)),
+            (Call::Next, Answer::Piece(8, 2, 0, Work::End)),
             (Call::Done(8), Answer::Effected(10)),
+            (Call::Next, Answer::AllEnded),
         ],
         events: &[
             Happens::Start(1),
@@ -214,38 +117,6 @@ const PLAYS: [Play; 13] = [
                 }),
             ),
         ],
-    },
-    Play {
-        name: "a step that would close a circle waits",
-        texts: &[
-            b"process a c x add 1 5 c s note 1 1 end",
-            b"process b c u note 2 2 c v take 1 1 end",
-        ],
-        turns: &[
-            (Call::Admit(1), Answer::Piece(1, 1, 0, Work::Forward)),
-            (Call::Done(1), Answer::Effected(3)),
-            (Call::Admit(2), Answer::Piece(2, 2, 0, Work::Forward)),
-            (Call::Done(2), Answer::Effected(4)),
-            (Call::Admit(2), Answer::Piece(3, 2, 1, Work::Forward)),
-            (
-                Call::Admit(1),
-                Answer::Blocked(Blocked {
-                    on: 2,
-                    other: 0,
-                    own: 1,
-                    rule: Rule::A2,
-                }),
-            ),
-            (Call::Done(3), Answer::Effected(5)),
-        ],
-        events: &[
-            Happens::Start(1),
-            Happens::Start(2),
-            Happens::Do(1, 0, ADD),
-            Happens::Do(2, 0, NOTE),
-            Happens::Do(2, 1, TAKE),
-        ],
-        began: &[(1, None), (2, None)],
     },
     Play {
         name: "a piece whose process is called off is dropped, and takes no effect",
@@ -282,10 +153,11 @@ const PLAYS: [Play; 13] = [
         turns: &[
             (Call::Admit(1), Answer::Piece(1, 1, 0, Work::Forward)),
             (Call::Refused(1), Answer::Refused(Refusal::RollBack)),
-            (Call::Admit(1), Answer::Piece(2, 1, 0, Work::End)),
-            (Call::Refused(2), Answer::NoRefusal),
+            (Call::Next, Answer::Piece(2, 1, 0, Work::End)),
+            (Call::Done(2), Answer::Effected(2)),
+            (Call::Next, Answer::AllEnded),
         ],
-        events: &[Happens::Start(1)],
+        events: &[Happens::Start(1), Happens::End(1)],
         began: &[(
             1,
             Some(Began {
@@ -293,54 +165,6 @@ const PLAYS: [Play; 13] = [
                 cause: Cause::Refused(0),
             }),
         )],
-    },
-    Play {
-        name: "steps of two that conflict don't run at once",
-        texts: &[PURCHASE, SALE],
-        turns: &[
-            (Call::Admit(1), Answer::Piece(1, 1, 0, Work::Forward)),
-            (
-                Call::Admit(2),
-                Answer::Blocked(Blocked {
-                    on: 1,
-                    other: 0,
-                    own: 0,
-                    rule: Rule::A0,
-                }),
-            ),
-        ],
-        events: &[Happens::Start(1), Happens::Start(2)],
-        began: &[(1, None), (2, None)],
-    },
-    Play {
-        name: "a pivot waits where it would owe what conflicts",
-        texts: &[
-            b"process a c x add 1 5 end",
-            b"process b p u pay 1 1 r v take 1 1 end",
-        ],
-        turns: &[
-            (Call::Admit(1), Answer::Piece(1, 1, 0, Work::Forward)),
-            (Call::Done(1), Answer::Effected(3)),
-            (
-                Call::Admit(2),
-                Answer::Blocked(Blocked {
-                    on: 1,
-                    other: 0,
-                    own: 1,
-                    rule: Rule::A4,
-                }),
-            ),
-            (Call::Admit(1), Answer::Piece(2, 1, 0, Work::End)),
-            (Call::Done(2), Answer::Effected(4)),
-            (Call::Admit(2), Answer::Piece(3, 2, 0, Work::Forward)),
-        ],
-        events: &[
-            Happens::Start(1),
-            Happens::Start(2),
-            Happens::Do(1, 0, ADD),
-            Happens::End(1),
-        ],
-        began: &[(1, None), (2, None)],
     },
     Play {
         name: "a way that is refused is followed by the next one",
@@ -354,9 +178,9 @@ const PLAYS: [Play; 13] = [
             (Call::Refused(3), Answer::Refused(Refusal::Alternative)),
             (Call::Admit(2), Answer::Piece(4, 2, 4, Work::Forward)),
             (Call::Refused(4), Answer::Refused(Refusal::Retry(1))),
-            (Call::Admit(2), Answer::Piece(5, 2, 4, Work::Forward)),
+            (Call::Admit(2), Answer::Again(5, 2, 4, Work::Forward, 1)),
             (Call::Refused(5), Answer::Refused(Refusal::Retry(2))),
-            (Call::Admit(2), Answer::Piece(6, 2, 4, Work::Forward)),
+            (Call::Admit(2), Answer::Again(6, 2, 4, Work::Forward, 2)),
             (Call::Refused(6), Answer::Refused(Refusal::Exhausted)),
             (Call::Admit(2), Answer::Exhausted(4)),
             (Call::Abort(2), Answer::Aborted(Aborted::Exhausted)),
@@ -408,6 +232,8 @@ const PLAYS: [Play; 13] = [
             (Call::Done(3), Answer::Effected(5)),
             (Call::Admit(1), Answer::Piece(4, 1, 0, Work::Undo)),
             (Call::Done(4), Answer::Effected(6)),
+            (Call::Admit(1), Answer::Piece(5, 1, 0, Work::End)),
+            (Call::Refused(5), Answer::NoRefusal),
         ],
         events: &[
             Happens::Start(1),
@@ -437,10 +263,6 @@ const PLAYS: [Play; 13] = [
 ];
 
 #[test]
-fn each_play_goes_by_the_rules(rt: HostRuntime) -> Result<(), Fail> {
-    let alloc = rt.alloc();
-    for play in &PLAYS {
-        expect_play(&rt, alloc, play)?;
-    }
-    Ok(())
+fn processes_go_back_by_the_rules(rt: HostRuntime) -> Result<(), Fail> {
+    expect_plays(&rt, rt.alloc(), &GOING_BACK)
 }

@@ -1,0 +1,190 @@
+// Plays in which a process waits for another.
+use crate::calls::{Answer, Call};
+use crate::plays::{Happens, Play, expect_plays};
+use crate::starts::{ADD, NOTE, PAY, PURCHASE, SALE, SHIP, TAKE};
+use machine_model::{Blocked, Rule};
+use process_core::{Began, Cause, Refusal, Work};
+use std::test::Fail;
+
+const WAITING: [Play; 6] = [
+    Play {
+        name: "two that don't conflict take turns",
+        texts: &[PURCHASE, b"process b c u add 1 7 r v ship 1 1 end"],
+        turns: &[
+            (Call::Admit(1), Answer::Piece(1, 1, 0, Work::Forward)),
+            (Call::Done(1), Answer::Effected(3)),
+            (Call::Admit(2), Answer::Piece(2, 2, 0, Work::Forward)),
+            (Call::Done(2), Answer::Effected(4)),
+            (Call::Admit(2), Answer::Piece(3, 2, 1, Work::Forward)),
+            (Call::Done(3), Answer::Effected(5)),
+            (Call::Admit(1), Answer::Piece(4, 1, 1, Work::Forward)),
+            (Call::Done(4), Answer::Effected(6)),
+            (Call::Admit(2), Answer::Piece(5, 2, 0, Work::End)),
+            (Call::Done(5), Answer::Effected(7)),
+            (Call::Admit(1), Answer::Piece(6, 1, 0, Work::End)),
+            (Call::Done(6), Answer::Effected(8)),
+        ],
+        events: &[
+            Happens::Start(1),
+            Happens::Start(2),
+            Happens::Do(1, 0, ADD),
+            Happens::Do(2, 0, ADD),
+            Happens::Do(2, 1, SHIP),
+            Happens::Do(1, 1, PAY),
+            Happens::End(2),
+            Happens::End(1),
+        ],
+        began: &[(1, None), (2, None)],
+    },
+    Play {
+        name: "a sale is paid once the purchase on which it builds has ended",
+        texts: &[PURCHASE, SALE],
+        turns: &[
+            (Call::Admit(1), Answer::Piece(1, 1, 0, Work::Forward)),
+            (Call::Done(1), Answer::Effected(3)),
+            (Call::Admit(2), Answer::Piece(2, 2, 0, Work::Forward)),
+            (Call::Done(2), Answer::Effected(4)),
+            (
+                Call::Admit(2),
+                Answer::Blocked(Blocked {
+                    on: 1,
+                    other: 0,
+                    own: 0,
+                    rule: Rule::A3,
+                }),
+            ),
+            (Call::Admit(1), Answer::Piece(3, 1, 1, Work::Forward)),
+            (Call::Done(3), Answer::Effected(5)),
+            (Call::Admit(1), Answer::Piece(4, 1, 0, Work::End)),
+            (Call::Done(4), Answer::Effected(6)),
+            (Call::Admit(2), Answer::Piece(5, 2, 1, Work::Forward)),
+        ],
+        events: &[
+            Happens::Start(1),
+            Happens::Start(2),
+            Happens::Do(1, 0, ADD),
+            Happens::Do(2, 0, TAKE),
+            Happens::Do(1, 1, PAY),
+            Happens::End(1),
+        ],
+        began: &[(1, None), (2, None)],
+    },
+    Play {
+        name: "a running pivot reserves what it will owe, until it is refused",
+        texts: &[
+            b"process a p x pay 1 5 r y take 1 0 end",
+            b"process b c u add 1 7 end",
+        ],
+        turns: &[
+            (Call::Admit(1), Answer::Piece(1, 1, 0, Work::Forward)),
+            (
+                Call::Admit(2),
+                Answer::Blocked(Blocked {
+                    on: 1,
+                    other: 1,
+                    own: 0,
+                    rule: Rule::A1,
+                }),
+            ),
+            (Call::Refused(1), Answer::Refused(Refusal::RollBack)),
+            (Call::Admit(2), Answer::Piece(2, 2, 0, Work::Forward)),
+            (Call::Admit(1), Answer::Piece(3, 1, 0, Work::End)),
+        ],
+        events: &[Happens::Start(1), Happens::Start(2)],
+        began: &[
+            (
+                1,
+                Some(Began {
+                    event: 4,
+                    cause: Cause::Refused(0),
+                }),
+            ),
+            (2, None),
+        ],
+    },
+    Play {
+        name: "a step that would close a circle waits",
+        texts: &[
+            b"process a c x add 1 5 c s note 1 1 end",
+            b"process b c u note 2 2 c v take 1 1 end",
+        ],
+        turns: &[
+            (Call::Admit(1), Answer::Piece(1, 1, 0, Work::Forward)),
+            (Call::Done(1), Answer::Effected(3)),
+            (Call::Admit(2), Answer::Piece(2, 2, 0, Work::Forward)),
+            (Call::Done(2), Answer::Effected(4)),
+            (Call::Admit(2), Answer::Piece(3, 2, 1, Work::Forward)),
+            (
+                Call::Admit(1),
+                Answer::Blocked(Blocked {
+                    on: 2,
+                    other: 0,
+                    own: 1,
+                    rule: Rule::A2,
+                }),
+            ),
+            (Call::Done(3), Answer::Effected(5)),
+        ],
+        events: &[
+            Happens::Start(1),
+            Happens::Start(2),
+            Happens::Do(1, 0, ADD),
+            Happens::Do(2, 0, NOTE),
+            Happens::Do(2, 1, TAKE),
+        ],
+        began: &[(1, None), (2, None)],
+    },
+    Play {
+        name: "steps of two that conflict don't run at once",
+        texts: &[PURCHASE, SALE],
+        turns: &[
+            (Call::Admit(1), Answer::Piece(1, 1, 0, Work::Forward)),
+            (
+                Call::Admit(2),
+                Answer::Blocked(Blocked {
+                    on: 1,
+                    other: 0,
+                    own: 0,
+                    rule: Rule::A0,
+                }),
+            ),
+        ],
+        events: &[Happens::Start(1), Happens::Start(2)],
+        began: &[(1, None), (2, None)],
+    },
+    Play {
+        name: "a pivot waits where it would owe what conflicts",
+        texts: &[
+            b"process a c x add 1 5 end",
+            b"process b p u pay 1 1 r v take 1 1 end",
+        ],
+        turns: &[
+            (Call::Admit(1), Answer::Piece(1, 1, 0, Work::Forward)),
+            (Call::Done(1), Answer::Effected(3)),
+            (
+                Call::Admit(2),
+                Answer::Blocked(Blocked {
+                    on: 1,
+                    other: 0,
+                    own: 1,
+                    rule: Rule::A4,
+                }),
+            ),
+            (Call::Admit(1), Answer::Piece(2, 1, 0, Work::End)),
+            (Call::Done(2), Answer::Effected(4)),
+            (Call::Admit(2), Answer::Piece(3, 2, 0, Work::Forward)),
+        ],
+        events: &[
+            Happens::Start(1),
+            Happens::Start(2),
+            Happens::Do(1, 0, ADD),
+            Happens::End(1),
+        ],
+        began: &[(1, None), (2, None)],
+    },
+];
+
+#[test]
+fn processes_wait_by_the_rules(rt: HostRuntime) -> Result<(), Fail> {
+    expect_plays(&rt, rt.alloc(), &WAITING)
+}
