@@ -7,7 +7,7 @@ ghost use Rattle.machine_model.specs.Cascade.{cascade};
 ghost use Rattle.cascade.specs.Walking.{last_entries};
 ghost use Rattle.process_core.specs.declared.beginnings.Beginners.TheVariants.{DraggedBy};
 ghost use Rattle.hold_tables.specs.Tables.{holdings_of, is_open, kept_of};
-ghost use Rattle.hold_tables.specs.Changes.{changed};
+ghost use Rattle.hold_tables.specs.Changes.{changed, stopped};
 ghost use Rattle.process_core.specs.Beginnings.{AreOpen, begun_row, begun_seat, can_begin, cause_if, cause_of, seat_with, seats_begun, tables_begun, tables_with};
 
 use crate::members::Cascade;
@@ -39,6 +39,16 @@ fn cause_of(who: Beginners, cascade: &Cascade, i: u32) -> Option<Cause>
     }
 }
 
+/// Nothing is under way in a process any more. Where nothing was, the walks of the conflict graph needn't be found anew.
+fn stop_running(holds: &mut Holds, i: u32)
+    requires { is_open holds.old i ≡ true }
+    ensures { holds.new ≡ stopped i holds.old }
+{
+    if holds.running(i).is_some() {
+        holds.stop(i);
+    }
+}
+
 /// A process begins to complete.
 pub fn begin(seat: &mut Seat, holds: &mut Holds, i: u32, began: Began)
     requires seat { is_some seat.old.instance ≡ true }
@@ -50,7 +60,7 @@ pub fn begin(seat: &mut Seat, holds: &mut Holds, i: u32, began: Began)
         unreachable!();
     };
     instance.abort();
-    holds.stop(i);
+    stop_running(holds, i);
     holds.keep_reserved(i, instance.owed());
     holds.pend(i, instance.pending());
     seat.lost = seat.out;

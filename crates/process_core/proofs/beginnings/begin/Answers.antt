@@ -10,13 +10,13 @@ use Rattle.process_core.proofs.BegunLists.{changed_thrice, shortened_open, stopp
 use Rattle.process_core.proofs.beginnings.begin.Goals as goal
 
 pub keep_reserved-requires : goal.keep_reserved-requires
-keep_reserved-requires c = record { «open» = ap (λ (t : Tables). is_open t c.args.i) c.stop.ensures ∙ stopped_open c.args.i c.args.holds.now c.requires.open }
+keep_reserved-requires c = record { «open» = ap (λ (t : Tables). is_open t c.args.i) c.stop_running.ensures ∙ stopped_open c.args.i c.args.holds.now c.requires.open }
 
 pub pend-requires : goal.pend-requires
 pend-requires c =
     let t = c.args.holds.now in
     record {
-      «open» = ap (λ (u : Tables). is_open u c.args.i) (c.keep_reserved.ensures ∙ ap (changed (with_first_reserved c.owed.result) c.args.i) c.stop.ensures)
+      «open» = ap (λ (u : Tables). is_open u c.args.i) (c.keep_reserved.ensures ∙ ap (changed (with_first_reserved c.owed.result) c.args.i) c.stop_running.ensures)
           ∙ shortened_open c.owed.result c.args.i (changed (with_running None) c.args.i t) (stopped_open c.args.i t c.requires.open);
     }
 
@@ -30,7 +30,7 @@ returns-clause-holds c =
     let pending_is : c.pending.result ≡ pending_count (begun x.state) = c.pending.ensures ∙ ap (λ (y : InstanceState). pending_count y.state) c.abort.ensures in
     let its : c.args.seat.now.instance ≡ Some x = sym (ap (λ (s : SeatState). s.instance) c.seat.view_is) ∙ c.in-Some.is in
     c.pend.ensures
-    ∙ (ap (changed (with_pending c.pending.result) i) (c.keep_reserved.ensures ∙ ap (changed (with_first_reserved c.owed.result) i) c.stop.ensures)
+    ∙ (ap (changed (with_pending c.pending.result) i) (c.keep_reserved.ensures ∙ ap (changed (with_first_reserved c.owed.result) i) c.stop_running.ensures)
     ∙ (changed_thrice c.owed.result c.pending.result i t
     ∙ (ap (λ n. changed (λ r. with_pending c.pending.result (with_first_reserved n (with_running None r))) i t) owed_is
     ∙ (ap (λ p. changed (λ r. with_pending p (with_first_reserved (length (forward x.state.progress.shape x.state.progress.net)) (with_running None r))) i t) pending_is
