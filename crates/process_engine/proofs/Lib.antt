@@ -11,3 +11,8 @@ pub mod RecordedPieces
 pub mod Subsystems
 pub mod PreparedPieces
 pub mod StoresThere
+pub mod Refusals
+pub mod FinishedPieces
+pub mod EndedPieces
+pub mod BarredPieces
+pub mod DonePieces

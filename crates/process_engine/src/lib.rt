@@ -7,6 +7,7 @@
 mod asking;
 mod beginning;
 mod engines;
+mod finishing;
 mod gates;
 mod handing_back;
 mod making;
@@ -14,6 +15,7 @@ mod pieces;
 
 pub use beginning::{EngineStart, EngineStartWhy};
 pub use engines::{Closed, Engine, Phase};
+pub use finishing::Finish;
 pub use gates::{Answer, Gate};
 pub use history_files::{CreateError, CreateRefused, Parts};
 pub use pieces::{PreparePiece, Prepared, Recorded};
