@@ -1,5 +1,6 @@
 pub mod Beginning
 pub mod Engines
 pub mod Finishing
+pub mod Fitting
 pub mod Pieces
 pub mod UnderWay
