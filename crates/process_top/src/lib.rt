@@ -18,4 +18,6 @@ mod told;
 mod verify;
 
 pub use door::{Finished, answer, only_reads, top};
-pub use scenario::{Bound, NoPlans, scenario_of};
+pub use input::text_of;
+pub use scenario::{Bound, NoPlans, document_of, scenario_of};
+pub use told::Said;

@@ -1,0 +1,14 @@
+-- What `init` has to say is due.
+use Rattle.std.proofs.Common.{◌≡◌, Result, Ok, Err, IfOk, IfErr, sym, subst, inr}
+use Rattle.commute_table.specs.declared.catalog.Catalog.{Catalog}
+use Rattle.program_lines.specs.declared.refusal.Refusal.{Refusal}
+use Rattle.process_top.specs.declared.told.Said.{Said}
+use Rattle.process_top.specs.Inputs.{Input}
+use Rattle.process_top.specs.FilesLeft.{Files}
+use Rattle.process_setup.specs.Init.{AreMade, AreNotMade, IsCatalogRead, IsInitDue, SaysCreated}
+
+-- where a catalog was read
+pub due_of_read : (before after : Input) (files files_after : Files) (c : Catalog) (line : Said) (found : Result Said Refusal) → IsCatalogRead before after c → SaysCreated line → IfOk found (λ s. s ≡ line)
+    → IfOk found (λ _. AreMade c files files_after) → IfErr found (λ r. AreNotMade r files files_after) → IsInitDue before after files files_after found
+due_of_read before after files files_after c line (Ok s) read says is made refused = (subst SaysCreated (sym is) says, (c, read, made))
+due_of_read before after files files_after c line (Err r) read says is made refused = inr ((c, read), refused)
