@@ -1,4 +1,5 @@
-//! Tests of the scheduler: plays of up to three processes, whose answers, histories and causes follow from the rules.
+//! Tests of the scheduler: plays of up to three processes, whose answers, histories and causes follow from the rules; and tries,
+//! which each session counts anew.
 //!
 //! They stand apart from the crates that they test, since a crate with tests is proved twice.
 #![tactic(auto)]
@@ -11,6 +12,8 @@ mod choosing;
 mod going_back;
 #[cfg(test)]
 mod plays;
+#[cfg(test)]
+mod sessions;
 #[cfg(test)]
 mod starts;
 #[cfg(test)]
