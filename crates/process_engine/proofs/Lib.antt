@@ -4,6 +4,7 @@ pub mod StartedHistory
 pub mod StartedRest
 pub mod StartRecord
 pub mod NewEngine
+pub mod OpenedEngine
 pub mod NextHistory
 pub mod PreparedStores
 pub mod RecordedStores

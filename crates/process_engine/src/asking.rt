@@ -21,7 +21,7 @@ impl<R: Rack + Drop, B: Drop> Engine<R, B> {
         ensures closed { IfErr result (IsClosed self.old) }
         ensures left { OnErr result (self.new ≡ self.old) }
     {
-        self.open()?;
+        self.not_closed()?;
         Ok(self.core.admit(i))
     }
 
@@ -33,7 +33,7 @@ impl<R: Rack + Drop, B: Drop> Engine<R, B> {
         ensures closed { IfErr result (IsClosed self.old) }
         ensures left { OnErr result (self.new ≡ self.old) }
     {
-        self.open()?;
+        self.not_closed()?;
         Ok(self.core.next())
     }
 
@@ -45,7 +45,7 @@ impl<R: Rack + Drop, B: Drop> Engine<R, B> {
         ensures closed { IfErr result (IsClosed self.old) }
         ensures left { OnErr result (self.new ≡ self.old) }
     {
-        self.open()?;
+        self.not_closed()?;
         Ok(self.core.abort(i))
     }
 
@@ -56,7 +56,7 @@ impl<R: Rack + Drop, B: Drop> Engine<R, B> {
         ensures closed { IfErr result (IsClosed self.old) }
         ensures left { OnErr result (self.new ≡ self.old) }
     {
-        self.open()?;
+        self.not_closed()?;
         self.core.complete_all();
         Ok(())
     }

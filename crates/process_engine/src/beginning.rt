@@ -142,7 +142,7 @@ impl<R: Rack + Drop, B: Resource> Engine<R, B> {
         ensures later { R.faults self.old.files.rack ≤ R.faults self.new.files.rack }
         ensures fault { IfErr result (λ e. e.why ≡ Fault → Rose (R.faults self.old.files.rack) (R.faults self.new.files.rack)) }
     {
-        if let Err(Closed(kept)) = self.open() {
+        if let Err(Closed(kept)) = self.not_closed() {
             return Err(EngineStart {
                 plan,
                 why: EngineStartWhy::Closed(kept),

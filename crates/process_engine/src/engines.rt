@@ -115,7 +115,7 @@ impl<R: Rack + Drop, B: Drop> Engine<R, B> {
     }
 
     /// Refuses where it is closed.
-    pub(crate) fn open(&self) -> Result<(), Closed>
+    pub(crate) fn not_closed(&self) -> Result<(), Closed>
         ensures open { OnOk result (self.now.phase ≢ phase.Closed) }
         ensures closed { IfErr result (IsClosed self.now) }
     {

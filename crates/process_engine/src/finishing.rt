@@ -201,7 +201,7 @@ impl<R: Rack + Drop, B: Resource> Engine<R, B> {
         ensures later { R.faults self.old.files.rack ≤ R.faults self.new.files.rack }
         ensures fault { result ≡ Finish.DiskFault → Rose (R.faults self.old.files.rack) (R.faults self.new.files.rack) }
     {
-        if let Err(Closed(count)) = self.open() {
+        if let Err(Closed(count)) = self.not_closed() {
             return Finish::Closed(count);
         }
         self.is_sound();

@@ -12,6 +12,7 @@ mod fitting;
 mod gates;
 mod handing_back;
 mod making;
+mod opening;
 mod pieces;
 
 pub use beginning::{EngineStart, EngineStartWhy};
@@ -19,5 +20,5 @@ pub use engines::{Closed, Engine, Phase};
 pub use finishing::Finish;
 pub use fitting::StartLimit;
 pub use gates::{Answer, Gate};
-pub use history_files::{CreateError, CreateRefused, Parts};
+pub use history_files::{BookFault, CreateError, CreateRefused, OpenError, OpenRefused, Parts};
 pub use pieces::{PreparePiece, Prepared, Recorded};
