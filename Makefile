@@ -19,6 +19,7 @@ bench:
 	bench/verify
 	bench/legal
 	bench/admit
+	bench/core
 	bench/report
 	awk -f bench/worst_text.awk > bench/worst.process
 	time ./tps check < bench/worst.process > /dev/null
