@@ -20,6 +20,7 @@ bench:
 	bench/legal
 	bench/admit
 	bench/core
+	bench/engine
 	bench/report
 	awk -f bench/worst_text.awk > bench/worst.process
 	time ./tps check < bench/worst.process > /dev/null

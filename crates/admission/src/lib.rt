@@ -17,6 +17,3 @@ pub use admission::{admit, is_reserved};
 pub use hold_tables::{Admitted, Blocked, Rule};
 pub use machine_model::Todo;
 pub use victims::victim;
-
-#[cfg(test)]
-mod tests;

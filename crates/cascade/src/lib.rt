@@ -14,6 +14,3 @@ mod undo;
 pub use members::Members;
 pub use spread::closure;
 pub use undo::undo_ready;
-
-#[cfg(test)]
-mod tests;

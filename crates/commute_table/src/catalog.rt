@@ -3,9 +3,9 @@ ghost use Rattle.std.specs.Prelude.{◌≡◌, ◌≤◌, ◌<◌, ◌++◌, ◌
 ghost use Rattle.std.specs.List.{flat_map};
 ghost use Rattle.process_tree.specs.Conflicts.{is_table, operations_in};
 ghost use Rattle.commute_table.specs.Operations.{IsCatalog};
-ghost use Rattle.commute_table.specs.Bytes.{bytes_of, op_bytes, verb_code, cell_byte, row_bytes};
+ghost use Rattle.commute_table.specs.Bytes.{bytes_of, op_bytes, cell_byte, row_bytes};
 
-use crate::{Op, Ops, Verb};
+use crate::{Op, Ops};
 use process_tree::Conflicts;
 use std::alloc::{AllocError, Global};
 
@@ -39,7 +39,7 @@ fn put_op(out: &mut Vec<u8>, op: &Op) -> Result<(), AllocError>
     let name = op.name.bytes();
     out.push(name.len() as u8)?;
     out.extend_from_slice(name)?;
-    out.extend_from_slice(&[op.subsystem, code_of(op.verb)])?;
+    out.extend_from_slice(&[op.subsystem, op.verb.code()])?;
     Ok(())
 }
 
@@ -50,19 +50,6 @@ fn put_ops(out: &mut Vec<u8>, ops: &[Op]) -> Result<(), AllocError>
         put_op(out, op)?;
     }
     Ok(())
-}
-
-fn code_of(verb: Verb) -> u8
-    ensures { result ≡ verb_code verb }
-{
-    match verb {
-        Verb::Add => 0,
-        Verb::Take => 1,
-        Verb::Look => 2,
-        Verb::Put => 3,
-        Verb::Hold => 4,
-        Verb::Free => 5,
-    }
 }
 
 fn cell_byte(conflict: bool) -> u8

@@ -1,4 +1,7 @@
 // Operations and their verbs.
+ghost use Rattle.std.specs.Prelude.{◌≡◌};
+ghost use Rattle.commute_table.specs.Bytes.{verb_code};
+
 use plain_list::Items;
 use process_tree::Name;
 
@@ -11,6 +14,22 @@ pub enum Verb {
     Put,
     Hold,
     Free,
+}
+
+impl Verb {
+    /// The number that stands for it in files.
+    pub fn code(self) -> u8
+        ensures { result ≡ verb_code self }
+    {
+        match self {
+            Verb::Add => 0,
+            Verb::Take => 1,
+            Verb::Look => 2,
+            Verb::Put => 3,
+            Verb::Hold => 4,
+            Verb::Free => 5,
+        }
+    }
 }
 
 /// A named operation: a verb on a subsystem.

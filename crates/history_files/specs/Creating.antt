@@ -1,6 +1,7 @@
 -- Which files may be made.
 use Rattle.std.specs.Prelude.{◌≡◌, ⊤, ℕ, zero, suc, ◌+◌, Bool, true, false, List, [], ◌∷◌, Option, Some, None, if◌then◌else◌}
-use Rattle.process_disk.specs.Disk.{FileSet, file_of}
+use Rattle.process_disk.specs.Disk.{Disk, FileSet, file_of}
+use Rattle.process_disk.specs.Images.{AllAsBefore}
 use Rattle.history_files.specs.declared.faults.CreateError.{CreateError}
 use Rattle.history_files.specs.declared.faults.CreateError.TheVariants.{DiskFault, NotEmpty, NoMemory}
 
@@ -23,3 +24,9 @@ abbrev pub IsDueToFiles : Option ℕ → CreateError → Type 0
 IsDueToFiles found DiskFault = ⊤
 IsDueToFiles found (NotEmpty q) = found ≡ Some q
 IsDueToFiles found NoMemory = ⊤
+
+-- what is left of files that were not made: one that has a byte is found before anything is written
+abbrev pub AreLeftUnmade : CreateError → Disk → Disk → Type 0
+AreLeftUnmade DiskFault old new = ⊤
+AreLeftUnmade (NotEmpty q) old new = AllAsBefore old new
+AreLeftUnmade NoMemory old new = ⊤

@@ -1,39 +1,18 @@
 // Books beside the effects of a history.
 ghost use Rattle.std.specs.Prelude.{◌≡◌, ◌<◌, ◌+◌, ◌++◌, ◌^◌, [], length, IfOk, option_copied};
 ghost use Rattle.schedule_model.specs.Histories.{acts};
-ghost use Rattle.commute_table.specs.Bytes.{verb_code};
 ghost use Rattle.subsystem_store.specs.Laws.{in_doubt};
-ghost use Rattle.subsystem_store.specs.Values.{same_call};
 ghost use Rattle.history_files.specs.Comparing.{difference_from, difference, counting, books_difference};
 ghost use Rattle.history_files.specs.Sound.{same_effect, is_among};
 ghost use Rattle.history_files.specs.Standing.{AreGoodBooks};
 
 use crate::BookFault;
 use crate::effects::effects_on;
-use commute_table::{Op, Verb};
-use resource_box::{Call, Resource};
+use commute_table::Op;
+use resource_box::Resource;
 use schedule_rules::History;
 use std::alloc::{AllocError, Global};
-use subsystem_store::{Effect, Store};
-
-fn code_of(verb: Verb) -> u8
-    ensures { result ≡ verb_code verb }
-{
-    match verb {
-        Verb::Add => 0,
-        Verb::Take => 1,
-        Verb::Look => 2,
-        Verb::Put => 3,
-        Verb::Hold => 4,
-        Verb::Free => 5,
-    }
-}
-
-fn same_call(a: &Call, b: &Call) -> bool
-    ensures { result ≡ same_call a.now b.now }
-{
-    code_of(a.verb) == code_of(b.verb) && a.key == b.key && a.amount == b.amount
-}
+use subsystem_store::{Effect, Store, same_call};
 
 /// Whether two effects are the same.
 pub fn same_effect(a: &Effect, b: &Effect) -> bool

@@ -6,7 +6,7 @@ ghost use Rattle.process_disk.specs.Images.{ImagesFollow, AllAsBefore};
 ghost use Rattle.commute_table.specs.Operations.{IsCatalog};
 ghost use Rattle.process_journal.specs.Bodies.{no_history};
 ghost use Rattle.history_files.specs.Boxes.{AreBoxes, AreEmpty};
-ghost use Rattle.history_files.specs.Creating.{first_used, IsDueToFiles};
+ghost use Rattle.history_files.specs.Creating.{first_used, IsDueToFiles, AreLeftUnmade};
 ghost use Rattle.history_files.specs.Standing.{AtEach, AreStores, EachFits, AreGoodBooks, Stand};
 ghost use Rattle.history_files.specs.declared.faults.CreateError.TheVariants.{DiskFault as Fault, NoMemory};
 
@@ -60,6 +60,7 @@ fn made<R: Rack, B: Resource>(
     ensures room { 8 ≤ vec_capacity boxes.new }
     ensures due { Told (R.disk rack.old) → IfErr result (IsDueToFiles (first_used (R.disk rack.old).files)) }
     ensures empty { Told (R.disk rack.old) → OnOk result (first_used (R.disk rack.old).files ≡ None) }
+    ensures left { Told (R.disk rack.old) → IfErr result (λ e. AreLeftUnmade e (R.disk rack.old) (R.disk rack.new)) }
     ensures tells { (R.disk rack.new).tells ≡ (R.disk rack.old).tells }
     ensures later { R.faults rack.old ≤ R.faults rack.new }
     ensures fault { IfErr result (λ e. e ≡ Fault → Rose (R.faults rack.old) (R.faults rack.new)) }
@@ -100,10 +101,12 @@ impl<R: Rack + Drop, B: Resource> Files<R, B> {
         ensures count { IfOk result (λ f. f.journal.count ≡ 1) }
         ensures empty { Told (R.disk parts.rack) → OnOk result (first_used (R.disk parts.rack).files ≡ None) }
         ensures due { Told (R.disk parts.rack) → IfErr result (λ r. IsDueToFiles (first_used (R.disk parts.rack).files) r.why) }
+        ensures left { Told (R.disk parts.rack) → IfErr result (λ r. AreLeftUnmade r.why (R.disk parts.rack) (R.disk r.parts.rack)) }
         ensures back { IfErr result (λ r. AreBoxes B.sort r.parts.resources.items × AreEmpty B.meaning r.parts.resources.items) }
         ensures tells { IfOk result (λ f. (R.disk f.rack).tells ≡ (R.disk parts.rack).tells) }
         ensures tells_back { IfErr result (λ r. (R.disk r.parts.rack).tells ≡ (R.disk parts.rack).tells) }
         ensures later { IfOk result (λ f. R.faults parts.rack ≤ R.faults f.rack) }
+        ensures later_back { IfErr result (λ r. R.faults parts.rack ≤ R.faults r.parts.rack) }
         ensures fault { IfErr result (λ r. r.why ≡ Fault → Rose (R.faults parts.rack) (R.faults r.parts.rack)) }
     {
         let Parts { rack, resources } = parts;

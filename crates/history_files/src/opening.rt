@@ -97,6 +97,7 @@ impl<R: Rack + Drop, B: Resource> Files<R, B> {
         ensures tells { IfOk result (λ o. (R.disk o.0.rack).tells ≡ (R.disk parts.rack).tells) }
         ensures tells_back { IfErr result (λ r. (R.disk r.parts.rack).tells ≡ (R.disk parts.rack).tells) }
         ensures later { IfOk result (λ o. R.faults parts.rack ≤ R.faults o.0.rack) }
+        ensures later_back { IfErr result (λ r. R.faults parts.rack ≤ R.faults r.parts.rack) }
         ensures fault { IfErr result (λ r. r.why ≡ Fault → Rose (R.faults parts.rack) (R.faults r.parts.rack)) }
     {
         let Parts { rack, resources } = parts;

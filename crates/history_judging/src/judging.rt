@@ -21,9 +21,9 @@ use crate::against::{any_conflicts, conflicts_behind, conflicts_in_front, confli
 use crate::circle::closes_circle;
 use crate::legality::{Legality, ProcessRow};
 use crate::order::{goes_on_to, is_end, is_of_last};
-use process_tree::{Conflicts, Entry, Plan};
+use process_tree::{Conflicts, Entry, Plan, kind_of, op_of};
 use schedule_model::Event;
-use schedule_rules::{backward, has_same_step, kind_of, of_process, op_of, owed, steps_of};
+use schedule_rules::{backward, has_same_step, of_process, owed, steps_of};
 use std::alloc::{AllocError, Global};
 
 /// Whether an event may come after the history of which these are the tables.

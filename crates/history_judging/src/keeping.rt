@@ -14,8 +14,8 @@ ghost use Rattle.history_judging.specs.Keeping.{Tables, started, undone, stepped
 
 use crate::judging::{add_owed, steps_among};
 use crate::legality::{Legality, ProcessRow};
-use process_tree::{Entry, Plan};
-use schedule_rules::{has_same_step, is_same_step, kind_of, take_effect};
+use process_tree::{Entry, Plan, kind_of};
+use schedule_rules::{has_same_step, is_same_step, take_effect};
 use std::alloc::{AllocError, Global};
 
 /// A process of this plan starts.

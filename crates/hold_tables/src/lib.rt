@@ -15,9 +15,5 @@ mod row;
 mod spare;
 
 pub use holds::Holds;
-pub use spare::{Spare, SpareCapacity};
-
-#[cfg(test)]
-mod tests;
-
 pub use machine_model::{Admitted, Blocked, Rule};
+pub use spare::{Spare, SpareCapacity};

@@ -17,6 +17,3 @@ pub use laws::{
     pending_can_be_undone, reserved_uses_no_outcome,
 };
 pub use machine_model::{Recovery, Refusal, Todo};
-
-#[cfg(test)]
-mod tests;

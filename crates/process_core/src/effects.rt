@@ -11,10 +11,9 @@ ghost use Rattle.process_core.specs.Effects.{HoldsWork, event_told, step_effecte
 ghost use Rattle.process_core.specs.OpenTables.{pairs_behind};
 
 use crate::owed::{Pairs, add_owed};
-use crate::tables::{commits, kind_of};
 use hold_tables::Holds;
 use machine_model::Work;
-use process_tree::Plan;
+use process_tree::{Plan, kind_of};
 use schedule_model::Event;
 
 /// The event that what a process has under way makes once it took effect.
@@ -51,7 +50,7 @@ fn effect_step(holds: &mut Holds, plan: &Plan, process: u32, step: u16)
     ensures { holds.new ≡ step_effected plan.now process step holds.old }
 {
     holds.take_effect(process);
-    if commits(kind_of(&plan.tree, step)) {
+    if kind_of(&plan.tree, step).commits() {
         fix_and_reserve(holds, plan, process, step);
     }
 }

@@ -39,6 +39,3 @@ pub use pieces::Piece;
 pub use replies::{Admit, Next, Waiting};
 pub use start_room::StartRoom;
 pub use starting::StartRefused;
-
-#[cfg(test)]
-mod tests;

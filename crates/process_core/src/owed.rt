@@ -3,9 +3,8 @@ ghost use Rattle.std.specs.Prelude.{◌≡◌, ◌<◌, ◌≤◌, ◌+◌, ◌+
 ghost use Rattle.process_tree.specs.Blocks.{outline};
 ghost use Rattle.process_core.specs.OpenTables.{pairs_behind};
 
-use crate::tables::op_of;
 use arrayvec::ArrayVec;
-use process_tree::{MOST_STEPS, Place, Plan};
+use process_tree::{MOST_STEPS, Place, Plan, op_of};
 
 /// Steps, each with its operation.
 pub type Pairs = ArrayVec<(u16, u16), MOST_STEPS>;

@@ -4,7 +4,6 @@ ghost use Rattle.process_tree.specs.Blocks.{outline};
 ghost use Rattle.process_tree.specs.Conflicts.{operations_in};
 ghost use Rattle.process_tree.specs.Making.{tree_fault};
 ghost use Rattle.process_tree.specs.Order.{Each};
-ghost use Rattle.process_tree.specs.Shape.{commits, kind_of, shape_of};
 ghost use Rattle.hold_tables.specs.Changes.{can_run, none_open};
 ghost use Rattle.machine_model.specs.Moment.{opening_moment};
 ghost use Rattle.hold_tables.specs.Kept.{IsKnown};
@@ -17,36 +16,10 @@ ghost use Rattle.process_core.specs.Seats.{seats_of};
 
 use crate::seats::Seat;
 use hold_tables::Holds;
-use process_tree::{Conflicts, Entry, Plan, StepKind, Tree};
+use process_tree::{Conflicts, Entry, Plan, kind_of, op_of};
 use schedule_model::History;
 use schedule_rules::{active, net};
 use std::alloc::{AllocError, Global};
-
-/// Whether a step of this kind is a commit point once it took effect.
-pub fn commits(kind: StepKind) -> bool
-    ensures { result ≡ commits kind }
-{
-    match kind {
-        StepKind::C => false,
-        StepKind::P | StepKind::R => true,
-    }
-}
-
-/// The kind of a step.
-pub fn kind_of(tree: &Tree, n: u16) -> StepKind
-    requires { n < length (outline tree.now).steps }
-    ensures { result ≡ kind_of (shape_of tree.now) n }
-{
-    tree.step(n).kind
-}
-
-/// The operation of a step.
-pub fn op_of(ops: &[u16], step: u16) -> u16
-    ensures { result ≡ slice_index_or ops.now step 0 }
-{
-    let place = usize::from(step);
-    if place < ops.len() { ops[place] } else { 0 }
-}
 
 /// These steps, each with its operation.
 fn pairs_of(alloc: Global, ops: &[u16], steps: &[u16]) -> Result<Vec<(u16, u16)>, AllocError>
@@ -86,7 +59,7 @@ fn stand(alloc: Global, holds: &mut Holds, plan: &Plan, e: Entry) -> Result<(), 
 {
     holds.run(e);
     holds.take_effect(e.process);
-    if commits(kind_of(&plan.tree, e.step)) {
+    if kind_of(&plan.tree, e.step).commits() {
         let pairs = pairs_behind(alloc, plan, e.step)?;
         holds.fix(e.process);
         holds.reserve(e.process, &pairs);

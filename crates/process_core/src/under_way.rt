@@ -12,11 +12,10 @@ ghost use Rattle.machine_model.specs.declared.kept.Work.TheVariants.{Forward};
 ghost use Rattle.process_core.specs.OpenTables.{pairs_behind};
 
 use crate::owed::{Pairs, add_owed};
-use crate::tables::{commits, kind_of, op_of};
 use admission::is_reserved;
 use hold_tables::Holds;
 use machine_model::Work;
-use process_tree::{Entry, Plan};
+use process_tree::{Entry, Plan, kind_of, op_of};
 
 /// A step of a process, as an entry.
 fn entry_of(plan: &Plan, process: u32, step: u16) -> Entry
@@ -39,7 +38,7 @@ fn is_committing(holds: &Holds, plan: &Plan, process: u32, step: u16) -> bool
     if is_reserved(holds, process, step) {
         return false;
     }
-    commits(kind_of(&plan.tree, step))
+    kind_of(&plan.tree, step).commits()
 }
 
 /// What a process has reserved.

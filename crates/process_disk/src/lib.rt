@@ -16,6 +16,3 @@ mod stop;
 
 pub use memory::MemoryRack;
 pub use rack::Rack;
-
-#[cfg(test)]
-mod tests;

@@ -1,5 +1,5 @@
 -- Pieces that take effect over the files: prepared in a store, recorded in the journal, and settled.
-use Rattle.std.specs.Prelude.{◌≡◌, ◌<◌, ◌+◌, ℕ, Bool, true, false, List, length, Some}
+use Rattle.std.specs.Prelude.{◌≡◌, ◌<◌, ◌+◌, ℕ, Bool, true, false, List, length, Some, Result, OnOk, OnErr, IfOk}
 use Rattle.process_disk.specs.Disk.{Disk, Told}
 use Rattle.process_tree.specs.declared.entry.Entry.{Entry}
 use Rattle.process_tree.specs.declared.plan.Plan.{Plan}
@@ -12,7 +12,6 @@ use Rattle.machine_model.specs.Advance.{event_of}
 use Rattle.machine_model.specs.Moment.{Piece}
 use Rattle.machine_model.specs.Pieces.{state_of}
 use Rattle.machine_model.specs.Progress.{same_work}
-use Rattle.machine_model.specs.Replies.{Handed}
 use Rattle.commute_table.specs.declared.catalog.Catalog.{Catalog}
 use Rattle.commute_table.specs.declared.op.Op.{Op}
 use Rattle.process_journal.specs.Bodies.{with_event}
@@ -20,6 +19,11 @@ use Rattle.process_journal.specs.Journals.{IsHistoryUnder}
 use Rattle.subsystem_store.specs.declared.errors.Prepare.{Prepare}
 use Rattle.subsystem_store.specs.declared.errors.Prepare.TheVariants.{Prepared as StorePrepared, Barred as StoreBarred, DiskFault as StoreFault, NoMemory as StoreMemory}
 use Rattle.subsystem_store.specs.Opened.{Opened}
+use Rattle.process_tree.specs.declared.play.Outcome.TheVariants.{Done}
+use Rattle.machine_model.specs.Calls.{finish, finished}
+use Rattle.machine_model.specs.Replies.{Handed, effected}
+use Rattle.gate_log.specs.declared.errors.DiskFault.{DiskFault as DiskFailed}
+use Rattle.process_core.specs.Answers.{after_call, answer_in}
 use Rattle.process_core.specs.Cores.{CoreState, IsHandedBy, courses_in, moment_of}
 use Rattle.history_files.specs.Effects.{effects, subsystem_of}
 use Rattle.history_files.specs.Laws.{AreSettled, next_effect}
@@ -97,3 +101,13 @@ PreparesAs barred piece old new disk (Barred p) = (barred ≡ true) × (p ≡ pi
 PreparesAs barred piece old new disk DiskFault = (barred ≡ false) × (new.phase ≡ phase.Closed)
 PreparesAs barred piece old new disk (NoMemory p) =
     (barred ≡ false) × (p ≡ piece) × (piece.piece.work ≡ Forward) × (new.phase ≡ phase.Settled) × (new.files.rack ≡ old.files.rack)
+
+-- What the settling of a recorded piece gives: the core has kept what the machine does of a piece that succeeds, with its reply, and
+-- nothing is under way; or a call of the rack failed, the engine is closed, and its core is as it was.
+pub record SettlesPiece {R B : Type 0} (old new : EngineState R B) (p : Handed) (result : Result ℕ DiskFailed) : Type 0 where
+  pub core : OnOk result (new.core ≡ after_call old.core (finish p.piece.number Done))
+  pub reply : IfOk result (λ n. (answer_in old.core (finish p.piece.number Done)).reply ≡ finished (effected n))
+  pub settled : OnOk result (new.phase ≡ phase.Settled)
+  pub left : OnErr result (new.core ≡ old.core)
+  pub closed : OnErr result (new.phase ≡ phase.Closed)
+  pub catalog : new.catalog ≡ old.catalog

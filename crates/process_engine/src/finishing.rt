@@ -15,8 +15,8 @@ ghost use Rattle.process_core.specs.Cores.{IsHandedBy, moment_of};
 ghost use Rattle.history_files.specs.Sound.{IsSoundForEither};
 ghost use Rattle.history_files.specs.Standing.{EachFits};
 ghost use Rattle.process_engine.specs.Engines.{full_history};
-ghost use Rattle.process_engine.specs.Finishing.{Finishes, RepliesAs, is_barred, outcome_of};
-ghost use Rattle.process_engine.specs.Pieces.{IsPrepared, IsStepOut, history_with};
+ghost use Rattle.process_engine.specs.Finishing.{Finishes, LeavesRack, RepliesAs, is_barred, outcome_of};
+ghost use Rattle.process_engine.specs.Pieces.{IsPrepared, IsStepOut, history_with, SettlesPiece};
 ghost use Rattle.process_engine.specs.declared.engines.Phase.TheVariants as phase;
 
 use crate::{Answer, Closed, Engine, Phase, PreparePiece, Prepared};
@@ -73,11 +73,8 @@ impl<R: Rack + Drop, B: Resource> Engine<R, B> {
         requires settled { self.old.phase ≡ phase.Settled }
         requires out { IsStepOut self.old.core piece.piece }
         ensures finishes { Finishes R.disk self.old self.new piece Fails result }
-        ensures follow { Told (R.disk self.old.files.rack) → ImagesFollow (R.disk self.old.files.rack) (R.disk self.new.files.rack) }
         ensures fits { EachFits B.meaning B.sort self.new.files.stores }
-        ensures tells { (R.disk self.new.files.rack).tells ≡ (R.disk self.old.files.rack).tells }
-        ensures later { R.faults self.old.files.rack ≤ R.faults self.new.files.rack }
-        ensures fault { result ≡ Finish.DiskFault → Rose (R.faults self.old.files.rack) (R.faults self.new.files.rack) }
+        ensures rack { LeavesRack R.disk R.faults self.old.files.rack self.new.files.rack result }
     {
         self.is_sound();
         refused_as(self.core.refused(piece))
@@ -91,11 +88,8 @@ impl<R: Rack + Drop, B: Resource> Engine<R, B> {
         requires out { state_of (moment_of self.old.core) piece.piece.number ≡ Out }
         requires end { piece.piece.work ≡ End }
         ensures finishes { Finishes R.disk self.old self.new piece Succeeds result }
-        ensures follow { Told (R.disk self.old.files.rack) → ImagesFollow (R.disk self.old.files.rack) (R.disk self.new.files.rack) }
         ensures fits { EachFits B.meaning B.sort self.new.files.stores }
-        ensures tells { (R.disk self.new.files.rack).tells ≡ (R.disk self.old.files.rack).tells }
-        ensures later { R.faults self.old.files.rack ≤ R.faults self.new.files.rack }
-        ensures fault { result ≡ Finish.DiskFault → Rose (R.faults self.old.files.rack) (R.faults self.new.files.rack) }
+        ensures rack { LeavesRack R.disk R.faults self.old.files.rack self.new.files.rack result }
     {
         journals_keep_histories();
         events_add_effects();
@@ -119,12 +113,7 @@ impl<R: Rack + Drop, B: Resource> Engine<R, B> {
     fn finish_prepared(&mut self, prepared: Prepared) -> Result<u32, DiskFault>
         requires fits { EachFits B.meaning B.sort self.old.files.stores }
         requires prepared { IsPrepared self.old (R.disk self.old.files.rack) prepared }
-        ensures core { OnOk result (self.new.core ≡ after_call self.old.core (finish prepared.piece.piece.number Succeeds)) }
-        ensures reply { IfOk result (λ n. (answer_in self.old.core (finish prepared.piece.piece.number Succeeds)).reply ≡ finished (effected n)) }
-        ensures settled { OnOk result (self.new.phase ≡ phase.Settled) }
-        ensures left { OnErr result (self.new.core ≡ self.old.core) }
-        ensures closed { OnErr result (self.new.phase ≡ phase.Closed) }
-        ensures catalog { self.new.catalog ≡ self.old.catalog }
+        ensures settles { SettlesPiece self.old self.new prepared.piece result }
         ensures any_moment { Told (R.disk self.old.files.rack) → EachImage (R.disk self.new.files.rack) (R.disk self.old.files.rack).moment
             (IsSoundForEither self.old.catalog (full_history self.old.core) (history_with self.old.core prepared.piece.piece)) }
         ensures follow { Told (R.disk self.old.files.rack) → ImagesFollow (R.disk self.old.files.rack) (R.disk self.new.files.rack) }
@@ -142,11 +131,8 @@ impl<R: Rack + Drop, B: Resource> Engine<R, B> {
         requires settled { self.old.phase ≡ phase.Settled }
         requires out { IsStepOut self.old.core piece.piece }
         ensures finishes { Finishes R.disk self.old self.new piece (outcome_of Answer.Done (is_barred self.old piece.piece)) result }
-        ensures follow { Told (R.disk self.old.files.rack) → ImagesFollow (R.disk self.old.files.rack) (R.disk self.new.files.rack) }
         ensures fits { EachFits B.meaning B.sort self.new.files.stores }
-        ensures tells { (R.disk self.new.files.rack).tells ≡ (R.disk self.old.files.rack).tells }
-        ensures later { R.faults self.old.files.rack ≤ R.faults self.new.files.rack }
-        ensures fault { result ≡ Finish.DiskFault → Rose (R.faults self.old.files.rack) (R.faults self.new.files.rack) }
+        ensures rack { LeavesRack R.disk R.faults self.old.files.rack self.new.files.rack result }
     {
         self.is_sound();
         match self.prepare_piece(piece) {
@@ -171,11 +157,8 @@ impl<R: Rack + Drop, B: Resource> Engine<R, B> {
         requires out { state_of (moment_of self.old.core) piece.piece.number ≡ Out }
         requires end { piece.piece.work ≡ End → answer ≡ Answer.Done }
         ensures finishes { Finishes R.disk self.old self.new piece (outcome_of answer (is_barred self.old piece.piece)) result }
-        ensures follow { Told (R.disk self.old.files.rack) → ImagesFollow (R.disk self.old.files.rack) (R.disk self.new.files.rack) }
         ensures fits { EachFits B.meaning B.sort self.new.files.stores }
-        ensures tells { (R.disk self.new.files.rack).tells ≡ (R.disk self.old.files.rack).tells }
-        ensures later { R.faults self.old.files.rack ≤ R.faults self.new.files.rack }
-        ensures fault { result ≡ Finish.DiskFault → Rose (R.faults self.old.files.rack) (R.faults self.new.files.rack) }
+        ensures rack { LeavesRack R.disk R.faults self.old.files.rack self.new.files.rack result }
     {
         if let Work::End = piece.work() {
             return self.finish_end(piece);

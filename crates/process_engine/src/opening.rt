@@ -95,6 +95,7 @@ impl<R: Rack + Drop, B: Resource> Engine<R, B> {
         ensures tells { IfOk result (λ e. (R.disk e.files.rack).tells ≡ (R.disk parts.rack).tells) }
         ensures tells_back { IfErr result (λ r. (R.disk r.parts.rack).tells ≡ (R.disk parts.rack).tells) }
         ensures later { IfOk result (λ e. R.faults parts.rack ≤ R.faults e.files.rack) }
+        ensures later_back { IfErr result (λ r. R.faults parts.rack ≤ R.faults r.parts.rack) }
         ensures fault { IfErr result (λ r. r.why ≡ Fault → Rose (R.faults parts.rack) (R.faults r.parts.rack)) }
     {
         match Files::open(alloc, parts) {

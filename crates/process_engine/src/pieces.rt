@@ -4,7 +4,6 @@ ghost use Rattle.process_flow.specs.Causes.{Rose, HasCause};
 ghost use Rattle.process_disk.specs.Disk.{Told};
 ghost use Rattle.process_disk.specs.Images.{EachImage, ImagesFollow};
 ghost use Rattle.process_tree.specs.declared.play.Outcome.TheVariants.{Done};
-ghost use Rattle.schedule_model.specs.Course.{courses_of, op_of};
 ghost use Rattle.schedule_model.specs.Histories.{acts};
 ghost use Rattle.schedule_model.specs.declared.event.Event.TheVariants.{Act};
 ghost use Rattle.machine_model.specs.declared.kept.Work.TheVariants.{Undo};
@@ -19,7 +18,7 @@ ghost use Rattle.history_files.specs.Laws.{next_effect};
 ghost use Rattle.history_files.specs.Sound.{IsSound, IsSoundForEither};
 ghost use Rattle.history_files.specs.Standing.{AreGoodBooks, EachFits, Stand};
 ghost use Rattle.process_engine.specs.Engines.{full_history};
-ghost use Rattle.process_engine.specs.Pieces.{IsInDoubt, IsPrepared, IsRecorded, IsStepOut, PreparesAs, act_of, bars_act, history_with, phase_after};
+ghost use Rattle.process_engine.specs.Pieces.{IsInDoubt, IsPrepared, IsRecorded, IsStepOut, PreparesAs, act_of, bars_act, history_with, phase_after, SettlesPiece};
 ghost use Rattle.process_engine.specs.declared.engines.Phase.TheVariants as phase;
 
 use crate::{Engine, Phase};
@@ -33,6 +32,7 @@ use process_journal::{Record, journals_keep_histories};
 use process_tree::{Entry, Plan};
 use resource_box::Resource;
 use schedule_model::Event;
+use schedule_rules::planned_op;
 use std::marker::Model;
 use subsystem_store::{Effect, Prepare};
 
@@ -96,19 +96,6 @@ fn acts_count(events: &[Event]) -> u32
     count
 }
 
-/// The operation of a step of a process.
-fn op_of(plans: &[Plan], process: u32, step: u16) -> u16
-    ensures { result ≡ op_of (courses_of plans.now) process step }
-{
-    let Some(plan) = plans.get((process as usize).saturating_sub(1)) else {
-        return 0;
-    };
-    match plan.ops.as_slice().get(usize::from(step)) {
-        Some(op) => *op,
-        None => 0,
-    }
-}
-
 /// The numbers of an entry fit their bytes.
 fn fits_its_bytes(entry: Entry)
     ensures { (entry.process < 2 ^ 32) × (entry.step < 2 ^ 16) }
@@ -131,7 +118,7 @@ fn act_of(plans: &[Plan], piece: &Piece) -> Entry
     Entry {
         process: piece.process(),
         step: piece.step(),
-        op: op_of(plans, piece.process(), piece.step()),
+        op: planned_op(plans, piece.process(), piece.step()),
         undo: is_undo(piece.work()),
     }
 }
@@ -270,12 +257,7 @@ impl<R: Rack + Drop, B: Resource> Engine<R, B> {
     pub fn settle_piece(&mut self, r: Recorded) -> Result<u32, DiskFault>
         requires fits { EachFits B.meaning B.sort self.old.files.stores }
         requires recorded { IsRecorded self.old (R.disk self.old.files.rack) r }
-        ensures core { OnOk result (self.new.core ≡ after_call self.old.core (finish r.piece.piece.number Done)) }
-        ensures reply { IfOk result (λ n. (answer_in self.old.core (finish r.piece.piece.number Done)).reply ≡ finished (effected n)) }
-        ensures settled { OnOk result (self.new.phase ≡ phase.Settled) }
-        ensures left { OnErr result (self.new.core ≡ self.old.core) }
-        ensures closed { OnErr result (self.new.phase ≡ phase.Closed) }
-        ensures catalog { self.new.catalog ≡ self.old.catalog }
+        ensures settles { SettlesPiece self.old self.new r.piece result }
         ensures any_moment { Told (R.disk self.old.files.rack) → EachImage (R.disk self.new.files.rack) (R.disk self.old.files.rack).moment
             (IsSound self.old.catalog (history_with self.old.core r.piece.piece)) }
         ensures follow { Told (R.disk self.old.files.rack) → ImagesFollow (R.disk self.old.files.rack) (R.disk self.new.files.rack) }

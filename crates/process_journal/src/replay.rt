@@ -5,7 +5,6 @@ ghost use Rattle.process_tree.specs.declared.plan.Plan.{Plan};
 ghost use Rattle.process_tree.specs.Conflicts.{Table};
 ghost use Rattle.schedule_model.specs.declared.event.Event.{Event};
 ghost use Rattle.schedule_model.specs.declared.event.Event.TheVariants.{Start};
-ghost use Rattle.schedule_model.specs.Course.{courses_of, op_of};
 ghost use Rattle.history_judging.specs.Keeping.{IsJudged};
 ghost use Rattle.commute_table.specs.declared.catalog.Catalog.{Catalog};
 ghost use Rattle.process_journal.specs.Plans.{IsPlanOfText};
@@ -21,6 +20,7 @@ use history_judging::{EventError, Legality};
 use journal_records::read;
 use process_tree::{Entry, Plan};
 use schedule_model::{Event, Events, History, Plans};
+use schedule_rules::planned_op;
 use std::alloc::{AllocError, Global};
 
 /// A history, as far as it was read, and what its next event is judged by.
@@ -28,19 +28,6 @@ use std::alloc::{AllocError, Global};
 pub struct Replay {
     pub history: History,
     pub legality: Legality,
-}
-
-// The operation that the plan of a process gives a step, or 0 where there is none.
-fn op_of(plans: &[Plan], process: u32, step: u16) -> u16
-    ensures { result ≡ op_of (courses_of plans.now) process step }
-{
-    let Some(plan) = plans.get((process as usize).saturating_sub(1)) else {
-        return 0;
-    };
-    match plan.ops.as_slice().get(usize::from(step)) {
-        Some(op) => *op,
-        None => 0,
-    }
 }
 
 // The numbers of an event fit their bytes.
@@ -168,7 +155,7 @@ impl Replay {
                 self.start(alloc, catalog, number, process, text.bytes())
             }
             Some(Record::Act(entry)) => {
-                let op = op_of(self.history.plans.as_slice(), entry.process, entry.step);
+                let op = planned_op(self.history.plans.as_slice(), entry.process, entry.step);
                 self.go_on(alloc, catalog, number, Event::Act(Entry { op, ..entry }))
             }
             Some(Record::End(process)) => self.go_on(alloc, catalog, number, Event::End(process)),

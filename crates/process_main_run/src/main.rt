@@ -1,4 +1,4 @@
-//! The program of `process_main`, whose stored run here is a `run` in a fresh folder.
+//! The program of `process_main`, whose stored run here is a `run` on files that `init` made.
 #![tactic(auto)]
 
 use process_program::program_of_system;

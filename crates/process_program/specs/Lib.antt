@@ -1,2 +1,4 @@
+pub mod Boxes
+pub mod Own
 pub mod Ends
 pub mod Words

@@ -1,14 +1,18 @@
 // A call of the program.
-ghost use Rattle.std.specs.Prelude.{◌≡◌, drop, map, string_bytes, IfOk};
+ghost use Rattle.std.specs.Prelude.{◌≡◌, drop, map, replicate, string_bytes, IfOk};
 ghost use Rattle.std.specs.Process.{exit_status};
 ghost use Rattle.std.specs.Vec.Iter.{into_iter_items, into_iter_len};
+ghost use Rattle.history_files.specs.Boxes.{AreBoxes};
 ghost use Rattle.process_program.specs.Ends.{EndsSo, world_over};
+ghost use Rattle.process_program.specs.Own.{boxes_of, empty_boxes};
 ghost use Rattle.process_program.specs.Words.{words_behind};
 
+use crate::own::{OwnBox, new_boxes, new_gates};
 use file_rack::{FileRack, Folder, SystemFolder};
 use process_flow::{Sink, Source, StdSink, StdSource};
 use process_top::{Finished, only_reads, top};
 use program_lines::Status;
+use resource_box::Resource;
 use std::alloc::{AllocError, Global};
 use std::env::Args;
 use std::fs::File;
@@ -16,6 +20,7 @@ use std::io::{Read, Write};
 use std::process::ExitCode;
 use std::rt::{Env, Files};
 use std::{env, io};
+use worker_gate::PlainGate;
 
 /// What a call of the program ends with, and the rack that it leaves.
 pub struct Ended<D: Folder + Drop> {
@@ -46,6 +51,30 @@ fn words(alloc: Global, args: io::Result<Args>) -> Result<Vec<String>, AllocErro
     }
 }
 
+// What a call works with: its words, its boxes and its gates.
+struct Ready {
+    words: Vec<String>,
+    resources: Vec<OwnBox>,
+    gates: Vec<PlainGate>,
+}
+
+// What a call works with, if there is memory for it.
+fn made_ready(alloc: Global, args: io::Result<Args>) -> Result<Ready, AllocError>
+    ensures words { IfOk result (λ r. map string_bytes r.words.items ≡ words_behind args) }
+    ensures kinds { IfOk result (λ r. AreBoxes ⟦<OwnBox as Resource>⟧.sort r.resources.items) }
+    ensures empty { IfOk result (λ r. boxes_of ⟦<OwnBox as Resource>⟧.sort ⟦<OwnBox as Resource>⟧.meaning r.resources.items ≡ empty_boxes) }
+    ensures gates { IfOk result (λ r. r.gates.items ≡ replicate 16 (record { refusals = 0 })) }
+{
+    let words = words(alloc, args)?;
+    let resources = new_boxes(alloc)?;
+    let gates = new_gates(alloc)?;
+    Ok(Ready {
+        words,
+        resources,
+        gates,
+    })
+}
+
 /// Answers the words behind the first over a source, a sink and the files of a folder, by the code that is the status.
 pub fn program<H, S: Source, K: Sink, D: Folder + Drop>(
     rt: &H,
@@ -58,15 +87,28 @@ pub fn program<H, S: Source, K: Sink, D: Folder + Drop>(
     // On these words, from this world to that one, the call ends with this number.
     ensures ends { EndsSo (words_behind args) (world_over S.Source K.Sink D.Folder source.old sink.old folder 0) (world_over S.Source K.Sink D.Folder source.new sink.new result.rack.folder result.rack.faults) (exit_status result.code) }
 {
-    let Ok(words) = words(alloc, args) else {
+    let Ok(ready) = made_ready(alloc, args) else {
         return Ended {
             code: ExitCode::from(Status::NoMemory.number()),
             rack: FileRack::over(folder, false),
         };
     };
+    let Ready {
+        words,
+        resources,
+        gates,
+    } = ready;
     // A rack that only reads takes no lock, and works on files that may only be read.
     let rack = FileRack::over(folder, !only_reads(&words));
-    let Finished { status, rack } = top(rt, alloc, &words, source, sink, rack);
+    let finished = top(rt, alloc, &words, source, sink, rack, resources, gates);
+    let Finished {
+        status,
+        rack,
+        resources,
+        gates,
+    } = finished;
+    drop(resources);
+    drop(gates);
     Ended {
         code: ExitCode::from(status),
         rack,

@@ -23,6 +23,3 @@ pub use laws::printed_reports_are_accepted;
 pub use lines::put_line;
 pub use names::step_name;
 pub use printing::{report, report_of};
-
-#[cfg(test)]
-mod tests;

@@ -1,1 +1,2 @@
 pub mod FilesMade
+pub mod MadeWell

@@ -1,17 +1,17 @@
-// The command `init`. No words ask for it yet.
-ghost use Rattle.std.specs.Prelude.{◌≡◌, true, false, IfOk, IfErr};
+// The command `init`.
+ghost use Rattle.std.specs.Prelude.{◌≡◌, ◌≤◌, true, false, IfOk, IfErr};
 ghost use Rattle.commute_table.specs.Operations.{IsCatalog};
 ghost use Rattle.history_files.specs.Boxes.{AreBoxes};
-ghost use Rattle.process_top.specs.Inputs.{input};
-ghost use Rattle.process_top.specs.FilesLeft.{files};
-ghost use Rattle.process_top.specs.Early.{comes_before_files};
+ghost use Rattle.command_input.specs.Inputs.{input};
+ghost use Rattle.command_input.specs.FilesLeft.{files};
+ghost use Rattle.command_input.specs.Early.{comes_before_files};
 ghost use Rattle.process_setup.specs.Init.{create_refusal, AreMade, AreNotMade, IsCatalogRead, IsCatalogRefused, IsInitDue, SaysCreated};
 
+use command_input::{Said, document_of, text_of};
 use commute_table::{Catalog, Scenario};
 use process_disk::Rack;
 use process_engine::{CreateError, Engine, Parts};
 use process_flow::Source;
-use process_top::{Said, document_of, text_of};
 use program_lines::{FileFault, Refusal, Status};
 use resource_box::Resource;
 use std::alloc::{AllocError, Global};
@@ -72,6 +72,7 @@ fn made<R: Rack + Drop, B: Resource>(
     ensures late { IfErr result.found (λ r. comes_before_files r ≡ false) }
     ensures back { AreBoxes B.sort result.parts.resources.items }
     ensures tells { (R.disk result.parts.rack).tells ≡ (R.disk parts.rack).tells }
+    ensures later { R.faults parts.rack ≤ R.faults result.parts.rack }
 {
     match Engine::create(alloc, parts, catalog) {
         Ok(engine) => InitEnd {
@@ -97,6 +98,7 @@ pub fn init<S: Source, R: Rack + Drop, B: Resource>(
     ensures early { IfErr result.found (λ r. comes_before_files r ≡ true → result.parts.rack ≡ parts.rack) }
     ensures back { AreBoxes B.sort result.parts.resources.items }
     ensures tells { (R.disk result.parts.rack).tells ≡ (R.disk parts.rack).tells }
+    ensures later { R.faults parts.rack ≤ R.faults result.parts.rack }
 {
     match catalog_of(alloc, source) {
         Ok((catalog, said)) => made(alloc, parts, catalog, said),

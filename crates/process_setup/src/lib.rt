@@ -1,5 +1,5 @@
-//! The command `init`: nine empty files become those of a scenario's catalog, in which nothing has happened (`specs/Init`). No words ask
-//! for it yet.
+//! The command `init`: nine empty files become those of a scenario's catalog, in which nothing has happened (`specs/Init`). The front
+//! door answers it beside the other commands.
 #![tactic(auto)]
 
 mod creating;

@@ -1,52 +1,9 @@
 // The command `check`.
-use process_disk::MemoryRack;
-use process_flow::{MemorySink, MemorySource};
-use process_top::{Finished, top};
+use crate::calls::{Call, answer_to, empty, expect, expect_call, plain_call};
 use std::alloc::{AllocError, Global};
-use std::process::Abort;
 use std::test::Fail;
 
-pub fn words_of(alloc: Global, words: &[&str]) -> Result<Vec<String>, AllocError> {
-    let mut list = Vec::new(alloc);
-    for word in words {
-        list.push(String::from_str(alloc, word)?)?;
-    }
-    Ok(list)
-}
-
-// The status of `top` over an empty rack.
-fn answered<H>(
-    rt: &H,
-    alloc: Global,
-    words: &[String],
-    source: &mut MemorySource,
-    sink: &mut MemorySink,
-) -> Result<u8, AllocError> {
-    let rack = MemoryRack::new(alloc, Vec::new(alloc))?;
-    let Finished { status, rack } = top(rt, alloc, words, source, sink, rack);
-    drop(rack);
-    Ok(status)
-}
-
-// Runs `top` on an input and compares the status and the whole output.
-pub fn expect<H: Abort>(
-    rt: &H,
-    alloc: Global,
-    words: &[&str],
-    text: &[u8],
-    status: u8,
-    output: &[u8],
-) -> Result<(), AllocError> {
-    let words = words_of(alloc, words)?;
-    let mut source = MemorySource::new(text.to_vec(alloc)?, Vec::new(alloc));
-    let mut sink = MemorySink::new(alloc, Vec::new(alloc));
-    assert_eq!(rt;
-        answered(rt, alloc, &words, &mut source, &mut sink)?,
-        status
-    );
-    assert_eq!(rt; sink.bytes(), output);
-    Ok(())
-}
+const CHECK: &[&str] = &["check"];
 
 const ROWS: [(&[u8], u8, &[u8]); 27] = [
     (b"process a c x add 1 5 end", 0, b"a: well-formed\n"),
@@ -173,19 +130,72 @@ const ROWS: [(&[u8], u8, &[u8]); 27] = [
 
 #[test]
 fn texts_are_checked(rt: HostRuntime) -> Result<(), Fail> {
-    for (text, status, output) in ROWS {
-        expect(&rt, rt.alloc(), &["check"], text, status, output)?;
+    for (text, status, output) in &ROWS {
+        expect(&rt, rt.alloc(), CHECK, text, *status, output)?;
     }
     Ok(())
 }
 
-const BAD_WORDS: [&[&str]; 3] = [&[], &["chec"], &["check", "check"]];
+const TEXT: &[u8] = b"process a c x add 1 5 end";
+
+const CALLS: [(Call<'static>, u8, &[u8]); 5] = [
+    (
+        Call {
+            words: &[],
+            text: TEXT,
+            reads: &[],
+            writes: &[],
+        },
+        1,
+        b"bad words\n",
+    ),
+    (
+        Call {
+            words: &["chec"],
+            text: TEXT,
+            reads: &[],
+            writes: &[],
+        },
+        1,
+        b"bad words\n",
+    ),
+    (
+        Call {
+            words: &["check", "check"],
+            text: TEXT,
+            reads: &[],
+            writes: &[],
+        },
+        1,
+        b"bad words\n",
+    ),
+    (
+        Call {
+            words: CHECK,
+            text: TEXT,
+            reads: &[0],
+            writes: &[],
+        },
+        8,
+        b"read fault\n",
+    ),
+    (
+        Call {
+            words: CHECK,
+            text: TEXT,
+            reads: &[],
+            writes: &[0],
+        },
+        9,
+        b"",
+    ),
+];
 
 #[test]
-fn other_words_are_bad(rt: HostRuntime) -> Result<(), Fail> {
-    let text = b"process a c x add 1 5 end";
-    for words in BAD_WORDS {
-        expect(&rt, rt.alloc(), words, text, 1, b"bad words\n")?;
+fn other_words_are_bad_and_faults_are_told(rt: HostRuntime) -> Result<(), Fail> {
+    for (call, status, output) in &CALLS {
+        let rack = empty(rt.alloc(), &[])?;
+        drop(expect_call(&rt, rt.alloc(), *call, rack, *status, output)?);
     }
     Ok(())
 }
@@ -221,17 +231,15 @@ fn blanks(alloc: Global, count: usize) -> Result<Vec<u8>, AllocError> {
     vec![in alloc; b' '; count]
 }
 
+const COUNTS: [(u32, u32, u8); 4] = [(256, 1, 0), (257, 1, 4), (1, 256, 0), (1, 257, 4)];
+
 #[test]
 fn limits_are_kept(rt: HostRuntime) -> Result<(), Fail> {
     let alloc = rt.alloc();
-    let words = words_of(alloc, &["check"])?;
-    for (count, steps, status) in [(256, 1, 0), (257, 1, 4), (1, 256, 0), (1, 257, 4)] {
-        let mut source = MemorySource::new(many(alloc, count, steps)?, Vec::new(alloc));
-        let mut sink = MemorySink::new(alloc, Vec::new(alloc));
-        assert_eq!(rt;
-            answered(&rt, alloc, &words, &mut source, &mut sink)?,
-            status
-        );
+    for (count, steps, status) in &COUNTS {
+        let text = many(alloc, *count, *steps)?;
+        let told = answer_to(&rt, alloc, plain_call(CHECK, &text), empty(alloc, &[])?)?;
+        assert_eq!(rt; told.status, *status);
     }
     Ok(())
 }
@@ -249,29 +257,13 @@ const LENGTHS: [(usize, u8, &[u8]); 2] = [
 #[test]
 fn choices_and_bytes_are_limited(rt: HostRuntime) -> Result<(), Fail> {
     let alloc = rt.alloc();
-    for (depth, status, output) in DEPTHS {
-        let text = nested(alloc, depth)?;
-        expect(&rt, alloc, &["check"], &text, status, output)?;
+    for (depth, status, output) in &DEPTHS {
+        let text = nested(alloc, *depth)?;
+        expect(&rt, alloc, CHECK, &text, *status, output)?;
     }
-    for (length, status, output) in LENGTHS {
-        let text = blanks(alloc, length)?;
-        expect(&rt, alloc, &["check"], &text, status, output)?;
+    for (length, status, output) in &LENGTHS {
+        let text = blanks(alloc, *length)?;
+        expect(&rt, alloc, CHECK, &text, *status, output)?;
     }
-    Ok(())
-}
-
-#[test]
-fn faults_are_told(rt: HostRuntime) -> Result<(), Fail> {
-    let alloc = rt.alloc();
-    let words = words_of(alloc, &["check"])?;
-    let text = b"process a c x add 1 5 end";
-    let mut source = MemorySource::new(text.to_vec(alloc)?, vec![in alloc; 0]?);
-    let mut sink = MemorySink::new(alloc, Vec::new(alloc));
-    assert_eq!(rt; answered(&rt, alloc, &words, &mut source, &mut sink)?, 8);
-    assert_eq!(rt; sink.bytes(), b"read fault\n".as_slice());
-    let mut source = MemorySource::new(text.to_vec(alloc)?, Vec::new(alloc));
-    let mut sink = MemorySink::new(alloc, vec![in alloc; 0]?);
-    assert_eq!(rt; answered(&rt, alloc, &words, &mut source, &mut sink)?, 9);
-    assert_eq!(rt; sink.bytes(), b"".as_slice());
     Ok(())
 }

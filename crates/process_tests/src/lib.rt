@@ -2,11 +2,21 @@
 #![tactic(auto)]
 
 #[cfg(test)]
+mod calls;
+#[cfg(test)]
 mod check;
+#[cfg(test)]
+mod init;
+#[cfg(test)]
+mod plays;
 #[cfg(test)]
 mod program;
 #[cfg(test)]
-mod run;
+mod refusals;
+#[cfg(test)]
+mod runs;
+#[cfg(test)]
+mod sessions;
 #[cfg(test)]
 mod show;
 #[cfg(test)]

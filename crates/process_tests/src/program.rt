@@ -1,7 +1,8 @@
 // The program over real files, and over a folder in memory.
-use crate::check::words_of;
-use crate::run::{JOURNAL, TEXT};
-use crate::show::{LINES, SHOWN};
+use crate::calls::words_of;
+use crate::init::{ADD_ALONE, MADE, NOTHING};
+use crate::runs::{TEXT, TWO_STEPS_KEPT};
+use crate::show::SHOWN;
 use file_rack::{FileRack, Folder, MemoryFolder, SystemFolder};
 use gate_log::Log;
 use process_disk::{MemoryRack, Rack};
@@ -9,7 +10,8 @@ use process_flow::{MemorySink, MemorySource};
 use process_program::{Ended, program};
 use std::alloc::Global;
 use std::fmt::Write;
-use std::process::Abort;
+use std::fs::File;
+use std::process::{Abort, ExitCode};
 use std::rt::{Env, Files};
 use std::test::Fail;
 use std::{env, fs, io};
@@ -27,134 +29,232 @@ fn leave<R: Files + Env + Alloc>(rt: &R, name: &str) -> io::Result<()> {
     fs::remove_dir_all(rt, name)
 }
 
-// What the program says to a word and a text over a folder, and the rack that it leaves.
-fn said<H: Abort, D: Folder + Drop>(
-    rt: &H,
-    alloc: Global,
-    word: &str,
-    text: &[u8],
-    folder: D,
+// A word and an input for the program, its exit code and its output.
+#[derive(Clone, Copy, Drop)]
+struct Call<'a> {
+    word: &'a str,
+    text: &'a [u8],
     code: u8,
-    output: &[u8],
-) -> Result<FileRack<D>, Fail> {
-    let args = words_of(alloc, &["tps", word])?.into_iter();
-    let mut source = MemorySource::new(text.to_vec(alloc)?, Vec::new(alloc));
-    let mut sink = MemorySink::new(alloc, Vec::new(alloc));
-    let ended = program(rt, alloc, Ok(args), &mut source, &mut sink, folder);
-    let Ended { code: told, rack } = ended;
+    output: &'a [u8],
+}
+
+// The code is this.
+fn expect_code(rt: &impl Abort, alloc: Global, found: ExitCode, code: u8) -> Result<(), Fail> {
     let mut shown = String::new(alloc);
-    write!(shown, "{told:?}")?;
+    write!(shown, "{found:?}")?;
     let mut wanted = String::new(alloc);
     write!(wanted, "ExitCode(unix_exit_status({code}))")?;
     assert_eq!(rt; shown.as_str(), wanted.as_str());
-    assert_eq!(rt; sink.bytes(), output);
+    Ok(())
+}
+
+// The program answers so over a folder. The answer is the rack that it leaves.
+fn expect_on<H: Abort, D: Folder + Drop>(
+    rt: &H,
+    alloc: Global,
+    call: Call<'_>,
+    folder: D,
+) -> Result<FileRack<D>, Fail> {
+    let args = words_of(alloc, &["tps", call.word])?.into_iter();
+    let mut source = MemorySource::new(call.text.to_vec(alloc)?, Vec::new(alloc));
+    let mut sink = MemorySink::new(alloc, Vec::new(alloc));
+    let Ended { code, rack } = program(rt, alloc, Ok(args), &mut source, &mut sink, folder);
+    expect_code(rt, alloc, code, call.code)?;
+    assert_eq!(rt; sink.bytes(), call.output);
     Ok(rack)
 }
 
+// The program answers so over the files of the current folder, call by call.
+fn expect_all<'a, R: Files<File = File> + Alloc + Abort>(
+    rt: &'a R,
+    alloc: Global,
+    calls: &[Call<'_>],
+) -> Result<(), Fail> {
+    for call in calls {
+        let rack = expect_on(rt, alloc, *call, SystemFolder::new(rt))?;
+        drop(rack);
+    }
+    Ok(())
+}
+
+const RUN: Call<'static> = Call {
+    word: "run",
+    text: TEXT,
+    code: 0,
+    output: SHOWN,
+};
+
+const SHOW: Call<'static> = Call {
+    word: "show",
+    text: b"",
+    code: 0,
+    output: SHOWN,
+};
+
+// Calls that write nothing.
+const IN_VAIN: [Call<'static>; 2] = [
+    Call {
+        word: "show",
+        text: b"",
+        code: 6,
+        output: b"bad header file 0\n",
+    },
+    Call {
+        word: "run",
+        text: b"version = 1\nprocesses = \"process a c x add 1\"\n",
+        code: 2,
+        output: b"bad text at line 1 column 20: expected amount\n",
+    },
+];
+
+// The files of that scenario are made.
+const MAKE_TEXT: Call<'static> = Call {
+    word: "init",
+    text: TEXT,
+    code: 0,
+    output: b"created\n",
+};
+
 #[test]
-fn what_is_run_on_real_files_is_shown_and_not_run_over(rt: HostRuntime) -> Result<(), Fail> {
+fn what_is_run_on_real_files_is_shown(rt: HostRuntime) -> Result<(), Fail> {
     let alloc = rt.alloc();
     fresh_folder(&rt, "run")?;
-    let odd = b"process a c x add 1";
-    let fault = b"bad text at line 1 column 20: expected amount\n";
-    drop(said(
-        &rt,
-        alloc,
-        "show",
-        b"",
-        SystemFolder::new(&rt),
-        6,
-        b"bad header file 0\n",
-    )?);
-    drop(said(&rt, alloc, "run", odd, SystemFolder::new(&rt), 2, fault)?);
+    expect_all(&rt, alloc, &IN_VAIN)?;
     assert!(rt; !fs::exists(&rt, "tps.0")?);
-    drop(said(&rt, alloc, "run", TEXT, SystemFolder::new(&rt), 0, LINES)?);
-    drop(said(&rt, alloc, "show", b"", SystemFolder::new(&rt), 0, SHOWN)?);
-    drop(said(
-        &rt,
-        alloc,
-        "run",
-        TEXT,
-        SystemFolder::new(&rt),
-        6,
-        b"not empty file 0\n",
-    )?);
+    expect_all(&rt, alloc, &[MAKE_TEXT, RUN, SHOW])?;
     let written = fs::read(&rt, "tps.0")?;
-    assert_eq!(rt; written.as_slice(), JOURNAL);
-    assert!(rt; !fs::exists(&rt, "tps.1")?);
+    assert_eq!(rt; written.as_slice(), TWO_STEPS_KEPT);
     leave(&rt, "run")?;
     Ok(())
 }
+
+const MAKE: Call<'static> = Call {
+    word: "init",
+    text: ADD_ALONE,
+    code: 0,
+    output: b"created\n",
+};
+
+// What was made is shown, and not made again.
+const BEHIND_MAKE: [Call<'static>; 2] = [
+    Call {
+        word: "show",
+        text: b"",
+        code: 0,
+        output: NOTHING,
+    },
+    Call {
+        word: "init",
+        text: ADD_ALONE,
+        code: 6,
+        output: b"not empty file 0\n",
+    },
+];
+
+#[test]
+fn what_is_made_of_real_files_is_shown_and_not_made_again(rt: HostRuntime) -> Result<(), Fail> {
+    let alloc = rt.alloc();
+    fresh_folder(&rt, "init")?;
+    expect_all(&rt, alloc, &[MAKE])?;
+    let written = fs::read(&rt, "tps.0")?;
+    assert_eq!(rt; written.as_slice(), MADE);
+    let written = fs::read(&rt, "tps.8")?;
+    assert_eq!(rt; written.as_slice(), b"tpsl\x01\x08\x00\x00\x00".as_slice());
+    expect_all(&rt, alloc, &BEHIND_MAKE)?;
+    leave(&rt, "init")?;
+    Ok(())
+}
+
+// Calls while another program has the folder, which has made its log.
+const BESIDE: [Call<'static>; 2] = [
+    Call {
+        word: "run",
+        text: TEXT,
+        code: 10,
+        output: b"disk fault\n",
+    },
+    Call {
+        word: "show",
+        text: b"",
+        code: 6,
+        output: b"bad record file 0 at 1\n",
+    },
+];
+
+// A file 0 that is the log of something else.
+const RUN_ON_ANOTHER_LOG: Call<'static> = Call {
+    word: "run",
+    text: TEXT,
+    code: 6,
+    output: b"bad record file 0 at 1\n",
+};
 
 #[test]
 fn a_second_program_on_the_folder_changes_nothing(rt: HostRuntime) -> Result<(), Fail> {
     let alloc = rt.alloc();
     fresh_folder(&rt, "second")?;
-    // The first works: it has taken the folder, and has made its log.
     let mut first = FileRack::new(&rt);
     let mut log = Log::create(alloc, &mut first, 0)?;
     let before = fs::read(&rt, "tps.0")?;
-    drop(said(
-        &rt,
-        alloc,
-        "run",
-        TEXT,
-        SystemFolder::new(&rt),
-        10,
-        b"disk fault\n",
-    )?);
-    drop(said(
-        &rt,
-        alloc,
-        "show",
-        b"",
-        SystemFolder::new(&rt),
-        6,
-        b"bad record file 0 at 1\n",
-    )?);
+    expect_all(&rt, alloc, &BESIDE)?;
     let after = fs::read(&rt, "tps.0")?;
     assert_eq!(rt; after.as_slice(), before.as_slice());
     log.append(&mut first, b"first")?;
     drop(first);
-    drop(said(
-        &rt,
-        alloc,
-        "run",
-        TEXT,
-        SystemFolder::new(&rt),
-        6,
-        b"not empty file 0\n",
-    )?);
+    expect_all(&rt, alloc, &[RUN_ON_ANOTHER_LOG])?;
     leave(&rt, "second")?;
+    Ok(())
+}
+
+// A run in which so many bytes go in a transfer at most writes the same journal.
+fn expect_journal(rt: &impl Abort, alloc: Global, most: u8) -> Result<(), Fail> {
+    let rack = MemoryRack::new(alloc, Vec::new(alloc))?;
+    let made = expect_on(rt, alloc, MAKE_TEXT, MemoryFolder::new(rack, most))?;
+    let mut rack = expect_on(rt, alloc, RUN, made.folder)?;
+    let mut bytes = [0; 100];
+    assert_eq!(rt; rack.read(0, 0, &mut bytes), Ok(99));
+    assert_eq!(rt; &bytes[..99], TWO_STEPS_KEPT);
+    let shown = expect_on(rt, alloc, SHOW, rack.folder)?;
+    drop(shown);
     Ok(())
 }
 
 #[test]
 fn short_transfers_write_the_same_journal(rt: HostRuntime) -> Result<(), Fail> {
-    let alloc = rt.alloc();
     for most in [1, 4, 255] {
-        let rack = MemoryRack::new(alloc, Vec::new(alloc))?;
-        let folder = MemoryFolder::new(rack, most);
-        let mut rack = said(&rt, alloc, "run", TEXT, folder, 0, LINES)?;
-        let mut bytes = [0; 100];
-        assert_eq!(rt; rack.read(0, 0, &mut bytes), Ok(99));
-        assert_eq!(rt; &bytes[..99], JOURNAL);
-        // The first of the eleven syncs was of all nine files, and one of the names.
-        assert_eq!(rt; rack.folder.syncs, [11, 1, 1, 1, 1, 1, 1, 1, 1, 11]);
-        let shown = said(&rt, alloc, "show", b"", rack.folder, 0, SHOWN)?;
-        drop(shown);
+        expect_journal(&rt, rt.alloc(), most)?;
     }
     Ok(())
+}
+
+// A run on a disk that fails.
+const FAILED: Call<'static> = Call {
+    word: "run",
+    text: TEXT,
+    code: 10,
+    output: b"disk fault\n",
+};
+
+// The rack after a run, of which these calls fail.
+fn run_over(
+    rt: &impl Abort,
+    alloc: Global,
+    fails: &[u32],
+    run: Call<'_>,
+) -> Result<FileRack<MemoryFolder>, Fail> {
+    let rack = MemoryRack::new(alloc, fails.to_vec(alloc)?)?;
+    let made = expect_on(rt, alloc, MAKE_TEXT, MemoryFolder::new(rack, 255))?;
+    expect_on(rt, alloc, run, made.folder)
 }
 
 #[test]
 fn a_failed_sync_ends_a_run(rt: HostRuntime) -> Result<(), Fail> {
     let alloc = rt.alloc();
-    // The length, the header, nine syncs, and one write: then the sync of file 0.
-    let rack = MemoryRack::new(alloc, vec![in alloc; 12]?)?;
-    let folder = MemoryFolder::new(rack, 255);
-    let rack = said(&rt, alloc, "run", TEXT, folder, 10, b"disk fault\n")?;
+    let whole = run_over(&rt, alloc, &[], RUN)?;
+    // The last call syncs the record of the end.
+    let calls = whole.folder.rack.calls();
+    let rack = run_over(&rt, alloc, &[(calls as u32).wrapping_sub(1)], FAILED)?;
     assert!(rt; rack.broken);
-    assert_eq!(rt; rack.folder.rack.calls(), 13);
+    assert_eq!(rt; rack.folder.rack.calls(), calls);
     Ok(())
 }

@@ -1,10 +1,8 @@
 // The command `show`.
-use crate::check::words_of;
-use crate::run::{TEXT, run_on};
+use crate::calls::{answer_to, empty, expect_on, plain_call};
+use crate::runs::TEXT;
 use process_disk::{MemoryRack, Rack};
-use process_flow::{MemorySink, MemorySource};
-use process_top::{Finished, top};
-use std::alloc::Global;
+use std::alloc::{AllocError, Global};
 use std::process::Abort;
 use std::test::Fail;
 
@@ -15,21 +13,18 @@ fn show_on<H: Abort>(
     rack: MemoryRack,
     status: u8,
     output: &[u8],
-) -> Result<MemoryRack, Fail> {
-    let words = words_of(alloc, &["show"])?;
-    let mut source = MemorySource::new(Vec::new(alloc), Vec::new(alloc));
-    let mut sink = MemorySink::new(alloc, Vec::new(alloc));
-    let finished = top(rt, alloc, &words, &mut source, &mut sink, rack);
-    let Finished { status: told, rack } = finished;
-    assert_eq!(rt; told, status);
-    assert_eq!(rt; sink.bytes(), output);
-    Ok(rack)
+) -> Result<MemoryRack, AllocError> {
+    expect_on(rt, alloc, &["show"], b"", rack, status, output)
 }
 
-// What a run prints.
-pub const LINES: &[u8] = b"start 1 a\ndo 1.x add\ndo 1.y add\nend 1\n";
+// A rack on which that scenario was run.
+fn run_before<H: Abort>(rt: &H, alloc: Global) -> Result<MemoryRack, AllocError> {
+    let rack = empty(alloc, &[])?;
+    let rack = expect_on(rt, alloc, &["init"], TEXT, rack, 0, b"created\n")?;
+    expect_on(rt, alloc, &["run"], TEXT, rack, 0, SHOWN)
+}
 
-// What is shown of that run.
+// What is printed and shown of that run.
 pub const SHOWN: &[u8] =
     b"conflicts\nhistory\nstart 1 a\ndo 1.x add\ndo 1.y add\nend 1\ncompletion\nends\n\
     1 a path x y\ncauses\ntrace\nserial\ndo 1.x add\ndo 1.y add\n";
@@ -50,22 +45,13 @@ const TWO_STEPS: &[u8] = b"conflicts\nhistory\nstart 1 a\ndo 1.x add\ndo 1.y add
     completion\nundo 1.y add\nundo 1.x add\nend 1\nends\n\
     1 a active\ncauses\ntrace\ncancel 2\ncancel 1\nserial\n";
 
-const TOLD: [&[u8]; 6] = [
-    b"bad record file 0 at 1\n",
-    b"conflicts\nhistory\ncompletion\nends\ncauses\ntrace\nserial\n",
-    b"conflicts\nhistory\nstart 1 a\ncompletion\nend 1\nends\n1 a active\ncauses\ntrace\nserial\n",
-    b"conflicts\nhistory\nstart 1 a\ndo 1.x add\ncompletion\nundo 1.x add\nend 1\nends\n\
-    1 a active\ncauses\ntrace\ncancel 1\nserial\n",
-    b"conflicts\nhistory\nstart 1 a\ndo 1.x add\ndo 1.y add\ncompletion\nundo 1.y add\nundo 1.x add\nend 1\nends\n\
-    1 a active\ncauses\ntrace\ncancel 2\ncancel 1\nserial\n",
-    SHOWN,
-];
+// What a stop of a run may leave: its beginnings.
+const BEGINNINGS: [&[u8]; 5] = [CATALOG_ALONE, STARTED, ONE_STEP, TWO_STEPS, SHOWN];
 
 #[test]
 fn what_was_run_is_shown(rt: HostRuntime) -> Result<(), Fail> {
     let alloc = rt.alloc();
-    let rack = MemoryRack::new(alloc, Vec::new(alloc))?;
-    let rack = run_on(&rt, alloc, TEXT, rack, 0, LINES)?;
+    let rack = run_before(&rt, alloc)?;
     let rack = show_on(&rt, alloc, rack, 0, SHOWN)?;
     let rack = show_on(&rt, alloc, rack, 0, SHOWN)?;
     drop(rack);
@@ -186,74 +172,47 @@ fn a_file_that_is_no_log_is_refused(rt: HostRuntime) -> Result<(), Fail> {
     Ok(())
 }
 
-// How many calls create the log: the length, the header and its sync.
-const CREATED: u32 = 3;
-
-// A stop within a call before the log is there, and what is told of it.
-const BEFORE: [(u32, u32, u8, u8, &[u8]); 8] = [
-    (0, 0, 0x07, 6, b"bad header file 0\n"),
-    (1, 0, 0x00, 6, b"bad header file 0\n"),
-    (1, 7, 0xff, 6, b"bad header file 0\n"),
-    (1, 8, 0x00, 6, b"bad record file 0 at 1\n"),
-    (1, 8, 0xff, 6, b"bad record file 0 at 1\n"),
-    (2, 1, 0x07, 6, b"bad header file 0\n"),
-    (2, 8, 0x07, 6, b"bad record file 0 at 1\n"),
-    (2, 9, 0xff, 6, b"bad record file 0 at 1\n"),
-];
-
-#[test]
-fn a_stop_before_the_first_record_leaves_no_history(rt: HostRuntime) -> Result<(), Fail> {
-    let alloc = rt.alloc();
-    let rack = MemoryRack::new(alloc, Vec::new(alloc))?;
-    let whole = run_on(&rt, alloc, TEXT, rack, 0, LINES)?;
-    for (call, keep, fill, status, output) in BEFORE {
-        assert!(rt; u64::from(call) < whole.calls());
-        let left = whole.stopped(alloc, call, keep, fill)?;
-        let left = show_on(&rt, alloc, left, status, output)?;
-        drop(left);
-    }
-    Ok(())
-}
-
-// How many records a stop leaves, where these many calls were made: two writes and two syncs append one.
-fn kept_by(call: u32) -> usize {
-    (call.saturating_sub(CREATED) / 4) as usize
+// What is shown of what a stop leaves.
+fn shown_after<H: Abort>(
+    rt: &H,
+    alloc: Global,
+    whole: &MemoryRack,
+    stop: (u32, u32, u8),
+) -> Result<Vec<u8>, Fail> {
+    let (call, keep, fill) = stop;
+    assert!(rt; u64::from(call) < whole.calls());
+    let left = whole.stopped(alloc, call, keep, fill)?;
+    let told = answer_to(rt, alloc, plain_call(&["show"], b""), left)?;
+    assert_eq!(rt; told.status, 0);
+    Ok(told.sink.bytes().to_vec(alloc)?)
 }
 
 #[test]
 fn a_stop_leaves_a_beginning_of_the_history(rt: HostRuntime) -> Result<(), Fail> {
     let alloc = rt.alloc();
     let rack = MemoryRack::new(alloc, Vec::new(alloc))?;
-    let whole = run_on(&rt, alloc, TEXT, rack, 0, LINES)?;
-    let words = words_of(alloc, &["show"])?;
-    assert_eq!(rt; whole.calls(), 23);
-    for call in CREATED..23 {
-        for (keep, fill) in [
-            (0, 0x00),
-            (0, 0x07),
-            (0, 0xff),
-            (1, 0x00),
-            (1, 0x07),
-            (1, 0xff),
-            (2, 0x00),
-            (2, 0x07),
-            (2, 0xff),
-        ] {
-            assert!(rt; u64::from(call) < whole.calls());
-            let left = whole.stopped(alloc, call, keep, fill)?;
-            let mut source = MemorySource::new(Vec::new(alloc), Vec::new(alloc));
-            let mut sink = MemorySink::new(alloc, Vec::new(alloc));
-            let finished = top(&rt, alloc, &words, &mut source, &mut sink, left);
-            let Finished { status, rack } = finished;
-            drop(rack);
-            // The records that were acknowledged, or one more.
-            let kept = kept_by(call);
-            assert!(rt; kept < 5);
-            let shown = sink.bytes();
-            let fewer = status == (if kept == 0 { 6 } else { 0 }) && shown == TOLD[kept];
-            let more = status == 0 && shown == TOLD[kept + 1];
-            assert!(rt; fewer || more, "within call {call}");
+    let made = expect_on(&rt, alloc, &["init"], TEXT, rack, 0, b"created\n")?;
+    let first = made.calls() as u32;
+    let whole = run_before(&rt, alloc)?;
+    let last = whole.calls() as u32;
+    // How many records stand where the call under way leaves nothing; they never get fewer, and another stop within it leaves one more
+    // at most.
+    let mut kept = 0;
+    for call in first..last {
+        let none = shown_after(&rt, alloc, &whole, (call, 0, 0x00))?;
+        if kept < 4 && none.as_slice() != BEGINNINGS[kept] {
+            kept += 1;
+        }
+        assert_eq!(rt; none.as_slice(), BEGINNINGS[kept]);
+        for (keep, fill) in [(0, 0x07), (0, 0xff), (1, 0x00), (1, 0xff), (2, 0x07)] {
+            let shown = shown_after(&rt, alloc, &whole, (call, keep, fill))?;
+            let more = kept < 4 && shown.as_slice() == BEGINNINGS[kept + 1];
+            assert!(rt;
+                more || shown.as_slice() == BEGINNINGS[kept],
+                "within call {call}"
+            );
         }
     }
+    assert_eq!(rt; kept, 3);
     Ok(())
 }

@@ -1,62 +1,91 @@
 -- What was said on words and told is an answer to them.
-use Rattle.std.proofs.Common.{◌≡◌, ℕ, List, true, false, Result, Ok, Err, IfErr, subst, inl, inr}
+use Rattle.std.proofs.Common.{◌≡◌, ℕ, List, Bool, true, false, Option, Some, None, Result, Ok, Err, IfOk, IfErr, refl, sym, subst, ◌∙◌, inl, inr}
 use Rattle.program_words.specs.Commands.{asked}
+use Rattle.program_words.specs.declared.reading.Command.{Command}
 use Rattle.program_lines.specs.Statuses.{number_of}
 use Rattle.program_lines.specs.declared.status.Status.{Status}
+use Rattle.program_lines.specs.declared.status.Status.TheVariants as statuses
 use Rattle.program_lines.specs.declared.refusal.Refusal.{Refusal}
-use Rattle.program_lines.specs.declared.refusal.Refusal.TheVariants.{NoMemory}
-use Rattle.process_top.specs.declared.told.Said.{Said}
-use Rattle.process_top.specs.Early.{comes_before_files}
+use Rattle.command_input.specs.declared.said.Said.{Said}
+use Rattle.command_input.specs.Early.{comes_before_files}
 use Rattle.process_top.specs.Worlds.{World}
-use Rattle.process_top.specs.FilesLeft.{AreLeft}
-use Rattle.process_top.specs.Replies.{Reply, checked, ran, shown, accepted, refused, is_refused, status_of, text_of}
-use Rattle.process_top.specs.Told.{IsTold, IsRefusalTold}
-use Rattle.process_top.specs.Said.{Says, IsResultTold}
-use Rattle.process_top.specs.Commands.{uses_files, reads_input, is_early, IsDueTo, Answers}
-use Rattle.process_top.proofs.Due.{no_memory_due}
-use Rattle.process_top.proofs.Complete.{done_by}
+use Rattle.history_files.specs.Boxes.{AreBoxes}
+use Rattle.command_input.specs.FilesLeft.{AreLeft}
+use Rattle.process_top.specs.Replies.{Reply, checked, created, ended, shown, accepted, refused, is_refused, status_of, text_of, IsReplyTold}
+use Rattle.process_top.specs.Told.{Output, IsTold}
+use Rattle.process_top.specs.Said.{Says, HasWorked, IsResultTold}
+use Rattle.process_top.specs.Run.{first_gate}
+use Rattle.process_top.specs.Commands.{uses_files, uses_boxes, asks_gate, reads_input, is_early, is_verdict, AreOthersAsBefore, IsDueTo, Answers}
+use Rattle.process_top.proofs.Complete.{Worked, done_or_wanting, worked_by}
 
-module _ {S K R : Type 0} (words : List (List ℕ)) (before after : World S K R) (number : ℕ) (ended : Status) (numbered : number ≡ number_of ended) (left : AreLeft before.files after.files)
-    (untouched : uses_files (asked words) ≡ false → after.rack ≡ before.rack) (unread : reads_input (asked words) ≡ false → after.source ≡ before.source) where
+-- the one status of verdicts
+verdict_is : (s : Status) → is_verdict s ≡ true → s ≡ statuses.IllFormed
+verdict_is statuses.Done is = absurd (cc)
+verdict_is statuses.BadWords is = absurd (cc)
+verdict_is statuses.BadInput is = absurd (cc)
+verdict_is statuses.IllFormed is = refl
+verdict_is statuses.Limit is = absurd (cc)
+verdict_is statuses.Unfinished is = absurd (cc)
+verdict_is statuses.BadFile is = absurd (cc)
+verdict_is statuses.BookDiffers is = absurd (cc)
+verdict_is statuses.ReadFault is = absurd (cc)
+verdict_is statuses.WriteFault is = absurd (cc)
+verdict_is statuses.DiskFault is = absurd (cc)
+verdict_is statuses.Exhausted is = absurd (cc)
+verdict_is statuses.NotReduced is = absurd (cc)
+verdict_is statuses.NoMemory is = absurd (cc)
+
+-- a reply that is no refusal was told as its text and its status
+said_told : (reply : Reply) (said : Said) (old new : Output) (at : Status) → is_refused reply ≡ false → said.text.items ≡ text_of reply → said.status ≡ status_of reply
+    → IsTold said.status said.text.items old new at → IsReplyTold reply old new at
+said_told reply said old new at isnt text status told = by_reply reply isnt
+    (subst (λ (t : List ℕ). IsTold (status_of reply) t old new at) text (subst (λ (s : Status). IsTold s said.text.items old new at) status told))
+  where
+    by_reply : (reply : Reply) → is_refused reply ≡ false → IsTold (status_of reply) (text_of reply) old new at → IsReplyTold reply old new at
+    by_reply (checked ps vs) isnt told = told
+    by_reply created isnt told = told
+    by_reply (ended s) isnt told = told
+    by_reply (shown c h) isnt told = told
+    by_reply accepted isnt told = told
+    by_reply (refused r) isnt told = absurd (cc)
+
+module _ {S K R : Type 0} (words : List (List ℕ)) (before after : World S K R) (number : ℕ) (at : Status) (numbered : number ≡ number_of at) (left : AreLeft before.files after.files)
+    (boxes : AreBoxes (λ b. b.kind) after.boxes) (kept : uses_boxes (asked words) ≡ false → after.boxes ≡ before.boxes) (gates : AreOthersAsBefore before.gates after.gates)
+    (unasked : asks_gate (asked words) ≡ false → after.gates ≡ before.gates) (untouched : uses_files (asked words) ≡ false → after.rack ≡ before.rack)
+    (unread : reads_input (asked words) ≡ false → after.source ≡ before.source) where
   -- a reply that was due and told
-  answered_by : (reply : Reply) → IsDueTo (asked words) before.input after.input before.files after.files reply → IsTold (status_of reply) (text_of reply) before.output after.output ended
-      → (is_early reply ≡ true → after.rack ≡ before.rack) → Answers words before after number
-  answered_by reply due told early = record {
-    status = ended;
+  answered_by : (reply : Reply) → IsDueTo (asked words) (first_gate before.gates after.gates) before.input after.input before.files after.files reply → IsReplyTold reply before.output after.output at
+      → Worked (asked words) before after at → (is_early reply ≡ true → after.rack ≡ before.rack) → Answers words before after number
+  answered_by reply due told worked early = record {
+    status = at;
     numbered = numbered;
     reply = reply;
     due = due;
     told = told;
-    complete = λ quiet. done_by (asked words) before after ended reply due told quiet;
+    complete = λ quiet. done_or_wanting (asked words) (first_gate before.gates after.gates) before after at reply due told worked quiet;
     left = left;
+    boxes = boxes;
+    kept = kept;
+    gates = gates;
+    unasked = unasked;
     untouched = untouched;
     unread = unread;
     early = early;
   }
 
-  not_early : (reply : Reply) → is_refused reply ≡ false → is_early reply ≡ true → after.rack ≡ before.rack
-  not_early (checked ps vs) isnt early = absurd (cc)
-  not_early (ran p) isnt early = absurd (cc)
-  not_early (shown c h) isnt early = absurd (cc)
-  not_early accepted isnt early = absurd (cc)
-  not_early (refused r) isnt early = absurd (cc)
+  said_early : (reply : Reply) (s : Status) → is_refused reply ≡ false → s ≡ status_of reply → (s ≡ statuses.IllFormed → after.rack ≡ before.rack) → is_early reply ≡ true → after.rack ≡ before.rack
+  said_early (checked ps vs) s isnt is same early = absurd (cc)
+  said_early created s isnt is same early = absurd (cc)
+  said_early (ended said) s isnt is same early = same (is ∙ verdict_is said.status early)
+  said_early (shown c h) s isnt is same early = absurd (cc)
+  said_early accepted s isnt is same early = absurd (cc)
+  said_early (refused r) s isnt is same early = absurd (cc)
 
-  said_is_answered : (said : Said) → Says (IsDueTo (asked words) before.input after.input before.files after.files) (Ok said) → IsTold said.status said.text.items before.output after.output ended
-      → Answers words before after number
-  said_is_answered said says told =
-      answered_by says.0 says.2
-      (subst (λ (text : List ℕ). IsTold (status_of says.0) text before.output after.output ended) says.3
-      (subst (λ (status : Status). IsTold status said.text.items before.output after.output ended) says.4 told))
-      (not_early says.0 says.1)
-
-  refused_is_answered : (r : Refusal) → IsDueTo (asked words) before.input after.input before.files after.files (refused r) → IsRefusalTold r before.output after.output ended
-      → (comes_before_files r ≡ true → after.rack ≡ before.rack) → Answers words before after number
-  refused_is_answered r due (inl told) early = answered_by (refused r) due told early
-  refused_is_answered r due (inr told) early =
-      answered_by (refused NoMemory) (no_memory_due (asked words) r before.input after.input before.files after.files due told.0) told.1 (λ early. absurd (cc))
-
-  -- either way
-  pub result_is_answered : (result : Result Said Refusal) → Says (IsDueTo (asked words) before.input after.input before.files after.files) result → IsResultTold result before.output after.output ended
-      → IfErr result (λ r. comes_before_files r ≡ true → after.rack ≡ before.rack) → Answers words before after number
-  result_is_answered (Ok said) says told early = said_is_answered said says told
-  result_is_answered (Err r) says told early = refused_is_answered r says told early
+  -- what a command found, said and told
+  pub result_is_answered : (result : Result Said Refusal) → Says (IsDueTo (asked words) (first_gate before.gates after.gates) before.input after.input before.files after.files) result
+      → IsResultTold result before.output after.output at → HasWorked (asked words) before.input after.input before.files after.files result
+      → IfErr result (λ r. comes_before_files r ≡ true → after.rack ≡ before.rack) → IfOk result (λ s. s.status ≡ statuses.IllFormed → after.rack ≡ before.rack) → Answers words before after number
+  result_is_answered (Ok said) says told has early verdict =
+      answered_by says.0 says.2 (said_told says.0 said before.output after.output at says.1 says.3 says.4 told) (worked_by (asked words) before after (Ok said) at has told)
+      (said_early says.0 said.status says.1 says.4 verdict)
+  result_is_answered (Err r) says told has early verdict = answered_by (refused r) says told (worked_by (asked words) before after (Err r) at has told) early

@@ -1,13 +1,14 @@
 -- What is answered does what its command is for, where no call failed.
-use Rattle.std.proofs.Common.{◌≡◌, ◌≤◌, ℕ, List, [], ◌∷◌, length, Option, Some, None, refl, sym, ap, subst, ◌∙◌, inl, inr}
+use Rattle.std.proofs.Common.{◌≡◌, ◌≤◌, ◌⊎◌, ⊎_elim, ℕ, List, [], ◌∷◌, length, Option, Some, None, IfSome, Result, Ok, Err, refl, sym, ap, subst, ◌∙◌, inl, inr}
+use Rattle.std.specs.Prelude.{⊤}
 use Rattle.process_flow.specs.Causes.{Rose}
 use Rattle.trace_verify.specs.declared.verdict.Verified.{Verified}
 use Rattle.trace_verify.specs.Verdicts.{verdict}
 use Rattle.program_words.specs.declared.reading.Command.{Command}
-use Rattle.program_words.specs.declared.reading.Command.TheVariants.{Check, Run, Show, Verify}
+use Rattle.program_words.specs.declared.reading.Command.TheVariants.{Check, Init, Run, Session, Show, Verify}
 use Rattle.program_lines.specs.Statuses.{IsOneOf}
 use Rattle.program_lines.specs.declared.status.Status.{Status}
-use Rattle.program_lines.specs.declared.status.Status.TheVariants.{NoMemory}
+use Rattle.program_lines.specs.declared.status.Status.TheVariants.{Done, Exhausted, NoMemory}
 use Rattle.program_lines.specs.declared.faults.ReportFault.{ReportFault}
 use Rattle.program_lines.specs.declared.faults.ReportFault.TheVariants as faults
 use Rattle.program_lines.specs.declared.refusal.Refusal.{Refusal}
@@ -15,16 +16,25 @@ use Rattle.program_lines.specs.declared.refusal.Refusal.TheVariants as refusals
 use Rattle.program_lines.specs.Refusals.{report_status, refusal_status}
 use Rattle.program_lines.specs.Verdicts.{any_fault}
 use Rattle.process_top.specs.Worlds.{World, Input, Files}
-use Rattle.process_top.specs.Inputs.{most_input, first_refusal, input_tests, text_tests, IsRefused}
-use Rattle.process_top.specs.Replies.{Reply, checked, ran, shown, accepted, refused, status_of, text_of}
-use Rattle.process_top.specs.Told.{IsTold}
+use Rattle.command_input.specs.Inputs.{most_input, first_refusal, input_tests, text_tests, IsRefused}
+use Rattle.process_top.specs.Replies.{Reply, checked, created, ended, shown, accepted, refused, status_of, IsReplyTold}
+use Rattle.process_top.specs.Told.{Output}
+use Rattle.process_top.specs.Said.{HasWorked, IsResultTold}
 use Rattle.process_top.specs.Check.{IsCheckDue, IsCheckComplete}
-use Rattle.process_top.specs.Run.{IsRunDue, IsRunComplete}
+use Rattle.process_top.specs.Init.{IsInitDue}
+use Rattle.scenario_run.specs.Completeness.{IsReportThere}
+use Rattle.scenario_run.specs.Run.{AskedGate}
+use Rattle.command_input.specs.declared.said.Said.{Said}
+use Rattle.session_run.specs.Completeness.{AreAllAnswered}
+use Rattle.process_top.specs.Run.{IsRunComplete}
+use Rattle.process_top.specs.Session.{IsSessionComplete}
 use Rattle.process_top.specs.Show.{IsShowDue, IsShowComplete}
 use Rattle.process_top.specs.Verify.{verdict_of, verified_status, IsVerifyDue, IsVerifyComplete}
 use Rattle.process_top.specs.Commands.{IsDueTo, IsQuiet, DoesItsWork}
-use Rattle.process_top.proofs.InputRefusals.{is_within}
-use Rattle.process_top.proofs.Completing.{given, told_well, quietly_refused, text_passes, by_any, not_run_quietly, not_opened_quietly}
+use Rattle.command_input.proofs.InputRefusals.{is_within}
+use Rattle.process_setup.specs.Init.{IsInitComplete}
+use Rattle.process_setup.proofs.MadeWell.{not_created_quietly}
+use Rattle.process_top.proofs.Completing.{given, told_well, quietly_refused, text_passes, by_any, not_opened_quietly}
 
 -- a check
 check_ends : (text : List ℕ) (faults : ℕ) (after : Input) (reply : Reply) (status : Status) → IsCheckDue (given (Some text) faults) after reply → status ≡ status_of reply → ¬ Rose faults after.faults
@@ -32,7 +42,8 @@ check_ends : (text : List ℕ) (faults : ℕ) (after : Input) (reply : Reply) (s
 check_ends text faults after (checked ps vs) status due is quiet qs within reading = by_any (any_fault vs) status is
 check_ends text faults after (refused r) status due is quiet qs within reading =
     inr (inr (inl (is ∙ quietly_refused text_tests r text faults after due quiet (text_passes text r qs within reading))))
-check_ends text faults after (ran p) status due is quiet qs within reading = absurd due
+check_ends text faults after created status due is quiet qs within reading = absurd due
+check_ends text faults after (ended said) status due is quiet qs within reading = absurd due
 check_ends text faults after (shown c h) status due is quiet qs within reading = absurd due
 check_ends text faults after accepted status due is quiet qs within reading = absurd due
 
@@ -41,27 +52,63 @@ check_done : (left : Option (List ℕ)) (faults : ℕ) (after : Input) (reply : 
 check_done None faults after reply status due is quiet = tt
 check_done (Some text) faults after reply status due is quiet = check_ends text faults after reply status due is quiet
 
--- a run
-run_ends : (text : List ℕ) (faults : ℕ) (after : Input) (files files_after : Files) (reply : Reply) (status : Status) → IsRunDue (given (Some text) faults) after files files_after reply → status ≡ status_of reply
-    → ¬ Rose faults after.faults → ¬ Rose files.faults files_after.faults → IsRunComplete (given (Some text) faults) files.disk status
-run_ends text faults after files files_after (ran q) status due is quiet quiet_files p within reading adds told empty = inl is
-run_ends text faults after files files_after (refused r) status due is quiet quiet_files p within reading adds told empty =
-    inr (inl (is ∙ not_run_quietly r text faults after files files_after p due quiet quiet_files within reading adds told empty))
-run_ends text faults after files files_after (checked ps vs) status due is quiet quiet_files p within reading adds told empty = absurd due
-run_ends text faults after files files_after (shown c h) status due is quiet quiet_files p within reading adds told empty = absurd due
-run_ends text faults after files files_after accepted status due is quiet quiet_files p within reading adds told empty = absurd due
+-- an init
+init_ends : (text : List ℕ) (faults : ℕ) (after : Input) (files files_after : Files) (reply : Reply) (status : Status) → IsInitDue (given (Some text) faults) after files files_after reply → status ≡ status_of reply
+    → ¬ Rose faults after.faults → ¬ Rose files.faults files_after.faults → IsInitComplete (given (Some text) faults) files.disk status
+init_ends text faults after files files_after created status due is quiet quiet_files c within has told empty = inl is
+init_ends text faults after files files_after (refused r) status due is quiet quiet_files c within has told empty =
+    inr (inl (is ∙ not_created_quietly r text faults after files files_after c due quiet quiet_files within has told empty))
+init_ends text faults after files files_after (checked ps vs) status due is quiet quiet_files c within has told empty = absurd due
+init_ends text faults after files files_after (ended said) status due is quiet quiet_files c within has told empty = absurd due
+init_ends text faults after files files_after (shown d h) status due is quiet quiet_files c within has told empty = absurd due
+init_ends text faults after files files_after accepted status due is quiet quiet_files c within has told empty = absurd due
 
-run_done : (left : Option (List ℕ)) (faults : ℕ) (after : Input) (files files_after : Files) (reply : Reply) (status : Status) → IsRunDue (given left faults) after files files_after reply → status ≡ status_of reply
-    → ¬ Rose faults after.faults → ¬ Rose files.faults files_after.faults → IsRunComplete (given left faults) files.disk status
-run_done None faults after files files_after reply status due is quiet quiet_files = tt
-run_done (Some text) faults after files files_after reply status due is quiet quiet_files = run_ends text faults after files files_after reply status due is quiet quiet_files
+init_done : (left : Option (List ℕ)) (faults : ℕ) (after : Input) (files files_after : Files) (reply : Reply) (status : Status) → IsInitDue (given left faults) after files files_after reply → status ≡ status_of reply
+    → ¬ Rose faults after.faults → ¬ Rose files.faults files_after.faults → IsInitComplete (given left faults) files.disk status
+init_done None faults after files files_after reply status due is quiet quiet_files = tt
+init_done (Some text) faults after files files_after reply status due is quiet quiet_files = init_ends text faults after files files_after reply status due is quiet quiet_files
+
+-- a run
+run_status : (found : Result Said Refusal) (old new : Output) (status : Status) → IsReportThere found → IsResultTold found old new status → ¬ Rose old.faults new.faults
+    → IsOneOf status (Done ∷ Exhausted ∷ NoMemory ∷ [])
+run_status (Ok said) old new status (inl done) told quiet = inl (told_well _ _ old new status told quiet ∙ done)
+run_status (Ok said) old new status (inr exhausted) told quiet = inr (inl (told_well _ _ old new status told quiet ∙ exhausted))
+run_status (Err r) old new status memory (inl told) quiet = inr (inr (inl (told_well _ _ old new status told quiet ∙ ap refusal_status memory)))
+run_status (Err r) old new status memory (inr told) quiet = inr (inr (inl (told_well _ _ old new status told.1 quiet)))
+
+-- a session
+session_status : (found : Result Said Refusal) (old new : Output) (status : Status) → AreAllAnswered found → IsResultTold found old new status → ¬ Rose old.faults new.faults
+    → IsOneOf status (Done ∷ NoMemory ∷ [])
+session_status (Ok said) old new status (inl done) told quiet = inl (told_well _ _ old new status told quiet ∙ done)
+session_status (Ok said) old new status (inr memory) told quiet = inr (inl (told_well _ _ old new status told quiet ∙ memory))
+session_status (Err r) old new status memory (inl told) quiet = inr (inl (told_well _ _ old new status told quiet ∙ ap refusal_status memory))
+session_status (Err r) old new status memory (inr told) quiet = inr (inl (told_well _ _ old new status told.1 quiet))
+
+-- what is promised of the work of a command over an engine is promised of the status at which that was told
+abbrev pub Worked : {S K R : Type 0} → Option Command → World S K R → World S K R → Status → Type 0
+Worked (Some Run) before after status = IsQuiet (Some Run) before after → IsRunComplete before.input before.files status
+Worked (Some Session) before after status = IsQuiet (Some Session) before after → IsSessionComplete before.input before.files status
+Worked o before after status = ⊤
+
+pub worked_by : {S K R : Type 0} (o : Option Command) (before after : World S K R) (found : Result Said Refusal) (status : Status) → HasWorked o before.input after.input before.files after.files found
+    → IsResultTold found before.output after.output status → Worked o before after status
+worked_by None before after found status has told = tt
+worked_by (Some Check) before after found status has told = tt
+worked_by (Some Init) before after found status has told = tt
+worked_by (Some Run) before after found status has told = λ quiet bytes c plans h scenario room.
+    run_status found before.output after.output status (has bytes c plans h scenario room (record { source = quiet.input refl; rack = quiet.files refl })) told quiet.output
+worked_by (Some Session) before after found status has told = λ quiet bytes c plans lines h text files.
+    session_status found before.output after.output status (has bytes c plans lines h text files (record { source = quiet.input refl; rack = quiet.files refl })) told quiet.output
+worked_by (Some Show) before after found status has told = tt
+worked_by (Some Verify) before after found status has told = tt
 
 -- a show
 show_done : (files files_after : Files) (reply : Reply) (status : Status) → IsShowDue files files_after reply → status ≡ status_of reply → ¬ Rose files.faults files_after.faults → IsShowComplete files.disk status
 show_done files files_after (shown d k) status due is quiet c h good told log = inl is
 show_done files files_after (refused r) status due is quiet c h good told log = inr (inl (is ∙ not_opened_quietly r files files_after c h due quiet good told log))
 show_done files files_after (checked ps vs) status due is quiet c h good told log = absurd due
-show_done files files_after (ran p) status due is quiet c h good told log = absurd due
+show_done files files_after created status due is quiet c h good told log = absurd due
+show_done files files_after (ended said) status due is quiet c h good told log = absurd due
 show_done files files_after accepted status due is quiet c h good told log = absurd due
 
 -- the status of a fault is that of its verdict
@@ -90,12 +137,12 @@ verify_ends : (text : List ℕ) (faults : ℕ) (after : Input) (reply : Reply) (
     → IsVerifyComplete (given (Some text) faults) status
 verify_ends text faults after accepted status due is quiet within = verified_by text _ status due.1.1.0 is
 verify_ends text faults after (checked ps vs) status due is quiet within = absurd due
-verify_ends text faults after (ran p) status due is quiet within = absurd due
+verify_ends text faults after created status due is quiet within = absurd due
+verify_ends text faults after (ended said) status due is quiet within = absurd due
 verify_ends text faults after (shown c h) status due is quiet within = absurd due
 verify_ends text faults after (refused (refusals.Report fault)) status due is quiet within =
     verified_by text (verdict_of fault) status due.1.1.0 (is ∙ fault_status fault)
 verify_ends text faults after (refused refusals.BadWords) status due is quiet within = not_verified text faults after refusals.BadWords status due is quiet within
-verify_ends text faults after (refused refusals.NotYet) status due is quiet within = not_verified text faults after refusals.NotYet status due is quiet within
 verify_ends text faults after (refused (refusals.Text e)) status due is quiet within = not_verified text faults after (refusals.Text e) status due is quiet within
 verify_ends text faults after (refused (refusals.Scenario fault)) status due is quiet within = not_verified text faults after (refusals.Scenario fault) status due is quiet within
 verify_ends text faults after (refused (refusals.CatalogDiffers n)) status due is quiet within = not_verified text faults after (refusals.CatalogDiffers n) status due is quiet within
@@ -115,14 +162,42 @@ verify_done None faults after reply status due is quiet = tt
 verify_done (Some text) faults after reply status due is quiet = verify_ends text faults after reply status due is quiet
 
 -- each command
-pub done_by : {S K R : Type 0} (o : Option Command) (before after : World S K R) (status : Status) (reply : Reply) → IsDueTo o before.input after.input before.files after.files reply
-    → IsTold (status_of reply) (text_of reply) before.output after.output status → IsQuiet o before after → DoesItsWork o before.input before.files status
-done_by None before after status reply due told quiet = tt
-done_by (Some Check) before after status reply due told quiet =
-    check_done before.input.left before.input.faults after.input reply status due.0 (told_well _ _ before.output after.output status told quiet.output) (quiet.input refl)
-done_by (Some Run) before after status reply due told quiet =
-    run_done before.input.left before.input.faults after.input before.files after.files reply status due (told_well _ _ before.output after.output status told quiet.output) (quiet.input refl) (quiet.files refl)
-done_by (Some Show) before after status reply due told quiet =
-    show_done before.files after.files reply status due.0 (told_well _ _ before.output after.output status told quiet.output) (quiet.files refl)
-done_by (Some Verify) before after status reply due told quiet =
-    verify_done before.input.left before.input.faults after.input reply status due.0 (told_well _ _ before.output after.output status told quiet.output) (quiet.input refl)
+done_by : {S K R : Type 0} (o : Option Command) (gate : AskedGate) (before after : World S K R) (status : Status) (reply : Reply) → IsDueTo o gate before.input after.input before.files after.files reply
+    → status ≡ status_of reply → Worked o before after status → IsQuiet o before after → DoesItsWork o before.input before.files status
+done_by None gate before after status reply due is worked quiet = tt
+done_by (Some Check) gate before after status reply due is worked quiet = check_done before.input.left before.input.faults after.input reply status due.0 is (quiet.input refl)
+done_by (Some Init) gate before after status reply due is worked quiet =
+    init_done before.input.left before.input.faults after.input before.files after.files reply status due is (quiet.input refl) (quiet.files refl)
+done_by (Some Run) gate before after status reply due is worked quiet = worked quiet
+done_by (Some Session) gate before after status reply due is worked quiet = worked quiet
+done_by (Some Show) gate before after status reply due is worked quiet = show_done before.files after.files reply status due.0 is (quiet.files refl)
+done_by (Some Verify) gate before after status reply due is worked quiet = verify_done before.input.left before.input.faults after.input reply status due.0 is (quiet.input refl)
+
+-- at want of memory each does what may be wanted of it
+given_memory : (left : Option (List ℕ)) (P : List ℕ → Type 0) → ((text : List ℕ) → P text) → IfSome left P
+given_memory None P all = tt
+given_memory (Some text) P all = all text
+
+wanting : (o : Option Command) (input : Input) (files : Files) (status : Status) → status ≡ NoMemory → DoesItsWork o input files status
+wanting None input files status is = tt
+wanting (Some Check) input files status is = given_memory input.left _ (λ text ps within reading. inr (inr (inl is)))
+wanting (Some Init) input files status is = given_memory input.left _ (λ text c within has told empty. inr (inl is))
+wanting (Some Run) input files status is = λ bytes c plans h scenario room. inr (inr (inl is))
+wanting (Some Session) input files status is = λ bytes c plans lines h text room. inr (inl is)
+wanting (Some Show) input files status is = λ c h good told log. inr (inl is)
+wanting (Some Verify) input files status is = given_memory input.left _ (λ text within. inr (inl is))
+
+-- without a fault of the sink, the status is that of the reply, or memory was wanting
+status_told : (reply : Reply) (old new : Output) (status : Status) → IsReplyTold reply old new status → ¬ Rose old.faults new.faults → (status ≡ status_of reply) ⊎ (status ≡ NoMemory)
+status_told (refused r) old new status (inl told) quiet = inl (told_well _ _ old new status told quiet)
+status_told (refused r) old new status (inr told) quiet = inr (told_well _ _ old new status told.1 quiet)
+status_told (checked ps vs) old new status told quiet = inl (told_well _ _ old new status told quiet)
+status_told created old new status told quiet = inl (told_well _ _ old new status told quiet)
+status_told (ended said) old new status told quiet = inl (told_well _ _ old new status told quiet)
+status_told (shown c h) old new status told quiet = inl (told_well _ _ old new status told quiet)
+status_told accepted old new status told quiet = inl (told_well _ _ old new status told quiet)
+
+pub done_or_wanting : {S K R : Type 0} (o : Option Command) (gate : AskedGate) (before after : World S K R) (status : Status) (reply : Reply) → IsDueTo o gate before.input after.input before.files after.files reply
+    → IsReplyTold reply before.output after.output status → Worked o before after status → IsQuiet o before after → DoesItsWork o before.input before.files status
+done_or_wanting o gate before after status reply due told worked quiet =
+    ⊎_elim (λ is. done_by o gate before after status reply due is worked quiet) (λ is. wanting o before.input before.files status is) (status_told reply before.output after.output status told quiet.output)

@@ -23,17 +23,11 @@ use Rattle.program_lines.specs.declared.status.Status.TheVariants.{Done, IllForm
 use Rattle.program_lines.specs.declared.refusal.Refusal.{Refusal}
 use Rattle.program_lines.specs.declared.refusal.Refusal.TheVariants as refusals
 use Rattle.program_lines.specs.Refusals.{error_status, refusal_status}
-use Rattle.process_top.specs.declared.run.RunFault.{RunFault}
-use Rattle.process_top.specs.declared.run.RunFault.TheVariants as faults
-use Rattle.process_top.specs.Inputs.{Input, most_input, first_refusal, text_tests, IsRefused}
-use Rattle.process_top.specs.FilesLeft.{Files}
+use Rattle.command_input.specs.Inputs.{Input, most_input, first_refusal, text_tests, IsRefused}
+use Rattle.command_input.specs.FilesLeft.{Files}
 use Rattle.process_top.specs.Told.{Output, IsTold}
-use Rattle.process_top.specs.Life.{is_add_process}
-use Rattle.process_top.specs.Journal.{IsRefusedRun}
-use Rattle.process_top.specs.Run.{IsNotRun, run_refusal}
 use Rattle.process_top.specs.Show.{journal_refusal, IsNotOpened}
-use Rattle.process_top.proofs.InputRefusals.{is_within}
-use Rattle.process_top.proofs.Stories.{adds_again}
+use Rattle.command_input.proofs.InputRefusals.{is_within}
 
 -- an input that is told, and its count of faults
 abbrev pub given : Option (List ℕ) → ℕ → Input
@@ -48,7 +42,6 @@ told_well status text before after ended (inr failed) quiet = absurd (quiet fail
 pub quietly_refused : (tests : List ℕ → List (Option Refusal)) (r : Refusal) (text : List ℕ) (faults : ℕ) (after : Input) → IsRefused tests r (given (Some text) faults) after → ¬ Rose faults after.faults
     → (first_refusal (tests text) ≡ Some r → refusal_status r ≡ NoMemory) → refusal_status r ≡ NoMemory
 quietly_refused tests refusals.BadWords text faults after why quiet by = by why.1
-quietly_refused tests refusals.NotYet text faults after why quiet by = by why.1
 quietly_refused tests (refusals.Text e) text faults after why quiet by = by why.1
 quietly_refused tests (refusals.Scenario fault) text faults after why quiet by = by why.1
 quietly_refused tests (refusals.CatalogDiffers n) text faults after why quiet by = by why.1
@@ -84,24 +77,6 @@ text_passes text r ps within reading first =
 pub by_any : (any : Bool) (status : Status) → status ≡ (if any then IllFormed else Done) → IsOneOf status (Done ∷ IllFormed ∷ NoMemory ∷ [])
 by_any true status is = inr (inl is)
 by_any false status is = inl is
-
-run_quiet : (fault : RunFault) (p : Named) (files files_after : Files) → IsRefusedRun fault p files.disk files_after.disk files.faults files_after.faults → ¬ Rose files.faults files_after.faults → Told files.disk
-    → file_of files.disk.files 0 ≡ [] → refusal_status (run_refusal fault) ≡ NoMemory
-run_quiet faults.NotEmpty p files files_after why quiet told empty = absurd ((why told).0 empty)
-run_quiet faults.NotBegun p files files_after why quiet told empty = absurd (quiet why.0)
-run_quiet faults.CutOff p files files_after why quiet told empty = absurd (quiet why.0)
-run_quiet faults.NoMemory p files files_after why quiet told empty = refl
-
--- one process of `add` steps alone is run on an empty file 0, or memory was wanting
-pub not_run_quietly : (r : Refusal) (text : List ℕ) (faults : ℕ) (after : Input) (files files_after : Files) (p : Named) → IsNotRun r (given (Some text) faults) after files files_after
-    → ¬ Rose faults after.faults → ¬ Rose files.faults files_after.faults → length text ≤ most_input → IsReading (words_of text) (p ∷ []) → is_add_process p.tree ≡ true → Told files.disk
-    → file_of files.disk.files 0 ≡ [] → refusal_status r ≡ NoMemory
-not_run_quietly r text faults after files files_after p (inl why) quiet quiet_files within reading adds told empty =
-    quietly_refused text_tests r text faults after why.0 quiet (text_passes text r (p ∷ []) within reading)
-not_run_quietly r text faults after files files_after p (inr (inl why)) quiet quiet_files within reading adds told empty =
-    absurd (why.1.2 (adds_again (words_of text) why.1.0 p why.1.1.1.1 reading adds))
-not_run_quietly r text faults after files files_after p (inr (inr why)) quiet quiet_files within reading adds told empty =
-    ap refusal_status why.3.1 ∙ run_quiet why.3.0 why.0 files files_after why.3.2 quiet_files told empty
 
 opened_or_memory : (e : JournalError) (before after : ℕ) → (e ≡ journal.DiskFault) ⊎ (e ≡ journal.NoMemory) → (e ≡ journal.DiskFault → Rose before after) → ¬ Rose before after → refusal_status (journal_refusal e) ≡ NoMemory
 opened_or_memory e before after (inl fault) rose quiet = absurd (quiet (rose fault))

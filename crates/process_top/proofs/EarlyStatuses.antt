@@ -1,27 +1,42 @@
--- At a status of the words, of the source or of the input alone, and at one of a verdict, the rack is as it was: what is answered of an
--- early refusal gives it, since no other reply of a command that calls the rack has such a status.
-use Rattle.std.proofs.Common.{◌≡◌, ℕ, List, Bool, true, false, Option, Some, None, refl, sym, ap, subst, ◌∙◌, inl, inr}
+-- At a status of the words or of the source, and at one of a verdict, the rack is as it was: what is answered of an early reply gives it,
+-- since no other reply of a command that calls the rack has such a status. For each command but `run` and `session` so is it at a status of
+-- the input.
+use Rattle.std.proofs.Common.{◌≡◌, ℕ, List, Bool, true, false, Option, Some, None, Ok, refl, sym, ap, subst, ◌∙◌, inl, inr}
 use Rattle.process_journal.specs.declared.errors.JournalError.{JournalError}
 use Rattle.process_journal.specs.declared.errors.JournalError.TheVariants as journal
 use Rattle.program_words.specs.Commands.{asked}
 use Rattle.program_words.specs.declared.reading.Command.{Command}
-use Rattle.program_words.specs.declared.reading.Command.TheVariants.{Check, Run, Show, Verify}
+use Rattle.program_words.specs.declared.reading.Command.TheVariants.{Check, Init, Run, Session, Show, Verify}
 use Rattle.program_lines.specs.Statuses.{number_of}
 use Rattle.program_lines.specs.declared.status.Status.{Status}
 use Rattle.program_lines.specs.declared.status.Status.TheVariants as statuses
 use Rattle.program_lines.specs.declared.refusal.Refusal.{Refusal}
 use Rattle.program_lines.specs.declared.refusal.Refusal.TheVariants as refusals
-use Rattle.program_lines.specs.Refusals.{refusal_status}
-use Rattle.process_top.specs.declared.run.RunFault.{RunFault}
-use Rattle.process_top.specs.declared.run.RunFault.TheVariants as faults
-use Rattle.process_top.specs.Early.{comes_before_files}
+use Rattle.program_lines.specs.Refusals.{error_status, refusal_status}
+use Rattle.command_input.specs.Early.{comes_before_files}
 use Rattle.process_top.specs.Worlds.{World, Input, Files, Output}
-use Rattle.process_top.specs.Inputs.{IsRefused, text_tests}
-use Rattle.process_top.specs.Run.{IsNotRun, run_refusal}
+use Rattle.commute_table.specs.declared.errors.ScenarioError.{ScenarioError}
+use Rattle.commute_table.specs.declared.errors.ScenarioError.TheVariants as errors
+use Rattle.command_input.specs.Inputs.{HasNoText}
+use Rattle.command_input.specs.Scenarios.{scenario_refusal}
+use Rattle.history_files.specs.declared.faults.CreateError.{CreateError}
+use Rattle.history_files.specs.declared.faults.CreateError.TheVariants as create
+use Rattle.process_setup.specs.Init.{create_refusal, IsCatalogRefused, IsNotCreated}
 use Rattle.process_top.specs.Show.{journal_refusal}
-use Rattle.process_top.specs.Replies.{Reply, checked, ran, shown, accepted, refused, status_of}
+use Rattle.process_tree.specs.declared.plan.Plan.{Plan}
+use Rattle.commute_table.specs.declared.catalog.Catalog.{Catalog}
+use Rattle.process_core.specs.Cores.{CoreState, opened_on}
+use Rattle.session_text.specs.declared.line.Line.{Line}
+use Rattle.session_run.specs.Playthrough.{EndsAt}
+use Rattle.session_run.specs.Session.{IsSessionDue as IsSessionFound}
+use Rattle.scenario_run.specs.Run.{AskedGate, IsRunDue as IsRunFound, SaysRun}
+use Rattle.command_input.specs.declared.said.Said.{Said}
+use Rattle.process_text.specs.declared.error.TextError.{TextError}
+use Rattle.process_text.specs.declared.error.TextError.TheVariants as texts
+use Rattle.process_top.specs.Run.{first_gate}
+use Rattle.process_top.specs.Replies.{Reply, checked, created, ended, shown, accepted, refused, status_of, IsReplyTold}
 use Rattle.process_top.specs.Told.{IsTold}
-use Rattle.process_top.specs.Commands.{uses_files, is_early, IsDueTo, Answers}
+use Rattle.process_top.specs.Commands.{uses_files, is_early, is_verdict, IsDueTo, Answers}
 use Rattle.process_top.proofs.StatusNumbers.{same_status}
 
 -- the statuses of what is refused before the rack is called, and of verdicts
@@ -34,29 +49,6 @@ is_early_status statuses.ReadFault = true
 is_early_status statuses.NotReduced = true
 is_early_status status = false
 
-early_input : (r : Refusal) (tests : List ℕ → List (Option Refusal)) (before after : Input) → IsRefused tests r before after → is_early_status (refusal_status r) ≡ true → comes_before_files r ≡ true
-early_input refusals.BadWords tests before after why is = why.0
-early_input refusals.NotYet tests before after why is = why.0
-early_input (refusals.Text e) tests before after why is = why.0
-early_input (refusals.Scenario fault) tests before after why is = why.0
-early_input (refusals.CatalogDiffers n) tests before after why is = why.0
-early_input (refusals.BadLine n) tests before after why is = why.0
-early_input (refusals.Limit quantity n) tests before after why is = why.0
-early_input (refusals.Unfinished i) tests before after why is = why.0
-early_input (refusals.File fault) tests before after why is = why.0
-early_input (refusals.BookDiffers q n) tests before after why is = why.0
-early_input (refusals.Report fault) tests before after why is = why.0
-early_input refusals.ReadFault tests before after why is = refl
-early_input refusals.DiskFault tests before after why is = why.0
-early_input (refusals.Exhausted i step) tests before after why is = why.0
-early_input refusals.NoMemory tests before after why is = absurd (cc)
-
-late_fault : (fault : RunFault) → is_early_status (refusal_status (run_refusal fault)) ≡ false
-late_fault faults.NotEmpty = refl
-late_fault faults.NotBegun = refl
-late_fault faults.CutOff = refl
-late_fault faults.NoMemory = refl
-
 late_journal : (e : JournalError) → is_early_status (refusal_status (journal_refusal e)) ≡ false
 late_journal journal.DiskFault = refl
 late_journal journal.BadHeader = refl
@@ -64,36 +56,165 @@ late_journal (journal.BadRecord n) = refl
 late_journal (journal.BadHistory n) = refl
 late_journal journal.NoMemory = refl
 
-early_run : (r : Refusal) (before after : Input) (files files_after : Files) → IsNotRun r before after files files_after → is_early_status (refusal_status r) ≡ true → comes_before_files r ≡ true
-early_run r before after files files_after (inl why) is = early_input r text_tests before after why.0 is
-early_run r before after files files_after (inr (inl why)) is = subst (λ (e : Refusal). comes_before_files e ≡ true) (sym why.0) refl
-early_run r before after files files_after (inr (inr why)) is =
-    let wrong : false ≡ true = sym (late_fault why.3.0) ∙ ap (λ (e : Refusal). is_early_status (refusal_status e)) (sym why.3.1) ∙ is in absurd (cc)
+late_create : (e : CreateError) → is_early_status (refusal_status (create_refusal e)) ≡ false
+late_create create.DiskFault = refl
+late_create (create.NotEmpty q) = refl
+late_create create.NoMemory = refl
+
+early_scenario : (e : ScenarioError) → is_early_status (refusal_status (scenario_refusal e)) ≡ true → comes_before_files (scenario_refusal e) ≡ true
+early_scenario errors.BadToml is = refl
+early_scenario (errors.BadKey key) is = refl
+early_scenario (errors.UnknownOp name) is = refl
+early_scenario (errors.SameOp name) is = refl
+early_scenario (errors.Ops n) is = refl
+early_scenario errors.NoMemory is = absurd (cc)
+
+early_text : (r : Refusal) (before after : Input) → HasNoText r before after → is_early_status (refusal_status r) ≡ true → comes_before_files r ≡ true
+early_text r before after (inl long) is = subst (λ (e : Refusal). comes_before_files e ≡ true) (sym long.0) refl
+early_text r before after (inr (inl fault)) is = subst (λ (e : Refusal). comes_before_files e ≡ true) (sym fault.0) refl
+early_text r before after (inr (inr memory)) is =
+    let wrong : false ≡ true = ap (λ (e : Refusal). is_early_status (refusal_status e)) (sym memory) ∙ is in absurd (cc)
+
+early_catalog : (r : Refusal) (before after : Input) → IsCatalogRefused r before after → is_early_status (refusal_status r) ≡ true → comes_before_files r ≡ true
+early_catalog r before after (inl none) is = early_text r before after none is
+early_catalog r before after (inr why) is =
+    let same = why.2.1 in
+    subst (λ (e : Refusal). comes_before_files e ≡ true) (sym same) (early_scenario why.2.0 (ap (λ (e : Refusal). is_early_status (refusal_status e)) (sym same) ∙ is))
+
+early_init : (r : Refusal) (before after : Input) (files files_after : Files) → IsNotCreated r before after files files_after → is_early_status (refusal_status r) ≡ true → comes_before_files r ≡ true
+early_init r before after files files_after (inl why) is = early_catalog r before after why.0 is
+early_init r before after files files_after (inr why) is =
+    let wrong : false ≡ true = sym (late_create why.1.0) ∙ ap (λ (e : Refusal). is_early_status (refusal_status e)) (sym why.1.1) ∙ is in absurd (cc)
+
+-- the statuses that come before the files at each command
+abbrev pub is_always_early : Status → Bool
+is_always_early statuses.BadWords = true
+is_always_early statuses.IllFormed = true
+is_always_early statuses.ReadFault = true
+is_always_early statuses.NotReduced = true
+is_always_early status = false
+
+-- those that do so at this one: `run` and `session` read the catalog of the files too, and `run` how much they have
+abbrev pub is_early_for : Option Command → Status → Bool
+is_early_for (Some Run) s = is_always_early s
+is_early_for (Some Session) s = is_always_early s
+is_early_for o s = is_early_status s
+
+always_text : (e : TextError) → is_always_early (error_status e) ≡ true → ⊥
+always_text (texts.BadText line column expected) is = absurd (cc)
+always_text (texts.Limit what n) is = absurd (cc)
+always_text (texts.SameName line name) is = absurd (cc)
+always_text texts.NoMemory is = absurd (cc)
+
+always_refusal : (r : Refusal) → is_always_early (refusal_status r) ≡ true → comes_before_files r ≡ true
+always_refusal refusals.BadWords is = refl
+always_refusal (refusals.Text e) is = absurd (always_text e is)
+always_refusal (refusals.Scenario fault) is = absurd (cc)
+always_refusal (refusals.CatalogDiffers n) is = absurd (cc)
+always_refusal (refusals.BadLine n) is = absurd (cc)
+always_refusal (refusals.Limit quantity n) is = absurd (cc)
+always_refusal (refusals.Unfinished i) is = absurd (cc)
+always_refusal (refusals.File fault) is = absurd (cc)
+always_refusal (refusals.BookDiffers q n) is = absurd (cc)
+always_refusal (refusals.Report fault) is = refl
+always_refusal refusals.ReadFault is = refl
+always_refusal refusals.DiskFault is = absurd (cc)
+always_refusal (refusals.Exhausted i step) is = absurd (cc)
+always_refusal refusals.NoMemory is = absurd (cc)
+
+-- of what a run has to say only a verdict has such a status
+always_said : (gate : AskedGate) (before after : Input) (files files_after : Files) (said : Said) → IsRunFound gate before after files files_after (Ok said) → is_always_early said.status ≡ true
+    → is_verdict said.status ≡ true
+always_said gate before after files files_after said (inl none) is = subst (λ (s : Status). is_verdict s ≡ true) (sym none.0.0) refl
+always_said gate before after files files_after said (inr run) is = by_report run.3.3
+  where
+    by_report : SaysRun run.0 run.3.1 said → is_verdict said.status ≡ true
+    by_report (inl all) =
+        let wrong : false ≡ true = ap is_always_early (sym all.0) ∙ is in absurd (cc)
+    by_report (inr stuck) =
+        let wrong : false ≡ true = ap is_always_early (sym stuck.1) ∙ is in absurd (cc)
+
+-- so of what a session has to say
+late_session : (c : Catalog) (plans : List Plan) (first now : CoreState) (answered rest : List Line) (s : Status) → EndsAt c plans first now answered rest s → is_always_early s ≡ true → ⊥
+late_session c plans first now answered rest statuses.Done ends is = absurd (cc)
+late_session c plans first now answered rest statuses.BadWords ends is = absurd ends
+late_session c plans first now answered rest statuses.BadInput ends is = absurd ends
+late_session c plans first now answered rest statuses.IllFormed ends is = absurd ends
+late_session c plans first now answered rest statuses.Limit ends is = absurd ends
+late_session c plans first now answered rest statuses.Unfinished ends is = absurd ends
+late_session c plans first now answered rest statuses.BadFile ends is = absurd ends
+late_session c plans first now answered rest statuses.BookDiffers ends is = absurd ends
+late_session c plans first now answered rest statuses.ReadFault ends is = absurd ends
+late_session c plans first now answered rest statuses.WriteFault ends is = absurd ends
+late_session c plans first now answered rest statuses.DiskFault ends is = absurd (cc)
+late_session c plans first now answered rest statuses.Exhausted ends is = absurd ends
+late_session c plans first now answered rest statuses.NotReduced ends is = absurd ends
+late_session c plans first now answered rest statuses.NoMemory ends is = absurd (cc)
+
+session_said : (before after : Input) (files files_after : Files) (said : Said) → IsSessionFound before after files files_after (Ok said) → is_always_early said.status ≡ true → is_verdict said.status ≡ true
+session_said before after files files_after said (inl none) is = subst (λ (s : Status). is_verdict s ≡ true) (sym none.0.0) refl
+session_said before after files files_after said (inr played) is =
+    let found = played.4 in
+    absurd (late_session played.0 played.1 (opened_on played.0.conflicts found.history.plans found.history.events) found.now found.played.answered found.played.rest said.status found.played.ends is)
 
 module _ {S K R : Type 0} (before after : World S K R) where
-  by_command : (o : Option Command) (reply : Reply) → IsDueTo o before.input after.input before.files after.files reply → (uses_files o ≡ false → after.rack ≡ before.rack)
-      → (is_early reply ≡ true → after.rack ≡ before.rack) → is_early_status (status_of reply) ≡ true → after.rack ≡ before.rack
-  by_command None reply due untouched early is = untouched refl
-  by_command (Some Check) reply due untouched early is = untouched refl
-  by_command (Some Verify) reply due untouched early is = untouched refl
-  by_command (Some Run) (ran p) due untouched early is = absurd (cc)
-  by_command (Some Run) (refused r) due untouched early is = early (early_run r before.input after.input before.files after.files due is)
-  by_command (Some Run) (checked ps vs) due untouched early is = absurd due
-  by_command (Some Run) (shown c h) due untouched early is = absurd due
-  by_command (Some Run) accepted due untouched early is = absurd due
-  by_command (Some Show) (shown c h) due untouched early is = absurd (cc)
-  by_command (Some Show) (refused r) due untouched early is =
+  by_command : (o : Option Command) (gate : AskedGate) (reply : Reply) → IsDueTo o gate before.input after.input before.files after.files reply → (uses_files o ≡ false → after.rack ≡ before.rack)
+      → (is_early reply ≡ true → after.rack ≡ before.rack) → is_early_for o (status_of reply) ≡ true → after.rack ≡ before.rack
+  by_command None gate reply due untouched early is = untouched refl
+  by_command (Some Check) gate reply due untouched early is = untouched refl
+  by_command (Some Verify) gate reply due untouched early is = untouched refl
+  by_command (Some Init) gate created due untouched early is = absurd (cc)
+  by_command (Some Init) gate (refused r) due untouched early is = early (early_init r before.input after.input before.files after.files due is)
+  by_command (Some Init) gate (checked ps vs) due untouched early is = absurd due
+  by_command (Some Init) gate (ended said) due untouched early is = absurd due
+  by_command (Some Init) gate (shown c h) due untouched early is = absurd due
+  by_command (Some Init) gate accepted due untouched early is = absurd due
+  by_command (Some Run) gate (ended said) due untouched early is = early (always_said gate before.input after.input before.files after.files said due is)
+  by_command (Some Run) gate (refused r) due untouched early is = early (always_refusal r is)
+  by_command (Some Run) gate (checked ps vs) due untouched early is = absurd due
+  by_command (Some Run) gate created due untouched early is = absurd due
+  by_command (Some Run) gate (shown c h) due untouched early is = absurd due
+  by_command (Some Run) gate accepted due untouched early is = absurd due
+  by_command (Some Session) gate (ended said) due untouched early is = early (session_said before.input after.input before.files after.files said due is)
+  by_command (Some Session) gate (refused r) due untouched early is = early (always_refusal r is)
+  by_command (Some Session) gate (checked ps vs) due untouched early is = absurd due
+  by_command (Some Session) gate created due untouched early is = absurd due
+  by_command (Some Session) gate (shown c h) due untouched early is = absurd due
+  by_command (Some Session) gate accepted due untouched early is = absurd due
+  by_command (Some Show) gate (shown c h) due untouched early is = absurd (cc)
+  by_command (Some Show) gate (refused r) due untouched early is =
       let wrong : false ≡ true = sym (late_journal due.0.0) ∙ ap (λ (e : Refusal). is_early_status (refusal_status e)) (sym due.0.1) ∙ is in absurd (cc)
-  by_command (Some Show) (checked ps vs) due untouched early is = absurd due.0
-  by_command (Some Show) (ran p) due untouched early is = absurd due.0
-  by_command (Some Show) accepted due untouched early is = absurd due.0
+  by_command (Some Show) gate (checked ps vs) due untouched early is = absurd due.0
+  by_command (Some Show) gate created due untouched early is = absurd due.0
+  by_command (Some Show) gate (ended said) due untouched early is = absurd due.0
+  by_command (Some Show) gate accepted due untouched early is = absurd due.0
 
-  by_told : (s status : Status) (text : List ℕ) (old new : Output) (ended : Status) → IsTold status text old new ended → ended ≡ s → is_early_status s ≡ true → is_early_status status ≡ true
-  by_told s status text old new ended (inl well) same is = ap is_early_status (sym well.0 ∙ same) ∙ is
-  by_told s status text old new ended (inr failed) same is =
-      let wrong : false ≡ true = ap is_early_status (sym failed.0 ∙ same) ∙ is in absurd (cc)
+  -- neither a write fault nor want of memory is such a status
+  late_for : (o : Option Command) → (is_early_for o statuses.WriteFault ≡ false) × (is_early_for o statuses.NoMemory ≡ false)
+  late_for None = (refl, refl)
+  late_for (Some Check) = (refl, refl)
+  late_for (Some Init) = (refl, refl)
+  late_for (Some Run) = (refl, refl)
+  late_for (Some Session) = (refl, refl)
+  late_for (Some Show) = (refl, refl)
+  late_for (Some Verify) = (refl, refl)
 
-  pub early_status_leaves : (words : List (List ℕ)) (number : ℕ) (s : Status) → Answers words before after number → is_early_status s ≡ true → number ≡ number_of s → after.rack ≡ before.rack
+  by_told : (o : Option Command) (s status : Status) (text : List ℕ) (old new : Output) (at : Status) → IsTold status text old new at → at ≡ s → is_early_for o s ≡ true → is_early_for o status ≡ true
+  by_told o s status text old new at (inl well) same is = ap (is_early_for o) (sym well.0 ∙ same) ∙ is
+  by_told o s status text old new at (inr failed) same is =
+      let wrong : false ≡ true = sym (late_for o).0 ∙ ap (is_early_for o) (sym failed.0 ∙ same) ∙ is in absurd (cc)
+
+  by_reply : (o : Option Command) (s : Status) (reply : Reply) (old new : Output) (at : Status) → IsReplyTold reply old new at → at ≡ s → is_early_for o s ≡ true → is_early_for o (status_of reply) ≡ true
+  by_reply o s (refused r) old new at (inl told) same is = by_told o s _ _ old new at told same is
+  by_reply o s (refused r) old new at (inr told) same is =
+      let wrong : false ≡ true = sym (late_for o).1 ∙ by_told o s statuses.NoMemory _ old new at told.1 same is in absurd (cc)
+  by_reply o s (checked ps vs) old new at told same is = by_told o s _ _ old new at told same is
+  by_reply o s created old new at told same is = by_told o s _ _ old new at told same is
+  by_reply o s (ended said) old new at told same is = by_told o s _ _ old new at told same is
+  by_reply o s (shown c h) old new at told same is = by_told o s _ _ old new at told same is
+  by_reply o s accepted old new at told same is = by_told o s _ _ old new at told same is
+
+  pub early_status_leaves : (words : List (List ℕ)) (number : ℕ) (s : Status) → Answers words before after number → is_early_for (asked words) s ≡ true → number ≡ number_of s → after.rack ≡ before.rack
   early_status_leaves words number s answers is numbered =
       let same : answers.status ≡ s = same_status answers.status s (sym answers.numbered ∙ numbered) in
-      by_command (asked words) answers.reply answers.due answers.untouched answers.early (by_told s (status_of answers.reply) _ before.output after.output answers.status answers.told same is)
+      by_command (asked words) (first_gate before.gates after.gates) answers.reply answers.due answers.untouched answers.early (by_reply (asked words) s answers.reply before.output after.output answers.status answers.told same is)

@@ -7,7 +7,7 @@ use Rattle.program_lines.specs.declared.status.Status.{Status}
 use Rattle.program_lines.specs.declared.status.Status.TheVariants.{Done, IllFormed, NoMemory}
 use Rattle.program_lines.specs.Verdicts.{AreVerdicts}
 use Rattle.program_lines.specs.Statuses.{IsOneOf}
-use Rattle.process_top.specs.Inputs.{Input, most_input, IsRead, IsRefused, text_tests}
+use Rattle.command_input.specs.Inputs.{Input, most_input, IsRead, IsRefused, text_tests}
 use Rattle.process_top.specs.Replies.{Reply, checked, refused}
 
 -- the verdicts on the processes of the input, or what is refused of it

@@ -1,36 +1,45 @@
 -- What is answered on a list of words: on these words, from this world to that one, at this status.
-use Rattle.std.specs.Prelude.{◌≡◌, ◌⊎◌, ℕ, Bool, true, false, List, [], ◌∷◌, codes, Option, Some, None, ⊤}
+use Rattle.std.specs.Prelude.{◌≡◌, ◌⊎◌, ℕ, Bool, true, false, List, [], ◌∷◌, length, drop, codes, Option, Some, None, ⊤}
 use Rattle.std.specs.Str.{bytes_eq}
 use Rattle.program_words.specs.Commands.{asked}
 use Rattle.program_words.specs.declared.reading.Command.{Command}
-use Rattle.program_words.specs.declared.reading.Command.TheVariants.{Check, Run, Show, Verify}
+use Rattle.program_words.specs.declared.reading.Command.TheVariants.{Check, Init, Run, Session, Show, Verify}
 use Rattle.process_flow.specs.Causes.{Rose}
 use Rattle.program_lines.specs.Statuses.{number_of}
 use Rattle.program_lines.specs.declared.status.Status.{Status}
+use Rattle.program_lines.specs.declared.status.Status.TheVariants.{IllFormed}
 use Rattle.program_lines.specs.declared.refusal.Refusal.TheVariants.{BadWords, NoMemory}
-use Rattle.process_top.specs.Early.{comes_before_files}
-use Rattle.process_top.specs.Worlds.{World, Input, Files}
-use Rattle.process_top.specs.FilesLeft.{AreUntouched, AreLeft}
-use Rattle.process_top.specs.Replies.{Reply, refused, status_of, text_of}
-use Rattle.process_top.specs.Told.{IsTold}
+use Rattle.command_input.specs.Early.{comes_before_files}
+use Rattle.scenario_run.specs.Run.{AskedGate}
+use Rattle.process_top.specs.Worlds.{World, GatesState, Input, Files}
+use Rattle.history_files.specs.Boxes.{AreBoxes}
+use Rattle.process_setup.specs.Init.{IsInitComplete}
+use Rattle.command_input.specs.FilesLeft.{AreUntouched, AreLeft}
+use Rattle.process_top.specs.Replies.{Reply, ended, refused, IsReplyTold}
 use Rattle.process_top.specs.Check.{IsCheckDue, IsCheckComplete}
-use Rattle.process_top.specs.Run.{IsRunDue, IsRunComplete}
+use Rattle.process_top.specs.Init.{IsInitDue}
+use Rattle.process_top.specs.Run.{first_gate, IsRunDue, IsRunComplete}
+use Rattle.process_top.specs.Session.{IsSessionDue, IsSessionComplete}
 use Rattle.process_top.specs.Show.{IsShowDue, IsShowComplete}
 use Rattle.process_top.specs.Verify.{IsVerifyDue, IsVerifyComplete}
 
--- what may be due to a command; to words that ask for none, that they are bad, or that memory was wanting for them
-abbrev pub IsDueTo : Option Command → Input → Input → Files → Files → Reply → Type 0
-IsDueTo None before after files files_after reply = ((reply ≡ refused BadWords) ⊎ (reply ≡ refused NoMemory)) × AreUntouched files files_after
-IsDueTo (Some Check) before after files files_after reply = IsCheckDue before after reply × AreUntouched files files_after
-IsDueTo (Some Run) before after files files_after reply = IsRunDue before after files files_after reply
-IsDueTo (Some Show) before after files files_after reply = IsShowDue files files_after reply × AreUntouched files files_after
-IsDueTo (Some Verify) before after files files_after reply = IsVerifyDue before after reply × AreUntouched files files_after
+-- what may be due to a command, which may ask the first gate; to words that ask for none, that they are bad, or that memory was wanting for them
+abbrev pub IsDueTo : Option Command → AskedGate → Input → Input → Files → Files → Reply → Type 0
+IsDueTo None gate before after files files_after reply = ((reply ≡ refused BadWords) ⊎ (reply ≡ refused NoMemory)) × AreUntouched files files_after
+IsDueTo (Some Check) gate before after files files_after reply = IsCheckDue before after reply × AreUntouched files files_after
+IsDueTo (Some Init) gate before after files files_after reply = IsInitDue before after files files_after reply
+IsDueTo (Some Run) gate before after files files_after reply = IsRunDue gate before after files files_after reply
+IsDueTo (Some Session) gate before after files files_after reply = IsSessionDue before after files files_after reply
+IsDueTo (Some Show) gate before after files files_after reply = IsShowDue files files_after reply × AreUntouched files files_after
+IsDueTo (Some Verify) gate before after files files_after reply = IsVerifyDue before after reply × AreUntouched files files_after
 
 -- what a command does where nothing fails
 abbrev pub DoesItsWork : Option Command → Input → Files → Status → Type 0
 DoesItsWork None input files status = ⊤
 DoesItsWork (Some Check) input files status = IsCheckComplete input status
-DoesItsWork (Some Run) input files status = IsRunComplete input files.disk status
+DoesItsWork (Some Init) input files status = IsInitComplete input files.disk status
+DoesItsWork (Some Run) input files status = IsRunComplete input files status
+DoesItsWork (Some Session) input files status = IsSessionComplete input files status
 DoesItsWork (Some Show) input files status = IsShowComplete files.disk status
 DoesItsWork (Some Verify) input files status = IsVerifyComplete input status
 
@@ -38,7 +47,9 @@ DoesItsWork (Some Verify) input files status = IsVerifyComplete input status
 abbrev pub reads_input : Option Command → Bool
 reads_input None = false
 reads_input (Some Check) = true
+reads_input (Some Init) = true
 reads_input (Some Run) = true
+reads_input (Some Session) = true
 reads_input (Some Show) = false
 reads_input (Some Verify) = true
 
@@ -46,9 +57,21 @@ reads_input (Some Verify) = true
 abbrev pub uses_files : Option Command → Bool
 uses_files None = false
 uses_files (Some Check) = false
+uses_files (Some Init) = true
 uses_files (Some Run) = true
+uses_files (Some Session) = true
 uses_files (Some Show) = true
 uses_files (Some Verify) = false
+
+-- the command uses the boxes
+abbrev pub uses_boxes : Option Command → Bool
+uses_boxes None = false
+uses_boxes (Some Check) = false
+uses_boxes (Some Init) = true
+uses_boxes (Some Run) = true
+uses_boxes (Some Session) = true
+uses_boxes (Some Show) = false
+uses_boxes (Some Verify) = false
 
 -- no call failed of the source, the rack and the sink, as far as the command uses them
 pub record IsQuiet {S K R : Type 0} (asked : Option Command) (before after : World S K R) : Type 0 where
@@ -56,9 +79,31 @@ pub record IsQuiet {S K R : Type 0} (asked : Option Command) (before after : Wor
   pub files : uses_files asked ≡ true → ¬ Rose before.files.faults after.files.faults
   pub output : ¬ Rose before.output.faults after.output.faults
 
--- a refusal that comes before a command calls the rack
+-- the command asks a gate
+abbrev pub asks_gate : Option Command → Bool
+asks_gate None = false
+asks_gate (Some Check) = false
+asks_gate (Some Init) = false
+asks_gate (Some Run) = true
+asks_gate (Some Session) = false
+asks_gate (Some Show) = false
+asks_gate (Some Verify) = false
+
+-- all gates but the first are as they were
+pub record AreOthersAsBefore (before after : GatesState) : Type 0 where
+  pub answers : after.answers ≡ before.answers
+  pub count : length after.refusals ≡ length before.refusals
+  pub others : drop 1 after.refusals ≡ drop 1 before.refusals
+
+-- the status of verdicts
+abbrev pub is_verdict : Status → Bool
+is_verdict IllFormed = true
+is_verdict status = false
+
+-- a refusal that comes before a command calls the rack, or the verdict on a process that isn't well-formed
 abbrev pub is_early : Reply → Bool
 is_early (refused r) = comes_before_files r
+is_early (ended said) = is_verdict said.status
 is_early reply = false
 
 -- On these words, from this world to that one, at this status, this was answered.
@@ -68,18 +113,25 @@ pub record Answers {S K R : Type 0} (words : List (List ℕ)) (before after : Wo
   pub numbered : number ≡ number_of status
   -- this was to be said, and it was due
   pub reply : Reply
-  pub due : IsDueTo (asked words) before.input after.input before.files after.files reply
-  -- it was told: its text went out, and the status is its own; or the sink failed, and the status is that of a write fault
-  pub told : IsTold (status_of reply) (text_of reply) before.output after.output status
+  pub due : IsDueTo (asked words) (first_gate before.gates after.gates) before.input after.input before.files after.files reply
+  -- it was told: its text went out, and the status is its own, or that of want of memory for its line; or the sink failed, and the status
+  -- is that of a write fault
+  pub told : IsReplyTold reply before.output after.output status
   -- where no call failed, the command did what it is for, or memory is wanting
   pub complete : IsQuiet (asked words) before after → DoesItsWork (asked words) before.input before.files status
-  -- the files but file 0 stay as they are, in each crash image too
+  -- the rack tells as before, and its count of faults didn't fall
   pub left : AreLeft before.files after.files
+  -- the boxes are those of the eight subsystems again, and a command that needs none leaves their values
+  pub boxes : AreBoxes (λ b. b.kind) after.boxes
+  pub kept : uses_boxes (asked words) ≡ false → after.boxes ≡ before.boxes
+  -- only the first gate may be asked, and a command that asks none leaves it as it is
+  pub gates : AreOthersAsBefore before.gates after.gates
+  pub unasked : asks_gate (asked words) ≡ false → after.gates ≡ before.gates
   -- a command that needs no files leaves the rack as it is, whatever it tells
   pub untouched : uses_files (asked words) ≡ false → after.rack ≡ before.rack
   -- a command that needs no input leaves the source as it is
   pub unread : reads_input (asked words) ≡ false → after.source ≡ before.source
-  -- a refusal that comes before the rack is called leaves it as it is, whatever it tells
+  -- what is said before the rack is called leaves it as it is, whatever it tells
   pub early : is_early reply ≡ true → after.rack ≡ before.rack
 
 -- the first word is `show`

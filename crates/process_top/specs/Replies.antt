@@ -1,6 +1,5 @@
 -- What there is to say: for each command and end a reply, with its status and its text.
 use Rattle.std.specs.Prelude.{ℕ, Bool, true, false, List, [], Option, codes, if◌then◌else◌}
-use Rattle.std.specs.List.{concat}
 use Rattle.process_tree.specs.declared.tree.Named.{Named}
 use Rattle.process_tree.specs.Termination.{Fault}
 use Rattle.commute_table.specs.declared.catalog.Catalog.{Catalog}
@@ -11,14 +10,16 @@ use Rattle.program_lines.specs.declared.status.Status.TheVariants.{Done, IllForm
 use Rattle.program_lines.specs.declared.refusal.Refusal.{Refusal}
 use Rattle.program_lines.specs.Refusals.{refusal_status}
 use Rattle.program_lines.specs.Verdicts.{verdict_lines, any_fault}
-use Rattle.process_top.specs.Life.{lines_of}
-use Rattle.process_top.specs.Told.{refusal_line}
+use Rattle.command_input.specs.declared.said.Said.{Said}
+use Rattle.process_top.specs.Told.{Output, refusal_line, IsTold, IsRefusalTold}
 
 pub data Reply : Type 0 where
   -- the verdicts on these processes
   checked : List Named → List (Option Fault) → Reply
-  -- the process was run
-  ran : Named → Reply
+  -- the files were made
+  created : Reply
+  -- a command over an engine came to its end, with this to say
+  ended : Said → Reply
   -- the history of file 0, under its catalog
   shown : Catalog → History → Reply
   -- the report is accepted
@@ -32,14 +33,21 @@ is_refused reply = false
 
 abbrev pub status_of : Reply → Status
 status_of (checked ps verdicts) = if any_fault verdicts then IllFormed else Done
-status_of (ran p) = Done
+status_of created = Done
+status_of (ended said) = said.status
 status_of (shown c h) = Done
 status_of accepted = Done
 status_of (refused r) = refusal_status r
 
 abbrev pub text_of : Reply → List ℕ
 text_of (checked ps verdicts) = verdict_lines ps verdicts
-text_of (ran p) = concat (lines_of p)
+text_of created = codes "created\n"
+text_of (ended said) = said.text.items
 text_of (shown c h) = report_text c h []
 text_of accepted = codes "accepted\n"
 text_of (refused r) = refusal_line r
+
+-- a reply was told: its text went out, at its status; or it is a refusal whose line needs memory, and it was told that there is none
+abbrev pub IsReplyTold : Reply → Output → Output → Status → Type 0
+IsReplyTold (refused r) before after ended_at = IsRefusalTold r before after ended_at
+IsReplyTold reply before after ended_at = IsTold (status_of reply) (text_of reply) before after ended_at

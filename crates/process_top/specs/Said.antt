@@ -1,8 +1,14 @@
 -- What a command has to say.
-use Rattle.std.specs.Prelude.{◌≡◌, false, Result, Ok, Err}
+use Rattle.std.specs.Prelude.{◌≡◌, false, Option, Some, Result, Ok, Err, ⊤}
 use Rattle.program_lines.specs.declared.status.Status.{Status}
 use Rattle.program_lines.specs.declared.refusal.Refusal.{Refusal}
-use Rattle.process_top.specs.declared.told.Said.{Said}
+use Rattle.program_words.specs.declared.reading.Command.{Command}
+use Rattle.program_words.specs.declared.reading.Command.TheVariants.{Run, Session}
+use Rattle.command_input.specs.declared.said.Said.{Said}
+use Rattle.command_input.specs.Inputs.{Input}
+use Rattle.command_input.specs.FilesLeft.{Files}
+use Rattle.scenario_run.specs.Completeness.{IsRunComplete}
+use Rattle.session_run.specs.Completeness.{IsSessionComplete}
 use Rattle.process_top.specs.Replies.{Reply, refused, is_refused, status_of, text_of}
 use Rattle.process_top.specs.Told.{Output, IsTold, IsRefusalTold}
 
@@ -15,3 +21,9 @@ Says IsDue (Err r) = IsDue (refused r)
 abbrev pub IsResultTold : Result Said Refusal → Output → Output → Status → Type 0
 IsResultTold (Ok said) before after ended = IsTold said.status said.text.items before after ended
 IsResultTold (Err r) before after ended = IsRefusalTold r before after ended
+
+-- what is promised of the work of a command over an engine, where nothing fails
+abbrev pub HasWorked : Option Command → Input → Input → Files → Files → Result Said Refusal → Type 0
+HasWorked (Some Run) before after files files_after found = IsRunComplete before after files files_after found
+HasWorked (Some Session) before after files files_after found = IsSessionComplete before after files files_after found
+HasWorked o before after files files_after found = ⊤

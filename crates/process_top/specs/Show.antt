@@ -17,7 +17,7 @@ use Rattle.program_lines.specs.declared.refusal.Refusal.TheVariants as refusals
 use Rattle.program_lines.specs.declared.status.Status.{Status}
 use Rattle.program_lines.specs.declared.status.Status.TheVariants.{Done, NoMemory}
 use Rattle.program_lines.specs.Statuses.{IsOneOf}
-use Rattle.process_top.specs.FilesLeft.{Files}
+use Rattle.command_input.specs.FilesLeft.{Files}
 use Rattle.process_top.specs.Replies.{Reply, shown, refused}
 
 -- what is told of a journal that was not opened

@@ -11,7 +11,7 @@ use Rattle.program_lines.specs.declared.refusal.Refusal.TheVariants.{Report}
 use Rattle.program_lines.specs.declared.status.Status.{Status}
 use Rattle.program_lines.specs.declared.status.Status.TheVariants.{Done, BadInput, NotReduced, NoMemory}
 use Rattle.program_lines.specs.Statuses.{IsOneOf}
-use Rattle.process_top.specs.Inputs.{Input, most_input, OnInput, IsRefused, input_tests}
+use Rattle.command_input.specs.Inputs.{Input, most_input, OnInput, IsRefused, input_tests}
 use Rattle.process_top.specs.Replies.{Reply, accepted, refused}
 
 -- the verdict that is this fault of a report

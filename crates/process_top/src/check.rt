@@ -1,10 +1,9 @@
 // The command `check`.
-ghost use Rattle.process_top.specs.Inputs.{input};
+ghost use Rattle.command_input.specs.Inputs.{input};
 ghost use Rattle.process_top.specs.Check.{IsCheckDue};
 ghost use Rattle.process_top.specs.Said.{Says};
 
-use crate::input::processes_of;
-use crate::told::Said;
+use command_input::{Said, processes_of};
 use process_flow::Source;
 use program_lines::{Refusal, Status, verdicts};
 use std::alloc::Global;

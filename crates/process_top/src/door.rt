@@ -1,21 +1,29 @@
 // The front door: answers to lists of words.
-ghost use Rattle.std.specs.Prelude.{◌≡◌, true, false, map, string_bytes, IfErr};
+ghost use Rattle.std.specs.Prelude.{◌≡◌, true, false, length, map, string_bytes, IfOk, IfErr, Some};
+ghost use Rattle.program_lines.specs.declared.status.Status.TheVariants.{IllFormed};
 ghost use Rattle.program_words.specs.Commands.{asked};
-ghost use Rattle.process_top.specs.FilesLeft.{AreLeft};
-ghost use Rattle.process_top.specs.Early.{comes_before_files};
-ghost use Rattle.process_top.specs.Said.{Says};
-ghost use Rattle.process_top.specs.Worlds.{files, input, world};
-ghost use Rattle.process_top.specs.Commands.{first_is_show, reads_input, uses_files, Answers, IsDueTo};
+ghost use Rattle.history_files.specs.Boxes.{AreBoxes};
+ghost use Rattle.command_input.specs.FilesLeft.{AreLeft};
+ghost use Rattle.command_input.specs.Early.{comes_before_files};
+ghost use Rattle.process_top.specs.Run.{first_gate};
+ghost use Rattle.process_top.specs.Said.{Says, HasWorked};
+ghost use Rattle.process_top.specs.Worlds.{files, input, world, gates as told_gates};
+ghost use Rattle.process_top.specs.Commands.{asks_gate, first_is_show, reads_input, uses_boxes, uses_files, Answers, AreOthersAsBefore, IsDueTo};
 
 use crate::check::check;
-use crate::run::run;
 use crate::show::show;
-use crate::told::{Said, tell_result};
+use crate::told::tell_result;
 use crate::verify::verify;
+use command_input::Said;
 use process_disk::Rack;
+use process_engine::{Gate, Parts};
 use process_flow::{Sink, Source};
+use process_setup::{InitEnd, init};
 use program_lines::Refusal;
 use program_words::{Command, WordsError, read_words};
+use resource_box::Resource;
+use scenario_run::{RunEnd, run};
+use session_run::{SessionEnd, session};
 use std::alloc::Global;
 
 /// Whether a list of words can only read files: its first word is `show`.
@@ -28,64 +36,153 @@ pub fn only_reads(words: &[String]) -> bool
     }
 }
 
-/// The number of an answer's status, and the rack after it.
-pub struct Finished<R> {
+/// The number of an answer's status, and the rack, the boxes and the gates after it.
+pub struct Finished<R, G, B = Box<dyn Resource + Send>> {
     pub status: u8,
     pub rack: R,
+    pub resources: Vec<B>,
+    pub gates: Vec<G>,
 }
 
-// What there is to say on a list of words.
-fn said<S: Source, R: Rack>(
+// The rack and the boxes after a command, and what there is to say.
+struct CommandEnd<R: Drop, B: Drop> {
+    parts: Parts<R, B>,
+    found: Result<Said, Refusal>,
+}
+
+// What a command has to say.
+fn done<S: Source, R: Rack + Drop, B: Resource, G: Gate>(
     alloc: Global,
-    words: &[String],
+    command: Command,
     source: &mut S,
-    rack: &mut R,
-) -> Result<Said, Refusal>
-    ensures due { Says (IsDueTo (asked (map string_bytes words.now)) (input S.Source source.old) (input S.Source source.new)
-        (files R.Rack rack.old) (files R.Rack rack.new)) result }
-    ensures left { AreLeft (files R.Rack rack.old) (files R.Rack rack.new) }
-    ensures untouched { uses_files (asked (map string_bytes words.now)) ≡ false → rack.new ≡ rack.old }
-    ensures unread { reads_input (asked (map string_bytes words.now)) ≡ false → source.new ≡ source.old }
-    ensures early { IfErr result (λ r. comes_before_files r ≡ true → rack.new ≡ rack.old) }
+    parts: Parts<R, B>,
+    gates: &mut Vec<G>,
+) -> CommandEnd<R, B>
+    requires boxes { AreBoxes B.sort parts.resources.items }
+    requires gates { length gates.old.items ≡ 16 }
+    ensures due { Says (IsDueTo (Some command) (first_gate (told_gates G.Gate gates.old.items) (told_gates G.Gate gates.new.items))
+        (input S.Source source.old) (input S.Source source.new) (files R.Rack parts.rack) (files R.Rack result.parts.rack)) result.found }
+    ensures worked { HasWorked (Some command) (input S.Source source.old) (input S.Source source.new) (files R.Rack parts.rack) (files R.Rack result.parts.rack) result.found }
+    ensures left { AreLeft (files R.Rack parts.rack) (files R.Rack result.parts.rack) }
+    ensures boxes { AreBoxes B.sort result.parts.resources.items }
+    ensures kept { uses_boxes (Some command) ≡ false → result.parts.resources ≡ parts.resources }
+    ensures gates { AreOthersAsBefore (told_gates G.Gate gates.old.items) (told_gates G.Gate gates.new.items) }
+    ensures unasked { asks_gate (Some command) ≡ false → gates.new.items ≡ gates.old.items }
+    ensures untouched { uses_files (Some command) ≡ false → result.parts.rack ≡ parts.rack }
+    ensures unread { reads_input (Some command) ≡ false → source.new ≡ source.old }
+    ensures early { IfErr result.found (λ r. comes_before_files r ≡ true → result.parts.rack ≡ parts.rack) }
+    ensures verdict { IfOk result.found (λ s. s.status ≡ IllFormed → result.parts.rack ≡ parts.rack) }
 {
-    match read_words(alloc, words) {
-        Ok(Command::Check) => check(alloc, source),
-        Ok(Command::Run) => run(alloc, source, rack),
-        Ok(Command::Show) => show(alloc, rack),
-        Ok(Command::Verify) => verify(alloc, source),
-        Err(WordsError::BadWords) => Err(Refusal::BadWords),
-        Err(WordsError::NoMemory) => Err(Refusal::NoMemory),
+    match command {
+        Command::Check => CommandEnd {
+            parts,
+            found: check(alloc, source),
+        },
+        Command::Init => {
+            let InitEnd { parts, found } = init(alloc, source, parts);
+            CommandEnd { parts, found }
+        }
+        Command::Run => {
+            let RunEnd { parts, found } = run(alloc, source, parts, &mut gates[0]);
+            CommandEnd { parts, found }
+        }
+        Command::Session => {
+            let SessionEnd { parts, found } = session(alloc, source, parts);
+            CommandEnd { parts, found }
+        }
+        Command::Show => {
+            let mut parts = parts;
+            let found = show(alloc, &mut parts.rack);
+            CommandEnd { parts, found }
+        }
+        Command::Verify => CommandEnd {
+            parts,
+            found: verify(alloc, source),
+        },
     }
 }
 
-/// Answers a list of words over a source, a sink and a rack.
-pub fn answer<S: Source, K: Sink, R: Rack>(
+// What there is to say on a list of words.
+fn said<S: Source, R: Rack + Drop, B: Resource, G: Gate>(
+    alloc: Global,
+    words: &[String],
+    source: &mut S,
+    parts: Parts<R, B>,
+    gates: &mut Vec<G>,
+) -> CommandEnd<R, B>
+    requires boxes { AreBoxes B.sort parts.resources.items }
+    requires gates { length gates.old.items ≡ 16 }
+    ensures due { Says (IsDueTo (asked (map string_bytes words.now)) (first_gate (told_gates G.Gate gates.old.items) (told_gates G.Gate gates.new.items))
+        (input S.Source source.old) (input S.Source source.new) (files R.Rack parts.rack) (files R.Rack result.parts.rack)) result.found }
+    ensures worked { HasWorked (asked (map string_bytes words.now)) (input S.Source source.old) (input S.Source source.new) (files R.Rack parts.rack) (files R.Rack result.parts.rack) result.found }
+    ensures left { AreLeft (files R.Rack parts.rack) (files R.Rack result.parts.rack) }
+    ensures boxes { AreBoxes B.sort result.parts.resources.items }
+    ensures kept { uses_boxes (asked (map string_bytes words.now)) ≡ false → result.parts.resources ≡ parts.resources }
+    ensures gates { AreOthersAsBefore (told_gates G.Gate gates.old.items) (told_gates G.Gate gates.new.items) }
+    ensures unasked { asks_gate (asked (map string_bytes words.now)) ≡ false → gates.new.items ≡ gates.old.items }
+    ensures untouched { uses_files (asked (map string_bytes words.now)) ≡ false → result.parts.rack ≡ parts.rack }
+    ensures unread { reads_input (asked (map string_bytes words.now)) ≡ false → source.new ≡ source.old }
+    ensures early { IfErr result.found (λ r. comes_before_files r ≡ true → result.parts.rack ≡ parts.rack) }
+    ensures verdict { IfOk result.found (λ s. s.status ≡ IllFormed → result.parts.rack ≡ parts.rack) }
+{
+    match read_words(alloc, words) {
+        Ok(command) => done(alloc, command, source, parts, gates),
+        Err(WordsError::BadWords) => CommandEnd {
+            parts,
+            found: Err(Refusal::BadWords),
+        },
+        Err(WordsError::NoMemory) => CommandEnd {
+            parts,
+            found: Err(Refusal::NoMemory),
+        },
+    }
+}
+
+/// Answers a list of words over a source, a sink, a rack, the boxes of eight subsystems and sixteen gates.
+pub fn answer<S: Source, K: Sink, R: Rack + Drop, B: Resource, G: Gate>(
     alloc: Global,
     words: &[String],
     source: &mut S,
     sink: &mut K,
     rack: R,
-) -> Finished<R>
+    resources: Vec<B>,
+    gates: Vec<G>,
+) -> Finished<R, G, B>
+    requires boxes { AreBoxes B.sort resources.items }
+    requires gates { length gates.items ≡ 16 }
     // On these words, from this world to that one, at this status, this was answered.
-    ensures { Answers (map string_bytes words.now) (world S.Source K.Sink R.Rack source.old sink.old rack) (world S.Source K.Sink R.Rack source.new sink.new result.rack) result.status }
+    ensures { Answers (map string_bytes words.now) (world S.Source K.Sink R.Rack B.Resource G.Gate source.old sink.old rack resources.items gates.items)
+        (world S.Source K.Sink R.Rack B.Resource G.Gate source.new sink.new result.rack result.resources.items result.gates.items) result.status }
 {
-    let mut rack = rack;
-    let found = said(alloc, words, source, &mut rack);
+    let mut gates = gates;
+    let parts = Parts { rack, resources };
+    let CommandEnd { parts, found } = said(alloc, words, source, parts, &mut gates);
     let status = tell_result(alloc, sink, &found).number();
-    Finished { status, rack }
+    let Parts { rack, resources } = parts;
+    Finished {
+        status,
+        rack,
+        resources,
+        gates,
+    }
 }
 
 /// Answers a list of words, as `answer` does.
-pub fn top<H, S: Source, K: Sink, R: Rack>(
+pub fn top<H, S: Source, K: Sink, R: Rack + Drop, B: Resource, G: Gate>(
     _rt: &H,
     alloc: Global,
     words: &[String],
     source: &mut S,
     sink: &mut K,
     rack: R,
-) -> Finished<R>
+    resources: Vec<B>,
+    gates: Vec<G>,
+) -> Finished<R, G, B>
+    requires boxes { AreBoxes B.sort resources.items }
+    requires gates { length gates.items ≡ 16 }
     // On these words, from this world to that one, at this status, this was answered.
-    ensures { Answers (map string_bytes words.now) (world S.Source K.Sink R.Rack source.old sink.old rack) (world S.Source K.Sink R.Rack source.new sink.new result.rack) result.status }
+    ensures { Answers (map string_bytes words.now) (world S.Source K.Sink R.Rack B.Resource G.Gate source.old sink.old rack resources.items gates.items)
+        (world S.Source K.Sink R.Rack B.Resource G.Gate source.new sink.new result.rack result.resources.items result.gates.items) result.status }
 {
-    answer(alloc, words, source, sink, rack)
+    answer(alloc, words, source, sink, rack, resources, gates)
 }

@@ -2,12 +2,12 @@
 ghost use Rattle.std.specs.Prelude.{◌≡◌, ◌≤◌, false, IfOk, IfErr};
 ghost use Rattle.process_disk.specs.Disk.{Told};
 ghost use Rattle.process_disk.specs.Images.{AllAsBefore};
-ghost use Rattle.process_top.specs.FilesLeft.{files};
-ghost use Rattle.process_top.specs.Early.{comes_before_files};
+ghost use Rattle.command_input.specs.FilesLeft.{files};
+ghost use Rattle.command_input.specs.Early.{comes_before_files};
 ghost use Rattle.process_top.specs.Said.{Says};
 ghost use Rattle.process_top.specs.Show.{journal_refusal, IsNotOpened, IsShown, IsShowDue};
 
-use crate::told::Said;
+use command_input::Said;
 use commute_table::Catalog;
 use process_disk::Rack;
 use process_journal::{Journal, JournalError};
@@ -51,6 +51,7 @@ pub fn show<R: Rack>(alloc: Global, rack: &mut R) -> Result<Said, Refusal>
     ensures tells { (R.disk rack.new).tells ≡ (R.disk rack.old).tells }
     ensures later { R.faults rack.old ≤ R.faults rack.new }
     ensures late { IfErr result (λ r. comes_before_files r ≡ false) }
+    ensures status { IfOk result (λ s. s.status ≡ Status.Done) }
 {
     let (catalog, history) = opened(alloc, rack)?;
     let text = report(alloc, &catalog, &history, &[])?;

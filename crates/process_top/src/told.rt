@@ -4,16 +4,10 @@ ghost use Rattle.program_lines.specs.declared.refusal.Refusal.TheVariants.{NoMem
 ghost use Rattle.process_top.specs.Said.{IsResultTold};
 ghost use Rattle.process_top.specs.Told.{output, refusal_line, IsTold, IsLineTold, IsRefusalTold};
 
+use command_input::Said;
 use process_flow::{Sink, write_all};
 use program_lines::{Refusal, Status};
 use std::alloc::{AllocError, Global};
-
-/// What a command has to say where it did what it is for.
-#[derive(Drop)]
-pub struct Said {
-    pub text: Vec<u8>,
-    pub status: Status,
-}
 
 // Writes the text and answers the status, or that of a write fault.
 fn tell<K: Sink>(sink: &mut K, text: &[u8], status: Status) -> Status

@@ -3,11 +3,11 @@ ghost use Rattle.std.specs.Prelude.{◌≡◌, ◌<◌, ◌++◌, ◌∷◌, [],
 ghost use Rattle.process_tree.specs.Blocks.{outline};
 ghost use Rattle.process_tree.specs.Making.{tree_fault};
 ghost use Rattle.process_tree.specs.Order.{Each};
-ghost use Rattle.process_tree.specs.Shape.{shape_of, goes_on_to, fixed_len, last_of, commits, can_be_refused, kind_of};
+ghost use Rattle.process_tree.specs.Shape.{shape_of, goes_on_to, last_of};
 ghost use Rattle.process_tree.specs.Play.{play, asks, answered, go_back, fallback_of};
 ghost use Rattle.process_tree.specs.Stands.{stand_of, arrive_at, IsNext, IsOpen};
 
-use crate::{Fallback, Outcome, Place, Places, Played, StepKind, Tree};
+use crate::{Fallback, Outcome, Place, Places, Played, Tree, fixed_len, kind_of};
 use std::alloc::{AllocError, Global};
 
 /// Where a play stands, beside the steps that are done.
@@ -18,28 +18,6 @@ pub enum Standing {
     Path,
     Nothing,
     Stuck(u16),
-}
-
-/// The kind of a step.
-fn kind_of(tree: &Tree, n: u16) -> StepKind
-    requires { n < length (outline tree.now).steps }
-    ensures { result ≡ kind_of (shape_of tree.now) n }
-{
-    tree.step(n).kind
-}
-
-/// How many of these steps stand up to the last commit point.
-fn fixed_len(tree: &Tree, done: &[u16]) -> usize
-    requires { Each (λ b. b < length (outline tree.now).steps) done.now }
-    ensures { result ≡ fixed_len (shape_of tree.now) done.now }
-{
-    let mut fixed = 0;
-    for (place, step) in done.iter().enumerate() {
-        if kind_of(tree, *step).commits() {
-            fixed = place + 1;
-        }
-    }
-    fixed
 }
 
 /// The last of a list.

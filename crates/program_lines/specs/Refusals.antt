@@ -9,7 +9,7 @@ use Rattle.program_lines.specs.declared.faults.ScenarioFault.TheVariants.{BadTom
 use Rattle.program_lines.specs.declared.faults.ReportFault.{ReportFault}
 use Rattle.program_lines.specs.declared.faults.ReportFault.TheVariants as faults
 use Rattle.program_lines.specs.declared.refusal.Refusal.{Refusal}
-use Rattle.program_lines.specs.declared.refusal.Refusal.TheVariants.{BadWords, NotYet, Text, Scenario, CatalogDiffers, BadLine, Limit, Unfinished, File, BookDiffers, Report, ReadFault, DiskFault, Exhausted, NoMemory}
+use Rattle.program_lines.specs.declared.refusal.Refusal.TheVariants.{BadWords, Text, Scenario, CatalogDiffers, BadLine, Limit, Unfinished, File, BookDiffers, Report, ReadFault, DiskFault, Exhausted, NoMemory}
 use Rattle.program_lines.specs.Faults.{quantity_word, scenario_text, file_text, report_text}
 
 -- of a text
@@ -28,7 +28,6 @@ report_status (faults.SerialDiffers n) = statuses.NotReduced
 
 abbrev pub refusal_status : Refusal → Status
 refusal_status BadWords = statuses.BadWords
-refusal_status NotYet = statuses.BadInput
 refusal_status (Text e) = error_status e
 refusal_status (Scenario fault) = statuses.BadInput
 refusal_status (CatalogDiffers n) = statuses.BadInput
@@ -46,7 +45,6 @@ refusal_status NoMemory = statuses.NoMemory
 -- the line, without its line feed
 abbrev pub refusal_text : Refusal → List ℕ
 refusal_text BadWords = codes "bad words"
-refusal_text NotYet = codes "not yet"
 refusal_text (Text e) = error_text e
 refusal_text (Scenario fault) = scenario_text fault
 refusal_text (CatalogDiffers n) = codes "catalog differs at byte " ++ decimal n
@@ -64,7 +62,6 @@ refusal_text NoMemory = codes "no memory"
 -- the line has a number or a name, so that to tell it takes memory
 abbrev pub needs_memory : Refusal → Bool
 needs_memory BadWords = false
-needs_memory NotYet = false
 needs_memory (Scenario BadToml) = false
 needs_memory ReadFault = false
 needs_memory DiskFault = false

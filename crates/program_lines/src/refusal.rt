@@ -15,8 +15,6 @@ use std::fmt;
 #[derive(Drop)]
 pub enum Refusal {
     BadWords,
-    /// `run` of a text that is not one process of compensatable steps of `add`.
-    NotYet,
     /// What is wrong first with a text of processes.
     Text(TextError),
     Scenario(ScenarioFault),
@@ -68,10 +66,9 @@ impl Refusal {
     {
         match self {
             Refusal::BadWords => Status::BadWords,
-            Refusal::NotYet
-            | Refusal::Scenario(_)
-            | Refusal::CatalogDiffers(_)
-            | Refusal::BadLine(_) => Status::BadInput,
+            Refusal::Scenario(_) | Refusal::CatalogDiffers(_) | Refusal::BadLine(_) => {
+                Status::BadInput
+            }
             Refusal::Text(error) => error_status(error),
             Refusal::Limit(_, _) => Status::Limit,
             Refusal::Unfinished(_) => Status::Unfinished,
@@ -92,7 +89,6 @@ impl Refusal {
     {
         match self {
             Refusal::BadWords => Some(b"bad words\n"),
-            Refusal::NotYet => Some(b"not yet\n"),
             Refusal::Scenario(ScenarioFault::BadToml) => Some(b"bad toml\n"),
             Refusal::ReadFault => Some(b"read fault\n"),
             Refusal::DiskFault => Some(b"disk fault\n"),
@@ -108,7 +104,6 @@ impl fmt::Display for Refusal {
     fn fmt<W: fmt::Write>(&self, f: &mut fmt::Formatter<W>) -> fmt::Result {
         match self {
             Refusal::BadWords => f.write_str("bad words"),
-            Refusal::NotYet => f.write_str("not yet"),
             Refusal::Text(error) => write!(f, "{error}"),
             Refusal::Scenario(fault) => write!(f, "{fault}"),
             Refusal::CatalogDiffers(n) => write!(f, "catalog differs at byte {n}"),

@@ -80,7 +80,9 @@ plain_written name c = ap (option_map (λ (_ : ⊤). c)) (taken_by (fault_of (pl
 -- a written command asks for itself
 pub written_asked : (c : Command) → asked (written c) ≡ Some c
 written_asked command.Check = plain_written (codes "check") command.Check
+written_asked command.Init = plain_written (codes "init") command.Init
 written_asked command.Run = plain_written (codes "run") command.Run
+written_asked command.Session = plain_written (codes "session") command.Session
 written_asked command.Show = plain_written (codes "show") command.Show
 written_asked command.Verify = plain_written (codes "verify") command.Verify
 

@@ -16,7 +16,9 @@ plain_asked word found rest = option_map (λ _. found) (nothing_asked (plain_app
 -- what the words after a command's name ask for, or nothing where `clap` refuses them
 abbrev pub asked_after : Name → List Text → Option Command
 asked_after name.Check rest = plain_asked (codes "check") command.Check rest
+asked_after name.Init rest = plain_asked (codes "init") command.Init rest
 asked_after name.Run rest = plain_asked (codes "run") command.Run rest
+asked_after name.Session rest = plain_asked (codes "session") command.Session rest
 asked_after name.Show rest = plain_asked (codes "show") command.Show rest
 asked_after name.Verify rest = plain_asked (codes "verify") command.Verify rest
 

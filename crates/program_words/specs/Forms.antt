@@ -7,7 +7,9 @@ use Rattle.program_words.specs.declared.reading.Command.TheVariants as command
 -- a command as words
 abbrev pub written : Command → List Text
 written command.Check = codes "check" ∷ []
+written command.Init = codes "init" ∷ []
 written command.Run = codes "run" ∷ []
+written command.Session = codes "session" ∷ []
 written command.Show = codes "show" ∷ []
 written command.Verify = codes "verify" ∷ []
 

@@ -6,7 +6,9 @@ ghost use Rattle.program_words.specs.Names.{named};
 #[derive(Clone, Copy, Debug, PartialEq, Eq, Drop)]
 pub(crate) enum Name {
     Check,
+    Init,
     Run,
+    Session,
     Show,
     Verify,
 }
@@ -17,7 +19,9 @@ pub(crate) fn name_of(word: &str) -> Option<Name>
 {
     match word {
         "check" => Some(Name::Check),
+        "init" => Some(Name::Init),
         "run" => Some(Name::Run),
+        "session" => Some(Name::Session),
         "show" => Some(Name::Show),
         "verify" => Some(Name::Verify),
         _ => None,

@@ -13,7 +13,9 @@ use std::alloc::Global;
 #[derive(Clone, Copy, Debug, PartialEq, Eq, Drop)]
 pub enum Command {
     Check,
+    Init,
     Run,
+    Session,
     Show,
     Verify,
 }
@@ -44,9 +46,17 @@ fn read_after(alloc: Global, name: Name, rest: &[String]) -> Result<Command, Wor
             read_no_argument(alloc, "check", rest)?;
             Ok(Command::Check)
         }
+        Name::Init => {
+            read_no_argument(alloc, "init", rest)?;
+            Ok(Command::Init)
+        }
         Name::Run => {
             read_no_argument(alloc, "run", rest)?;
             Ok(Command::Run)
+        }
+        Name::Session => {
+            read_no_argument(alloc, "session", rest)?;
+            Ok(Command::Session)
         }
         Name::Show => {
             read_no_argument(alloc, "show", rest)?;

@@ -18,7 +18,9 @@ fn words_are_read_as_commands(rt: HostRuntime) -> Result<(), Fail> {
     let alloc = rt.alloc();
     let rows = [
         ("check", Ok(Command::Check)),
+        ("init", Ok(Command::Init)),
         ("run", Ok(Command::Run)),
+        ("session", Ok(Command::Session)),
         ("show", Ok(Command::Show)),
         ("verify", Ok(Command::Verify)),
         ("check --", Ok(Command::Check)),
@@ -29,6 +31,8 @@ fn words_are_read_as_commands(rt: HostRuntime) -> Result<(), Fail> {
         ("check -h", Err(WordsError::BadWords)),
         ("show --version", Err(WordsError::BadWords)),
         ("show -V", Err(WordsError::BadWords)),
+        ("init init", Err(WordsError::BadWords)),
+        ("session 4", Err(WordsError::BadWords)),
         ("run 4", Err(WordsError::BadWords)),
         ("run --workers 4", Err(WordsError::BadWords)),
         ("run -- 4", Err(WordsError::BadWords)),

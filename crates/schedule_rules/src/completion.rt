@@ -1,12 +1,10 @@
 // What completes a history.
-ghost use Rattle.std.specs.Prelude.{◌≡◌, slice_index_or, ◌++◌, ◌∷◌, [], ◌<◌, ◌≤◌, ℕ, length, filter, map, flat_map, reverse, None, IfOk, OnOk, IsTrue, not};
+ghost use Rattle.std.specs.Prelude.{◌≡◌, ◌++◌, ◌∷◌, [], ℕ, length, filter, map, flat_map, reverse, None, IfOk, OnOk, IsTrue, not};
 ghost use Rattle.std.specs.List.{list_any};
 ghost use Rattle.process_tree.specs.declared.entry.Entry.{Entry};
-ghost use Rattle.process_tree.specs.Blocks.{outline};
 ghost use Rattle.process_tree.specs.Making.{tree_fault};
-ghost use Rattle.process_tree.specs.Order.{Each};
 ghost use Rattle.process_tree.specs.Recovery.{forward};
-ghost use Rattle.process_tree.specs.Shape.{shape_of, fixed_len, commits, kind_of};
+ghost use Rattle.process_tree.specs.Shape.{shape_of};
 ghost use Rattle.schedule_model.specs.declared.event.Event.TheVariants.{Act, End};
 ghost use Rattle.schedule_model.specs.Completion.{completion};
 ghost use Rattle.schedule_model.specs.Course.{courses_of, course_of};
@@ -16,7 +14,7 @@ ghost use Rattle.schedule_model.specs.OwnOrder.{is_in_own_order};
 ghost use Rattle.schedule_rules.specs.Recovering.{StandsOnBranches, IsBranch, backward_among, all_backward, owed_by, closed_by, closing_among};
 
 use crate::events::{is_same_step, net};
-use process_tree::{Entry, Plan, StepKind, Tree};
+use process_tree::{Entry, Plan, fixed_len, op_of};
 use schedule_model::{Event, History};
 use std::alloc::{AllocError, Global};
 
@@ -86,28 +84,6 @@ fn active_processes(alloc: Global, events: &[Event]) -> Result<Vec<u32>, AllocEr
     let mut processes = started(alloc, events)?;
     processes.retain(|i| !is_listed(&ended, *i));
     Ok(processes)
-}
-
-/// The kind of a step.
-pub fn kind_of(tree: &Tree, n: u16) -> StepKind
-    requires { n < length (outline tree.now).steps }
-    ensures { result ≡ kind_of (shape_of tree.now) n }
-{
-    tree.step(n).kind
-}
-
-/// How many of these steps stand up to the last commit point.
-fn fixed_len(tree: &Tree, steps: &[u16]) -> usize
-    requires { Each (λ b. b < length (outline tree.now).steps) steps.now }
-    ensures { result ≡ fixed_len (shape_of tree.now) steps.now }
-{
-    let mut fixed = 0;
-    for (place, step) in steps.iter().enumerate() {
-        if kind_of(tree, *step).commits() {
-            fixed = place + 1;
-        }
-    }
-    fixed
 }
 
 /// The entries of one process.
@@ -268,14 +244,6 @@ fn add_closing(
     add_steps(plan.ops.as_slice(), &places, i, added)?;
     added.push(Event::End(i))?;
     Ok(())
-}
-
-/// The operation of a step, or 0 where there is none.
-pub fn op_of(ops: &[u16], step: u16) -> u16
-    ensures { result ≡ slice_index_or ops.now step 0 }
-{
-    let place = usize::from(step);
-    if place < ops.len() { ops[place] } else { 0 }
 }
 
 /// Adds these steps of a process.

@@ -1,4 +1,4 @@
-//! Tests of the storage: racks over real files and over a folder in memory, and logs on racks.
+//! Tests of the storage: racks over real files and over a folder in memory, stops of a rack in memory, logs on racks, and stores.
 //!
 //! They stand apart from the crates that they test, since a crate with tests is proved twice.
 #![tactic(auto)]
@@ -9,5 +9,9 @@ mod calls;
 mod logs;
 #[cfg(test)]
 mod rounds;
+#[cfg(test)]
+mod stops;
+#[cfg(test)]
+mod stores;
 #[cfg(test)]
 mod stories;

@@ -1,27 +1,12 @@
 // The bytes of a store's records.
 ghost use Rattle.std.specs.Prelude.{◌≡◌, ◌<◌, ◌≤◌, ◌+◌, take, drop, length, Some, None, IsTrue, if◌then◌else◌, MatchOption};
 ghost use Rattle.std.specs.Int.{from_le_bytes, w16, w32, w64};
-ghost use Rattle.commute_table.specs.Bytes.{verb_code};
 ghost use Rattle.process_tree.specs.Making.{same_text};
 ghost use Rattle.subsystem_store.specs.Bodies.{prepared_bytes, committed_bytes, verb_of, effect_at, is_amount, record_of, prepared_of, committed_of};
 
 use crate::Effect;
 use crate::effect::Record;
 use resource_box::{Call, Verb};
-
-/// The code of a verb.
-pub fn code_of(verb: Verb) -> u8
-    ensures { result ≡ verb_code verb }
-{
-    match verb {
-        Verb::Add => 0,
-        Verb::Take => 1,
-        Verb::Look => 2,
-        Verb::Put => 3,
-        Verb::Hold => 4,
-        Verb::Free => 5,
-    }
-}
 
 fn verb_of(code: u8) -> Verb
     ensures { result ≡ verb_of code }
@@ -52,7 +37,7 @@ pub fn prepared_bytes(effect: &Effect) -> [u8; 25]
     let [k0, k1, k2, k3] = effect.call.key.to_le_bytes();
     let [a0, a1, a2, a3, a4, a5, a6, a7] = effect.call.amount.cast_unsigned().to_le_bytes();
     let undo = flag(effect.undo);
-    let verb = code_of(effect.call.verb);
+    let verb = effect.call.verb.code();
     [
         16, n0, n1, n2, n3, p0, p1, p2, p3, s0, s1, undo, verb, k0, k1, k2, k3, a0, a1, a2, a3, a4,
         a5, a6, a7,

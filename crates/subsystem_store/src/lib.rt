@@ -18,7 +18,5 @@ mod store;
 pub use effect::Effect;
 pub use errors::{Prepare, StoreError, StoreRefused};
 pub use laws::{books_are_read_back, calls_make_good_books, effects_fit_their_bytes};
+pub use matching::same_call;
 pub use store::Store;
-
-#[cfg(test)]
-mod tests;

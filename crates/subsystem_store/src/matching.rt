@@ -5,14 +5,14 @@ ghost use Rattle.subsystem_store.specs.Order.{is_above};
 ghost use Rattle.subsystem_store.specs.Matching.{last_place};
 
 use crate::Effect;
-use crate::bodies::code_of;
 use crate::effect::Undoable;
 use resource_box::Call;
 
-fn same_call(a: &Call, b: &Call) -> bool
+/// Whether two calls are the same.
+pub fn same_call(a: &Call, b: &Call) -> bool
     ensures { result ≡ same_call a.now b.now }
 {
-    code_of(a.verb) == code_of(b.verb) && a.key == b.key && a.amount == b.amount
+    a.verb.code() == b.verb.code() && a.key == b.key && a.amount == b.amount
 }
 
 /// Whether an undo is of a forward effect.

@@ -22,6 +22,3 @@ pub use cutting::cut;
 pub use forms::number_of;
 pub use laws::{acceptance_is_exact, numbers_are_names, verdicts_mean};
 pub use verdict::{Verified, verify};
-
-#[cfg(test)]
-mod tests;

@@ -1,5 +1,5 @@
 use Rattle.std.proofs.Common.{sym, subst}
-use Rattle.process_top.specs.FilesLeft.{files}
+use Rattle.command_input.specs.FilesLeft.{files}
 use Rattle.process_setup.specs.Init.{AreMade}
 use Rattle.process_setup.proofs.creating.made.Goals as goal
 

@@ -1,7 +1,7 @@
 use Rattle.std.proofs.Common.{◌≡◌, rules, Err, refl}
 use Rattle.program_lines.specs.declared.refusal.Refusal.TheVariants.{NoMemory}
 use Rattle.process_top.specs.Replies.{shown}
-use Rattle.process_top.specs.FilesLeft.{files}
+use Rattle.command_input.specs.FilesLeft.{files}
 use Rattle.process_top.proofs.Saying.{is_planned, no_memory_shown}
 use Rattle.process_top.proofs.show.show.Goals as goal
 

@@ -1,4 +1,4 @@
-use Rattle.std.proofs.Common.{◌∙◌, sym, subst}
+use Rattle.std.proofs.Common.{◌∙◌, rules, sym, subst}
 use Rattle.process_disk.proofs.Images.{follow_then}
 use Rattle.process_tree.specs.declared.play.Outcome.TheVariants.{Refused as Fails}
 use Rattle.process_engine.specs.Finishing.{Finishes}
@@ -13,14 +13,18 @@ returns-in-Ok-clause-finishes g c =
     subst (λ o. Finishes g.R.Rack.disk c.args.self.now c.finish_prepared.new.self c.args.piece o (Effected c.in-Ok.count)) (sym (succeeds c.args.self.now c.args.piece c.requires.out free))
     (done g.R.Rack.disk c.args.self.now c.prepare_piece.new.self c.finish_prepared.new.self c.args.piece c.in-Ready.prepared.piece c.is_sound.ensures.run c.requires.out c.in-Ready.ensures.reply.1
     c.prepare_piece.ensures.core c.prepare_piece.ensures.catalog c.prepare_piece.ensures.tells c.prepare_piece.ensures.follow c.prepare_piece.ensures.any_moment
-    c.finish_prepared.ensures.follow c.finish_prepared.ensures.any_moment c.finish_prepared.ensures.catalog
-    c.in-Ok.count c.in-Ok.ensures.core c.in-Ok.ensures.settled c.in-Ok.ensures.reply (c.is_sound-in-Ok.ensures.each c.in-Ok.ensures.settled))
+    c.finish_prepared.ensures.follow c.finish_prepared.ensures.any_moment c.finish_prepared.ensures.settles.catalog
+    c.in-Ok.count c.in-Ok.ensures.settles.core c.in-Ok.ensures.settles.settled c.in-Ok.ensures.settles.reply (c.is_sound-in-Ok.ensures.each c.in-Ok.ensures.settles.settled))
 
-pub returns-in-Ok-clause-follow : goal.returns-in-Ok-clause-follow
-returns-in-Ok-clause-follow g c told =
-    follow_then (g.R.Rack.disk c.args.self.now.files.rack) (g.R.Rack.disk c.prepare_piece.new.self.files.rack) (g.R.Rack.disk c.finish_prepared.new.self.files.rack)
-    (g.met.R.Rack.honest c.finish_prepared.new.self.files.rack (c.finish_prepared.ensures.tells ∙ (c.prepare_piece.ensures.tells ∙ told)))
-    (c.prepare_piece.ensures.follow told) (c.finish_prepared.ensures.follow (c.prepare_piece.ensures.tells ∙ told))
+pub returns-in-Ok-clause-rack : goal.returns-in-Ok-clause-rack
+returns-in-Ok-clause-rack g c = record {
+  follow = λ told. follow_then (g.R.Rack.disk c.args.self.now.files.rack) (g.R.Rack.disk c.prepare_piece.new.self.files.rack) (g.R.Rack.disk c.finish_prepared.new.self.files.rack)
+      (g.met.R.Rack.honest c.finish_prepared.new.self.files.rack (c.finish_prepared.ensures.tells ∙ (c.prepare_piece.ensures.tells ∙ told)))
+      (c.prepare_piece.ensures.follow told) (c.finish_prepared.ensures.follow (c.prepare_piece.ensures.tells ∙ told));
+  tells = search rules;
+  later = search rules;
+  fault = search rules;
+}
 
 pub returns-in-Err-clause-finishes : goal.returns-in-Err-clause-finishes
 returns-in-Err-clause-finishes g c =
@@ -28,13 +32,17 @@ returns-in-Err-clause-finishes g c =
     subst (λ o. Finishes g.R.Rack.disk c.args.self.now c.finish_prepared.new.self c.args.piece o DiskFault) (sym (succeeds c.args.self.now c.args.piece c.requires.out free))
     (undone g.R.Rack.disk c.args.self.now c.prepare_piece.new.self c.finish_prepared.new.self c.args.piece c.in-Ready.prepared.piece c.is_sound.ensures.run c.requires.out c.in-Ready.ensures.reply.1
     c.prepare_piece.ensures.core c.prepare_piece.ensures.catalog c.prepare_piece.ensures.tells c.prepare_piece.ensures.follow c.prepare_piece.ensures.any_moment
-    c.finish_prepared.ensures.follow c.finish_prepared.ensures.any_moment c.finish_prepared.ensures.catalog c.in-Err.ensures.left c.in-Err.ensures.closed)
+    c.finish_prepared.ensures.follow c.finish_prepared.ensures.any_moment c.finish_prepared.ensures.settles.catalog c.in-Err.ensures.settles.left c.in-Err.ensures.settles.closed)
 
-pub returns-in-Err-clause-follow : goal.returns-in-Err-clause-follow
-returns-in-Err-clause-follow g c told =
-    follow_then (g.R.Rack.disk c.args.self.now.files.rack) (g.R.Rack.disk c.prepare_piece.new.self.files.rack) (g.R.Rack.disk c.finish_prepared.new.self.files.rack)
-    (g.met.R.Rack.honest c.finish_prepared.new.self.files.rack (c.finish_prepared.ensures.tells ∙ (c.prepare_piece.ensures.tells ∙ told)))
-    (c.prepare_piece.ensures.follow told) (c.finish_prepared.ensures.follow (c.prepare_piece.ensures.tells ∙ told))
+pub returns-in-Err-clause-rack : goal.returns-in-Err-clause-rack
+returns-in-Err-clause-rack g c = record {
+  follow = λ told. follow_then (g.R.Rack.disk c.args.self.now.files.rack) (g.R.Rack.disk c.prepare_piece.new.self.files.rack) (g.R.Rack.disk c.finish_prepared.new.self.files.rack)
+      (g.met.R.Rack.honest c.finish_prepared.new.self.files.rack (c.finish_prepared.ensures.tells ∙ (c.prepare_piece.ensures.tells ∙ told)))
+      (c.prepare_piece.ensures.follow told) (c.finish_prepared.ensures.follow (c.prepare_piece.ensures.tells ∙ told));
+  tells = search rules;
+  later = search rules;
+  fault = search rules;
+}
 
 pub returns-in-Barred-clause-finishes : goal.returns-in-Barred-clause-finishes
 returns-in-Barred-clause-finishes g c =

@@ -85,6 +85,12 @@ returns-in-Ok-clause-tells_back g c =
     c.engine_on.ensures.rack c.engine_on.ensures.why
     (λ x rack why. subst (λ k. (g.R.Rack.disk k).tells ≡ (g.R.Rack.disk c.args.parts.rack).tells) (sym rack) c.in-Ok.ensures.tells)
 
+pub returns-in-Ok-clause-later_back : goal.returns-in-Ok-clause-later_back
+returns-in-Ok-clause-later_back g c =
+    both_hold c.engine_on.result (λ x. x.parts.rack ≡ c.in-Ok.files.rack) (λ x. x.why ≡ NoMemory) (λ x. g.R.Rack.faults c.args.parts.rack ≤ g.R.Rack.faults x.parts.rack)
+    c.engine_on.ensures.rack c.engine_on.ensures.why
+    (λ x rack why. subst (λ k. g.R.Rack.faults c.args.parts.rack ≤ g.R.Rack.faults k) (sym rack) c.in-Ok.ensures.later)
+
 pub returns-in-Ok-clause-fault : goal.returns-in-Ok-clause-fault
 returns-in-Ok-clause-fault g c =
     both_hold c.engine_on.result (λ x. x.parts.rack ≡ c.in-Ok.files.rack) (λ x. x.why ≡ NoMemory)

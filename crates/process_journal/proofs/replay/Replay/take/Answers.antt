@@ -39,7 +39,7 @@ returns-in-Some-Act-clause-bodies c =
     let e = c.in-Some-Act.entry in
     let is = c.in-Some-Act.is ∙ ap Some c.in-Some-Act.field-0-is in
     let bytes = subst (λ o. IfSome o (λ r. bytes_of r ≡ c.args.body.now)) is c.in_ok-process.ensures.bytes in
-    let op = c.op_of-op.ensures ∙ ap (λ ps. op_of (courses_of ps) e.process e.step) c.as_slice.ensures in
+    let op = c.planned_op-op.ensures ∙ ap (λ ps. op_of (courses_of ps) e.process e.step) c.as_slice.ensures in
     body_taken c.args.catalog.now h (Act e) c.args.body.now c.go_on.result c.requires.read.history bytes
     (subst (λ o. IfOk c.go_on.result (λ after. after.history ≡ with_event h (events.Act (record { process = e.process; step = e.step; op = o; undo = e.undo })))) op c.go_on.ensures.history)
 
@@ -48,8 +48,8 @@ returns-in-Some-Act-clause-refused c =
     let h = c.args.self.history in
     let e = c.in-Some-Act.entry in
     let is = sym c.in_ok-process.ensures.found ∙ c.in-Some-Act.is ∙ ap Some c.in-Some-Act.field-0-is in
-    let op = c.op_of-op.ensures ∙ ap (λ ps. op_of (courses_of ps) e.process e.step) c.as_slice.ensures in
-    let acted = events.Act (record { process = e.process; step = e.step; op = c.op_of-op.result; undo = e.undo }) in
+    let op = c.planned_op-op.ensures ∙ ap (λ ps. op_of (courses_of ps) e.process e.step) c.as_slice.ensures in
+    let acted = events.Act (record { process = e.process; step = e.step; op = c.planned_op-op.result; undo = e.undo }) in
     event_refused c.args.catalog.now h c.args.number c.args.body.now (Act e) acted c.go_on.result is
     (ap (λ o. with_event h (events.Act (record { process = e.process; step = e.step; op = o; undo = e.undo }))) op) c.go_on.ensures.refused
 

@@ -1,0 +1,2 @@
+pub mod InputRefusals
+pub mod Planning

@@ -1,0 +1,5 @@
+pub mod Early
+pub mod Inputs
+pub mod FilesLeft
+pub mod Scenarios
+pub mod ScenarioExamples

@@ -1,0 +1,85 @@
+-- What a scenario gives a command: a catalog and the plans of its processes, or why there are none. It is looked at in this order: its
+-- document, the text of its processes, their operations, and whether they are well-formed.
+use Rattle.std.specs.Prelude.{◌≡◌, ◌⊎◌, ℕ, List, [], ◌∷◌, Some, None, Ok, Err, ⊤}
+use Rattle.process_tree.specs.Blocks.{outline}
+use Rattle.process_tree.specs.declared.plan.Plan.{Plan}
+use Rattle.process_tree.specs.declared.tree.Named.{Named}
+use Rattle.process_text.specs.Words.{words_of}
+use Rattle.process_text.specs.Grammar.{IsReading}
+use Rattle.process_text.specs.Places.{text_error}
+use Rattle.process_text.specs.declared.error.TextError.{TextError}
+use Rattle.process_text.specs.declared.error.TextError.TheVariants as texts
+use Rattle.commute_table.specs.declared.op.Op.{Op}
+use Rattle.commute_table.specs.declared.catalog.Catalog.{Catalog}
+use Rattle.commute_table.specs.declared.scenario.Scenario.{Scenario}
+use Rattle.commute_table.specs.declared.errors.ScenarioError.{ScenarioError}
+use Rattle.commute_table.specs.declared.errors.ScenarioError.TheVariants as errors
+use Rattle.commute_table.specs.declared.errors.BindError.TheVariants as binds
+use Rattle.commute_table.specs.Document.{Says, IsAnswer}
+use Rattle.commute_table.specs.Binding.{numbers_bound, IsPlanOf}
+use Rattle.program_lines.specs.declared.faults.Quantity.TheVariants.{Operations}
+use Rattle.program_lines.specs.declared.faults.ScenarioFault.TheVariants.{BadToml, BadKey, UnknownOperation, SameOperation}
+use Rattle.program_lines.specs.declared.refusal.Refusal.{Refusal}
+use Rattle.program_lines.specs.declared.refusal.Refusal.TheVariants as refusals
+use Rattle.program_lines.specs.Shown.{shown_word}
+use Rattle.program_lines.specs.Verdicts.{IsFirstVerdict}
+use Rattle.command_input.specs.declared.scenario.NoPlans.{NoPlans}
+use Rattle.command_input.specs.declared.scenario.NoPlans.TheVariants.{Refused, IllFormed}
+use Rattle.command_input.specs.Inputs.{text_refusal}
+
+-- what is told of a document that is no scenario
+abbrev pub scenario_refusal : ScenarioError → Refusal
+scenario_refusal errors.BadToml = refusals.Scenario BadToml
+scenario_refusal (errors.BadKey key) = refusals.Scenario (BadKey (shown_word key))
+scenario_refusal (errors.UnknownOp name) = refusals.Scenario (UnknownOperation (shown_word name))
+scenario_refusal (errors.SameOp name) = refusals.Scenario (SameOperation name)
+scenario_refusal (errors.Ops n) = refusals.Limit Operations n
+scenario_refusal errors.NoMemory = refusals.NoMemory
+
+-- the document is no scenario: its first refusal; or memory was wanting, which is free
+abbrev pub IsNoScenario : List ℕ → Refusal → Type 0
+IsNoScenario bytes r = (e : ScenarioError) × (r ≡ scenario_refusal e) × IsAnswer bytes (Err e)
+
+-- the text has a fault, its first; or memory was wanting
+abbrev pub IsNoText : List ℕ → Refusal → Type 0
+IsNoText text r = (e : TextError) × (r ≡ text_refusal e) × ((e ≡ texts.NoMemory) ⊎ (text_error text ≡ Some e))
+
+-- these are the plans of these processes under these operations, in order
+abbrev pub ArePlansOf : List Op → List Named → List Plan → Type 0
+ArePlansOf ops [] [] = ⊤
+ArePlansOf ops [] (plan ∷ plans) = ⊥
+ArePlansOf ops (p ∷ ps) [] = ⊥
+ArePlansOf ops (p ∷ ps) (plan ∷ plans) = IsPlanOf p ops plan × ArePlansOf ops ps plans
+
+-- the first step of a process whose operation there isn't names this one
+abbrev pub IsUnknown : List Op → Named → List ℕ → Type 0
+IsUnknown ops p name = numbers_bound ops [] (outline p.tree).steps ≡ Err (binds.UnknownOp name)
+
+-- what is told of that; or memory was wanting
+abbrev pub IsNoPlanOf : List Op → Named → Refusal → Type 0
+IsNoPlanOf ops p r = (r ≡ refusals.NoMemory) ⊎ ((name : List ℕ) × (r ≡ scenario_refusal (errors.UnknownOp name)) × IsUnknown ops p name)
+
+-- so of the first of these processes that has no plan
+abbrev pub AreNoPlans : List Op → List Named → Refusal → Type 0
+AreNoPlans ops [] r = ⊥
+AreNoPlans ops (p ∷ ps) r = IsNoPlanOf ops p r ⊎ (((plan : Plan) × IsPlanOf p ops plan) × AreNoPlans ops ps r)
+
+-- the text is that of processes with these plans, which are well-formed
+abbrev pub AreGoodPlans : List Op → List ℕ → List Plan → Type 0
+AreGoodPlans ops text plans = (ps : List Named) × IsReading (words_of text) ps × ArePlansOf ops ps plans × IsFirstVerdict ps None
+
+-- Why there are no such plans: the first fault of the text, or else the first unknown operation; or else the verdict line of the first
+-- process that isn't well-formed.
+abbrev pub AreNoGoodPlans : List Op → List ℕ → NoPlans → Type 0
+AreNoGoodPlans ops text (Refused r) = IsNoText text r ⊎ ((ps : List Named) × IsReading (words_of text) ps × AreNoPlans ops ps r)
+AreNoGoodPlans ops text (IllFormed line) =
+    (ps : List Named) × IsReading (words_of text) ps × ((plans : List Plan) × ArePlansOf ops ps plans) × IsFirstVerdict ps (Some line.items)
+
+-- the document says a scenario with this catalog, the processes of whose text have these plans
+abbrev pub IsBound : List ℕ → Catalog → List Plan → Type 0
+IsBound bytes c plans = (text : List ℕ) × Says bytes (Ok (record { catalog = c; processes = text })) × AreGoodPlans c.ops text plans
+
+-- Why there are none: what is refused of the document, or else of its processes.
+abbrev pub IsNotBound : List ℕ → NoPlans → Type 0
+IsNotBound bytes (Refused r) = IsNoScenario bytes r ⊎ ((s : Scenario) × Says bytes (Ok s) × AreNoGoodPlans s.catalog.ops s.processes (Refused r))
+IsNotBound bytes (IllFormed line) = (s : Scenario) × Says bytes (Ok s) × AreNoGoodPlans s.catalog.ops s.processes (IllFormed line)

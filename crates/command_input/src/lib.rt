@@ -1,0 +1,15 @@
+//! What commands read, and what they have to say.
+//!
+//! `text_of` reads the whole input within its limit and `processes_of` the processes of its text (`specs/Inputs`); `document_of` and
+//! `scenario_of` give the catalog and the plans of a scenario, or the first refusal (`specs/Scenarios`). `specs/Early` says which refusals
+//! come before a command calls the rack, and `specs/FilesLeft` in which words commands speak of their files. The texts of refusals are
+//! `program_lines`'.
+#![tactic(auto)]
+
+mod input;
+mod said;
+mod scenario;
+
+pub use input::{processes_of, text_of, text_refusal};
+pub use said::Said;
+pub use scenario::{Bound, NoPlans, document_of, scenario_of};

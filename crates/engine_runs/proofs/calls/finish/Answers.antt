@@ -1,0 +1,9 @@
+use Rattle.process_engine.specs.Finishing.{is_barred, outcome_of}
+use Rattle.engine_runs.proofs.Ends.{finish_goes}
+use Rattle.engine_runs.proofs.calls.finish.Goals as goal
+
+pub returns-clause-goes : goal.returns-clause-goes
+returns-clause-goes g c =
+    let end = c.finish-result.ensures in
+    finish_goes g.R.Rack.disk g.R.Rack.faults c.args.engine.now c.finish-result.new.self c.is_sound.ensures.run (c.is_sound.ensures.each c.requires.ready.settled) end.tells end.later end.follow
+    c.is_sound-2.ensures.run c.args.piece (outcome_of c.args.answer (is_barred c.args.engine.now c.args.piece.piece)) c.finish-result.result (end.finishes c.requires.ready.settled)

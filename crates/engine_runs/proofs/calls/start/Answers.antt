@@ -1,0 +1,28 @@
+use Rattle.std.proofs.Common.{subst, sym}
+use Rattle.history_files.specs.Standing.{EachFits}
+use Rattle.engine_runs.proofs.Ends.{refused_start_goes, start_goes}
+use Rattle.engine_runs.proofs.calls.start.Goals as goal
+
+pub returns-in-Ok-clause-goes : goal.returns-in-Ok-clause-goes
+returns-in-Ok-clause-goes g c =
+    let old = c.args.engine.now in
+    let new = c.start.new.self in
+    start_goes g.R.Rack.disk g.R.Rack.faults old new c.is_sound.ensures.run (c.is_sound.ensures.each c.requires.ready.settled) c.start.ensures.tells c.start.ensures.later c.start.ensures.follow
+    c.args.plan c.in-Ok.i c.is_sound-in-Ok.ensures.run c.in-Ok.ensures.reply c.in-Ok.ensures.core c.start.ensures.catalog (c.start.ensures.any_moment c.requires.ready.settled)
+
+pub returns-in-Ok-clause-ready : goal.returns-in-Ok-clause-ready
+returns-in-Ok-clause-ready g c = record {
+  settled = c.in-Ok.ensures.phase.1;
+  fits = subst (EachFits g.B.Resource.meaning g.B.Resource.sort) (sym c.start.ensures.stores) c.requires.ready.fits;
+}
+
+pub returns-in-Err-clause-goes : goal.returns-in-Err-clause-goes
+returns-in-Err-clause-goes g c =
+    refused_start_goes g.R.Rack.disk g.R.Rack.faults c.args.engine.now c.start.new.self c.is_sound.ensures.run (c.is_sound.ensures.each c.requires.ready.settled) c.start.ensures.tells c.start.ensures.later c.start.ensures.follow
+    c.args.plan c.in-Err.refused.why c.in-Err.ensures.left c.in-Err.ensures.closed c.start.ensures.catalog (c.start.ensures.any_moment c.requires.ready.settled)
+
+pub returns-in-Ok-clause-fits : goal.returns-in-Ok-clause-fits
+returns-in-Ok-clause-fits g c = subst (EachFits g.B.Resource.meaning g.B.Resource.sort) (sym c.in-Ok.ensures.stores) c.requires.ready.fits
+
+pub returns-in-Err-clause-fits : goal.returns-in-Err-clause-fits
+returns-in-Err-clause-fits g c = subst (EachFits g.B.Resource.meaning g.B.Resource.sort) (sym c.in-Err.ensures.stores) c.requires.ready.fits

@@ -1,0 +1,2 @@
+pub mod GateAnswers
+pub mod Runs

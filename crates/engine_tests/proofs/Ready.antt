@@ -1,0 +1,30 @@
+-- An engine stays ready, and the piece that it hands out was handed out by its core.
+use Rattle.std.proofs.Common.{◌≡◌, ◌∙◌, [], sym, subst}
+use Rattle.resource_box.specs.declared.call.Kind.{Kind}
+use Rattle.resource_box.specs.Meaning.{Pairs}
+use Rattle.machine_model.specs.Calls.{next, next_is}
+use Rattle.machine_model.specs.Replies.{Handed, chosen}
+use Rattle.process_core.specs.Answers.{after_call, answer_in}
+use Rattle.process_core.specs.Cores.{CoreState, IsCore, IsHandedBy}
+use Rattle.core_tests.proofs.Pieces.{with_chosen}
+use Rattle.history_files.specs.Standing.{EachFits}
+use Rattle.process_engine.specs.Engines.{EngineState, with_core}
+use Rattle.process_engine.specs.declared.engines.Phase.TheVariants as phase
+use Rattle.engine_tests.specs.Ready.{IsReady}
+
+-- after a request, which touches no file
+pub ready_asked : {R B : Type 0} (meaning : B → Pairs) (sort : B → Kind) (old new : EngineState R B) (core : CoreState)
+    → new ≡ with_core old core → IsReady meaning sort old → IsReady meaning sort new
+ready_asked meaning sort old new core is ready = subst (IsReady meaning sort) (sym is) (record { fits = ready.fits; whole = ready.whole })
+
+-- after a start, which leaves the stores
+pub ready_started : {R B : Type 0} (meaning : B → Pairs) (sort : B → Kind) (old new : EngineState R B)
+    → new.files.stores ≡ old.files.stores → new.phase ≡ phase.Settled → IsReady meaning sort old → IsReady meaning sort new
+ready_started meaning sort old new stores settled ready = record {
+  fits = subst (λ ss. EachFits meaning sort ss) (sym stores) ready.fits;
+  whole = λ under. let differ = sym settled ∙ under in absurd cc;
+}
+
+-- the piece of a request for any was handed out
+pub handed_next : (c d : CoreState) (h : Handed) → IsCore d → d ≡ after_call c next → next_is (chosen h) ≡ (answer_in c next).reply → IsHandedBy d h.piece
+handed_next c d h core is replied = (with_chosen c d h [] core is replied tt).0

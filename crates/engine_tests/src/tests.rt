@@ -1,0 +1,64 @@
+// The tests, each with the boxes of eight subsystems.
+ghost use Rattle.history_files.specs.Boxes.{AreBoxes};
+
+use crate::boxes::boxes;
+use crate::gates::{expect_room, expect_runs};
+use crate::openings::expect_openings;
+use crate::stops::expect_any_stop;
+use resource_box::Resource;
+use std::alloc::Global;
+use std::process::Abort;
+use std::test::Fail;
+
+#[derive(Clone, Copy)]
+enum Test {
+    Room,
+    Runs,
+    Openings,
+    Stops,
+}
+
+// A test with these boxes.
+fn run<H: Abort>(
+    rt: &H,
+    alloc: Global,
+    test: Test,
+    boxes: Vec<Box<dyn Resource + Send>>,
+) -> Result<(), Fail>
+    requires { AreBoxes (λ b. sort b) boxes.items }
+{
+    match test {
+        Test::Room => expect_room(rt, alloc, boxes),
+        Test::Runs => expect_runs(rt, alloc, boxes),
+        Test::Openings => expect_openings(rt, alloc, boxes),
+        Test::Stops => expect_any_stop(rt, alloc, boxes),
+    }
+}
+
+// A test with the boxes of eight subsystems.
+fn with_boxes<H: Abort>(rt: &H, alloc: Global, test: Test) -> Result<(), Fail> {
+    let boxes = boxes(alloc)?;
+    run(rt, alloc, test, boxes)
+}
+
+#[test]
+fn a_process_fits_beside_another(rt: HostRuntime) -> Result<(), Fail> {
+    with_boxes(&rt, rt.alloc(), Test::Room)
+}
+
+#[test]
+fn gates_refuse_what_they_were_told(rt: HostRuntime) -> Result<(), Fail> {
+    with_boxes(&rt, rt.alloc(), Test::Runs)
+}
+
+#[test]
+fn nine_files_are_opened_or_refused(rt: HostRuntime) -> Result<(), Fail> {
+    with_boxes(&rt, rt.alloc(), Test::Openings)
+}
+
+#[test]
+fn a_stop_within_any_device_call_leaves_the_history_before_or_with_the_event(
+    rt: HostRuntime,
+) -> Result<(), Fail> {
+    with_boxes(&rt, rt.alloc(), Test::Stops)
+}

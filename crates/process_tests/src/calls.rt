@@ -1,0 +1,125 @@
+// Calls of the program over objects in memory.
+use process_disk::MemoryRack;
+use process_flow::{MemorySink, MemorySource};
+use process_program::{new_boxes, new_gates};
+use process_top::{Finished, top};
+use std::alloc::{AllocError, Global};
+use std::process::Abort;
+
+pub fn words_of(alloc: Global, words: &[&str]) -> Result<Vec<String>, AllocError> {
+    let mut list = Vec::new(alloc);
+    for word in words {
+        list.push(String::from_str(alloc, word)?)?;
+    }
+    Ok(list)
+}
+
+// The status of `top` over a source, a sink and a rack, and the rack after it.
+fn answered<H>(
+    rt: &H,
+    alloc: Global,
+    words: &[String],
+    source: &mut MemorySource,
+    sink: &mut MemorySink,
+    rack: MemoryRack,
+) -> Result<(u8, MemoryRack), AllocError> {
+    let resources = new_boxes(alloc)?;
+    let gates = new_gates(alloc)?;
+    let finished = top(rt, alloc, words, source, sink, rack, resources, gates);
+    let Finished {
+        status,
+        rack,
+        resources,
+        gates,
+    } = finished;
+    drop(resources);
+    drop(gates);
+    Ok((status, rack))
+}
+
+/// Words and an input.
+#[derive(Clone, Copy, Drop)]
+pub struct Call<'a> {
+    pub words: &'a [&'a str],
+    pub text: &'a [u8],
+    /// Which reads of the input fail, and which writes of the output.
+    pub reads: &'a [u32],
+    pub writes: &'a [u32],
+}
+
+/// A call in which all reads and writes succeed.
+pub fn plain_call<'a>(words: &'a [&'a str], text: &'a [u8]) -> Call<'a> {
+    Call {
+        words,
+        text,
+        reads: &[],
+        writes: &[],
+    }
+}
+
+/// What is answered.
+#[derive(Drop)]
+pub struct Told {
+    pub status: u8,
+    pub sink: MemorySink,
+    pub rack: MemoryRack,
+}
+
+pub fn answer_to<H>(
+    rt: &H,
+    alloc: Global,
+    call: Call<'_>,
+    rack: MemoryRack,
+) -> Result<Told, AllocError> {
+    let words = words_of(alloc, call.words)?;
+    let mut source = MemorySource::new(call.text.to_vec(alloc)?, call.reads.to_vec(alloc)?);
+    let mut sink = MemorySink::new(alloc, call.writes.to_vec(alloc)?);
+    let (status, rack) = answered(rt, alloc, &words, &mut source, &mut sink, rack)?;
+    Ok(Told { status, sink, rack })
+}
+
+/// A call on a rack has this status and this whole output. The answer is the rack after it.
+pub fn expect_call<H: Abort>(
+    rt: &H,
+    alloc: Global,
+    call: Call<'_>,
+    rack: MemoryRack,
+    status: u8,
+    output: &[u8],
+) -> Result<MemoryRack, AllocError> {
+    let told = answer_to(rt, alloc, call, rack)?;
+    assert_eq!(rt; told.sink.bytes(), output);
+    assert_eq!(rt; told.status, status);
+    Ok(told.rack)
+}
+
+/// The same of words and an input.
+pub fn expect_on<H: Abort>(
+    rt: &H,
+    alloc: Global,
+    words: &[&str],
+    text: &[u8],
+    rack: MemoryRack,
+    status: u8,
+    output: &[u8],
+) -> Result<MemoryRack, AllocError> {
+    expect_call(rt, alloc, plain_call(words, text), rack, status, output)
+}
+
+/// A rack of nine empty files, of which these calls fail.
+pub fn empty(alloc: Global, fails: &[u32]) -> Result<MemoryRack, AllocError> {
+    MemoryRack::new(alloc, fails.to_vec(alloc)?)
+}
+
+/// Words and an input have this status and this output on a fresh rack.
+pub fn expect<H: Abort>(
+    rt: &H,
+    alloc: Global,
+    words: &[&str],
+    text: &[u8],
+    status: u8,
+    output: &[u8],
+) -> Result<(), AllocError> {
+    drop(expect_on(rt, alloc, words, text, empty(alloc, &[])?, status, output)?);
+    Ok(())
+}

@@ -1,0 +1,40 @@
+use Rattle.std.proofs.Common.{◌≡◌, slice_index_or, slice_set, subst, sym, arith}
+use Rattle.std.specs.Prelude.{Some}
+use Rattle.program_words.specs.declared.reading.Command.TheVariants.{Run}
+use Rattle.command_input.specs.Inputs.{input}
+use Rattle.command_input.specs.FilesLeft.{files}
+use Rattle.scenario_run.specs.Run.{AskedGate}
+use Rattle.process_top.specs.Said.{Says}
+use Rattle.process_top.specs.Commands.{IsDueTo}
+use Rattle.process_top.proofs.GatesAsked.{first_asked}
+use Rattle.process_top.proofs.Saying.{run_says, says_so, session_says}
+use Rattle.process_setup.proofs.FilesMade.{untouched}
+use Rattle.process_top.proofs.door.done.Goals as goal
+
+pub returns-in-Check-clause-due : goal.returns-in-Check-clause-due
+returns-in-Check-clause-due g c =
+    rw c.in-Check.is (says_so (λ reply due. (due, untouched (g.R.Rack.disk c.args.parts.rack) (g.met.R.Rack.honest c.args.parts.rack))) c.check.result c.check.ensures)
+
+pub returns-in-Verify-clause-due : goal.returns-in-Verify-clause-due
+returns-in-Verify-clause-due g c =
+    rw c.in-Verify.is (says_so (λ reply due. (due, untouched (g.R.Rack.disk c.args.parts.rack) (g.met.R.Rack.honest c.args.parts.rack))) c.verify.result c.verify.ensures)
+
+pub returns-in-Run-clause-due : goal.returns-in-Run-clause-due
+returns-in-Run-clause-due g c =
+    let gates = c.args.gates.now.items in
+    let gate = c.index_mut.result.now in
+    let first : gate ≡ slice_index_or gates 0 gate = c.index_mut.ensures.value in
+    let found = c.run-parts.result.found in
+    let before = input g.S.Source c.args.source.now in
+    let after = input g.S.Source c.run-parts.new.source in
+    let left = files g.R.Rack c.run-parts.result.parts.rack in
+    rw c.in-Run.is
+    (subst (λ (asked : AskedGate). Says (IsDueTo (Some Run) asked before after (files g.R.Rack c.args.parts.rack) left) found)
+    (sym (first_asked g.G.Gate gates gate c.run-parts.new.gate (omega (arith, c.requires.gates)) first))
+    (run_says _ before after (files g.R.Rack c.args.parts.rack) left found c.run-parts.ensures.due))
+
+pub returns-in-Session-clause-due : goal.returns-in-Session-clause-due
+returns-in-Session-clause-due g c =
+    rw c.in-Session.is
+    (session_says (input g.S.Source c.args.source.now) (input g.S.Source c.session-parts.new.source) (files g.R.Rack c.args.parts.rack) (files g.R.Rack c.session-parts.result.parts.rack)
+    c.session-parts.result.found c.session-parts.ensures.due)

@@ -1,0 +1,13 @@
+pub mod Causes
+pub mod Complete
+pub mod Differences
+pub mod FilesWithin
+pub mod FirstActive
+pub mod Fitting
+pub mod Gone
+pub mod IdleStarts
+pub mod NotRefused
+pub mod RunDue
+pub mod ScenarioPlans
+pub mod Starts
+pub mod StuckProcess

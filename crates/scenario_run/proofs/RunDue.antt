@@ -1,0 +1,84 @@
+-- What there is to say of a run is due.
+use Rattle.std.proofs.Common.{◌≡◌, ◌≤◌, ℕ, ◌+◌, ◌-◌, ◌^◌, min, List, Some, Result, Ok, Err, IfOk, IfErr, inl, inr, sym, subst, arith}
+use Rattle.process_flow.specs.Causes.{Rose}
+use Rattle.process_disk.specs.declared.rack.Rack.{Ghosts as Racks}
+use Rattle.process_disk.specs.Disk.{IsHonest, Told}
+use Rattle.process_disk.specs.Images.{EachImage}
+use Rattle.process_tree.specs.declared.plan.Plan.{Plan}
+use Rattle.schedule_model.specs.declared.history.History.{History}
+use Rattle.commute_table.specs.declared.catalog.Catalog.{Catalog}
+use Rattle.process_core.specs.Cores.{CoreState}
+use Rattle.history_files.specs.Sound.{IsSound}
+use Rattle.process_engine.specs.Engines.{EngineState, full_history}
+use Rattle.process_engine.specs.Fitting.{limit_passed}
+use Rattle.process_engine.specs.Opening.{IsOpened}
+use Rattle.process_engine.specs.declared.engines.Phase.{Phase}
+use Rattle.process_engine.specs.declared.engines.Phase.TheVariants.{Settled, Closed}
+use Rattle.engine_runs.specs.Runs.{GoesOn}
+use Rattle.engine_runs.proofs.Within.{OneEach}
+use Rattle.program_lines.specs.declared.refusal.Refusal.{Refusal}
+use Rattle.command_input.specs.declared.said.Said.{Said}
+use Rattle.command_input.specs.FilesLeft.{files}
+use Rattle.scenario_run.specs.Opening.{AreOpenedOn}
+use Rattle.scenario_run.specs.Run.{AreKept, AskedGate, HasGone, IsRunOf, SaysRun}
+use Rattle.scenario_run.specs.Stops.{IsStopped}
+use Rattle.scenario_run.proofs.FilesWithin.{are_kept}
+
+rose_by : (a b c n : ℕ) → a ≤ b → min (b + 1) n ≤ c → min (a + 1) n ≤ c
+rose_by a b c n low rose = omega arith
+
+-- a count that rose since a later moment rose since an earlier one
+pub rose_later : (a b c : ℕ) → a ≤ b → Rose b c → Rose a c
+rose_later a b c low rose = rose_by a b c (2 ^ 64 - 1) low rose
+
+module _ {R B : Type 0} (r : Racks R) (honest : (rack : R) → Told (r.disk rack) → IsHonest (r.disk rack)) (gate : AskedGate) (entry back : R) (opening now : EngineState R B) (plans : List Plan)
+    (is : IsOpened opening) (one_each : OneEach (full_history opening.core)) (tells : (r.disk opening.files.rack).tells ≡ (r.disk entry).tells) (later : r.faults entry ≤ r.faults opening.files.rack)
+    (opened : AreOpenedOn opening.catalog (full_history opening.core) (files r entry) (files r opening.files.rack)) (goes : GoesOn r.disk r.faults opening now)
+    (read : now.phase ≡ Settled → Told (r.disk now.files.rack) → IsSound now.catalog (full_history now.core) (r.disk now.files.rack).files)
+    (each : now.phase ≡ Settled → Told (r.disk now.files.rack) → EachImage (r.disk now.files.rack) (r.disk now.files.rack).moment (IsSound now.catalog (full_history now.core))) (handed : back ≡ now.files.rack) where
+  abbrev c : Catalog
+  c = opening.catalog
+
+  abbrev h : History
+  h = full_history opening.core
+
+  abbrev KeptOn : Phase → History → Type 0
+  KeptOn on k = AreKept c h k on (files r entry) (files r back)
+
+  kept : KeptOn now.phase (full_history now.core)
+  kept = subst (λ rack. AreKept c h (full_history now.core) now.phase (files r entry) (files r rack)) (sym handed) (are_kept r honest entry opening now one_each tells opened goes read each)
+
+  kept_on : (on : Phase) → now.phase ≡ on → KeptOn on (full_history now.core)
+  kept_on on at = subst (λ p. KeptOn p (full_history now.core)) at kept
+
+  -- where the engine was left as it was opened
+  kept_still : now ≡ opening → KeptOn Settled h
+  kept_still same = subst (λ p. KeptOn p h) is.phase (subst (λ (e : EngineState R B). KeptOn e.phase (full_history e.core)) same kept)
+
+  stopped : (x : Refusal) → IsStopped gate r.faults opening now plans x → IsRunOf gate c plans (files r entry) (files r back) (Err x)
+  stopped x (inl (limit, said, passed, same)) =
+      inr (inl (h, limit, said, subst (λ (core : CoreState). limit_passed core plans ≡ Some limit) is.core passed, kept_still same))
+  stopped x (inr (started, rest, all, gone, inl (said, on))) = inr (inr (h, started, rest, now.core, all, inl (said, (gone, kept_on Settled on))))
+  stopped x (inr (started, rest, all, gone, inr (said, on, rose))) =
+      inr (inr (
+        h,
+        started,
+        rest,
+        now.core,
+        all,
+        inr (
+          said,
+          (gone, kept_on Closed on),
+          subst (λ rack. Rose (r.faults entry) (r.faults rack)) (sym handed) (rose_later (r.faults entry) (r.faults opening.files.rack) (r.faults now.files.rack) later rose),
+        ),
+      ))
+
+  run_of_opening : (found : Result Said Refusal) → IfOk found (λ s. HasGone gate c h plans now.core × (now.phase ≡ Settled) × SaysRun c now.core s) → IfErr found (IsStopped gate r.faults opening now plans)
+      → IsRunOf gate c plans (files r entry) (files r back) found
+  run_of_opening (Ok s) ran why = (h, now.core, (ran.0, kept_on Settled ran.1), ran.2)
+  run_of_opening (Err x) ran why = stopped x why
+
+  -- by the catalog for which the engine was opened
+  pub run_of : (d : Catalog) (found : Result Said Refusal) → c ≡ d → IfOk found (λ s. HasGone gate c h plans now.core × (now.phase ≡ Settled) × SaysRun c now.core s)
+      → IfErr found (IsStopped gate r.faults opening now plans) → IsRunOf gate d plans (files r entry) (files r back) found
+  run_of d found same ran why = subst (λ e. IsRunOf gate e plans (files r entry) (files r back) found) same (run_of_opening found ran why)

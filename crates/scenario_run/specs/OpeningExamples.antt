@@ -1,0 +1,43 @@
+-- Worked refusals of openings, each of which holds by computing.
+use Rattle.std.specs.Prelude.{◌≡◌, refl, [], ◌∷◌, Some, None, true, false, codes}
+use Rattle.std.specs.Fmt.{digits}
+use Rattle.commute_table.specs.declared.catalog.Catalog.{Catalog}
+use Rattle.commute_table.specs.declared.op.Verb.TheVariants.{Add, Take}
+use Rattle.commute_table.specs.Bytes.{bytes_of}
+use Rattle.history_files.specs.declared.faults.OpenError.TheVariants.{BadHistory}
+use Rattle.program_lines.specs.Refusals.{refusal_text}
+use Rattle.program_lines.specs.declared.refusal.Refusal.TheVariants.{CatalogDiffers, Unfinished}
+use Rattle.scenario_run.specs.Opening.{first_difference, open_refusal}
+
+-- one operation that conflicts with nothing
+abbrev pub add_only : Catalog
+add_only = record { ops = record { name = codes "add"; subsystem = 0; verb = Add } ∷ []; conflicts = (false ∷ []) ∷ [] }
+
+-- two operations, both of which conflict with themselves and each other
+abbrev pub add_and_take : Catalog
+add_and_take = record {
+  ops = record { name = codes "add"; subsystem = 0; verb = Add } ∷ record { name = codes "take"; subsystem = 0; verb = Take } ∷ [];
+  conflicts = (true ∷ true ∷ []) ∷ (true ∷ []) ∷ [];
+}
+
+-- the numbers of their operations differ, at byte 1
+pub differ_in_count : first_difference (bytes_of add_only) (bytes_of add_and_take) ≡ Some 1
+differ_in_count = refl
+
+pub differ_nowhere : first_difference (bytes_of add_only) (bytes_of add_only) ≡ None
+differ_nowhere = refl
+
+pub one_is_longer : first_difference (1 ∷ 2 ∷ []) (1 ∷ 2 ∷ 3 ∷ []) ≡ Some 2
+one_is_longer = refl
+
+pub differs_line : refusal_text (CatalogDiffers 1) ≡ codes "catalog differs at byte 1"
+unfolding digits
+differs_line = refl
+
+pub unfinished_line : refusal_text (Unfinished 1) ≡ codes "unfinished 1"
+unfolding digits
+unfinished_line = refl
+
+pub history_line : refusal_text (open_refusal (BadHistory 3)) ≡ codes "bad history at record 3"
+unfolding digits
+history_line = refl

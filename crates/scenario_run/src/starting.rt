@@ -1,0 +1,71 @@
+// The processes of a scenario start.
+ghost use Rattle.std.specs.Prelude.{◌≡◌, ◌⊎◌, ◌++◌, List, None, IfErr, OnOk};
+ghost use Rattle.process_flow.specs.Causes.{Rose};
+ghost use Rattle.process_tree.specs.Order.{Each};
+ghost use Rattle.process_tree.specs.declared.plan.Plan.{Plan as Plan'};
+ghost use Rattle.schedule_model.specs.Laws.{IsGoodPlan};
+ghost use Rattle.process_core.specs.Answers.{after_start};
+ghost use Rattle.history_files.specs.Standing.{EachFits};
+ghost use Rattle.process_engine.specs.Beginning.{IsFree, IsPlanFor};
+ghost use Rattle.process_engine.specs.Fitting.{limit_passed};
+ghost use Rattle.process_engine.specs.declared.engines.Phase.TheVariants as phase;
+ghost use Rattle.engine_runs.specs.Runs.{GoesOn, IsReady};
+ghost use Rattle.scenario_run.specs.Starting.{with_started};
+
+use process_disk::Rack;
+use process_engine::{Engine, EngineStartWhy};
+use process_tree::Plan;
+use program_lines::Refusal;
+use resource_box::Resource;
+use std::alloc::Global;
+
+// A process of this plan starts, which nothing refuses.
+fn start_one<R: Rack + Drop, B: Resource>(
+    alloc: Global,
+    engine: &mut Engine<R, B>,
+    plan: Plan,
+) -> Result<(), Refusal>
+    requires ready { IsReady B.meaning B.sort engine.old }
+    requires plan { IsPlanFor engine.old.catalog plan }
+    requires free { IsFree engine.old.core plan }
+    ensures core { OnOk result (engine.new.core ≡ after_start engine.old.core plan) }
+    ensures ready { OnOk result (IsReady B.meaning B.sort engine.new) }
+    ensures left { IfErr result (λ r. engine.new.core ≡ engine.old.core) }
+    ensures why { IfErr result (λ r. ((r ≡ Refusal.NoMemory) × (engine.new ≡ engine.old)) ⊎ ((r ≡ Refusal.DiskFault) × (engine.new.phase ≡ phase.Closed) × Rose (R.faults engine.old.files.rack) (R.faults engine.new.files.rack))) }
+    ensures goes { GoesOn R.disk R.faults engine.old engine.new }
+    ensures fits { EachFits B.meaning B.sort engine.new.files.stores }
+{
+    match engine_runs::start(engine, alloc, plan) {
+        Ok(_) => Ok(()),
+        Err(refused) => match refused.why {
+            EngineStartWhy::NoMemory => Err(Refusal::NoMemory),
+            EngineStartWhy::DiskFault => Err(Refusal::DiskFault),
+            _ => unreachable!(),
+        },
+    }
+}
+
+/// Processes of these plans start in order, where all fit within the limits. A fault of the rack or want of memory cuts that off.
+pub fn start_all<R: Rack + Drop, B: Resource>(
+    alloc: Global,
+    engine: &mut Engine<R, B>,
+    plans: Vec<Plan>,
+) -> Result<(), Refusal>
+    requires ready { IsReady B.meaning B.sort engine.old }
+    requires plans { Each (λ p. IsPlanFor engine.old.catalog p × IsGoodPlan p) plans.items }
+    requires fit { limit_passed engine.old.core plans.items ≡ None }
+    ensures started { OnOk result (engine.new.core ≡ with_started engine.old.core plans.items) }
+    ensures ready { OnOk result (IsReady B.meaning B.sort engine.new) }
+    ensures cut_off { IfErr result (λ r. (started rest : List Plan') × (plans.items ≡ started ++ rest) × (engine.new.core ≡ with_started engine.old.core started)) }
+    ensures why { IfErr result (λ r. ((r ≡ Refusal.NoMemory) × IsReady B.meaning B.sort engine.new) ⊎ ((r ≡ Refusal.DiskFault) × (engine.new.phase ≡ phase.Closed) × Rose (R.faults engine.old.files.rack) (R.faults engine.new.files.rack))) }
+    ensures goes { GoesOn R.disk R.faults engine.old engine.new }
+    ensures fits { EachFits B.meaning B.sort engine.new.files.stores }
+{
+    engine.is_sound();
+    let mut rest = plans.into_iter();
+    while let Some(plan) = rest.next() {
+        engine.is_sound();
+        start_one(alloc, engine, plan)?;
+    }
+    Ok(())
+}

@@ -1,0 +1,81 @@
+use Rattle.std.proofs.Common.{◌∙◌, ◌++◌, ◌-◌, [], length, take, drop, ap, subst, sym}
+use Rattle.process_tree.specs.Order.{Each}
+use Rattle.process_engine.specs.Beginning.{IsPlanFor}
+use Rattle.engine_runs.proofs.Goes.{goes_none, goes_then}
+use Rattle.session_run.specs.Answering.{status_of, HasAnswered, IsAnswered, IsCut}
+use Rattle.session_run.specs.Pieces.{AreHandedBy, session_of}
+use Rattle.session_run.specs.Playing.{play}
+use Rattle.session_run.specs.Playthrough.{fault_line, HasPlayed}
+use Rattle.session_run.proofs.AnsweredLines.{answered_more, answered_none, parted, played_cut}
+use Rattle.session_run.proofs.playthrough.play_lines.Goals as goal
+
+pub loop-rest-init : goal.loop-rest-init
+loop-rest-init g c =
+    let cat = c.args.engine.now.catalog in
+    let plans = c.args.plans.now in
+    let core = c.args.engine.now.core in
+    let lines = c.args.lines.now in
+    record {
+      answered = subst (λ ps. HasAnswered cat plans core core ps lines lines c.args.said.now.items) (sym c.new-pieces.ensures.items)
+          (subst (λ text. HasAnswered cat plans core core [] lines lines text) (sym c.requires.empty) (answered_none cat plans core lines));
+      goes = goes_none g.R.Rack.disk g.R.Rack.faults c.args.engine.now c.is_sound.ensures.run (c.is_sound.ensures.each c.requires.ready.settled);
+      ready = c.requires.ready;
+      core = c.is_sound.ensures.run;
+      plans = c.requires.plans;
+      handed = subst (AreHandedBy core) (sym c.new-pieces.ensures.items) tt;
+      room = c.requires.room;
+    }
+
+pub loop-rest-preserved : goal.loop-rest-preserved
+loop-rest-preserved g c =
+    let inv = c.loop-rest.invariant in
+    let cat = c.args.engine.now.catalog in
+    let plans = c.args.plans.now in
+    let core = c.args.engine.now.core in
+    let lines = c.args.lines.now in
+    let now = c.loop-rest.engine.core in
+    let pieces = c.loop-rest.pieces.items in
+    let text = c.loop-rest.said.items in
+    let l = c.line-item.result in
+    let after = take (length c.loop-rest.rest.now - 1) (drop 1 c.loop-rest.rest.now) in
+    let before = subst (λ rest. HasAnswered cat plans core now pieces lines rest text) (parted c.loop-rest.rest.now l c.in-len1-up.len_at_least c.line-item.is) inv.answered in
+    let told = c.in_default-answer_line.ensures.answered in
+    let new = c.answer_line.new.engine in
+    let left = c.answer_line.new.pieces.items in
+    let here = subst (λ k. IsAnswered (play k (session_of now pieces) l told.0) new.core left told.1) inv.goes.catalog told.3 in
+    record {
+      answered = subst (λ said. HasAnswered cat plans core new.core left lines after said) (sym told.4) (answered_more cat plans core now pieces lines l after text told.0 before told.2 new.core left told.1 here);
+      goes = goes_then g.R.Rack.disk g.R.Rack.faults c.args.engine.now c.loop-rest.engine new inv.ready.settled inv.core.session.one_each (g.met.R.Rack.honest new.files.rack) inv.goes c.answer_line.ensures.goes;
+      ready = c.answer_line.ensures.ready (λ bad. absurd (let is = c.in_default-answer_line.is in cc));
+      core = c.is_sound-in-len1-up.ensures.run;
+      plans = subst (λ k. Each (IsPlanFor k) plans) (sym c.answer_line.ensures.goes.catalog) inv.plans;
+      handed = c.in_default-answer_line.ensures.handed;
+      room = c.answer_line.ensures.room;
+    }
+
+pub returns-in-Err-clause-goes : goal.returns-in-Err-clause-goes
+returns-in-Err-clause-goes g c =
+    let inv = c.loop-rest.invariant in
+    let new = c.answer_line.new.engine in
+    goes_then g.R.Rack.disk g.R.Rack.faults c.args.engine.now c.loop-rest.engine new inv.ready.settled inv.core.session.one_each (g.met.R.Rack.honest new.files.rack) inv.goes c.answer_line.ensures.goes
+
+pub returns-in-Err-clause-played : goal.returns-in-Err-clause-played
+returns-in-Err-clause-played g c =
+    let inv = c.loop-rest.invariant in
+    let cat = c.args.engine.now.catalog in
+    let plans = c.args.plans.now in
+    let core = c.args.engine.now.core in
+    let lines = c.args.lines.now in
+    let now = c.loop-rest.engine.core in
+    let pieces = c.loop-rest.pieces.items in
+    let text = c.loop-rest.said.items in
+    let l = c.line-item.result in
+    let after = take (length c.loop-rest.rest.now - 1) (drop 1 c.loop-rest.rest.now) in
+    let before = subst (λ rest. HasAnswered cat plans core now pieces lines rest text) (parted c.loop-rest.rest.now l c.in-len1-up.len_at_least c.line-item.is) inv.answered in
+    let told = c.in-Err.ensures.cut in
+    let cut = c.in-Err.cut in
+    let new = c.answer_line.new.engine.core in
+    let here = subst (λ k. IsCut cut (play k (session_of now pieces) l told.0) now new) inv.goes.catalog told.2 in
+    subst (λ s. HasPlayed cat plans core new lines c.add_fault.new.said.items s) (sym c.status_of.ensures)
+    (played_cut cat plans core now pieces lines l after text told.0 before told.1 cut new c.add_fault.new.said.items here
+    (c.add_fault.ensures ∙ ap (λ xs. xs ++ fault_line (status_of cut)) c.in-Err.ensures.left))

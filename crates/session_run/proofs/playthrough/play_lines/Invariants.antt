@@ -1,0 +1,23 @@
+use Rattle.std.proofs.Common.{◌≤◌, ◌+◌, length, vec_capacity, vec_len}
+use Rattle.process_tree.specs.Order.{Each}
+use Rattle.process_core.specs.Cores.{IsCore}
+use Rattle.process_engine.specs.Beginning.{IsPlanFor}
+use Rattle.engine_runs.specs.Runs.{GoesOn, IsReady}
+use Rattle.session_run.specs.Answering.{HasAnswered}
+use Rattle.session_run.specs.Pieces.{AreHandedBy}
+use Rattle.session_run.proofs.playthrough.play_lines.Given as goal
+
+-- the lines before those that are left are answered
+abbrev pub invariant-loop-rest : goal.invariant-loop-rest
+invariant-loop-rest g l = record {
+  answered : HasAnswered l.fn.engine.catalog l.plans l.fn.engine.core l.engine.core l.pieces.items l.lines l.rest l.said.items;
+  goes : GoesOn g.R.Rack.disk g.R.Rack.faults l.fn.engine l.engine;
+  ready : IsReady g.B.Resource.meaning g.B.Resource.sort l.engine;
+  core : IsCore l.engine.core;
+  plans : Each (IsPlanFor l.engine.catalog) l.plans;
+  handed : AreHandedBy l.engine.core l.pieces.items;
+  room : vec_len l.said + 11 ≤ vec_capacity l.said;
+}
+
+abbrev pub decreases-loop-rest : goal.decreases-loop-rest
+decreases-loop-rest g l = length l.rest

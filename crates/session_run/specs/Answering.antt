@@ -1,0 +1,58 @@
+-- What a line does to an engine.
+use Rattle.std.specs.Prelude.{◌≡◌, ◌⊎◌, ⊤, ℕ, List, [], ◌++◌, Option, Some, None}
+use Rattle.process_tree.specs.declared.plan.Plan.{Plan}
+use Rattle.process_tree.specs.Form.{AreEqualPlans}
+use Rattle.machine_model.specs.Replies.{Handed}
+use Rattle.machine_model.specs.Moment.{Piece}
+use Rattle.commute_table.specs.declared.catalog.Catalog.{Catalog}
+use Rattle.process_engine.specs.Finishing.{outcome_of}
+use Rattle.process_engine.specs.declared.gates.Answer.{Answer}
+use Rattle.process_core.specs.Cores.{CoreState}
+use Rattle.engine_runs.specs.GateAnswers.{is_barred_in}
+use Rattle.session_run.specs.declared.cut.Cut.{Cut}
+use Rattle.session_run.specs.declared.cut.Cut.TheVariants.{DiskFault, NoMemory}
+use Rattle.session_run.specs.Pieces.{session_of}
+use Rattle.session_run.specs.Playing.{Played, SessionState, finish_as, play_all}
+use Rattle.session_run.specs.Playthrough.{begun_on, printed_by}
+use Rattle.session_text.specs.declared.line.Line.{Line}
+use Rattle.program_lines.specs.declared.status.Status.{Status}
+use Rattle.program_lines.specs.declared.status.Status.TheVariants as statuses
+use Rattle.session_run.specs.Alike.{AreAlike}
+
+-- The line was answered: it led to this core with these unfinished pieces, and this is printed.
+pub record IsAnswered (p : Played) (core : CoreState) (pieces : List Handed) (text : List ℕ) : Type 0 where
+  pub state : session_of core pieces ≡ p.state
+  pub printed : text ≡ p.printed
+
+-- It was not answered: nothing was kept; or there was no memory to print what it led to.
+abbrev pub IsCut : Cut → Played → CoreState → CoreState → Type 0
+IsCut DiskFault p old new = new ≡ old
+IsCut NoMemory p old new = (new ≡ old) ⊎ (new ≡ p.state.core)
+
+-- a piece is finished with this answer, whatever else is unfinished
+abbrev pub finish_alone : Catalog → CoreState → Piece → Answer → Played
+finish_alone c core p answer = finish_as (record { core = core; unfinished = [] }) p (outcome_of answer (is_barred_in c core p))
+
+-- none of none, or a plan that is equal to this one
+abbrev pub IsCopy : Option Plan → Option Plan → Type 0
+IsCopy None None = ⊤
+IsCopy None (Some q) = ⊥
+IsCopy (Some p) None = ⊥
+IsCopy (Some p) (Some q) = AreEqualPlans p q
+
+-- Two sessions are alike: their machines are, and the same pieces are unfinished.
+pub record AreAlikeSessions (s t : SessionState) : Type 0 where
+  pub cores : AreAlike s.core t.core
+  pub unfinished : s.unfinished ≡ t.unfinished
+
+-- Of the lines of a session that began on a machine these are left: those before were answered, and this was printed.
+pub record HasAnswered (c : Catalog) (plans : List Plan) (first now : CoreState) (pieces : List Handed) (lines rest : List Line) (text : List ℕ) : Type 0 where
+  pub answered : List Line
+  pub are : lines ≡ answered ++ rest
+  pub printed : text ≡ printed_by c plans first answered
+  pub alike : AreAlikeSessions (play_all c plans (begun_on first) answered).state (session_of now pieces)
+
+-- what a session that was cut off ends with
+abbrev pub status_of : Cut → Status
+status_of DiskFault = statuses.DiskFault
+status_of NoMemory = statuses.NoMemory

@@ -1,0 +1,125 @@
+// The lines of a session, one after another.
+ghost use Rattle.std.specs.Prelude.{◌≡◌, ◌≢◌, ◌≤◌, ◌+◌, ◌++◌, [], ℕ, List, Option, Err, vec_len, vec_capacity, IfErr, OnOk, OnErr};
+ghost use Rattle.process_flow.specs.Causes.{Rose};
+ghost use Rattle.process_tree.specs.Order.{Each};
+ghost use Rattle.process_tree.specs.declared.plan.Plan.{Plan};
+ghost use Rattle.history_files.specs.Standing.{EachFits};
+ghost use Rattle.process_engine.specs.Beginning.{IsPlanFor};
+ghost use Rattle.process_engine.specs.declared.engines.Phase.TheVariants as phase;
+ghost use Rattle.engine_runs.specs.Runs.{GoesOn, IsReady};
+ghost use Rattle.session_run.specs.Answering.{status_of, IsAnswered, IsCopy, IsCut};
+ghost use Rattle.session_run.specs.Pieces.{session_of, AreHandedBy};
+ghost use Rattle.session_run.specs.Playing.{plan_for, play};
+ghost use Rattle.session_run.specs.Playthrough.{fault_line, HasPlayed};
+ghost use Rattle.session_run.specs.declared.cut.Cut.TheVariants.{DiskFault};
+
+use crate::Cut;
+use crate::lines::play_line;
+use process_core::Piece;
+use process_disk::Rack;
+use process_engine::Engine;
+use process_tree::Plan;
+use program_lines::Status;
+use resource_box::Resource;
+use session_text::Line;
+use std::alloc::{AllocError, Global};
+
+/// For the line of a fault there is always room.
+pub const FAULT_ROOM: usize = 11;
+
+fn status_of(cut: Cut) -> Status
+    ensures { result ≡ status_of cut }
+{
+    match cut {
+        Cut::DiskFault => Status::DiskFault,
+        Cut::NoMemory => Status::NoMemory,
+    }
+}
+
+// Adds a text, and keeps the room.
+fn add(said: &mut Vec<u8>, text: &[u8]) -> Result<(), AllocError>
+    requires room { vec_len said.old + 11 ≤ vec_capacity said.old }
+    ensures room { vec_len said.new + 11 ≤ vec_capacity said.new }
+    ensures ok { OnOk result (said.new.items ≡ said.old.items ++ text.now) }
+    ensures err { OnErr result (said.new.items ≡ said.old.items) }
+{
+    said.reserve(text.len() + FAULT_ROOM)?;
+    said.extend_from_slice(text)
+}
+
+// Adds the line of a fault, for which there is room.
+fn add_fault(said: &mut Vec<u8>, cut: Cut)
+    requires room { vec_len said.old + 11 ≤ vec_capacity said.old }
+    ensures { said.new.items ≡ said.old.items ++ fault_line (status_of cut) }
+{
+    let line: &[u8] = match cut {
+        Cut::DiskFault => b"disk fault\n",
+        Cut::NoMemory => b"no memory\n",
+    };
+    let _ = said.extend_from_slice(line);
+}
+
+// Answers one line more.
+fn answer_line<R: Rack + Drop, B: Resource>(
+    alloc: Global,
+    engine: &mut Engine<R, B>,
+    plans: &[Plan],
+    pieces: &mut Vec<Piece>,
+    line: &Line,
+    said: &mut Vec<u8>,
+) -> Result<(), Cut>
+    requires ready { IsReady B.meaning B.sort engine.old }
+    requires plans { Each (IsPlanFor engine.old.catalog) plans.now }
+    requires handed { AreHandedBy engine.old.core pieces.old.items }
+    requires room { vec_len said.old + 11 ≤ vec_capacity said.old }
+    ensures answered { OnOk result ((copy : Option Plan) × (text : List ℕ) × IsCopy (plan_for plans.now line.now) copy
+        × IsAnswered (play engine.old.catalog (session_of engine.old.core pieces.old.items) line.now copy) engine.new.core pieces.new.items text
+        × (said.new.items ≡ said.old.items ++ text)) }
+    ensures handed { OnOk result (AreHandedBy engine.new.core pieces.new.items) }
+    ensures cut { IfErr result (λ cut. (copy : Option Plan) × IsCopy (plan_for plans.now line.now) copy
+        × IsCut cut (play engine.old.catalog (session_of engine.old.core pieces.old.items) line.now copy) engine.old.core engine.new.core) }
+    ensures left { OnErr result (said.new.items ≡ said.old.items) }
+    ensures room { vec_len said.new + 11 ≤ vec_capacity said.new }
+    ensures fault { IfErr result (λ cut. cut ≡ DiskFault → (engine.new.phase ≡ phase.Closed) × Rose (R.faults engine.old.files.rack) (R.faults engine.new.files.rack)) }
+    ensures goes { GoesOn R.disk R.faults engine.old engine.new }
+    ensures fits { EachFits B.meaning B.sort engine.new.files.stores }
+    ensures ready { result ≢ Err DiskFault → IsReady B.meaning B.sort engine.new }
+{
+    let text = play_line(alloc, engine, plans, pieces, line)?;
+    add(said, &text)?;
+    Ok(())
+}
+
+/// Answers lines in order, with these plans of the scenario. What is printed of them is added; behind it stands the line of a fault, if
+/// one ended this before the last line.
+pub fn play_lines<R: Rack + Drop, B: Resource>(
+    alloc: Global,
+    engine: &mut Engine<R, B>,
+    plans: &[Plan],
+    lines: &[Line],
+    said: &mut Vec<u8>,
+) -> Status
+    requires ready { IsReady B.meaning B.sort engine.old }
+    requires plans { Each (IsPlanFor engine.old.catalog) plans.now }
+    requires empty { said.old.items ≡ [] }
+    requires room { vec_len said.old + 11 ≤ vec_capacity said.old }
+    ensures played { HasPlayed engine.old.catalog plans.now engine.old.core engine.new.core lines.now said.new.items result }
+    ensures fault { result ≡ Status.DiskFault → (engine.new.phase ≡ phase.Closed) × Rose (R.faults engine.old.files.rack) (R.faults engine.new.files.rack) }
+    ensures goes { GoesOn R.disk R.faults engine.old engine.new }
+    ensures fits { EachFits B.meaning B.sort engine.new.files.stores }
+    ensures ready { result ≢ Status.DiskFault → IsReady B.meaning B.sort engine.new }
+{
+    let mut pieces = Vec::new(alloc);
+    let mut rest = lines;
+    engine.is_sound();
+    while let [line, after @ ..] = rest {
+        if let Err(cut) = answer_line(alloc, engine, plans, &mut pieces, line, said) {
+            engine.is_sound();
+            add_fault(said, cut);
+            return status_of(cut);
+        }
+        engine.is_sound();
+        rest = after;
+    }
+    Status::Done
+}

@@ -1,0 +1,5 @@
+pub mod NothingOut
+pub mod IdleMoments
+pub mod AloneReplies
+pub mod AloneTurns
+pub mod RanRuns

@@ -1,0 +1,55 @@
+use Rattle.std.proofs.Common.{◌≢◌, ◌∙◌, Some, ap, subst, sym}
+use Rattle.std.specs.Option.{option_map}
+use Rattle.machine_model.specs.Replies.{all_ended, chosen, stuck}
+use Rattle.process_core.specs.Rotation.{waiting_of}
+use Rattle.process_engine.specs.Engines.{EngineState}
+use Rattle.worker_gate.specs.declared.alone.RunOutcome.TheVariants.{DiskFault}
+use Rattle.worker_gate.proofs.AloneReplies.{all_have_ended, alone_out, no_wait_alone, stuck_again, stuck_stays}
+use Rattle.worker_gate.proofs.AloneTurns.{idle_after, no_fault}
+use Rattle.worker_gate.proofs.RanRuns.{ran_next, ran_then, ran_work}
+use Rattle.worker_gate.proofs.alone.turn.Goals as goal
+
+pub unreachable-requires : goal.unreachable-requires
+unreachable-requires g c =
+    no_wait_alone c.args.engine.now.core c.next.new.engine.core (ap (λ (e : EngineState g.row.R.Denot g.row.B.Denot). e.core) c.in-Wait.ensures.engine) c.requires.alone (option_map waiting_of c.in-Wait.field-0) c.in-Wait.ensures.reply
+
+pub returns-in-Piece-clause-ran : goal.returns-in-Piece-clause-ran
+returns-in-Piece-clause-ran g c =
+    let before = g.G.Gate.refusals c.args.gate.now in
+    let after = g.G.Gate.refusals c.work.new.gate in
+    let mid = c.next.new.engine in
+    let new = c.work.new.engine in
+    let told = c.in-Piece.ensures in
+    ran_then g.R.Rack.disk g.R.Rack.faults g.G.Gate.answers before before after c.args.engine.now mid new told.ready.settled c.is_sound.ensures.run (g.met.R.Rack.honest new.files.rack)
+    (ran_next g.R.Rack.disk g.R.Rack.faults g.G.Gate.answers before c.args.engine.now mid (chosen c.in-Piece.piece) told.engine told.reply told.goes)
+    (ran_work g.R.Rack.disk g.R.Rack.faults g.G.Gate.answers before after mid new c.in-Piece.piece c.work.ensures.ends.outcome c.work.result c.work.ensures.ends.finishes c.work.ensures.goes c.work.ensures.gate)
+
+pub returns-in-Piece-clause-ready : goal.returns-in-Piece-clause-ready
+returns-in-Piece-clause-ready g c other = c.work.ensures.ready (no_fault c.work.result (subst (λ o. o ≢ Some DiskFault) c.failure.ensures other))
+
+pub returns-in-Piece-clause-idle : goal.returns-in-Piece-clause-idle
+returns-in-Piece-clause-idle g c none =
+    let told = c.in-Piece.ensures in
+    let out = alone_out c.args.engine.now.core c.next.new.engine.core (ap (λ (e : EngineState g.row.R.Denot g.row.B.Denot). e.core) told.engine) c.requires.alone c.in-Piece.piece told.reply in
+    idle_after g.R.Rack.disk g.R.Rack.faults c.next.new.engine c.work.new.engine c.in-Piece.piece told.given.handed out c.work.ensures.goes c.work.ensures.ends.outcome c.work.result c.work.ensures.ends.finishes (sym c.failure.ensures ∙ none)
+
+pub returns-in-AllEnded-clause-ran : goal.returns-in-AllEnded-clause-ran
+returns-in-AllEnded-clause-ran g c =
+    let told = c.in-AllEnded.ensures in
+    ran_next g.R.Rack.disk g.R.Rack.faults g.G.Gate.answers (g.G.Gate.refusals c.args.gate.now) c.args.engine.now c.next.new.engine all_ended told.engine told.reply told.goes
+
+pub returns-in-AllEnded-clause-outcome : goal.returns-in-AllEnded-clause-outcome
+returns-in-AllEnded-clause-outcome g c =
+    all_have_ended c.args.engine.now.core c.next.new.engine.core (ap (λ (e : EngineState g.row.R.Denot g.row.B.Denot). e.core) c.in-AllEnded.ensures.engine) c.in-AllEnded.ensures.reply
+
+pub returns-in-Stuck-clause-ran : goal.returns-in-Stuck-clause-ran
+returns-in-Stuck-clause-ran g c =
+    let told = c.in-Stuck.ensures in
+    ran_next g.R.Rack.disk g.R.Rack.faults g.G.Gate.answers (g.G.Gate.refusals c.args.gate.now) c.args.engine.now c.next.new.engine (stuck c.in-Stuck.process) told.engine told.reply told.goes
+
+pub returns-in-Stuck-clause-outcome : goal.returns-in-Stuck-clause-outcome
+returns-in-Stuck-clause-outcome g c =
+    let core = ap (λ (e : EngineState g.row.R.Denot g.row.B.Denot). e.core) c.in-Stuck.ensures.engine in (
+      stuck_again c.args.engine.now.core c.next.new.engine.core core c.in-Stuck.process c.in-Stuck.ensures.reply,
+      stuck_stays c.args.engine.now.core c.next.new.engine.core core c.in-Stuck.process c.in-Stuck.ensures.reply,
+    )

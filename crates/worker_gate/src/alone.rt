@@ -1,0 +1,85 @@
+// One thread runs the processes of an engine, with one gate.
+ghost use Rattle.std.specs.Prelude.{◌≡◌, ◌≢◌, ◌<◌, length, IfSome, Some, None};
+ghost use Rattle.process_flow.specs.Causes.{Rose};
+ghost use Rattle.history_files.specs.Standing.{EachFits};
+ghost use Rattle.engine_runs.specs.Runs.{IsReady};
+ghost use Rattle.worker_gate.specs.Running.{IsOutcome, NothingRuns, RanBy, failure_of};
+
+use engine_runs::{next, work};
+use process_core::Next;
+use process_disk::Rack;
+use process_engine::{Engine, Finish, Gate};
+use resource_box::Resource;
+
+/// Why nothing more is run.
+#[derive(Clone, Copy, Debug, PartialEq, Eq)]
+pub enum RunOutcome {
+    /// No process is active.
+    AllEnded,
+    /// Nobody can go on or go back, and this is the least process that has used up its tries.
+    Stuck(u32),
+    /// A call of the rack failed. The engine is closed.
+    DiskFault,
+    /// A piece found no memory, and is still out.
+    NoMemory,
+}
+
+/// Why nothing is run after the end of a piece.
+fn failure(finish: Finish) -> Option<RunOutcome>
+    ensures { result ≡ failure_of finish }
+{
+    match finish {
+        Finish::DiskFault => Some(RunOutcome::DiskFault),
+        Finish::NoMemory(_) => Some(RunOutcome::NoMemory),
+        _ => None,
+    }
+}
+
+/// The next piece is handed out, worked on and ended, while no other is out; or else nothing more is run.
+fn turn<R: Rack + Drop, B: Resource, G: Gate>(
+    engine: &mut Engine<R, B>,
+    gate: &mut G,
+) -> Option<RunOutcome>
+    requires ready { IsReady B.meaning B.sort engine.old }
+    requires alone { NothingRuns engine.old.core }
+    ensures ran { RanBy R.disk R.faults G.answers (G.refusals gate.old) (G.refusals gate.new) engine.old engine.new }
+    ensures outcome { IfSome result (IsOutcome engine.new) }
+    ensures fault { result ≡ Some RunOutcome.DiskFault → Rose (R.faults engine.old.files.rack) (R.faults engine.new.files.rack) }
+    ensures ready { result ≢ Some RunOutcome.DiskFault → IsReady B.meaning B.sort engine.new }
+    ensures fits { EachFits B.meaning B.sort engine.new.files.stores }
+    ensures idle { result ≡ None → NothingRuns engine.new.core }
+    ensures more { result ≡ None → length engine.old.core.kept < length engine.new.core.kept }
+{
+    match next(engine) {
+        Next::Piece(piece) => {
+            engine.is_sound();
+            failure(work(engine, gate, piece))
+        }
+        Next::Wait(_) => unreachable!(),
+        Next::AllEnded => Some(RunOutcome::AllEnded),
+        Next::Stuck(process) => Some(RunOutcome::Stuck(process)),
+    }
+}
+
+/// Runs the processes of a settled engine of which no piece is out, until all have ended or one is stuck, or a call fails. The gate works
+/// on one piece after another; the end of a process asks no gate.
+pub fn run_alone<R: Rack + Drop, B: Resource, G: Gate>(
+    engine: &mut Engine<R, B>,
+    gate: &mut G,
+) -> RunOutcome
+    requires ready { IsReady B.meaning B.sort engine.old }
+    requires alone { NothingRuns engine.old.core }
+    ensures ran { RanBy R.disk R.faults G.answers (G.refusals gate.old) (G.refusals gate.new) engine.old engine.new }
+    ensures outcome { IsOutcome engine.new result }
+    ensures fault { result ≡ RunOutcome.DiskFault → Rose (R.faults engine.old.files.rack) (R.faults engine.new.files.rack) }
+    ensures ready { result ≢ RunOutcome.DiskFault → IsReady B.meaning B.sort engine.new }
+    ensures fits { EachFits B.meaning B.sort engine.new.files.stores }
+{
+    engine.is_sound();
+    'turns: loop {
+        match turn(engine, gate) {
+            Some(outcome) => return outcome,
+            None => engine.is_sound(),
+        }
+    }
+}
