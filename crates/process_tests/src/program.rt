@@ -253,7 +253,8 @@ fn a_failed_sync_ends_a_run(rt: HostRuntime) -> Result<(), Fail> {
     let whole = run_over(&rt, alloc, &[], RUN)?;
     // The last call syncs the record of the end.
     let calls = whole.folder.rack.calls();
-    let rack = run_over(&rt, alloc, &[(calls as u32).wrapping_sub(1)], FAILED)?;
+    let last = u32::try_from(calls)?.wrapping_sub(1);
+    let rack = run_over(&rt, alloc, &[last], FAILED)?;
     assert!(rt; rack.broken);
     assert_eq!(rt; rack.folder.rack.calls(), calls);
     Ok(())

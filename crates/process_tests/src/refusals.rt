@@ -141,7 +141,7 @@ fn a_fault_ends_a_session(rt: HostRuntime) -> Result<(), Fail> {
     let lines = scenario(alloc, process, b"%%\nstart a\nadmit 1\n")?;
     let answers = b"started 1 a\npiece 1: do 1.x\n";
     let rack = expect_on(&rt, alloc, &["session"], &lines, rack, 0, answers)?;
-    let before = rack.calls() as u32;
+    let before = u32::try_from(rack.calls())?;
     let rack = empty(alloc, &[before.wrapping_add(3)])?;
     let rack = expect_on(&rt, alloc, &["init"], &input, rack, 0, b"created\n")?;
     let lines = scenario(

@@ -1,4 +1,6 @@
 // Runs of scenarios.
+ghost use Rattle.std.specs.Prelude.{◌<◌};
+
 use crate::calls::{empty, expect_on};
 use crate::plays::{Call, played_anew};
 use process_disk::{MemoryRack, Rack};
@@ -37,7 +39,9 @@ const STORE: &[u8] = b"tpsl\x01\x01\x00\x00\
     \x00";
 
 // A file of the rack is this.
-fn holds<H: Abort>(rt: &H, rack: &mut MemoryRack, file: u8, bytes: &[u8]) {
+fn holds<H: Abort>(rt: &H, rack: &mut MemoryRack, file: u8, bytes: &[u8])
+    requires { file < 9 }
+{
     let mut found = [0; 128];
     assert_eq!(rt; rack.len(file), Ok(bytes.len() as u64));
     assert_eq!(rt; rack.read(file, 0, &mut found), Ok(bytes.len()));

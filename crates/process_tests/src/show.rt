@@ -172,6 +172,11 @@ fn a_file_that_is_no_log_is_refused(rt: HostRuntime) -> Result<(), Fail> {
     Ok(())
 }
 
+// What is shown of so many records.
+fn beginning(rt: &impl Abort, records: usize) -> &'static [u8] {
+    BEGINNINGS.get(records).expect(rt, "fewer records")
+}
+
 // What is shown of what a stop leaves.
 fn shown_after<H: Abort>(
     rt: &H,
@@ -192,23 +197,23 @@ fn a_stop_leaves_a_beginning_of_the_history(rt: HostRuntime) -> Result<(), Fail>
     let alloc = rt.alloc();
     let rack = MemoryRack::new(alloc, Vec::new(alloc))?;
     let made = expect_on(&rt, alloc, &["init"], TEXT, rack, 0, b"created\n")?;
-    let first = made.calls() as u32;
+    let first = u32::try_from(made.calls())?;
     let whole = run_before(&rt, alloc)?;
-    let last = whole.calls() as u32;
+    let last = u32::try_from(whole.calls())?;
     // How many records stand where the call under way leaves nothing; they never get fewer, and another stop within it leaves one more
     // at most.
     let mut kept = 0;
     for call in first..last {
         let none = shown_after(&rt, alloc, &whole, (call, 0, 0x00))?;
-        if kept < 4 && none.as_slice() != BEGINNINGS[kept] {
+        if kept < 4 && none.as_slice() != beginning(&rt, kept) {
             kept += 1;
         }
-        assert_eq!(rt; none.as_slice(), BEGINNINGS[kept]);
+        assert_eq!(rt; none.as_slice(), beginning(&rt, kept));
         for (keep, fill) in [(0, 0x07), (0, 0xff), (1, 0x00), (1, 0xff), (2, 0x07)] {
             let shown = shown_after(&rt, alloc, &whole, (call, keep, fill))?;
-            let more = kept < 4 && shown.as_slice() == BEGINNINGS[kept + 1];
+            let more = kept < 4 && shown.as_slice() == beginning(&rt, kept + 1);
             assert!(rt;
-                more || shown.as_slice() == BEGINNINGS[kept],
+                more || shown.as_slice() == beginning(&rt, kept),
                 "within call {call}"
             );
         }
