@@ -11,5 +11,5 @@ mod said;
 mod scenario;
 
 pub use input::{processes_of, text_of, text_refusal};
-pub use said::Said;
+pub use said::{CommandEnd, Said};
 pub use scenario::{Bound, NoPlans, document_of, scenario_of};

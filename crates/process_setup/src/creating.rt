@@ -7,7 +7,7 @@ ghost use Rattle.command_input.specs.FilesLeft.{files};
 ghost use Rattle.command_input.specs.Early.{comes_before_files};
 ghost use Rattle.process_setup.specs.Init.{create_refusal, AreMade, AreNotMade, IsCatalogRead, IsCatalogRefused, IsInitDue, SaysCreated};
 
-use command_input::{Said, document_of, text_of};
+use command_input::{CommandEnd, Said, document_of, text_of};
 use commute_table::{Catalog, Scenario};
 use process_disk::Rack;
 use process_engine::{CreateError, Engine, Parts};
@@ -15,13 +15,6 @@ use process_flow::Source;
 use program_lines::{FileFault, Refusal, Status};
 use resource_box::Resource;
 use std::alloc::{AllocError, Global};
-
-/// The rack and the boxes after `init`, and what there is to say.
-#[derive(Drop)]
-pub struct InitEnd<R: Drop, B: Drop = Box<dyn Resource + Send>> {
-    pub parts: Parts<R, B>,
-    pub found: Result<Said, Refusal>,
-}
 
 fn create_refusal(why: CreateError) -> Refusal
     ensures refusal { result ≡ create_refusal why }
@@ -63,7 +56,7 @@ fn made<R: Rack + Drop, B: Resource>(
     parts: Parts<R, B>,
     catalog: Catalog,
     said: Said,
-) -> InitEnd<R, B>
+) -> CommandEnd<Parts<R, B>>
     requires catalog { IsCatalog catalog }
     requires boxes { AreBoxes B.sort parts.resources.items }
     ensures said { IfOk result.found (λ s. s ≡ said) }
@@ -75,11 +68,11 @@ fn made<R: Rack + Drop, B: Resource>(
     ensures later { R.faults parts.rack ≤ R.faults result.parts.rack }
 {
     match Engine::create(alloc, parts, catalog) {
-        Ok(engine) => InitEnd {
+        Ok(engine) => CommandEnd {
             parts: engine.into_parts(),
             found: Ok(said),
         },
-        Err(refused) => InitEnd {
+        Err(refused) => CommandEnd {
             parts: refused.parts,
             found: Err(create_refusal(refused.why)),
         },
@@ -92,7 +85,7 @@ pub fn init<S: Source, R: Rack + Drop, B: Resource>(
     alloc: Global,
     source: &mut S,
     parts: Parts<R, B>,
-) -> InitEnd<R, B>
+) -> CommandEnd<Parts<R, B>>
     requires boxes { AreBoxes B.sort parts.resources.items }
     ensures due { IsInitDue (input S.Source source.old) (input S.Source source.new) (files R.Rack parts.rack) (files R.Rack result.parts.rack) result.found }
     ensures early { IfErr result.found (λ r. comes_before_files r ≡ true → result.parts.rack ≡ parts.rack) }
@@ -102,7 +95,7 @@ pub fn init<S: Source, R: Rack + Drop, B: Resource>(
 {
     match catalog_of(alloc, source) {
         Ok((catalog, said)) => made(alloc, parts, catalog, said),
-        Err(refusal) => InitEnd {
+        Err(refusal) => CommandEnd {
             parts,
             found: Err(refusal),
         },

@@ -4,4 +4,4 @@
 
 mod creating;
 
-pub use creating::{InitEnd, init};
+pub use creating::init;

@@ -14,16 +14,16 @@ use crate::check::check;
 use crate::show::show;
 use crate::told::tell_result;
 use crate::verify::verify;
-use command_input::Said;
+use command_input::CommandEnd;
 use process_disk::Rack;
 use process_engine::{Gate, Parts};
 use process_flow::{Sink, Source};
-use process_setup::{InitEnd, init};
+use process_setup::init;
 use program_lines::Refusal;
 use program_words::{Command, WordsError, read_words};
 use resource_box::Resource;
-use scenario_run::{RunEnd, run};
-use session_run::{SessionEnd, session};
+use scenario_run::run;
+use session_run::session;
 use std::alloc::Global;
 
 /// Whether a list of words can only read files: its first word is `show`.
@@ -44,12 +44,6 @@ pub struct Finished<R, G, B = Box<dyn Resource + Send>> {
     pub gates: Vec<G>,
 }
 
-// The rack and the boxes after a command, and what there is to say.
-struct CommandEnd<R: Drop, B: Drop> {
-    parts: Parts<R, B>,
-    found: Result<Said, Refusal>,
-}
-
 // What a command has to say.
 fn done<S: Source, R: Rack + Drop, B: Resource, G: Gate>(
     alloc: Global,
@@ -57,7 +51,7 @@ fn done<S: Source, R: Rack + Drop, B: Resource, G: Gate>(
     source: &mut S,
     parts: Parts<R, B>,
     gates: &mut Vec<G>,
-) -> CommandEnd<R, B>
+) -> CommandEnd<Parts<R, B>>
     requires boxes { AreBoxes B.sort parts.resources.items }
     requires gates { length gates.old.items ≡ 16 }
     ensures due { Says (IsDueTo (Some command) (first_gate (told_gates G.Gate gates.old.items) (told_gates G.Gate gates.new.items))
@@ -78,18 +72,9 @@ fn done<S: Source, R: Rack + Drop, B: Resource, G: Gate>(
             parts,
             found: check(alloc, source),
         },
-        Command::Init => {
-            let InitEnd { parts, found } = init(alloc, source, parts);
-            CommandEnd { parts, found }
-        }
-        Command::Run => {
-            let RunEnd { parts, found } = run(alloc, source, parts, &mut gates[0]);
-            CommandEnd { parts, found }
-        }
-        Command::Session => {
-            let SessionEnd { parts, found } = session(alloc, source, parts);
-            CommandEnd { parts, found }
-        }
+        Command::Init => init(alloc, source, parts),
+        Command::Run => run(alloc, source, parts, &mut gates[0]),
+        Command::Session => session(alloc, source, parts),
         Command::Show => {
             let mut parts = parts;
             let found = show(alloc, &mut parts.rack);
@@ -109,7 +94,7 @@ fn said<S: Source, R: Rack + Drop, B: Resource, G: Gate>(
     source: &mut S,
     parts: Parts<R, B>,
     gates: &mut Vec<G>,
-) -> CommandEnd<R, B>
+) -> CommandEnd<Parts<R, B>>
     requires boxes { AreBoxes B.sort parts.resources.items }
     requires gates { length gates.old.items ≡ 16 }
     ensures due { Says (IsDueTo (asked (map string_bytes words.now)) (first_gate (told_gates G.Gate gates.old.items) (told_gates G.Gate gates.new.items))

@@ -14,6 +14,6 @@ mod starting;
 
 pub use opening::{NotOpened, opened};
 pub use reporting::{report_now, stuck_report};
-pub use running::{RunEnd, run};
+pub use running::run;
 pub use scenario::scenario_from;
 pub use starting::start_all;

@@ -26,7 +26,7 @@ use crate::opening::opened;
 use crate::reporting::{report_now, stuck_report};
 use crate::scenario::scenario_from;
 use crate::starting::start_all;
-use command_input::{Bound, NoPlans, Said};
+use command_input::{Bound, CommandEnd, NoPlans, Said};
 use history_files::sound_files_are_opened;
 use process_disk::Rack;
 use process_engine::{Engine, Gate, Parts, StartLimit};
@@ -36,13 +36,6 @@ use program_lines::{Quantity, Refusal, Status};
 use resource_box::Resource;
 use std::alloc::Global;
 use worker_gate::{RunOutcome, run_alone};
-
-/// The rack and the boxes after `run`, and what there is to say.
-#[derive(Drop)]
-pub struct RunEnd<R: Drop, B: Drop = Box<dyn Resource + Send>> {
-    pub parts: Parts<R, B>,
-    pub found: Result<Said, Refusal>,
-}
 
 fn limit_refusal(limit: StartLimit) -> Refusal
     ensures refusal { result ≡ limit_refusal limit }
@@ -149,7 +142,7 @@ fn run_bound<R: Rack + Drop, B: Resource, G: Gate>(
     bound: Bound,
     parts: Parts<R, B>,
     gate: &mut G,
-) -> RunEnd<R, B>
+) -> CommandEnd<Parts<R, B>>
     requires catalog { IsCatalog bound.catalog }
     requires plans { Each (λ p. IsPlanFor bound.catalog p × IsGoodPlan p) bound.plans.items }
     requires few { length bound.plans.items ≤ 256 }
@@ -168,12 +161,12 @@ fn run_bound<R: Rack + Drop, B: Resource, G: Gate>(
             engine.is_sound();
             let found = run_on(alloc, &mut engine, plans, gate);
             engine.is_sound();
-            RunEnd {
+            CommandEnd {
                 parts: engine.into_parts(),
                 found,
             }
         }
-        Err(refused) => RunEnd {
+        Err(refused) => CommandEnd {
             parts: refused.parts,
             found: Err(refused.why),
         },
@@ -200,7 +193,7 @@ pub fn run<S: Source, R: Rack + Drop, B: Resource, G: Gate>(
     source: &mut S,
     parts: Parts<R, B>,
     gate: &mut G,
-) -> RunEnd<R, B>
+) -> CommandEnd<Parts<R, B>>
     requires boxes { AreBoxes B.sort parts.resources.items }
     ensures due { IsRunDue (asked G.Gate gate.old gate.new) (input S.Source source.old) (input S.Source source.new) (files R.Rack parts.rack) (files R.Rack result.parts.rack) result.found }
     ensures complete { IsRunComplete (input S.Source source.old) (input S.Source source.new) (files R.Rack parts.rack) (files R.Rack result.parts.rack) result.found }
@@ -213,7 +206,7 @@ pub fn run<S: Source, R: Rack + Drop, B: Resource, G: Gate>(
     sound_files_are_opened();
     match scenario_from(alloc, source) {
         Ok(bound) => run_bound(alloc, bound, parts, gate),
-        Err(none) => RunEnd {
+        Err(none) => CommandEnd {
             parts,
             found: said_of_none(none),
         },

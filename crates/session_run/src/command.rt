@@ -17,7 +17,7 @@ ghost use Rattle.session_run.specs.Playthrough.{HasPlayed};
 ghost use Rattle.session_run.specs.Session.{lines_refusal, phase_by, IsNoSessionRead, IsNotRead, IsPlayedOn, IsSessionDue, IsSessionRead};
 
 use crate::playthrough::{FAULT_ROOM, play_lines};
-use command_input::{Bound, NoPlans, Said, scenario_of, text_of};
+use command_input::{Bound, CommandEnd, NoPlans, Said, scenario_of, text_of};
 use commute_table::Catalog;
 use history_files::sound_files_are_opened;
 use process_disk::Rack;
@@ -29,13 +29,6 @@ use resource_box::Resource;
 use scenario_run::opened;
 use session_text::{Line, LinesError, divide, read_lines};
 use std::alloc::Global;
-
-/// The rack and the boxes after `session`, and what there is to say.
-#[derive(Drop)]
-pub struct SessionEnd<R: Drop, B: Drop = Box<dyn Resource + Send>> {
-    pub parts: Parts<R, B>,
-    pub found: Result<Said, Refusal>,
-}
 
 /// What a session is about.
 #[derive(Drop)]
@@ -104,7 +97,7 @@ fn on_files<R: Rack + Drop, B: Resource>(
     alloc: Global,
     script: &Script,
     parts: Parts<R, B>,
-) -> SessionEnd<R, B>
+) -> CommandEnd<Parts<R, B>>
     requires boxes { AreBoxes B.sort parts.resources.items }
     requires catalog { IsCatalog script.now.catalog }
     requires plans { Each (IsPlanFor script.now.catalog) script.now.plans.items }
@@ -119,12 +112,12 @@ fn on_files<R: Rack + Drop, B: Resource>(
         Ok(mut engine) => {
             let found = said_on(alloc, &mut engine, &script.plans, &script.lines);
             engine.is_sound();
-            SessionEnd {
+            CommandEnd {
                 parts: engine.into_parts(),
                 found,
             }
         }
-        Err(refused) => SessionEnd {
+        Err(refused) => CommandEnd {
             parts: refused.parts,
             found: Err(refused.why),
         },
@@ -149,7 +142,7 @@ pub fn session<S: Source, R: Rack + Drop, B: Resource>(
     alloc: Global,
     source: &mut S,
     parts: Parts<R, B>,
-) -> SessionEnd<R, B>
+) -> CommandEnd<Parts<R, B>>
     requires boxes { AreBoxes B.sort parts.resources.items }
     ensures due { IsSessionDue (input S.Source source.old) (input S.Source source.new) (files R.Rack parts.rack) (files R.Rack result.parts.rack) result.found }
     ensures complete { IsSessionComplete (input S.Source source.old) (input S.Source source.new) (files R.Rack parts.rack) (files R.Rack result.parts.rack) result.found }
@@ -162,7 +155,7 @@ pub fn session<S: Source, R: Rack + Drop, B: Resource>(
     sound_files_are_opened();
     match script_of(alloc, source) {
         Ok(script) => on_files(alloc, &script, parts),
-        Err(none) => SessionEnd {
+        Err(none) => CommandEnd {
             parts,
             found: said_of_none(none),
         },

@@ -16,7 +16,7 @@ mod playthrough;
 mod printing;
 mod starting;
 
-pub use command::{SessionEnd, session};
+pub use command::session;
 pub use cut::Cut;
 pub use lines::play_line;
 pub use playthrough::play_lines;

@@ -24,17 +24,17 @@ returns-in-Run-clause-due g c =
     let gates = c.args.gates.now.items in
     let gate = c.index_mut.result.now in
     let first : gate ≡ slice_index_or gates 0 gate = c.index_mut.ensures.value in
-    let found = c.run-parts.result.found in
+    let found = c.run.result.found in
     let before = input g.S.Source c.args.source.now in
-    let after = input g.S.Source c.run-parts.new.source in
-    let left = files g.R.Rack c.run-parts.result.parts.rack in
+    let after = input g.S.Source c.run.new.source in
+    let left = files g.R.Rack c.run.result.parts.rack in
     rw c.in-Run.is
     (subst (λ (asked : AskedGate). Says (IsDueTo (Some Run) asked before after (files g.R.Rack c.args.parts.rack) left) found)
-    (sym (first_asked g.G.Gate gates gate c.run-parts.new.gate (omega (arith, c.requires.gates)) first))
-    (run_says _ before after (files g.R.Rack c.args.parts.rack) left found c.run-parts.ensures.due))
+    (sym (first_asked g.G.Gate gates gate c.run.new.gate (omega (arith, c.requires.gates)) first))
+    (run_says _ before after (files g.R.Rack c.args.parts.rack) left found c.run.ensures.due))
 
 pub returns-in-Session-clause-due : goal.returns-in-Session-clause-due
 returns-in-Session-clause-due g c =
     rw c.in-Session.is
-    (session_says (input g.S.Source c.args.source.now) (input g.S.Source c.session-parts.new.source) (files g.R.Rack c.args.parts.rack) (files g.R.Rack c.session-parts.result.parts.rack)
-    c.session-parts.result.found c.session-parts.ensures.due)
+    (session_says (input g.S.Source c.args.source.now) (input g.S.Source c.session.new.source) (files g.R.Rack c.args.parts.rack) (files g.R.Rack c.session.result.parts.rack)
+    c.session.result.found c.session.ensures.due)
