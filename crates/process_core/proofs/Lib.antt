@@ -36,6 +36,8 @@ pub mod StartRooms
 pub mod KeptCounts
 pub mod KeptBound
 pub mod KeptRoom
+pub mod KeptSeen
+pub mod HandKept
 pub mod BegunLists
 pub mod BegunLost
 pub mod BegunOne
