@@ -78,3 +78,4 @@ pub mod VictimsKept
 pub mod Exhausted
 pub mod NextKept
 pub mod WithinLimits
+pub mod RotationSeen

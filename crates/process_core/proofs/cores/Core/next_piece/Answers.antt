@@ -1,75 +1,42 @@
-use Rattle.std.proofs.Common.{◌≡◌, ◌∙◌, ◌+◌, ◌-◌, ◌≤◌, ℕ, length, min, Option, Some, None, ap, subst, sym, arith}
-use Rattle.std.specs.Option.{option_or}
-use Rattle.process_tree.specs.Blocks.{numbers_from}
-use Rattle.machine_model.specs.Replies.{Handed, admit_reply}
-use Rattle.process_core.specs.Cores.{CoreState, IsCore, courses_in, moment_of, relation}
-use Rattle.process_core.specs.Rotation.{first_told, piece_in}
-use Rattle.process_core.specs.Seats.{seats_of}
-use Rattle.process_core.proofs.Rotations.{few_plans, free_in_rotation, numbered_now, two_runs}
-use Rattle.process_core.proofs.SeatFacts.{seats_many}
+use Rattle.std.proofs.Common.{◌∙◌, refl, sym, arith}
+use Rattle.process_core.proofs.KeptSeen.{few_seen}
+use Rattle.process_core.proofs.RotationSeen.{free_seen}
 use Rattle.process_core.proofs.cores.Core.next_piece.Goals as goal
 
 pub overflow_cast-count : goal.overflow_cast-count
 overflow_cast-count c =
-    let v = c.args.self.now in
-    let core = subst IsCore c.self.view_is c.self.invariant.stands.core in
-    let many = seats_many v c.self.inside.seats.items (subst (λ x. c.self.inside.seats.items ≡ seats_of (courses_in x) (moment_of x)) c.self.view_is c.self.invariant.stands.seats) in
-    let few = few_plans v core in
+    let few = few_seen c.self.view_is c.self.invariant in
     let is = c.len-count.ensures in
     omega arith
 
 pub overflow_add-served : goal.overflow_add-served
 overflow_add-served c =
-    let v = c.args.self.now in
-    let core = subst IsCore c.self.view_is c.self.invariant.stands.core in
-    let many = seats_many v c.self.inside.seats.items (subst (λ x. c.self.inside.seats.items ≡ seats_of (courses_in x) (moment_of x)) c.self.view_is c.self.invariant.stands.seats) in
-    let few = few_plans v core in
+    let few = few_seen c.self.view_is c.self.invariant in
     let is = c.len-count.ensures in
     let least = c.min-served.ensures in
     omega arith
 
 pub overflow_add-count : goal.overflow_add-count
 overflow_add-count c =
-    let v = c.args.self.now in
-    let core = subst IsCore c.self.view_is c.self.invariant.stands.core in
-    let many = seats_many v c.self.inside.seats.items (subst (λ x. c.self.inside.seats.items ≡ seats_of (courses_in x) (moment_of x)) c.self.view_is c.self.invariant.stands.seats) in
-    let few = few_plans v core in
+    let few = few_seen c.self.view_is c.self.invariant in
     let is = c.len-count.ensures in
     omega arith
 
 pub overflow_add-served-in-None : goal.overflow_add-served-in-None
 overflow_add-served-in-None c =
-    let v = c.args.self.now in
-    let core = subst IsCore c.self.view_is c.self.invariant.stands.core in
-    let many = seats_many v c.self.inside.seats.items (subst (λ x. c.self.inside.seats.items ≡ seats_of (courses_in x) (moment_of x)) c.self.view_is c.self.invariant.stands.seats) in
-    let few = few_plans v core in
+    let few = few_seen c.self.view_is c.self.invariant in
     let is = c.len-count.ensures in
     let least = c.min-served.ensures in
     omega arith
 
 pub returns-in-Some : goal.returns-in-Some
 returns-in-Some c =
-    let v = c.args.self.now in
-    let core = subst IsCore c.self.view_is c.self.invariant.stands.core in
-    let all = seats_many v c.self.inside.seats.items (subst (λ x. c.self.inside.seats.items ≡ seats_of (courses_in x) (moment_of x)) c.self.view_is c.self.invariant.stands.seats) in
     let is = c.len-count.ensures in
-    let many : c.len-count.result ≡ length v.plans = omega arith in
-    let f : ℕ → Option Handed = λ i. piece_in (admit_reply (relation v) (courses_in v) (moment_of v) i) in
-    let served = c.min-served.ensures ∙ (ap (λ (x : CoreState). min x.served c.len-count.result) c.self.view_is ∙ ap (min v.served) many) in
-    sym (free_in_rotation (relation v) (courses_in v) (moment_of v) (length v.plans) v.served (numbered_now v core)
-    ∙ (sym (two_runs f v.served (length v.plans) c.min-served.result c.len-count.result served many)
-    ∙ ap (λ o. option_or o (first_told f (numbers_from 1 (c.min-served.result + 1 - 1)))) (sym c.first_piece.ensures ∙ c.in-Some.is)))
+    let ok = c.self.inside.seats.ok in
+    free_seen c.self.view_is c.self.invariant c.len-count.result (omega arith) c.min-served.result c.min-served.ensures _ _ (sym c.in-Some.is ∙ c.first_piece.ensures) refl
 
 pub returns-in-None : goal.returns-in-None
 returns-in-None c =
-    let v = c.args.self.now in
-    let core = subst IsCore c.self.view_is c.self.invariant.stands.core in
-    let all = seats_many v c.self.inside.seats.items (subst (λ x. c.self.inside.seats.items ≡ seats_of (courses_in x) (moment_of x)) c.self.view_is c.self.invariant.stands.seats) in
     let is = c.len-count.ensures in
-    let many : c.len-count.result ≡ length v.plans = omega arith in
-    let f : ℕ → Option Handed = λ i. piece_in (admit_reply (relation v) (courses_in v) (moment_of v) i) in
-    let served = c.min-served.ensures ∙ (ap (λ (x : CoreState). min x.served c.len-count.result) c.self.view_is ∙ ap (min v.served) many) in
-    c.first_piece-in-None.ensures
-    ∙ sym (free_in_rotation (relation v) (courses_in v) (moment_of v) (length v.plans) v.served (numbered_now v core)
-    ∙ (sym (two_runs f v.served (length v.plans) c.min-served.result c.len-count.result served many)
-    ∙ ap (λ o. option_or o (first_told f (numbers_from 1 (c.min-served.result + 1 - 1)))) (sym c.first_piece.ensures ∙ c.in-None.is)))
+    let ok = c.self.inside.seats.ok in
+    free_seen c.self.view_is c.self.invariant c.len-count.result (omega arith) c.min-served.result c.min-served.ensures _ _ (sym c.in-None.is ∙ c.first_piece.ensures) c.first_piece-in-None.ensures
