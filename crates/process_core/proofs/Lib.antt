@@ -79,3 +79,4 @@ pub mod Exhausted
 pub mod NextKept
 pub mod WithinLimits
 pub mod RotationSeen
+pub mod StartSeen
