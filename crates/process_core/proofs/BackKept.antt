@@ -1,5 +1,5 @@
 -- What is kept where a process goes back: its seat and its row.
-use Rattle.std.proofs.Common.{◌≡◌, ◌∙◌, ℕ, ◌+◌, ◌-◌, ◌≤◌, true, if◌then◌else◌, not, List, length, map, slice_index_or, slice_set, Some, None, is_some, ap, arith}
+use Rattle.std.proofs.Common.{◌≡◌, ◌∙◌, ℕ, ◌+◌, ◌-◌, ◌≤◌, true, if◌then◌else◌, not, List, length, map, slice_index_or, slice_set, Some, None, is_some, ap, subst, sym, arith}
 use Rattle.std.proofs.lemmas.Bool.{and_parts}
 use Rattle.process_tree.specs.Blocks.{numbers_from}
 use Rattle.schedule_model.specs.declared.event.Event.{Event}
@@ -73,3 +73,25 @@ module _ {c : CoreState} {h : List Event} {ss : List SeatState} {ts : Tables} {o
     pub back_drags : (new : SeatState) → new ≡ begun_seat (record { event = event; cause = own }) s → (us : Tables) → us ≡ changed (begun_row s) root ts → CanDrag c h opening most capacity k root (slice_set ss (root - 1) new) us
     back_drags new told us told' =
         can_drag kept k may root (middle c kept.stands.core k may own root back) back_middle (slice_set ss (root - 1) new) (back_seats new told) us (back_tables us told')
+
+-- The same of a core that is seen as another.
+module _ {c v : CoreState} {h : List Event} {ss : List SeatState} {ts : Tables} {opening most capacity : ℕ} (view : c ≡ v) (kept : IsKept c h ss ts opening most capacity) (k : Kept) (own : Cause) (root : ℕ)
+    (is : IsBackward k own root) (told : may_be_kept (relation v) (courses_in v) (moment_of v) k ≡ true) where
+  may_seen : may_be_kept (relation c) (courses_in c) (moment_of c) k ≡ true
+  may_seen = subst (λ (x : CoreState). may_be_kept (relation x) (courses_in x) (moment_of x) k ≡ true) (sym view) told
+
+  active_root : is_active (moment_of c).events root ≡ true
+  active_root = (backward_back c k own root is may_seen).active'
+
+  pub root_there : (1 ≤ root) × (root ≤ length ss)
+  root_there = seat_there kept root active_root
+
+  pub root_is_open : is_open ts root ≡ true
+  root_is_open = row_there kept root active_root
+
+  pub root_active : (s : SeatState) → s ≡ slice_index_or ss (root - 1) s → is_some s.instance ≡ true
+  root_active = seat_active kept root active_root
+
+  pub root_drags : (event : ℕ) → event ≡ length c.kept + 1 → (s : SeatState) → s ≡ slice_index_or ss (root - 1) s → (new : SeatState) → new ≡ begun_seat (record { event = event; cause = own }) s
+      → (us : Tables) → us ≡ changed (begun_row s) root ts → CanDrag c h opening most capacity k root (slice_set ss (root - 1) new) us
+  root_drags event at s found new told' us are = back_drags kept k own root is may_seen event at s found new told' us are
