@@ -32,6 +32,12 @@ use Rattle.process_core.proofs.RefusedKept.{refused_alone, refused_drags, refuse
 use Rattle.process_core.proofs.RefusedOwn.{refused_active}
 use Rattle.process_core.proofs.RefusedReplies.{drags_told, refused_after, refused_may, refused_piece, refused_told}
 
+-- What is kept where no other process goes back, and the core then.
+pub record StandsAlone (c : CoreState) (h : List Event) (opening most capacity : ℕ) (k : Kept) (rs : List SeatState) (us : Tables) : Type 0 where
+  pub stands : (ks : List Kept) → ks ≡ c.kept ++ k ∷ []
+      → ((n : ℕ) → n ≡ capacity → IsKept (record { conflicts = us.conflicts; plans = c.plans; opening = c.opening; kept = ks; served = c.served }) h rs us opening most n)
+      × (record { conflicts = us.conflicts; plans = c.plans; opening = c.opening; kept = ks; served = c.served } ≡ with_kept c k)
+
 module _ {c : CoreState} {h : List Event} {ss : List SeatState} {ts : Tables} {opening most capacity : ℕ} (kept : IsKept c h ss ts opening most capacity) (v : CoreState) (view : c ≡ v)
     (d : Piece) (handed : piece_of v.kept d.number ≡ Some d) (gone : state_of (moment_of v) d.number ≡ Out) (no_end : same_work d.work End ≡ false) where
   found : piece_of c.kept d.number ≡ Some d
@@ -94,7 +100,5 @@ module _ {c : CoreState} {h : List Event} {ss : List SeatState} {ts : Tables} {o
         pub core_drags : drags_along r ≡ true → CanDrag c h opening most capacity (Refuse d.number) d.process (slice_set ss (d.process - 1) new) us
         core_drags drags = refused_drags kept d found may event at s there new is us are (sym only ∙ drags)
 
-        pub core_alone : drags_along r ≡ false → (ks : List Kept) → ks ≡ c.kept ++ Refuse d.number ∷ []
-            → ((n : ℕ) → n ≡ capacity → IsKept (record { conflicts = us.conflicts; plans = c.plans; opening = c.opening; kept = ks; served = c.served }) h (slice_set ss (d.process - 1) new) us opening most n)
-            × (record { conflicts = us.conflicts; plans = c.plans; opening = c.opening; kept = ks; served = c.served } ≡ with_kept c (Refuse d.number))
-        core_alone none = refused_alone kept d found may event at s there new is us are (sym only ∙ none)
+        pub core_alone : drags_along r ≡ false → StandsAlone c h opening most capacity (Refuse d.number) (slice_set ss (d.process - 1) new) us
+        core_alone none = record { stands = refused_alone kept d found may event at s there new is us are (sym only ∙ none) }
