@@ -3,26 +3,27 @@ use Rattle.process_core.specs.Beginnings.{aborted_by}
 use Rattle.process_core.specs.Cores.{IsCore, courses_in, moment_of}
 use Rattle.process_core.specs.Seats.{seats_of}
 use Rattle.process_core.proofs.AbortReplies.{abort_known, abort_unknown}
+use Rattle.process_core.proofs.KeptSeen.{kept_seen, many_seen}
 use Rattle.process_core.proofs.SeatFacts.{seat_is, seats_many}
 use Rattle.process_core.proofs.StandingFacts.{plan_started}
 use Rattle.process_core.proofs.cores.Core.abort_reply.Goals as goal
 
 pub returns-then-i-eq0 : goal.returns-then-i-eq0
 returns-then-i-eq0 c =
-    let core = subst IsCore c.self.view_is c.self.invariant.stands.core in
+    let core = (kept_seen c.self.view_is c.self.invariant).stands.core in
     abort_unknown c.args.self.now core c.args.i (λ bounds. let low = bounds.0 in let none = c.if-i-eq0.true in absurd (omega arith))
 
 pub returns-then-place-count : goal.returns-then-place-count
 returns-then-place-count c =
-    let core = subst IsCore c.self.view_is c.self.invariant.stands.core in
-    let many = seats_many c.args.self.now c.self.inside.seats.items (subst (λ v. c.self.inside.seats.items ≡ seats_of (courses_in v) (moment_of v)) c.self.view_is c.self.invariant.stands.seats) in
+    let core = (kept_seen c.self.view_is c.self.invariant).stands.core in
+    let many = many_seen c.self.view_is c.self.invariant in
     abort_unknown c.args.self.now core c.args.i (λ bounds. let low = bounds.0 in let high = bounds.1 in let past = c.if-place-count.true in let is = c.len-count.ensures in absurd (omega arith))
 
 pub returns : goal.returns
 returns c =
     let v = c.args.self.now in
-    let core = subst IsCore c.self.view_is c.self.invariant.stands.core in
-    let seats = subst (λ v. c.self.inside.seats.items ≡ seats_of (courses_in v) (moment_of v)) c.self.view_is c.self.invariant.stands.seats in
+    let core = (kept_seen c.self.view_is c.self.invariant).stands.core in
+    let seats = (kept_seen c.self.view_is c.self.invariant).stands.seats in
     let many = seats_many v c.self.inside.seats.items seats in
     let is = c.len-count.ensures in
     let within = c.if-place-count.false in

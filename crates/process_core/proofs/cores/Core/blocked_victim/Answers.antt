@@ -6,6 +6,7 @@ use Rattle.machine_model.specs.Replies.{admit_reply}
 use Rattle.process_core.specs.Cores.{IsCore, courses_in, moment_of, relation}
 use Rattle.process_core.specs.Rotation.{can_be_victim}
 use Rattle.process_core.specs.Seats.{seats_of}
+use Rattle.process_core.proofs.KeptSeen.{few_seen, kept_seen, many_seen}
 use Rattle.process_core.proofs.Rotations.{few_plans, numbered_now}
 use Rattle.process_core.proofs.SeatFacts.{seats_many}
 use Rattle.process_core.proofs.Stalls.{blocked_victim, idle_now, runs_now, runs_on}
@@ -13,10 +14,7 @@ use Rattle.process_core.proofs.cores.Core.blocked_victim.Goals as goal
 
 pub overflow_cast-count : goal.overflow_cast-count
 overflow_cast-count c =
-    let v = c.args.self.now in
-    let core = subst IsCore c.self.view_is c.self.invariant.stands.core in
-    let many = seats_many v c.self.inside.seats.items (subst (λ x. c.self.inside.seats.items ≡ seats_of (courses_in x) (moment_of x)) c.self.view_is c.self.invariant.stands.seats) in
-    let few = few_plans v core in
+    let few = few_seen c.self.view_is c.self.invariant in
     let is = c.len-count.ensures in
     omega arith
 
@@ -28,8 +26,8 @@ returns-then-is_running c =
 pub returns-else-is_running : goal.returns-else-is_running
 returns-else-is_running c =
     let v = c.args.self.now in
-    let core = subst IsCore c.self.view_is c.self.invariant.stands.core in
-    let all = seats_many v c.self.inside.seats.items (subst (λ x. c.self.inside.seats.items ≡ seats_of (courses_in x) (moment_of x)) c.self.view_is c.self.invariant.stands.seats) in
+    let core = (kept_seen c.self.view_is c.self.invariant).stands.core in
+    let all = many_seen c.self.view_is c.self.invariant in
     let is = c.len-count.ensures in
     let same : c.len-count.result ≡ length v.plans = omega arith in
     c.greatest_victim.ensures

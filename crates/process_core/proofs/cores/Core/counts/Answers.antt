@@ -5,13 +5,14 @@ use Rattle.process_core.specs.Room.{IsKept}
 use Rattle.process_core.specs.Starting.{settled_count}
 use Rattle.process_core.proofs.EntryCounts.{entries_are}
 use Rattle.process_core.proofs.FewEvents.{few_events}
+use Rattle.process_core.proofs.KeptSeen.{kept_seen}
 use Rattle.process_core.proofs.SeatFacts.{seats_many}
 use Rattle.process_core.proofs.WithinLimits.{all_within}
 use Rattle.process_core.proofs.cores.Core.counts.Goals as goal
 
 pub settled_count-settled-requires : goal.settled_count-settled-requires
 settled_count-settled-requires c =
-    let kept = subst (λ v. IsKept v c.self.inside.history.events c.self.inside.seats.items c.self.inside.holds c.self.inside.opening c.self.inside.most (vec_capacity c.self.inside.kept)) c.self.view_is c.self.invariant in
+    let kept = kept_seen c.self.view_is c.self.invariant in
     let few = few_events c.args.self.now kept.stands.core in
     let same = ap length kept.stands.events in
     let now = ap length c.as_slice.ensures in
@@ -19,7 +20,7 @@ settled_count-settled-requires c =
 
 pub overflow_cast-result : goal.overflow_cast-result
 overflow_cast-result c =
-    let kept = subst (λ v. IsKept v c.self.inside.history.events c.self.inside.seats.items c.self.inside.holds c.self.inside.opening c.self.inside.most (vec_capacity c.self.inside.kept)) c.self.view_is c.self.invariant in
+    let kept = kept_seen c.self.view_is c.self.invariant in
     let ok = c.self.inside.seats.ok in
     let many = seats_many c.args.self.now c.self.inside.seats.items kept.stands.seats in
     let each = kept.stands.core.session.one_each in
@@ -29,14 +30,14 @@ overflow_cast-result c =
 
 pub overflow_cast-result-2 : goal.overflow_cast-result-2
 overflow_cast-result-2 c =
-    let kept = subst (λ v. IsKept v c.self.inside.history.events c.self.inside.seats.items c.self.inside.holds c.self.inside.opening c.self.inside.most (vec_capacity c.self.inside.kept)) c.self.view_is c.self.invariant in
+    let kept = kept_seen c.self.view_is c.self.invariant in
     let within = (all_within c.args.self.now kept.stands.core).1 in
     let load = c.load-load.ensures.active in
     omega arith
 
 pub returns-clause-processes : goal.returns-clause-processes
 returns-clause-processes c =
-    let kept = subst (λ v. IsKept v c.self.inside.history.events c.self.inside.seats.items c.self.inside.holds c.self.inside.opening c.self.inside.most (vec_capacity c.self.inside.kept)) c.self.view_is c.self.invariant in
+    let kept = kept_seen c.self.view_is c.self.invariant in
     let ok = c.self.inside.seats.ok in
     let many = seats_many c.args.self.now c.self.inside.seats.items kept.stands.seats in
     let each = kept.stands.core.session.one_each in
@@ -45,7 +46,7 @@ returns-clause-processes c =
 
 pub returns-clause-entries : goal.returns-clause-entries
 returns-clause-entries c =
-    let kept = subst (λ v. IsKept v c.self.inside.history.events c.self.inside.seats.items c.self.inside.holds c.self.inside.opening c.self.inside.most (vec_capacity c.self.inside.kept)) c.self.view_is c.self.invariant in
+    let kept = kept_seen c.self.view_is c.self.invariant in
     let v = c.args.self.now in
     let ss = c.self.inside.seats.items in
     let settled : c.settled_count-settled.result ≡ settled_count ss (history_of v) =
@@ -57,7 +58,7 @@ returns-clause-entries c =
 
 pub returns-clause-within : goal.returns-clause-within
 returns-clause-within c =
-    let kept = subst (λ v. IsKept v c.self.inside.history.events c.self.inside.seats.items c.self.inside.holds c.self.inside.opening c.self.inside.most (vec_capacity c.self.inside.kept)) c.self.view_is c.self.invariant in
+    let kept = kept_seen c.self.view_is c.self.invariant in
     let v = c.args.self.now in
     let ss = c.self.inside.seats.items in
     let ok = c.self.inside.seats.ok in

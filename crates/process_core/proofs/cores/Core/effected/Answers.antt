@@ -13,12 +13,13 @@ use Rattle.process_core.proofs.EffectStands.{effect_stands, event_is}
 use Rattle.process_core.proofs.HandStands.{with_event}
 use Rattle.process_core.proofs.FewEvents.{few_events}
 use Rattle.process_core.proofs.KeptRoom.{kept_after, kept_same, opening_stays, room_to_push, view_grown}
+use Rattle.process_core.proofs.KeptSeen.{kept_seen}
 use Rattle.process_core.proofs.SeatFacts.{handed_has_plan, seat_is, seats_many}
 use Rattle.process_core.proofs.cores.Core.effected.Goals as goal
 
 pub event_told-event-requires : goal.event_told-event-requires
 event_told-event-requires c =
-    let kept = subst (λ v. IsKept v c.self.inside.history.events c.self.inside.seats.items c.self.inside.holds c.self.inside.opening c.self.inside.most (vec_capacity c.self.inside.kept)) c.self.view_is c.self.invariant in
+    let kept = kept_seen c.self.view_is c.self.invariant in
     let v = c.args.self.now in
     let d = c.args.piece.piece in
     let plan = has_its_plan v d c.requires.handed kept.stands.core in
@@ -27,14 +28,14 @@ event_told-event-requires c =
 
 pub overflow_sub-place : goal.overflow_sub-place
 overflow_sub-place c =
-    let kept = subst (λ v. IsKept v c.self.inside.history.events c.self.inside.seats.items c.self.inside.holds c.self.inside.opening c.self.inside.most (vec_capacity c.self.inside.kept)) c.self.view_is c.self.invariant in
+    let kept = kept_seen c.self.view_is c.self.invariant in
     let low = (handed_has_plan c.args.self.now kept.stands.core c.args.piece.piece c.requires.handed).0 in
     let is = c.process-process.ensures in
     omega arith
 
 pub index_mut-requires : goal.index_mut-requires
 index_mut-requires c =
-    let kept = subst (λ v. IsKept v c.self.inside.history.events c.self.inside.seats.items c.self.inside.holds c.self.inside.opening c.self.inside.most (vec_capacity c.self.inside.kept)) c.self.view_is c.self.invariant in
+    let kept = kept_seen c.self.view_is c.self.invariant in
     let bounds = handed_has_plan c.args.self.now kept.stands.core c.args.piece.piece c.requires.handed in
     let low = bounds.0 in
     let high = bounds.1 in
@@ -44,7 +45,7 @@ index_mut-requires c =
 
 pub bounds-as_slice-place : goal.bounds-as_slice-place
 bounds-as_slice-place c =
-    let kept = subst (λ v. IsKept v c.self.inside.history.events c.self.inside.seats.items c.self.inside.holds c.self.inside.opening c.self.inside.most (vec_capacity c.self.inside.kept)) c.self.view_is c.self.invariant in
+    let kept = kept_seen c.self.view_is c.self.invariant in
     let bounds = handed_has_plan c.args.self.now kept.stands.core c.args.piece.piece c.requires.handed in
     let low = bounds.0 in
     let high = bounds.1 in
@@ -54,7 +55,7 @@ bounds-as_slice-place c =
 
 pub effect-requires : goal.effect-requires
 effect-requires c =
-    let kept = subst (λ v. IsKept v c.self.inside.history.events c.self.inside.seats.items c.self.inside.holds c.self.inside.opening c.self.inside.most (vec_capacity c.self.inside.kept)) c.self.view_is c.self.invariant in
+    let kept = kept_seen c.self.view_is c.self.invariant in
     let v = c.args.self.now in
     let d = c.args.piece.piece in
     let p = c.index-as_slice-place.result in
@@ -66,7 +67,7 @@ effect-requires c =
 
 pub push_reserved-requires : goal.push_reserved-requires
 push_reserved-requires c =
-    let kept = subst (λ v. IsKept v c.self.inside.history.events c.self.inside.seats.items c.self.inside.holds c.self.inside.opening c.self.inside.most (vec_capacity c.self.inside.kept)) c.self.view_is c.self.invariant in
+    let kept = kept_seen c.self.view_is c.self.invariant in
     let v = c.args.self.now in
     let d = c.args.piece.piece in
     let room = room_to_push v kept.stands.core (Effect d.number) refl (takes_effect v d c.requires.handed c.requires.out) kept in
@@ -75,7 +76,7 @@ push_reserved-requires c =
 
 pub push-requires : goal.push-requires
 push-requires c =
-    let kept = subst (λ v. IsKept v c.self.inside.history.events c.self.inside.seats.items c.self.inside.holds c.self.inside.opening c.self.inside.most (vec_capacity c.self.inside.kept)) c.self.view_is c.self.invariant in
+    let kept = kept_seen c.self.view_is c.self.invariant in
     let v = c.args.self.now in
     let d = c.args.piece.piece in
     let out = takes_effect v d c.requires.handed c.requires.out in
@@ -88,7 +89,7 @@ push-requires c =
 
 pub overflow_cast-result : goal.overflow_cast-result
 overflow_cast-result c =
-    let kept = subst (λ v. IsKept v c.self.inside.history.events c.self.inside.seats.items c.self.inside.holds c.self.inside.opening c.self.inside.most (vec_capacity c.self.inside.kept)) c.self.view_is c.self.invariant in
+    let kept = kept_seen c.self.view_is c.self.invariant in
     let v = c.args.self.now in
     let d = c.args.piece.piece in
     let out = takes_effect v d c.requires.handed c.requires.out in
@@ -105,7 +106,7 @@ overflow_cast-result c =
 
 pub invariant_of-self : goal.invariant_of-self
 invariant_of-self c =
-    let kept = subst (λ v. IsKept v c.self.inside.history.events c.self.inside.seats.items c.self.inside.holds c.self.inside.opening c.self.inside.most (vec_capacity c.self.inside.kept)) c.self.view_is c.self.invariant in
+    let kept = kept_seen c.self.view_is c.self.invariant in
     let v = c.args.self.now in
     let d = c.args.piece.piece in
     let p = c.index-as_slice-place.result in
@@ -139,7 +140,7 @@ invariant_of-self c =
 
 pub returns-clause-core : goal.returns-clause-core
 returns-clause-core c =
-    let kept = subst (λ v. IsKept v c.self.inside.history.events c.self.inside.seats.items c.self.inside.holds c.self.inside.opening c.self.inside.most (vec_capacity c.self.inside.kept)) c.self.view_is c.self.invariant in
+    let kept = kept_seen c.self.view_is c.self.invariant in
     let v = c.args.self.now in
     let d = c.args.piece.piece in
     let out = takes_effect v d c.requires.handed c.requires.out in
@@ -157,7 +158,7 @@ returns-clause-core c =
 
 pub returns-clause-reply : goal.returns-clause-reply
 returns-clause-reply c =
-    let kept = subst (λ v. IsKept v c.self.inside.history.events c.self.inside.seats.items c.self.inside.holds c.self.inside.opening c.self.inside.most (vec_capacity c.self.inside.kept)) c.self.view_is c.self.invariant in
+    let kept = kept_seen c.self.view_is c.self.invariant in
     let v = c.args.self.now in
     let d = c.args.piece.piece in
     let out = takes_effect v d c.requires.handed c.requires.out in

@@ -6,6 +6,7 @@ use Rattle.process_core.specs.Cores.{CoreState, courses_in}
 use Rattle.process_core.specs.Room.{IsKept}
 use Rattle.process_core.specs.declared.limits.Load.{Load}
 use Rattle.process_core.proofs.ActiveSums.{active_by_seat, all_active, count_more, none_more, plan_operations, seat_with_plan, sum_more}
+use Rattle.process_core.proofs.KeptSeen.{kept_seen}
 use Rattle.process_core.proofs.SeatFacts.{seats_many}
 use Rattle.process_core.proofs.StandingFacts.{seats_few}
 use Rattle.process_core.proofs.cores.Core.load.Goals as goal
@@ -13,7 +14,7 @@ use Rattle.process_core.proofs.cores.Core.load.Goals.{then-is_active, else-is_ac
 
 pub offset_bounds-as_slice-place : goal.offset_bounds-as_slice-place
 offset_bounds-as_slice-place c =
-    let kept = subst (λ v. IsKept v c.self.inside.history.events c.self.inside.seats.items c.self.inside.holds c.self.inside.opening c.self.inside.most (vec_capacity c.self.inside.kept)) c.self.view_is c.self.invariant in
+    let kept = kept_seen c.self.view_is c.self.invariant in
     let v = c.args.self.now in
     let ss = c.self.inside.seats.items in
     let n = c.loop-place.place in
@@ -27,7 +28,7 @@ offset_bounds-as_slice-place c =
 
 pub bounds-as_slice-place : goal.bounds-as_slice-place
 bounds-as_slice-place c =
-    let kept = subst (λ v. IsKept v c.self.inside.history.events c.self.inside.seats.items c.self.inside.holds c.self.inside.opening c.self.inside.most (vec_capacity c.self.inside.kept)) c.self.view_is c.self.invariant in
+    let kept = kept_seen c.self.view_is c.self.invariant in
     let v = c.args.self.now in
     let ss = c.self.inside.seats.items in
     let n = c.loop-place.place in
@@ -41,7 +42,7 @@ bounds-as_slice-place c =
 
 pub need-requires : goal.need-requires
 need-requires c =
-    let kept = subst (λ v. IsKept v c.self.inside.history.events c.self.inside.seats.items c.self.inside.holds c.self.inside.opening c.self.inside.most (vec_capacity c.self.inside.kept)) c.self.view_is c.self.invariant in
+    let kept = kept_seen c.self.view_is c.self.invariant in
     let v = c.args.self.now in
     let ss = c.self.inside.seats.items in
     let n = c.loop-place.place in
@@ -54,7 +55,7 @@ need-requires c =
 
 pub overflow_add-load-then-is_active : goal.overflow_add-load-then-is_active
 overflow_add-load-then-is_active c =
-    let kept = subst (λ v. IsKept v c.self.inside.history.events c.self.inside.seats.items c.self.inside.holds c.self.inside.opening c.self.inside.most (vec_capacity c.self.inside.kept)) c.self.view_is c.self.invariant in
+    let kept = kept_seen c.self.view_is c.self.invariant in
     let v = c.args.self.now in
     let ss = c.self.inside.seats.items in
     let n = c.loop-place.place in
@@ -70,7 +71,7 @@ overflow_add-load-then-is_active c =
 
 pub loop-place-preserved : goal.loop-place-preserved
 loop-place-preserved c =
-    let kept = subst (λ v. IsKept v c.self.inside.history.events c.self.inside.seats.items c.self.inside.holds c.self.inside.opening c.self.inside.most (vec_capacity c.self.inside.kept)) c.self.view_is c.self.invariant in
+    let kept = kept_seen c.self.view_is c.self.invariant in
     let v = c.args.self.now in
     let ss = c.self.inside.seats.items in
     let n = c.loop-place.place in
@@ -110,7 +111,7 @@ loop-place-preserved c =
 
 pub returns-clause-active : goal.returns-clause-active
 returns-clause-active c =
-    let kept = subst (λ v. IsKept v c.self.inside.history.events c.self.inside.seats.items c.self.inside.holds c.self.inside.opening c.self.inside.most (vec_capacity c.self.inside.kept)) c.self.view_is c.self.invariant in
+    let kept = kept_seen c.self.view_is c.self.invariant in
     let v = c.args.self.now in
     let ss = c.self.inside.seats.items in
     let ok = c.self.inside.seats.ok in
@@ -123,7 +124,7 @@ returns-clause-active c =
 
 pub returns-clause-needed : goal.returns-clause-needed
 returns-clause-needed c =
-    let kept = subst (λ v. IsKept v c.self.inside.history.events c.self.inside.seats.items c.self.inside.holds c.self.inside.opening c.self.inside.most (vec_capacity c.self.inside.kept)) c.self.view_is c.self.invariant in
+    let kept = kept_seen c.self.view_is c.self.invariant in
     let v = c.args.self.now in
     let ss = c.self.inside.seats.items in
     let ok = c.self.inside.seats.ok in
@@ -136,7 +137,7 @@ returns-clause-needed c =
 
 pub returns-clause-few : goal.returns-clause-few
 returns-clause-few c =
-    let kept = subst (λ v. IsKept v c.self.inside.history.events c.self.inside.seats.items c.self.inside.holds c.self.inside.opening c.self.inside.most (vec_capacity c.self.inside.kept)) c.self.view_is c.self.invariant in
+    let kept = kept_seen c.self.view_is c.self.invariant in
     let v = c.args.self.now in
     let ss = c.self.inside.seats.items in
     let ok = c.self.inside.seats.ok in

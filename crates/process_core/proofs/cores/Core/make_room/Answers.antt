@@ -1,12 +1,13 @@
 use Rattle.std.proofs.Common.{◌∙◌, vec_capacity, sym, subst, arith}
 use Rattle.process_core.specs.Room.{IsKept}
+use Rattle.process_core.proofs.KeptSeen.{kept_seen}
 use Rattle.process_core.proofs.StandingFacts.{seats_few}
 use Rattle.process_core.proofs.StartRooms.{room_is}
 use Rattle.process_core.proofs.cores.Core.make_room.Goals as goal
 
 pub start_memory-requires-clause-seats : goal.start_memory-requires-clause-seats
 start_memory-requires-clause-seats c =
-    let kept = subst (λ v. IsKept v c.self.inside.history.events c.self.inside.seats.items c.self.inside.holds c.self.inside.opening c.self.inside.most (vec_capacity c.self.inside.kept)) c.self.view_is c.self.invariant in
+    let kept = kept_seen c.self.view_is c.self.invariant in
     let few = seats_few c.args.self.now kept.stands.core c.self.inside.seats.items kept.stands.seats in
     let ok = c.self.inside.seats.ok in
     let len = c.len.ensures in
@@ -14,7 +15,7 @@ start_memory-requires-clause-seats c =
 
 pub returns-clause-room : goal.returns-clause-room
 returns-clause-room c =
-    let kept = subst (λ v. IsKept v c.self.inside.history.events c.self.inside.seats.items c.self.inside.holds c.self.inside.opening c.self.inside.most (vec_capacity c.self.inside.kept)) c.self.view_is c.self.invariant in
+    let kept = kept_seen c.self.view_is c.self.invariant in
     let memory = c.in-Ok.memory in
     let ok = c.self.inside.seats.ok in
     let len = c.len.ensures in

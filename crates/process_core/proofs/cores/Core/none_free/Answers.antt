@@ -9,6 +9,7 @@ use Rattle.process_core.specs.OpenTables.{tables_of}
 use Rattle.process_core.specs.Rotation.{exhausted_in, first_told}
 use Rattle.process_core.specs.Seats.{seats_of}
 use Rattle.process_core.proofs.Exhausted.{least_exhausted_told}
+use Rattle.process_core.proofs.KeptSeen.{few_seen, kept_seen, many_seen}
 use Rattle.process_core.proofs.NextKept.{none_active}
 use Rattle.process_core.proofs.Rotations.{few_plans, numbered_now}
 use Rattle.process_core.proofs.SeatFacts.{seats_many}
@@ -18,14 +19,14 @@ use Rattle.process_core.proofs.cores.Core.none_free.Goals as goal
 pub returns-then-is_none : goal.returns-then-is_none
 returns-then-is_none c =
     let v = c.args.self.now in
-    let tables = subst (λ x. c.self.inside.holds ≡ tables_of x.conflicts (courses_in x) (moment_of x)) c.self.view_is c.self.invariant.stands.tables in
+    let tables = (kept_seen c.self.view_is c.self.invariant).stands.tables in
     sym (ap (none_free_by_active (relation v) (courses_in v) (moment_of v) v.served)
     (none_active v c.self.inside.holds tables c.next_open.result c.next_open.ensures.least c.is_none.result c.is_none.ensures ∙ c.if-is_none.true))
 
 pub returns-then-is_running : goal.returns-then-is_running
 returns-then-is_running c =
     let v = c.args.self.now in
-    let tables = subst (λ x. c.self.inside.holds ≡ tables_of x.conflicts (courses_in x) (moment_of x)) c.self.view_is c.self.invariant.stands.tables in
+    let tables = (kept_seen c.self.view_is c.self.invariant).stands.tables in
     sym (ap (none_free_by_active (relation v) (courses_in v) (moment_of v) v.served)
     (none_active v c.self.inside.holds tables c.next_open.result c.next_open.ensures.least c.is_none.result c.is_none.ensures ∙ c.if-is_none.false)
     ∙ (ap (none_free_by_running (relation v) (courses_in v) (moment_of v) v.served) (runs_now (moment_of v) (sym c.is_running.ensures ∙ c.if-is_running.true))
@@ -33,28 +34,22 @@ returns-then-is_running c =
 
 pub overflow_cast-count : goal.overflow_cast-count
 overflow_cast-count c =
-    let v = c.args.self.now in
-    let core = subst IsCore c.self.view_is c.self.invariant.stands.core in
-    let many = seats_many v c.self.inside.seats.items (subst (λ x. c.self.inside.seats.items ≡ seats_of (courses_in x) (moment_of x)) c.self.view_is c.self.invariant.stands.seats) in
-    let few = few_plans v core in
+    let few = few_seen c.self.view_is c.self.invariant in
     let is = c.len-count.ensures in
     omega arith
 
 pub overflow_add-count : goal.overflow_add-count
 overflow_add-count c =
-    let v = c.args.self.now in
-    let core = subst IsCore c.self.view_is c.self.invariant.stands.core in
-    let many = seats_many v c.self.inside.seats.items (subst (λ x. c.self.inside.seats.items ≡ seats_of (courses_in x) (moment_of x)) c.self.view_is c.self.invariant.stands.seats) in
-    let few = few_plans v core in
+    let few = few_seen c.self.view_is c.self.invariant in
     let is = c.len-count.ensures in
     omega arith
 
 pub returns : goal.returns
 returns c =
     let v = c.args.self.now in
-    let core = subst IsCore c.self.view_is c.self.invariant.stands.core in
-    let tables = subst (λ x. c.self.inside.holds ≡ tables_of x.conflicts (courses_in x) (moment_of x)) c.self.view_is c.self.invariant.stands.tables in
-    let all = seats_many v c.self.inside.seats.items (subst (λ x. c.self.inside.seats.items ≡ seats_of (courses_in x) (moment_of x)) c.self.view_is c.self.invariant.stands.seats) in
+    let core = (kept_seen c.self.view_is c.self.invariant).stands.core in
+    let tables = (kept_seen c.self.view_is c.self.invariant).stands.tables in
+    let all = many_seen c.self.view_is c.self.invariant in
     let is = c.len-count.ensures in
     let many : c.len-count.result + 1 - 1 ≡ length v.plans = omega arith in
     let f : ℕ → Option ℕ = λ i. exhausted_in i (admit_reply (relation v) (courses_in v) (moment_of v) i) in

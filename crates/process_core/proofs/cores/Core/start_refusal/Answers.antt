@@ -7,13 +7,14 @@ use Rattle.process_core.specs.Room.{IsKept}
 use Rattle.process_core.specs.Starting.{settled_count}
 use Rattle.process_core.proofs.EntryCounts.{entries_are}
 use Rattle.process_core.proofs.FewEvents.{few_events}
+use Rattle.process_core.proofs.KeptSeen.{kept_seen}
 use Rattle.process_core.proofs.SeatFacts.{seats_many}
 use Rattle.process_core.proofs.StartRefusals.{not_refused, refused_room, refused_started}
 use Rattle.process_core.proofs.cores.Core.start_refusal.Goals as goal
 
 pub settled_count-settled-requires : goal.settled_count-settled-requires
 settled_count-settled-requires c =
-    let kept = subst (λ v. IsKept v c.self.inside.history.events c.self.inside.seats.items c.self.inside.holds c.self.inside.opening c.self.inside.most (vec_capacity c.self.inside.kept)) c.self.view_is c.self.invariant in
+    let kept = kept_seen c.self.view_is c.self.invariant in
     let few = few_events c.args.self.now kept.stands.core in
     let same = ap length kept.stands.events in
     let now = ap length c.as_slice.ensures in
@@ -21,7 +22,7 @@ settled_count-settled-requires c =
 
 pub returns-then-len-ge-MOST_PROCESSES : goal.returns-then-len-ge-MOST_PROCESSES
 returns-then-len-ge-MOST_PROCESSES c =
-    let kept = subst (λ v. IsKept v c.self.inside.history.events c.self.inside.seats.items c.self.inside.holds c.self.inside.opening c.self.inside.most (vec_capacity c.self.inside.kept)) c.self.view_is c.self.invariant in
+    let kept = kept_seen c.self.view_is c.self.invariant in
     let v = c.args.self.now in
     let ss = c.self.inside.seats.items in
     let ok = c.self.inside.seats.ok in
@@ -43,7 +44,7 @@ overflow_cast-result-then-entries-gt-MOST_ENTRIES c = let a = c.settled_count-se
 
 pub returns-then-entries-gt-MOST_ENTRIES : goal.returns-then-entries-gt-MOST_ENTRIES
 returns-then-entries-gt-MOST_ENTRIES c =
-    let kept = subst (λ v. IsKept v c.self.inside.history.events c.self.inside.seats.items c.self.inside.holds c.self.inside.opening c.self.inside.most (vec_capacity c.self.inside.kept)) c.self.view_is c.self.invariant in
+    let kept = kept_seen c.self.view_is c.self.invariant in
     let v = c.args.self.now in
     let ss = c.self.inside.seats.items in
     let ok = c.self.inside.seats.ok in
@@ -63,7 +64,7 @@ returns-then-entries-gt-MOST_ENTRIES c =
 
 pub returns : goal.returns
 returns c =
-    let kept = subst (λ v. IsKept v c.self.inside.history.events c.self.inside.seats.items c.self.inside.holds c.self.inside.opening c.self.inside.most (vec_capacity c.self.inside.kept)) c.self.view_is c.self.invariant in
+    let kept = kept_seen c.self.view_is c.self.invariant in
     let v = c.args.self.now in
     let ss = c.self.inside.seats.items in
     let ok = c.self.inside.seats.ok in

@@ -2,11 +2,12 @@ use Rattle.std.proofs.Common.{◌≡◌, ◌∙◌, ap, subst, sym}
 use Rattle.hold_tables.specs.Tables.{Tables}
 use Rattle.process_core.specs.Cores.{courses_in, moment_of}
 use Rattle.process_core.specs.OpenTables.{last_pending, tables_of}
+use Rattle.process_core.proofs.KeptSeen.{kept_seen}
 use Rattle.process_core.proofs.PendingEntries.{undo_in_tables}
 use Rattle.process_core.proofs.cores.Core.undo_next.Goals as goal
 
 pub returns : goal.returns
 returns c =
     let v = c.args.self.now in
-    let tables = subst (λ v. c.self.inside.holds ≡ tables_of v.conflicts (courses_in v) (moment_of v)) c.self.view_is c.self.invariant.stands.tables in
+    let tables = (kept_seen c.self.view_is c.self.invariant).stands.tables in
     c.last_pending.ensures ∙ (ap (λ (t : Tables). last_pending t t.net) tables ∙ sym (undo_in_tables (courses_in v) (moment_of v) v.conflicts))
