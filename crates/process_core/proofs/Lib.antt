@@ -80,3 +80,4 @@ pub mod NextKept
 pub mod WithinLimits
 pub mod RotationSeen
 pub mod StartSeen
+pub mod EffectSeen
