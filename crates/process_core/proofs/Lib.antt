@@ -81,3 +81,4 @@ pub mod WithinLimits
 pub mod RotationSeen
 pub mod StartSeen
 pub mod EffectSeen
+pub mod CountsSeen
