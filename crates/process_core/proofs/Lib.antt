@@ -82,3 +82,4 @@ pub mod RotationSeen
 pub mod StartSeen
 pub mod EffectSeen
 pub mod CountsSeen
+pub mod RepliesSeen
