@@ -83,3 +83,4 @@ pub mod StartSeen
 pub mod EffectSeen
 pub mod CountsSeen
 pub mod RepliesSeen
+pub mod StoppedRows

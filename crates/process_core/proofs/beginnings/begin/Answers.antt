@@ -1,24 +1,20 @@
-use Rattle.std.proofs.Common.{◌≡◌, ◌∙◌, Some, None, length, ap, sym}
+use Rattle.std.proofs.Common.{◌≡◌, ◌∙◌, Some, length, ap, sym}
 use Rattle.process_tree.specs.Recovery.{forward}
 use Rattle.machine_model.specs.ProcessState.{begun, pending_count}
 use Rattle.instance_state.specs.Instances.{InstanceState}
 use Rattle.hold_tables.specs.Tables.{Tables, is_open}
-use Rattle.hold_tables.specs.Changes.{changed, with_first_reserved, with_pending, with_running}
+use Rattle.hold_tables.specs.Changes.{changed}
 use Rattle.process_core.specs.Beginnings.{begun_row_of}
 use Rattle.process_core.specs.Seats.{SeatState}
-use Rattle.process_core.proofs.BegunLists.{changed_thrice, shortened_open, stopped_open}
+use Rattle.process_core.proofs.BegunLists.{stopped_open}
+use Rattle.process_core.proofs.StoppedRows.{stays_open, stopped_row}
 use Rattle.process_core.proofs.beginnings.begin.Goals as goal
 
 pub keep_reserved-requires : goal.keep_reserved-requires
 keep_reserved-requires c = record { «open» = ap (λ (t : Tables). is_open t c.args.i) c.stop_running.ensures ∙ stopped_open c.args.i c.args.holds.now c.requires.open }
 
 pub pend-requires : goal.pend-requires
-pend-requires c =
-    let t = c.args.holds.now in
-    record {
-      «open» = ap (λ (u : Tables). is_open u c.args.i) (c.keep_reserved.ensures ∙ ap (changed (with_first_reserved c.owed.result) c.args.i) c.stop_running.ensures)
-          ∙ shortened_open c.owed.result c.args.i (changed (with_running None) c.args.i t) (stopped_open c.args.i t c.requires.open);
-    }
+pend-requires c = record { «open» = stays_open c.args.i c.args.holds.now c.owed.result c.stop_running.ensures c.keep_reserved.ensures c.requires.open }
 
 pub returns-clause-holds : goal.returns-clause-holds
 returns-clause-holds c =
@@ -29,9 +25,4 @@ returns-clause-holds c =
     c.owed.ensures ∙ ap (λ (y : InstanceState). length (forward y.state.progress.shape y.state.progress.net)) c.abort.ensures in
     let pending_is : c.pending.result ≡ pending_count (begun x.state) = c.pending.ensures ∙ ap (λ (y : InstanceState). pending_count y.state) c.abort.ensures in
     let its : c.args.seat.now.instance ≡ Some x = sym (ap (λ (s : SeatState). s.instance) c.seat.view_is) ∙ c.in-Some.is in
-    c.pend.ensures
-    ∙ (ap (changed (with_pending c.pending.result) i) (c.keep_reserved.ensures ∙ ap (changed (with_first_reserved c.owed.result) i) c.stop_running.ensures)
-    ∙ (changed_thrice c.owed.result c.pending.result i t
-    ∙ (ap (λ n. changed (λ r. with_pending c.pending.result (with_first_reserved n (with_running None r))) i t) owed_is
-    ∙ (ap (λ p. changed (λ r. with_pending p (with_first_reserved (length (forward x.state.progress.shape x.state.progress.net)) (with_running None r))) i t) pending_is
-    ∙ ap (λ o. changed (begun_row_of o) i t) (sym its)))))
+    stopped_row i t c.owed.result c.stop_running.ensures c.keep_reserved.ensures c.pending.result c.pend.ensures _ (pending_count (begun x.state)) owed_is pending_is ∙ ap (λ o. changed (begun_row_of o) i t) (sym its)
