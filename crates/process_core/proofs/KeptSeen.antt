@@ -1,11 +1,11 @@
 -- What is kept of a core, said of the core that it is seen as.
-use Rattle.std.proofs.Common.{◌≡◌, ℕ, ◌≤◌, List, length, subst, arith}
+use Rattle.std.proofs.Common.{◌≡◌, ◌∙◌, ℕ, ◌-◌, ◌≤◌, List, length, slice_index_or, subst, arith}
 use Rattle.schedule_model.specs.declared.event.Event.{Event}
 use Rattle.hold_tables.specs.Tables.{Tables}
-use Rattle.process_core.specs.Cores.{CoreState}
+use Rattle.process_core.specs.Cores.{CoreState, courses_in, moment_of}
 use Rattle.process_core.specs.Room.{IsKept}
-use Rattle.process_core.specs.Seats.{SeatState}
-use Rattle.process_core.proofs.SeatFacts.{seats_many}
+use Rattle.process_core.specs.Seats.{SeatState, seat_of}
+use Rattle.process_core.proofs.SeatFacts.{seat_is, seats_many}
 use Rattle.process_core.proofs.StandingFacts.{seats_few}
 
 module _ {c v : CoreState} {h : List Event} {ss : List SeatState} {ts : Tables} {opening most capacity : ℕ} (view : c ≡ v) (kept : IsKept c h ss ts opening most capacity) where
@@ -15,6 +15,10 @@ module _ {c v : CoreState} {h : List Event} {ss : List SeatState} {ts : Tables} 
   -- its seats are as many as its plans
   pub many_seen : length ss ≡ length v.plans
   many_seen = seats_many v ss kept_seen.stands.seats
+
+  -- and each is that of its process
+  pub seat_seen : (i : ℕ) → 1 ≤ i → i ≤ length ss → (s : SeatState) → s ≡ slice_index_or ss (i - 1) s → s ≡ seat_of (courses_in v) (moment_of v) i
+  seat_seen i low high s is = is ∙ seat_is v ss i s kept_seen.stands.seats low (let many = many_seen in omega arith)
 
   pub few_seen : length ss ≤ 4096
   few_seen = seats_few v kept_seen.stands.core ss kept_seen.stands.seats

@@ -84,3 +84,4 @@ pub mod EffectSeen
 pub mod CountsSeen
 pub mod RepliesSeen
 pub mod StoppedRows
+pub mod Positive

@@ -1,10 +1,8 @@
-use Rattle.std.proofs.Common.{◌≡◌, ◌∙◌, ℕ, zero, suc, ◌≤◌, refl, ap, subst, arith}
+use Rattle.std.proofs.Common.{◌∙◌, ap, arith}
 use Rattle.process_core.specs.Beginnings.{aborted_by}
-use Rattle.process_core.specs.Cores.{IsCore, courses_in, moment_of}
-use Rattle.process_core.specs.Seats.{seats_of}
 use Rattle.process_core.proofs.AbortReplies.{abort_known, abort_unknown}
-use Rattle.process_core.proofs.KeptSeen.{kept_seen, many_seen}
-use Rattle.process_core.proofs.SeatFacts.{seat_is, seats_many}
+use Rattle.process_core.proofs.KeptSeen.{kept_seen, many_seen, seat_seen}
+use Rattle.process_core.proofs.Positive.{from_one}
 use Rattle.process_core.proofs.StandingFacts.{plan_started}
 use Rattle.process_core.proofs.cores.Core.abort_reply.Goals as goal
 
@@ -23,13 +21,8 @@ pub returns : goal.returns
 returns c =
     let v = c.args.self.now in
     let core = (kept_seen c.self.view_is c.self.invariant).stands.core in
-    let seats = (kept_seen c.self.view_is c.self.invariant).stands.seats in
-    let many = seats_many v c.self.inside.seats.items seats in
+    let many = many_seen c.self.view_is c.self.invariant in
     let is = c.len-count.ensures in
     let within = c.if-place-count.false in
-    let low : 1 ≤ c.args.i = some c.args.i c.if-i-eq0.false in
-    c.aborted.ensures ∙ (ap aborted_by (c.index.ensures ∙ seat_is v c.self.inside.seats.items c.args.i c.index.result.now seats low (omega arith)) ∙ abort_known v core c.args.i (plan_started v core c.args.i low (omega arith)))
-  where
-    some : (i : ℕ) → (i ≡ 0 → ⊥) → 1 ≤ i
-    some zero other = absurd (other refl)
-    some (suc i) other = omega arith
+    let low = from_one c.args.i c.if-i-eq0.false in
+    c.aborted.ensures ∙ (ap aborted_by (seat_seen c.self.view_is c.self.invariant c.args.i low (omega arith) c.index.result.now c.index.ensures) ∙ abort_known v core c.args.i (plan_started v core c.args.i low (omega arith)))

@@ -1,9 +1,8 @@
-use Rattle.std.proofs.Common.{◌≡◌, ◌∙◌, ℕ, zero, suc, ◌≤◌, refl, ap, sym, subst, arith}
-use Rattle.process_core.specs.Cores.{IsCore, courses_in, moment_of}
-use Rattle.process_core.specs.Seats.{SeatState, seats_of}
+use Rattle.std.proofs.Common.{◌∙◌, zero, ap, sym, arith}
+use Rattle.process_core.specs.Seats.{SeatState}
 use Rattle.process_core.proofs.BegunStarted.{none_began}
-use Rattle.process_core.proofs.KeptSeen.{kept_seen, many_seen}
-use Rattle.process_core.proofs.SeatFacts.{seat_is, seats_many}
+use Rattle.process_core.proofs.KeptSeen.{kept_seen, many_seen, seat_seen}
+use Rattle.process_core.proofs.Positive.{from_one}
 use Rattle.process_core.proofs.cores.Core.began.Goals as goal
 
 pub returns-then-i-eq0 : goal.returns-then-i-eq0
@@ -19,14 +18,7 @@ returns-then-place-count c =
 
 pub returns : goal.returns
 returns c =
-    let v = c.args.self.now in
-    let seats = (kept_seen c.self.view_is c.self.invariant).stands.seats in
-    let many = seats_many v c.self.inside.seats.items seats in
     let is = c.len-count.ensures in
     let within = c.if-place-count.false in
-    let low : 1 ≤ c.args.i = some c.args.i c.if-i-eq0.false in
-    ap (λ (s : SeatState). s.began) (c.behind-self.view_is ∙ (c.index.ensures ∙ seat_is v c.self.inside.seats.items c.args.i c.index.result.now seats low (omega arith)))
-  where
-    some : (i : ℕ) → (i ≡ 0 → ⊥) → 1 ≤ i
-    some zero other = absurd (other refl)
-    some (suc i) other = omega arith
+    let low = from_one c.args.i c.if-i-eq0.false in
+    ap (λ (s : SeatState). s.began) (c.behind-self.view_is ∙ seat_seen c.self.view_is c.self.invariant c.args.i low (omega arith) c.index.result.now c.index.ensures)

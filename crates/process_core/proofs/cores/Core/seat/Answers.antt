@@ -1,14 +1,8 @@
-use Rattle.std.proofs.Common.{◌≡◌, ◌∙◌, ℕ, zero, suc, ◌≤◌, refl, subst, arith}
-use Rattle.process_core.specs.Cores.{IsCore, courses_in, moment_of}
-use Rattle.process_core.specs.Seats.{seats_of}
-use Rattle.process_core.proofs.KeptSeen.{kept_seen, many_seen}
-use Rattle.process_core.proofs.SeatFacts.{seat_is, seats_many}
+use Rattle.std.proofs.Common.{zero, arith}
+use Rattle.process_core.proofs.KeptSeen.{kept_seen, many_seen, seat_seen}
+use Rattle.process_core.proofs.Positive.{from_one}
 use Rattle.process_core.proofs.SeatReplies.{has_started, never_started}
 use Rattle.process_core.proofs.cores.Core.seat.Goals as goal
-
-some : (i : ℕ) → (i ≡ 0 → ⊥) → 1 ≤ i
-some zero other = absurd (other refl)
-some (suc i) other = omega arith
 
 pub returns-then-i-eq0-clause-none : goal.returns-then-i-eq0-clause-none
 returns-then-i-eq0-clause-none c none =
@@ -23,13 +17,10 @@ returns-then-place-count-clause-none c none =
 
 pub returns-clause-seat : goal.returns-clause-seat
 returns-clause-seat c =
-    let v = c.args.self.now in
-    let seats = (kept_seen c.self.view_is c.self.invariant).stands.seats in
-    let many = seats_many v c.self.inside.seats.items seats in
     let is = c.len-count.ensures in
     let within = c.if-place-count.false in
-    let low = some c.args.i c.if-i-eq0.false in
-    c.index.ensures ∙ seat_is v c.self.inside.seats.items c.args.i c.index.result.now seats low (omega arith)
+    let low = from_one c.args.i c.if-i-eq0.false in
+    seat_seen c.self.view_is c.self.invariant c.args.i low (omega arith) c.index.result.now c.index.ensures
 
 pub returns-clause-started : goal.returns-clause-started
 returns-clause-started c =
@@ -38,4 +29,4 @@ returns-clause-started c =
     let many = many_seen c.self.view_is c.self.invariant in
     let is = c.len-count.ensures in
     let within = c.if-place-count.false in
-    has_started v core c.args.i (some c.args.i c.if-i-eq0.false) (omega arith)
+    has_started v core c.args.i (from_one c.args.i c.if-i-eq0.false) (omega arith)
