@@ -1,5 +1,5 @@
 -- How much the history of a core that is seen as another has of what the limits count.
-use Rattle.std.proofs.Common.{◌≡◌, ℕ, ◌+◌, ◌≤◌, ◌<◌, List, filter, length, ap, arith}
+use Rattle.std.proofs.Common.{◌≡◌, ℕ, ◌+◌, ◌≤◌, List, filter, length, ap, arith}
 use Rattle.std.specs.List.{sum_by}
 use Rattle.process_tree.specs.Blocks.{numbers_from}
 use Rattle.schedule_model.specs.declared.event.Event.{Event}

@@ -1,5 +1,5 @@
 -- The least exhausted process, where nothing runs.
-use Rattle.std.proofs.Common.{◌≡◌, ℕ, zero, suc, ◌+◌, ◌≤◌, ◌<◌, Bool, true, false, not, eqb, nat_lt, ◌&&◌, if◌then◌else◌, List, [], ◌∷◌, filter, length, Option, Some, None, is_some, sym, refl, ap, ◌∙◌, arith}
+use Rattle.std.proofs.Common.{◌≡◌, ℕ, zero, suc, ◌+◌, ◌≤◌, Bool, true, false, not, eqb, ◌&&◌, if◌then◌else◌, List, ◌∷◌, filter, length, Option, Some, None, is_some, sym, refl, ap, ◌∙◌, arith}
 use Rattle.std.specs.Option.{option_or}
 use Rattle.std.proofs.lemmas.Bool.{lt-ltb}
 use Rattle.process_tree.specs.Blocks.{numbers_from}

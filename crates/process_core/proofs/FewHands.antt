@@ -1,5 +1,5 @@
 -- No core hands out more pieces than can be numbered.
-use Rattle.std.proofs.Common.{◌≡◌, ⊎_elim, ℕ, zero, suc, ◌+◌, ◌*◌, ◌≤◌, ◌<◌, true, List, [], ◌∷◌, length, map, slice_index_or, None, sym, refl, ap, subst, ◌∙◌, arith}
+use Rattle.std.proofs.Common.{◌≡◌, ⊎_elim, ℕ, zero, suc, ◌+◌, ◌*◌, ◌≤◌, ◌<◌, true, List, [], ◌∷◌, length, map, slice_index_or, None, sym, refl, ap, subst, arith}
 use Rattle.std.specs.List.{sum_by}
 use Rattle.std.proofs.lemmas.Bool.{and_parts, eqb-true, leb-true}
 use Rattle.std.proofs.Math.Nat.{suc-mul}

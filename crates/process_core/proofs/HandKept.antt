@@ -1,12 +1,11 @@
 -- What a core has of a piece that it hands out, and what it keeps then.
-use Rattle.std.proofs.Common.{◌≡◌, ◌∙◌, ℕ, ◌+◌, ◌-◌, ◌≤◌, ◌<◌, true, List, [], ◌∷◌, ◌++◌, length, take, slice_index_or, slice_set, Some, None, sym, refl, ap, subst, arith}
+use Rattle.std.proofs.Common.{◌≡◌, ◌∙◌, ℕ, ◌-◌, ◌≤◌, ◌<◌, true, List, [], ◌∷◌, ◌++◌, length, slice_index_or, slice_set, Some, None, sym, refl, ap, subst, arith}
 use Rattle.process_tree.specs.declared.plan.Plan.{Plan}
 use Rattle.process_tree.specs.Blocks.{outline}
 use Rattle.schedule_model.specs.declared.event.Event.{Event}
 use Rattle.schedule_model.specs.Histories.{is_in, starts}
 use Rattle.schedule_model.specs.Laws.{IsGoodPlan}
 use Rattle.machine_model.specs.declared.kept.Kept.{Kept}
-use Rattle.machine_model.specs.declared.kept.Kept.TheVariants.{Hand}
 use Rattle.machine_model.specs.Moment.{Piece}
 use Rattle.machine_model.specs.Replies.{Handed, kept_hand}
 use Rattle.machine_model.specs.Runs.{may_be_kept}

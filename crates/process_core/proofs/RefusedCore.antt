@@ -1,5 +1,5 @@
 -- What a core has of a piece that is refused, and what it keeps and answers.
-use Rattle.std.proofs.Common.{◌≡◌, ◌∙◌, ℕ, ◌+◌, ◌-◌, ◌≤◌, ◌<◌, Bool, true, false, if◌then◌else◌, List, [], ◌∷◌, ◌++◌, length, slice_index_or, slice_set, Option, Some, None, is_some, IfSome, sym, refl, ap, subst}
+use Rattle.std.proofs.Common.{◌≡◌, ◌∙◌, ℕ, ◌+◌, ◌-◌, ◌≤◌, ◌<◌, true, false, if◌then◌else◌, List, [], ◌∷◌, ◌++◌, length, slice_index_or, slice_set, Some, None, is_some, IfSome, sym, ap, subst}
 use Rattle.process_tree.specs.declared.play.Outcome.TheVariants.{Refused}
 use Rattle.schedule_model.specs.declared.event.Event.{Event}
 use Rattle.schedule_model.specs.Course.{course, shape}
@@ -25,7 +25,7 @@ use Rattle.process_core.specs.Beginnings.{drags_along, refusal_of, refused_row, 
 use Rattle.process_core.specs.Handing.{with_kept}
 use Rattle.process_core.specs.Cores.{CoreState, courses_in, moment_of, relation}
 use Rattle.process_core.specs.Room.{IsKept}
-use Rattle.process_core.specs.Seats.{SeatState, seat_of}
+use Rattle.process_core.specs.Seats.{SeatState}
 use Rattle.process_core.proofs.BackKept.{row_there, seat_active, seat_there, seat_told}
 use Rattle.process_core.proofs.DragKept.{CanDrag}
 use Rattle.process_core.proofs.RefusedKept.{refused_alone, refused_drags, refused_room}

@@ -1,10 +1,10 @@
 -- What is kept after the refusal of a piece.
-use Rattle.std.proofs.Common.{◌≡◌, ◌∙◌, ℕ, ◌+◌, ◌-◌, ◌≤◌, ◌<◌, true, false, not, eqb, ◌&&◌, List, [], ◌∷◌, ◌++◌, length, filter, map, slice_index_or, slice_set, Some, sym, refl, ap, append-nil, arith}
+use Rattle.std.proofs.Common.{◌≡◌, ◌∙◌, ℕ, ◌+◌, ◌-◌, ◌<◌, true, false, not, List, [], ◌∷◌, ◌++◌, length, filter, map, slice_index_or, slice_set, Some, sym, refl, ap, append-nil, arith}
 use Rattle.std.proofs.lemmas.Bool.{and_parts}
 use Rattle.std.proofs.lemmas.List.{length-map}
 use Rattle.process_tree.specs.declared.entry.Entry.{Entry}
 use Rattle.schedule_model.specs.declared.event.Event.{Event}
-use Rattle.schedule_model.specs.Course.{Course, course, course_of, shape}
+use Rattle.schedule_model.specs.Course.{Course, course_of, shape}
 use Rattle.schedule_model.specs.Histories.{active, ends, is_in, net, starts}
 use Rattle.schedule_model.specs.Holdings.{active_net}
 use Rattle.schedule_model.proofs.Active.{is_active-is_in}
@@ -20,10 +20,10 @@ use Rattle.machine_model.specs.Runs.{may_be_kept}
 use Rattle.machine_model.proofs.OpenHoldings.{holders-active}
 use Rattle.machine_model.proofs.Snoc.{advances}
 use Rattle.hold_tables.specs.Changes.{changed}
-use Rattle.hold_tables.specs.Tables.{OpenProcess, Tables}
+use Rattle.hold_tables.specs.Tables.{Tables}
 use Rattle.process_core.specs.Beginnings.{refused_row, refused_seat}
 use Rattle.process_core.specs.Handing.{with_kept}
-use Rattle.process_core.specs.Cores.{CoreState, IsCore, courses_in, history_of, moment_of, relation}
+use Rattle.process_core.specs.Cores.{CoreState, IsCore, courses_in, moment_of, relation}
 use Rattle.process_core.specs.OpenTables.{row_of, tables_of}
 use Rattle.process_core.specs.Room.{IsKept}
 use Rattle.process_core.specs.Seats.{SeatState, Stands, seat_of, seats_of}

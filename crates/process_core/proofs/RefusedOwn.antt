@@ -1,14 +1,12 @@
 -- What the refusal of a piece makes of its own process.
-use Rattle.std.proofs.Common.{◌≡◌, ⊎_elim, ◌∙◌, ℕ, ◌+◌, ◌≤◌, Bool, true, false, not, eqb, ◌&&◌, ◌||◌, if◌then◌else◌, List, [], ◌∷◌, ◌++◌, length, map, Option, Some, None, is_none, is_some, sym, refl, ap, subst, append-nil, arith}
-use Rattle.std.specs.Option.{option_map}
+use Rattle.std.proofs.Common.{◌≡◌, ⊎_elim, ◌∙◌, ℕ, Bool, true, false, eqb, ◌||◌, if◌then◌else◌, List, Some, is_none, sym, refl, ap, subst, arith}
 use Rattle.std.proofs.Math.Bool.{or-false}
-use Rattle.std.proofs.lemmas.Bool.{and_parts, eq-eqb, eqb-true, false≢true}
+use Rattle.std.proofs.lemmas.Bool.{and_parts, eq-eqb, false≢true}
 use Rattle.std.proofs.lemmas.Option.{same_Some}
-use Rattle.process_tree.specs.Shape.{can_be_refused, fixed_len, kind_of}
+use Rattle.process_tree.specs.Shape.{fixed_len}
 use Rattle.schedule_model.specs.Course.{Course, shape}
-use Rattle.schedule_model.specs.Histories.{active, is_active, is_in, net_steps}
+use Rattle.schedule_model.specs.Histories.{is_active, net_steps}
 use Rattle.schedule_model.proofs.Active.{is_active-is_in}
-use Rattle.machine_model.specs.declared.began.Cause.{Cause}
 use Rattle.machine_model.specs.declared.began.Cause.TheVariants.{Refused}
 use Rattle.machine_model.specs.declared.kept.Kept.{Kept}
 use Rattle.machine_model.specs.declared.kept.Kept.TheVariants.{Refuse}
@@ -16,22 +14,21 @@ use Rattle.machine_model.specs.declared.kept.Work.{Work}
 use Rattle.machine_model.specs.declared.kept.Work.TheVariants.{Forward, Undo, End}
 use Rattle.machine_model.specs.CauseLaws.{IsDragged, after_refusal}
 use Rattle.machine_model.specs.Moment.{Beginning, Moment, Piece, beginning_of, begins, has_begun, noted}
-use Rattle.machine_model.specs.PieceLaws.{LeavesPieceOf, begun_where, piece_ended, piece_touched, state_by_piece}
-use Rattle.machine_model.specs.Pieces.{piece_of, running_of, runs}
-use Rattle.machine_model.specs.ProcessState.{ProcessState, begun, complete_unless_on, past, was_refused}
-use Rattle.machine_model.specs.Progress.{Progress, is_only_try, staying, way_on}
+use Rattle.machine_model.specs.PieceLaws.{LeavesPieceOf, piece_ended, piece_touched, state_by_piece}
+use Rattle.machine_model.specs.Pieces.{piece_of, runs}
+use Rattle.machine_model.specs.ProcessState.{was_refused}
+use Rattle.machine_model.specs.Progress.{is_only_try, way_on}
 use Rattle.machine_model.specs.State.{next_of, process_state, progress}
 use Rattle.machine_model.specs.Advance.{advance, drag_along, piece_refused, step_refused, with_piece, work_refused}
 use Rattle.machine_model.specs.Runs.{is_no_end, may_be_kept}
 use Rattle.machine_model.proofs.Begun.{begins-has}
 use Rattle.machine_model.proofs.Causes.{beginnings_have_causes}
 use Rattle.machine_model.proofs.Frames.{piece_of-plain}
-use Rattle.machine_model.proofs.HoldSteps.{entered-running, running_goes_by_pieces}
 use Rattle.machine_model.proofs.OthersStay.{StaysFor, entered-stays, stays-beginnings}
 use Rattle.machine_model.proofs.RunInduction.{begins-keep}
 use Rattle.machine_model.proofs.RunningNext.{flipped, running_is_next}
 use Rattle.machine_model.proofs.Snoc.{now-kept}
-use Rattle.machine_model.proofs.StateSteps.{same_is, states_go_by_transitions}
+use Rattle.machine_model.proofs.StateSteps.{same_is}
 use Rattle.machine_model.proofs.TidyMoments.{run-tidy}
 use Rattle.machine_model.proofs.WaysOn.{staying-least}
 use Rattle.process_core.specs.Cores.{CoreState, IsCore, courses_in, machine_of, moment_of, relation}

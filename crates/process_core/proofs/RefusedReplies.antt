@@ -1,23 +1,20 @@
 -- That a piece that is out may be refused, and what is answered.
-use Rattle.std.proofs.Common.{◌≡◌, ◌∙◌, ℕ, ◌+◌, ◌≤◌, ◌<◌, Bool, true, false, not, eqb, leb, ltb, ◌&&◌, if◌then◌else◌, List, [], ◌∷◌, ◌++◌, length, filter, Option, Some, None, sym, refl, ap, subst, arith}
-use Rattle.std.proofs.lemmas.Bool.{and_from, and_parts, eq-eqb, false≢true, leb-true}
+use Rattle.std.proofs.Common.{◌≡◌, ◌∙◌, ℕ, ◌+◌, ◌≤◌, Bool, true, false, not, eqb, leb, ltb, ◌&&◌, if◌then◌else◌, List, [], ◌∷◌, ◌++◌, Option, Some, None, sym, refl, ap, arith}
+use Rattle.std.proofs.lemmas.Bool.{and_from, eq-eqb, false≢true, leb-true}
 use Rattle.std.proofs.lemmas.Option.{none-some}
 use Rattle.process_tree.specs.declared.play.Outcome.TheVariants.{Refused}
-use Rattle.process_tree.specs.Shape.{can_be_refused, kind_of}
 use Rattle.schedule_model.specs.Course.{Course, course, shape}
-use Rattle.machine_model.specs.declared.kept.Kept.{Kept}
 use Rattle.machine_model.specs.declared.kept.Kept.TheVariants.{Refuse}
 use Rattle.machine_model.specs.declared.kept.Work.{Work}
 use Rattle.machine_model.specs.declared.kept.Work.TheVariants.{End, Forward, Undo}
 use Rattle.machine_model.specs.declared.replies.PieceState.TheVariants.{Out}
-use Rattle.machine_model.specs.declared.replies.Refusal.{Refusal}
 use Rattle.machine_model.specs.declared.replies.Refusal.TheVariants.{Alternative, Exhausted as NoOtherTry, Retry, RollBack}
 use Rattle.machine_model.specs.declared.replies.Todo.{Todo}
 use Rattle.machine_model.specs.declared.replies.Todo.TheVariants.{Exhausted as NoPiece}
 use Rattle.machine_model.specs.Calls.{finish}
-use Rattle.machine_model.specs.Moment.{Moment, Piece, has_begun, noted}
-use Rattle.machine_model.specs.Pieces.{is_try_of, piece_of, refusals, refused_pieces, runs, state_of}
-use Rattle.machine_model.specs.ProcessState.{ProcessState, allowance_in, are_used_up, has_used_up, next_piece, refusal, refusal_by, told_task, todo, tries_in, was_refused}
+use Rattle.machine_model.specs.Moment.{Moment, Piece, has_begun}
+use Rattle.machine_model.specs.Pieces.{is_try_of, piece_of, refusals, runs, state_of}
+use Rattle.machine_model.specs.ProcessState.{ProcessState, allowance_in, are_used_up, next_piece, refusal, refusal_by, told_task, todo, tries_in, was_refused}
 use Rattle.machine_model.specs.Progress.{is_only_try, same_work}
 use Rattle.machine_model.specs.Replies.{Finish, finish_by, finish_kept, finish_piece, finish_reply, out_finish, refusal_reply, refused, refused_unless_end}
 use Rattle.machine_model.specs.State.{process_state}
@@ -34,7 +31,7 @@ use Rattle.process_core.specs.Beginnings.{drags_along}
 use Rattle.process_core.specs.Handing.{with_kept}
 use Rattle.process_core.specs.Cores.{CoreState, IsCore, courses_in, machine_of, moment_of, relation}
 use Rattle.process_core.proofs.CoreEffects.{takes_effect}
-use Rattle.process_core.proofs.HandStands.{core_kept, moment_kept, with_event}
+use Rattle.process_core.proofs.HandStands.{core_kept, with_event}
 use Rattle.process_core.proofs.RefusedOwn.{refused_next}
 use Rattle.process_core.proofs.RefusedSeat.{refusal_is, refused_again, untried}
 

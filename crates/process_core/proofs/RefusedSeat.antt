@@ -1,15 +1,14 @@
 -- The seat and the row of a process whose piece was refused.
-use Rattle.std.proofs.Common.{◌≡◌, ⊎_elim, ◌∙◌, ℕ, ◌+◌, ◌≤◌, Bool, true, false, not, eqb, ltb, ◌&&◌, if◌then◌else◌, List, [], ◌++◌, length, take, map, Option, Some, None, is_some, sym, refl, ap, subst, append-nil, arith}
+use Rattle.std.proofs.Common.{◌≡◌, ⊎_elim, ◌∙◌, ℕ, ◌+◌, Bool, true, false, not, eqb, ltb, ◌&&◌, if◌then◌else◌, List, ◌++◌, length, take, Option, Some, None, is_some, sym, refl, ap, append-nil, arith}
 use Rattle.std.specs.Option.{option_map}
-use Rattle.std.proofs.lemmas.Bool.{and_parts, eq-eqb, eqb-true, false≢true}
+use Rattle.std.proofs.lemmas.Bool.{eq-eqb, false≢true}
 use Rattle.std.proofs.lemmas.Option.{same_Some}
-use Rattle.std.proofs.lemmas.List.{length-drop, length-map, map-append}
+use Rattle.std.proofs.lemmas.List.{length-drop, length-map}
 use Rattle.process_tree.specs.declared.entry.Entry.{Entry}
 use Rattle.process_tree.specs.Recovery.{forward}
 use Rattle.process_tree.specs.Shape.{fixed_len}
-use Rattle.schedule_model.specs.declared.event.Event.{Event}
 use Rattle.schedule_model.specs.Course.{Course, course, shape}
-use Rattle.schedule_model.specs.Histories.{doing, ends, is_active, is_in, net_of, net_steps, starts}
+use Rattle.schedule_model.specs.Histories.{is_active, net_of, net_steps}
 use Rattle.schedule_model.specs.Recovery.{owed}
 use Rattle.machine_model.specs.declared.began.Began.{Began}
 use Rattle.machine_model.specs.declared.began.Cause.TheVariants.{Refused}
@@ -17,7 +16,7 @@ use Rattle.machine_model.specs.declared.kept.Kept.{Kept}
 use Rattle.machine_model.specs.declared.kept.Kept.TheVariants.{Refuse}
 use Rattle.machine_model.specs.HoldLaws.{running_by_piece}
 use Rattle.machine_model.specs.Moment.{Beginning, Lost, Moment, Piece, beginning_of, has_begun, noted}
-use Rattle.machine_model.specs.PieceLaws.{begun_where, piece_ended, piece_touched, state_by_piece}
+use Rattle.machine_model.specs.PieceLaws.{begun_where, state_by_piece}
 use Rattle.machine_model.specs.Pieces.{piece_of, running_of}
 use Rattle.machine_model.specs.declared.kept.Work.{Work}
 use Rattle.machine_model.specs.declared.kept.Work.TheVariants.{End, Forward, Undo}
@@ -30,25 +29,22 @@ use Rattle.machine_model.specs.Advance.{advance}
 use Rattle.machine_model.specs.Runs.{may_be_kept}
 use Rattle.machine_model.proofs.Begun.{advance-begun}
 use Rattle.machine_model.proofs.Causes.{beginnings_have_causes, beginnings_stay}
-use Rattle.machine_model.proofs.CallsKept.{find-passes}
 use Rattle.machine_model.proofs.Frames.{piece_of-plain}
 use Rattle.machine_model.proofs.HoldSteps.{entered-running, running_goes_by_pieces}
 use Rattle.machine_model.proofs.Snoc.{advances, now-kept}
 use Rattle.machine_model.proofs.StateSteps.{states_go_by_transitions}
 use Rattle.machine_model.proofs.TidyMoments.{run-tidy}
-use Rattle.machine_model.proofs.WaysOn.{staying-least}
 use Rattle.machine_model.proofs.OwnEvents.{refused_begins_without_way_on}
-use Rattle.instance_state.specs.Instances.{InstanceState, moved_to}
 use Rattle.hold_tables.specs.Tables.{OpenProcess}
 use Rattle.process_core.specs.Beginnings.{began_refused, refused_row, refused_row_of, refused_seat}
 use Rattle.process_core.specs.Cores.{CoreState, IsCore, courses_in, machine_of, moment_of, relation}
 use Rattle.process_core.specs.OpenTables.{pairs_of, row_of}
-use Rattle.process_core.specs.Seats.{SeatState, lost_by, seat_of}
+use Rattle.process_core.specs.Seats.{lost_by, seat_of}
 use Rattle.process_core.proofs.BegunLost.{lost_at, lost_then, none_lost}
 use Rattle.process_core.proofs.BegunOne.{owed_first}
 use Rattle.process_core.proofs.BegunRestart.{began_is, event_is, no_beginning, some_beginning}
 use Rattle.process_core.proofs.RefusedOwn.{refused_active, refused_next, tried_again}
-use Rattle.process_core.proofs.SeatFrames.{beginning_stays, lost_stays}
+use Rattle.process_core.proofs.SeatFrames.{lost_stays}
 
 module _ (c : CoreState) (core : IsCore c) (d : Piece) (found : piece_of c.kept d.number ≡ Some d) (may : may_be_kept (relation c) (courses_in c) (moment_of c) (Refuse d.number) ≡ true) where
   abbrev cs : List Course

@@ -1,17 +1,16 @@
 -- The first in rotation of which something is told, by two runs over the numbers.
-use Rattle.std.proofs.Common.{◌≡◌, ⊎_elim, ℕ, zero, suc, ◌+◌, ◌-◌, ◌≤◌, ◌<◌, Bool, true, false, not, eqb, ltb, leb, if◌then◌else◌, List, [], ◌∷◌, ◌++◌, length, filter, find, min, Option, Some, None, is_none, is_some, ◌&&◌, append-nil, sym, refl, ap, ◌∙◌, arith}
+use Rattle.std.proofs.Common.{◌≡◌, ⊎_elim, ℕ, zero, suc, ◌+◌, ◌-◌, ◌≤◌, ◌<◌, Bool, true, false, not, ltb, leb, if◌then◌else◌, List, [], ◌∷◌, ◌++◌, length, filter, find, min, Option, Some, None, is_none, ◌&&◌, append-nil, sym, refl, ap, ◌∙◌, arith}
 use Rattle.std.specs.Option.{option_map, option_or}
-use Rattle.std.proofs.lemmas.Bool.{and_parts, cases_lt, false≢true, le-leb, leb-true, lt-ltb, ltb-true}
+use Rattle.std.proofs.lemmas.Bool.{cases_lt, false≢true, le-leb, leb-true, lt-ltb, ltb-true}
 use Rattle.std.proofs.lemmas.List.Elements.{filter-append}
 use Rattle.process_tree.specs.Blocks.{numbers_from}
-use Rattle.process_tree.specs.Order.{Each}
 use Rattle.schedule_model.specs.Conflict.{ConflictRelation}
 use Rattle.schedule_model.specs.Course.{Course}
 use Rattle.schedule_model.specs.Histories.{active, ends, is_active, is_in, starts}
 use Rattle.machine_model.specs.declared.blocked.Blocked.{Blocked}
 use Rattle.machine_model.specs.Moment.{Moment, Piece}
 use Rattle.machine_model.specs.Pieces.{running_of}
-use Rattle.machine_model.specs.Replies.{Admit, Handed, admit_by_known, admit_reply, hand_to, piece_unless, rotation, unknown}
+use Rattle.machine_model.specs.Replies.{Handed, admit_by_known, admit_reply, hand_to, piece_unless, rotation}
 use Rattle.machine_model.specs.State.{block_of, is_exhausted, is_free}
 use Rattle.machine_model.proofs.OwnOrder.{run-own_order}
 use Rattle.machine_model.proofs.RunsWithin.{runs_are_legal}
@@ -22,7 +21,7 @@ use Rattle.process_core.specs.Handing.{admit_reply_of}
 use Rattle.process_core.specs.Rotation.{first_told, piece_in}
 use Rattle.process_core.proofs.OpenedRows.{starts_numbered}
 use Rattle.process_core.proofs.StartedProcesses.{few_start, numbers_more}
-use Rattle.process_core.proofs.SeatReplies.{by_parts, reply_by, reply_parts}
+use Rattle.process_core.proofs.SeatReplies.{reply_parts}
 
 told_or : {X : Type 0} (o p q : Option X) → option_or (option_or o p) q ≡ option_or o (option_or p q)
 told_or None p q = refl

@@ -1,15 +1,14 @@
 -- Some piece runs exactly where a seat has one.
-use Rattle.std.proofs.Common.{◌≡◌, ℕ, ◌+◌, Bool, true, false, not, eqb, ◌||◌, if◌then◌else◌, List, [], ◌∷◌, length, map, find, Option, Some, None, is_some, sym, refl, ap, subst, ◌∙◌, arith}
+use Rattle.std.proofs.Common.{◌≡◌, ℕ, Bool, true, false, not, eqb, ◌||◌, if◌then◌else◌, List, [], ◌∷◌, length, map, find, Some, is_some, sym, refl, ap, subst, ◌∙◌, arith}
 use Rattle.std.specs.List.{list_any}
 use Rattle.std.specs.Option.{option_map}
 use Rattle.std.proofs.lemmas.Bool.{eq-eqb, eqb-true, false≢true, ne_eqb, or_left, or_right}
 use Rattle.std.proofs.lemmas.List.{length-map}
 use Rattle.process_tree.specs.Blocks.{numbers_from}
 use Rattle.process_tree.specs.Order.{Each}
-use Rattle.schedule_model.specs.Course.{Course, course_of}
-use Rattle.schedule_model.specs.Histories.{is_active, is_in, starts}
-use Rattle.machine_model.specs.Moment.{Moment, Piece}
-use Rattle.machine_model.specs.Pieces.{running_of}
+use Rattle.schedule_model.specs.Course.{course_of}
+use Rattle.schedule_model.specs.Histories.{is_active, is_in}
+use Rattle.machine_model.specs.Moment.{Piece}
 use Rattle.machine_model.proofs.OwnOrder.{InOwnOrder, run-own_order}
 use Rattle.process_core.specs.Cores.{CoreState, IsCore, courses_in, machine_of, moment_of, relation}
 use Rattle.process_core.specs.Seats.{SeatState, seat_of, seats_of}

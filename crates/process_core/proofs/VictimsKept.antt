@@ -1,5 +1,5 @@
 -- The victims of a core, as they are kept one after another.
-use Rattle.std.proofs.Common.{◌≡◌, ℕ, suc, false, find, is_some, ◌≤◌, ◌<◌, true, not, List, [], ◌∷◌, ◌++◌, length, Option, Some, None, sym, refl, ap, subst, ◌∙◌, append_assoc, append-nil, arith}
+use Rattle.std.proofs.Common.{◌≡◌, ℕ, suc, false, find, is_some, ◌≤◌, ◌<◌, true, not, List, [], ◌∷◌, length, Option, Some, None, sym, refl, ap, subst, ◌∙◌, append_assoc, append-nil, arith}
 use Rattle.std.specs.Option.{option_map}
 use Rattle.std.proofs.lemmas.Bool.{eq-eqb, false≢true}
 use Rattle.schedule_model.specs.Histories.{active}

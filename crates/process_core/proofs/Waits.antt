@@ -1,8 +1,7 @@
 -- The first blocked process in rotation.
-use Rattle.std.proofs.Common.{◌≡◌, ℕ, ◌+◌, ◌-◌, Bool, true, false, not, ltb, leb, ◌&&◌, if◌then◌else◌, List, [], ◌∷◌, ◌++◌, filter, min, Option, Some, None, is_none, is_some, sym, refl, ap, ◌∙◌}
+use Rattle.std.proofs.Common.{◌≡◌, ℕ, ◌+◌, ◌-◌, Bool, true, false, not, ltb, leb, ◌&&◌, if◌then◌else◌, List, [], ◌∷◌, filter, min, Option, Some, None, is_none, is_some, sym, refl, ap, ◌∙◌}
 use Rattle.std.specs.List.{cons_option, filter_map, slice_get}
 use Rattle.std.specs.Option.{option_map, option_or}
-use Rattle.std.proofs.lemmas.Bool.{and_parts, false≢true}
 use Rattle.process_tree.specs.Blocks.{numbers_from}
 use Rattle.process_tree.specs.Order.{Each}
 use Rattle.process_tree.proofs.Every.{Each-append, Each-weaker}
@@ -13,8 +12,8 @@ use Rattle.schedule_model.proofs.Active.{is_active-is_in}
 use Rattle.machine_model.specs.declared.blocked.Blocked.{Blocked}
 use Rattle.machine_model.specs.Moment.{Moment, Piece}
 use Rattle.machine_model.specs.Pieces.{running_of}
-use Rattle.machine_model.specs.Replies.{Admit, BlockedProcess, admit_by_active, admit_by_known, admit_reply, blocked_in_rotation, piece_unless, rotation, waiting_process}
-use Rattle.machine_model.specs.State.{block_of, is_blocked, is_exhausted}
+use Rattle.machine_model.specs.Replies.{BlockedProcess, admit_by_active, admit_by_known, admit_reply, blocked_in_rotation, piece_unless, rotation, waiting_process}
+use Rattle.machine_model.specs.State.{block_of, is_exhausted}
 use Rattle.machine_model.proofs.OpenCascade.{each_listed}
 use Rattle.machine_model.proofs.TidyMoments.{Each-filter}
 use Rattle.process_core.specs.Rotation.{first_told, waiting_in, waiting_of}
@@ -23,7 +22,7 @@ use Rattle.process_core.specs.declared.replies.Admit.{Admit as Given}
 use Rattle.process_core.specs.declared.replies.Admit.TheVariants.{Piece as IsPiece, Blocked as IsBlocked, Running, Unknown, Ended, Exhausted}
 use Rattle.process_core.specs.Handing.{admit_reply_of}
 use Rattle.process_core.proofs.Rotations.{in_rotation}
-use Rattle.process_core.proofs.SeatReplies.{by_parts, reply_by, reply_parts, started_if}
+use Rattle.process_core.proofs.SeatReplies.{reply_parts, started_if}
 
 -- the first that is mapped is told first
 mapped_told : {X : Type 0} (f : ℕ → Option X) (xs : List ℕ) → slice_get (filter_map f xs) 0 ≡ first_told f xs

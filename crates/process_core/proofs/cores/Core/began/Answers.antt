@@ -1,4 +1,4 @@
-use Rattle.std.proofs.Common.{◌∙◌, zero, ap, sym, arith}
+use Rattle.std.proofs.Common.{◌∙◌, ap, sym, arith}
 use Rattle.process_core.specs.Seats.{SeatState}
 use Rattle.process_core.proofs.BegunStarted.{none_began}
 use Rattle.process_core.proofs.KeptSeen.{kept_seen, many_seen, seat_seen}

@@ -1,4 +1,4 @@
-use Rattle.std.proofs.Common.{◌≡◌, ◌∙◌, ◌≤◌, ◌+◌, Some, sym, ap, arith}
+use Rattle.std.proofs.Common.{◌∙◌, sym, ap, arith}
 use Rattle.machine_model.specs.Replies.{admit_reply}
 use Rattle.process_core.specs.Cores.{courses_in, moment_of, relation}
 use Rattle.process_core.specs.Handing.{admit_reply_of}

@@ -1,4 +1,4 @@
-use Rattle.std.proofs.Common.{◌≡◌, ◌∙◌, ◌<◌, None, is_some, not, find, sym, ap, subst}
+use Rattle.std.proofs.Common.{◌∙◌, ◌<◌, is_some, not, find, sym, ap, subst}
 use Rattle.std.specs.Option.{option_map}
 use Rattle.machine_model.proofs.Victims.{not_begun}
 use Rattle.machine_model.specs.Replies.{hand_to, rotation}

@@ -1,4 +1,4 @@
-use Rattle.std.proofs.Common.{◌≡◌, ◌≤◌, filter}
+use Rattle.std.proofs.Common.{◌≡◌, filter}
 use Rattle.process_tree.specs.Blocks.{numbers_from}
 use Rattle.machine_model.specs.Moment.{has_begun}
 use Rattle.machine_model.specs.Replies.{admit_reply}

@@ -1,5 +1,4 @@
-use Rattle.std.proofs.Common.{◌∙◌, vec_capacity, sym, subst, arith}
-use Rattle.process_core.specs.Room.{IsKept}
+use Rattle.std.proofs.Common.{◌∙◌, vec_capacity, sym, arith}
 use Rattle.process_core.proofs.KeptSeen.{kept_seen}
 use Rattle.process_core.proofs.StandingFacts.{seats_few}
 use Rattle.process_core.proofs.StartRooms.{room_is}

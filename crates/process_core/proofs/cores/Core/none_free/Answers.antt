@@ -1,18 +1,13 @@
-use Rattle.std.proofs.Common.{◌≡◌, ◌∙◌, ℕ, ◌+◌, ◌-◌, Bool, eqb, filter, length, Option, is_none, sym, ap, subst, arith}
+use Rattle.std.proofs.Common.{◌≡◌, ◌∙◌, ℕ, ◌+◌, ◌-◌, length, Option, sym, ap, arith}
 use Rattle.std.specs.Prelude.{unwrap_or}
 use Rattle.process_tree.specs.Blocks.{numbers_from}
-use Rattle.schedule_model.specs.Histories.{active}
 use Rattle.machine_model.specs.Replies.{admit_reply, none_free_by_active, none_free_by_running, stuck, wait}
-use Rattle.hold_tables.specs.Reading.{next_open}
-use Rattle.process_core.specs.Cores.{IsCore, courses_in, moment_of, relation}
-use Rattle.process_core.specs.OpenTables.{tables_of}
+use Rattle.process_core.specs.Cores.{courses_in, moment_of, relation}
 use Rattle.process_core.specs.Rotation.{exhausted_in, first_told}
-use Rattle.process_core.specs.Seats.{seats_of}
 use Rattle.process_core.proofs.Exhausted.{least_exhausted_told}
 use Rattle.process_core.proofs.KeptSeen.{few_seen, kept_seen, many_seen}
 use Rattle.process_core.proofs.NextKept.{none_active}
-use Rattle.process_core.proofs.Rotations.{few_plans, numbered_now}
-use Rattle.process_core.proofs.SeatFacts.{seats_many}
+use Rattle.process_core.proofs.Rotations.{numbered_now}
 use Rattle.process_core.proofs.Stalls.{idle_now, runs_now}
 use Rattle.process_core.proofs.cores.Core.none_free.Goals as goal
 

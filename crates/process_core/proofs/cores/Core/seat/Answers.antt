@@ -1,4 +1,4 @@
-use Rattle.std.proofs.Common.{zero, arith}
+use Rattle.std.proofs.Common.{arith}
 use Rattle.process_core.proofs.KeptSeen.{kept_seen, many_seen, seat_seen}
 use Rattle.process_core.proofs.Positive.{from_one}
 use Rattle.process_core.proofs.SeatReplies.{has_started, never_started}

@@ -1,4 +1,4 @@
-use Rattle.std.proofs.Common.{◌≡◌, ◌∙◌, ◌+◌, ◌++◌, ◌∷◌, [], length, Some, None, refl, ap, arith}
+use Rattle.std.proofs.Common.{◌∙◌, ◌+◌, ◌++◌, ◌∷◌, [], length, Some, None, refl, ap, arith}
 use Rattle.machine_model.specs.declared.kept.Kept.TheVariants.{Start}
 use Rattle.hold_tables.specs.Changes.{opened}
 use Rattle.process_core.proofs.KeptSeen.{few_seen}

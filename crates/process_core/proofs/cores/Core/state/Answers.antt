@@ -1,8 +1,8 @@
-use Rattle.std.proofs.Common.{◌≡◌, ◌∙◌, ◌-◌, slice_index_or, ap, subst, arith}
-use Rattle.process_core.specs.Cores.{IsCore, courses_in, moment_of}
-use Rattle.process_core.specs.Seats.{SeatState, seat_of, seats_of, state_by}
+use Rattle.std.proofs.Common.{◌≡◌, ◌∙◌, ◌-◌, slice_index_or, ap, arith}
+use Rattle.process_core.specs.Cores.{courses_in, moment_of}
+use Rattle.process_core.specs.Seats.{SeatState, seat_of, state_by}
 use Rattle.process_core.proofs.KeptSeen.{kept_seen, many_seen}
-use Rattle.process_core.proofs.SeatFacts.{handed_has_plan, seat_is, seat_tells, seats_many}
+use Rattle.process_core.proofs.SeatFacts.{handed_has_plan, seat_is, seat_tells}
 use Rattle.process_core.proofs.cores.Core.state.Goals as goal
 
 pub overflow_sub-process : goal.overflow_sub-process

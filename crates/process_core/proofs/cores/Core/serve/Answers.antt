@@ -1,1 +1,0 @@
-use Rattle.process_core.proofs.cores.Core.serve.Goals as goal
