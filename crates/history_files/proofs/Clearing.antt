@@ -11,7 +11,7 @@ use Rattle.process_tree.proofs.NthStep.{slice_get-left, slice_get-right}
 use Rattle.resource_box.specs.declared.call.Kind.{Kind}
 use Rattle.subsystem_store.specs.Opened.{Opened}
 use Rattle.history_files.specs.Boxes.{AreParted}
-use Rattle.history_files.specs.Standing.{AtEach}
+use Rattle.history_files.specs.Standing.{AreStores, AtEach}
 use Rattle.history_files.proofs.Places.{place_of_set}
 
 -- with an element in one place of which f is the same, f of each is the same
@@ -87,6 +87,10 @@ each_with P [] y each own (suc q) x at = absurd (none-some x at)
 each_with P (a ∷ xs) y each own zero x at = each 0 x at
 each_with P (a ∷ xs) y each own (suc q) x at = each_with (λ k. P (suc k)) xs y (λ k z at. each (suc k) z at) own q x at
 
+-- as in a list to which it was pushed
+pub each_pushed : {A : Type 0} (P : ℕ → A → Type 0) (xs : List A) (y : A) (pushed : List A) → pushed ≡ xs ++ y ∷ [] → AtEach P xs → P (length xs) y → AtEach P pushed
+each_pushed P xs y pushed is each own = subst (AtEach P) (sym is) (each_with P xs y each own)
+
 -- the stores and the boxes are eight
 pub parted_count : {B : Type 0} (sort : B → Kind) (stores : List (Opened B)) (boxes : List B) → AreParted sort stores boxes → length stores + length boxes ≡ 8
 parted_count {B} sort stores boxes parted =
@@ -138,3 +142,11 @@ next_kind {B} sort stores boxes b parted =
 
     count : (n m : ℕ) → m ≡ n → n ≡ m + 0
     count n m same = omega (arith, same)
+
+-- once no box is left, the stores on the files in order are the eight
+pub are_filled : {B : Type 0} (sort : B → Kind) (stores : List (Opened B)) (boxes : List B) → AreParted sort stores boxes → AtEach (λ q s. s.log.file ≡ q + 1) stores → length boxes ≡ 0 → AreStores stores
+are_filled sort stores boxes parted files none = record {
+  eight = omega (arith, parted_count sort stores boxes parted, none);
+  file = files;
+  kind = kinds_in_place sort stores boxes parted;
+}

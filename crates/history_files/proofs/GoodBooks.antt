@@ -1,12 +1,13 @@
 -- Each step leaves each store a book that it may have.
-use Rattle.std.proofs.Common.{◌≡◌, ◌⊎◌, inl, inr, ℕ, List, [], ◌∷◌, ◌++◌, Option, Some, None, sym, subst, OnOk, OnErr}
+use Rattle.std.proofs.Common.{◌≡◌, ◌⊎◌, inl, inr, ℕ, Bool, List, Option, Some, None, sym, subst, OnOk, OnErr}
 use Rattle.std.specs.Prelude.{IsSome, IfSome, Result, Ok, Err, slice_set}
 use Rattle.resource_box.specs.declared.call.Kind.{Kind}
 use Rattle.subsystem_store.specs.declared.effect.Effect.{Effect}
-use Rattle.subsystem_store.specs.Laws.{IsGoodBook, PreparedIsGood, CommittedIsGood, RolledBackIsGood}
+use Rattle.subsystem_store.specs.Laws.{IsGoodBook, PreparedIsGood}
 use Rattle.subsystem_store.specs.Opened.{Opened}
-use Rattle.history_files.specs.Standing.{AreGoodBooks, Commits}
+use Rattle.history_files.specs.Standing.{AreGoodBooks, Ends, book_after}
 use Rattle.history_files.proofs.Counting.{some_of}
+use Rattle.history_files.proofs.EndedDoubts.{EndedIsGood}
 use Rattle.history_files.proofs.Places.{set_each}
 use Rattle.history_files.proofs.Preparing.{MayCome}
 
@@ -22,20 +23,14 @@ good_prepared law s t e good may kind book (inl some) =
     good_as t s.kind s.book (Some e) kind book some (law s.kind s.book e (subst (IsGoodBook s.kind s.book) may.settled good) may.few may.fits may.follows)
 good_prepared law s t e good may kind book (inr none) = good_as t s.kind s.book None kind book none (subst (IsGoodBook s.kind s.book) may.settled good)
 
--- after a commit, whatever it answers,
-pub good_committed : {B T E : Type 0} → CommittedIsGood → (s t : Opened B) (r : Result T E) → IsSome s.doubt → IsGoodBook s.kind s.book s.doubt → t.kind ≡ s.kind
-    → OnOk r (Commits s t) → OnErr r ((t.book ≡ s.book) × (t.doubt ≡ s.doubt)) → IsGoodBook t.kind t.book t.doubt
-good_committed law s t (Ok x) some good kind ok err =
+-- and after the end of a doubt, whatever it answers
+pub good_ended : {B T E : Type 0} → EndedIsGood → (recorded : Bool) (s t : Opened B) (r : Result T E) → IsSome s.doubt → IsGoodBook s.kind s.book s.doubt → t.kind ≡ s.kind
+    → OnOk r (Ends recorded s t) → OnErr r ((t.book ≡ s.book) × (t.doubt ≡ s.doubt)) → IsGoodBook t.kind t.book t.doubt
+good_ended law recorded s t (Ok x) some good kind ok err =
     let e = some_of s.doubt some in
-    good_as t s.kind (s.book ++ e.0 ∷ []) None kind (subst (λ d. IfSome d (λ y. t.book ≡ s.book ++ y ∷ [])) e.1 ok.1) ok.0
-    (law s.kind s.book e.0 (subst (IsGoodBook s.kind s.book) e.1 good))
-good_committed law s t (Err x) some good kind ok err = good_as t s.kind s.book s.doubt kind err.0 err.1 good
-
--- and after a retraction
-pub good_rolled_back : {B T E : Type 0} → RolledBackIsGood → (s t : Opened B) (r : Result T E) → IsGoodBook s.kind s.book s.doubt → t.kind ≡ s.kind → t.book ≡ s.book
-    → OnOk r (t.doubt ≡ None) → OnErr r (t.doubt ≡ s.doubt) → IsGoodBook t.kind t.book t.doubt
-good_rolled_back law s t (Ok x) good kind book ok err = good_as t s.kind s.book None kind book ok (law s.kind s.book s.doubt good)
-good_rolled_back law s t (Err x) good kind book ok err = good_as t s.kind s.book s.doubt kind book err good
+    good_as t s.kind (book_after recorded s.book e.0) None kind (subst (λ d. IfSome d (λ y. t.book ≡ book_after recorded s.book y)) e.1 ok.1) ok.0
+    (law recorded s.kind s.book e.0 (subst (IsGoodBook s.kind s.book) e.1 good))
+good_ended law recorded s t (Err x) some good kind ok err = good_as t s.kind s.book s.doubt kind err.0 err.1 good
 
 -- the others stay
 pub good_with : {B : Type 0} (stores : List (Opened B)) (q : ℕ) (t : Opened B) → AreGoodBooks stores → IsGoodBook t.kind t.book t.doubt → AreGoodBooks (slice_set stores q t)

@@ -3,9 +3,8 @@ pub mod SoundImages
 pub mod OneStore
 pub mod OneRecord
 pub mod Counting
-pub mod Committing
+pub mod EndedDoubts
 pub mod Answered
-pub mod RollingBack
 pub mod Preparing
 pub mod GoodBooks
 pub mod Differing

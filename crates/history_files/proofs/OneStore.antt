@@ -1,5 +1,5 @@
 -- What a call on one store leaves, where the books of before and of after come to the effects of one history.
-use Rattle.std.proofs.Common.{◌≡◌, ◌≢◌, ◌⊎◌, inl, inr, ◌+◌, ℕ, List, Option, true, false, sym, ◌∙◌, subst, arith, Some}
+use Rattle.std.proofs.Common.{◌≡◌, ◌≢◌, ◌⊎◌, inl, inr, ◌+◌, ℕ, List, Option, true, false, sym, ◌∙◌, ap, subst, arith, Some}
 use Rattle.std.specs.Prelude.{slice_set, nat_eq}
 use Rattle.std.proofs.lemmas.Bool.Decides.{eqb_tells}
 use Rattle.std.specs.List.{slice_get}
@@ -8,16 +8,18 @@ use Rattle.process_disk.specs.Images.{EachImage, OthersAsBefore}
 use Rattle.gate_log.specs.LogFile.{IsLog}
 use Rattle.gate_log.specs.Standing.{LogState}
 use Rattle.gate_log.proofs.Standing.{images_still, stands_still}
+use Rattle.resource_box.specs.declared.call.Kind.{Kind}
+use Rattle.resource_box.specs.Meaning.{Pairs}
 use Rattle.schedule_model.specs.declared.history.History.{History}
 use Rattle.commute_table.specs.declared.catalog.Catalog.{Catalog}
 use Rattle.subsystem_store.specs.declared.effect.Effect.{Effect}
 use Rattle.subsystem_store.specs.Laws.{IsGoodBook}
 use Rattle.subsystem_store.specs.Bodies.{store_bodies}
-use Rattle.subsystem_store.specs.Opened.{Opened, Stands, IsStoreOf, IsStoreOfEither}
+use Rattle.subsystem_store.specs.Opened.{Opened, Fits, Stands, IsStoreOf, IsStoreOfEither, account_of}
 use Rattle.process_journal.specs.Bodies.{journal_bodies}
 use Rattle.history_files.specs.Effects.{effects}
 use Rattle.history_files.specs.Sound.{IsBookOf, IsSound, counted, kind_of}
-use Rattle.history_files.specs.Standing.{AreStores, Stand}
+use Rattle.history_files.specs.Standing.{AreStores, Changes, EachFits, Stand}
 use Rattle.history_files.proofs.Places.{set_each, length-set}
 use Rattle.history_files.proofs.SoundImages.{sound_by, book_by}
 
@@ -68,10 +70,27 @@ stands_with_store {B} c h log stores old new q s honest honest_new are is stand 
   books = set_each (λ k x. counted (effects c.ops h k) x.book x.doubt ≡ effects c.ops h k) stores q s counts (λ k x other at. stand.books k x at);
 }
 
--- the stores are still eight in their places
-pub stores_with_store : {B : Type 0} (stores : List (Opened B)) (q : ℕ) (s : Opened B) → AreStores stores → s.log.file ≡ q + 1 → s.kind ≡ kind_of q → AreStores (slice_set stores q s)
-stores_with_store stores q s are file kind = record {
-  eight = length-set stores q s ∙ are.eight;
-  file = set_each (λ k x. x.log.file ≡ k + 1) stores q s file (λ k x other at. are.file k x at);
-  kind = set_each (λ k x. x.kind ≡ kind_of k) stores q s kind (λ k x other at. are.kind k x at);
-}
+-- What a call on the store at a place leaves of the list of stores.
+module _ {B : Type 0} (stores : List (Opened B)) (q r : ℕ) (s t : Opened B) (same : r ≡ q) (at : slice_get stores q ≡ Some s) where
+  -- the stores are still eight in their places,
+  pub stores_with : AreStores stores → t.log.file ≡ s.log.file → t.kind ≡ s.kind → AreStores (slice_set stores r t)
+  stores_with are file kind = subst (λ n. AreStores (slice_set stores n t)) (sym same) (record {
+    eight = length-set stores q t ∙ are.eight;
+    file = set_each (λ k x. x.log.file ≡ k + 1) stores q t (file ∙ are.file q s at) (λ k x other at_k. are.file k x at_k);
+    kind = set_each (λ k x. x.kind ≡ kind_of k) stores q t (kind ∙ are.kind q s at) (λ k x other at_k. are.kind k x at_k);
+  })
+
+  -- each box fits its book,
+  pub fits_with : (meaning : B → Pairs) (sort : B → Kind) → EachFits meaning sort stores → Fits meaning sort (account_of t) → EachFits meaning sort (slice_set stores r t)
+  fits_with meaning sort all fits = subst (λ n. EachFits meaning sort (slice_set stores n t)) (sym same)
+      (set_each (λ k x. Fits meaning sort (account_of x)) stores q t fits (λ k x other at_k. all k x at_k))
+
+  -- and that store alone changed
+  pub changed : (step : Opened B → Opened B → Type 0) (seen : List (Opened B)) → stores ≡ seen → step s t → Changes q step seen (slice_set stores r t)
+  changed step seen is by = record {
+    before = s;
+    after = t;
+    at = subst (λ xs. slice_get xs q ≡ Some s) is at;
+    is = ap (λ n. slice_set stores n t) same ∙ ap (λ xs. slice_set xs q t) is;
+    by = by;
+  }

@@ -1,5 +1,5 @@
 -- Stores in which what is in doubt is settled by a history, one after another.
-use Rattle.std.proofs.Common.{◌≡◌, ◌≢◌, ◌⊎◌, inl, inr, ◌<◌, ◌+◌, ℕ, Bool, true, false, List, [], ◌∷◌, ◌++◌, Option, Some, None, sym, ◌∙◌, ap, subst, arith}
+use Rattle.std.proofs.Common.{◌≡◌, ◌≢◌, ◌⊎◌, inl, inr, ◌<◌, ◌+◌, ℕ, Bool, true, false, List, Option, Some, None, sym, ◌∙◌, ap, subst, arith}
 use Rattle.std.specs.Prelude.{IfSome, nat_eq, unwrap_or}
 use Rattle.std.specs.List.{slice_get}
 use Rattle.std.proofs.lemmas.Bool.Decides.{eqb_tells}
@@ -16,8 +16,8 @@ use Rattle.subsystem_store.specs.Opened.{Opened}
 use Rattle.history_files.specs.Effects.{effects}
 use Rattle.history_files.specs.Laws.{AreSettled}
 use Rattle.history_files.specs.Sound.{IsSound, counted, is_among}
-use Rattle.history_files.specs.Standing.{AreSettledBelow, AreStores, Changes, ComeTo, Commits, DoubtIs, RollsBack, Stand}
-use Rattle.history_files.proofs.Counting.{counts_in, counts_out}
+use Rattle.history_files.specs.Standing.{AreSettledBelow, AreStores, Changes, ComeTo, DoubtIs, Ends, Stand, book_after}
+use Rattle.history_files.proofs.Counting.{counts_after}
 use Rattle.history_files.proofs.Places.{set_each}
 use Rattle.history_files.proofs.SoundImages.{sound_each}
 
@@ -42,21 +42,13 @@ module _ {B : Type 0} (ops : List Op) (h : History) (q : ℕ) where
   has_all : (s : Opened B) → s.doubt ≡ None → counted (effects ops h q) s.book s.doubt ≡ effects ops h q → IsSettled (effects ops h q) s
   has_all s none comes = (none, subst (λ d. counted (effects ops h q) s.book d ≡ effects ops h q) none comes)
 
-  -- the effect in doubt is committed, where the history has it,
-  pub committed_is : (e : Effect) (old new : List (Opened B)) → IsInDoubt q e old → is_among e (effects ops h q) ≡ true → ComeTo ops h old → (changes : Changes q Commits old new) → IsSettled (effects ops h q) changes.after
-  committed_is e old new doubt among come changes =
-      let is = doubt changes.before changes.at in (
+  -- once the doubt is ended as the history says, the store has the effects
+  pub ended_is : (recorded : Bool) (e : Effect) (old new : List (Opened B)) → IsInDoubt q e old → is_among e (effects ops h q) ≡ recorded → ComeTo ops h old → (changes : Changes q (Ends recorded) old new) → IsSettled (effects ops h q) changes.after
+  ended_is recorded e old new doubt among come changes =
+      let is = doubt changes.before changes.at in
+      let counts = subst (λ d. counted (effects ops h q) changes.before.book d ≡ effects ops h q) is (come q changes.before changes.at) in (
         changes.by.0,
-        subst (λ d. IfSome d (λ x. changes.after.book ≡ changes.before.book ++ x ∷ [])) is changes.by.1
-            ∙ counts_in (effects ops h q) changes.before.book e among (subst (λ d. counted (effects ops h q) changes.before.book d ≡ effects ops h q) is (come q changes.before changes.at)),
-      )
-
-  -- or taken back, where it lacks it
-  pub rolled_back_is : (e : Effect) (old new : List (Opened B)) → IsInDoubt q e old → is_among e (effects ops h q) ≡ false → ComeTo ops h old → (changes : Changes q RollsBack old new) → IsSettled (effects ops h q) changes.after
-  rolled_back_is e old new doubt among come changes =
-      let is = doubt changes.before changes.at in (
-        changes.by.0,
-        changes.by.1 ∙ counts_out (effects ops h q) changes.before.book e among (subst (λ d. counted (effects ops h q) changes.before.book d ≡ effects ops h q) is (come q changes.before changes.at)),
+        subst (λ d. IfSome d (λ x. changes.after.book ≡ book_after recorded changes.before.book x)) is changes.by.1 ∙ counts_after recorded _ changes.before.book e among counts,
       )
 
   -- with that store settled the books come to the effects,

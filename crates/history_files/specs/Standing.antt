@@ -1,5 +1,5 @@
 -- What nine files are seen as, and for which history they stand.
-use Rattle.std.specs.Prelude.{◌≡◌, ◌<◌, ℕ, ◌+◌, Bool, List, [], ◌∷◌, ◌++◌, length, Option, Some, None, IfSome, slice_set}
+use Rattle.std.specs.Prelude.{◌≡◌, ◌<◌, ℕ, ◌+◌, Bool, List, [], ◌∷◌, ◌++◌, length, Option, Some, None, IfSome, slice_set, if◌then◌else◌}
 use Rattle.std.specs.List.{slice_get}
 use Rattle.process_disk.specs.Disk.{Disk}
 use Rattle.gate_log.specs.Standing.{LogState}
@@ -63,9 +63,13 @@ pub record Changes {B : Type 0} (q : ℕ) (step : Opened B → Opened B → Type
 abbrev pub Commits : {B : Type 0} → Opened B → Opened B → Type 0
 Commits before after = (after.doubt ≡ None) × IfSome before.doubt (λ e. after.book ≡ before.book ++ e ∷ [])
 
--- it is taken back
-abbrev pub RollsBack : {B : Type 0} → Opened B → Opened B → Type 0
-RollsBack before after = (after.doubt ≡ None) × (after.book ≡ before.book)
+-- the book once an effect in doubt is committed, as a recorded one is, or taken back
+abbrev pub book_after : Bool → List Effect → Effect → List Effect
+book_after recorded book e = if recorded then book ++ e ∷ [] else book
+
+-- the effect in doubt is committed or taken back
+abbrev pub Ends : {B : Type 0} → Bool → Opened B → Opened B → Type 0
+Ends recorded before after = (after.doubt ≡ None) × IfSome before.doubt (λ e. after.book ≡ book_after recorded before.book e)
 
 -- this is in doubt afterwards
 abbrev pub Doubts : {B : Type 0} → Option Effect → Opened B → Opened B → Type 0

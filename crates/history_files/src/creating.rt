@@ -1,8 +1,8 @@
 // Files that are made for a catalog and no history.
-ghost use Rattle.std.specs.Prelude.{◌≡◌, ◌≢◌, ◌<◌, ◌≤◌, [], ℕ, None, Some, IfOk, IfErr, OnOk, vec_capacity};
+ghost use Rattle.std.specs.Prelude.{◌≡◌, ◌<◌, ◌≤◌, [], None, Some, IfOk, IfErr, OnOk, vec_capacity};
 ghost use Rattle.process_flow.specs.Causes.{Rose, HasCause};
-ghost use Rattle.process_disk.specs.Disk.{Told, file_of};
-ghost use Rattle.process_disk.specs.Images.{ImagesFollow, AllAsBefore};
+ghost use Rattle.process_disk.specs.Disk.{Told};
+ghost use Rattle.process_disk.specs.Images.{AllAsBefore};
 ghost use Rattle.commute_table.specs.Operations.{IsCatalog};
 ghost use Rattle.process_journal.specs.Bodies.{no_history};
 ghost use Rattle.history_files.specs.Boxes.{AreBoxes, AreEmpty};

@@ -3,13 +3,15 @@
 //! `specs/Effects` says which effects a history has on a subsystem, `specs/Sound` which files are sound for a history, and
 //! `specs/Standing` for which history files stand. `Files` makes nine empty files stand for no history (`create`), opens nine files
 //! for the history of their journal (`open`), and takes the steps of an event: an effect is prepared, the event is recorded, and the
-//! effect is committed or rolled back. Of `open` and of each step a clause says what a crash within it leaves; `are_sound` leads from
-//! `Stand` to sound images. `specs/Opening` says which files are refused. Which event comes next is decided by the layer above.
+//! effect is committed. An effect that is left in doubt is committed or taken back by the next `open`, as the history says. Of `open` and
+//! of each step a clause says what a crash within it leaves; `are_sound` leads from `Stand` to sound images. `specs/Opening` says which
+//! files are refused. Which event comes next is decided by the layer above.
 #![tactic(auto)]
 
 mod boxes;
 mod comparing;
 mod creating;
+mod doubts;
 mod effects;
 mod faults;
 mod files;

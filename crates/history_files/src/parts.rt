@@ -1,5 +1,4 @@
 // What files are made of.
-use process_disk::Rack;
 use resource_box::Resource;
 
 /// A rack, and the boxes of eight subsystems in order.

@@ -1,5 +1,5 @@
 // The stores of files as they are read.
-ghost use Rattle.std.specs.Prelude.{◌≡◌, ◌⊎◌, length, ◌≤◌, ◌+◌, [], ℕ, List, Ok, IfOk, IfErr, OnOk, OnErr, vec_capacity};
+ghost use Rattle.std.specs.Prelude.{◌≡◌, ◌⊎◌, length, ◌≤◌, ◌+◌, [], Ok, IfOk, IfErr, OnOk, OnErr, vec_capacity};
 ghost use Rattle.process_flow.specs.Causes.{Rose};
 ghost use Rattle.process_disk.specs.Disk.{Told};
 ghost use Rattle.process_disk.specs.Images.{AllAsBefore};

@@ -56,11 +56,7 @@ impl<R: Rack + Drop, B: Resource> Files<R, B> {
             Some(effect) => *effect,
             None => return Ok(()),
         };
-        if is_recorded(catalog, history, q, &effect) {
-            self.commit(q)
-        } else {
-            self.roll_back(q)
-        }
+        self.end_doubt(q, is_recorded(catalog, history, q, &effect))
     }
 
     /// Settles what is in doubt in each store by the history: it commits what the history has, and takes back the others.

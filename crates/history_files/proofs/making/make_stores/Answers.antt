@@ -4,8 +4,7 @@ use Rattle.process_disk.proofs.Images.{follow_then}
 use Rattle.gate_log.proofs.Standing.{stands_still}
 use Rattle.subsystem_store.specs.Opened.{Fits, account_of}
 use Rattle.history_files.specs.Boxes.{AreParted}
-use Rattle.history_files.specs.Standing.{AtEach}
-use Rattle.history_files.proofs.Clearing.{goes_in, each_with, parted_count, kinds_in_place}
+use Rattle.history_files.proofs.Clearing.{are_filled, each_pushed, goes_in, parted_count}
 use Rattle.history_files.proofs.MadeStores.{Made, made_more}
 use Rattle.history_files.proofs.making.make_stores.Goals as goal
 
@@ -18,15 +17,12 @@ loop-resource-preserved g c =
     let made = c.in-Ok.ensures in
     let same : c.len.result + 1 ≡ length old.stores.items + 1 = omega (arith, c.len.ensures, old.stores.ok) in
     let pushed = c.push_reserved.ensures.items in
-    let files = each_with (λ q s. s.log.file ≡ q + 1) old.stores.items store old.invariant.files (made.unused.0 ∙ same) in
     record {
       parted = subst (λ ss. AreParted sort ss c.pop.new.self.items) (sym pushed)
           (goes_in sort old.stores.items store c.pop.new.self.items c.in-Some.resource (sym made.unused.1) (subst (AreParted sort old.stores.items) c.in-Some.ensures.items old.invariant.parted));
-      files = subst (AtEach (λ q s. s.log.file ≡ q + 1)) (sym pushed) files;
-      unused = subst (AtEach (λ q s. (s.book ≡ []) × (s.doubt ≡ None))) (sym pushed)
-          (each_with (λ q s. (s.book ≡ []) × (s.doubt ≡ None)) old.stores.items store old.invariant.unused (made.unused.2, made.unused.3));
-      fits = subst (AtEach (λ q s. Fits meaning sort (account_of s))) (sym pushed)
-          (each_with (λ q s. Fits meaning sort (account_of s)) old.stores.items store old.invariant.fits made.fits);
+      files = each_pushed (λ q s. s.log.file ≡ q + 1) old.stores.items store _ pushed old.invariant.files (made.unused.0 ∙ same);
+      unused = each_pushed (λ q s. (s.book ≡ []) × (s.doubt ≡ None)) old.stores.items store _ pushed old.invariant.unused (made.unused.2, made.unused.3);
+      fits = each_pushed (λ q s. Fits meaning sort (account_of s)) old.stores.items store _ pushed old.invariant.fits made.fits;
       stores_room = omega (arith, old.invariant.stores_room, c.push_reserved.ensures.capacity);
       boxes_room = omega (arith, old.invariant.boxes_room, c.pop.ensures.capacity);
       told = λ told.
@@ -63,12 +59,7 @@ returns-in-Err-clause-follow g c told =
 pub returns-clause-stores : goal.returns-clause-stores
 returns-clause-stores g c =
     let old = c.loop-resource in
-    let count = parted_count g.B.Resource.sort old.stores.items old.boxes.items old.invariant.parted in
-    record {
-      eight = omega (arith, count, old.boxes.ok, c.in_default.ensures.cases);
-      file = old.invariant.files;
-      kind = kinds_in_place g.B.Resource.sort old.stores.items old.boxes.items old.invariant.parted;
-    }
+    are_filled g.B.Resource.sort old.stores.items old.boxes.items old.invariant.parted old.invariant.files (omega (arith, old.boxes.ok, c.in_default.ensures.cases))
 
 pub returns-clause-stand : goal.returns-clause-stand
 returns-clause-stand g c told = (c.loop-resource.invariant.told told).stand

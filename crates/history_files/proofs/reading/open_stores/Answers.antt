@@ -5,8 +5,7 @@ use Rattle.subsystem_store.specs.Opened.{Fits, account_of}
 use Rattle.history_files.specs.Boxes.{AreParted}
 use Rattle.history_files.specs.Opening.{of_store_error}
 use Rattle.history_files.specs.Sound.{kind_of}
-use Rattle.history_files.specs.Standing.{AreGoodBooks, AtEach}
-use Rattle.history_files.proofs.Clearing.{goes_in, each_with, last_of_more, parted_count, kinds_in_place, next_kind}
+use Rattle.history_files.proofs.Clearing.{are_filled, each_pushed, goes_in, last_of_more, parted_count, kinds_in_place, next_kind}
 use Rattle.history_files.proofs.ReadStores.{Read, read_more, read_next, refused_next, read_earlier}
 use Rattle.history_files.proofs.reading.open_stores.Goals as goal
 
@@ -19,14 +18,12 @@ loop-resource-preserved g c =
     let made = c.in-Ok.ensures in
     let same : c.len.result + 1 ≡ length old.stores.items + 1 = omega (arith, c.len.ensures, old.stores.ok) in
     let pushed = c.push_reserved.ensures.items in
-    let files = each_with (λ q s. s.log.file ≡ q + 1) old.stores.items store old.invariant.files (made.store.0 ∙ same) in
     let parted = goes_in sort old.stores.items store c.pop.new.self.items c.in-Some.resource (sym made.store.1) (subst (AreParted sort old.stores.items) c.in-Some.ensures.items old.invariant.parted) in
     record {
       parted = subst (λ ss. AreParted sort ss c.pop.new.self.items) (sym pushed) parted;
-      files = subst (AtEach (λ q s. s.log.file ≡ q + 1)) (sym pushed) files;
-      fits = subst (AtEach (λ q s. Fits meaning sort (account_of s))) (sym pushed)
-          (each_with (λ q s. Fits meaning sort (account_of s)) old.stores.items store old.invariant.fits made.fits);
-      good = subst AreGoodBooks (sym pushed) (each_with (λ q s. IsGoodBook s.kind s.book s.doubt) old.stores.items store old.invariant.good made.good);
+      files = each_pushed (λ q s. s.log.file ≡ q + 1) old.stores.items store _ pushed old.invariant.files (made.store.0 ∙ same);
+      fits = each_pushed (λ q s. Fits meaning sort (account_of s)) old.stores.items store _ pushed old.invariant.fits made.fits;
+      good = each_pushed (λ q s. IsGoodBook s.kind s.book s.doubt) old.stores.items store _ pushed old.invariant.good made.good;
       stores_room = omega (arith, old.invariant.stores_room, c.push_reserved.ensures.capacity);
       boxes_room = omega (arith, old.invariant.boxes_room, c.pop.ensures.capacity);
       told = λ told.
@@ -59,12 +56,7 @@ returns-in-Err-clause-all g c told =
 pub returns-clause-stores : goal.returns-clause-stores
 returns-clause-stores g c =
     let old = c.loop-resource in
-    let count = parted_count g.B.Resource.sort old.stores.items old.boxes.items old.invariant.parted in
-    record {
-      eight = omega (arith, count, old.boxes.ok, c.in_default.ensures.cases);
-      file = old.invariant.files;
-      kind = kinds_in_place g.B.Resource.sort old.stores.items old.boxes.items old.invariant.parted;
-    }
+    are_filled g.B.Resource.sort old.stores.items old.boxes.items old.invariant.parted old.invariant.files (omega (arith, old.boxes.ok, c.in_default.ensures.cases))
 
 pub returns-clause-stand : goal.returns-clause-stand
 returns-clause-stand g c told = (c.loop-resource.invariant.told told).stand

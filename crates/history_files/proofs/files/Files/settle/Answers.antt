@@ -1,12 +1,37 @@
-use Rattle.std.proofs.Common.{◌≡◌, ◌∙◌, Some, None, true, false, refl, sym, subst}
+use Rattle.std.proofs.Common.{◌≡◌, Some, None, refl, sym, subst}
 use Rattle.std.specs.Prelude.{IsSome}
 use Rattle.std.specs.List.{slice_get}
-use Rattle.history_files.specs.Standing.{AreStores, Commits, RollsBack}
+use Rattle.history_files.specs.Standing.{AreStores, Changes, DoubtIs, Ends}
+use Rattle.history_files.specs.Effects.{effects}
 use Rattle.history_files.proofs.Answered.{OnOk-then}
 use Rattle.history_files.proofs.Places.{at_place}
-use Rattle.history_files.proofs.SettledStores.{below_with, below_without, come_with, committed_is, doubt_at, doubt_is, rolled_back_is}
+use Rattle.history_files.proofs.SettledStores.{IsInDoubt, IsSettled, below_with, below_without, come_with, doubt_at, doubt_is, ended_is}
 use Rattle.history_files.proofs.SoundImages.{sound_each}
+use Rattle.history_files.proofs.files.Files.settle.Given as given
 use Rattle.history_files.proofs.files.Files.settle.Goals as goal
+use Rattle.history_files.proofs.files.Files.settle.Goals.{In-Some, After-index, After-end_doubt}
+
+-- the store that is looked at
+its_store : (g : given.Over) (c : goal.After-index g) → slice_get c.args.self.now.stores c.args.q ≡ Some c.index.result.now
+its_store g c = subst (λ f. slice_get f.stores c.args.q ≡ Some c.index.result.now) c.self.view_is
+    (at_place _ c.args.q _ _ c.from.ensures c.self.invariant.0.eight c.requires.subsystem c.index.ensures)
+
+-- what was found is in doubt in it,
+its_doubt : (g : given.Over) (c : goal.In-Some g) → IsInDoubt c.args.q c.in-Some.effect.now c.args.self.now.stores
+its_doubt g c = doubt_at c.args.self.now.stores c.args.q c.index.result.now (Some c.in-Some.effect.now)
+    (subst (λ f. slice_get f.stores c.args.q ≡ Some c.index.result.now) c.self.view_is
+    (at_place _ c.args.q _ _ c.from.ensures c.self.invariant.0.eight c.requires.subsystem c.index.ensures))
+    c.in-Some.ensures
+
+-- and the history has it or lacks it
+is_due : (g : given.Over) (c : goal.After-end_doubt g) → IsInDoubt c.args.q c.in-Some.effect.now c.args.self.now.stores → DoubtIs c.is_recorded.result c.args.catalog.now.ops c.args.history.now c.args.q c.args.self.now.stores
+is_due g c doubt = doubt_is c.args.catalog.now.ops c.args.history.now c.args.q c.is_recorded.result c.in-Some.effect.now c.args.self.now.stores doubt (sym c.is_recorded.ensures)
+
+-- so the store has the effects of the history once the doubt is ended
+is_settled : (g : given.Over) (c : goal.After-end_doubt g) → IsInDoubt c.args.q c.in-Some.effect.now c.args.self.now.stores
+    → (changes : Changes c.args.q (Ends c.is_recorded.result) c.args.self.now.stores c.end_doubt.new.self.stores) → IsSettled (effects c.args.catalog.now.ops c.args.history.now c.args.q) changes.after
+is_settled g c doubt changes = ended_is c.args.catalog.now.ops c.args.history.now c.args.q c.is_recorded.result c.in-Some.effect.now c.args.self.now.stores c.end_doubt.new.self.stores doubt
+    (sym c.is_recorded.ensures) c.requires.come changes
 
 pub returns-in-None-clause-any_moment : goal.returns-in-None-clause-any_moment
 returns-in-None-clause-any_moment g c told =
@@ -16,122 +41,33 @@ returns-in-None-clause-any_moment g c told =
 
 pub returns-in-None-clause-below : goal.returns-in-None-clause-below
 returns-in-None-clause-below g c =
-    let q = c.args.q in
     let stores = c.args.self.now.stores in
-    let at = subst (λ f. slice_get f.stores q ≡ Some c.index.result.now) c.self.view_is
-    (at_place c.self.inside.stores.items q c.from.result c.index.result.now c.from.ensures c.self.invariant.0.eight c.requires.subsystem c.index.ensures) in
-    below_without c.args.catalog.now.ops c.args.history.now q stores (doubt_at stores q c.index.result.now None at c.in-None.ensures) c.requires.come c.requires.below
+    below_without c.args.catalog.now.ops c.args.history.now c.args.q stores
+    (doubt_at stores c.args.q c.index.result.now None (its_store g (goal.at.returns-in-None-clause-below g c).After-index) c.in-None.ensures) c.requires.come c.requires.below
 
-pub commit-requires-clause-doubt : goal.commit-requires-clause-doubt
-commit-requires-clause-doubt g c s at_s =
-    let q = c.args.q in
-    let stores = c.args.self.now.stores in
-    let at = subst (λ f. slice_get f.stores q ≡ Some c.index.result.now) c.self.view_is
-    (at_place c.self.inside.stores.items q c.from.result c.index.result.now c.from.ensures c.self.invariant.0.eight c.requires.subsystem c.index.ensures) in
-    let doubt = doubt_at stores q c.index.result.now (Some c.in-Some.effect.now) at c.in-Some.ensures in
-    subst IsSome (sym (doubt s at_s)) refl
+pub end_doubt-requires-clause-doubt : goal.end_doubt-requires-clause-doubt
+end_doubt-requires-clause-doubt g c s at = subst IsSome (sym (its_doubt g (goal.at.end_doubt-requires-clause-doubt g c).In-Some s at)) refl
 
-pub returns-then-is_recorded-clause-acknowledged : goal.returns-then-is_recorded-clause-acknowledged
-returns-then-is_recorded-clause-acknowledged g c told =
-    let q = c.args.q in
-    let stores = c.args.self.now.stores in
-    let at = subst (λ f. slice_get f.stores q ≡ Some c.index.result.now) c.self.view_is
-    (at_place c.self.inside.stores.items q c.from.result c.index.result.now c.from.ensures c.self.invariant.0.eight c.requires.subsystem c.index.ensures) in
-    let doubt = doubt_at stores q c.index.result.now (Some c.in-Some.effect.now) at c.in-Some.ensures in
-    c.commit.ensures.acknowledged told c.args.catalog.now c.args.history.now (c.requires.stand told)
-    (doubt_is c.args.catalog.now.ops c.args.history.now q true c.in-Some.effect.now stores doubt (sym c.is_recorded.ensures ∙ c.if-is_recorded.true))
+pub returns-clause-acknowledged : goal.returns-clause-acknowledged
+returns-clause-acknowledged g c told =
+    let at = goal.at.returns-clause-acknowledged g c in
+    c.end_doubt.ensures.acknowledged told c.args.catalog.now c.args.history.now (c.requires.stand told) (is_due g at.After-end_doubt (its_doubt g at.In-Some))
 
-pub returns-then-is_recorded-clause-any_moment : goal.returns-then-is_recorded-clause-any_moment
-returns-then-is_recorded-clause-any_moment g c told =
-    let q = c.args.q in
-    let stores = c.args.self.now.stores in
-    let at = subst (λ f. slice_get f.stores q ≡ Some c.index.result.now) c.self.view_is
-    (at_place c.self.inside.stores.items q c.from.result c.index.result.now c.from.ensures c.self.invariant.0.eight c.requires.subsystem c.index.ensures) in
-    let doubt = doubt_at stores q c.index.result.now (Some c.in-Some.effect.now) at c.in-Some.ensures in
-    c.commit.ensures.any_moment told c.args.catalog.now c.args.history.now (c.requires.stand told)
-    (doubt_is c.args.catalog.now.ops c.args.history.now q true c.in-Some.effect.now stores doubt (sym c.is_recorded.ensures ∙ c.if-is_recorded.true))
+pub returns-clause-any_moment : goal.returns-clause-any_moment
+returns-clause-any_moment g c told =
+    let at = goal.at.returns-clause-any_moment g c in
+    c.end_doubt.ensures.any_moment told c.args.catalog.now c.args.history.now (c.requires.stand told) (is_due g at.After-end_doubt (its_doubt g at.In-Some))
 
-pub returns-then-is_recorded-clause-come : goal.returns-then-is_recorded-clause-come
-returns-then-is_recorded-clause-come g c =
-    let q = c.args.q in
-    let stores = c.args.self.now.stores in
-    let at = subst (λ f. slice_get f.stores q ≡ Some c.index.result.now) c.self.view_is
-    (at_place c.self.inside.stores.items q c.from.result c.index.result.now c.from.ensures c.self.invariant.0.eight c.requires.subsystem c.index.ensures) in
-    let doubt = doubt_at stores q c.index.result.now (Some c.in-Some.effect.now) at c.in-Some.ensures in
-    let among = sym c.is_recorded.ensures ∙ c.if-is_recorded.true in
-    let ops = c.args.catalog.now.ops in
-    let h = c.args.history.now in
-    OnOk-then (λ changes. come_with ops h q Commits stores c.commit.new.self.stores changes
-    (committed_is ops h q c.in-Some.effect.now stores c.commit.new.self.stores doubt among c.requires.come changes) c.requires.come)
-    c.commit.result c.commit.ensures.ok
+pub returns-clause-come : goal.returns-clause-come
+returns-clause-come g c =
+    let at = goal.at.returns-clause-come g c in
+    OnOk-then (λ changes. come_with c.args.catalog.now.ops c.args.history.now c.args.q (Ends c.is_recorded.result) c.args.self.now.stores c.end_doubt.new.self.stores changes
+    (is_settled g at.After-end_doubt (its_doubt g at.In-Some) changes) c.requires.come)
+    c.end_doubt.result c.end_doubt.ensures.ok
 
-pub returns-then-is_recorded-clause-below : goal.returns-then-is_recorded-clause-below
-returns-then-is_recorded-clause-below g c =
-    let q = c.args.q in
-    let stores = c.args.self.now.stores in
-    let at = subst (λ f. slice_get f.stores q ≡ Some c.index.result.now) c.self.view_is
-    (at_place c.self.inside.stores.items q c.from.result c.index.result.now c.from.ensures c.self.invariant.0.eight c.requires.subsystem c.index.ensures) in
-    let doubt = doubt_at stores q c.index.result.now (Some c.in-Some.effect.now) at c.in-Some.ensures in
-    let among = sym c.is_recorded.ensures ∙ c.if-is_recorded.true in
-    let ops = c.args.catalog.now.ops in
-    let h = c.args.history.now in
-    OnOk-then (λ changes. below_with ops h q Commits stores c.commit.new.self.stores changes
-    (committed_is ops h q c.in-Some.effect.now stores c.commit.new.self.stores doubt among c.requires.come changes) c.requires.below)
-    c.commit.result c.commit.ensures.ok
-
-pub roll_back-requires-clause-doubt : goal.roll_back-requires-clause-doubt
-roll_back-requires-clause-doubt g c s at_s =
-    let q = c.args.q in
-    let stores = c.args.self.now.stores in
-    let at = subst (λ f. slice_get f.stores q ≡ Some c.index.result.now) c.self.view_is
-    (at_place c.self.inside.stores.items q c.from.result c.index.result.now c.from.ensures c.self.invariant.0.eight c.requires.subsystem c.index.ensures) in
-    let doubt = doubt_at stores q c.index.result.now (Some c.in-Some.effect.now) at c.in-Some.ensures in
-    subst IsSome (sym (doubt s at_s)) refl
-
-pub returns-else-is_recorded-clause-acknowledged : goal.returns-else-is_recorded-clause-acknowledged
-returns-else-is_recorded-clause-acknowledged g c told =
-    let q = c.args.q in
-    let stores = c.args.self.now.stores in
-    let at = subst (λ f. slice_get f.stores q ≡ Some c.index.result.now) c.self.view_is
-    (at_place c.self.inside.stores.items q c.from.result c.index.result.now c.from.ensures c.self.invariant.0.eight c.requires.subsystem c.index.ensures) in
-    let doubt = doubt_at stores q c.index.result.now (Some c.in-Some.effect.now) at c.in-Some.ensures in
-    c.roll_back.ensures.acknowledged told c.args.catalog.now c.args.history.now (c.requires.stand told)
-    (doubt_is c.args.catalog.now.ops c.args.history.now q false c.in-Some.effect.now stores doubt (sym c.is_recorded.ensures ∙ c.if-is_recorded.false))
-
-pub returns-else-is_recorded-clause-any_moment : goal.returns-else-is_recorded-clause-any_moment
-returns-else-is_recorded-clause-any_moment g c told =
-    let q = c.args.q in
-    let stores = c.args.self.now.stores in
-    let at = subst (λ f. slice_get f.stores q ≡ Some c.index.result.now) c.self.view_is
-    (at_place c.self.inside.stores.items q c.from.result c.index.result.now c.from.ensures c.self.invariant.0.eight c.requires.subsystem c.index.ensures) in
-    let doubt = doubt_at stores q c.index.result.now (Some c.in-Some.effect.now) at c.in-Some.ensures in
-    c.roll_back.ensures.any_moment told c.args.catalog.now c.args.history.now (c.requires.stand told)
-    (doubt_is c.args.catalog.now.ops c.args.history.now q false c.in-Some.effect.now stores doubt (sym c.is_recorded.ensures ∙ c.if-is_recorded.false))
-
-pub returns-else-is_recorded-clause-come : goal.returns-else-is_recorded-clause-come
-returns-else-is_recorded-clause-come g c =
-    let q = c.args.q in
-    let stores = c.args.self.now.stores in
-    let at = subst (λ f. slice_get f.stores q ≡ Some c.index.result.now) c.self.view_is
-    (at_place c.self.inside.stores.items q c.from.result c.index.result.now c.from.ensures c.self.invariant.0.eight c.requires.subsystem c.index.ensures) in
-    let doubt = doubt_at stores q c.index.result.now (Some c.in-Some.effect.now) at c.in-Some.ensures in
-    let among = sym c.is_recorded.ensures ∙ c.if-is_recorded.false in
-    let ops = c.args.catalog.now.ops in
-    let h = c.args.history.now in
-    OnOk-then (λ changes. come_with ops h q RollsBack stores c.roll_back.new.self.stores changes
-    (rolled_back_is ops h q c.in-Some.effect.now stores c.roll_back.new.self.stores doubt among c.requires.come changes) c.requires.come)
-    c.roll_back.result c.roll_back.ensures.ok
-
-pub returns-else-is_recorded-clause-below : goal.returns-else-is_recorded-clause-below
-returns-else-is_recorded-clause-below g c =
-    let q = c.args.q in
-    let stores = c.args.self.now.stores in
-    let at = subst (λ f. slice_get f.stores q ≡ Some c.index.result.now) c.self.view_is
-    (at_place c.self.inside.stores.items q c.from.result c.index.result.now c.from.ensures c.self.invariant.0.eight c.requires.subsystem c.index.ensures) in
-    let doubt = doubt_at stores q c.index.result.now (Some c.in-Some.effect.now) at c.in-Some.ensures in
-    let among = sym c.is_recorded.ensures ∙ c.if-is_recorded.false in
-    let ops = c.args.catalog.now.ops in
-    let h = c.args.history.now in
-    OnOk-then (λ changes. below_with ops h q RollsBack stores c.roll_back.new.self.stores changes
-    (rolled_back_is ops h q c.in-Some.effect.now stores c.roll_back.new.self.stores doubt among c.requires.come changes) c.requires.below)
-    c.roll_back.result c.roll_back.ensures.ok
+pub returns-clause-below : goal.returns-clause-below
+returns-clause-below g c =
+    let at = goal.at.returns-clause-below g c in
+    OnOk-then (λ changes. below_with c.args.catalog.now.ops c.args.history.now c.args.q (Ends c.is_recorded.result) c.args.self.now.stores c.end_doubt.new.self.stores changes
+    (is_settled g at.After-end_doubt (its_doubt g at.In-Some) changes) c.requires.below)
+    c.end_doubt.result c.end_doubt.ensures.ok

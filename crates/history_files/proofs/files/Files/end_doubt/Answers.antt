@@ -1,0 +1,100 @@
+use Rattle.std.proofs.Common.{◌≡◌, Some, sym, ◌∙◌, ap, subst, OnOk}
+use Rattle.std.specs.Prelude.{slice_set, IsSome}
+use Rattle.std.specs.List.{slice_get}
+use Rattle.process_disk.specs.Disk.{Told}
+use Rattle.process_disk.specs.Images.{EachImage}
+use Rattle.schedule_model.specs.declared.history.History.{History}
+use Rattle.commute_table.specs.declared.catalog.Catalog.{Catalog}
+use Rattle.history_files.specs.Sound.{IsSound}
+use Rattle.history_files.specs.Standing.{AreGoodBooks, Stand, EachFits, DoubtIs, Ends}
+use Rattle.history_files.proofs.EndedDoubts.{ended_is_good, images_of_end, stands_with_end}
+use Rattle.history_files.proofs.Places.{at_place}
+use Rattle.history_files.proofs.OneStore.{changed, fits_with, stores_with}
+use Rattle.history_files.proofs.Answered.{OnOk-then, OnOk-both}
+use Rattle.history_files.proofs.GoodBooks.{good_with, good_ended}
+use Rattle.history_files.proofs.files.Files.end_doubt.Given as given
+use Rattle.history_files.proofs.files.Files.end_doubt.Goals as goal
+use Rattle.history_files.proofs.files.Files.end_doubt.Goals.{After-index_mut}
+
+-- the store that is called
+its_store : (g : given.Over) (c : goal.After-index_mut g) → slice_get c.self.inside.stores.items c.args.q ≡ Some c.index_mut.result.now
+its_store g c = at_place _ c.args.q _ _ c.from.ensures c.self.invariant.0.eight c.requires.subsystem c.index_mut.ensures.value
+
+-- and what is in doubt in it
+has_doubt : (g : given.Over) (c : goal.After-index_mut g) → IsSome c.index_mut.result.now.doubt
+has_doubt g c = subst (λ f. (s : _) → slice_get f.stores c.args.q ≡ Some s → IsSome s.doubt) (sym c.self.view_is) c.requires.doubt c.index_mut.result.now (its_store g c)
+
+pub end_in_store-requires-clause-doubt : goal.end_in_store-requires-clause-doubt
+end_in_store-requires-clause-doubt g c = has_doubt g (goal.at.end_in_store-requires-clause-doubt g c).After-index_mut
+
+pub end_in_store-requires-clause-fits : goal.end_in_store-requires-clause-fits
+end_in_store-requires-clause-fits g c =
+    let at = its_store g (goal.at.end_in_store-requires-clause-fits g c).After-index_mut in
+    subst (λ f. EachFits g.B.Resource.meaning g.B.Resource.sort f.stores) (sym c.self.view_is) c.requires.fits c.args.q c.index_mut.result.now at
+
+pub end_in_store-requires-clause-stands : goal.end_in_store-requires-clause-stands
+end_in_store-requires-clause-stands g c =
+    let at = its_store g (goal.at.end_in_store-requires-clause-stands g c).After-index_mut in
+    λ told.
+    let stand = subst (λ f. Told (g.R.Rack.disk f.rack) → (c : Catalog) × (h : History) × Stand c h f.journal f.stores (g.R.Rack.disk f.rack)) (sym c.self.view_is) c.requires.stand told in
+    stand.2.stores c.args.q c.index_mut.result.now at
+
+pub invariant_of-self : goal.invariant_of-self
+invariant_of-self g c =
+    let at = its_store g (goal.at.invariant_of-self g c).After-index_mut in (
+      stores_with c.self.inside.stores.items c.args.q c.from.result c.index_mut.result.now c.end_in_store.new.store c.from.ensures at c.self.invariant.0 c.end_in_store.ensures.same.0 c.end_in_store.ensures.same.1,
+      c.self.invariant.1,
+      c.self.invariant.2,
+      c.self.invariant.3,
+    )
+
+pub returns-clause-acknowledged : goal.returns-clause-acknowledged
+returns-clause-acknowledged g c =
+    let q = c.args.q in
+    let before = (goal.at.returns-clause-acknowledged g c).After-index_mut in
+    let at = its_store g before in
+    let some = has_doubt g before in
+    let law = ended_is_good c.calls_make_good_books.ensures.commit c.calls_make_good_books.ensures.roll_back in
+    let did = c.end_in_store.ensures in
+    subst (λ f. Told (g.R.Rack.disk f.rack) → (c' : Catalog) (h : History) → Stand c' h f.journal f.stores (g.R.Rack.disk f.rack) → DoubtIs c.args.recorded c'.ops h q f.stores → OnOk c.end_in_store.result (Stand c' h c.self.inside.journal (slice_set c.self.inside.stores.items c.from.result c.end_in_store.new.store) (g.R.Rack.disk c.end_in_store.new.rack)))
+    c.self.view_is
+    (λ told c' h stand due. OnOk-both (λ ends stands. subst (λ r. Stand c' h c.self.inside.journal (slice_set c.self.inside.stores.items r c.end_in_store.new.store) (g.R.Rack.disk c.end_in_store.new.rack)) (sym c.from.ensures)
+    (stands_with_end law c.args.recorded c' h c.self.inside.journal c.self.inside.stores.items (g.R.Rack.disk c.self.inside.rack) (g.R.Rack.disk c.end_in_store.new.rack) q c.index_mut.result.now c.end_in_store.new.store
+    (g.met.R.Rack.honest c.self.inside.rack told) (g.met.R.Rack.honest c.end_in_store.new.rack (did.tells ∙ told)) c.self.invariant.0 c.self.invariant.1 stand at some due (did.others told) did.same.1 ends stands))
+    c.end_in_store.result did.ok (did.acknowledged told))
+
+pub returns-clause-any_moment : goal.returns-clause-any_moment
+returns-clause-any_moment g c =
+    let q = c.args.q in
+    let before = (goal.at.returns-clause-any_moment g c).After-index_mut in
+    let at = its_store g before in
+    let some = has_doubt g before in
+    let law = ended_is_good c.calls_make_good_books.ensures.commit c.calls_make_good_books.ensures.roll_back in
+    subst (λ f. Told (g.R.Rack.disk f.rack) → (c' : Catalog) (h : History) → Stand c' h f.journal f.stores (g.R.Rack.disk f.rack) → DoubtIs c.args.recorded c'.ops h q f.stores → EachImage (g.R.Rack.disk c.end_in_store.new.rack) (g.R.Rack.disk f.rack).moment (IsSound c' h))
+    c.self.view_is
+    (λ told c' h stand due. images_of_end law c.args.recorded c' h c.self.inside.journal c.self.inside.stores.items (g.R.Rack.disk c.self.inside.rack) (g.R.Rack.disk c.end_in_store.new.rack) q c.index_mut.result.now
+    (g.met.R.Rack.honest c.self.inside.rack told) c.self.invariant.0 c.self.invariant.1 stand at some due (c.end_in_store.ensures.others told) (c.end_in_store.ensures.any_moment told))
+
+pub returns-clause-fits : goal.returns-clause-fits
+returns-clause-fits g c =
+    let at = its_store g (goal.at.returns-clause-fits g c).After-index_mut in
+    fits_with c.self.inside.stores.items c.args.q c.from.result c.index_mut.result.now c.end_in_store.new.store c.from.ensures at g.B.Resource.meaning g.B.Resource.sort
+    (subst (λ f. EachFits g.B.Resource.meaning g.B.Resource.sort f.stores) (sym c.self.view_is) c.requires.fits) c.end_in_store.ensures.fits
+
+pub returns-clause-ok : goal.returns-clause-ok
+returns-clause-ok g c =
+    let at = its_store g (goal.at.returns-clause-ok g c).After-index_mut in
+    OnOk-then (λ ends. changed c.self.inside.stores.items c.args.q c.from.result c.index_mut.result.now c.end_in_store.new.store c.from.ensures at (Ends c.args.recorded) _ (ap (λ f. f.stores) c.self.view_is) ends)
+    c.end_in_store.result c.end_in_store.ensures.ok
+
+pub returns-clause-good : goal.returns-clause-good
+returns-clause-good g c =
+    let before = (goal.at.returns-clause-good g c).After-index_mut in
+    let at = its_store g before in
+    let some = has_doubt g before in
+    let law = ended_is_good c.calls_make_good_books.ensures.commit c.calls_make_good_books.ensures.roll_back in
+    subst (λ f. AreGoodBooks f.stores → AreGoodBooks (slice_set c.self.inside.stores.items c.from.result c.end_in_store.new.store))
+    c.self.view_is
+    (λ all. good_with c.self.inside.stores.items c.from.result c.end_in_store.new.store all
+    (good_ended law c.args.recorded c.index_mut.result.now c.end_in_store.new.store c.end_in_store.result some (all c.args.q c.index_mut.result.now at)
+    c.end_in_store.ensures.same.1 c.end_in_store.ensures.ok c.end_in_store.ensures.err))
