@@ -13,6 +13,7 @@ within c =
     let most = c.entries.invariant.1 in
     omega arith
 
+-- so many are the entries up to it
 same : (c : After-net_at-e) → c.entries.count - 1 + 1 ≡ c.entries.count
 same c = let some = c.entries-test.true in omega arith
 

@@ -6,6 +6,7 @@ use Rattle.process_core.proofs.WithinLimits.{all_within}
 use Rattle.process_core.proofs.cores.Core.counts.Goals.{After-settled_count-settled}
 use Rattle.process_core.proofs.cores.Core.counts.Goals as goal
 
+-- the entries that stand are counted by the seats
 settled : (c : After-settled_count-settled) → c.settled_count-settled.result ≡ settled_count c.self.inside.seats.items c.self.inside.history.events
 settled c = c.settled_count-settled.ensures.count ∙ (ap (λ xs. settled_count xs c.as_slice.result.now) c.deref.ensures.value ∙ ap (settled_count c.self.inside.seats.items) c.as_slice.ensures)
 

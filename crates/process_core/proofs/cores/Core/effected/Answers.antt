@@ -15,6 +15,7 @@ its_plan c =
     let p = c.index-as_slice-place.result in
     c.index-as_slice-place.is ∙ (ap (λ ps. slice_index_or ps (c.process-process.result - 1) p) c.as_slice.ensures ∙ ap (λ i. slice_index_or c.self.inside.history.plans (i - 1) p) c.process-process.ensures)
 
+-- its seat, before and after
 seat_told : (c : After-effected-pending) → c.index_mut.result.now ≡ seat_of (courses_in c.args.self.now) (moment_of c.args.self.now) c.args.piece.piece.process
 seat_told c =
     let x = c.index_mut.result.now in
@@ -28,6 +29,7 @@ seats_now c =
     ap (λ i. slice_set ss (i - 1) c.effected-pending.new.self) c.process-process.ensures
     ∙ ap (slice_set ss (d.process - 1)) (c.effected-pending.ensures.seat ∙ (ap (λ w. seat_effected w c.index_mut.result.now) c.work-work.ensures ∙ ap (seat_effected d.work) (seat_told c)))
 
+-- the tables, the kept events and the history after it
 tables_now : (c : After-effect) → c.index_mut.result.now ≡ seat_of (courses_in c.args.self.now) (moment_of c.args.self.now) c.args.piece.piece.process → c.effect.new.holds
     ≡ tables_effected c.index-as_slice-place.result c.args.piece.piece.process c.args.piece.piece.step c.args.piece.piece.work
     (pending_in (seat_effected c.args.piece.piece.work (seat_of (courses_in c.args.self.now) (moment_of c.args.self.now) c.args.piece.piece.process)).instance) c.self.inside.holds

@@ -14,6 +14,7 @@ event_next c =
     let ok = c.self.inside.kept.ok in
     omega arith
 
+-- what the core is seen as before the call
 abbrev core_before : After-begin → CoreState
 core_before c = record {
   conflicts = c.self.inside.holds.conflicts;

@@ -16,9 +16,11 @@ event_next c =
     let ok = c.self.inside.kept.ok in
     omega arith
 
+-- the piece that is refused
 abbrev refused : After-refuse-refusal → Piece
 refused c = record { number = c.args.number; process = c.args.process; step = c.args.step; work = c.args.work }
 
+-- what the core is seen as before the call
 abbrev core_before : After-refuse-refusal → CoreState
 core_before c = record {
   conflicts = c.self.inside.holds.conflicts;
