@@ -21,6 +21,7 @@ bench:
 	bench/admit
 	bench/core
 	bench/engine
+	bench/scenario
 	bench/report
 	awk -f bench/worst_text.awk > bench/worst.process
 	time ./tps check < bench/worst.process > /dev/null
