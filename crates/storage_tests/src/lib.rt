@@ -1,4 +1,4 @@
-//! Tests of the storage: racks over real files and over a folder in memory, stops of a rack in memory, logs on racks, and stores.
+//! Tests of the storage: racks over real files and over a folder in memory, stops of a rack in memory, and logs on racks.
 //!
 //! They stand apart from the crates that they test, since a crate with tests is proved twice.
 #![tactic(auto)]
@@ -11,7 +11,5 @@ mod logs;
 mod rounds;
 #[cfg(test)]
 mod stops;
-#[cfg(test)]
-mod stores;
 #[cfg(test)]
 mod stories;

@@ -1,0 +1,90 @@
+// The file of one committed effect, whole and damaged at each place.
+use crate::files::{counters, rack_of, whole_file};
+use process_disk::MemoryRack;
+use std::alloc::Global;
+use std::process::Abort;
+use std::test::Fail;
+use subsystem_store::{Store, StoreError};
+
+#[test]
+fn a_file_of_one_committed_effect_is_opened(rt: HostRuntime) -> Result<(), Fail> {
+    let alloc = rt.alloc();
+    let mut rack = rack_of(alloc, whole_file())?;
+    let Ok(store) = Store::open(alloc, &mut rack, 1, counters(alloc)?) else {
+        panic!(rt; "no store");
+    };
+    assert_eq!(rt; store.book().len(), 1);
+    assert!(rt; store.in_doubt().is_none());
+    assert_eq!(rt; store.look(1), 5);
+    Ok(())
+}
+
+// How many effects the store of file 1 has, or why it is none.
+fn count(alloc: Global, rack: &mut MemoryRack) -> Result<Result<usize, StoreError>, Fail> {
+    match Store::open(alloc, rack, 1, counters(alloc)?) {
+        Ok(store) => Ok(Ok(store.book().len())),
+        Err(refused) => Ok(Err(refused.why)),
+    }
+}
+
+// Places of the file, from one on and below another, a byte that damages each, and how many effects are committed in it then
+// or why it is no store.
+const DAMAGES: [(usize, usize, u8, Result<usize, StoreError>); 25] = [
+    (0, 8, 0x77, Err(StoreError::BadHeader)),
+    (8, 9, 0x00, Ok(0)),
+    (8, 9, 0x77, Ok(1)),
+    (9, 10, 0x18, Err(StoreError::BadRecord(1))),
+    (9, 10, 0x1a, Err(StoreError::BadRecord(2))),
+    (10, 11, 0x77, Err(StoreError::BadRecord(1))),
+    (11, 12, 0x11, Err(StoreError::BadRecord(1))),
+    (12, 16, 0x77, Err(StoreError::BadBook(2))),
+    (16, 22, 0x77, Ok(1)),
+    (22, 23, 0x01, Err(StoreError::BadBook(1))),
+    (22, 23, 0x02, Err(StoreError::BadRecord(1))),
+    (23, 24, 0x05, Ok(1)),
+    (23, 24, 0x06, Err(StoreError::BadRecord(1))),
+    (24, 31, 0x77, Ok(1)),
+    (31, 32, 0x3b, Ok(1)),
+    (31, 32, 0x3c, Err(StoreError::BadRecord(1))),
+    (32, 36, 0x77, Err(StoreError::BadRecord(1))),
+    (36, 37, 0x00, Ok(0)),
+    (36, 37, 0x77, Ok(1)),
+    (37, 38, 0x04, Err(StoreError::BadRecord(2))),
+    (37, 38, 0x06, Err(StoreError::BadRecord(3))),
+    (38, 39, 0x77, Err(StoreError::BadRecord(2))),
+    (39, 40, 0x10, Err(StoreError::BadRecord(2))),
+    (40, 44, 0x77, Err(StoreError::BadBook(2))),
+    (44, 45, 0x77, Err(StoreError::BadRecord(3))),
+];
+
+// What is answered with this byte at a place.
+fn expect_damage<H: Abort>(
+    rt: &H,
+    alloc: Global,
+    place: usize,
+    byte: u8,
+    want: Result<usize, StoreError>,
+) -> Result<(), Fail> {
+    let mut file = whole_file().to_vec(alloc)?;
+    assert!(rt; place < file.len());
+    assert_ne!(rt; file[place], byte);
+    file[place] = byte;
+    let mut rack = rack_of(alloc, &file)?;
+    assert_eq!(rt; count(alloc, &mut rack)?, want, "damaged at {place}");
+    Ok(())
+}
+
+#[test]
+fn a_damage_at_each_place_has_its_answer(rt: HostRuntime) -> Result<(), Fail> {
+    let alloc = rt.alloc();
+    let mut covered = 0;
+    for (from, to, byte, want) in &DAMAGES {
+        assert!(rt; *from <= covered);
+        covered = *to;
+        for place in *from..*to {
+            expect_damage(&rt, alloc, place, *byte, *want)?;
+        }
+    }
+    assert_eq!(rt; covered, whole_file().len());
+    Ok(())
+}
