@@ -5,7 +5,7 @@ ghost use Rattle.machine_model.specs.Pieces.{state_of};
 ghost use Rattle.process_core.specs.Cores.{IsHandedBy, moment_of};
 ghost use Rattle.core_tests.specs.Pieces.{AreHandedBy, StayHanded};
 
-use machine_model::Blocked;
+use machine_model::{Blocked, Rule};
 use process_core::{Aborted, Admit, Core, Next, Piece, PieceState, Refusal, Waiting, Work};
 use std::test::Fail;
 
@@ -26,6 +26,9 @@ pub enum Call {
     CompleteAll,
 }
 
+/// What blocks a piece: a step of this process, that step, the piece's own, and the rule.
+type Block = (u32, u16, u16, Rule);
+
 /// What it answers.
 #[derive(Clone, Copy, Debug, PartialEq, Eq)]
 pub enum Answer {
@@ -33,13 +36,15 @@ pub enum Answer {
     Piece(u32, u32, u16, Work),
     /// The same of a piece that was refused before, and how often.
     Again(u32, u32, u16, Work, u8),
-    Blocked(Blocked),
+    Blocked(u32, u16, u16, Rule),
     Running,
     Unknown,
     Ended,
     Exhausted(u16),
-    /// Nothing is free while a piece runs. The first in rotation that is blocked, if any is.
-    Wait(Option<Waiting>),
+    /// Nothing is free while a piece runs, and nothing is blocked.
+    Wait,
+    /// The same, and this process is the first in rotation that is blocked.
+    WaitFor(u32, Block),
     AllEnded,
     /// Nothing is free and nothing runs. The least process that is exhausted.
     Stuck(u32),
@@ -70,6 +75,22 @@ fn answer_of(piece: &Piece) -> Answer {
     }
 }
 
+fn block_of(blocked: Blocked) -> Block {
+    (blocked.on, blocked.other, blocked.own, blocked.rule)
+}
+
+fn blocked_by(blocked: Blocked) -> Answer {
+    let (on, other, own, rule) = block_of(blocked);
+    Answer::Blocked(on, other, own, rule)
+}
+
+fn wait_of(waiting: Option<Waiting>) -> Answer {
+    match waiting {
+        None => Answer::Wait,
+        Some(first) => Answer::WaitFor(first.process, block_of(first.block)),
+    }
+}
+
 // Asks for a piece of a process, and keeps it.
 fn admitted(core: &mut Core, pieces: &mut Vec<Piece>, i: u32) -> Result<Answer, Fail>
     requires { AreHandedBy core.old pieces.old.items }
@@ -84,7 +105,7 @@ fn admitted(core: &mut Core, pieces: &mut Vec<Piece>, i: u32) -> Result<Answer, 
             pieces.push(piece)?;
             Ok(answer)
         }
-        Admit::Blocked(block) => Ok(Answer::Blocked(block)),
+        Admit::Blocked(block) => Ok(blocked_by(block)),
         Admit::Running => Ok(Answer::Running),
         Admit::Unknown => Ok(Answer::Unknown),
         Admit::Ended => Ok(Answer::Ended),
@@ -106,7 +127,7 @@ fn chosen(core: &mut Core, pieces: &mut Vec<Piece>) -> Result<Answer, Fail>
             pieces.push(piece)?;
             Ok(answer)
         }
-        Next::Wait(waiting) => Ok(Answer::Wait(waiting)),
+        Next::Wait(waiting) => Ok(wait_of(waiting)),
         Next::AllEnded => Ok(Answer::AllEnded),
         Next::Stuck(i) => Ok(Answer::Stuck(i)),
     }

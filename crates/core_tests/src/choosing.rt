@@ -1,9 +1,9 @@
 // Plays in which any piece is asked for: the rotation, waits, victims, and what can't go on.
 use crate::calls::{Answer, Call};
-use crate::plays::{Happens, Play, expect_plays};
+use crate::plays::{FIRST_STEPS, Happens, Play, expect_plays};
 use crate::starts::{ADD, NOTE, PAY, TAKE};
-use machine_model::{Blocked, Rule};
-use process_core::{Aborted, Began, Cause, Refusal, Waiting, Work};
+use machine_model::Rule;
+use process_core::{Aborted, Cause, Refusal, Work};
 use std::test::Fail;
 
 const CHOOSING: [Play; 6] = [
@@ -14,11 +14,12 @@ const CHOOSING: [Play; 6] = [
             b"process b c x add 1 1 c y add 1 1 c z add 1 1 end",
             b"process c c x add 1 1 c y add 1 1 c z add 1 1 end",
         ],
+        opening: &[],
         turns: &[
             (Call::Next, Answer::Piece(1, 1, 0, Work::Forward)),
             (Call::Next, Answer::Piece(2, 2, 0, Work::Forward)),
             (Call::Next, Answer::Piece(3, 3, 0, Work::Forward)),
-            (Call::Next, Answer::Wait(None)),
+            (Call::Next, Answer::Wait),
             (Call::Done(2), Answer::Effected(4)),
             (Call::Next, Answer::Piece(4, 2, 1, Work::Forward)),
             (Call::Done(1), Answer::Effected(5)),
@@ -49,48 +50,16 @@ const CHOOSING: [Play; 6] = [
             b"process b c y take 1 1 end",
             b"process c c z take 1 1 end",
         ],
+        opening: &[],
         turns: &[
             (Call::Next, Answer::Piece(1, 1, 0, Work::Forward)),
-            (
-                Call::Next,
-                Answer::Wait(Some(Waiting {
-                    process: 2,
-                    block: Blocked {
-                        on: 1,
-                        other: 0,
-                        own: 0,
-                        rule: Rule::A0,
-                    },
-                })),
-            ),
+            (Call::Next, Answer::WaitFor(2, (1, 0, 0, Rule::A0))),
             (Call::Done(1), Answer::Effected(4)),
             (Call::Next, Answer::Piece(2, 2, 0, Work::Forward)),
-            (
-                Call::Next,
-                Answer::Wait(Some(Waiting {
-                    process: 3,
-                    block: Blocked {
-                        on: 2,
-                        other: 0,
-                        own: 0,
-                        rule: Rule::A0,
-                    },
-                })),
-            ),
+            (Call::Next, Answer::WaitFor(3, (2, 0, 0, Rule::A0))),
             (Call::Done(2), Answer::Effected(5)),
             (Call::Next, Answer::Piece(3, 3, 0, Work::Forward)),
-            (
-                Call::Next,
-                Answer::Wait(Some(Waiting {
-                    process: 1,
-                    block: Blocked {
-                        on: 2,
-                        other: 0,
-                        own: 1,
-                        rule: Rule::A2,
-                    },
-                })),
-            ),
+            (Call::Next, Answer::WaitFor(1, (2, 0, 1, Rule::A2))),
         ],
         events: &[
             Happens::Start(1),
@@ -107,29 +76,10 @@ const CHOOSING: [Play; 6] = [
             b"process a c x add 1 5 p s note 1 1 end",
             b"process b c u note 2 2 p v take 1 1 end",
         ],
+        opening: FIRST_STEPS,
         turns: &[
-            (Call::Admit(1), Answer::Piece(1, 1, 0, Work::Forward)),
-            (Call::Done(1), Answer::Effected(3)),
-            (Call::Admit(2), Answer::Piece(2, 2, 0, Work::Forward)),
-            (Call::Done(2), Answer::Effected(4)),
-            (
-                Call::Admit(1),
-                Answer::Blocked(Blocked {
-                    on: 2,
-                    other: 0,
-                    own: 1,
-                    rule: Rule::A3,
-                }),
-            ),
-            (
-                Call::Admit(2),
-                Answer::Blocked(Blocked {
-                    on: 1,
-                    other: 0,
-                    own: 1,
-                    rule: Rule::A3,
-                }),
-            ),
+            (Call::Admit(1), Answer::Blocked(2, 0, 1, Rule::A3)),
+            (Call::Admit(2), Answer::Blocked(1, 0, 1, Rule::A3)),
             (Call::Next, Answer::Piece(3, 2, 0, Work::Undo)),
             (Call::Done(3), Answer::Effected(5)),
             (Call::Next, Answer::Piece(4, 1, 1, Work::Forward)),
@@ -150,16 +100,7 @@ const CHOOSING: [Play; 6] = [
             Happens::End(2),
             Happens::End(1),
         ],
-        began: &[
-            (1, None),
-            (
-                2,
-                Some(Began {
-                    event: 7,
-                    cause: Cause::Victim,
-                }),
-            ),
-        ],
+        began: &[(1, None), (2, Some((7, Cause::Victim)))],
     },
     Play {
         name: "while a piece runs there is a wait, and a victim once it took effect",
@@ -167,36 +108,14 @@ const CHOOSING: [Play; 6] = [
             b"process a c x add 1 5 c s note 1 1 end",
             b"process b c u note 2 2 c v take 1 1 end",
         ],
+        opening: FIRST_STEPS,
         turns: &[
-            (Call::Admit(1), Answer::Piece(1, 1, 0, Work::Forward)),
-            (Call::Done(1), Answer::Effected(3)),
-            (Call::Admit(2), Answer::Piece(2, 2, 0, Work::Forward)),
-            (Call::Done(2), Answer::Effected(4)),
             (Call::Admit(2), Answer::Piece(3, 2, 1, Work::Forward)),
-            (
-                Call::Next,
-                Answer::Wait(Some(Waiting {
-                    process: 1,
-                    block: Blocked {
-                        on: 2,
-                        other: 0,
-                        own: 1,
-                        rule: Rule::A2,
-                    },
-                })),
-            ),
+            (Call::Next, Answer::WaitFor(1, (2, 0, 1, Rule::A2))),
             (Call::Done(3), Answer::Effected(5)),
             (Call::Next, Answer::Piece(4, 2, 1, Work::Undo)),
             (Call::Done(4), Answer::Effected(6)),
-            (
-                Call::Admit(1),
-                Answer::Blocked(Blocked {
-                    on: 2,
-                    other: 0,
-                    own: 1,
-                    rule: Rule::A1,
-                }),
-            ),
+            (Call::Admit(1), Answer::Blocked(2, 0, 1, Rule::A1)),
             (Call::Next, Answer::Piece(5, 2, 0, Work::Undo)),
             (Call::Done(5), Answer::Effected(7)),
             (Call::Next, Answer::Piece(6, 1, 1, Work::Forward)),
@@ -219,16 +138,7 @@ const CHOOSING: [Play; 6] = [
             Happens::End(2),
             Happens::End(1),
         ],
-        began: &[
-            (1, None),
-            (
-                2,
-                Some(Began {
-                    event: 9,
-                    cause: Cause::Victim,
-                }),
-            ),
-        ],
+        began: &[(1, None), (2, Some((9, Cause::Victim)))],
     },
     Play {
         name: "the least of those whose tries are used up is stuck",
@@ -236,6 +146,7 @@ const CHOOSING: [Play; 6] = [
             b"process a p x pay 1 5 r y ship 1 1 tries 1 end",
             b"process b p u pay 1 5 r v ship 1 1 tries 1 end",
         ],
+        opening: &[],
         turns: &[
             (Call::Next, Answer::Piece(1, 1, 0, Work::Forward)),
             (Call::Next, Answer::Piece(2, 2, 0, Work::Forward)),
@@ -244,7 +155,7 @@ const CHOOSING: [Play; 6] = [
             (Call::Next, Answer::Piece(3, 1, 1, Work::Forward)),
             (Call::Next, Answer::Piece(4, 2, 1, Work::Forward)),
             (Call::Refused(4), Answer::Refused(Refusal::Exhausted)),
-            (Call::Next, Answer::Wait(None)),
+            (Call::Next, Answer::Wait),
             (Call::Refused(3), Answer::Refused(Refusal::Exhausted)),
             (Call::Next, Answer::Stuck(1)),
             (Call::Admit(2), Answer::Exhausted(1)),
@@ -264,20 +175,10 @@ const CHOOSING: [Play; 6] = [
             b"process a p x pay 1 5 r y take 1 1 tries 1 end",
             b"process b c u add 1 7 end",
         ],
+        opening: &[],
         turns: &[
             (Call::Next, Answer::Piece(1, 1, 0, Work::Forward)),
-            (
-                Call::Next,
-                Answer::Wait(Some(Waiting {
-                    process: 2,
-                    block: Blocked {
-                        on: 1,
-                        other: 1,
-                        own: 0,
-                        rule: Rule::A1,
-                    },
-                })),
-            ),
+            (Call::Next, Answer::WaitFor(2, (1, 1, 0, Rule::A1))),
             (Call::Done(1), Answer::Effected(3)),
             (Call::Next, Answer::Piece(2, 1, 1, Work::Forward)),
             (Call::Refused(2), Answer::Refused(Refusal::Exhausted)),
@@ -291,16 +192,7 @@ const CHOOSING: [Play; 6] = [
             Happens::Do(1, 0, PAY),
             Happens::End(2),
         ],
-        began: &[
-            (1, None),
-            (
-                2,
-                Some(Began {
-                    event: 7,
-                    cause: Cause::Victim,
-                }),
-            ),
-        ],
+        began: &[(1, None), (2, Some((7, Cause::Victim)))],
     },
 ];
 

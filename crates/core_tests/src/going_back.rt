@@ -1,9 +1,9 @@
 // Plays in which processes go back, or another way.
 use crate::calls::{Answer, Call};
-use crate::plays::{Happens, Play, expect_plays};
+use crate::plays::{FIRST_STEPS, Happens, Play, expect_plays};
 use crate::starts::{ADD, PAY, PURCHASE, SALE, SHIP, TAKE};
-use machine_model::{Blocked, Rule};
-use process_core::{Aborted, Began, Cause, Refusal, Work};
+use machine_model::Rule;
+use process_core::{Aborted, Cause, Refusal, Work};
 use std::test::Fail;
 
 const CHOICE: &[u8] =
@@ -13,21 +13,10 @@ const GOING_BACK: [Play; 7] = [
     Play {
         name: "a purchase that is called off takes the sale along, which goes back first",
         texts: &[PURCHASE, SALE],
+        opening: FIRST_STEPS,
         turns: &[
-            (Call::Admit(1), Answer::Piece(1, 1, 0, Work::Forward)),
-            (Call::Done(1), Answer::Effected(3)),
-            (Call::Admit(2), Answer::Piece(2, 2, 0, Work::Forward)),
-            (Call::Done(2), Answer::Effected(4)),
             (Call::Abort(1), Answer::Aborted(Aborted::Ok)),
-            (
-                Call::Admit(1),
-                Answer::Blocked(Blocked {
-                    on: 2,
-                    other: 0,
-                    own: 0,
-                    rule: Rule::A5,
-                }),
-            ),
+            (Call::Admit(1), Answer::Blocked(2, 0, 0, Rule::A5)),
             (Call::Next, Answer::Piece(3, 2, 0, Work::Undo)),
             (Call::Done(3), Answer::Effected(5)),
             (Call::Next, Answer::Piece(4, 1, 0, Work::Undo)),
@@ -50,25 +39,14 @@ const GOING_BACK: [Play; 7] = [
             Happens::End(1),
         ],
         began: &[
-            (
-                1,
-                Some(Began {
-                    event: 7,
-                    cause: Cause::Abort,
-                }),
-            ),
-            (
-                2,
-                Some(Began {
-                    event: 7,
-                    cause: Cause::Cascade(1),
-                }),
-            ),
+            (1, Some((7, Cause::Abort))),
+            (2, Some((7, Cause::Cascade(1)))),
         ],
     },
     Play {
         name: "who is dragged along behind its pivot goes the last way of its choice",
         texts: &[b"process a c w add 1 5 end", CHOICE],
+        opening: &[],
         turns: &[
             (Call::Admit(2), Answer::Piece(1, 2, 0, Work::Forward)),
             (Call::Done(1), Answer::Effected(3)),
@@ -102,25 +80,14 @@ const GOING_BACK: [Play; 7] = [
             Happens::End(2),
         ],
         began: &[
-            (
-                1,
-                Some(Began {
-                    event: 9,
-                    cause: Cause::Abort,
-                }),
-            ),
-            (
-                2,
-                Some(Began {
-                    event: 9,
-                    cause: Cause::Cascade(1),
-                }),
-            ),
+            (1, Some((9, Cause::Abort))),
+            (2, Some((9, Cause::Cascade(1)))),
         ],
     },
     Play {
         name: "a piece whose process is called off is dropped, and takes no effect",
         texts: &[PURCHASE],
+        opening: &[],
         turns: &[
             (Call::Admit(1), Answer::Piece(1, 1, 0, Work::Forward)),
             (Call::Admit(1), Answer::Running),
@@ -136,20 +103,12 @@ const GOING_BACK: [Play; 7] = [
             (Call::Abort(2), Answer::Aborted(Aborted::Unknown)),
         ],
         events: &[Happens::Start(1), Happens::End(1)],
-        began: &[
-            (
-                1,
-                Some(Began {
-                    event: 3,
-                    cause: Cause::Abort,
-                }),
-            ),
-            (2, None),
-        ],
+        began: &[(1, Some((3, Cause::Abort))), (2, None)],
     },
     Play {
         name: "a first step that is refused ends its process",
         texts: &[b"process a c x take 1 1 end"],
+        opening: &[],
         turns: &[
             (Call::Admit(1), Answer::Piece(1, 1, 0, Work::Forward)),
             (Call::Refused(1), Answer::Refused(Refusal::RollBack)),
@@ -158,17 +117,12 @@ const GOING_BACK: [Play; 7] = [
             (Call::Next, Answer::AllEnded),
         ],
         events: &[Happens::Start(1), Happens::End(1)],
-        began: &[(
-            1,
-            Some(Began {
-                event: 3,
-                cause: Cause::Refused(0),
-            }),
-        )],
+        began: &[(1, Some((3, Cause::Refused(0))))],
     },
     Play {
         name: "a way that is refused is followed by the next one",
         texts: &[b"process a c w add 1 5 end", CHOICE],
+        opening: &[],
         turns: &[
             (Call::Admit(2), Answer::Piece(1, 2, 0, Work::Forward)),
             (Call::Done(1), Answer::Effected(3)),
@@ -191,6 +145,7 @@ const GOING_BACK: [Play; 7] = [
     Play {
         name: "what is dragged along by a refusal goes back too",
         texts: &[PURCHASE, SALE],
+        opening: &[],
         turns: &[
             (Call::Admit(1), Answer::Piece(1, 1, 0, Work::Forward)),
             (Call::Done(1), Answer::Effected(3)),
@@ -202,30 +157,15 @@ const GOING_BACK: [Play; 7] = [
         ],
         events: &[Happens::Start(1), Happens::Start(2), Happens::Do(1, 0, ADD)],
         began: &[
-            (
-                1,
-                Some(Began {
-                    event: 7,
-                    cause: Cause::Refused(1),
-                }),
-            ),
-            (
-                2,
-                Some(Began {
-                    event: 7,
-                    cause: Cause::Cascade(1),
-                }),
-            ),
+            (1, Some((7, Cause::Refused(1)))),
+            (2, Some((7, Cause::Cascade(1)))),
         ],
     },
     Play {
         name: "all go back in the reverse of their joint order",
         texts: &[PURCHASE, SALE],
+        opening: FIRST_STEPS,
         turns: &[
-            (Call::Admit(1), Answer::Piece(1, 1, 0, Work::Forward)),
-            (Call::Done(1), Answer::Effected(3)),
-            (Call::Admit(2), Answer::Piece(2, 2, 0, Work::Forward)),
-            (Call::Done(2), Answer::Effected(4)),
             (Call::CompleteAll, Answer::AllComplete),
             (Call::Abort(1), Answer::Aborted(Aborted::Already)),
             (Call::Admit(2), Answer::Piece(3, 2, 0, Work::Undo)),
@@ -244,20 +184,8 @@ const GOING_BACK: [Play; 7] = [
             Happens::Undo(1, 0, ADD),
         ],
         began: &[
-            (
-                1,
-                Some(Began {
-                    event: 7,
-                    cause: Cause::Restart,
-                }),
-            ),
-            (
-                2,
-                Some(Began {
-                    event: 7,
-                    cause: Cause::Restart,
-                }),
-            ),
+            (1, Some((7, Cause::Restart))),
+            (2, Some((7, Cause::Restart))),
         ],
     },
 ];

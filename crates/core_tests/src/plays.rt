@@ -1,9 +1,10 @@
 // Plays: calls of a core on which processes have started, and what comes of them.
 ghost use Rattle.std.specs.Prelude.{◌≡◌, IfOk};
+ghost use Rattle.core_tests.specs.Pieces.{AreHandedBy};
 
 use crate::calls::{Answer, Call, reply_to};
 use crate::starts::{catalog, started};
-use process_core::{Began, Core};
+use process_core::{Began, Cause, Core, Piece, Work};
 use process_tree::Entry;
 use schedule_model::Event;
 use std::alloc::Global;
@@ -25,13 +26,23 @@ pub struct Play {
     pub name: &'static str,
     /// The processes that start, in this order.
     pub texts: &'static [&'static [u8]],
-    /// Each call with its answer.
+    /// The first calls, each with its answer.
+    pub opening: &'static [(Call, Answer)],
+    /// Those after it.
     pub turns: &'static [(Call, Answer)],
     /// The history after these.
     pub events: &'static [Happens],
-    /// When and why these processes began to complete, if they did.
-    pub began: &'static [(u32, Option<Began>)],
+    /// At which kept event and why these processes began to complete, if they did.
+    pub began: &'static [(u32, Option<(u32, Cause)>)],
 }
+
+/// An opening: each of two processes does its first step.
+pub const FIRST_STEPS: &[(Call, Answer)] = &[
+    (Call::Admit(1), Answer::Piece(1, 1, 0, Work::Forward)),
+    (Call::Done(1), Answer::Effected(3)),
+    (Call::Admit(2), Answer::Piece(2, 2, 0, Work::Forward)),
+    (Call::Done(2), Answer::Effected(4)),
+];
 
 fn act(process: u32, step: u16, op: u16, undo: bool) -> Event {
     Event::Act(Entry {
@@ -51,22 +62,39 @@ fn event_of(happens: Happens) -> Event {
     }
 }
 
-/// Each call has its answer.
+// Each call has its answer, with these pieces out.
+fn expect_turns<H: Abort>(
+    rt: &H,
+    core: &mut Core,
+    pieces: &mut Vec<Piece>,
+    name: &str,
+    turns: &[(Call, Answer)],
+) -> Result<(), Fail>
+    requires { AreHandedBy core.old pieces.old.items }
+    ensures pieces { IfOk result (λ _. AreHandedBy core.new pieces.new.items) }
+    ensures conflicts { IfOk result (λ _. core.new.conflicts ≡ core.old.conflicts) }
+{
+    for (turn, (call, wanted)) in turns.iter().enumerate() {
+        let answered = reply_to(core, pieces, *call)?;
+        assert_eq!(rt; answered, *wanted, "{name}, turn {turn}: {call:?}");
+    }
+    Ok(())
+}
+
+/// Each call has its answer, those of an opening and then these.
 pub fn expect_answers<H: Abort>(
     rt: &H,
     alloc: Global,
     core: &mut Core,
     name: &str,
+    opening: &[(Call, Answer)],
     turns: &[(Call, Answer)],
 ) -> Result<(), Fail>
     ensures { IfOk result (λ _. core.new.conflicts ≡ core.old.conflicts) }
 {
     let mut pieces = Vec::new(alloc);
-    for (turn, (call, wanted)) in turns.iter().enumerate() {
-        let answered = reply_to(core, &mut pieces, *call)?;
-        assert_eq!(rt; answered, *wanted, "{name}, turn {turn}");
-    }
-    Ok(())
+    expect_turns(rt, core, &mut pieces, name, opening)?;
+    expect_turns(rt, core, &mut pieces, name, turns)
 }
 
 fn expect_history<H: Abort>(rt: &H, core: &Core, play: &Play) {
@@ -77,9 +105,15 @@ fn expect_history<H: Abort>(rt: &H, core: &Core, play: &Play) {
     }
 }
 
+fn beginning_of(began: Option<Began>) -> Option<(u32, Cause)> {
+    let Began { event, cause } = began?;
+    Some((event, cause))
+}
+
 fn expect_beginnings<H: Abort>(rt: &H, core: &Core, play: &Play) {
     for (i, wanted) in play.began {
-        assert_eq!(rt; core.began(*i), *wanted, "{}", play.name);
+        let began = beginning_of(core.began(*i));
+        assert_eq!(rt; began, *wanted, "{}", play.name);
     }
 }
 
@@ -87,7 +121,7 @@ fn expect_beginnings<H: Abort>(rt: &H, core: &Core, play: &Play) {
 fn expect_play<H: Abort>(rt: &H, alloc: Global, play: &Play) -> Result<(), Fail> {
     let catalog = catalog(alloc)?;
     let mut core = started(alloc, &catalog, play.texts)?;
-    expect_answers(rt, alloc, &mut core, play.name, play.turns)?;
+    expect_answers(rt, alloc, &mut core, play.name, play.opening, play.turns)?;
     expect_history(rt, &core, play);
     expect_beginnings(rt, &core, play);
     Ok(())

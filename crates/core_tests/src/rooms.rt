@@ -56,5 +56,5 @@ fn a_process_starts_in_room_that_was_made_before(rt: HostRuntime) -> Result<(), 
     assert_eq!(rt; core.start_in(room), 2);
     let events = [Event::Start(1), Event::Start(2)];
     assert_eq!(rt; core.history().events.as_slice(), events.as_slice());
-    expect_answers(&rt, alloc, &mut core, "started in room", &SOLD)
+    expect_answers(&rt, alloc, &mut core, "started in room", &[], &SOLD)
 }

@@ -55,8 +55,8 @@ fn each_session_counts_its_own_tries(rt: HostRuntime) -> Result<(), Fail> {
     let catalog = catalog(alloc)?;
     let texts: [&[u8]; 1] = [b"process a p x pay 1 5 r y ship 1 1 tries 3 end"];
     let mut core = started(alloc, &catalog, &texts)?;
-    expect_answers(&rt, alloc, &mut core, "the first session", &FIRST)?;
+    expect_answers(&rt, alloc, &mut core, "the first session", &[], &FIRST)?;
     let conflicts = catalog.conflicts.copy(alloc)?;
     let mut later = opened_again(alloc, &core, conflicts)?;
-    expect_answers(&rt, alloc, &mut later, "the later session", &LATER)
+    expect_answers(&rt, alloc, &mut later, "the later session", &[], &LATER)
 }

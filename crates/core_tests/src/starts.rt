@@ -29,27 +29,32 @@ pub const PURCHASE: &[u8] = b"process a c x add 1 5 p y pay 1 5 end";
 
 pub const SALE: &[u8] = b"process b c u take 1 2 p v pay 2 2 end";
 
-// Adding conflicts with taking, taking with taking, noting with noting, and booking with booking.
-const CATALOG: [u8; 109] = [
-    // version, and nine operations
-    1, 9, 0, 3, b'a', b'd', b'd', 0, 0, // add
-    4, b't', b'a', b'k', b'e', 0, 1, // take
-    3, b'p', b'a', b'y', 1, 0, // pay
-    4, b's', b'h', b'i', b'p', 2, 0, // ship
-    4, b'n', b'o', b't', b'e', 4, 3, // note
-    4, b'b', b'o', b'o', b'k', 6, 4, // book
-    4, b'l', b'o', b'a', b'd', 2, 0, // load
-    4, b'h', b'a', b'u', b'l', 2, 0, // haul
-    4, b'm', b'a', b'i', b'l', 3, 0, // mail
-    // the pairs of each operation with itself and the later ones
-    0, 1, 0, 0, 0, 0, 0, 0, 0, 1, 0, 0, 0, 0, 0, 0, 0, 0, 0, 0, 0, 0, 0, 0, 0, 0, 0, 0, 0, 0, 1, 0,
-    0, 0, 0, 1, 0, 0, 0, 0, 0, 0, 0, 0, 0,
-];
+// A table of nine operations: version and count, then each with its subsystem and verb, and then the pairs of each with itself and the
+// later ones. Adding conflicts with taking, taking with taking, noting with noting, and booking with booking.
+const CATALOG: &[u8] = b"\x01\x09\x00\
+\x03add\x00\x00\
+\x04take\x00\x01\
+\x03pay\x01\x00\
+\x04ship\x02\x00\
+\x04note\x04\x03\
+\x04book\x06\x04\
+\x04load\x02\x00\
+\x04haul\x02\x00\
+\x04mail\x03\x00\
+\x00\x01\x00\x00\x00\x00\x00\x00\x00\
+\x01\x00\x00\x00\x00\x00\x00\x00\
+\x00\x00\x00\x00\x00\x00\x00\
+\x00\x00\x00\x00\x00\x00\
+\x01\x00\x00\x00\x00\
+\x01\x00\x00\x00\
+\x00\x00\x00\
+\x00\x00\
+\x00";
 
 pub fn catalog(alloc: Global) -> Result<Catalog, Fail>
     ensures { IfOk result IsCatalog }
 {
-    let Ok(catalog) = read_catalog(alloc, &CATALOG) else {
+    let Ok(catalog) = read_catalog(alloc, CATALOG) else {
         return Err("no catalog".into());
     };
     Ok(catalog)

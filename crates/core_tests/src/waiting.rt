@@ -1,20 +1,17 @@
 // Plays in which a process waits for another.
 use crate::calls::{Answer, Call};
-use crate::plays::{Happens, Play, expect_plays};
+use crate::plays::{FIRST_STEPS, Happens, Play, expect_plays};
 use crate::starts::{ADD, NOTE, PAY, PURCHASE, SALE, SHIP, TAKE};
-use machine_model::{Blocked, Rule};
-use process_core::{Began, Cause, Refusal, Work};
+use machine_model::Rule;
+use process_core::{Cause, Refusal, Work};
 use std::test::Fail;
 
 const WAITING: [Play; 6] = [
     Play {
         name: "two that don't conflict take turns",
         texts: &[PURCHASE, b"process b c u add 1 7 r v ship 1 1 end"],
+        opening: FIRST_STEPS,
         turns: &[
-            (Call::Admit(1), Answer::Piece(1, 1, 0, Work::Forward)),
-            (Call::Done(1), Answer::Effected(3)),
-            (Call::Admit(2), Answer::Piece(2, 2, 0, Work::Forward)),
-            (Call::Done(2), Answer::Effected(4)),
             (Call::Admit(2), Answer::Piece(3, 2, 1, Work::Forward)),
             (Call::Done(3), Answer::Effected(5)),
             (Call::Admit(1), Answer::Piece(4, 1, 1, Work::Forward)),
@@ -39,20 +36,9 @@ const WAITING: [Play; 6] = [
     Play {
         name: "a sale is paid once the purchase on which it builds has ended",
         texts: &[PURCHASE, SALE],
+        opening: FIRST_STEPS,
         turns: &[
-            (Call::Admit(1), Answer::Piece(1, 1, 0, Work::Forward)),
-            (Call::Done(1), Answer::Effected(3)),
-            (Call::Admit(2), Answer::Piece(2, 2, 0, Work::Forward)),
-            (Call::Done(2), Answer::Effected(4)),
-            (
-                Call::Admit(2),
-                Answer::Blocked(Blocked {
-                    on: 1,
-                    other: 0,
-                    own: 0,
-                    rule: Rule::A3,
-                }),
-            ),
+            (Call::Admit(2), Answer::Blocked(1, 0, 0, Rule::A3)),
             (Call::Admit(1), Answer::Piece(3, 1, 1, Work::Forward)),
             (Call::Done(3), Answer::Effected(5)),
             (Call::Admit(1), Answer::Piece(4, 1, 0, Work::End)),
@@ -75,32 +61,16 @@ const WAITING: [Play; 6] = [
             b"process a p x pay 1 5 r y take 1 0 end",
             b"process b c u add 1 7 end",
         ],
+        opening: &[],
         turns: &[
             (Call::Admit(1), Answer::Piece(1, 1, 0, Work::Forward)),
-            (
-                Call::Admit(2),
-                Answer::Blocked(Blocked {
-                    on: 1,
-                    other: 1,
-                    own: 0,
-                    rule: Rule::A1,
-                }),
-            ),
+            (Call::Admit(2), Answer::Blocked(1, 1, 0, Rule::A1)),
             (Call::Refused(1), Answer::Refused(Refusal::RollBack)),
             (Call::Admit(2), Answer::Piece(2, 2, 0, Work::Forward)),
             (Call::Admit(1), Answer::Piece(3, 1, 0, Work::End)),
         ],
         events: &[Happens::Start(1), Happens::Start(2)],
-        began: &[
-            (
-                1,
-                Some(Began {
-                    event: 4,
-                    cause: Cause::Refused(0),
-                }),
-            ),
-            (2, None),
-        ],
+        began: &[(1, Some((4, Cause::Refused(0)))), (2, None)],
     },
     Play {
         name: "a step that would close a circle waits",
@@ -108,21 +78,10 @@ const WAITING: [Play; 6] = [
             b"process a c x add 1 5 c s note 1 1 end",
             b"process b c u note 2 2 c v take 1 1 end",
         ],
+        opening: FIRST_STEPS,
         turns: &[
-            (Call::Admit(1), Answer::Piece(1, 1, 0, Work::Forward)),
-            (Call::Done(1), Answer::Effected(3)),
-            (Call::Admit(2), Answer::Piece(2, 2, 0, Work::Forward)),
-            (Call::Done(2), Answer::Effected(4)),
             (Call::Admit(2), Answer::Piece(3, 2, 1, Work::Forward)),
-            (
-                Call::Admit(1),
-                Answer::Blocked(Blocked {
-                    on: 2,
-                    other: 0,
-                    own: 1,
-                    rule: Rule::A2,
-                }),
-            ),
+            (Call::Admit(1), Answer::Blocked(2, 0, 1, Rule::A2)),
             (Call::Done(3), Answer::Effected(5)),
         ],
         events: &[
@@ -137,17 +96,10 @@ const WAITING: [Play; 6] = [
     Play {
         name: "steps of two that conflict don't run at once",
         texts: &[PURCHASE, SALE],
+        opening: &[],
         turns: &[
             (Call::Admit(1), Answer::Piece(1, 1, 0, Work::Forward)),
-            (
-                Call::Admit(2),
-                Answer::Blocked(Blocked {
-                    on: 1,
-                    other: 0,
-                    own: 0,
-                    rule: Rule::A0,
-                }),
-            ),
+            (Call::Admit(2), Answer::Blocked(1, 0, 0, Rule::A0)),
         ],
         events: &[Happens::Start(1), Happens::Start(2)],
         began: &[(1, None), (2, None)],
@@ -158,18 +110,11 @@ const WAITING: [Play; 6] = [
             b"process a c x add 1 5 end",
             b"process b p u pay 1 1 r v take 1 1 end",
         ],
+        opening: &[],
         turns: &[
             (Call::Admit(1), Answer::Piece(1, 1, 0, Work::Forward)),
             (Call::Done(1), Answer::Effected(3)),
-            (
-                Call::Admit(2),
-                Answer::Blocked(Blocked {
-                    on: 1,
-                    other: 0,
-                    own: 1,
-                    rule: Rule::A4,
-                }),
-            ),
+            (Call::Admit(2), Answer::Blocked(1, 0, 1, Rule::A4)),
             (Call::Admit(1), Answer::Piece(2, 1, 0, Work::End)),
             (Call::Done(2), Answer::Effected(4)),
             (Call::Admit(2), Answer::Piece(3, 2, 0, Work::Forward)),
