@@ -16,23 +16,26 @@ use std::alloc::Global;
 use std::test::Fail;
 use well_formed::{Verdict, check};
 
-// Adding conflicts with taking, taking with taking, noting with noting, and booking with booking.
-const CATALOG: [u8; 64] = [
-    // version, and six operations
-    1, 6, 0, 3, b'a', b'd', b'd', 0, 0, // add
-    4, b't', b'a', b'k', b'e', 0, 1, // take
-    3, b'p', b'a', b'y', 1, 0, // pay
-    4, b's', b'h', b'i', b'p', 2, 0, // ship
-    4, b'n', b'o', b't', b'e', 4, 3, // note
-    4, b'b', b'o', b'o', b'k', 6, 4, // book
-    // the pairs of each operation with itself and the later ones
-    0, 1, 0, 0, 0, 0, 1, 0, 0, 0, 0, 0, 0, 0, 0, 0, 0, 0, 1, 0, 1,
-];
+// A table of six operations: version and count, then each with its subsystem and verb, and then the pairs of each with itself and the
+// later ones. Adding conflicts with taking, taking with taking, noting with noting, and booking with booking.
+const CATALOG: &[u8] = b"\x01\x06\x00\
+\x03add\x00\x00\
+\x04take\x00\x01\
+\x03pay\x01\x00\
+\x04ship\x02\x00\
+\x04note\x04\x03\
+\x04book\x06\x04\
+\x00\x01\x00\x00\x00\x00\
+\x01\x00\x00\x00\x00\
+\x00\x00\x00\x00\
+\x00\x00\x00\
+\x01\x00\
+\x01";
 
 fn catalog(alloc: Global) -> Result<Catalog, Fail>
     ensures { IfOk result IsCatalog }
 {
-    let Ok(catalog) = read_catalog(alloc, &CATALOG) else {
+    let Ok(catalog) = read_catalog(alloc, CATALOG) else {
         return Err("no catalog".into());
     };
     Ok(catalog)

@@ -8,6 +8,8 @@ mod beginnings;
 #[cfg(test)]
 mod boxes;
 #[cfg(test)]
+mod cases;
+#[cfg(test)]
 mod gates;
 #[cfg(test)]
 mod openings;
