@@ -5,17 +5,14 @@ use std::alloc::Global;
 use std::process::Abort;
 use std::test::Fail;
 
-// File 3: a header, three records behind open gates, of which the second has no byte, and a closed gate.
-const FILE: &[u8] = b"tpsl\x01\x03\x00\x00\
-\x01\x02\x00hi\
-\xff\x00\x00\
-\x01\x03\x00abc\
-\x00";
-
-// That file, of which no proof knows the bytes.
-fn whole_file() -> &'static [u8] {
-    FILE
-}
+// File 3: a header, three records behind open gates, and a closed gate.
+const FILE: [u8; 23] = [
+    0x74, 0x70, 0x73, 0x6c, 0x01, 0x03, 0x00, 0x00, // header
+    0x01, 0x02, 0x00, b'h', b'i', // record 1
+    0xff, 0x00, 0x00, // record 2, without a byte
+    0x01, 0x03, 0x00, b'a', b'b', b'c', // record 3
+    0x00, // closed gate
+];
 
 // A rack whose file 3 has these bytes.
 fn rack_of(alloc: Global, bytes: &[u8]) -> Result<MemoryRack, Fail> {
@@ -35,7 +32,7 @@ const BODIES: [&[u8]; 3] = [b"hi", b"", b"abc"];
 #[test]
 fn a_file_written_by_hand_is_opened_and_appended_to(rt: HostRuntime) -> Result<(), Fail> {
     let alloc = rt.alloc();
-    let mut file = whole_file().to_vec(alloc)?;
+    let mut file = FILE.to_vec(alloc)?;
     file.extend_from_slice(b"free")?;
     let mut rack = rack_of(alloc, &file)?;
     let (mut log, bodies) = Log::open(alloc, &mut rack, 3)?;
@@ -79,51 +76,23 @@ const DAMAGES: [(usize, u8, Result<u32, LogError>); 13] = [
     (22, 0x01, Err(LogError::BadRecord(4))),
 ];
 
-// What is answered where the file is cut after so many bytes.
-fn expect_cut<H: Abort>(
-    rt: &H,
-    alloc: Global,
-    len: usize,
-    want: Result<u32, LogError>,
-) -> Result<(), Fail> {
-    let file = whole_file();
-    assert!(rt; len <= file.len());
-    let mut rack = rack_of(alloc, &file[..len])?;
-    assert_eq!(rt; count(alloc, &mut rack), want, "cut after {len}");
-    Ok(())
-}
-
-// What is answered with this byte at a place.
-fn expect_damage<H: Abort>(
-    rt: &H,
-    alloc: Global,
-    place: usize,
-    byte: u8,
-    want: Result<u32, LogError>,
-) -> Result<(), Fail> {
-    let mut file = whole_file().to_vec(alloc)?;
-    assert!(rt; place < file.len());
-    file[place] = byte;
-    let mut rack = rack_of(alloc, &file)?;
-    assert_eq!(rt; count(alloc, &mut rack), want, "damaged at {place}");
-    Ok(())
-}
-
-fn expect_cuts<H: Abort>(rt: &H, alloc: Global) -> Result<(), Fail> {
-    for (from, to, want) in &CUTS {
-        for len in *from..*to {
-            expect_cut(rt, alloc, len, *want)?;
-        }
-    }
-    Ok(())
-}
-
 #[test]
 fn a_cut_or_damaged_file_is_refused_at_its_first_fault(rt: HostRuntime) -> Result<(), Fail> {
     let alloc = rt.alloc();
-    expect_cuts(&rt, alloc)?;
-    for (place, byte, want) in &DAMAGES {
-        expect_damage(&rt, alloc, *place, *byte, *want)?;
+    for (from, to, want) in &CUTS {
+        for len in *from..*to {
+            assert!(rt; len <= FILE.len());
+            let mut rack = rack_of(alloc, &FILE[..len])?;
+            assert_eq!(rt; count(alloc, &mut rack), *want, "cut after {len}");
+        }
+    }
+    for (at, byte, want) in &DAMAGES {
+        let place = *at;
+        assert!(rt; place < FILE.len());
+        let mut file = FILE.to_vec(alloc)?;
+        file[place] = *byte;
+        let mut rack = rack_of(alloc, &file)?;
+        assert_eq!(rt; count(alloc, &mut rack), *want, "damaged at {place}");
     }
     Ok(())
 }
