@@ -1,4 +1,4 @@
-//! Tests of histories and journals: what no clause of `schedule_rules`, `history_judging` and `process_journal` says.
+//! Tests of histories and journals: what no clause of `journal_records`, `schedule_rules`, `history_judging` and `process_journal` says.
 //!
 //! They stand apart from the crates that they test, since a crate with tests is proved twice.
 #![tactic(auto)]
@@ -11,3 +11,5 @@ mod events;
 mod journals;
 #[cfg(test)]
 mod legality;
+#[cfg(test)]
+mod records;

@@ -1,4 +1,4 @@
-//! Tests of what is read: trees and their limits, texts of processes, catalogs and scenarios.
+//! Tests of what is read: the words of a call, trees and their limits, texts of processes, catalogs and scenarios.
 //!
 //! They stand apart from the crates that they test, since a crate with tests is proved twice.
 #![tactic(auto)]
@@ -11,3 +11,5 @@ mod documents;
 mod texts;
 #[cfg(test)]
 mod trees;
+#[cfg(test)]
+mod words;

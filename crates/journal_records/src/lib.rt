@@ -11,6 +11,3 @@ mod record;
 pub use bytes::{MOST_BYTES, read, write};
 pub use laws::records_are_read_back;
 pub use record::{Body, Record};
-
-#[cfg(test)]
-mod tests;

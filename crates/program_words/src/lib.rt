@@ -16,6 +16,3 @@ pub use numbers::read_number_and_count;
 pub use reading::{Command, read_words};
 pub use refusals::WordsError;
 pub use workers::read_workers;
-
-#[cfg(test)]
-mod tests;

@@ -14,6 +14,3 @@ mod schedule;
 
 pub use reduction::{Entries, Reduction, TraceSteps, trace, trace_of};
 pub use schedule_rules::{Event, Events, History, Plans, TraceStep};
-
-#[cfg(test)]
-mod tests;

@@ -1,17 +1,13 @@
 // What no clause of `process_report` says: that there is an answer where memory is found. A report, and texts of blocks.
-ghost use Rattle.std.specs.Prelude.{◌≡◌, [], ◌∷◌, IfOk};
-ghost use Rattle.schedule_model.specs.declared.event.Event.TheVariants.{Act};
-ghost use Rattle.schedule_model.specs.Examples.{both_undone};
-ghost use Rattle.schedule_model.specs.PlannedExample.{plain_step, purchase_plan, sale_plan, two_steps};
+ghost use Rattle.std.specs.Prelude.{◌≡◌, IfOk};
 ghost use Rattle.process_report.specs.Examples.{shop};
 
+use crate::shop::both_undone;
 use commute_table::{Catalog, Op, Ops, Verb};
 use machine_model::{Blocked, Cause, Rule};
 use process_report::{blocked_text, report};
-use process_tree::{
-    Block, Conflicts, Entry, Name, Operations, Plan, Step, StepKind, Steps, Tail, Tree,
-};
-use schedule_model::{Event, Events, History, Plans};
+use process_tree::{Conflicts, Name};
+use schedule_model::History;
 use std::alloc::Global;
 use std::process::Abort;
 use std::test::Fail;
@@ -47,85 +43,6 @@ fn catalog(alloc: Global) -> Result<Catalog, Fail>
     conflicts.set(1, 1);
     conflicts.set(4, 4);
     Ok(Catalog { ops, conflicts })
-}
-
-fn act(process: u32, op: u16, undo: bool) -> Event
-    ensures { result ≡ Act (record { process = process; step = 0; op = op; undo = undo }) }
-{
-    Event::Act(Entry {
-        process,
-        step: 0,
-        op,
-        undo,
-    })
-}
-
-fn step(alloc: Global, kind: StepKind, name: &[u8], op: &[u8]) -> Result<Step, Fail>
-    ensures { IfOk result (λ s. s ≡ plain_step kind name.now op.now) }
-{
-    Ok(Step {
-        kind,
-        name: Name::new(alloc, name)?,
-        op: Name::new(alloc, op)?,
-        key: 1,
-        amount: 5,
-        tries: 3,
-        undo_tries: 3,
-        refuse: 0,
-        undo_refuse: 0,
-    })
-}
-
-// A process of two steps with these operations.
-fn plan(alloc: Global, name: &[u8], first: Step, second: Step, op: u16) -> Result<Plan, Fail>
-    ensures { IfOk result (λ p. p ≡ record { name = name.now; tree = two_steps first second; ops = op ∷ 2 ∷ [] }) }
-{
-    let root = Block {
-        steps: Steps::new(vec![in alloc; first, second]?),
-        tail: Tail::End,
-    };
-    Ok(Plan {
-        name: Name::new(alloc, name)?,
-        tree: Tree::build(alloc, root)?,
-        ops: Operations::new(vec![in alloc; op, 2]?),
-    })
-}
-
-fn purchase(alloc: Global) -> Result<Plan, Fail>
-    ensures { IfOk result (λ p. p ≡ purchase_plan) }
-{
-    let fetch = step(alloc, StepKind::C, b"fetch", b"add")?;
-    let settle = step(alloc, StepKind::P, b"settle", b"pay")?;
-    plan(alloc, b"purchase", fetch, settle, 0)
-}
-
-fn sale(alloc: Global) -> Result<Plan, Fail>
-    ensures { IfOk result (λ p. p ≡ sale_plan) }
-{
-    let deliver = step(alloc, StepKind::C, b"deliver", b"take")?;
-    let settle = step(alloc, StepKind::P, b"settle", b"pay")?;
-    plan(alloc, b"sale", deliver, settle, 1)
-}
-
-// A purchase and a sale that builds on it, of which both are undone.
-fn history(alloc: Global) -> Result<History, Fail>
-    ensures { IfOk result (λ h. h ≡ record { plans = purchase_plan ∷ sale_plan ∷ []; events = both_undone }) }
-{
-    let plans = vec![in alloc; purchase(alloc)?, sale(alloc)?]?;
-    let events = vec![in alloc;
-        Event::Start(1),
-        Event::Start(2),
-        act(1, 0, false),
-        act(2, 1, false),
-        act(2, 1, true),
-        act(1, 0, true),
-        Event::End(2),
-        Event::End(1),
-    ]?;
-    Ok(History {
-        plans: Plans::new(plans)?,
-        events: Events::new(events)?,
-    })
 }
 
 const BOTH_UNDONE: &[u8] = b"conflicts
@@ -181,7 +98,7 @@ fn blocks_are_told(alloc: Global, h: &History, rt: &impl Abort) -> Result<(), Fa
 fn a_report_is_printed_and_accepted(rt: HostRuntime) -> Result<(), Fail> {
     let alloc = rt.alloc();
     let catalog = catalog(alloc)?;
-    let history = history(alloc)?;
+    let history = both_undone(alloc)?;
     let causes = [(1, Cause::Abort), (2, Cause::Cascade(1))];
     let text = report(alloc, &catalog, &history, &causes)?;
     assert!(rt; text.as_slice() == BOTH_UNDONE);

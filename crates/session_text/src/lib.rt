@@ -18,6 +18,3 @@ pub use finishing::{put_all_ended, put_no_piece, put_no_refusal, put_refusal, pu
 pub use line::{Line, LinesError};
 pub use reading::{Divided, divide, read_lines};
 pub use requests::{put_aborted, put_no_process, put_not_started, put_started};
-
-#[cfg(test)]
-mod tests;

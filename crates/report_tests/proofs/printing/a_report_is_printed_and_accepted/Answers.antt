@@ -1,11 +1,8 @@
-use Rattle.std.proofs.Common.{[], ◌∷◌, refl, ap, subst, sym, arith}
+use Rattle.std.proofs.Common.{refl, ap, subst, sym, arith}
 use Rattle.commute_table.specs.Operations.{IsCatalog}
 use Rattle.schedule_model.specs.declared.history.History.{History}
-use Rattle.schedule_model.specs.Examples.{both_undone}
-use Rattle.schedule_model.specs.Laws.{IsPlanned}
-use Rattle.schedule_model.specs.PlannedExample.{purchase_plan, sale_plan}
-use Rattle.schedule_model.proofs.PlannedShop.{shop-is_planned}
 use Rattle.process_report.specs.Examples.{shop}
+use Rattle.report_tests.proofs.PlannedHistory.{both_undone-is_planned}
 use Rattle.report_tests.proofs.printing.a_report_is_printed_and_accepted.Goals as goal
 
 is_catalog : IsCatalog shop
@@ -16,5 +13,4 @@ report-requires-clause-catalog g c = subst IsCatalog (sym c.in_ok-catalog.ensure
 
 pub report-requires-clause-planned : goal.report-requires-clause-planned
 report-requires-clause-planned g c =
-    let planned : IsPlanned 5 (purchase_plan ∷ sale_plan ∷ []) both_undone = record { good = shop-is_planned.good; one_each = refl; known = shop-is_planned.known } in
-    rw (c.in_ok-catalog.ensures, ap (λ (h : History). h.plans) c.in_ok-history.ensures, ap (λ (h : History). h.events) c.in_ok-history.ensures) planned
+    rw (c.in_ok-catalog.ensures, ap (λ (h : History). h.plans) c.in_ok-history.ensures, ap (λ (h : History). h.events) c.in_ok-history.ensures) both_undone-is_planned

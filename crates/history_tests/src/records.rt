@@ -1,5 +1,5 @@
-// What no clause says: that the calls which want memory succeed where there is enough.
-use super::*;
+// What no clause of `journal_records` says: that the calls which want memory succeed where there is enough.
+use journal_records::{Body, MOST_BYTES, Record, read, write};
 use process_tree::Entry;
 use std::alloc::Global;
 use std::process::Abort;

@@ -1,25 +1,22 @@
-// The printed traces of worked histories.
+// A history of the shop: a purchase and a sale.
 ghost use Rattle.std.specs.Prelude.{◌≡◌, [], ◌∷◌, false, true, IfOk};
-ghost use Rattle.process_tree.specs.Conflicts.{no_conflicts, with_conflict};
 ghost use Rattle.schedule_model.specs.Examples.{both_undone};
 ghost use Rattle.schedule_model.specs.PlannedExample.{plain_step, purchase_plan, sale_plan, two_steps};
 
-use crate::TraceStep::{Cancel, Move};
-use crate::{Event, Events, History, Plans, trace, trace_of};
-use process_tree::{
-    Block, Conflicts, Entry, Name, Operations, Plan, Step, StepKind, Steps, Tail, Tree,
-};
+use process_tree::{Block, Entry, Name, Operations, Plan, Step, StepKind, Steps, Tail, Tree};
+use schedule_model::{Event, Events, History, Plans};
 use std::alloc::Global;
-use std::process::Abort;
 use std::test::Fail;
 
-const ADD: u16 = 0;
+/// The operations of the shop by number: `add` and `take` conflict, and so does `take` with itself.
+pub const ADD: u16 = 0;
 
-const TAKE: u16 = 1;
+pub const TAKE: u16 = 1;
 
 const PAY: u16 = 2;
 
-fn done(process: u32, step: u16, op: u16) -> Entry
+/// A step that took effect.
+pub fn done(process: u32, step: u16, op: u16) -> Entry
     ensures { result ≡ record { process = process; step = step; op = op; undo = false } }
 {
     Entry {
@@ -30,7 +27,8 @@ fn done(process: u32, step: u16, op: u16) -> Entry
     }
 }
 
-fn undone(process: u32, step: u16, op: u16) -> Entry
+/// An undo that took effect.
+pub fn undone(process: u32, step: u16, op: u16) -> Entry
     ensures { result ≡ record { process = process; step = step; op = op; undo = true } }
 {
     Entry {
@@ -57,7 +55,7 @@ fn step(alloc: Global, kind: StepKind, name: &[u8], op: &[u8]) -> Result<Step, F
     })
 }
 
-/// A process of two steps with these operations.
+// A process of two steps with these operations.
 fn plan(alloc: Global, name: &[u8], first: Step, second: Step, op: u16) -> Result<Plan, Fail>
     ensures { IfOk result (λ p. p ≡ record { name = name.now; tree = two_steps first second; ops = op ∷ 2 ∷ [] }) }
 {
@@ -88,8 +86,8 @@ fn sale(alloc: Global) -> Result<Plan, Fail>
     plan(alloc, b"sale", deliver, settle, TAKE)
 }
 
-/// A purchase and a sale, of which both are undone.
-fn shop(alloc: Global) -> Result<History, Fail>
+/// A purchase and a sale that builds on it, of which both are undone.
+pub fn both_undone(alloc: Global) -> Result<History, Fail>
     ensures { IfOk result (λ h. h ≡ record { plans = purchase_plan ∷ sale_plan ∷ []; events = both_undone }) }
 {
     let plans = vec![in alloc; purchase(alloc)?, sale(alloc)?]?;
@@ -107,51 +105,4 @@ fn shop(alloc: Global) -> Result<History, Fail>
         plans: Plans::new(plans)?,
         events: Events::new(events)?,
     })
-}
-
-fn stock_table(alloc: Global) -> Result<Conflicts, Fail>
-    ensures { IfOk result (λ c. c ≡ with_conflict (with_conflict (no_conflicts 5) 0 1) 1 1) }
-{
-    let mut c = Conflicts::new(alloc, 5)?;
-    c.set(ADD, TAKE);
-    c.set(TAKE, TAKE);
-    Ok(c)
-}
-
-#[test]
-fn histories_and_schedules_are_reduced(rt: HostRuntime) -> Result<(), Fail> {
-    let alloc = rt.alloc();
-    let history = shop(alloc)?;
-    let table = stock_table(alloc)?;
-    let reduction = trace(alloc, &history, &table)?;
-    assert!(rt; reduction.completion.as_slice().is_empty());
-    assert!(rt; reduction.steps.as_slice() == [Cancel(2), Cancel(1)].as_slice());
-    assert!(rt; reduction.serial.as_slice().is_empty());
-    side_by_side(alloc, &rt)?;
-    taken_back(alloc, &rt)
-}
-
-/// A purchase and a delivery side by side, of which the delivery ends first.
-fn side_by_side(alloc: Global, rt: &impl Abort) -> Result<(), Fail> {
-    let list = [done(1, 0, 0), done(2, 0, 0), done(2, 1, 3), done(1, 1, 2)];
-    let (steps, serial) = trace_of(alloc, &list, &[2, 1])?;
-    assert!(rt; steps.as_slice() == [Move(2, 1), Move(3, 2)].as_slice());
-    assert!(rt; serial.as_slice() == [list[1], list[2], list[0], list[3]].as_slice());
-    Ok(())
-}
-
-/// An order that pays, takes from what an addition made, takes that back with it, and ships by its last way.
-fn taken_back(alloc: Global, rt: &impl Abort) -> Result<(), Fail> {
-    let list = [
-        done(2, 0, 2),
-        done(1, 0, 0),
-        done(2, 1, 1),
-        undone(2, 1, 1),
-        undone(1, 0, 0),
-        done(2, 4, 3),
-    ];
-    let (steps, serial) = trace_of(alloc, &list, &[1, 2])?;
-    assert!(rt; steps.as_slice() == [Cancel(3), Cancel(2)].as_slice());
-    assert!(rt; serial.as_slice() == [list[0], list[5]].as_slice());
-    Ok(())
 }

@@ -1,4 +1,5 @@
-use crate::{Command, WordsError, read_number_and_count, read_words, read_workers};
+// The words of a call.
+use program_words::{Command, WordsError, read_number_and_count, read_words, read_workers};
 use std::alloc::{AllocError, Global};
 use std::test::Fail;
 

@@ -1,14 +1,14 @@
 // Worked sessions: what their lines ask for, and what is printed of their answers.
-use crate::{
-    Line, LinesError, divide, put_aborted, put_all_ended, put_block, put_exhausted, put_no_piece,
-    put_no_process, put_no_refusal, put_not_started, put_number, put_piece, put_refusal,
-    put_started, put_waiting, read_lines,
-};
 use machine_model::{Aborted, Blocked, Refusal, Rule, StartWhy, Work};
 use process_report::put_line;
 use process_text::read;
 use process_tree::{Operations, Outcome, Plan};
 use schedule_model::{Events, History, Plans};
+use session_text::{
+    Line, LinesError, divide, put_aborted, put_all_ended, put_block, put_exhausted, put_no_piece,
+    put_no_process, put_no_refusal, put_not_started, put_number, put_piece, put_refusal,
+    put_started, put_waiting, read_lines,
+};
 use std::alloc::{AllocError, Global};
 use std::process::Abort;
 use std::test::Fail;
