@@ -7,6 +7,7 @@ pub mod Fitting
 pub mod Gone
 pub mod IdleStarts
 pub mod NotRefused
+pub mod NothingWrong
 pub mod RunDue
 pub mod ScenarioPlans
 pub mod Starts

@@ -33,11 +33,15 @@ pub record HasScenario (before : Input) (bytes : List ℕ) (c : Catalog) (plans 
   pub within : length bytes ≤ most_input
   pub bound : IsBound bytes c plans
 
--- The files are sound for a history of its catalog in which no process is active, and its processes fit beside those that started.
-pub record HasRoomFor (bytes : List ℕ) (c : Catalog) (h : History) (files : Files) : Type 0 where
+-- The files are sound for a history of this catalog in which no process is active.
+pub record AreAtRest (c : Catalog) (h : History) (files : Files) : Type 0 where
   pub told : Told files.disk
   pub sound : IsSound c h files.disk.files
   pub idle : active h.events ≡ []
+
+-- The files are at rest, and the processes of the scenario fit beside those that started.
+pub record HasRoomFor (bytes : List ℕ) (c : Catalog) (h : History) (files : Files) : Type 0 where
+  pub rest : AreAtRest c h files
   pub fit : (plans : List Plan) → IsBound bytes c plans → limit_passed (opened_on c.conflicts h.plans h.events) plans ≡ None
 
 -- Where the source has such a scenario, the files have room for it and nothing failed, the report is there: all processes have ended, or one

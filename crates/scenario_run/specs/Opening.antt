@@ -53,7 +53,7 @@ pub record AreOpenedOn (c : Catalog) (h : History) (before after : Files) : Type
   pub now : Told before.disk → IsSound c h after.disk.files
   pub each : Told before.disk → EachImage after.disk after.disk.moment (IsSound c h)
 
--- They were not opened: this is the first file or book at fault, and nothing was written, xs all are read before; or the rack failed; or
+-- They were not opened: this is the first file or book at fault, and nothing was written, as all are read before; or the rack failed; or
 -- memory was wanting.
 pub record AreNotOpened (e : OpenError) (before after : Files) : Type 0 where
   pub due : Told before.disk → IsDueToOpening before.disk.files e

@@ -1,11 +1,8 @@
 -- When `session` answers all its lines.
-use Rattle.std.specs.Prelude.{◌≡◌, ◌≤◌, ◌⊎◌, ℕ, List, [], length, Some, Result, Ok, Err}
-use Rattle.process_disk.specs.Disk.{Told}
+use Rattle.std.specs.Prelude.{◌≡◌, ◌≤◌, ◌⊎◌, ℕ, List, length, Some, Result, Ok, Err}
 use Rattle.process_tree.specs.declared.plan.Plan.{Plan}
 use Rattle.schedule_model.specs.declared.history.History.{History}
-use Rattle.schedule_model.specs.Histories.{active}
 use Rattle.commute_table.specs.declared.catalog.Catalog.{Catalog}
-use Rattle.history_files.specs.Sound.{IsSound}
 use Rattle.program_lines.specs.declared.refusal.Refusal.{Refusal}
 use Rattle.program_lines.specs.declared.refusal.Refusal.TheVariants as refusals
 use Rattle.program_lines.specs.declared.status.Status.TheVariants.{Done, NoMemory}
@@ -13,7 +10,7 @@ use Rattle.command_input.specs.declared.said.Said.{Said}
 use Rattle.command_input.specs.FilesLeft.{Files}
 use Rattle.command_input.specs.Inputs.{Input, most_input}
 use Rattle.command_input.specs.Scenarios.{IsBound}
-use Rattle.scenario_run.specs.Completeness.{NothingFailed}
+use Rattle.scenario_run.specs.Completeness.{AreAtRest, NothingFailed}
 use Rattle.session_text.specs.declared.line.Line.{Line}
 use Rattle.session_text.specs.Sessions.{said, scenario_of}
 
@@ -24,19 +21,13 @@ pub record HasSession (before : Input) (bytes : List ℕ) (c : Catalog) (plans :
   pub bound : IsBound (scenario_of bytes) c plans
   pub asked : said bytes ≡ Ok lines
 
--- The files are sound for a history of its catalog in which no process is active.
-pub record HasFilesFor (c : Catalog) (h : History) (files : Files) : Type 0 where
-  pub told : Told files.disk
-  pub sound : IsSound c h files.disk.files
-  pub idle : active h.events ≡ []
-
 -- all lines are answered, or memory was wanting
 abbrev pub AreAllAnswered : Result Said Refusal → Type 0
 AreAllAnswered (Ok s) = (s.status ≡ Done) ⊎ (s.status ≡ NoMemory)
 AreAllAnswered (Err r) = r ≡ refusals.NoMemory
 
--- Where the source has such a text, the files are so and nothing failed, all lines are answered; or memory was wanting.
+-- Where the source has such a text, the files are at rest and nothing failed, all lines are answered; or memory was wanting.
 abbrev pub IsSessionComplete : Input → Input → Files → Files → Result Said Refusal → Type 0
 IsSessionComplete before after files files_after found =
-    (bytes : List ℕ) (c : Catalog) (plans : List Plan) (lines : List Line) (h : History) → HasSession before bytes c plans lines → HasFilesFor c h files → NothingFailed before after files files_after
+    (bytes : List ℕ) (c : Catalog) (plans : List Plan) (lines : List Line) (h : History) → HasSession before bytes c plans lines → AreAtRest c h files → NothingFailed before after files files_after
     → AreAllAnswered found
