@@ -9,24 +9,23 @@ use Rattle.process_tree.specs.Blocks.{Outline, all_steps, outline}
 use Rattle.process_tree.specs.declared.step.Step.{Step}
 use Rattle.process_tree.specs.declared.block.Block.{Block}
 use Rattle.process_tree.specs.declared.block.Tail.{End, Choice}
-use Rattle.process_text.specs.declared.marks.At.{At}
-use Rattle.process_text.specs.declared.marks.At.TheVariants.{Begin, BehindStep, BehindChoice}
-use Rattle.process_text.specs.declared.marks.Mark.{Mark}
-use Rattle.process_text.specs.declared.marks.Mark.TheVariants as marks
-use Rattle.process_text.specs.declared.marks.Next.{Next}
-use Rattle.process_text.specs.declared.marks.Next.TheVariants as next
-use Rattle.process_text.specs.declared.fault.Expected.TheVariants as expects
-use Rattle.process_text.specs.Marks.{kind_word, mark_word, opening, closing, closes, ends_steps, mark_or, meaning, IsWordOf}
+use Rattle.text_words.specs.declared.marks.At.{At}
+use Rattle.text_words.specs.declared.marks.At.TheVariants.{Begin, BehindStep, BehindChoice}
+use Rattle.text_words.specs.declared.marks.Mark.{Mark}
+use Rattle.text_words.specs.declared.marks.Mark.TheVariants as marks
+use Rattle.text_words.specs.declared.marks.Next.{Next}
+use Rattle.text_words.specs.declared.marks.Next.TheVariants as next
+use Rattle.text_words.specs.declared.expected.Expected.TheVariants as expects
+use Rattle.text_words.specs.Marks.{kind_word, mark_word, opening, closing, closes, ends_steps, mark_or, meaning, IsWordOf}
 use Rattle.process_text.specs.Grammar.{mark, IsStep, Writes, step_pieces, block_pieces, alternatives}
 use Rattle.process_text.specs.FirstFault.{Before, told_from, told_behind, begun_in, in_block, at_step_name, with_choices}
 use Rattle.process_text.specs.Leading.{with_names, MayOpen}
 use Rattle.process_text.specs.Limits.{StepsFit, BlockFits, AlternativesFit}
 use Rattle.process_text.proofs.Turns.{no_settings_left}
-use Rattle.process_text.proofs.Passing.{may_go_on}
 use Rattle.process_text.proofs.Pieces.{writes_both, writes_choice}
 use Rattle.process_text.proofs.Fitting.{none_fit, steps_both, step_fits, end_fits, choice_fits, begins_with_choice}
 use Rattle.process_text.proofs.StepsFound.{passes, step_found}
-use Rattle.process_text.proofs.WordsMean.{closing_word, meaning_is, closes_if_ends}
+use Rattle.text_words.proofs.WordsMean.{may_go_on, closing_word, meaning_is, closes_if_ends}
 
 -- Steps that were found, and the word behind them.
 record StepsFound (names earlier : List (List ℕ)) (choices : List ℕ) (at : At) (ws : List (List ℕ)) : Type 0 where

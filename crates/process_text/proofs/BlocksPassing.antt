@@ -1,22 +1,23 @@
 -- That blocks within their limits lead to what is told behind them.
-use Rattle.std.proofs.Common.{◌≡◌, ◌≤◌, ◌<◌, ◌+◌, ℕ, List, [], ◌∷◌, ◌++◌, length, Bool, true, false, nat_lt, None, refl, sym, ap, arith, ◌∙◌, append_assoc, append-nil, length-append, suc, subst, add-one}
+use Rattle.std.proofs.Common.{◌≡◌, ◌≤◌, ◌<◌, ◌+◌, ℕ, List, [], ◌∷◌, ◌++◌, length, true, false, nat_lt, None, refl, sym, ap, arith, ◌∙◌, append_assoc, append-nil, length-append, suc, subst, add-one}
 use Rattle.std.specs.List.{list_any}
 use Rattle.std.proofs.lemmas.Bool.{lt-ltb, or_parts}
 use Rattle.std.proofs.lemmas.List.{map-append, length-map}
 use Rattle.process_tree.specs.declared.step.Step.{Step}
 use Rattle.process_tree.specs.declared.block.Tail.{Tail, End, Choice', Row_of-Block, end_of-Block, more_of-Block}
 use Rattle.process_tree.specs.Blocks.{Outline, all_steps, deepest, first_odd, outline_at_choice, outline_of, outlines_of}
-use Rattle.process_text.specs.declared.marks.At.{At}
-use Rattle.process_text.specs.declared.marks.At.TheVariants.{Begin, BehindStep, BehindChoice}
-use Rattle.process_text.specs.declared.marks.Next.TheVariants as next
-use Rattle.process_text.specs.declared.marks.Mark.{Mark}
-use Rattle.process_text.specs.declared.marks.Mark.TheVariants as marks
-use Rattle.process_text.specs.Marks.{mark_word, meaning}
+use Rattle.text_words.specs.declared.marks.At.{At}
+use Rattle.text_words.specs.declared.marks.At.TheVariants.{Begin, BehindChoice}
+use Rattle.text_words.specs.declared.marks.Next.TheVariants as next
+use Rattle.text_words.specs.declared.marks.Mark.{Mark}
+use Rattle.text_words.specs.declared.marks.Mark.TheVariants as marks
+use Rattle.text_words.specs.Marks.{mark_word, meaning}
 use Rattle.process_text.specs.Grammar.{Piece, mark, Writes, step_pieces, pieces_of, pieces_in, alternatives, step_names, are_new}
 use Rattle.process_text.specs.FirstFault.{Before, told_from, told_behind, in_block, begun_in}
 use Rattle.process_text.specs.Leading.{with_names}
 use Rattle.process_text.proofs.Within.{new_split, odd_parts, choice_parts}
-use Rattle.process_text.proofs.Passing.{may_go_on, place_behind, steps_lead}
+use Rattle.text_words.proofs.WordsMean.{may_go_on, may_close, or_means, done_means, choose_means}
+use Rattle.process_text.proofs.Passing.{place_behind, steps_lead}
 
 -- pieces that are written come apart
 pub writes_split : (ps qs : List Piece) (a c : List (List ℕ)) → Writes (ps ++ qs) a c → (b : List (List ℕ)) × Writes ps a b × Writes qs b c
@@ -24,34 +25,6 @@ writes_split [] qs a c is = (a, refl, is)
 writes_split (p ∷ ps) qs a c is =
     let rest = writes_split ps qs is.0 c is.2 in
     (rest.0, (is.0, is.1, rest.1), rest.2)
-
--- a block may be closed behind a step and behind a choice
-abbrev pub may_close : At → Bool
-may_close Begin = false
-may_close BehindStep = true
-may_close BehindChoice = true
-
--- within a choice, `or` and `done` are what they are
-or_means : (at : At) (k : ℕ) → may_close at ≡ true → meaning at (suc k) (mark_word marks.Or) ≡ next.Mark marks.Or
-or_means Begin k e = absurd (cc)
-or_means BehindStep k e = refl
-or_means BehindChoice k e = refl
-
-done_means : (at : At) (k : ℕ) → may_close at ≡ true → meaning at (suc k) (mark_word marks.Done) ≡ next.Mark marks.Done
-done_means Begin k e = absurd (cc)
-done_means BehindStep k e = refl
-done_means BehindChoice k e = refl
-
--- at the root, `end` is what it is
-pub end_means : (at : At) → may_close at ≡ true → meaning at 0 (mark_word marks.End) ≡ next.Mark marks.End
-end_means Begin e = absurd (cc)
-end_means BehindStep e = refl
-end_means BehindChoice e = refl
-
-choose_means : (at : At) (k : ℕ) → may_go_on at ≡ true → meaning at k (mark_word marks.Choose) ≡ next.Mark marks.Choose
-choose_means Begin k e = refl
-choose_means BehindStep k e = refl
-choose_means BehindChoice k e = absurd (cc)
 
 -- behind steps, a step or a choice may stand
 goes_on_behind : (at : At) (ss : List Step) → may_go_on at ≡ true → may_go_on (place_behind at ss) ≡ true

@@ -15,14 +15,14 @@ use Rattle.process_tree.specs.Making.{same_text, is_good_step, first_same_name, 
 use Rattle.process_tree.proofs.Choices.{outline_of-Choice}
 use Rattle.process_text.specs.Grammar.{IsStep, step_names, are_new}
 use Rattle.process_tree.specs.declared.step.StepKind.{StepKind}
-use Rattle.process_text.specs.declared.marks.At.{At}
-use Rattle.process_text.specs.declared.marks.At.TheVariants.{Begin, BehindStep, BehindChoice}
-use Rattle.process_text.specs.declared.marks.Mark.{Mark}
-use Rattle.process_text.specs.declared.marks.Mark.TheVariants.{Choose}
-use Rattle.process_text.specs.declared.marks.Next.{Next}
-use Rattle.process_text.specs.declared.marks.Next.TheVariants as next
-use Rattle.process_text.specs.declared.fault.Expected.TheVariants as expects
-use Rattle.process_text.specs.Marks.{kind_of_word, opening, or_else, meaning}
+use Rattle.text_words.specs.declared.marks.At.{At}
+use Rattle.text_words.specs.declared.marks.At.TheVariants.{Begin, BehindStep, BehindChoice}
+use Rattle.text_words.specs.declared.marks.Mark.{Mark}
+use Rattle.text_words.specs.declared.marks.Mark.TheVariants.{Choose}
+use Rattle.text_words.specs.declared.marks.Next.{Next}
+use Rattle.text_words.specs.declared.marks.Next.TheVariants as next
+use Rattle.text_words.specs.declared.expected.Expected.TheVariants as expects
+use Rattle.text_words.specs.Marks.{kind_of_word, opening, or_else, meaning}
 use Rattle.process_text.specs.Limits.{StepsFit, BlockFits, AlternativesFit}
 use Rattle.process_text.proofs.Within.{odd_parts, also_behind}
 use Rattle.process_text.proofs.BlocksPassing.{names_of_both}

@@ -9,7 +9,7 @@ use Rattle.process_tree.specs.declared.block.Block.{Block}
 use Rattle.process_tree.specs.declared.block.Tail.{Tail, End, Choice', Row_of-Block, end_of-Block, more_of-Block}
 use Rattle.process_tree.specs.Blocks.{all_steps, outline, outline_of, outlines_of}
 use Rattle.process_tree.specs.Making.{is_good_step, first_bad_step, tree_fault}
-use Rattle.process_text.specs.declared.marks.Mark.TheVariants as marks
+use Rattle.text_words.specs.declared.marks.Mark.TheVariants as marks
 use Rattle.process_text.specs.Grammar.{Piece, process, step, mark, step_pieces, pieces_of, pieces_in, alternatives, block_pieces}
 use Rattle.process_text.proofs.Within.{within_of_tree}
 

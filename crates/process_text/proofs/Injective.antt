@@ -10,8 +10,8 @@ use Rattle.process_tree.specs.Blocks.{Outline, outline_of, outlines_of, first_od
 use Rattle.process_tree.specs.Making.{tree_fault}
 use Rattle.process_tree.specs.Form.{ending, form_at, forms_at}
 use Rattle.process_tree.proofs.Forms.{same_outline}
-use Rattle.process_text.specs.declared.marks.Mark.{Mark}
-use Rattle.process_text.specs.declared.marks.Mark.TheVariants as marks
+use Rattle.text_words.specs.declared.marks.Mark.{Mark}
+use Rattle.text_words.specs.declared.marks.Mark.TheVariants as marks
 use Rattle.process_text.specs.Grammar.{Piece, mark, step_pieces, alternatives, pieces_of, pieces_in, block_pieces, pieces_of_process, text_pieces, AreTrees, IsReading}
 use Rattle.process_text.specs.declared.error.TextError.{TextError}
 use Rattle.process_text.specs.Again.{IsAgain, AreAlike}

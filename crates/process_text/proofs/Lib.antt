@@ -1,7 +1,5 @@
-pub mod FirstWord
 pub mod NumberWords
 pub mod Numerals
-pub mod Settings
 pub mod Turns
 pub mod Pieces
 pub mod ProcessesRead
@@ -11,7 +9,6 @@ pub mod BlocksPassing
 pub mod ProcessesPassing
 pub mod Fitting
 pub mod StepsFound
-pub mod WordsMean
 pub mod BlocksFound
 pub mod TextFound
 pub mod Unique

@@ -9,9 +9,9 @@ use Rattle.std.proofs.lemmas.Str.Parse.{digit_at}
 use Rattle.std.proofs.lemmas.Fmt.{decimal_nonempty}
 use Rattle.process_tree.specs.Name.{is_letter, is_name_byte, is_name}
 use Rattle.process_tree.specs.Making.{is_amount}
-use Rattle.process_text.specs.Words.{is_blank, words_of, onto_first}
+use Rattle.text_words.specs.Words.{is_blank, words_of, onto_first}
 use Rattle.process_text.specs.Canonical.{spaced, line_of}
-use Rattle.process_text.proofs.Numerals.{all_digits}
+use Rattle.text_words.proofs.Numerals.{all_digits}
 
 -- no byte of it is blank
 abbrev pub is_solid : List ℕ → Bool

@@ -7,8 +7,8 @@ use Rattle.std.specs.declared.alloc.Global.{Global}
 use Rattle.process_tree.specs.declared.step.Step.{Step}
 use Rattle.process_tree.specs.declared.block.Block.{Block}
 use Rattle.process_tree.specs.declared.block.Tail.{Tail, End, Choice, Choice', Row_of-Block, end_of-Block, more_of-Block, items-the_row-Block, items_hidden-the_row-Block-0}
-use Rattle.process_text.specs.declared.marks.Mark.TheVariants as marks
-use Rattle.process_text.specs.Marks.{mark_word}
+use Rattle.text_words.specs.declared.marks.Mark.TheVariants as marks
+use Rattle.text_words.specs.Marks.{mark_word}
 use Rattle.process_text.specs.Grammar.{Piece, step, mark, IsPiece, IsStep, Writes, step_pieces, block_pieces, pieces_of, pieces_in, alternatives}
 use mathlib.Core.Former.{Count}
 

@@ -8,9 +8,9 @@ use Rattle.std.specs.declared.alloc.Global.{Global}
 use Rattle.process_tree.specs.declared.step.Step.{Step}
 use Rattle.process_tree.specs.declared.block.Block.{Block}
 use Rattle.process_tree.specs.declared.block.Tail.{Choice}
-use Rattle.process_text.specs.declared.marks.Setting.{Setting}
-use Rattle.process_text.specs.declared.marks.Mark.TheVariants as marks
-use Rattle.process_text.specs.Marks.{setting_word, mark_word, default_of}
+use Rattle.text_words.specs.declared.marks.Setting.{Setting}
+use Rattle.text_words.specs.declared.marks.Mark.TheVariants as marks
+use Rattle.text_words.specs.Marks.{setting_word, mark_word, default_of}
 use Rattle.process_text.specs.Grammar.{Piece, process, step, mark, step_pieces, block_pieces, pieces_of, alternatives, AreNamed}
 use Rattle.process_text.specs.Canonical.{canonical_words, piece_words, setting_words, spaced, divider}
 use Rattle.process_text.proofs.Pieces.{pieces_of-Choice}

@@ -5,18 +5,19 @@ use Rattle.std.proofs.lemmas.Bool.{and_parts, lt-ltb, not-true}
 use Rattle.process_tree.specs.Making.{same_text, tree_fault}
 use Rattle.process_tree.specs.declared.tree.Named.{Named}
 use Rattle.process_tree.specs.Blocks.{outline}
-use Rattle.process_text.specs.declared.marks.At.TheVariants.{Begin}
-use Rattle.process_text.specs.declared.marks.Mark.TheVariants as marks
+use Rattle.text_words.specs.declared.marks.At.TheVariants.{Begin}
+use Rattle.text_words.specs.declared.marks.Mark.TheVariants as marks
 use Rattle.process_text.specs.declared.error.TextError.{TextError}
 use Rattle.process_text.specs.declared.error.TextError.TheVariants.{NoMemory}
-use Rattle.process_text.specs.Marks.{mark_word}
-use Rattle.process_text.specs.Words.{words_of}
+use Rattle.text_words.specs.Marks.{mark_word}
+use Rattle.text_words.specs.Words.{words_of}
 use Rattle.process_text.specs.Grammar.{mark, Writes, block_pieces, process_pieces, text_pieces, process_names, step_names, are_new, AreTrees, IsReading}
 use Rattle.process_text.specs.FirstFault.{told_from, in_block, between_processes, first_fault}
 use Rattle.process_text.specs.Places.{text_error}
 use Rattle.process_text.specs.Leading.{with_names}
 use Rattle.process_text.proofs.Within.{within_of_tree, new_names}
-use Rattle.process_text.proofs.BlocksPassing.{writes_split, BlockFits, block_leads, word_leads, end_means}
+use Rattle.text_words.proofs.WordsMean.{end_means}
+use Rattle.process_text.proofs.BlocksPassing.{writes_split, BlockFits, block_leads, word_leads}
 
 -- a tree fits behind nothing
 tree_fits : (p : Named) → tree_fault p.tree ≡ None → BlockFits [] [] (outline p.tree)

@@ -7,9 +7,9 @@ use Rattle.std.proofs.lemmas.List.{map-append}
 use Rattle.process_tree.specs.Making.{same_text, tree_fault}
 use Rattle.process_tree.specs.declared.step.Step.{Step}
 use Rattle.process_tree.specs.declared.tree.Named.{Named}
-use Rattle.process_text.specs.declared.marks.Setting.{Setting}
-use Rattle.process_text.specs.declared.marks.Mark.TheVariants as marks
-use Rattle.process_text.specs.Marks.{settings}
+use Rattle.text_words.specs.declared.marks.Setting.{Setting}
+use Rattle.text_words.specs.declared.marks.Mark.TheVariants as marks
+use Rattle.text_words.specs.Marks.{settings}
 use Rattle.process_text.specs.Grammar.{Piece, process, step, mark, IsSetting, AreSettings, IsPiece, Writes, block_pieces, process_pieces, text_pieces, process_names, are_new, AreTrees}
 use Rattle.process_text.proofs.Pieces.{writes_both}
 

@@ -9,17 +9,17 @@ use Rattle.process_tree.specs.declared.block.Block.{Block}
 use Rattle.process_tree.specs.declared.tree.Named.{Named}
 use Rattle.process_text.specs.declared.error.TextError.{TextError}
 use Rattle.process_text.specs.declared.error.TextError.TheVariants.{NoMemory}
-use Rattle.process_text.specs.declared.marks.Setting.{Setting}
-use Rattle.process_text.specs.declared.marks.Setting.TheVariants.{Tries, Undo, Refuse, UndoRefuse}
-use Rattle.process_text.specs.declared.marks.Mark.{Mark}
-use Rattle.process_text.specs.declared.marks.Mark.TheVariants.{Choose, Or, Done, End}
-use Rattle.process_text.specs.Words.{is_blank, words_of}
-use Rattle.process_text.specs.Marks.{kind_word, mark_word, settings, setting_word, default_of, number_of}
+use Rattle.text_words.specs.declared.marks.Setting.{Setting}
+use Rattle.text_words.specs.declared.marks.Setting.TheVariants.{Tries, Undo, Refuse, UndoRefuse}
+use Rattle.text_words.specs.declared.marks.Mark.{Mark}
+use Rattle.text_words.specs.declared.marks.Mark.TheVariants.{Choose, Or, Done, End}
+use Rattle.text_words.specs.Words.{is_blank, words_of}
+use Rattle.text_words.specs.Marks.{kind_word, mark_word, settings, setting_word, default_of, number_of}
 use Rattle.process_text.specs.Grammar.{Piece, process, step, mark, Writes, block_pieces, process_of, text_pieces, pieces_of_process, HasNames, AreNamed, IsReading}
 use Rattle.process_text.specs.Canonical.{setting_words, settings_words, step_words, canonical_words, canonical_text}
 use Rattle.process_text.proofs.GoodPieces.{AreGood, good_both, good_tree}
 use Rattle.process_text.proofs.Lines.{is_plain, ArePlain, plain_both, words_of-line, name_is_plain, number_is_plain, amount_is_plain}
-use Rattle.process_text.proofs.Passing.{AllTake, all_take, taken_is_small}
+use Rattle.text_words.proofs.Settings.{AllTake, all_take, taken_is_small}
 use Rattle.process_text.proofs.Written.{canonical_writes}
 use Rattle.process_text.specs.Again.{ReadingsAreAlike}
 use Rattle.process_text.proofs.Unique.{pieces_are}

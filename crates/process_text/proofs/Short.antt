@@ -13,15 +13,15 @@ use Rattle.process_tree.specs.declared.step.StepKind.TheVariants.{C, P, R}
 use Rattle.process_tree.specs.declared.block.Block.{Block}
 use Rattle.process_tree.specs.declared.block.Tail.{Tail, End, Choice', Row_of-Block, end_of-Block, more_of-Block}
 use Rattle.process_tree.specs.Blocks.{all_steps, first_odd, outline_of, outlines_of}
-use Rattle.process_text.specs.declared.marks.Setting.{Setting}
-use Rattle.process_text.specs.declared.marks.Setting.TheVariants.{Tries, Undo, Refuse, UndoRefuse}
-use Rattle.process_text.specs.declared.marks.Mark.TheVariants as marks
-use Rattle.process_text.specs.Marks.{kind_word, settings, setting_word, default_of, takes}
+use Rattle.text_words.specs.declared.marks.Setting.{Setting}
+use Rattle.text_words.specs.declared.marks.Setting.TheVariants.{Tries, Undo, Refuse, UndoRefuse}
+use Rattle.text_words.specs.declared.marks.Mark.TheVariants as marks
+use Rattle.text_words.specs.Marks.{kind_word, settings, setting_word, default_of, takes}
 use Rattle.process_text.specs.Grammar.{Piece, process, step, mark, step_pieces, pieces_of, pieces_in, alternatives, block_pieces, pieces_of_process, HasNames, AreNamed}
 use Rattle.process_text.specs.Canonical.{setting_words, settings_words, call_words, step_words, piece_words, canonical_words, spaced, canonical_text}
 use Rattle.process_text.proofs.GoodPieces.{AreGood, good_tree}
 use Rattle.process_text.proofs.Lines.{three}
-use Rattle.process_text.proofs.Passing.{AllTake, all_take, taken_is_small}
+use Rattle.text_words.proofs.Settings.{AllTake, all_take, taken_is_small}
 use Rattle.process_text.proofs.Within.{odd_parts, choice_parts, within_of_tree}
 
 -- how long pieces are with a space before each word

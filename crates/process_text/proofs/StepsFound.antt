@@ -1,23 +1,23 @@
 -- That words without a fault are steps.
-use Rattle.std.proofs.Common.{◌≡◌, inl, inr, ◌≤◌, ◌<◌, ℕ, zero, suc, ℤ, pos, negsuc, List, [], ◌∷◌, length, Bool, true, false, not, ◌&&◌, nat_eq, decimal, None, refl, sym, ap, arith, ◌∙◌, if◌then◌else◌}
-use Rattle.std.specs.Fmt.{signed_decimal}
+use Rattle.std.proofs.Common.{◌≡◌, inl, inr, ◌≤◌, ◌<◌, ℕ, ℤ, List, [], ◌∷◌, length, Bool, true, false, decimal, None, refl, sym, ap, arith, ◌∙◌, if◌then◌else◌}
 use Rattle.std.specs.List.{list_any}
 use Rattle.std.specs.Str.Parse.{digits_value}
 use Rattle.std.specs.Cmp.Lexicographic.{same_text as texts_are_same}
-use Rattle.std.proofs.lemmas.Bool.{and_parts, and_from, le-leb, lt-ltb, eqb-true, not-true}
+use Rattle.std.proofs.lemmas.Bool.{and_parts, and_from}
 use Rattle.process_tree.specs.Name.{is_name}
 use Rattle.process_tree.specs.Making.{same_text, is_amount, are_tries, are_refusals, has_good_options}
 use Rattle.process_tree.specs.declared.step.Step.{Step}
 use Rattle.process_tree.specs.declared.step.StepKind.{StepKind}
 use Rattle.process_tree.specs.declared.step.StepKind.TheVariants.{C, P, R}
 use Rattle.process_text.specs.declared.fault.Fault.{Fault}
-use Rattle.process_text.specs.declared.marks.Setting.{Setting}
-use Rattle.process_text.specs.declared.marks.Setting.TheVariants.{Tries, Undo, Refuse, UndoRefuse}
-use Rattle.process_text.specs.Numbers.{is_number, is_key, is_amount_word}
-use Rattle.process_text.specs.Marks.{kind_word, settings, setting_word, default_of, takes, is_setting_number}
+use Rattle.text_words.specs.declared.marks.Setting.{Setting}
+use Rattle.text_words.specs.declared.marks.Setting.TheVariants.{Tries, Undo, Refuse, UndoRefuse}
+use Rattle.text_words.specs.Numbers.{is_number, is_key, is_amount_word}
+use Rattle.text_words.specs.Marks.{kind_word, settings, setting_word, default_of, takes, is_setting_number}
 use Rattle.process_text.specs.Grammar.{IsSetting, AreSettings, IsStep}
 use Rattle.process_text.specs.FirstFault.{Before, Place, Turn, goes_on, stops, with_name, told_from, told_after, at_step_name, at_operation, at_key, at_amount, at_settings, at_number, turn_behind}
-use Rattle.process_text.proofs.NumberWords.{passed_is_number}
+use Rattle.text_words.proofs.NumberWords.{passed_is_number, amount_found}
+use Rattle.text_words.proofs.Settings.{default_is_good}
 use Rattle.process_text.proofs.Unique.{step_of}
 
 -- where nothing is told, the test was passed
@@ -32,26 +32,6 @@ name_passes true true b p f g ws e = absurd (cc)
 name_passes true false b p f g ws e = (refl, refl, e)
 name_passes false taken b p f g ws e = absurd (cc)
 
--- a word for an amount writes one
-pub amount_found : (w : List ℕ) → is_amount_word w ≡ true → (z : ℤ) × (w ≡ signed_decimal z) × (is_amount z ≡ true)
-amount_found [] e = absurd (cc)
-amount_found (b ∷ bs) e = by_sign (nat_eq b 45) refl
-  where
-    negative : (n : ℕ) → bs ≡ decimal n → n ≤ 1000000000 → nat_eq n 0 ≡ false → b ≡ 45 → (z : ℤ) × (b ∷ bs ≡ signed_decimal z) × (is_amount z ≡ true)
-    negative zero is le some sign = absurd (cc)
-    negative (suc n) is le some sign = (negsuc n, ap (λ x. x ∷ bs) sign ∙ ap (λ xs. 45 ∷ xs) is, lt-ltb n 1000000000 (omega arith))
-
-    by_sign : (c : Bool) → nat_eq b 45 ≡ c → (z : ℤ) × (b ∷ bs ≡ signed_decimal z) × (is_amount z ≡ true)
-    by_sign true is =
-        let tests : (is_number 1000000000 bs && not (nat_eq (digits_value 10 bs) 0)) ≡ true = sym (ap (λ c. if c then is_number 1000000000 bs && not (nat_eq (digits_value 10 bs) 0) else is_number 1000000000 (b ∷ bs)) is) ∙ e in
-        let parts = and_parts (is_number 1000000000 bs) (not (nat_eq (digits_value 10 bs) 0)) tests in
-        let number = passed_is_number 1000000000 bs parts.0 in
-        negative (digits_value 10 bs) number.0 number.1 (not-true (nat_eq (digits_value 10 bs) 0) parts.1) (eqb-true b 45 is)
-    by_sign false is =
-        let test : is_number 1000000000 (b ∷ bs) ≡ true = sym (ap (λ c. if c then is_number 1000000000 bs && not (nat_eq (digits_value 10 bs) 0) else is_number 1000000000 (b ∷ bs)) is) ∙ e in
-        let number = passed_is_number 1000000000 (b ∷ bs) test in
-        (pos (digits_value 10 (b ∷ bs)), number.0, le-leb (digits_value 10 (b ∷ bs)) 1000000000 number.1)
-
 -- An option that was found, or left out.
 pub record OptionFound (b : Before) (x : Setting) (xs : List Setting) (ws : List (List ℕ)) : Type 0 where
   pub number : ℕ
@@ -60,12 +40,6 @@ pub record OptionFound (b : Before) (x : Setting) (xs : List Setting) (ws : List
   pub good : takes x number ≡ true
   pub on : told_from b (at_settings xs) after ≡ None
   pub few : length after ≤ length ws
-
-default_is_good : (x : Setting) → takes x (default_of x) ≡ true
-default_is_good Tries = refl
-default_is_good Undo = refl
-default_is_good Refuse = refl
-default_is_good UndoRefuse = refl
 
 number_found : (b : Before) (x : Setting) (xs : List Setting) (w : List ℕ) (ws : List (List ℕ)) → w ≡ setting_word x → told_from b (at_number x xs) ws ≡ None → OptionFound b x xs (w ∷ ws)
 number_found b x xs w [] is e = absurd (cc)

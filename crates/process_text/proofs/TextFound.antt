@@ -7,17 +7,17 @@ use Rattle.std.proofs.lemmas.Bool.{and_from, ltb-true}
 use Rattle.process_tree.specs.Name.{is_name}
 use Rattle.process_tree.specs.Making.{same_text}
 use Rattle.process_tree.specs.declared.tree.Named.{Named}
-use Rattle.process_text.specs.declared.marks.At.TheVariants.{Begin}
-use Rattle.process_text.specs.declared.marks.Mark.{Mark}
-use Rattle.process_text.specs.declared.marks.Mark.TheVariants as marks
-use Rattle.process_text.specs.declared.marks.Next.TheVariants as next
+use Rattle.text_words.specs.declared.marks.At.TheVariants.{Begin}
+use Rattle.text_words.specs.declared.marks.Mark.{Mark}
+use Rattle.text_words.specs.declared.marks.Mark.TheVariants as marks
+use Rattle.text_words.specs.declared.marks.Next.TheVariants as next
 use Rattle.process_text.specs.declared.fault.Fault.{Fault}
 use Rattle.process_text.specs.declared.error.TextError.{TextError}
-use Rattle.process_text.specs.Words.{words_of}
+use Rattle.text_words.specs.Words.{words_of}
 use Rattle.process_text.specs.Places.{error_at, text_error}
 use Rattle.process_text.specs.Again.{HasReading, ReadingOrFault}
 use Rattle.process_text.proofs.ProcessesPassing.{reading_has_no_fault}
-use Rattle.process_text.specs.Marks.{mark_word, closes}
+use Rattle.text_words.specs.Marks.{mark_word, closes}
 use Rattle.process_text.specs.Grammar.{mark, Writes, block_pieces, process_pieces, process_of, process_names, text_pieces, are_new, AreTrees, IsReading}
 use Rattle.process_text.specs.FirstFault.{Before, Place, Told, goes_on, stops, told_after, told_from, told_behind, in_block, at_process_name, between_processes, with_process, first_fault}
 use Rattle.process_text.specs.Leading.{with_names}

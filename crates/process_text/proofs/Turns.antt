@@ -1,14 +1,12 @@
 -- Steps from word to word.
-use Rattle.std.proofs.Common.{◌≡◌, List, ℕ, [], ◌∷◌, refl, subst, sym, ap, ◌∙◌, ◌+◌, ◌≢◌, true, false, add-one}
+use Rattle.std.proofs.Common.{◌≡◌, List, ℕ, [], ◌∷◌, refl, subst, sym, ap, ◌∙◌}
 use Rattle.process_text.specs.FirstFault.{Before, goes_on, told_from, told_behind, begun_in, with_process, with_name, at_process_name, at_step_name, at_operation, at_settings, in_block}
 use Rattle.process_text.specs.Leading.{with_names, told_of_new}
 use Rattle.process_tree.specs.declared.step.StepKind.{StepKind}
-use Rattle.process_text.specs.Marks.{meaning, closes}
-use Rattle.process_text.specs.declared.marks.At.{At}
-use Rattle.process_text.specs.declared.marks.At.TheVariants.{Begin, BehindStep}
-use Rattle.process_text.specs.declared.marks.Next.{Next}
-use Rattle.process_text.specs.declared.marks.Mark.{Mark}
-use Rattle.process_text.specs.declared.marks.Mark.TheVariants.{Choose, Or, Done, End}
+use Rattle.text_words.specs.Marks.{meaning}
+use Rattle.text_words.specs.declared.marks.At.{At}
+use Rattle.text_words.specs.declared.marks.At.TheVariants.{Begin, BehindStep}
+use Rattle.text_words.specs.declared.marks.Next.{Next}
 
 -- where no option may come, a step is over
 pub no_settings_left : (b : Before) (ws : List (List ℕ)) → told_from b (at_settings []) ws ≡ told_from b (in_block BehindStep) ws
@@ -34,10 +32,3 @@ pub behind_meaning : (b : Before) (at : At) (begun : ℕ) (n : Next) (w : List �
 behind_meaning b at begun n w ws before e same is =
     subst (λ (all : List (List ℕ)). told_from b (in_block at) all ≡ told_behind b n ws) (sym e)
     (ap (λ m. told_behind b m ws) (ap (λ k. meaning at k w) same ∙ is))
-
--- within a choice, what closes and isn't `done` is `or`
-pub is_or : (n : ℕ) (m : Mark) → closes (n + 1) m ≡ true → m ≢ Done → m ≡ Or
-is_or n Choose closes_it other = let e : closes (n + 1) Choose ≡ false = rw add-one refl in absurd (cc)
-is_or n Or closes_it other = refl
-is_or n Done closes_it other = absurd (other refl)
-is_or n End closes_it other = let e : closes (n + 1) End ≡ false = rw add-one refl in absurd (cc)

@@ -9,14 +9,14 @@ use Rattle.process_tree.specs.Making.{same_text, is_amount, are_tries, are_refus
 use Rattle.process_tree.specs.declared.step.Step.{Step}
 use Rattle.process_tree.specs.declared.step.StepKind.{StepKind}
 use Rattle.process_tree.specs.declared.step.StepKind.TheVariants.{C, P, R}
-use Rattle.process_text.specs.declared.marks.Setting.{Setting}
-use Rattle.process_text.specs.declared.marks.Mark.{Mark}
-use Rattle.process_text.specs.declared.marks.Mark.TheVariants.{Choose, Or, Done, End}
-use Rattle.process_text.specs.Words.{begins}
-use Rattle.process_text.specs.Marks.{kind_word, kind_of_word, mark_word, settings, setting_word, number_of, takes}
+use Rattle.text_words.specs.declared.marks.Setting.{Setting}
+use Rattle.text_words.specs.declared.marks.Mark.{Mark}
+use Rattle.text_words.specs.declared.marks.Mark.TheVariants.{Choose, Or, Done, End}
+use Rattle.text_words.specs.Words.{begins}
+use Rattle.text_words.specs.Marks.{kind_word, kind_of_word, mark_word, settings, setting_word, number_of, takes}
 use Rattle.process_text.specs.Grammar.{Piece, process, step, mark, IsSetting, AreSettings, IsStep, IsPiece, Writes}
-use Rattle.process_text.proofs.NumberWords.{are_same-refl}
-use Rattle.process_text.proofs.Passing.{AllTake, all_take, taken_is_small, four}
+use Rattle.text_words.proofs.NumberWords.{are_same-refl}
+use Rattle.text_words.proofs.Settings.{AllTake, all_take, taken_is_small, four}
 
 -- the first of a list of words
 abbrev first_word : List (List ℕ) → List ℕ

@@ -6,12 +6,12 @@ use Rattle.process_tree.specs.Making.{same_text}
 use Rattle.process_tree.specs.declared.step.Step.{Step}
 use Rattle.process_tree.specs.declared.step.StepKind.{StepKind}
 use Rattle.process_tree.specs.declared.step.StepKind.TheVariants.{C, P, R}
-use Rattle.process_text.specs.declared.marks.Setting.{Setting}
-use Rattle.process_text.specs.declared.marks.Setting.TheVariants.{Tries, Undo, Refuse, UndoRefuse}
-use Rattle.process_text.specs.declared.marks.Mark.{Mark}
-use Rattle.process_text.specs.declared.marks.Mark.TheVariants as marks
-use Rattle.process_text.specs.Words.{begins}
-use Rattle.process_text.specs.Marks.{kind_word, mark_word, settings, setting_word, default_of, number_of}
+use Rattle.text_words.specs.declared.marks.Setting.{Setting}
+use Rattle.text_words.specs.declared.marks.Setting.TheVariants.{Tries, Undo, Refuse, UndoRefuse}
+use Rattle.text_words.specs.declared.marks.Mark.{Mark}
+use Rattle.text_words.specs.declared.marks.Mark.TheVariants as marks
+use Rattle.text_words.specs.Words.{begins}
+use Rattle.text_words.specs.Marks.{kind_word, mark_word, settings, setting_word, default_of, number_of}
 use Rattle.process_text.specs.Grammar.{Piece, process, step, mark, AreSettings, IsPiece, Writes, AreNamed}
 use Rattle.process_text.specs.Canonical.{settings_words, piece_words, canonical_words}
 use Rattle.process_text.proofs.GoodPieces.{AreGood}

@@ -5,7 +5,7 @@ use Rattle.process_tree.specs.declared.tree.Named.{Named}
 use Rattle.process_tree.specs.Blocks.{outline}
 use Rattle.process_tree.specs.Form.{form_of}
 use Rattle.process_text.specs.declared.error.TextError.{TextError}
-use Rattle.process_text.specs.Words.{words_of}
+use Rattle.text_words.specs.Words.{words_of}
 use Rattle.process_text.specs.Grammar.{IsReading}
 use Rattle.process_text.specs.Places.{text_error}
 

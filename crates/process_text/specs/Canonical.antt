@@ -4,9 +4,9 @@ use Rattle.std.specs.Prelude.{ℕ, List, [], ◌∷◌, ◌++◌, Bool, true, fa
 use Rattle.std.specs.Fmt.{signed_decimal}
 use Rattle.process_tree.specs.declared.step.Step.{Step}
 use Rattle.process_tree.specs.declared.block.Block.{Block}
-use Rattle.process_text.specs.declared.marks.Setting.{Setting}
-use Rattle.process_text.specs.declared.marks.Mark.TheVariants as marks
-use Rattle.process_text.specs.Marks.{kind_word, mark_word, settings, setting_word, default_of, number_of}
+use Rattle.text_words.specs.declared.marks.Setting.{Setting}
+use Rattle.text_words.specs.declared.marks.Mark.TheVariants as marks
+use Rattle.text_words.specs.Marks.{kind_word, mark_word, settings, setting_word, default_of, number_of}
 use Rattle.process_text.specs.Grammar.{Piece, process, step, mark, pieces_of_process}
 
 -- an option, left out where it has its default

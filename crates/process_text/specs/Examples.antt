@@ -1,14 +1,9 @@
 -- Worked examples, computed.
-use Rattle.std.specs.Prelude.{◌≡◌, [], ◌∷◌, ◌++◌, Some, None, codes, refl}
-use Rattle.process_text.specs.Words.{is_blank, words_of}
+use Rattle.std.specs.Prelude.{◌≡◌, [], Some, None, codes, refl}
+use Rattle.text_words.specs.Words.{is_blank}
 use Rattle.process_text.specs.Places.{text_error}
 use Rattle.process_text.specs.declared.error.TextError.TheVariants.{BadText}
-use Rattle.process_text.specs.declared.fault.Expected.TheVariants as expects
-
--- space, tab, carriage return and line feed separate words
-pub three_words : words_of (codes "a  bc" ++ 13 ∷ 10 ∷ 9 ∷ codes "d ") ≡ codes "a" ∷ codes "bc" ∷ codes "d" ∷ []
-unfolding is_blank
-three_words = refl
+use Rattle.text_words.specs.declared.expected.Expected.TheVariants as expects
 
 -- an empty text is good
 pub no_text : text_error [] ≡ None

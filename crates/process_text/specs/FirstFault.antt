@@ -5,18 +5,18 @@ use Rattle.std.specs.List.{list_any}
 use Rattle.process_tree.specs.Name.{is_name}
 use Rattle.process_tree.specs.Making.{same_text}
 use Rattle.process_tree.specs.declared.step.StepKind.{StepKind}
-use Rattle.process_text.specs.Numbers.{is_key, is_amount_word}
-use Rattle.process_text.specs.Marks.{settings, setting_word, is_setting_number, meaning, expected_at}
+use Rattle.text_words.specs.Numbers.{is_key, is_amount_word}
+use Rattle.text_words.specs.Marks.{settings, setting_word, is_setting_number, meaning, expected_at}
 use Rattle.process_text.specs.declared.fault.Fault.{Fault}
 use Rattle.process_text.specs.declared.fault.Fault.TheVariants.{Missing, Misfit, Limit, SameName}
-use Rattle.process_text.specs.declared.fault.Expected.TheVariants as expects
+use Rattle.text_words.specs.declared.expected.Expected.TheVariants as expects
 use Rattle.process_text.specs.declared.fault.What.TheVariants.{Processes, Steps, Nesting, Alternatives}
-use Rattle.process_text.specs.declared.marks.Mark.TheVariants.{Choose, Or, Done, End}
-use Rattle.process_text.specs.declared.marks.Setting.{Setting}
-use Rattle.process_text.specs.declared.marks.At.{At}
-use Rattle.process_text.specs.declared.marks.At.TheVariants.{Begin, BehindStep, BehindChoice}
-use Rattle.process_text.specs.declared.marks.Next.{Next}
-use Rattle.process_text.specs.declared.marks.Next.TheVariants as next
+use Rattle.text_words.specs.declared.marks.Mark.TheVariants.{Choose, Or, Done, End}
+use Rattle.text_words.specs.declared.marks.Setting.{Setting}
+use Rattle.text_words.specs.declared.marks.At.{At}
+use Rattle.text_words.specs.declared.marks.At.TheVariants.{Begin, BehindStep, BehindChoice}
+use Rattle.text_words.specs.declared.marks.Next.{Next}
+use Rattle.text_words.specs.declared.marks.Next.TheVariants as next
 
 -- What stands before a word.
 pub record Before : Type 0 where

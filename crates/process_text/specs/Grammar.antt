@@ -8,11 +8,11 @@ use Rattle.process_tree.specs.declared.step.Step.{Step}
 use Rattle.process_tree.specs.declared.block.Block.{Block}
 use Rattle.process_tree.specs.declared.block.Tail.{Tail, End, Choice', Row_of-Block, end_of-Block, more_of-Block}
 use Rattle.process_tree.specs.declared.tree.Named.{Named}
-use Rattle.process_text.specs.declared.marks.Mark.{Mark}
-use Rattle.process_text.specs.declared.marks.Mark.TheVariants as marks
-use Rattle.process_text.specs.declared.marks.Setting.{Setting}
-use Rattle.process_text.specs.Words.{begins}
-use Rattle.process_text.specs.Marks.{kind_word, mark_word, settings, setting_word, default_of, number_of}
+use Rattle.text_words.specs.declared.marks.Mark.{Mark}
+use Rattle.text_words.specs.declared.marks.Mark.TheVariants as marks
+use Rattle.text_words.specs.declared.marks.Setting.{Setting}
+use Rattle.text_words.specs.Words.{begins}
+use Rattle.text_words.specs.Marks.{kind_word, mark_word, settings, setting_word, default_of, number_of}
 
 -- a piece of a text: the beginning of a process with its name, a step, or a word that opens, divides or closes a block
 pub data Piece : Type 0 where

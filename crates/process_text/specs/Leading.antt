@@ -3,10 +3,10 @@ use Rattle.std.specs.Prelude.{◌≡◌, ◌+◌, ℕ, List, [], ◌∷◌, leng
 use Rattle.process_text.specs.FirstFault.{Before, Turn, Told, told_from, told_behind, told_after, told, new_name, begun_in, in_block}
 use Rattle.process_text.specs.declared.fault.Fault.{Fault}
 use Rattle.process_text.specs.declared.fault.Fault.TheVariants.{Missing}
-use Rattle.process_text.specs.declared.fault.Expected.TheVariants as expects
-use Rattle.process_text.specs.declared.marks.At.TheVariants.{Begin}
-use Rattle.process_text.specs.declared.marks.Mark.{Mark}
-use Rattle.process_text.specs.declared.marks.Next.TheVariants as next
+use Rattle.text_words.specs.declared.expected.Expected.TheVariants as expects
+use Rattle.text_words.specs.declared.marks.At.TheVariants.{Begin}
+use Rattle.text_words.specs.declared.marks.Mark.{Mark}
+use Rattle.text_words.specs.declared.marks.Next.TheVariants as next
 
 -- these names of steps stand before, and what else may
 abbrev pub with_names : List (List ℕ) → List (List ℕ) → List ℕ → Before

@@ -1,6 +1,5 @@
 pub mod Words
 pub mod Numbers
-pub mod Marks
 pub mod Grammar
 pub mod FirstFault
 pub mod Places

@@ -1,18 +1,17 @@
 // Blocks of a text.
 ghost use Rattle.std.specs.Prelude.{◌≡◌, ◌∷◌, ◌++◌, [], ◌⊎◌, ◌≤◌, ◌<◌, ◌+◌, ℕ, List, true, false, Some, IfOk, IfErr, OnOk, map, length};
 ghost use Rattle.process_tree.specs.declared.step.Step.{Step};
-ghost use Rattle.process_text.specs.Marks.{mark_word, closes, ends_steps, meaning};
+ghost use Rattle.text_words.specs.Marks.{mark_word, closes, ends_steps, meaning};
 ghost use Rattle.process_text.specs.Grammar.{IsStep, Writes, step_pieces, block_pieces, alternatives};
 ghost use Rattle.process_text.specs.FirstFault.{Before, told, told_from, told_behind, begun_in, in_block};
 ghost use Rattle.process_text.specs.Leading.{with_names, MayOpen, LeadsTo, Fails};
 ghost use Rattle.process_text.specs.Limits.{StepsFit, BlockFits, AlternativesFit};
 ghost use Rattle.process_tree.specs.Blocks.{outline};
 
-use crate::{
-    At, Expected, Fault, Mark, Names, Next, What, Words, add_step, closing, expected_at, meaning,
-};
+use crate::{Fault, What, add_step};
 use process_tree::{Block, LEAST_ALTERNATIVES, MOST_ALTERNATIVES, Step, Steps, Tail};
 use std::alloc::Global;
+use text_words::{At, Expected, Mark, Names, Next, Words, closing, expected_at, meaning};
 
 // The steps of a block, and the word behind them.
 fn read_steps<'a>(

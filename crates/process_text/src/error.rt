@@ -3,11 +3,12 @@ ghost use Rattle.std.specs.Prelude.{◌≡◌, Some};
 ghost use Rattle.process_text.specs.Texts.{error_text};
 ghost use Rattle.process_text.specs.declared.error.TextError.TheVariants.{NoMemory};
 
-use crate::{Expected, What};
+use crate::What;
 use process_tree::Name;
 use std::alloc::{AllocError, AllocFailed};
 use std::error::Error;
 use std::fmt;
+use text_words::Expected;
 
 /// Why a text gave no processes: its first fault, or want of memory.
 #[derive(Drop)]

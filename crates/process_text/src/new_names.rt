@@ -6,9 +6,10 @@ ghost use Rattle.process_tree.specs.Making.{same_text};
 ghost use Rattle.process_text.specs.FirstFault.{Turn, told, told_after, told_from};
 ghost use Rattle.process_text.specs.Leading.{told_of_new};
 
-use crate::{Expected, Fault, Names, Words};
+use crate::Fault;
 use process_tree::{Name, NameError, is_name};
 use std::alloc::Global;
+use text_words::{Expected, Names, Words};
 
 /// The name that a word is.
 pub fn name_of(alloc: Global, word: &[u8]) -> Result<Name, Fault>

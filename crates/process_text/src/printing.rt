@@ -2,15 +2,15 @@
 ghost use Rattle.std.specs.Prelude.{◌≡◌, ◌∷◌, ◌++◌, [], ℕ, List, IfOk, OnOk, codes, decimal, None, ◌<◌, vec_len};
 ghost use Rattle.process_tree.specs.declared.step.Step.{Step};
 ghost use Rattle.process_tree.specs.Making.{tree_fault};
-ghost use Rattle.process_text.specs.Marks.{kind_word, mark_word, settings, setting_word};
-ghost use Rattle.process_text.specs.Words.{words_of};
+ghost use Rattle.text_words.specs.Marks.{kind_word, mark_word, settings, setting_word};
+ghost use Rattle.text_words.specs.Words.{words_of};
 ghost use Rattle.process_text.specs.Grammar.{step_pieces, block_pieces, pieces_of_process, process_of, IsReading};
 ghost use Rattle.process_text.specs.Canonical.{setting_words, settings_words, call_words, step_words, canonical_words, spaced, divider, canonical_text};
 ghost use Rattle.process_text.specs.Grammar.{HasNames, AreNamed};
 
-use crate::{Mark, Setting};
 use process_tree::{Block, Name, Step, StepKind, Tail, Tree};
 use std::alloc::{AllocError, Global};
+use text_words::{Mark, Setting};
 
 // Writes a space and a word.
 fn print_word(word: &[u8], out: &mut Vec<u8>) -> Result<(), AllocError>

@@ -4,14 +4,15 @@ ghost use Rattle.std.specs.List.{list_any};
 ghost use Rattle.process_tree.specs.Making.{same_text, tree_fault};
 ghost use Rattle.process_tree.specs.Name.{is_name};
 ghost use Rattle.process_tree.specs.declared.tree.Named.{Named};
-ghost use Rattle.process_text.specs.Words.{words_of};
+ghost use Rattle.text_words.specs.Words.{words_of};
 ghost use Rattle.process_text.specs.Grammar.{Writes, block_pieces, process_pieces, process_names, IsReading};
 ghost use Rattle.process_text.specs.FirstFault.{told, told_from, at_process_name, between_processes, in_block, first_fault};
 ghost use Rattle.process_text.specs.Leading.{with_names};
 
-use crate::{At, Expected, Fault, Names, What, Words, is_word, read_block, read_new_name};
+use crate::{Fault, What, read_block, read_new_name};
 use process_tree::{Block, MOST_NESTING, Named, Tree, TreeError};
 use std::alloc::Global;
+use text_words::{At, Expected, Names, Words, is_word};
 
 const MOST_PROCESSES: usize = 256;
 

@@ -2,15 +2,16 @@
 ghost use Rattle.std.specs.Prelude.{◌≡◌, ◌⊎◌, List, Some, None, IfOk, IfErr, OnOk};
 ghost use Rattle.process_tree.specs.declared.tree.Named.{Named};
 ghost use Rattle.process_text.specs.Again.{IsAgain};
-ghost use Rattle.process_text.specs.Words.{words_of};
+ghost use Rattle.text_words.specs.Words.{words_of};
 ghost use Rattle.process_text.specs.Grammar.{IsReading, text_pieces, pieces_of_process};
 ghost use Rattle.process_text.specs.Places.{text_error};
 
 use crate::places::error_at;
 use crate::processes::read_processes;
-use crate::{TextError, Words, print};
+use crate::{TextError, print};
 use process_tree::{Name, Named, Tree};
 use std::alloc::Global;
+use text_words::Words;
 
 /// Reads a process text.
 pub fn read(alloc: Global, bytes: &[u8]) -> Result<Vec<Named>, TextError>

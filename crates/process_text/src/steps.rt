@@ -1,25 +1,21 @@
 // Steps of a text.
-ghost use Rattle.std.specs.Prelude.{◌≡◌, ◌∷◌, ◌++◌, [], ◌⊎◌, ◌≤◌, ◌<◌, ℕ, length, List, true, false, not, Some, IfOk, IfErr, IfSome, OnOk, is_some, decimal};
+ghost use Rattle.std.specs.Prelude.{◌≡◌, ◌∷◌, ◌++◌, [], ◌⊎◌, ◌≤◌, ◌<◌, ℕ, length, List, true, false, not, Some, IfOk, IfErr, OnOk, decimal};
 ghost use Rattle.std.specs.Fmt.{signed_decimal};
 ghost use Rattle.std.specs.List.{list_any};
 ghost use Rattle.process_tree.specs.Name.{is_name};
 ghost use Rattle.process_tree.specs.Making.{same_text, is_amount, has_good_options};
 ghost use Rattle.process_tree.specs.declared.step.Step.{Step};
 ghost use Rattle.process_tree.specs.declared.step.StepKind.{StepKind};
-ghost use Rattle.process_text.specs.declared.marks.Setting.{Setting};
-ghost use Rattle.process_text.specs.Marks.{kind_word, settings, takes, is_setting_number};
+ghost use Rattle.text_words.specs.declared.marks.Setting.{Setting};
+ghost use Rattle.text_words.specs.Marks.{kind_word, settings, takes};
 ghost use Rattle.process_text.specs.Grammar.{IsSetting, IsWithSettings, IsStep};
 ghost use Rattle.process_text.specs.FirstFault.{Before, told, told_from, told_behind, at_step_name, at_operation, at_key, at_amount, at_settings, at_number, in_block};
 ghost use Rattle.process_text.specs.Leading.{with_names};
 
-use crate::{
-    At, Expected, Fault, Names, Next, Setting, What, Words, amount, key, name_of, number,
-    read_new_name,
-};
-use process_tree::{
-    DEFAULT_TRIES, MOST_REFUSALS, MOST_STEPS, MOST_TRIES, Name, Step, StepKind, is_name,
-};
+use crate::{Fault, What, name_of, read_new_name};
+use process_tree::{DEFAULT_TRIES, MOST_STEPS, Name, Step, StepKind, is_name};
 use std::alloc::Global;
+use text_words::{At, Expected, Names, Next, Setting, Words, amount, key, setting_number};
 
 // An operation.
 fn read_operation(alloc: Global, words: &mut Words<'_>) -> Result<Name, Fault>
@@ -68,31 +64,6 @@ fn read_amount(words: &mut Words<'_>) -> Result<i64, Fault>
         },
         None => Err(Fault::Missing(Expected::Amount)),
     }
-}
-
-// Whether an option takes this number.
-fn takes(setting: Setting, number: u8) -> bool
-    ensures { result ≡ takes setting number }
-{
-    match setting {
-        Setting::Tries | Setting::Undo => 1 <= number && number <= MOST_TRIES,
-        Setting::Refuse | Setting::UndoRefuse => number <= MOST_REFUSALS,
-    }
-}
-
-// The number of an option that a word writes.
-fn setting_number(setting: Setting, word: &[u8]) -> Option<u8>
-    ensures value { IfSome result (λ n. (word.now ≡ decimal n) × (takes setting n ≡ true)) }
-    ensures test { is_some result ≡ is_setting_number setting word.now }
-{
-    let n = match number(word, 99) {
-        Some(n) => n as u8,
-        None => return None,
-    };
-    if !takes(setting, n) {
-        return None;
-    }
-    Some(n)
 }
 
 // The number behind the word of an option.

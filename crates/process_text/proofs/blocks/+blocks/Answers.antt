@@ -1,13 +1,13 @@
 use Rattle.std.proofs.Common.{rules, arith, ◌≡◌, ◌≢◌, ◌+◌, ◌∷◌, [], ◌∙◌, ap, sym, subst, ℕ, List, length, map, Err, inl, inr, true, nat_lt, length-append}
 use Rattle.std.proofs.lemmas.Bool.{lt-ltb}
-use Rattle.process_text.specs.declared.marks.Mark.TheVariants.{Choose, Or, Done}
-use Rattle.process_text.specs.declared.marks.Next.TheVariants as next
-use Rattle.process_text.specs.Marks.{mark_word}
+use Rattle.text_words.specs.declared.marks.Mark.TheVariants.{Choose, Or, Done}
+use Rattle.text_words.specs.declared.marks.Next.TheVariants as next
+use Rattle.text_words.specs.Marks.{mark_word}
 use Rattle.process_text.specs.Grammar.{Writes, block_pieces, alternatives}
 use Rattle.process_text.specs.FirstFault.{told_behind}
 use Rattle.process_text.specs.Leading.{with_names}
 use Rattle.process_text.proofs.Pieces.{writes_choice, writes_or, writes_done}
-use Rattle.process_text.proofs.Turns.{is_or}
+use Rattle.text_words.proofs.WordsMean.{is_or}
 use Rattle.process_text.proofs.Fitting.{end_fits, choice_fits, alternative_fits, some_if}
 use Rattle.process_text.proofs.blocks.+blocks.Goals as goal
 

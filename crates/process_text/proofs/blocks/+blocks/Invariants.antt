@@ -4,8 +4,8 @@ use Rattle.process_text.specs.FirstFault.{told_behind}
 use Rattle.process_text.specs.Leading.{with_names, MayOpen}
 use Rattle.process_text.specs.Limits.{AlternativesFit}
 use Rattle.process_tree.specs.Blocks.{outline}
-use Rattle.process_text.specs.declared.marks.Next.TheVariants as next
-use Rattle.process_text.specs.declared.marks.Mark.TheVariants.{Choose, Or}
+use Rattle.text_words.specs.declared.marks.Next.TheVariants as next
+use Rattle.text_words.specs.declared.marks.Mark.TheVariants.{Choose, Or}
 use Rattle.process_text.proofs.Pieces.{with_or}
 use Rattle.process_text.proofs.blocks.+blocks.Given as goal
 

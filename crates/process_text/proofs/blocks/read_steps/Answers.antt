@@ -1,6 +1,6 @@
 use Rattle.std.proofs.Common.{rules, refl, [], ◌≡◌, ◌∷◌, ◌∙◌, ap, subst, ℕ, List}
-use Rattle.process_text.specs.declared.marks.Next.TheVariants as next
-use Rattle.process_text.specs.Marks.{kind_word, meaning}
+use Rattle.text_words.specs.declared.marks.Next.TheVariants as next
+use Rattle.text_words.specs.Marks.{kind_word, meaning}
 use Rattle.process_text.specs.Grammar.{Writes, step_pieces}
 use Rattle.process_text.specs.Leading.{with_names}
 use Rattle.process_text.proofs.Pieces.{writes_step}

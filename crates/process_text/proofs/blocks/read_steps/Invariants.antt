@@ -4,7 +4,7 @@ use Rattle.process_text.specs.FirstFault.{told_from, begun_in, in_block}
 use Rattle.process_text.specs.Leading.{with_names}
 use Rattle.process_text.specs.Limits.{StepsFit}
 use Rattle.process_text.proofs.Fitting.{MaySay}
-use Rattle.process_text.specs.declared.marks.At.TheVariants.{Begin}
+use Rattle.text_words.specs.declared.marks.At.TheVariants.{Begin}
 use Rattle.process_text.proofs.blocks.read_steps.Given as goal
 
 abbrev pub invariant-loop-word : goal.invariant-loop-word

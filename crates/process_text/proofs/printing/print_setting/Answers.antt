@@ -1,5 +1,5 @@
 use Rattle.std.proofs.Common.{rules, ◌≢◌}
-use Rattle.process_text.specs.Marks.{default_of}
+use Rattle.text_words.specs.Marks.{default_of}
 use Rattle.process_text.proofs.Printed.{setting_printed}
 use Rattle.process_text.proofs.printing.print_setting.Goals as goal
 

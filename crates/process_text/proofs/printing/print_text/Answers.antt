@@ -1,5 +1,5 @@
 use Rattle.std.proofs.Common.{◌∷◌, []}
-use Rattle.process_text.specs.declared.marks.Mark.TheVariants.{End}
+use Rattle.text_words.specs.declared.marks.Mark.TheVariants.{End}
 use Rattle.process_text.specs.Grammar.{mark, block_pieces}
 use Rattle.process_text.proofs.Printed.{named_both}
 use Rattle.process_text.proofs.printing.print_text.Goals as goal

@@ -1,5 +1,5 @@
 use Rattle.std.proofs.Common.{rules, ◌≡◌, ◌∷◌, ◌∙◌, [], codes, ap, refl, Err, inl, inr}
-use Rattle.process_text.specs.declared.marks.Mark.TheVariants.{End}
+use Rattle.text_words.specs.declared.marks.Mark.TheVariants.{End}
 use Rattle.process_text.specs.Grammar.{mark, block_pieces}
 use Rattle.process_text.proofs.Pieces.{writes_both}
 use Rattle.process_text.proofs.Turns.{at_new_process}

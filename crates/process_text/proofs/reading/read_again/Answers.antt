@@ -1,6 +1,6 @@
 use Rattle.std.proofs.Common.{◌∷◌, []}
 use Rattle.process_text.specs.Grammar.{process_of}
-use Rattle.process_text.specs.Words.{words_of}
+use Rattle.text_words.specs.Words.{words_of}
 use Rattle.process_text.proofs.Reprinted.{only_memory, read_same}
 use Rattle.process_text.proofs.Injective.{again_if}
 use Rattle.process_text.proofs.reading.read_again.Goals as goal

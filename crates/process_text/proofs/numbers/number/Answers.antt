@@ -1,6 +1,0 @@
-use Rattle.std.proofs.Common.{arith}
-use Rattle.process_text.proofs.NumberWords.{answers_test}
-use Rattle.process_text.proofs.numbers.number.Goals as goal
-
-pub returns-clause-test : goal.returns-clause-test
-returns-clause-test c = answers_test c.parsed.result c.args.most c.args.word.now (omega arith) c.parsed.ensures.some c.parsed.ensures.none

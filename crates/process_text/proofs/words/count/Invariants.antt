@@ -1,9 +1,0 @@
-use Rattle.std.proofs.Common.{◌≡◌, ◌+◌, length}
-use Rattle.process_text.specs.Words.{words_of}
-use Rattle.process_text.proofs.words.count.Given as goal
-
-abbrev pub invariant-loop-words : goal.invariant-loop-words
-invariant-loop-words l = l.number + length l.words ≡ length (words_of l.text)
-
-abbrev pub decreases-loop-words : goal.decreases-loop-words
-decreases-loop-words l = length l.words
