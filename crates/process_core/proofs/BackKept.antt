@@ -12,15 +12,15 @@ use Rattle.machine_model.specs.Runs.{may_be_kept}
 use Rattle.instance_state.specs.Instances.{InstanceState}
 use Rattle.hold_tables.specs.Changes.{changed}
 use Rattle.hold_tables.specs.Tables.{Tables, is_open}
-use Rattle.process_core.specs.Beginnings.{IsBackward, begun_row, begun_seat}
-use Rattle.process_core.specs.Cores.{CoreState, courses_in, moment_of, relation}
-use Rattle.process_core.specs.Room.{IsKept}
-use Rattle.process_core.specs.Seats.{SeatState, seat_of}
-use Rattle.process_core.proofs.DraggedAlong.{IsMiddle, between, seat_between, seats_between, tables_between}
+use Rattle.core_state.specs.Beginnings.{IsBackward, begun_row, begun_seat}
+use Rattle.core_state.specs.Cores.{CoreState, courses_in, moment_of, relation}
+use Rattle.core_state.specs.Room.{IsKept}
+use Rattle.core_state.specs.Seats.{SeatState, seat_of}
+use Rattle.core_state.proofs.DraggedAlong.{IsMiddle, between, seat_between, seats_between, tables_between}
 use Rattle.process_core.proofs.DragKept.{CanDrag, can_drag}
-use Rattle.process_core.proofs.GoesBack.{GoesBack, backward_back, is_middle, middle, root_row, root_seat}
-use Rattle.process_core.proofs.SeatFacts.{has_plan, seat_is, seats_many}
-use Rattle.process_core.proofs.StandingFacts.{rows_open}
+use Rattle.core_state.proofs.GoesBack.{GoesBack, backward_back, is_middle, middle, root_row, root_seat}
+use Rattle.core_state.proofs.SeatFacts.{has_plan, seat_is, seats_many}
+use Rattle.core_state.proofs.StandingFacts.{rows_open}
 
 module _ {c : CoreState} {h : List Event} {ss : List SeatState} {ts : Tables} {opening most capacity : ℕ} (kept : IsKept c h ss ts opening most capacity) (i : ℕ) (active' : is_active (moment_of c).events i ≡ true) where
   bounds : (1 ≤ i) × (i ≤ length c.plans)

@@ -29,18 +29,18 @@ use Rattle.machine_model.proofs.Snoc.{now-kept}
 use Rattle.hold_tables.specs.Changes.{all_fixed, changed, took_effect, with_pending, with_reserved}
 use Rattle.hold_tables.specs.Tables.{OpenProcess, Tables, is_open, kept_of}
 use Rattle.process_core.specs.Answers.{after_call}
-use Rattle.process_core.specs.Cores.{CoreState, IsCore, courses_in, history_of, machine_of, moment_of, relation}
-use Rattle.process_core.specs.Effects.{HoldsWork, tables_effected}
-use Rattle.process_core.specs.OpenTables.{pairs_behind, row_of}
-use Rattle.process_core.specs.Seats.{SeatState, Stands}
-use Rattle.process_core.proofs.EffectRows.{its_row, listed, runs_it}
-use Rattle.process_core.proofs.EffectSteps.{goes}
-use Rattle.process_core.proofs.HandStands.{with_event}
-use Rattle.process_core.proofs.MayStand.{among_at}
-use Rattle.process_core.proofs.NetEntries.{step_is_one}
-use Rattle.process_core.proofs.PendedRows.{listed_open}
-use Rattle.process_core.proofs.StartedProcesses.{course_at}
-use Rattle.process_core.proofs.SeatFacts.{handed_has_plan}
+use Rattle.core_state.specs.Cores.{CoreState, IsCore, courses_in, history_of, machine_of, moment_of, relation}
+use Rattle.core_state.specs.Effects.{HoldsWork, tables_effected}
+use Rattle.core_state.specs.OpenTables.{pairs_behind, row_of}
+use Rattle.core_state.specs.Seats.{SeatState, Stands}
+use Rattle.core_state.proofs.EffectRows.{its_row, listed, runs_it}
+use Rattle.core_state.proofs.EffectSteps.{goes}
+use Rattle.core_state.proofs.HandStands.{with_event}
+use Rattle.core_state.proofs.MayStand.{among_at}
+use Rattle.core_state.proofs.NetEntries.{step_is_one}
+use Rattle.core_state.proofs.PendedRows.{listed_open}
+use Rattle.core_state.proofs.StartedProcesses.{course_at}
+use Rattle.core_state.proofs.SeatFacts.{handed_has_plan}
 
 -- an effect leaves the table of conflicts
 pub same_conflicts : (p : Plan) (i b : ℕ) (w : Work) (n : ℕ) (t : Tables) → (tables_effected p i b w n t).conflicts ≡ t.conflicts

@@ -15,19 +15,19 @@ use Rattle.machine_model.specs.Advance.{cascade_of}
 use Rattle.machine_model.proofs.RunsWithin.{runs_are_legal}
 use Rattle.hold_tables.specs.Tables.{OpenProcess, Tables, holdings_of, is_open, kept_of}
 use Rattle.cascade.specs.Walking.{last_entries}
-use Rattle.process_core.specs.declared.beginnings.Beginners.TheVariants.{DraggedBy}
-use Rattle.process_core.specs.Beginnings.{AreOpen, cause_of, seats_begun, tables_begun}
+use Rattle.core_state.specs.declared.beginnings.Beginners.TheVariants.{DraggedBy}
+use Rattle.core_state.specs.Beginnings.{AreOpen, cause_of, seats_begun, tables_begun}
 use Rattle.process_core.specs.Handing.{with_kept}
-use Rattle.process_core.specs.Cores.{CoreState, IsCore, courses_in, history_of, machine_of, moment_of, relation}
-use Rattle.process_core.specs.OpenTables.{tables_of}
-use Rattle.process_core.specs.Room.{IsKept}
-use Rattle.process_core.specs.Seats.{SeatState}
-use Rattle.process_core.proofs.DraggedAlong.{IsMiddle, between, between_is, between_open, cascade_is, dragged_stands, rows_numbered, seat_between, takes_back}
-use Rattle.process_core.proofs.KeptEvents.{put_together_is, put_together_stands}
-use Rattle.process_core.proofs.KeptRoom.{kept_after, room_to_push}
-use Rattle.process_core.proofs.SeatFacts.{length-numbers}
-use Rattle.process_core.proofs.StandingFacts.{rows_open}
-use Rattle.process_core.proofs.StartedProcesses.{few_start}
+use Rattle.core_state.specs.Cores.{CoreState, IsCore, courses_in, history_of, machine_of, moment_of, relation}
+use Rattle.core_state.specs.OpenTables.{tables_of}
+use Rattle.core_state.specs.Room.{IsKept}
+use Rattle.core_state.specs.Seats.{SeatState}
+use Rattle.core_state.proofs.DraggedAlong.{IsMiddle, between, between_is, between_open, cascade_is, dragged_stands, rows_numbered, seat_between, takes_back}
+use Rattle.core_state.proofs.KeptEvents.{put_together_is, put_together_stands}
+use Rattle.core_state.proofs.KeptRoom.{kept_after, room_to_push}
+use Rattle.core_state.proofs.SeatFacts.{length-numbers}
+use Rattle.core_state.proofs.StandingFacts.{rows_open}
+use Rattle.core_state.proofs.StartedProcesses.{few_start}
 
 -- no core has more plans than processes may start
 pub plans_few : (c : CoreState) → IsCore c → length c.plans ≤ 4096

@@ -14,17 +14,17 @@ use Rattle.machine_model.specs.Pieces.{piece_of, runs, state_of}
 use Rattle.machine_model.specs.Replies.{effected}
 use Rattle.hold_tables.specs.Tables.{Tables, is_open, kept_of}
 use Rattle.process_core.specs.Answers.{after_call, answer_in}
-use Rattle.process_core.specs.Cores.{CoreState, IsCore, courses_in, history_of, moment_of}
-use Rattle.process_core.specs.Effects.{HoldsWork, event_told, pending_in, seat_effected, tables_effected}
-use Rattle.process_core.specs.Room.{IsKept}
-use Rattle.process_core.specs.Seats.{SeatState, seat_of}
+use Rattle.core_state.specs.Cores.{CoreState, IsCore, courses_in, history_of, moment_of}
+use Rattle.core_state.specs.Effects.{HoldsWork, event_told, pending_in, seat_effected, tables_effected}
+use Rattle.core_state.specs.Room.{IsKept}
+use Rattle.core_state.specs.Seats.{SeatState, seat_of}
 use Rattle.process_core.proofs.CoreEffects.{effected_after, has_its_plan, holds_work, plan_is, reply_is, same_conflicts, takes_effect}
-use Rattle.process_core.proofs.EffectStands.{effect_stands, event_is}
-use Rattle.process_core.proofs.FewEvents.{few_events}
-use Rattle.process_core.proofs.HandStands.{with_event}
-use Rattle.process_core.proofs.KeptRoom.{kept_after, kept_same, opening_stays, room_to_push, view_grown}
-use Rattle.process_core.proofs.KeptSeen.{kept_seen}
-use Rattle.process_core.proofs.SeatFacts.{handed_has_plan, seat_is, seats_many}
+use Rattle.core_state.proofs.EffectStands.{effect_stands, event_is}
+use Rattle.core_state.proofs.FewEvents.{few_events}
+use Rattle.core_state.proofs.HandStands.{with_event}
+use Rattle.core_state.proofs.KeptRoom.{kept_after, kept_same, opening_stays, room_to_push, view_grown}
+use Rattle.core_state.proofs.KeptSeen.{kept_seen}
+use Rattle.core_state.proofs.SeatFacts.{handed_has_plan, seat_is, seats_many}
 
 module _ {c v : CoreState} {h : List Event} {ss : List SeatState} {ts : Tables} {opening most capacity : ℕ} (view : c ≡ v) (kept : IsKept c h ss ts opening most capacity)
     (d : Piece) (handed : piece_of v.kept d.number ≡ Some d) (gone : state_of (moment_of v) d.number ≡ Out) where

@@ -17,7 +17,7 @@ use Rattle.process_core.specs.declared.replies.Admit.TheVariants.{Piece as IsPie
 use Rattle.process_core.specs.Handing.{admit_reply_of}
 use Rattle.process_core.specs.Rotation.{exhausted_in, first_told}
 use Rattle.process_core.proofs.Rotations.{same_told}
-use Rattle.process_core.proofs.SeatReplies.{reply_parts, started_if}
+use Rattle.core_state.proofs.SeatReplies.{reply_parts, started_if}
 use Rattle.process_core.proofs.Stalls.{active_numbered, nobody}
 
 -- a reply that isn't 'exhausted'

@@ -12,17 +12,18 @@ use Rattle.machine_model.specs.Runs.{may_be_kept}
 use Rattle.hold_tables.specs.Changes.{changed}
 use Rattle.hold_tables.specs.Tables.{Tables, is_open, kept_of}
 use Rattle.admission.specs.Admission.{IsPlanFor}
-use Rattle.process_core.specs.Cores.{CoreState, IsCore, courses_in, moment_of, relation}
-use Rattle.process_core.specs.Handing.{MayComeUnderWay, under_way, with_kept}
-use Rattle.process_core.specs.Room.{IsKept}
-use Rattle.process_core.specs.Seats.{SeatState, seat_of}
-use Rattle.process_core.proofs.HandStands.{apart_now, hand_stands, handed_row, with_event}
-use Rattle.process_core.proofs.HandTables.{active_now, idle_row, may_come, open_now, plan_row, steps_row, tables_under_way}
-use Rattle.process_core.proofs.KeptRoom.{kept_after, kept_same, room_to_push, view_grown}
-use Rattle.process_core.proofs.KeptSeen.{kept_seen}
-use Rattle.process_core.proofs.OwnPlans.{OwnPlan, own_plan}
-use Rattle.process_core.proofs.SeatFacts.{has_plan, seat_is, seats_many}
-use Rattle.process_core.proofs.SeatReplies.{started_if}
+use Rattle.core_state.specs.Cores.{CoreState, IsCore, courses_in, moment_of, relation}
+use Rattle.core_state.specs.UnderWay.{MayComeUnderWay, under_way}
+use Rattle.process_core.specs.Handing.{with_kept}
+use Rattle.core_state.specs.Room.{IsKept}
+use Rattle.core_state.specs.Seats.{SeatState, seat_of}
+use Rattle.core_state.proofs.HandStands.{apart_now, hand_stands, handed_row, with_event}
+use Rattle.core_state.proofs.HandTables.{active_now, idle_row, may_come, open_now, plan_row, steps_row, tables_under_way}
+use Rattle.core_state.proofs.KeptRoom.{kept_after, kept_same, room_to_push, view_grown}
+use Rattle.core_state.proofs.KeptSeen.{kept_seen}
+use Rattle.core_state.proofs.OwnPlans.{OwnPlan, own_plan}
+use Rattle.core_state.proofs.SeatFacts.{has_plan, seat_is, seats_many}
+use Rattle.core_state.proofs.SeatReplies.{started_if}
 
 module _ {c v : CoreState} {h : List Event} {ss : List SeatState} {ts : Tables} {opening most capacity : ℕ} (view : c ≡ v) (kept : IsKept c h ss ts opening most capacity)
     {x y : Handed} (same : x ≡ y) (told : may_be_kept (relation v) (courses_in v) (moment_of v) (kept_hand y) ≡ true) where

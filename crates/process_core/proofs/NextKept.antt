@@ -17,9 +17,9 @@ use Rattle.machine_model.proofs.Snoc.{advance_all-append}
 use Rattle.hold_tables.specs.Reading.{least_from, lesser_number, next_open}
 use Rattle.hold_tables.specs.Tables.{OpenProcess, Tables}
 use Rattle.process_core.specs.Answers.{after_call, answer_in}
-use Rattle.process_core.specs.Cores.{CoreState, courses_in, moment_of, relation}
+use Rattle.core_state.specs.Cores.{CoreState, courses_in, moment_of, relation}
 use Rattle.process_core.specs.Handing.{with_kept, with_served}
-use Rattle.process_core.specs.OpenTables.{row_of, tables_of}
+use Rattle.core_state.specs.OpenTables.{row_of, tables_of}
 use Rattle.process_core.proofs.VictimsKept.{with_victims}
 
 -- none is open exactly where none is active

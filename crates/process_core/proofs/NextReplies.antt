@@ -20,13 +20,13 @@ use Rattle.machine_model.proofs.OpenHoldings.{holders-active}
 use Rattle.machine_model.proofs.OpenRuns.{open_holdings_are_enough}
 use Rattle.hold_tables.specs.Tables.{Tables, holdings_of}
 use Rattle.admission.specs.Admission.{IsWithin, admission, admitted, against_todo, against_undo_of, is_of_step}
-use Rattle.process_core.specs.Cores.{CoreState, IsCore, courses_in, machine_of, moment_of, relation}
+use Rattle.core_state.specs.Cores.{CoreState, IsCore, courses_in, machine_of, moment_of, relation}
 use Rattle.process_core.specs.Handing.{IsOfPlan, piece_for, piece_told}
-use Rattle.process_core.specs.OpenTables.{tables_of}
-use Rattle.process_core.proofs.Admissions.{against_forward}
-use Rattle.process_core.proofs.NextTasks.{end_step, next_branch, next_within, undone_is, undone_within}
-use Rattle.process_core.proofs.OwnPlans.{OwnPlan, own_steps}
-use Rattle.process_core.proofs.TablesHoldings.{tables_stand_for}
+use Rattle.core_state.specs.OpenTables.{tables_of}
+use Rattle.core_state.proofs.Admissions.{against_forward}
+use Rattle.core_state.proofs.NextTasks.{end_step, next_branch, next_within, undone_is, undone_within}
+use Rattle.core_state.proofs.OwnPlans.{OwnPlan, own_steps}
+use Rattle.core_state.proofs.TablesHoldings.{tables_stand_for}
 
 pub admitted_blocked : (o : Option Blocked) (b : Blocked) → admitted o ≡ BlockedBy b → o ≡ Some b
 admitted_blocked None b is = absurd (cc)

@@ -11,9 +11,9 @@ use Rattle.machine_model.specs.Runs.{may_be_kept}
 use Rattle.machine_model.proofs.RunInduction.{run-keeps}
 use Rattle.machine_model.proofs.RunningNext.{hand_parts}
 use Rattle.machine_model.proofs.Snoc.{advances, hands-append, now-kept}
-use Rattle.process_core.specs.Cores.{CoreState, IsCore, courses_in, machine_of, relation}
+use Rattle.core_state.specs.Cores.{CoreState, IsCore, courses_in, machine_of, relation}
 use Rattle.process_core.specs.Handing.{AreNumbered}
-use Rattle.process_core.proofs.StartedProcesses.{numbers_more}
+use Rattle.core_state.proofs.StartedProcesses.{numbers_more}
 
 -- the last of pieces that are numbered from a on
 pub last_numbered : (a : ℕ) (ps : List Piece) (p : Piece) → map (λ (q : Piece). q.number) (ps ++ p ∷ []) ≡ numbers_from a (length (ps ++ p ∷ [])) → p.number ≡ a + length ps

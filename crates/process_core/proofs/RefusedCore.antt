@@ -21,15 +21,15 @@ use Rattle.instance_state.specs.Instances.{InstanceState, is_piece}
 use Rattle.hold_tables.specs.Changes.{changed}
 use Rattle.hold_tables.specs.Tables.{Tables, is_open}
 use Rattle.process_core.specs.Answers.{after_call}
-use Rattle.process_core.specs.Beginnings.{drags_along, refusal_of, refused_row, refused_seat}
+use Rattle.core_state.specs.Beginnings.{drags_along, refusal_of, refused_row, refused_seat}
 use Rattle.process_core.specs.Handing.{with_kept}
-use Rattle.process_core.specs.Cores.{CoreState, courses_in, moment_of, relation}
-use Rattle.process_core.specs.Room.{IsKept}
-use Rattle.process_core.specs.Seats.{SeatState}
+use Rattle.core_state.specs.Cores.{CoreState, courses_in, moment_of, relation}
+use Rattle.core_state.specs.Room.{IsKept}
+use Rattle.core_state.specs.Seats.{SeatState}
 use Rattle.process_core.proofs.BackKept.{row_there, seat_active, seat_there, seat_told}
 use Rattle.process_core.proofs.DragKept.{CanDrag}
 use Rattle.process_core.proofs.RefusedKept.{refused_alone, refused_drags, refused_room}
-use Rattle.process_core.proofs.RefusedOwn.{refused_active}
+use Rattle.core_state.proofs.RefusedOwn.{refused_active}
 use Rattle.process_core.proofs.RefusedReplies.{drags_told, refused_after, refused_may, refused_piece, refused_told}
 
 -- What is kept where no other process goes back, and the core then.

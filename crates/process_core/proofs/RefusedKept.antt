@@ -21,25 +21,25 @@ use Rattle.machine_model.proofs.OpenHoldings.{holders-active}
 use Rattle.machine_model.proofs.Snoc.{advances}
 use Rattle.hold_tables.specs.Changes.{changed}
 use Rattle.hold_tables.specs.Tables.{Tables}
-use Rattle.process_core.specs.Beginnings.{refused_row, refused_seat}
+use Rattle.core_state.specs.Beginnings.{refused_row, refused_seat}
 use Rattle.process_core.specs.Handing.{with_kept}
-use Rattle.process_core.specs.Cores.{CoreState, IsCore, courses_in, moment_of, relation}
-use Rattle.process_core.specs.OpenTables.{row_of, tables_of}
-use Rattle.process_core.specs.Room.{IsKept}
-use Rattle.process_core.specs.Seats.{SeatState, Stands, seat_of, seats_of}
+use Rattle.core_state.specs.Cores.{CoreState, IsCore, courses_in, moment_of, relation}
+use Rattle.core_state.specs.OpenTables.{row_of, tables_of}
+use Rattle.core_state.specs.Room.{IsKept}
+use Rattle.core_state.specs.Seats.{SeatState, Stands, seat_of, seats_of}
 use Rattle.process_core.proofs.BackKept.{seat_told}
-use Rattle.process_core.proofs.BegunRestart.{active_apart}
+use Rattle.core_state.proofs.BegunRestart.{active_apart}
 use Rattle.process_core.proofs.DragKept.{CanDrag, can_drag}
-use Rattle.process_core.proofs.DraggedAlong.{seats_between, tables_between}
-use Rattle.process_core.proofs.HandStands.{core_kept, moment_kept, with_event}
-use Rattle.process_core.proofs.KeptEvents.{put_together_is, put_together_stands}
-use Rattle.process_core.proofs.KeptRoom.{kept_after, room_to_push}
-use Rattle.process_core.proofs.RefusedOwn.{refused_active, refused_away, refused_middle, tried_again}
-use Rattle.process_core.proofs.RefusedSeat.{refused_row_is, refused_seat_is}
-use Rattle.process_core.proofs.SeatFacts.{has_plan}
-use Rattle.process_core.proofs.SeatFrames.{row_frame, seat_frame}
-use Rattle.process_core.proofs.SeatLists.{seat_changed}
-use Rattle.process_core.proofs.StoodRows.{rows_changed}
+use Rattle.core_state.proofs.DraggedAlong.{seats_between, tables_between}
+use Rattle.core_state.proofs.HandStands.{core_kept, moment_kept, with_event}
+use Rattle.core_state.proofs.KeptEvents.{put_together_is, put_together_stands}
+use Rattle.core_state.proofs.KeptRoom.{kept_after, room_to_push}
+use Rattle.core_state.proofs.RefusedOwn.{refused_active, refused_away, refused_middle, tried_again}
+use Rattle.core_state.proofs.RefusedSeat.{refused_row_is, refused_seat_is}
+use Rattle.core_state.proofs.SeatFacts.{has_plan}
+use Rattle.core_state.proofs.SeatFrames.{row_frame, seat_frame}
+use Rattle.core_state.proofs.SeatLists.{seat_changed}
+use Rattle.core_state.proofs.StoodRows.{rows_changed}
 
 module _ {c : CoreState} {h : List Event} {ss : List SeatState} {ts : Tables} {opening most capacity : ℕ} (kept : IsKept c h ss ts opening most capacity) (d : Piece)
     (found : piece_of c.kept d.number ≡ Some d) (may : may_be_kept (relation c) (courses_in c) (moment_of c) (Refuse d.number) ≡ true) (event : ℕ) (at : event ≡ length c.kept + 1)

@@ -27,13 +27,13 @@ use Rattle.machine_model.proofs.TidyMoments.{run-tidy}
 use Rattle.machine_model.proofs.WithinTries.{refusals_are_within_tries}
 use Rattle.instance_state.specs.Instances.{is_piece}
 use Rattle.process_core.specs.Answers.{after_call}
-use Rattle.process_core.specs.Beginnings.{drags_along}
+use Rattle.core_state.specs.Beginnings.{drags_along}
 use Rattle.process_core.specs.Handing.{with_kept}
-use Rattle.process_core.specs.Cores.{CoreState, IsCore, courses_in, machine_of, moment_of, relation}
+use Rattle.core_state.specs.Cores.{CoreState, IsCore, courses_in, machine_of, moment_of, relation}
 use Rattle.process_core.proofs.CoreEffects.{takes_effect}
-use Rattle.process_core.proofs.HandStands.{core_kept, with_event}
-use Rattle.process_core.proofs.RefusedOwn.{refused_next}
-use Rattle.process_core.proofs.RefusedSeat.{refusal_is, refused_again, untried}
+use Rattle.core_state.proofs.HandStands.{core_kept, with_event}
+use Rattle.core_state.proofs.RefusedOwn.{refused_next}
+use Rattle.core_state.proofs.RefusedSeat.{refusal_is, refused_again, untried}
 
 module _ (c : CoreState) (d : Piece) (found : piece_of c.kept d.number ≡ Some d) (out : state_of (moment_of c) d.number ≡ Out) (no_end : same_work d.work End ≡ false) where
   abbrev m : Moment

@@ -15,19 +15,19 @@ use Rattle.machine_model.specs.State.{block_of, next_of}
 use Rattle.machine_model.proofs.Snoc.{now-kept}
 use Rattle.hold_tables.specs.Tables.{Tables, is_open}
 use Rattle.admission.specs.Admission.{IsPlanFor, IsWithin, admission, admitted}
-use Rattle.process_core.specs.declared.seats.Upcoming.TheVariants.{Task}
-use Rattle.process_core.specs.Cores.{CoreState, IsCore, courses_in, machine_of, moment_of, relation}
+use Rattle.core_state.specs.declared.seats.Upcoming.TheVariants.{Task}
+use Rattle.core_state.specs.Cores.{CoreState, IsCore, courses_in, machine_of, moment_of, relation}
 use Rattle.process_core.specs.Handing.{IsOfPlan, piece_told}
-use Rattle.process_core.specs.OpenTables.{row_of, tables_of}
-use Rattle.process_core.specs.Room.{IsKept}
-use Rattle.process_core.specs.Seats.{SeatState, seat_of}
-use Rattle.process_core.specs.Upcoming.{upcoming}
-use Rattle.process_core.proofs.KeptSeen.{kept_seen}
+use Rattle.core_state.specs.OpenTables.{row_of, tables_of}
+use Rattle.core_state.specs.Room.{IsKept}
+use Rattle.core_state.specs.Seats.{SeatState, seat_of}
+use Rattle.core_state.specs.Upcoming.{upcoming}
+use Rattle.core_state.proofs.KeptSeen.{kept_seen}
 use Rattle.process_core.proofs.NextReplies.{admission_is, admitted_blocked, admitted_free, piece_is, step_of_plan, within_plan}
-use Rattle.process_core.proofs.OwnPlans.{OwnPlan, own_plan}
-use Rattle.process_core.proofs.PendedRows.{listed_open}
-use Rattle.process_core.proofs.SeatFacts.{has_plan}
-use Rattle.process_core.proofs.SeatReplies.{IsUpcoming, started_if, upcoming_is}
+use Rattle.core_state.proofs.OwnPlans.{OwnPlan, own_plan}
+use Rattle.core_state.proofs.PendedRows.{listed_open}
+use Rattle.core_state.proofs.SeatFacts.{has_plan}
+use Rattle.core_state.proofs.SeatReplies.{IsUpcoming, started_if, upcoming_is}
 
 module _ {c v : CoreState} {h : List Event} {ss : List SeatState} {ts : Tables} {opening most capacity : ℕ} (view : c ≡ v) (kept : IsKept c h ss ts opening most capacity)
     (i : ℕ) (todo : Todo) (tries : ℕ) (asked : upcoming (seat_of (courses_in v) (moment_of v) i) ≡ Task todo tries) where

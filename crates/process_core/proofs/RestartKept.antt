@@ -9,15 +9,15 @@ use Rattle.machine_model.specs.Calls.{complete_all}
 use Rattle.machine_model.specs.Runs.{may_be_kept}
 use Rattle.hold_tables.specs.Tables.{Tables}
 use Rattle.process_core.specs.Answers.{after_call}
-use Rattle.process_core.specs.Beginnings.{can_begin, seats_begun, tables_begun}
-use Rattle.process_core.specs.Cores.{CoreState, courses_in, moment_of, relation}
-use Rattle.process_core.specs.Room.{IsKept}
-use Rattle.process_core.specs.Seats.{SeatState}
-use Rattle.process_core.proofs.BegunRestart.{restart_stands}
-use Rattle.process_core.proofs.HandStands.{with_event}
-use Rattle.process_core.proofs.KeptEvents.{put_together_is, put_together_stands}
-use Rattle.process_core.proofs.KeptRoom.{kept_after, room_to_push}
-use Rattle.process_core.proofs.StandingFacts.{some_can}
+use Rattle.core_state.specs.Beginnings.{can_begin, seats_begun, tables_begun}
+use Rattle.core_state.specs.Cores.{CoreState, courses_in, moment_of, relation}
+use Rattle.core_state.specs.Room.{IsKept}
+use Rattle.core_state.specs.Seats.{SeatState}
+use Rattle.core_state.proofs.BegunRestart.{restart_stands}
+use Rattle.core_state.proofs.HandStands.{with_event}
+use Rattle.core_state.proofs.KeptEvents.{put_together_is, put_together_stands}
+use Rattle.core_state.proofs.KeptRoom.{kept_after, room_to_push}
+use Rattle.core_state.proofs.StandingFacts.{some_can}
 
 -- the core after the call, by whether a restart is kept
 restarted : CoreState → Bool → CoreState

@@ -7,12 +7,12 @@ use Rattle.schedule_model.specs.declared.event.Event.{Event}
 use Rattle.machine_model.specs.Replies.{Handed, admit_reply, blocked_in_rotation, hand_to, rotation}
 use Rattle.machine_model.specs.State.{is_free}
 use Rattle.hold_tables.specs.Tables.{Tables}
-use Rattle.process_core.specs.Cores.{CoreState, courses_in, moment_of, relation}
-use Rattle.process_core.specs.Room.{IsKept}
+use Rattle.core_state.specs.Cores.{CoreState, courses_in, moment_of, relation}
+use Rattle.core_state.specs.Room.{IsKept}
 use Rattle.process_core.specs.Rotation.{first_told, piece_in, waiting_in, waiting_of}
-use Rattle.process_core.specs.Seats.{SeatState}
+use Rattle.core_state.specs.Seats.{SeatState}
 use Rattle.process_core.specs.declared.replies.Waiting.{Waiting}
-use Rattle.process_core.proofs.KeptSeen.{kept_seen, many_seen}
+use Rattle.core_state.proofs.KeptSeen.{kept_seen, many_seen}
 use Rattle.process_core.proofs.Rotations.{free_in_rotation, numbered_now, two_runs}
 use Rattle.process_core.proofs.Waits.{waiting_in_rotation}
 

@@ -16,12 +16,12 @@ use Rattle.machine_model.proofs.OwnOrder.{run-own_order}
 use Rattle.machine_model.proofs.RunsWithin.{runs_are_legal}
 use Rattle.process_core.specs.declared.replies.Admit.{Admit as Given}
 use Rattle.process_core.specs.declared.replies.Admit.TheVariants.{Piece as IsPiece, Blocked as IsBlocked, Running, Unknown, Ended, Exhausted}
-use Rattle.process_core.specs.Cores.{CoreState, IsCore, courses_in, history_of, machine_of, moment_of, relation}
+use Rattle.core_state.specs.Cores.{CoreState, IsCore, courses_in, history_of, machine_of, moment_of, relation}
 use Rattle.process_core.specs.Handing.{admit_reply_of}
 use Rattle.process_core.specs.Rotation.{first_told, piece_in}
-use Rattle.process_core.proofs.OpenedRows.{starts_numbered}
-use Rattle.process_core.proofs.StartedProcesses.{few_start, numbers_more}
-use Rattle.process_core.proofs.SeatReplies.{reply_parts}
+use Rattle.core_state.proofs.OpenedRows.{starts_numbered}
+use Rattle.core_state.proofs.StartedProcesses.{few_start, numbers_more}
+use Rattle.core_state.proofs.SeatReplies.{reply_parts}
 
 told_or : {X : Type 0} (o p q : Option X) → option_or (option_or o p) q ≡ option_or o (option_or p q)
 told_or None p q = refl

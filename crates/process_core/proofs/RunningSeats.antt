@@ -10,10 +10,10 @@ use Rattle.schedule_model.specs.Course.{course_of}
 use Rattle.schedule_model.specs.Histories.{is_active, is_in}
 use Rattle.machine_model.specs.Moment.{Piece}
 use Rattle.machine_model.proofs.OwnOrder.{InOwnOrder, run-own_order}
-use Rattle.process_core.specs.Cores.{CoreState, IsCore, courses_in, machine_of, moment_of, relation}
-use Rattle.process_core.specs.Seats.{SeatState, seat_of, seats_of}
+use Rattle.core_state.specs.Cores.{CoreState, IsCore, courses_in, machine_of, moment_of, relation}
+use Rattle.core_state.specs.Seats.{SeatState, seat_of, seats_of}
 use Rattle.process_core.proofs.Rotations.{numbered_now}
-use Rattle.process_core.proofs.SeatReplies.{started_if}
+use Rattle.core_state.proofs.SeatReplies.{started_if}
 
 abbrev runs_at : SeatState → Bool
 runs_at s = is_some s.out

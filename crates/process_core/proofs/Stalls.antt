@@ -21,7 +21,7 @@ use Rattle.machine_model.proofs.OpenCascade.{each_listed}
 use Rattle.machine_model.proofs.OpenHoldings.{filter-kept}
 use Rattle.process_core.specs.Rotation.{can_be_victim, first_told, piece_in}
 use Rattle.process_core.proofs.Rotations.{ended_reply, free_in_rotation, free_told, numbers_split, same_told, told-append, told-filter}
-use Rattle.process_core.proofs.SeatReplies.{reply_parts, started_if}
+use Rattle.core_state.proofs.SeatReplies.{reply_parts, started_if}
 
 -- nothing is told where none passes
 none_told : {X : Type 0} (q : ℕ → Bool) (g : ℕ → X) (xs : List ℕ) → is_none (first_told (λ i. if q i then Some (g i) else None) xs) ≡ list_all (λ i. not (q i)) xs

@@ -29,18 +29,18 @@ use Rattle.instance_state.specs.Instances.{opened as instance_opened}
 use Rattle.hold_tables.specs.Changes.{opened}
 use Rattle.hold_tables.specs.Tables.{Tables, is_open}
 use Rattle.process_core.specs.Answers.{after_start}
-use Rattle.process_core.specs.Cores.{CoreState, IsCore, courses_in, history_of, machine_of, moment_of, relation}
-use Rattle.process_core.specs.OpenTables.{row_of, tables_of}
-use Rattle.process_core.specs.Room.{IsKept, kept_for, most_kept, open_since, room_of}
-use Rattle.process_core.specs.Seats.{SeatState, Stands}
+use Rattle.core_state.specs.Cores.{CoreState, IsCore, courses_in, history_of, machine_of, moment_of, relation}
+use Rattle.core_state.specs.OpenTables.{row_of, tables_of}
+use Rattle.core_state.specs.Room.{IsKept, kept_for, most_kept, open_since, room_of}
+use Rattle.core_state.specs.Seats.{SeatState, Stands}
 use Rattle.machine_model.proofs.OpenCascade.{each_listed}
 use Rattle.machine_model.proofs.TidyMoments.{Each-filter}
-use Rattle.process_core.proofs.FewEvents.{few_events}
-use Rattle.process_core.proofs.KeptBound.{bound_on_kept}
-use Rattle.process_core.proofs.OpenedRows.{unlisted}
-use Rattle.process_core.proofs.StartMoments.{its_course, not_started, same_started}
-use Rattle.process_core.proofs.StartStands.{start_stands, with_start}
-use Rattle.process_core.proofs.StartedProcesses.{few_start}
+use Rattle.core_state.proofs.FewEvents.{few_events}
+use Rattle.core_state.proofs.KeptBound.{bound_on_kept}
+use Rattle.core_state.proofs.OpenedRows.{unlisted}
+use Rattle.core_state.proofs.StartMoments.{its_course, not_started, same_started}
+use Rattle.core_state.proofs.StartStands.{start_stands, with_start}
+use Rattle.core_state.proofs.StartedProcesses.{few_start}
 
 sum_among : (f g : ℕ → ℕ) (is : List ℕ) → Each (λ i. f i ≡ g i) is → sum_by f is ≡ sum_by g is
 sum_among f g [] each = refl

@@ -15,13 +15,13 @@ use Rattle.hold_tables.specs.Changes.{opened}
 use Rattle.hold_tables.specs.Spare.{IsRoomIn}
 use Rattle.hold_tables.specs.Tables.{Tables, is_open}
 use Rattle.process_core.specs.Answers.{after_start, answer_in}
-use Rattle.process_core.specs.Cores.{CoreState, courses_in, moment_of}
-use Rattle.process_core.specs.Room.{IsKept, kept_for}
-use Rattle.process_core.specs.Seats.{SeatState}
+use Rattle.core_state.specs.Cores.{CoreState, courses_in, moment_of}
+use Rattle.core_state.specs.Room.{IsKept, kept_for}
+use Rattle.core_state.specs.Seats.{SeatState}
 use Rattle.process_core.specs.StartRoom.{IsRoomFor, StartRoomState}
-use Rattle.process_core.proofs.SeatFacts.{seats_many}
+use Rattle.core_state.proofs.SeatFacts.{seats_many}
 use Rattle.process_core.proofs.StartKept.{not_open_yet, start_fits, start_kept, started_after, started_reply}
-use Rattle.process_core.proofs.StartStands.{with_start}
+use Rattle.core_state.proofs.StartStands.{with_start}
 
 -- there is room for what a core keeps, where it has the room that it may need
 pub room_is : (c : CoreState) (h : List Event) (ss : List SeatState) (ts : Tables) (opening most capacity : ℕ) → IsKept c h ss ts opening most capacity → (r : StartRoomState)

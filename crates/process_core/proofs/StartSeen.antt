@@ -13,15 +13,15 @@ use Rattle.hold_tables.specs.Changes.{opened}
 use Rattle.hold_tables.specs.Spare.{IsRoomIn}
 use Rattle.hold_tables.specs.Tables.{Tables, is_open}
 use Rattle.process_core.specs.Answers.{after_start, answer_in}
-use Rattle.process_core.specs.Cores.{CoreState}
-use Rattle.process_core.specs.Room.{IsKept}
-use Rattle.process_core.specs.Seats.{SeatState}
+use Rattle.core_state.specs.Cores.{CoreState}
+use Rattle.core_state.specs.Room.{IsKept}
+use Rattle.core_state.specs.Seats.{SeatState}
 use Rattle.process_core.specs.StartRoom.{IsRoomFor, StartRoomState}
-use Rattle.process_core.proofs.KeptRoom.{kept_same, opening_stays}
-use Rattle.process_core.proofs.KeptSeen.{kept_seen}
+use Rattle.core_state.proofs.KeptRoom.{kept_same, opening_stays}
+use Rattle.core_state.proofs.KeptSeen.{kept_seen}
 use Rattle.process_core.proofs.StartKept.{view_started}
 use Rattle.process_core.proofs.StartRooms.{all_fit, closed_yet, core_in_room, kept_in_room, next_number, reply_in_room, seat_fits, tables_fit}
-use Rattle.process_core.proofs.StartStands.{with_start}
+use Rattle.core_state.proofs.StartStands.{with_start}
 
 module _ {c v : CoreState} {h : List Event} {ss : List SeatState} {ts : Tables} {opening most capacity : ℕ} (view : c ≡ v) (kept : IsKept c h ss ts opening most capacity)
     {r s : StartRoomState} (same : r ≡ s) (told : IsRoomFor v s) where

@@ -13,7 +13,7 @@ use Rattle.machine_model.specs.Runs.{is_victim, may_be_kept}
 use Rattle.machine_model.specs.State.{is_free, victim_of}
 use Rattle.machine_model.proofs.Snoc.{now-push}
 use Rattle.machine_model.proofs.Victims.{not_begun, victim-active, victim-fewer, victims-same}
-use Rattle.process_core.specs.Cores.{CoreState, courses_in, machine_of, moment_of, relation}
+use Rattle.core_state.specs.Cores.{CoreState, courses_in, machine_of, moment_of, relation}
 use Rattle.process_core.specs.Handing.{with_all, with_kept}
 use Rattle.process_core.proofs.Stalls.{free_victim}
 

@@ -22,7 +22,7 @@ use Rattle.process_core.specs.declared.replies.Admit.{Admit as Given}
 use Rattle.process_core.specs.declared.replies.Admit.TheVariants.{Piece as IsPiece, Blocked as IsBlocked, Running, Unknown, Ended, Exhausted}
 use Rattle.process_core.specs.Handing.{admit_reply_of}
 use Rattle.process_core.proofs.Rotations.{in_rotation}
-use Rattle.process_core.proofs.SeatReplies.{reply_parts, started_if}
+use Rattle.core_state.proofs.SeatReplies.{reply_parts, started_if}
 
 -- the first that is mapped is told first
 mapped_told : {X : Type 0} (f : ℕ → Option X) (xs : List ℕ) → slice_get (filter_map f xs) 0 ≡ first_told f xs

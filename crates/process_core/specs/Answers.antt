@@ -3,7 +3,7 @@ use Rattle.std.specs.Prelude.{[], ◌∷◌, ◌++◌}
 use Rattle.process_tree.specs.declared.plan.Plan.{Plan}
 use Rattle.schedule_model.specs.Course.{course_of}
 use Rattle.machine_model.specs.Calls.{Answer, Call, start, answer}
-use Rattle.process_core.specs.Cores.{CoreState, machine_of, relation}
+use Rattle.core_state.specs.Cores.{CoreState, machine_of, relation}
 
 -- the answer to a call
 abbrev pub answer_in : CoreState → Call → Answer

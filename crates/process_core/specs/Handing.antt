@@ -1,4 +1,4 @@
--- Pieces as a core hands them out: what is replied, which piece it is, and what it makes of the tables.
+-- Pieces as a core hands them out: what is replied, and which piece it is.
 use Rattle.std.specs.Prelude.{◌≡◌, ◌<◌, ◌≤◌, ℕ, ◌+◌, Bool, true, false, List, [], ◌∷◌, ◌++◌, length, map}
 use Rattle.process_tree.specs.declared.plan.Plan.{Plan}
 use Rattle.process_tree.specs.Blocks.{numbers_from, outline}
@@ -19,8 +19,8 @@ use Rattle.hold_tables.specs.Tables.{Tables, kept_of}
 use Rattle.admission.specs.Admission.{class_in_tables}
 use Rattle.process_core.specs.declared.replies.Admit.{Admit}
 use Rattle.process_core.specs.declared.replies.Admit.TheVariants.{Piece as IsPiece, Blocked as IsBlocked, Running, Unknown, Ended, Exhausted}
-use Rattle.process_core.specs.Cores.{CoreState}
-use Rattle.process_core.specs.OpenTables.{pairs_behind}
+use Rattle.core_state.specs.Cores.{CoreState}
+use Rattle.core_state.specs.OpenTables.{pairs_behind}
 
 -- a reply to a request for a piece of one process, as the machine has it
 abbrev pub admit_reply_of : Admit → AdmitReply
@@ -48,37 +48,6 @@ IsOfPlan p (DoStep b) = b < length (outline p.tree).steps
 IsOfPlan p (UndoStep b) = b < length (outline p.tree).steps
 IsOfPlan p DoEnd = Unit
 IsOfPlan p (UsedUp b) = ⊥
-
--- whether a step of this class is a new commit point
-abbrev pub is_committing : StepClass → Bool
-is_committing reserved = false
-is_committing undoable = false
-is_committing committing = true
-
--- a step of this class comes under way: a new commit point reserves what it will make its process owe
-abbrev pub step_under_way : Plan → ℕ → ℕ → Tables → StepClass → Tables
-step_under_way p i b t reserved = run (entry_of p i b) t
-step_under_way p i b t undoable = run (entry_of p i b) t
-step_under_way p i b t committing = changed (with_reserved ((kept_of t i).reserved ++ pairs_behind p b)) i (run (entry_of p i b) t)
-
--- work on step b of process i comes under way
-abbrev pub under_way : Plan → ℕ → ℕ → Tables → Work → Tables
-under_way p i b t Forward = step_under_way p i b t (class_in_tables t p i b)
-under_way p i b t Undo = run (undo_of (entry_of p i b)) t
-under_way p i b t End = t
-
--- there is room for what it will make its process owe beside what is reserved, and the table has the operations of that
-abbrev pub FitsClass : Plan → ℕ → ℕ → Tables → StepClass → Type 0
-FitsClass p i b t reserved = Unit
-FitsClass p i b t undoable = Unit
-FitsClass p i b t committing =
-    (length (kept_of t i).reserved + length (pairs_behind p b) ≤ length (outline p.tree).steps) × AreKnown t.conflicts (kept_of t i).reserved
-
--- work on step b of process i may come under way
-abbrev pub MayComeUnderWay : Plan → ℕ → ℕ → Tables → Work → Type 0
-MayComeUnderWay p i b t Forward = (b < length (outline p.tree).steps) × (can_run t (entry_of p i b) ≡ true) × FitsClass p i b t (class_in_tables t p i b)
-MayComeUnderWay p i b t Undo = (b < length (outline p.tree).steps) × (can_run t (undo_of (entry_of p i b)) ≡ true)
-MayComeUnderWay p i b t End = Unit
 
 -- a core that has kept one event more
 abbrev pub with_kept : CoreState → Kept → CoreState

@@ -7,9 +7,9 @@ use Rattle.schedule_model.specs.Course.{course_of}
 use Rattle.schedule_model.specs.Laws.{IsGoodPlan}
 use Rattle.machine_model.specs.Runs.{start_refusal}
 use Rattle.hold_tables.specs.Spare.{IsRoomIn, SpareRoom}
-use Rattle.process_core.specs.Cores.{CoreState, courses_in, moment_of}
-use Rattle.process_core.specs.OpenTables.{tables_of}
-use Rattle.process_core.specs.Room.{kept_for, room_of}
+use Rattle.core_state.specs.Cores.{CoreState, courses_in, moment_of}
+use Rattle.core_state.specs.OpenTables.{tables_of}
+use Rattle.core_state.specs.Room.{kept_for, room_of}
 
 pub record StartRoomState : Type 0 where
   -- whose process is to start

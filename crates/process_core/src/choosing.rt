@@ -3,7 +3,7 @@ ghost use Rattle.std.specs.Prelude.{◌≡◌};
 ghost use Rattle.machine_model.specs.Calls.{next, next_is};
 ghost use Rattle.machine_model.specs.Replies.{none_free_reply};
 ghost use Rattle.process_core.specs.Answers.{after_call, answer_in};
-ghost use Rattle.process_core.specs.Cores.{courses_in, moment_of, relation};
+ghost use Rattle.core_state.specs.Cores.{courses_in, moment_of, relation};
 ghost use Rattle.process_core.specs.Handing.{with_served};
 ghost use Rattle.process_core.specs.Rotation.{next_reply_of};
 

@@ -1,33 +1,17 @@
 // Processes are asked to complete.
 ghost use Rattle.std.specs.Prelude.{◌≡◌, true};
-ghost use Rattle.std.specs.List.{list_any};
 ghost use Rattle.machine_model.specs.Calls.{abort, aborted, complete_all};
 ghost use Rattle.machine_model.specs.Replies.{abort_reply};
 ghost use Rattle.machine_model.specs.declared.kept.Kept.TheVariants.{Victim};
 ghost use Rattle.machine_model.specs.Runs.{may_be_kept};
 ghost use Rattle.process_core.specs.Answers.{after_call, answer_in};
-ghost use Rattle.process_core.specs.Beginnings.{IsBackward, can_begin};
+ghost use Rattle.core_state.specs.Beginnings.{IsBackward};
 ghost use Rattle.process_core.specs.Handing.{with_kept};
-ghost use Rattle.process_core.specs.Cores.{courses_in, moment_of, relation};
+ghost use Rattle.core_state.specs.Cores.{courses_in, moment_of, relation};
 
-use crate::beginnings::{Beginners, begin, begin_each, drag_along};
 use crate::cores::Core;
-use crate::seats::Seat;
+use core_state::{Beginners, begin, begin_each, drag_along, some_can_begin};
 use machine_model::{Aborted, Began, Cause, Kept};
-
-/// Whether one of these can begin to complete.
-fn some_can_begin(seats: &[Seat]) -> bool
-    ensures { result ≡ list_any can_begin seats.now }
-{
-    let mut rest = seats;
-    'seats: while let Some((seat, after)) = rest.split_first() {
-        if seat.can_begin() {
-            return true;
-        }
-        rest = after;
-    }
-    false
-}
 
 impl Core {
     /// Every active process that has not begun to complete begins to. Where there is none, nothing is kept.

@@ -1,16 +1,11 @@
 // The core: its opening, and what is read of it.
 ghost use Rattle.std.specs.Prelude.{◌≡◌, IfOk};
-ghost use Rattle.process_core.specs.Cores.{IsCore, IsHandedBy, began_in, courses_in, history_of, moment_of, opened_on};
+ghost use Rattle.core_state.specs.Cores.{IsCore, IsHandedBy, began_in, courses_in, history_of, moment_of, opened_on};
 ghost use Rattle.machine_model.specs.Pieces.{state_of};
 ghost use Rattle.machine_model.specs.State.{undo_next};
 
-use crate::members::Cascade;
-use crate::opening::opened_seats;
 use crate::pieces::Piece;
-use crate::room::room_at_opening;
-use crate::seats::Seat;
-use crate::tables::opened_tables;
-use crate::undoing::last_pending;
+use core_state::{Cascade, Seat, last_pending, opened_seats, opened_tables, room_at_opening};
 use hold_tables::Holds;
 use machine_model::{Began, Kept, PieceState};
 use process_tree::Conflicts;
@@ -38,8 +33,8 @@ pub struct Core {
 
 impl Model for Core {
     ghost use Rattle.std.specs.Prelude.{take, vec_capacity};
-    ghost use Rattle.process_core.specs.Cores.{CoreState};
-    ghost use Rattle.process_core.specs.Room.{IsKept};
+    ghost use Rattle.core_state.specs.Cores.{CoreState};
+    ghost use Rattle.core_state.specs.Room.{IsKept};
 
     ghost Value = { CoreState };
 

@@ -6,11 +6,11 @@ ghost use Rattle.machine_model.specs.Pieces.{state_of};
 ghost use Rattle.machine_model.specs.Replies.{effected};
 ghost use Rattle.machine_model.specs.declared.replies.PieceState.TheVariants.{Out};
 ghost use Rattle.process_core.specs.Answers.{after_call, answer_in};
-ghost use Rattle.process_core.specs.Cores.{IsHandedBy, moment_of};
+ghost use Rattle.core_state.specs.Cores.{IsHandedBy, moment_of};
 
 use crate::Core;
-use crate::effects::{effect, event_told};
 use crate::pieces::Piece;
+use core_state::{effect, event_told};
 use machine_model::Kept;
 
 impl Core {

@@ -8,18 +8,17 @@ ghost use Rattle.machine_model.specs.Replies.{admit_reply, kept_hand, piece_unle
 ghost use Rattle.machine_model.specs.Runs.{may_be_kept};
 ghost use Rattle.machine_model.specs.State.{block_of};
 ghost use Rattle.process_core.specs.Answers.{after_call, answer_in};
-ghost use Rattle.process_core.specs.Cores.{courses_in, moment_of, relation};
+ghost use Rattle.core_state.specs.Cores.{courses_in, moment_of, relation};
 ghost use Rattle.process_core.specs.Handing.{AreNumbered, IsOfPlan, admit_reply_of, piece_told, with_kept};
-ghost use Rattle.process_core.specs.Seats.{seat_of};
-ghost use Rattle.process_core.specs.Upcoming.{upcoming};
-ghost use Rattle.process_core.specs.declared.seats.Upcoming.TheVariants.{Task};
+ghost use Rattle.core_state.specs.Seats.{seat_of};
+ghost use Rattle.core_state.specs.Upcoming.{upcoming};
+ghost use Rattle.core_state.specs.declared.seats.Upcoming.TheVariants.{Task};
 
 use crate::cores::Core;
 use crate::pieces::Piece;
 use crate::replies::Admit;
-use crate::seats::{Seat, Upcoming};
-use crate::under_way::come_under_way;
 use admission::{Admitted, admit};
+use core_state::{Seat, Upcoming, come_under_way};
 use machine_model::{Kept, Todo, Work};
 use process_tree::Plan;
 

@@ -6,14 +6,13 @@ ghost use Rattle.schedule_model.specs.Course.{course, course_of};
 ghost use Rattle.schedule_model.specs.Histories.{active, starts};
 ghost use Rattle.schedule_model.specs.Limits.{entries, most_active, most_entries, most_processes, need};
 ghost use Rattle.machine_model.specs.Runs.{start_refusal};
-ghost use Rattle.process_core.specs.Cores.{courses_in, history_of, moment_of};
-ghost use Rattle.process_core.specs.Starting.{has_active_seat, is_settled, settled_count};
+ghost use Rattle.core_state.specs.Cores.{courses_in, history_of, moment_of};
 
 use crate::Core;
-use crate::seats::Seat;
+use core_state::{need, settled_count};
 use machine_model::StartWhy;
 use process_tree::Plan;
-use schedule_model::{Event, MOST_ACTIVE, MOST_ENTRIES, MOST_PROCESSES};
+use schedule_model::{MOST_ACTIVE, MOST_ENTRIES, MOST_PROCESSES};
 
 /// How many processes are active, and how many acts and ends they may need.
 #[derive(Clone, Copy)]
@@ -31,55 +30,6 @@ pub struct Counts {
     pub active: u32,
     /// How many acts and ends are done and reserved.
     pub entries: u32,
-}
-
-/// How many acts and ends a process may need.
-pub fn need(plan: &Plan) -> usize
-    requires { length plan.now.ops ≡ length (outline plan.now.tree).steps }
-    ensures need { result ≡ need (course_of plan.now) }
-    ensures few { result ≤ 131071 }
-{
-    2 * usize::from(plan.tree.count()) + 1
-}
-
-/// Whether a process is active.
-fn has_active_seat(seats: &[Seat], i: u32) -> bool
-    ensures { result ≡ has_active_seat seats.now i }
-{
-    let place = (i as usize).saturating_sub(1);
-    if place < seats.len() {
-        seats[place].is_active()
-    } else {
-        false
-    }
-}
-
-/// Whether an event is an end, or an act of a process that isn't active.
-fn is_settled(seats: &[Seat], event: &Event) -> bool
-    ensures { result ≡ is_settled seats.now event.now }
-{
-    match event {
-        Event::Start(_) => false,
-        Event::Act(e) => !has_active_seat(seats, e.process),
-        Event::End(_) => true,
-    }
-}
-
-/// How many such events there are.
-fn settled_count(seats: &[Seat], events: &[Event]) -> usize
-    requires { length events.now ≤ 20480 }
-    ensures count { result ≡ settled_count seats.now events.now }
-    ensures few { result ≤ 20480 }
-{
-    let mut count = 0;
-    let mut rest = events;
-    while let [event, after @ ..] = rest {
-        if is_settled(seats, event) {
-            count += 1;
-        }
-        rest = after;
-    }
-    count
 }
 
 impl Core {

@@ -1,31 +1,17 @@
 // The first of the processes in rotation of which something is told.
-ghost use Rattle.std.specs.Prelude.{◌≡◌, ◌≤◌, ◌-◌, find, is_some, length, nat_eq, not};
-ghost use Rattle.std.specs.List.{list_any, slice_get};
+ghost use Rattle.std.specs.Prelude.{◌≡◌, ◌≤◌, ◌-◌, find, length, nat_eq, not};
+ghost use Rattle.std.specs.List.{slice_get};
 ghost use Rattle.std.specs.Option.{option_map};
 ghost use Rattle.process_tree.specs.Blocks.{numbers_from};
 ghost use Rattle.machine_model.specs.Replies.{admit_reply, blocked_in_rotation, hand_to, rotation};
 ghost use Rattle.machine_model.specs.State.{is_free};
-ghost use Rattle.process_core.specs.Cores.{courses_in, moment_of, relation};
+ghost use Rattle.core_state.specs.Cores.{courses_in, moment_of, relation};
 ghost use Rattle.process_core.specs.Rotation.{exhausted_in, first_told, piece_in, waiting_in, waiting_of};
 
 use crate::cores::Core;
 use crate::pieces::Piece;
 use crate::replies::{Admit, Waiting};
-use crate::seats::Seat;
-
-/// Whether one of these has a piece that is out.
-fn some_runs(seats: &[Seat]) -> bool
-    ensures { result ≡ list_any (λ s. is_some s.out) seats.now }
-{
-    let mut rest = seats;
-    'seats: while let Some((seat, after)) = rest.split_first() {
-        if seat.is_running() {
-            return true;
-        }
-        rest = after;
-    }
-    false
-}
+use core_state::some_runs;
 
 impl Core {
     /// Whether a piece is running.

@@ -1,7 +1,7 @@
 // The room for a process that is to start.
 ghost use Rattle.std.specs.Prelude.{◌≡◌};
 
-use crate::seats::Seat;
+use core_state::Seat;
 use hold_tables::{Spare, SpareCapacity};
 use instance_state::Instance;
 use machine_model::Kept;

@@ -10,15 +10,14 @@ ghost use Rattle.machine_model.specs.Runs.{start_refusal};
 ghost use Rattle.machine_model.specs.declared.replies.StartWhy.TheVariants.{NoMemory};
 ghost use Rattle.instance_state.specs.Instances.{opened};
 ghost use Rattle.process_core.specs.Answers.{after_start, answer_in};
-ghost use Rattle.process_core.specs.Cores.{courses_in, moment_of};
-ghost use Rattle.process_core.specs.Room.{kept_for};
+ghost use Rattle.core_state.specs.Cores.{courses_in, moment_of};
+ghost use Rattle.core_state.specs.Room.{kept_for};
 ghost use Rattle.process_core.specs.StartRoom.{IsRoomFor};
 ghost use Rattle.hold_tables.specs.Spare.{IsRoomIn};
 
 use crate::Core;
-use crate::room::kept_for;
-use crate::seats::Seat;
 use crate::start_room::{StartMemory, StartRoom};
+use core_state::{Seat, kept_for};
 use hold_tables::{Holds, SpareCapacity};
 use instance_state::Instance;
 use machine_model::{Kept, StartWhy};

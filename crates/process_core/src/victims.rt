@@ -6,7 +6,7 @@ ghost use Rattle.process_tree.specs.Shape.{greatest};
 ghost use Rattle.machine_model.specs.Moment.{has_begun};
 ghost use Rattle.machine_model.specs.Replies.{admit_reply, all_victims, hand_to, rotation};
 ghost use Rattle.machine_model.specs.State.{is_free, victim_of};
-ghost use Rattle.process_core.specs.Cores.{courses_in, moment_of, relation};
+ghost use Rattle.core_state.specs.Cores.{courses_in, moment_of, relation};
 ghost use Rattle.process_core.specs.Handing.{with_all};
 ghost use Rattle.process_core.specs.Rotation.{can_be_victim};
 

@@ -1,9 +1,9 @@
 use Rattle.std.proofs.Common.{◌∙◌, ap, arith}
-use Rattle.process_core.specs.Beginnings.{aborted_by}
-use Rattle.process_core.proofs.AbortReplies.{abort_known, abort_unknown}
-use Rattle.process_core.proofs.KeptSeen.{kept_seen, many_seen, seat_seen}
-use Rattle.process_core.proofs.Positive.{from_one}
-use Rattle.process_core.proofs.StandingFacts.{plan_started}
+use Rattle.core_state.specs.Beginnings.{aborted_by}
+use Rattle.core_state.proofs.AbortReplies.{abort_known, abort_unknown}
+use Rattle.core_state.proofs.KeptSeen.{kept_seen, many_seen, seat_seen}
+use Rattle.core_state.proofs.Positive.{from_one}
+use Rattle.core_state.proofs.StandingFacts.{plan_started}
 use Rattle.process_core.proofs.cores.Core.abort_reply.Goals as goal
 
 pub returns-then-i-eq0 : goal.returns-then-i-eq0

@@ -1,5 +1,5 @@
 use Rattle.std.proofs.Common.{◌∙◌, sym, ap}
-use Rattle.process_core.specs.Cores.{courses_in, moment_of, relation}
+use Rattle.core_state.specs.Cores.{courses_in, moment_of, relation}
 use Rattle.process_core.specs.Handing.{admit_reply_of}
 use Rattle.process_core.proofs.ReplyKept.{may_be_handed}
 use Rattle.process_core.proofs.cores.Core.admit.Goals as goal

@@ -1,8 +1,8 @@
 use Rattle.std.proofs.Common.{◌∙◌, ap, sym, arith}
-use Rattle.process_core.specs.Seats.{SeatState}
-use Rattle.process_core.proofs.BegunStarted.{none_began}
-use Rattle.process_core.proofs.KeptSeen.{kept_seen, many_seen, seat_seen}
-use Rattle.process_core.proofs.Positive.{from_one}
+use Rattle.core_state.specs.Seats.{SeatState}
+use Rattle.core_state.proofs.BegunStarted.{none_began}
+use Rattle.core_state.proofs.KeptSeen.{kept_seen, many_seen, seat_seen}
+use Rattle.core_state.proofs.Positive.{from_one}
 use Rattle.process_core.proofs.cores.Core.began.Goals as goal
 
 pub returns-then-i-eq0 : goal.returns-then-i-eq0

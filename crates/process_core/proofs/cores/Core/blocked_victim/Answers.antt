@@ -3,9 +3,9 @@ use Rattle.process_tree.specs.Blocks.{numbers_from}
 use Rattle.process_tree.specs.Shape.{greatest}
 use Rattle.machine_model.specs.Moment.{has_begun}
 use Rattle.machine_model.specs.Replies.{admit_reply}
-use Rattle.process_core.specs.Cores.{courses_in, moment_of, relation}
+use Rattle.core_state.specs.Cores.{courses_in, moment_of, relation}
 use Rattle.process_core.specs.Rotation.{can_be_victim}
-use Rattle.process_core.proofs.KeptSeen.{few_seen, kept_seen, many_seen}
+use Rattle.core_state.proofs.KeptSeen.{few_seen, kept_seen, many_seen}
 use Rattle.process_core.proofs.Rotations.{numbered_now}
 use Rattle.process_core.proofs.Stalls.{blocked_victim, idle_now, runs_now, runs_on}
 use Rattle.process_core.proofs.cores.Core.blocked_victim.Goals as goal

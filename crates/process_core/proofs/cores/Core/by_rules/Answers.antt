@@ -1,10 +1,10 @@
 use Rattle.std.proofs.Common.{◌∙◌, ◌<◌, List, length, ap, subst, sym, arith}
 use Rattle.machine_model.specs.declared.kept.Kept.{Kept}
 use Rattle.machine_model.specs.Pieces.{hands}
-use Rattle.process_core.specs.Cores.{CoreState}
+use Rattle.core_state.specs.Cores.{CoreState}
 use Rattle.process_core.specs.Handing.{AreNumbered}
-use Rattle.process_core.proofs.FewHands.{hands_few}
-use Rattle.process_core.proofs.KeptSeen.{kept_seen}
+use Rattle.core_state.proofs.FewHands.{hands_few}
+use Rattle.core_state.proofs.KeptSeen.{kept_seen}
 use Rattle.process_core.proofs.NumberedPieces.{hands_numbered}
 use Rattle.process_core.proofs.RepliesSeen.{asked_blocked, asked_free, asked_known, asked_open, asked_plan, asked_step, asked_within}
 use Rattle.process_core.proofs.cores.Core.by_rules.Goals as goal

@@ -2,10 +2,10 @@ use Rattle.std.proofs.Common.{◌≡◌, ◌∙◌, ◌+◌, true, length, ap, s
 use Rattle.std.specs.List.{list_any}
 use Rattle.machine_model.specs.Calls.{complete_all}
 use Rattle.process_core.specs.Answers.{after_call}
-use Rattle.process_core.specs.Beginnings.{can_begin}
-use Rattle.process_core.proofs.FewKept.{kept_few}
+use Rattle.core_state.specs.Beginnings.{can_begin}
+use Rattle.core_state.proofs.FewKept.{kept_few}
 use Rattle.process_core.proofs.RestartKept.{none_restarted, restart_room, restarted_is, restarted_stands}
-use Rattle.process_core.proofs.StandingFacts.{kept_open, seats_few}
+use Rattle.core_state.proofs.StandingFacts.{kept_open, seats_few}
 use Rattle.process_core.proofs.cores.Core.complete_all.Goals.{After-len}
 use Rattle.process_core.proofs.cores.Core.complete_all.Goals as goal
 

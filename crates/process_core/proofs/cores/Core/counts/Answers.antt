@@ -1,8 +1,8 @@
 use Rattle.std.proofs.Common.{◌≡◌, ◌∙◌, length, ap, arith}
-use Rattle.process_core.specs.Starting.{settled_count}
-use Rattle.process_core.proofs.CountsSeen.{entries_seen, events_seen, started_seen}
-use Rattle.process_core.proofs.KeptSeen.{kept_seen}
-use Rattle.process_core.proofs.WithinLimits.{all_within}
+use Rattle.core_state.specs.Starting.{settled_count}
+use Rattle.core_state.proofs.CountsSeen.{entries_seen, events_seen, started_seen}
+use Rattle.core_state.proofs.KeptSeen.{kept_seen}
+use Rattle.core_state.proofs.WithinLimits.{all_within}
 use Rattle.process_core.proofs.cores.Core.counts.Goals.{After-settled_count-settled}
 use Rattle.process_core.proofs.cores.Core.counts.Goals as goal
 

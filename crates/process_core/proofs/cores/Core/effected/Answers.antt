@@ -2,9 +2,9 @@ use Rattle.std.proofs.Common.{◌≡◌, ◌∙◌, ◌-◌, ◌++◌, ◌∷◌
 use Rattle.machine_model.specs.declared.kept.Kept.TheVariants.{Effect}
 use Rattle.machine_model.specs.Advance.{event_of}
 use Rattle.hold_tables.specs.Tables.{is_open, kept_of}
-use Rattle.process_core.specs.Cores.{courses_in, moment_of}
-use Rattle.process_core.specs.Effects.{HoldsWork, event_told, pending_in, seat_effected, tables_effected}
-use Rattle.process_core.specs.Seats.{seat_of}
+use Rattle.core_state.specs.Cores.{courses_in, moment_of}
+use Rattle.core_state.specs.Effects.{HoldsWork, event_told, pending_in, seat_effected, tables_effected}
+use Rattle.core_state.specs.Seats.{seat_of}
 use Rattle.process_core.proofs.EffectSeen.{effect_core, effect_event, effect_few, effect_holds, effect_kept, effect_open, effect_plan, effect_reply, effect_room, effect_seat, effect_told}
 use Rattle.process_core.proofs.cores.Core.effected.Goals.{After-effect, After-effected-pending, After-push, After-push_reserved, After-step}
 use Rattle.process_core.proofs.cores.Core.effected.Goals as goal

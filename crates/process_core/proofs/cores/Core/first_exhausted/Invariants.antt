@@ -1,7 +1,7 @@
 use Rattle.std.proofs.Common.{◌≡◌, ◌-◌, ◌≤◌, None}
 use Rattle.process_tree.specs.Blocks.{numbers_from}
 use Rattle.machine_model.specs.Replies.{admit_reply}
-use Rattle.process_core.specs.Cores.{courses_in, moment_of, relation}
+use Rattle.core_state.specs.Cores.{courses_in, moment_of, relation}
 use Rattle.process_core.specs.Rotation.{exhausted_in, first_told}
 use Rattle.process_core.proofs.cores.Core.first_exhausted.Given as goal
 

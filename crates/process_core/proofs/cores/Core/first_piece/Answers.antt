@@ -1,6 +1,6 @@
 use Rattle.std.proofs.Common.{◌∙◌, sym, ap, arith}
 use Rattle.machine_model.specs.Replies.{admit_reply}
-use Rattle.process_core.specs.Cores.{courses_in, moment_of, relation}
+use Rattle.core_state.specs.Cores.{courses_in, moment_of, relation}
 use Rattle.process_core.specs.Handing.{admit_reply_of}
 use Rattle.process_core.specs.Rotation.{piece_in}
 use Rattle.process_core.proofs.Rotations.{no_piece, told_here, told_next}

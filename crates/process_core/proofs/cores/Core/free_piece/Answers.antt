@@ -3,7 +3,7 @@ use Rattle.std.specs.Option.{option_map}
 use Rattle.machine_model.proofs.Victims.{not_begun}
 use Rattle.machine_model.specs.Replies.{hand_to, rotation}
 use Rattle.machine_model.specs.State.{is_free}
-use Rattle.process_core.specs.Cores.{courses_in, moment_of, relation}
+use Rattle.core_state.specs.Cores.{courses_in, moment_of, relation}
 use Rattle.process_core.proofs.VictimsKept.{none_mapped, victim_may, victims_fewer, victims_free, victims_go, victims_over, with_victims}
 use Rattle.process_core.proofs.cores.Core.free_piece.Goals as goal
 

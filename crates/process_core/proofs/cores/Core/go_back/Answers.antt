@@ -1,9 +1,9 @@
 use Rattle.std.proofs.Common.{◌≡◌, ◌∙◌, ◌+◌, ◌-◌, length, slice_set, take, vec_capacity, ap, arith}
 use Rattle.process_core.specs.Handing.{with_kept}
-use Rattle.process_core.specs.Cores.{CoreState}
+use Rattle.core_state.specs.Cores.{CoreState}
 use Rattle.process_core.proofs.BackKept.{root_active, root_drags, root_is_open, root_there}
 use Rattle.process_core.proofs.DragKept.{CanDrag}
-use Rattle.process_core.proofs.FewKept.{kept_few}
+use Rattle.core_state.proofs.FewKept.{kept_few}
 use Rattle.process_core.proofs.cores.Core.go_back.Goals.{After-begin, After-len}
 use Rattle.process_core.proofs.cores.Core.go_back.Goals as goal
 

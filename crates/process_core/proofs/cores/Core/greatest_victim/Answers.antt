@@ -3,9 +3,9 @@ use Rattle.process_tree.specs.Blocks.{numbers_from}
 use Rattle.process_tree.specs.Shape.{greatest}
 use Rattle.machine_model.specs.Moment.{has_begun}
 use Rattle.machine_model.specs.Replies.{admit_reply}
-use Rattle.process_core.specs.Cores.{courses_in, moment_of, relation}
+use Rattle.core_state.specs.Cores.{courses_in, moment_of, relation}
 use Rattle.process_core.specs.Rotation.{can_be_victim}
-use Rattle.process_core.proofs.Greatest.{greatest_here, passed_over}
+use Rattle.core_state.proofs.Greatest.{greatest_here, passed_over}
 use Rattle.process_core.proofs.cores.Core.greatest_victim.Goals as goal
 
 pub returns-then-can_be_victim : goal.returns-then-can_be_victim

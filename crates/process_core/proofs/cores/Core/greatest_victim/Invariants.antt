@@ -2,7 +2,7 @@ use Rattle.std.proofs.Common.{◌≡◌, filter}
 use Rattle.process_tree.specs.Blocks.{numbers_from}
 use Rattle.machine_model.specs.Moment.{has_begun}
 use Rattle.machine_model.specs.Replies.{admit_reply}
-use Rattle.process_core.specs.Cores.{courses_in, moment_of, relation}
+use Rattle.core_state.specs.Cores.{courses_in, moment_of, relation}
 use Rattle.process_core.specs.Rotation.{can_be_victim}
 use Rattle.process_core.proofs.cores.Core.greatest_victim.Given as goal
 

@@ -1,7 +1,7 @@
 use Rattle.std.proofs.Common.{◌∙◌, is_some, ap}
 use Rattle.std.specs.List.{list_any}
-use Rattle.process_core.specs.Seats.{SeatState}
-use Rattle.process_core.proofs.KeptSeen.{kept_seen}
+use Rattle.core_state.specs.Seats.{SeatState}
+use Rattle.core_state.proofs.KeptSeen.{kept_seen}
 use Rattle.process_core.proofs.RunningSeats.{runs_by_seats}
 use Rattle.process_core.proofs.cores.Core.is_running.Goals as goal
 

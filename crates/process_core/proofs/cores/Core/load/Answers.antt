@@ -2,11 +2,11 @@ use Rattle.std.proofs.Common.{◌∙◌, ◌<◌, length, ap, sym, arith}
 use Rattle.std.specs.List.{sum_by}
 use Rattle.schedule_model.specs.Course.{course}
 use Rattle.schedule_model.specs.Limits.{need}
-use Rattle.process_core.specs.Cores.{CoreState, courses_in}
+use Rattle.core_state.specs.Cores.{CoreState, courses_in}
 use Rattle.process_core.specs.declared.limits.Load.{Load}
-use Rattle.process_core.proofs.ActiveSums.{active_by_seat, count_more, none_more, plan_operations, seat_with_plan, sum_more}
-use Rattle.process_core.proofs.CountsSeen.{active_seen}
-use Rattle.process_core.proofs.KeptSeen.{few_seen, kept_seen}
+use Rattle.core_state.proofs.ActiveSums.{active_by_seat, count_more, none_more, plan_operations, seat_with_plan, sum_more}
+use Rattle.core_state.proofs.CountsSeen.{active_seen}
+use Rattle.core_state.proofs.KeptSeen.{few_seen, kept_seen}
 use Rattle.process_core.proofs.cores.Core.load.Goals as goal
 use Rattle.process_core.proofs.cores.Core.load.Goals.{After-index, then-is_active, else-is_active}
 

@@ -4,7 +4,7 @@ use Rattle.process_tree.specs.Blocks.{numbers_from}
 use Rattle.schedule_model.specs.Course.{course}
 use Rattle.schedule_model.specs.Histories.{is_active}
 use Rattle.schedule_model.specs.Limits.{need}
-use Rattle.process_core.specs.Cores.{courses_in, history_of}
+use Rattle.core_state.specs.Cores.{courses_in, history_of}
 use Rattle.process_core.proofs.cores.Core.load.Given as goal
 
 -- the active ones of the first processes

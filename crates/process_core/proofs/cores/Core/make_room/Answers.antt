@@ -1,6 +1,6 @@
 use Rattle.std.proofs.Common.{◌∙◌, vec_capacity, sym, arith}
-use Rattle.process_core.proofs.KeptSeen.{kept_seen}
-use Rattle.process_core.proofs.StandingFacts.{seats_few}
+use Rattle.core_state.proofs.KeptSeen.{kept_seen}
+use Rattle.core_state.proofs.StandingFacts.{seats_few}
 use Rattle.process_core.proofs.StartRooms.{room_is}
 use Rattle.process_core.proofs.cores.Core.make_room.Goals as goal
 

@@ -1,5 +1,5 @@
 use Rattle.std.proofs.Common.{◌∙◌, refl, sym, arith}
-use Rattle.process_core.proofs.KeptSeen.{few_seen}
+use Rattle.core_state.proofs.KeptSeen.{few_seen}
 use Rattle.process_core.proofs.RotationSeen.{waiting_seen}
 use Rattle.process_core.proofs.cores.Core.next_waiting.Goals as goal
 

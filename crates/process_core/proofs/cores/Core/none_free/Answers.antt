@@ -2,10 +2,10 @@ use Rattle.std.proofs.Common.{◌≡◌, ◌∙◌, ℕ, ◌+◌, ◌-◌, lengt
 use Rattle.std.specs.Prelude.{unwrap_or}
 use Rattle.process_tree.specs.Blocks.{numbers_from}
 use Rattle.machine_model.specs.Replies.{admit_reply, none_free_by_active, none_free_by_running, stuck, wait}
-use Rattle.process_core.specs.Cores.{courses_in, moment_of, relation}
+use Rattle.core_state.specs.Cores.{courses_in, moment_of, relation}
 use Rattle.process_core.specs.Rotation.{exhausted_in, first_told}
 use Rattle.process_core.proofs.Exhausted.{least_exhausted_told}
-use Rattle.process_core.proofs.KeptSeen.{few_seen, kept_seen, many_seen}
+use Rattle.core_state.proofs.KeptSeen.{few_seen, kept_seen, many_seen}
 use Rattle.process_core.proofs.NextKept.{none_active}
 use Rattle.process_core.proofs.Rotations.{numbered_now}
 use Rattle.process_core.proofs.Stalls.{idle_now, runs_now}

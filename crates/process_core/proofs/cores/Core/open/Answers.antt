@@ -3,13 +3,13 @@ use Rattle.std.proofs.Math.Seq.{take-length}
 use Rattle.hold_tables.specs.Tables.{Tables}
 use Rattle.schedule_model.specs.declared.event.Event.{Event}
 use Rattle.machine_model.specs.declared.kept.Kept.{Kept}
-use Rattle.process_core.specs.Cores.{opened_on}
-use Rattle.process_core.specs.Room.{IsKept}
+use Rattle.core_state.specs.Cores.{opened_on}
+use Rattle.core_state.specs.Room.{IsKept}
 use Rattle.process_tree.specs.Conflicts.{do_conflict}
 use Rattle.schedule_model.specs.Course.{courses_of}
 use Rattle.schedule_model.proofs.NoConflict.{own_order-legal}
-use Rattle.process_core.proofs.ProcessActs.{acts_in_own_order}
-use Rattle.process_core.proofs.StartedProcesses.{few_start}
+use Rattle.core_state.proofs.ProcessActs.{acts_in_own_order}
+use Rattle.core_state.proofs.StartedProcesses.{few_start}
 use Rattle.process_core.proofs.cores.Core.open.Goals as goal
 
 pub opened_seats-requires-clause-few : goal.opened_seats-requires-clause-few

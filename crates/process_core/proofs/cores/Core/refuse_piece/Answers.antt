@@ -1,10 +1,10 @@
 use Rattle.std.proofs.Common.{◌≡◌, ◌∙◌, ◌+◌, ◌-◌, ◌<◌, true, false, length, slice_set, take, vec_capacity, sym, arith}
 use Rattle.machine_model.specs.declared.kept.Kept.TheVariants.{Refuse}
 use Rattle.machine_model.specs.Moment.{Piece}
-use Rattle.process_core.specs.Beginnings.{drags_along}
-use Rattle.process_core.specs.Cores.{CoreState}
+use Rattle.core_state.specs.Beginnings.{drags_along}
+use Rattle.core_state.specs.Cores.{CoreState}
 use Rattle.process_core.proofs.DragKept.{CanDrag}
-use Rattle.process_core.proofs.FewKept.{kept_few}
+use Rattle.core_state.proofs.FewKept.{kept_few}
 use Rattle.process_core.proofs.RefusedCore.{StandsAlone, core_active, core_after, core_alone, core_answer, core_drags, core_open, core_piece, core_room, core_seat}
 use Rattle.process_core.proofs.cores.Core.refuse_piece.Goals.{After-len, After-refuse-refusal}
 use Rattle.process_core.proofs.cores.Core.refuse_piece.Goals as goal

@@ -1,8 +1,8 @@
 use Rattle.std.proofs.Common.{◌∙◌, sym, ap}
-use Rattle.process_core.specs.Cores.{courses_in, moment_of, relation}
-use Rattle.process_core.specs.Upcoming.{upcoming}
-use Rattle.process_core.specs.declared.seats.Upcoming.TheVariants.{Ended, Running, UsedUp, Task}
-use Rattle.process_core.proofs.SeatReplies.{reply_is}
+use Rattle.core_state.specs.Cores.{courses_in, moment_of, relation}
+use Rattle.core_state.specs.Upcoming.{upcoming}
+use Rattle.core_state.specs.declared.seats.Upcoming.TheVariants.{Ended, Running, UsedUp, Task}
+use Rattle.core_state.proofs.SeatReplies.{reply_is}
 use Rattle.process_core.proofs.cores.Core.reply_of.Goals as goal
 
 pub returns-in-Ended : goal.returns-in-Ended

@@ -1,7 +1,7 @@
 use Rattle.std.proofs.Common.{arith}
-use Rattle.process_core.proofs.KeptSeen.{kept_seen, many_seen, seat_seen}
-use Rattle.process_core.proofs.Positive.{from_one}
-use Rattle.process_core.proofs.SeatReplies.{has_started, never_started}
+use Rattle.core_state.proofs.KeptSeen.{kept_seen, many_seen, seat_seen}
+use Rattle.core_state.proofs.Positive.{from_one}
+use Rattle.core_state.proofs.SeatReplies.{has_started, never_started}
 use Rattle.process_core.proofs.cores.Core.seat.Goals as goal
 
 pub returns-then-i-eq0-clause-none : goal.returns-then-i-eq0-clause-none

@@ -1,7 +1,7 @@
 use Rattle.std.proofs.Common.{◌∙◌, ◌+◌, ◌++◌, ◌∷◌, [], length, Some, None, refl, ap, arith}
 use Rattle.machine_model.specs.declared.kept.Kept.TheVariants.{Start}
 use Rattle.hold_tables.specs.Changes.{opened}
-use Rattle.process_core.proofs.KeptSeen.{few_seen}
+use Rattle.core_state.proofs.KeptSeen.{few_seen}
 use Rattle.process_core.proofs.StartSeen.{start_closed, start_core, start_fits, start_reply, start_seat, start_stands, start_tables}
 use Rattle.process_core.proofs.cores.Core.start_in.Goals as goal
 

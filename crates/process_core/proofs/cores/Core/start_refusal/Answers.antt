@@ -2,10 +2,10 @@ use Rattle.std.proofs.Common.{◌≡◌, ◌∙◌, ◌+◌, ◌<◌, length, ap
 use Rattle.schedule_model.specs.Course.{course_of}
 use Rattle.schedule_model.specs.Histories.{active, starts}
 use Rattle.schedule_model.specs.Limits.{entries, need}
-use Rattle.process_core.specs.Cores.{courses_in, history_of, moment_of}
-use Rattle.process_core.specs.Starting.{settled_count}
-use Rattle.process_core.proofs.CountsSeen.{entries_seen, events_seen, started_seen}
-use Rattle.process_core.proofs.StartRefusals.{not_refused, refused_room, refused_started}
+use Rattle.core_state.specs.Cores.{courses_in, history_of, moment_of}
+use Rattle.core_state.specs.Starting.{settled_count}
+use Rattle.core_state.proofs.CountsSeen.{entries_seen, events_seen, started_seen}
+use Rattle.core_state.proofs.StartRefusals.{not_refused, refused_room, refused_started}
 use Rattle.process_core.proofs.cores.Core.start_refusal.Goals.{After-len, After-need}
 use Rattle.process_core.proofs.cores.Core.start_refusal.Goals as goal
 

@@ -1,8 +1,8 @@
 use Rattle.std.proofs.Common.{◌≡◌, ◌∙◌, ◌-◌, slice_index_or, ap, arith}
-use Rattle.process_core.specs.Cores.{courses_in, moment_of}
-use Rattle.process_core.specs.Seats.{SeatState, seat_of, state_by}
-use Rattle.process_core.proofs.KeptSeen.{kept_seen, many_seen}
-use Rattle.process_core.proofs.SeatFacts.{handed_has_plan, seat_is, seat_tells}
+use Rattle.core_state.specs.Cores.{courses_in, moment_of}
+use Rattle.core_state.specs.Seats.{SeatState, seat_of, state_by}
+use Rattle.core_state.proofs.KeptSeen.{kept_seen, many_seen}
+use Rattle.core_state.proofs.SeatFacts.{handed_has_plan, seat_is, seat_tells}
 use Rattle.process_core.proofs.cores.Core.state.Goals as goal
 
 pub overflow_sub-process : goal.overflow_sub-process

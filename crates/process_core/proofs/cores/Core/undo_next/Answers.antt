@@ -1,9 +1,9 @@
 use Rattle.std.proofs.Common.{◌∙◌, ap, sym}
 use Rattle.hold_tables.specs.Tables.{Tables}
-use Rattle.process_core.specs.Cores.{courses_in, moment_of}
-use Rattle.process_core.specs.OpenTables.{last_pending}
-use Rattle.process_core.proofs.KeptSeen.{kept_seen}
-use Rattle.process_core.proofs.PendingEntries.{undo_in_tables}
+use Rattle.core_state.specs.Cores.{courses_in, moment_of}
+use Rattle.core_state.specs.OpenTables.{last_pending}
+use Rattle.core_state.proofs.KeptSeen.{kept_seen}
+use Rattle.core_state.proofs.PendingEntries.{undo_in_tables}
 use Rattle.process_core.proofs.cores.Core.undo_next.Goals as goal
 
 pub returns : goal.returns

@@ -1,0 +1,17 @@
+use Rattle.std.proofs.Common.{◌≡◌, ◌++◌, length, map}
+use Rattle.process_tree.specs.Blocks.{outline}
+use Rattle.process_tree.specs.Stands.{left_from}
+use Rattle.admission.specs.Parts.{steps_from}
+use Rattle.admission.proofs.LastWays.{IsOfTree}
+use Rattle.core_state.specs.OpenTables.{pairs_behind, step_pair}
+use Rattle.core_state.proofs.owed.add_owed.Given as goal
+
+abbrev pub invariant-owed : goal.invariant-owed
+invariant-owed l = record {
+  within : IsOfTree l.plan.tree l.place;
+  pairs : l.pairs.items ++ map (step_pair l.plan) (steps_from l.plan l.place) ≡ l.fn.pairs.items ++ pairs_behind l.plan l.step;
+  ops : l.ops ≡ l.plan.ops;
+}
+
+abbrev pub decreases-owed : goal.decreases-owed
+decreases-owed l = left_from (length (outline l.plan.tree).steps) l.place

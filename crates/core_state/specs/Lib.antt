@@ -1,0 +1,9 @@
+pub mod Cores
+pub mod OpenTables
+pub mod Seats
+pub mod Room
+pub mod Beginnings
+pub mod Effects
+pub mod Upcoming
+pub mod UnderWay
+pub mod Starting

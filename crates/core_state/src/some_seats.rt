@@ -1,0 +1,34 @@
+// What is told of the seats together.
+ghost use Rattle.std.specs.Prelude.{◌≡◌, is_some};
+ghost use Rattle.std.specs.List.{list_any};
+ghost use Rattle.core_state.specs.Beginnings.{can_begin};
+
+use crate::seats::Seat;
+
+/// Whether one of these can begin to complete.
+pub fn some_can_begin(seats: &[Seat]) -> bool
+    ensures { result ≡ list_any can_begin seats.now }
+{
+    let mut rest = seats;
+    'seats: while let Some((seat, after)) = rest.split_first() {
+        if seat.can_begin() {
+            return true;
+        }
+        rest = after;
+    }
+    false
+}
+
+/// Whether one of these has a piece that is out.
+pub fn some_runs(seats: &[Seat]) -> bool
+    ensures { result ≡ list_any (λ s. is_some s.out) seats.now }
+{
+    let mut rest = seats;
+    'seats: while let Some((seat, after)) = rest.split_first() {
+        if seat.is_running() {
+            return true;
+        }
+        rest = after;
+    }
+    false
+}

@@ -1,0 +1,137 @@
+// The tables of holds at an opening.
+ghost use Rattle.std.specs.Prelude.{◌≡◌, ◌<◌, ◌≤◌, [], true, false, length, map, slice_index_or, IfOk, OnOk, None};
+ghost use Rattle.process_tree.specs.Blocks.{outline};
+ghost use Rattle.process_tree.specs.Conflicts.{operations_in};
+ghost use Rattle.process_tree.specs.Making.{tree_fault};
+ghost use Rattle.process_tree.specs.Order.{Each};
+ghost use Rattle.hold_tables.specs.Changes.{can_run, none_open};
+ghost use Rattle.machine_model.specs.Moment.{opening_moment};
+ghost use Rattle.hold_tables.specs.Kept.{IsKnown};
+ghost use Rattle.hold_tables.specs.Tables.{is_open, kept_of};
+ghost use Rattle.schedule_model.specs.Course.{courses_of};
+ghost use Rattle.schedule_model.specs.Histories.{active, net};
+ghost use Rattle.core_state.specs.Cores.{IsCore, opened_on};
+ghost use Rattle.core_state.specs.OpenTables.{pairs_behind, stood, tables_at, tables_of};
+ghost use Rattle.core_state.specs.Seats.{seats_of};
+
+use crate::seats::Seat;
+use hold_tables::Holds;
+use process_tree::{Conflicts, Entry, Plan, kind_of, op_of};
+use schedule_model::History;
+use schedule_rules::{active, net};
+use std::alloc::{AllocError, Global};
+
+/// These steps, each with its operation.
+fn pairs_of(alloc: Global, ops: &[u16], steps: &[u16]) -> Result<Vec<(u16, u16)>, AllocError>
+    ensures { IfOk result (λ pairs. pairs.items ≡ map (λ b. (b, slice_index_or ops.now b 0)) steps.now) }
+{
+    let mut pairs = Vec::new(alloc);
+    let mut rest = steps;
+    while let [step, after @ ..] = rest {
+        pairs.push((*step, op_of(ops, *step)))?;
+        rest = after;
+    }
+    Ok(pairs)
+}
+
+/// The steps that follow a step through last alternatives, each with its operation.
+fn pairs_behind(alloc: Global, plan: &Plan, step: u16) -> Result<Vec<(u16, u16)>, AllocError>
+    requires { step < length (outline plan.now.tree).steps }
+    ensures { IfOk result (λ pairs. pairs.items ≡ pairs_behind plan.now step) }
+{
+    let steps = plan.tree.completion(alloc, step)?;
+    pairs_of(alloc, plan.ops.as_slice(), steps.as_slice())
+}
+
+/// An entry of the net stands in the tables.
+fn stand(alloc: Global, holds: &mut Holds, plan: &Plan, e: Entry) -> Result<(), AllocError>
+    requires open { is_open holds.old e.process ≡ true }
+    requires none { (kept_of holds.old e.process).running ≡ None }
+    requires steps { (kept_of holds.old e.process).steps ≡ length (outline plan.now.tree).steps }
+    requires step { e.step < length (outline plan.now.tree).steps }
+    requires forward { e.undo ≡ false }
+    requires may { can_run holds.old e ≡ true }
+    requires good { tree_fault plan.now.tree ≡ None }
+    requires operations { length plan.now.ops ≡ length (outline plan.now.tree).steps }
+    requires known { Each (λ op. op < operations_in holds.old.conflicts) plan.now.ops }
+    requires own { IsKnown holds.old.conflicts e }
+    ensures { OnOk result (holds.new ≡ stood plan.now e holds.old) }
+{
+    holds.run(e);
+    holds.take_effect(e.process);
+    if kind_of(&plan.tree, e.step).commits() {
+        let pairs = pairs_behind(alloc, plan, e.step)?;
+        holds.fix(e.process);
+        holds.reserve(e.process, &pairs);
+    }
+    Ok(())
+}
+
+/// The entries that stand and are of active processes come into the tables.
+fn fill(alloc: Global, holds: &mut Holds, h: &History, entries: &[Entry]) -> Result<(), AllocError>
+    requires core { IsCore (opened_on holds.old.conflicts h.now.plans h.now.events) }
+    requires net { entries.now ≡ net h.now.events }
+    requires empty { holds.old ≡ tables_at holds.old.conflicts (courses_of h.now.plans) (active h.now.events) [] }
+    ensures { OnOk result (holds.new ≡ tables_at holds.old.conflicts (courses_of h.now.plans) (active h.now.events) entries.now) }
+{
+    for place in 0..entries.len() {
+        let e = entries[place];
+        if active(h, e.process) {
+            let plan = &h.plans.as_slice()[e.process as usize - 1];
+            stand(alloc, holds, plan, e)?;
+        }
+    }
+    Ok(())
+}
+
+/// A row is opened for each active process.
+fn open_rows(holds: &mut Holds, h: &History) -> Result<(), AllocError>
+    requires core { IsCore (opened_on holds.old.conflicts h.now.plans h.now.events) }
+    requires few { length h.now.plans ≤ 4096 }
+    requires none { holds.old ≡ none_open holds.old.conflicts }
+    ensures { OnOk result (holds.new ≡ tables_at holds.old.conflicts (courses_of h.now.plans) (active h.now.events) []) }
+{
+    let count = h.plans.as_slice().len() as u32;
+    for place in 0..count {
+        let i = place + 1;
+        if active(h, i) {
+            holds.open(i, &h.plans.as_slice()[place as usize])?;
+        }
+    }
+    Ok(())
+}
+
+/// What each active process has to undo is pending.
+fn pend_all(holds: &mut Holds, h: &History, seats: &[Seat])
+    requires core { IsCore (opened_on holds.old.conflicts h.now.plans h.now.events) }
+    requires few { length h.now.plans ≤ 4096 }
+    requires seats { seats.now ≡ seats_of (courses_of h.now.plans) (opening_moment h.now.events) }
+    requires stood { holds.old ≡ tables_at holds.old.conflicts (courses_of h.now.plans) (active h.now.events) (net h.now.events) }
+    ensures { holds.new ≡ tables_of holds.old.conflicts (courses_of h.now.plans) (opening_moment h.now.events) }
+{
+    for place in 0..seats.len() {
+        if let Some(count) = seats[place].pending() {
+            holds.pend(place as u32 + 1, count);
+        }
+    }
+}
+
+/// The tables at the opening.
+pub fn opened_tables(
+    alloc: Global,
+    h: &History,
+    c: &Conflicts,
+    seats: &[Seat],
+) -> Result<Holds, AllocError>
+    requires core { IsCore (opened_on c.now h.now.plans h.now.events) }
+    requires few { length h.now.plans ≤ 4096 }
+    requires seats { seats.now ≡ seats_of (courses_of h.now.plans) (opening_moment h.now.events) }
+    ensures { IfOk result (λ holds. holds ≡ tables_of c.now (courses_of h.now.plans) (opening_moment h.now.events)) }
+{
+    let mut holds = Holds::new(alloc, c)?;
+    open_rows(&mut holds, h)?;
+    let entries = net(alloc, h)?;
+    fill(alloc, &mut holds, h, &entries)?;
+    pend_all(&mut holds, h, seats);
+    Ok(holds)
+}
