@@ -25,10 +25,10 @@ use Rattle.machine_model.proofs.CoursesRuns.{started_by}
 use Rattle.machine_model.proofs.OpenHoldings.{holders-active}
 use Rattle.instance_state.specs.Instances.{InstanceState}
 use Rattle.hold_tables.specs.Tables.{OpenProcess, Tables}
-use Rattle.core_state.specs.Beginnings.{begun_seat, can_begin, cause_if, no_seat, row_with, seat_with, seats_begun, tables_begun}
+use Rattle.core_state.specs.Beginnings.{begun_seat, can_begin, cause_if, row_with, seat_with, seats_begun, tables_begun}
 use Rattle.core_state.specs.Cores.{CoreState, IsCore, courses_in, history_of, moment_of, relation}
 use Rattle.core_state.specs.OpenTables.{row_of, tables_of}
-use Rattle.core_state.specs.Seats.{SeatState, Stands, seat_of, seats_of}
+use Rattle.core_state.specs.Seats.{SeatState, Stands, no_seat, seat_of, seats_of}
 use Rattle.core_state.proofs.BegunLists.{all_changed}
 use Rattle.core_state.proofs.BegunOne.{row_begins, seat_begins}
 use Rattle.core_state.proofs.BegunRows.{all_begun}

@@ -10,8 +10,8 @@ use Rattle.instance_state.specs.Instances.{InstanceState}
 use Rattle.hold_tables.specs.Tables.{Tables, is_open}
 use Rattle.hold_tables.specs.Changes.{changed, with_first_reserved, with_pending, with_running}
 use Rattle.hold_tables.proofs.Tidy.{KeepsPlan}
-use Rattle.core_state.specs.Beginnings.{begun_row, begun_row_of, cause_if, first_changed, no_seat, tables_begun, tables_with}
-use Rattle.core_state.specs.Seats.{SeatState}
+use Rattle.core_state.specs.Beginnings.{begun_row, begun_row_of, cause_if, first_changed, tables_begun, tables_with}
+use Rattle.core_state.specs.Seats.{SeatState, no_seat}
 use Rattle.core_state.proofs.RowChanges.{open_changed, running_keeps}
 use Rattle.core_state.proofs.StoodRows.{changed_twice}
 

@@ -6,8 +6,8 @@ use Rattle.process_tree.specs.Conflicts.{Table}
 use Rattle.schedule_model.specs.Histories.{is_in}
 use Rattle.machine_model.specs.declared.began.Cause.{Cause}
 use Rattle.hold_tables.specs.Tables.{OpenProcess, Tables}
-use Rattle.core_state.specs.Beginnings.{begun_row, cause_if, no_seat, row_with, tables_begun, tables_with}
-use Rattle.core_state.specs.Seats.{SeatState}
+use Rattle.core_state.specs.Beginnings.{begun_row, cause_if, row_with, tables_begun, tables_with}
+use Rattle.core_state.specs.Seats.{SeatState, no_seat}
 use Rattle.core_state.proofs.StoodRows.{Apart, rows_changed, same_rows}
 
 -- a process that isn't active doesn't begin

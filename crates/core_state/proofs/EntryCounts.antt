@@ -22,8 +22,8 @@ use Rattle.machine_model.proofs.OwnOrder.{run-own_order}
 use Rattle.machine_model.proofs.OwnOrderLaws.{runs_keep_own_order}
 use Rattle.machine_model.proofs.Sums.{sum-add}
 use Rattle.core_state.specs.Cores.{CoreState, IsCore, courses_in, history_of, machine_of, moment_of, relation}
-use Rattle.core_state.specs.Seats.{SeatState, seat_of, seats_of}
-use Rattle.core_state.specs.Starting.{has_active_seat, is_settled, no_seat, settled_count}
+use Rattle.core_state.specs.Seats.{SeatState, no_seat, seat_of, seats_of}
+use Rattle.core_state.specs.Starting.{has_active_seat, is_settled, settled_count}
 use Rattle.core_state.proofs.MayStand.{rising_apart}
 use Rattle.core_state.proofs.SeatFacts.{has_plan, seat_at}
 use Rattle.core_state.proofs.StoodRows.{Apart}

@@ -19,11 +19,11 @@ use Rattle.machine_model.proofs.OwnOrder.{run-own_order}
 use Rattle.machine_model.proofs.RunsWithin.{runs_are_legal}
 use Rattle.instance_state.specs.Instances.{InstanceState}
 use Rattle.hold_tables.specs.Tables.{Tables, is_open}
-use Rattle.core_state.specs.Beginnings.{AreOpen, can_begin, no_seat}
+use Rattle.core_state.specs.Beginnings.{AreOpen, can_begin}
 use Rattle.core_state.specs.Cores.{CoreState, IsCore, courses_in, history_of, machine_of, moment_of, relation}
 use Rattle.core_state.specs.OpenTables.{row_of, tables_of}
 use Rattle.core_state.specs.Room.{IsKept}
-use Rattle.core_state.specs.Seats.{SeatState, seat_of, seats_of}
+use Rattle.core_state.specs.Seats.{SeatState, no_seat, seat_of, seats_of}
 use Rattle.core_state.proofs.BegunAll.{can_begin_is}
 use Rattle.core_state.proofs.OpenedRows.{starts_numbered}
 use Rattle.core_state.proofs.PendedRows.{listed_open}

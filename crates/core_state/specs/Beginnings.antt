@@ -19,11 +19,7 @@ use Rattle.hold_tables.specs.Tables.{OpenProcess, Tables, is_open}
 use Rattle.hold_tables.specs.Changes.{changed, with_first_reserved, with_pending, with_running}
 use Rattle.core_state.specs.declared.beginnings.Beginners.{Beginners}
 use Rattle.core_state.specs.declared.beginnings.Beginners.TheVariants.{All, DraggedBy}
-use Rattle.core_state.specs.Seats.{SeatState}
-
--- a seat of which nothing is known
-abbrev pub no_seat : SeatState
-no_seat = record { instance = None; out = None; lost = None; began = None }
+use Rattle.core_state.specs.Seats.{SeatState, no_seat}
 
 -- the seat of a process that begins to complete: its piece that was out is lost
 abbrev pub begun_seat : Began → SeatState → SeatState

@@ -28,6 +28,10 @@ pub record SeatState : Type 0 where
   -- when and why it began to complete
   pub began : Option Began
 
+-- a seat of which nothing is known
+abbrev pub no_seat : SeatState
+no_seat = record { instance = None; out = None; lost = None; began = None }
+
 -- process i alone, while it is active
 abbrev pub instance_of : List Course → Moment → ℕ → Option InstanceState
 instance_of courses m i =

@@ -1,12 +1,8 @@
 -- How much a history has of what its limits count, as the seats tell.
-use Rattle.std.specs.Prelude.{ℕ, ◌-◌, Bool, true, false, not, List, filter, length, slice_index_or, None, is_some}
+use Rattle.std.specs.Prelude.{ℕ, ◌-◌, Bool, true, false, not, List, filter, length, slice_index_or, is_some}
 use Rattle.schedule_model.specs.declared.event.Event.{Event}
 use Rattle.schedule_model.specs.declared.event.Event.TheVariants.{Start, Act, End}
-use Rattle.core_state.specs.Seats.{SeatState}
-
--- the seat of no process
-abbrev pub no_seat : SeatState
-no_seat = record { instance = None; out = None; lost = None; began = None }
+use Rattle.core_state.specs.Seats.{SeatState, no_seat}
 
 -- whether process i is active, by the seats
 abbrev pub has_active_seat : List SeatState → ℕ → Bool

@@ -49,7 +49,7 @@ fn stop_running(holds: &mut Holds, i: u32)
     }
 }
 
-/// A process begins to complete.
+/// Process `i`, which has this seat, begins to complete: its piece that is out is lost, and all that it can undo is pending.
 pub fn begin(seat: &mut Seat, holds: &mut Holds, i: u32, began: Began)
     requires seat { is_some seat.old.instance ≡ true }
     requires open { is_open holds.old i ≡ true }
@@ -82,7 +82,7 @@ fn begin_if(seat: &mut Seat, holds: &mut Holds, i: u32, cause: Option<Cause>, ev
     }
 }
 
-/// These processes begin to complete at this kept event.
+/// These processes begin to complete at the kept event of this number, from 1 on: those that are active and have not before.
 pub fn begin_each(
     seats: &mut Vec<Seat>,
     holds: &mut Holds,
@@ -102,7 +102,8 @@ pub fn begin_each(
     }
 }
 
-/// Whoever goes back with a process, which takes back what it has pending, begins to complete at this kept event.
+/// Whoever goes back with process `root`, which takes back what it has pending, begins to complete at the kept event of this number.
+/// They are in `members` then.
 pub fn drag_along(
     seats: &mut Vec<Seat>,
     holds: &mut Holds,

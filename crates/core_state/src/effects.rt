@@ -1,5 +1,5 @@
 // What the effect of a piece makes of what is kept.
-ghost use Rattle.std.specs.Prelude.{◌≡◌, ◌<◌, true, length, is_some, None, slice_set, slice_index_or};
+ghost use Rattle.std.specs.Prelude.{◌≡◌, ◌<◌, true, length, None};
 ghost use Rattle.process_tree.specs.Blocks.{outline};
 ghost use Rattle.process_tree.specs.Conflicts.{operations_in};
 ghost use Rattle.process_tree.specs.Making.{tree_fault};
@@ -16,7 +16,7 @@ use machine_model::Work;
 use process_tree::{Plan, kind_of};
 use schedule_model::Event;
 
-/// The event that what a process has under way makes once it took effect.
+/// The event that what a process has under way makes once it took effect; with nothing under way that is its end.
 pub fn event_told(holds: &Holds, process: u32) -> Event
     requires { is_open holds.now process ≡ true }
     ensures { result ≡ event_told process (kept_of holds.now process).running }
@@ -55,7 +55,7 @@ fn effect_step(holds: &mut Holds, plan: &Plan, process: u32, step: u16)
     }
 }
 
-/// A piece took effect, and so many entries of its process are to be undone then.
+/// Work on a step of a process took effect, and `pending` entries of the process are to be undone then. The step of an end is 0.
 pub fn effect(holds: &mut Holds, plan: &Plan, process: u32, step: u16, work: Work, pending: u16)
     requires { HoldsWork plan.now process step work holds.old }
     ensures { holds.new ≡ tables_effected plan.now process step work pending holds.old }

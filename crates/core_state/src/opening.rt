@@ -65,7 +65,7 @@ fn opened_seat(alloc: Global, h: &History, place: u32) -> Result<Seat, AllocErro
     })
 }
 
-/// The seats of all that started.
+/// The seats of all that started, at an opening on this history; or there is no memory for them.
 pub fn opened_seats(alloc: Global, h: &History) -> Result<Vec<Seat>, AllocError>
     requires few { length h.now.plans ≤ 4096 }
     requires own_order { AreInOwnOrder h.now.plans h.now.events }

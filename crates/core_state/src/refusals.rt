@@ -33,7 +33,7 @@ pub fn drags_along(refusal: Refusal) -> bool
     }
 }
 
-/// The piece of a process, which is of this step, was refused at this kept event.
+/// The piece of process `i`, which is of this step, was refused at the kept event of this number; the answer is what this leads to.
 pub fn refuse(seat: &mut Seat, holds: &mut Holds, i: u32, step: u16, event: u32) -> Refusal
     requires seat { is_some seat.old.instance ≡ true }
     requires piece { IfSome seat.old.instance (λ x. is_piece (todo x.course x.state) ≡ true) }

@@ -1,5 +1,5 @@
 // Room for the events that are kept.
-ghost use Rattle.std.specs.Prelude.{◌≡◌, ◌<◌, ◌≤◌, [], ◌∷◌, length, is_some};
+ghost use Rattle.std.specs.Prelude.{◌≡◌, ◌<◌, ◌≤◌, [], ◌∷◌, length};
 ghost use Rattle.std.specs.List.{sum_by};
 ghost use Rattle.process_tree.specs.Blocks.{outline};
 ghost use Rattle.process_tree.specs.Conflicts.{Table};
@@ -42,7 +42,7 @@ fn pieces_for(plan: &Plan) -> usize
     pieces + 2
 }
 
-/// How many kept events a process can take.
+/// How many kept events a process of this plan can take: its start, its beginning to complete, and of each piece the hand and the end.
 pub fn kept_for(plan: &Plan) -> usize
     requires { length plan.now.ops ≡ length (outline plan.now.tree).steps }
     ensures kept { result ≡ kept_for (course_of plan.now) }
@@ -51,7 +51,7 @@ pub fn kept_for(plan: &Plan) -> usize
     2 * pieces_for(plan) + 2
 }
 
-/// How many events are kept at most after an opening, before another process starts.
+/// How many events are kept at most after an opening on this history, before another process starts. The seats are those at the opening.
 pub fn room_at_opening(h: &History, seats: &[Seat]) -> usize
     requires core { (conflicts : Table) × IsCore (opened_on conflicts h.now.plans h.now.events) }
     requires few { length h.now.plans ≤ 4096 }

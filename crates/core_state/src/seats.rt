@@ -20,6 +20,7 @@ pub struct Seat {
     pub out: Option<u32>,
     /// The number of its piece that was dropped.
     pub lost: Option<u32>,
+    /// When and why it began to complete.
     pub began: Option<Began>,
 }
 

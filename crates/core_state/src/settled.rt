@@ -9,7 +9,7 @@ use crate::seats::Seat;
 use process_tree::Plan;
 use schedule_model::Event;
 
-/// How many acts and ends a process may need.
+/// How many acts and ends a process of this plan may need.
 pub fn need(plan: &Plan) -> usize
     requires { length plan.now.ops ≡ length (outline plan.now.tree).steps }
     ensures need { result ≡ need (course_of plan.now) }
@@ -41,7 +41,7 @@ fn is_settled(seats: &[Seat], event: &Event) -> bool
     }
 }
 
-/// How many such events there are.
+/// How many of these events count on their own: ends, and acts of processes that are not active.
 pub fn settled_count(seats: &[Seat], events: &[Event]) -> usize
     requires { length events.now ≤ 20480 }
     ensures count { result ≡ settled_count seats.now events.now }

@@ -5,7 +5,7 @@ ghost use Rattle.core_state.specs.Beginnings.{can_begin};
 
 use crate::seats::Seat;
 
-/// Whether one of these can begin to complete.
+/// Whether one of these is of an active process that has not begun to complete.
 pub fn some_can_begin(seats: &[Seat]) -> bool
     ensures { result ≡ list_any can_begin seats.now }
 {

@@ -116,7 +116,8 @@ fn pend_all(holds: &mut Holds, h: &History, seats: &[Seat])
     }
 }
 
-/// The tables at the opening.
+/// The tables at an opening on this history, over this table of conflicts; or there is no memory for them. The seats are those at
+/// the opening.
 pub fn opened_tables(
     alloc: Global,
     h: &History,

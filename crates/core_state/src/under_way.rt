@@ -86,7 +86,7 @@ fn do_step(holds: &mut Holds, plan: &Plan, process: u32, step: u16)
     }
 }
 
-/// A step, its undo or the end of a process comes under way.
+/// A step of a process, its undo or the end of the process comes under way; the step of an end is 0.
 pub fn come_under_way(holds: &mut Holds, plan: &Plan, process: u32, step: u16, work: Work)
     requires open { is_open holds.old process ≡ true }
     requires idle { (kept_of holds.old process).running ≡ None }

@@ -4,7 +4,7 @@ ghost use Rattle.core_state.specs.OpenTables.{last_pending};
 
 use hold_tables::Holds;
 
-/// The process of the last net entry whose process has something to undo.
+/// The process of the last net entry whose process has something to undo; none where nothing is pending.
 pub fn last_pending(holds: &Holds) -> Option<u32>
     ensures { result ≡ last_pending holds.now holds.now.net }
 {

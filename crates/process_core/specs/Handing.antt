@@ -1,9 +1,7 @@
 -- Pieces as a core hands them out: what is replied, and which piece it is.
-use Rattle.std.specs.Prelude.{◌≡◌, ◌<◌, ◌≤◌, ℕ, ◌+◌, Bool, true, false, List, [], ◌∷◌, ◌++◌, length, map}
+use Rattle.std.specs.Prelude.{◌≡◌, ◌<◌, ℕ, ◌+◌, List, [], ◌∷◌, ◌++◌, length, map}
 use Rattle.process_tree.specs.declared.plan.Plan.{Plan}
 use Rattle.process_tree.specs.Blocks.{numbers_from, outline}
-use Rattle.process_tree.specs.Entries.{entry_of, undo_of}
-use Rattle.process_tree.specs.Recovery.{StepClass, reserved, committing, undoable}
 use Rattle.schedule_model.specs.Course.{course_of}
 use Rattle.machine_model.specs.declared.kept.Kept.{Kept}
 use Rattle.machine_model.specs.declared.kept.Work.{Work}
@@ -13,14 +11,9 @@ use Rattle.machine_model.specs.declared.replies.Todo.TheVariants.{Forward as DoS
 use Rattle.machine_model.specs.Moment.{Piece}
 use Rattle.machine_model.specs.ProcessState.{allowance_in}
 use Rattle.machine_model.specs.Replies.{Handed, Admit as AdmitReply, piece, blocked, running, unknown, ended, exhausted}
-use Rattle.hold_tables.specs.Changes.{can_run, changed, run, with_reserved}
-use Rattle.hold_tables.specs.Kept.{AreKnown}
-use Rattle.hold_tables.specs.Tables.{Tables, kept_of}
-use Rattle.admission.specs.Admission.{class_in_tables}
 use Rattle.process_core.specs.declared.replies.Admit.{Admit}
 use Rattle.process_core.specs.declared.replies.Admit.TheVariants.{Piece as IsPiece, Blocked as IsBlocked, Running, Unknown, Ended, Exhausted}
 use Rattle.core_state.specs.Cores.{CoreState}
-use Rattle.core_state.specs.OpenTables.{pairs_behind}
 
 -- a reply to a request for a piece of one process, as the machine has it
 abbrev pub admit_reply_of : Admit → AdmitReply

@@ -1,6 +1,5 @@
 // Pieces are handed out.
-ghost use Rattle.std.specs.Prelude.{◌≡◌, ◌<◌, ◌≤◌, ◌+◌, IfSome, None, length, true, false};
-ghost use Rattle.process_tree.specs.Blocks.{outline};
+ghost use Rattle.std.specs.Prelude.{◌≡◌, ◌<◌, ◌+◌, IfSome, None, length, true, false};
 ghost use Rattle.schedule_model.specs.Histories.{is_in, starts};
 ghost use Rattle.machine_model.specs.Calls.{admit, admitted};
 ghost use Rattle.machine_model.specs.Pieces.{hands};

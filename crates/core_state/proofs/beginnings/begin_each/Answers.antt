@@ -1,8 +1,8 @@
 use Rattle.std.proofs.Common.{◌≡◌, ◌∙◌, ℕ, ◌+◌, ◌<◌, length, slice_index_or, slice_set, Option, is_some, ap, sym, arith}
 use Rattle.machine_model.specs.declared.began.Cause.{Cause}
 use Rattle.hold_tables.specs.Tables.{Tables, is_open}
-use Rattle.core_state.specs.Beginnings.{cause_if, cause_of, no_seat, seat_with, tables_with}
-use Rattle.core_state.specs.Seats.{SeatState}
+use Rattle.core_state.specs.Beginnings.{cause_if, cause_of, seat_with, tables_with}
+use Rattle.core_state.specs.Seats.{SeatState, no_seat}
 use Rattle.core_state.proofs.BegunLists.{at_default, begun_more, begun_open, first-at, first-more}
 use Rattle.core_state.proofs.beginnings.begin_each.Goals as goal
 
