@@ -22,17 +22,17 @@ use Rattle.process_core.specs.Answers.{after_call, after_start, answer_in}
 use Rattle.process_core.specs.Cores.{CoreState, IsCore, courses_in, history_of, moment_of}
 use Rattle.history_files.specs.Images.{IsWithin}
 use Rattle.history_files.specs.Sound.{IsSound, IsSoundForEither}
-use Rattle.process_engine.specs.Beginning.{history_with as started_with}
-use Rattle.process_engine.specs.Engines.{EngineState, full_history, with_core}
+use Rattle.engine_steps.specs.Beginning.{history_with as started_with}
+use Rattle.engine_steps.specs.Engines.{EngineState, full_history, with_core}
 use Rattle.process_engine.specs.Finishing.{Finishes}
-use Rattle.process_engine.specs.Pieces.{history_with}
-use Rattle.process_engine.specs.declared.beginning.EngineStartWhy.{EngineStartWhy}
-use Rattle.process_engine.specs.declared.beginning.EngineStartWhy.TheVariants as whys
-use Rattle.process_engine.specs.declared.engines.Phase.TheVariants as phase
+use Rattle.engine_steps.specs.Pieces.{history_with}
+use Rattle.engine_steps.specs.declared.beginning.EngineStartWhy.{EngineStartWhy}
+use Rattle.engine_steps.specs.declared.beginning.EngineStartWhy.TheVariants as whys
+use Rattle.engine_steps.specs.declared.engines.Phase.TheVariants as phase
 use Rattle.process_engine.specs.declared.finishing.Finish.{Finish}
 use Rattle.process_engine.specs.declared.finishing.Finish.TheVariants.{Effected, Retry, Failed, Over, Dropped, Exhausted, DiskFault, NoMemory, Closed}
-use Rattle.process_engine.proofs.Refusals.{refused_same}
-use Rattle.process_engine.proofs.StartedHistory.{history_after}
+use Rattle.engine_steps.proofs.SameHistory.{refused_same}
+use Rattle.engine_steps.proofs.StartedHistory.{history_after}
 use Rattle.engine_runs.specs.Runs.{GoesOn, IsLeftWithin, IsReady}
 use Rattle.engine_runs.proofs.Goes.{goes_none}
 use Rattle.engine_runs.proofs.Within.{Continues, OneEach, within_new, within_old}

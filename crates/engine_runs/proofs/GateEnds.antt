@@ -23,7 +23,7 @@ use Rattle.machine_model.specs.Progress.{same_work}
 use Rattle.machine_model.specs.Replies.{Finish as Reply, Handed, effected, refused, over, dropped, no_piece, no_refusal, finish_by, finish_kept, finish_piece, finish_reply, out_finish, refused_unless_end}
 use Rattle.process_core.specs.Cores.{CoreState, courses_in, moment_of, relation}
 use Rattle.process_core.specs.Handing.{with_served}
-use Rattle.process_engine.specs.Engines.{EngineState}
+use Rattle.engine_steps.specs.Engines.{EngineState}
 use Rattle.process_engine.specs.Finishing.{Finishes, is_barred, outcome_of}
 use Rattle.process_engine.specs.declared.finishing.Finish.{Finish}
 use Rattle.process_engine.specs.declared.finishing.Finish.TheVariants.{Effected, Retry, Failed, Over, Dropped, Exhausted, DiskFault, NoMemory, Closed}

@@ -6,9 +6,9 @@ use Rattle.process_disk.proofs.Images.{each_so, each_then, follow_none, follow_t
 use Rattle.process_core.specs.Cores.{IsCore, history_of}
 use Rattle.history_files.specs.Images.{IsWithin}
 use Rattle.history_files.specs.Sound.{IsSound}
-use Rattle.process_engine.specs.Engines.{EngineState, full_history}
-use Rattle.process_engine.specs.declared.engines.Phase.{Phase}
-use Rattle.process_engine.specs.declared.engines.Phase.TheVariants as phase
+use Rattle.engine_steps.specs.Engines.{EngineState, full_history}
+use Rattle.engine_steps.specs.declared.engines.Phase.{Phase}
+use Rattle.engine_steps.specs.declared.engines.Phase.TheVariants as phase
 use Rattle.engine_runs.specs.Runs.{GoesOn, IsLeftWithin}
 use Rattle.engine_runs.proofs.Within.{Continues, OneEach, within_from, within_old, within_on}
 

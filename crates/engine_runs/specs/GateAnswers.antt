@@ -14,8 +14,8 @@ use Rattle.process_core.specs.declared.replies.Admit.{Admit}
 use Rattle.process_core.specs.declared.replies.Admit.TheVariants.{Piece as AdmitsPiece, Blocked, Running, Unknown, Ended, Exhausted}
 use Rattle.process_core.specs.declared.replies.Next.{Next}
 use Rattle.process_core.specs.declared.replies.Next.TheVariants.{Piece as GivesPiece, Wait, AllEnded, Stuck}
-use Rattle.process_engine.specs.Engines.{full_history}
-use Rattle.process_engine.specs.Pieces.{act_of, bars_act}
+use Rattle.engine_steps.specs.Engines.{full_history}
+use Rattle.engine_steps.specs.Pieces.{act_of, bars_act}
 use Rattle.process_engine.specs.declared.gates.Answer.{Answer}
 use Rattle.process_engine.specs.declared.gates.Answer.TheVariants.{Done, Refused}
 

@@ -15,11 +15,11 @@ use Rattle.process_core.specs.Cores.{history_of}
 use Rattle.history_files.specs.Images.{IsWithin}
 use Rattle.history_files.specs.Sound.{IsSound}
 use Rattle.history_files.specs.Standing.{EachFits}
-use Rattle.process_engine.specs.Engines.{EngineState, full_history}
+use Rattle.engine_steps.specs.Engines.{EngineState, full_history}
 use Rattle.process_engine.specs.Finishing.{Finishes}
 use Rattle.process_engine.specs.declared.finishing.Finish.{Finish}
-use Rattle.process_engine.specs.declared.engines.Phase.{Phase}
-use Rattle.process_engine.specs.declared.engines.Phase.TheVariants as phase
+use Rattle.engine_steps.specs.declared.engines.Phase.{Phase}
+use Rattle.engine_steps.specs.declared.engines.Phase.TheVariants as phase
 
 -- A settled engine that may be called: nothing is under way, and each box has the values of its book.
 pub record IsReady {R B : Type 0} (meaning : B → Pairs) (sort : B → Kind) (e : EngineState R B) : Type 0 where

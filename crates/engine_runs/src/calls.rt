@@ -9,17 +9,17 @@ ghost use Rattle.process_core.specs.Cores.{IsHandedBy};
 ghost use Rattle.process_core.specs.Handing.{admit_reply_of};
 ghost use Rattle.process_core.specs.Rotation.{next_reply_of};
 ghost use Rattle.history_files.specs.Standing.{EachFits};
-ghost use Rattle.process_engine.specs.Beginning.{IsDueToStart, IsPlanFor};
-ghost use Rattle.process_engine.specs.Engines.{with_core};
+ghost use Rattle.engine_steps.specs.Beginning.{IsDueToStart, IsPlanFor};
+ghost use Rattle.engine_steps.specs.Engines.{with_core};
 ghost use Rattle.process_engine.specs.Finishing.{Finishes, is_barred, outcome_of};
-ghost use Rattle.process_engine.specs.declared.beginning.EngineStartWhy.TheVariants.{DiskFault as Fault};
-ghost use Rattle.process_engine.specs.declared.engines.Phase.TheVariants as phase;
+ghost use Rattle.engine_steps.specs.declared.beginning.EngineStartWhy.TheVariants.{DiskFault as Fault};
+ghost use Rattle.engine_steps.specs.declared.engines.Phase.TheVariants as phase;
 ghost use Rattle.engine_runs.specs.GateAnswers.{IsAdmitted, IsGiven};
 ghost use Rattle.engine_runs.specs.Runs.{GoesOn, IsReady};
 
 use process_core::{Aborted, Admit, Next, Piece};
 use process_disk::Rack;
-use process_engine::{Answer, Closed, Engine, EngineStart, Finish};
+use process_engine::{Answer, Closed, Engine, EngineStart, Finish, finish_piece};
 use process_tree::Plan;
 use resource_box::Resource;
 use std::alloc::Global;
@@ -137,7 +137,7 @@ pub fn finish<R: Rack + Drop, B: Resource>(
     ensures fits { EachFits B.meaning B.sort engine.new.files.stores }
 {
     engine.is_sound();
-    let result = engine.finish(piece, answer);
+    let result = finish_piece(engine, piece, answer);
     engine.is_sound();
     result
 }

@@ -8,8 +8,8 @@ use Rattle.process_core.specs.Answers.{after_call, answer_in}
 use Rattle.process_core.specs.Cores.{CoreState, IsCore, IsHandedBy}
 use Rattle.core_tests.proofs.Pieces.{with_chosen}
 use Rattle.history_files.specs.Standing.{EachFits}
-use Rattle.process_engine.specs.Engines.{EngineState, with_core}
-use Rattle.process_engine.specs.declared.engines.Phase.TheVariants as phase
+use Rattle.engine_steps.specs.Engines.{EngineState, with_core}
+use Rattle.engine_steps.specs.declared.engines.Phase.TheVariants as phase
 use Rattle.engine_tests.specs.Ready.{IsReady}
 
 -- after a request, which touches no file

@@ -3,8 +3,8 @@ use Rattle.std.specs.Prelude.{◌≢◌}
 use Rattle.resource_box.specs.declared.call.Kind.{Kind}
 use Rattle.resource_box.specs.Meaning.{Pairs}
 use Rattle.history_files.specs.Standing.{EachFits}
-use Rattle.process_engine.specs.Engines.{EngineState}
-use Rattle.process_engine.specs.declared.engines.Phase.TheVariants as phase
+use Rattle.engine_steps.specs.Engines.{EngineState}
+use Rattle.engine_steps.specs.declared.engines.Phase.TheVariants as phase
 
 -- Its boxes fit the books, and no piece is on its way through the files.
 pub record IsReady {R B : Type 0} (meaning : B → Pairs) (sort : B → Kind) (e : EngineState R B) : Type 0 where

@@ -3,7 +3,7 @@ ghost use Rattle.std.specs.Prelude.{◌≡◌, None, IfOk, IfErr};
 ghost use Rattle.process_tree.specs.Making.{tree_fault};
 ghost use Rattle.commute_table.specs.Operations.{IsCatalog};
 ghost use Rattle.history_files.specs.Boxes.{AreBoxes};
-ghost use Rattle.process_engine.specs.Beginning.{IsPlanFor};
+ghost use Rattle.engine_steps.specs.Beginning.{IsPlanFor};
 ghost use Rattle.engine_tests.specs.Ready.{IsReady};
 
 use commute_table::{Catalog, bind, read_catalog};

@@ -5,7 +5,7 @@ ghost use Rattle.history_files.specs.Boxes.{AreBoxes};
 use crate::beginnings::{created, planned, start};
 use crate::turns::{Turn, take_turn};
 use process_disk::Rack;
-use process_engine::{Engine, StartLimit};
+use process_engine::{Engine, StartLimit, fits};
 use process_tree::Plan;
 use resource_box::Resource;
 use std::alloc::Global;
@@ -167,7 +167,7 @@ fn limit_with<R: Rack + Drop, B: Resource>(
     engine: &Engine<R, B>,
     plan: Plan,
 ) -> Result<(), StartLimit> {
-    engine.fits(&[plan])
+    fits(engine, &[plan])
 }
 
 /// A process fits beside another.

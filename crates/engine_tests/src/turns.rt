@@ -6,7 +6,7 @@ ghost use Rattle.engine_tests.specs.Ready.{IsReady};
 
 use process_core::{Next, Piece, Work};
 use process_disk::Rack;
-use process_engine::{Closed, Engine, Finish};
+use process_engine::{Closed, Engine, Finish, finish_piece};
 use resource_box::Resource;
 use worker_gate::{Answer, Gate};
 
@@ -81,7 +81,7 @@ pub fn finish<R: Rack + Drop, B: Resource, G: Gate>(
     ensures { IsReady B.meaning B.sort engine.new }
 {
     let answer = work(gate, &piece);
-    turn_of(&engine.finish(piece, answer))
+    turn_of(&finish_piece(engine, piece, answer))
 }
 
 /// One turn.

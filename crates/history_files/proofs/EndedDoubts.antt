@@ -13,7 +13,7 @@ use Rattle.subsystem_store.specs.Laws.{IsGoodBook, CommittedIsGood, RolledBackIs
 use Rattle.subsystem_store.specs.Opened.{Opened, Stands, IsStoreOfEither}
 use Rattle.history_files.specs.Effects.{effects}
 use Rattle.history_files.specs.Sound.{IsSound, counted, kind_of}
-use Rattle.history_files.specs.Standing.{AreStores, Stand, DoubtIs, Ends, book_after}
+use Rattle.history_files.specs.Standing.{AreStores, Stand, DoubtIs, EndsDoubt, book_after}
 use Rattle.history_files.proofs.Counting.{counts_after, some_of}
 use Rattle.history_files.proofs.OneStore.{MayBe, images_of_store, stands_with_store}
 
@@ -58,7 +58,7 @@ images_of_end law recorded c h log stores old new q s honest are zero stand at s
 -- and then the files stand for the history.
 pub stands_with_end : {B : Type 0} → EndedIsGood → (recorded : Bool) (c : Catalog) (h : History) (log : LogState) (stores : List (Opened B)) (old new : Disk) (q : ℕ) (s t : Opened B)
     → IsHonest old → IsHonest new → AreStores stores → log.file ≡ 0 → Stand c h log stores old → slice_get stores q ≡ Some s → IsSome s.doubt → DoubtIs recorded c.ops h q stores
-    → OthersAsBefore s.log.file old new → t.kind ≡ s.kind → Ends recorded s t → Stands t new → Stand c h log (slice_set stores q t) new
+    → OthersAsBefore s.log.file old new → t.kind ≡ s.kind → EndsDoubt recorded s t → Stands t new → Stand c h log (slice_set stores q t) new
 stands_with_end law recorded c h log stores old new q s t honest honest_new are zero stand at some due others kind ends stands =
     let e = some_of s.doubt some in
     let is = is_due law recorded c h log stores old q s e.0 are stand at due e.1 in

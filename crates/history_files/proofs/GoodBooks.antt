@@ -5,7 +5,7 @@ use Rattle.resource_box.specs.declared.call.Kind.{Kind}
 use Rattle.subsystem_store.specs.declared.effect.Effect.{Effect}
 use Rattle.subsystem_store.specs.Laws.{IsGoodBook, PreparedIsGood}
 use Rattle.subsystem_store.specs.Opened.{Opened}
-use Rattle.history_files.specs.Standing.{AreGoodBooks, Ends, book_after}
+use Rattle.history_files.specs.Standing.{AreGoodBooks, EndsDoubt, book_after}
 use Rattle.history_files.proofs.Counting.{some_of}
 use Rattle.history_files.proofs.EndedDoubts.{EndedIsGood}
 use Rattle.history_files.proofs.Places.{set_each}
@@ -25,7 +25,7 @@ good_prepared law s t e good may kind book (inr none) = good_as t s.kind s.book 
 
 -- and after the end of a doubt, whatever it answers
 pub good_ended : {B T E : Type 0} → EndedIsGood → (recorded : Bool) (s t : Opened B) (r : Result T E) → IsSome s.doubt → IsGoodBook s.kind s.book s.doubt → t.kind ≡ s.kind
-    → OnOk r (Ends recorded s t) → OnErr r ((t.book ≡ s.book) × (t.doubt ≡ s.doubt)) → IsGoodBook t.kind t.book t.doubt
+    → OnOk r (EndsDoubt recorded s t) → OnErr r ((t.book ≡ s.book) × (t.doubt ≡ s.doubt)) → IsGoodBook t.kind t.book t.doubt
 good_ended law recorded s t (Ok x) some good kind ok err =
     let e = some_of s.doubt some in
     good_as t s.kind (book_after recorded s.book e.0) None kind (subst (λ d. IfSome d (λ y. t.book ≡ book_after recorded s.book y)) e.1 ok.1) ok.0

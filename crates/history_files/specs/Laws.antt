@@ -1,6 +1,5 @@
 -- What is proved of the effects of histories.
-use Rattle.std.specs.Prelude.{◌≡◌, ◌≢◌, ◌⊎◌, ◌<◌, ℕ, true, false, List, [], ◌∷◌, ◌++◌, length, Some, None}
-use Rattle.process_disk.specs.Disk.{FileSet}
+use Rattle.std.specs.Prelude.{◌≡◌, ◌≢◌, ◌<◌, ℕ, true, false, List, [], ◌∷◌, ◌++◌, length, Some, None}
 use Rattle.process_tree.specs.declared.entry.Entry.{Entry}
 use Rattle.process_tree.specs.declared.plan.Plan.{Plan}
 use Rattle.schedule_model.specs.declared.event.Event.TheVariants.{Act, End}
@@ -15,10 +14,7 @@ use Rattle.subsystem_store.specs.Order.{may_follow}
 use Rattle.process_journal.specs.Bodies.{with_event, with_start}
 use Rattle.process_journal.specs.Journals.{IsHistoryUnder}
 use Rattle.history_files.specs.Effects.{effect_of, effects, subsystem_of}
-use Rattle.history_files.specs.declared.faults.OpenError.{OpenError}
-use Rattle.history_files.specs.declared.faults.OpenError.TheVariants.{DiskFault, NoMemory}
-use Rattle.history_files.specs.Opening.{IsDueToOpening}
-use Rattle.history_files.specs.Sound.{IsSound, is_among, kind_of}
+use Rattle.history_files.specs.Sound.{is_among, kind_of}
 use Rattle.history_files.specs.Standing.{AtEach, Changes, ComeTo, Commits, Doubts}
 
 -- the effect that an act has behind a history
@@ -69,7 +65,3 @@ pub record MayBePrepared (c : Catalog) (h : History) (e : Entry) (q : ℕ) : Typ
 -- So it is with each act with which a history that a journal may have goes on to one that it may have.
 abbrev pub NextEffectsMayBePrepared : Type 0
 NextEffectsMayBePrepared = (c : Catalog) (h : History) (e : Entry) (q : ℕ) → subsystem_of c.ops e.op ≡ q → IsHistoryUnder c (with_event h (Act e)) → MayBePrepared c h e q
-
--- Sound files are refused for a fault of the rack or want of memory alone.
-abbrev pub SoundFilesAreOpened : Type 0
-SoundFilesAreOpened = (c : Catalog) (h : History) (files : FileSet) (e : OpenError) → IsSound c h files → IsDueToOpening files e → (e ≡ DiskFault) ⊎ (e ≡ NoMemory)

@@ -1,10 +1,8 @@
 pub mod Boxes
-pub mod Comparing
 pub mod Creating
 pub mod Effects
 mod Examples
 pub mod Images
 pub mod Laws
-pub mod Opening
 pub mod Sound
 pub mod Standing

@@ -1,5 +1,5 @@
 -- What nine files are seen as, and for which history they stand.
-use Rattle.std.specs.Prelude.{◌≡◌, ◌<◌, ℕ, ◌+◌, Bool, List, [], ◌∷◌, ◌++◌, length, Option, Some, None, IfSome, slice_set, if◌then◌else◌}
+use Rattle.std.specs.Prelude.{◌≡◌, ℕ, ◌+◌, Bool, true, List, [], ◌∷◌, ◌++◌, length, Option, Some, None, IfSome, slice_set, if◌then◌else◌}
 use Rattle.std.specs.List.{slice_get}
 use Rattle.process_disk.specs.Disk.{Disk}
 use Rattle.gate_log.specs.Standing.{LogState}
@@ -43,10 +43,6 @@ AreGoodBooks stores = AtEach (λ q s. IsGoodBook s.kind s.book s.doubt) stores
 abbrev pub ComeTo : {B : Type 0} → List Op → History → List (Opened B) → Type 0
 ComeTo ops h stores = AtEach (λ q s. counted (effects ops h q) s.book s.doubt ≡ effects ops h q) stores
 
--- in the stores of the subsystems below n nothing is in doubt, and the books have the effects of the history
-abbrev pub AreSettledBelow : {B : Type 0} → ℕ → List Op → History → List (Opened B) → Type 0
-AreSettledBelow n ops h stores = AtEach (λ q s. q < n → (s.doubt ≡ None) × (s.book ≡ effects ops h q)) stores
-
 -- whether the effect in doubt in the store of subsystem q stands among the effects of the history
 abbrev pub DoubtIs : {B : Type 0} → Bool → List Op → History → ℕ → List (Opened B) → Type 0
 DoubtIs {B} is ops h q stores = (s : Opened B) (e : Effect) → slice_get stores q ≡ Some s → s.doubt ≡ Some e → is_among e (effects ops h q) ≡ is
@@ -59,17 +55,17 @@ pub record Changes {B : Type 0} (q : ℕ) (step : Opened B → Opened B → Type
   pub is : new ≡ slice_set old q after
   pub by : step before after
 
--- the effect in doubt is committed
-abbrev pub Commits : {B : Type 0} → Opened B → Opened B → Type 0
-Commits before after = (after.doubt ≡ None) × IfSome before.doubt (λ e. after.book ≡ before.book ++ e ∷ [])
-
 -- the book once an effect in doubt is committed, as a recorded one is, or taken back
 abbrev pub book_after : Bool → List Effect → Effect → List Effect
 book_after recorded book e = if recorded then book ++ e ∷ [] else book
 
 -- the effect in doubt is committed or taken back
-abbrev pub Ends : {B : Type 0} → Bool → Opened B → Opened B → Type 0
-Ends recorded before after = (after.doubt ≡ None) × IfSome before.doubt (λ e. after.book ≡ book_after recorded before.book e)
+abbrev pub EndsDoubt : {B : Type 0} → Bool → Opened B → Opened B → Type 0
+EndsDoubt recorded before after = (after.doubt ≡ None) × IfSome before.doubt (λ e. after.book ≡ book_after recorded before.book e)
+
+-- the effect in doubt is committed
+abbrev pub Commits : {B : Type 0} → Opened B → Opened B → Type 0
+Commits before after = EndsDoubt true before after
 
 -- this is in doubt afterwards
 abbrev pub Doubts : {B : Type 0} → Option Effect → Opened B → Opened B → Type 0

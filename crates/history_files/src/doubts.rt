@@ -9,7 +9,7 @@ ghost use Rattle.commute_table.specs.declared.catalog.Catalog.{Catalog};
 ghost use Rattle.subsystem_store.specs.declared.effect.Effect.{Effect};
 ghost use Rattle.subsystem_store.specs.Opened.{Opened, Fits, account_of, Stands, IsStoreOfEither};
 ghost use Rattle.history_files.specs.Sound.{IsSound};
-ghost use Rattle.history_files.specs.Standing.{Stand, EachFits, AreGoodBooks, DoubtIs, Changes, Ends, book_after};
+ghost use Rattle.history_files.specs.Standing.{Stand, EachFits, AreGoodBooks, DoubtIs, Changes, EndsDoubt, book_after};
 
 use crate::Files;
 use gate_log::DiskFault;
@@ -30,7 +30,7 @@ fn end_in_store<R: Rack, B: Resource>(
     ensures any_moment { Told (R.disk rack.old) → (e : Effect) → store.old.doubt ≡ Some e →
         EachImage (R.disk rack.new) (R.disk rack.old).moment (IsStoreOfEither store.old.log.file (store.old.book, Some e) (book_after recorded store.old.book e, None)) }
     ensures fits { Fits B.meaning B.sort (account_of store.new) }
-    ensures ok { OnOk result (Ends recorded store.old store.new) }
+    ensures ok { OnOk result (EndsDoubt recorded store.old store.new) }
     ensures err { OnErr result ((store.new.book ≡ store.old.book) × (store.new.doubt ≡ store.old.doubt)) }
     ensures same { (store.new.log.file ≡ store.old.log.file) × (store.new.kind ≡ store.old.kind) }
     ensures others { Told (R.disk rack.old) → OthersAsBefore store.old.log.file (R.disk rack.old) (R.disk rack.new) }
@@ -45,8 +45,9 @@ fn end_in_store<R: Rack, B: Resource>(
 }
 
 impl<R: Rack + Drop, B: Resource> Files<R, B> {
-    /// Ends the doubt in the store of a subsystem. Whether the effect in doubt is recorded is what the history says of it.
-    pub(crate) fn end_doubt(&mut self, q: u8, recorded: bool) -> Result<(), DiskFault>
+    /// Commits the effect that is in doubt in the store of a subsystem where it is recorded, so that the history has it, and takes it back
+    /// where it is not.
+    pub fn end_doubt(&mut self, q: u8, recorded: bool) -> Result<(), DiskFault>
         requires subsystem { q < 8 }
         requires fits { EachFits B.meaning B.sort self.old.stores }
         requires doubt { (s : Opened B) → slice_get self.old.stores q ≡ Some s → IsSome s.doubt }
@@ -59,7 +60,7 @@ impl<R: Rack + Drop, B: Resource> Files<R, B> {
         ensures fits { EachFits B.meaning B.sort self.new.stores }
         ensures good { AreGoodBooks self.old.stores → AreGoodBooks self.new.stores }
         ensures journal { self.new.journal ≡ self.old.journal }
-        ensures ok { OnOk result (Changes q (Ends recorded) self.old.stores self.new.stores) }
+        ensures ok { OnOk result (Changes q (EndsDoubt recorded) self.old.stores self.new.stores) }
         ensures tells { (R.disk self.new.rack).tells ≡ (R.disk self.old.rack).tells }
         ensures cause { HasCause (R.faults self.old.rack) (R.faults self.new.rack) result }
     {

@@ -1,15 +1,10 @@
 // The effects of a history.
-ghost use Rattle.std.specs.Prelude.{◌≡◌, ◌<◌, ◌^◌, length, IfOk};
-ghost use Rattle.schedule_model.specs.Histories.{acts};
-ghost use Rattle.history_files.specs.Effects.{verb_of, subsystem_of, key_of, amount_of, effect_of, effects_from};
-ghost use Rattle.history_files.specs.Sound.{is_among};
+ghost use Rattle.std.specs.Prelude.{◌≡◌};
+ghost use Rattle.history_files.specs.Effects.{verb_of, subsystem_of, key_of, amount_of, effect_of};
 
-use crate::comparing::same_effect;
 use commute_table::{Op, Verb};
 use process_tree::{Entry, Plan};
 use resource_box::Call;
-use schedule_rules::Event;
-use std::alloc::{AllocError, Global};
 use subsystem_store::Effect;
 
 fn verb_of(ops: &[Op], op: u16) -> Verb
@@ -61,51 +56,4 @@ pub fn effect_of(ops: &[Op], plans: &[Plan], number: u32, entry: &Entry) -> Effe
             amount,
         },
     }
-}
-
-/// The effects of some events on a subsystem, in order.
-pub fn effects_on(
-    alloc: Global,
-    ops: &[Op],
-    plans: &[Plan],
-    events: &[Event],
-    q: u8,
-) -> Result<Vec<Effect>, AllocError>
-    requires few { length (acts events.now) < 2 ^ 32 }
-    ensures { IfOk result (λ found. found.items ≡ effects_from ops.now plans.now q 0 (acts events.now)) }
-{
-    let mut found = Vec::new(alloc);
-    let mut number = 0;
-    let mut rest = events;
-    while let [event, after @ ..] = rest {
-        if let Event::Act(entry) = event {
-            if subsystem_of(ops, entry.op) == q {
-                found.push(effect_of(ops, plans, number, entry))?;
-            }
-            number += 1;
-        }
-        rest = after;
-    }
-    Ok(found)
-}
-
-/// Whether an effect is one of those of some events on a subsystem. It takes no memory.
-pub fn has_effect(ops: &[Op], plans: &[Plan], events: &[Event], q: u8, effect: &Effect) -> bool
-    requires few { length (acts events.now) < 2 ^ 32 }
-    ensures { result ≡ is_among effect.now (effects_from ops.now plans.now q 0 (acts events.now)) }
-{
-    let mut number = 0;
-    let mut rest = events;
-    while let [event, after @ ..] = rest {
-        if let Event::Act(entry) = event {
-            if subsystem_of(ops, entry.op) == q
-                && same_effect(effect, &effect_of(ops, plans, number, entry))
-            {
-                return true;
-            }
-            number += 1;
-        }
-        rest = after;
-    }
-    false
 }

@@ -1,21 +1,11 @@
-// Why files were not made or opened.
+// Why files were not made.
 ghost use Rattle.std.specs.Prelude.{◌≡◌, ◌≢◌, ◌⊎◌};
-ghost use Rattle.history_files.specs.Opening.{of_store_error, of_journal_error};
 ghost use Rattle.history_files.specs.declared.faults.CreateError.TheVariants.{DiskFault as Fault, NoMemory};
 
 use crate::Parts;
 use process_journal::JournalError;
 use resource_box::Resource;
-use subsystem_store::{Effect, StoreError};
-
-/// The first place, counted from 1, at which a book and the acts of the history differ.
-#[derive(Clone, Copy, Debug, PartialEq, Eq)]
-pub struct BookFault {
-    pub subsystem: u8,
-    pub at: u32,
-    pub book: Option<Effect>,
-    pub acts: Option<Effect>,
-}
+use subsystem_store::StoreError;
 
 #[derive(Clone, Copy, Debug, PartialEq, Eq)]
 pub enum CreateError {
@@ -26,35 +16,11 @@ pub enum CreateError {
     NoMemory,
 }
 
-#[derive(Clone, Copy, Debug, PartialEq, Eq)]
-pub enum OpenError {
-    /// A call of the rack failed.
-    DiskFault,
-    /// The first file that has no header.
-    BadHeader(u8),
-    /// The first file at fault, and its first record, counted from 1, that is not whole or has no form of a record.
-    BadRecord(u8, u32),
-    /// The first record of the journal that does not continue a legal history within the limits.
-    BadHistory(u32),
-    /// The first file at fault, and its first record that is out of place.
-    BadBook(u8, u32),
-    /// The first subsystem whose book is not that of the history.
-    BookDiffers(BookFault),
-    NoMemory,
-}
-
 /// Files that were not made: what they were to be made of, with the boxes empty, and why.
 #[derive(Drop)]
 pub struct CreateRefused<R: Drop, B: Drop = Box<dyn Resource + Send>> {
     pub parts: Parts<R, B>,
     pub why: CreateError,
-}
-
-/// Files that were not opened: what they were to be opened from, with the boxes empty, and why.
-#[derive(Drop)]
-pub struct OpenRefused<R: Drop, B: Drop = Box<dyn Resource + Send>> {
-    pub parts: Parts<R, B>,
-    pub why: OpenError,
 }
 
 /// Why a store was not made.
@@ -76,31 +42,5 @@ pub fn of_journal(why: JournalError) -> CreateError
     match why {
         JournalError::NoMemory => CreateError::NoMemory,
         _ => CreateError::DiskFault,
-    }
-}
-
-/// Why a store was not opened.
-pub fn of_opened(file: u8, why: StoreError) -> OpenError
-    ensures { result ≡ of_store_error file why }
-{
-    match why {
-        StoreError::DiskFault => OpenError::DiskFault,
-        StoreError::BadHeader => OpenError::BadHeader(file),
-        StoreError::BadRecord(number) => OpenError::BadRecord(file, number),
-        StoreError::BadBook(number) => OpenError::BadBook(file, number),
-        StoreError::NoMemory => OpenError::NoMemory,
-    }
-}
-
-/// Why a journal was not opened.
-pub fn of_opened_journal(why: JournalError) -> OpenError
-    ensures { result ≡ of_journal_error why }
-{
-    match why {
-        JournalError::DiskFault => OpenError::DiskFault,
-        JournalError::BadHeader => OpenError::BadHeader(0),
-        JournalError::BadRecord(number) => OpenError::BadRecord(0, number),
-        JournalError::BadHistory(number) => OpenError::BadHistory(number),
-        JournalError::NoMemory => OpenError::NoMemory,
     }
 }

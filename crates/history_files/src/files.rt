@@ -1,4 +1,5 @@
 // The journal and the stores of eight subsystems, under one rack.
+ghost use Rattle.std.specs.Prelude.{◌≡◌, ◌≤◌, [], vec_capacity};
 ghost use Rattle.process_disk.specs.Disk.{Told};
 ghost use Rattle.process_disk.specs.Images.{EachImage};
 ghost use Rattle.schedule_model.specs.declared.history.History.{History};
@@ -34,6 +35,22 @@ impl<R: Rack + Drop, B: Drop> Model for Files<R, B> {
 }
 
 impl<R: Rack + Drop, B: Drop> Files<R, B> {
+    /// The files of a rack with the journal of file 0 and the stores of the eight subsystems in order. `room` is empty and has room for
+    /// eight boxes, so that handing the boxes back takes no memory.
+    pub fn new(rack: R, journal: Journal, stores: Vec<Store<B>>, room: Vec<B>) -> Self
+        requires stores { AreStores stores.items }
+        requires journal { journal.file ≡ 0 }
+        requires room { (room.items ≡ []) × (8 ≤ vec_capacity room) }
+        ensures { result ≡ record { rack = rack; journal = journal; stores = stores.items } }
+    {
+        Files {
+            rack,
+            journal,
+            stores,
+            emptied: room,
+        }
+    }
+
     /// There are eight stores, in order. Files that stand for a history are sound for it, and so is each image of them from now on.
     pub fn are_sound(&self)
         ensures stores { AreStores self.now.stores }
@@ -43,6 +60,7 @@ impl<R: Rack + Drop, B: Drop> Files<R, B> {
     {
         let _ = &self.journal;
     }
+
     /// There are eight stores, each of its kind and on its file.
     pub fn are_stores(&self)
         ensures { AreStores self.now.stores }

@@ -1,8 +1,5 @@
 // What is proved of the effects of histories: each function says it, and does nothing.
-ghost use Rattle.history_files.specs.Laws.{ActsAddTheirEffect, EndsAddNone, StartsAddNone, NextEffectsMayBePrepared, PreparedComeTo, CommittedAreSettled, BarredAreSettled, SoundFilesAreOpened};
-
-use process_journal::{journals_are_opened, journals_have_one_history};
-use subsystem_store::books_are_read_back;
+ghost use Rattle.history_files.specs.Laws.{ActsAddTheirEffect, EndsAddNone, StartsAddNone, NextEffectsMayBePrepared, PreparedComeTo, CommittedAreSettled, BarredAreSettled};
 
 /// An act adds its effect to those of the history on its subsystem, and neither a start nor an end adds any.
 pub fn events_add_effects()
@@ -23,12 +20,3 @@ pub fn books_come_to_acts<B: Drop>()
     ensures committed { CommittedAreSettled B }
     ensures barred { BarredAreSettled B }
 {}
-
-/// Sound files are refused for a fault of the rack or want of memory alone.
-pub fn sound_files_are_opened()
-    ensures { SoundFilesAreOpened }
-{
-    journals_are_opened();
-    journals_have_one_history();
-    books_are_read_back();
-}

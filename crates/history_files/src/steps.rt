@@ -1,5 +1,5 @@
 // The steps of one event over the journal and a store: prepared, recorded, committed.
-ghost use Rattle.std.specs.Prelude.{◌≢◌, ◌⊎◌, ◌↔◌, ◌≤◌, ◌≡◌, ◌<◌, ◌+◌, ◌^◌, length, Some, None, true, false, OnOk, OnErr, IsSome};
+ghost use Rattle.std.specs.Prelude.{◌≢◌, ◌⊎◌, ◌↔◌, ◌≤◌, ◌≡◌, ◌<◌, ◌+◌, ◌^◌, length, Some, None, true, false, OnOk, OnErr};
 ghost use Rattle.std.specs.List.{slice_get};
 ghost use Rattle.process_flow.specs.Causes.{Rose, HasCause};
 ghost use Rattle.process_disk.specs.Disk.{Told};
@@ -15,7 +15,7 @@ ghost use Rattle.history_files.specs.Effects.{effects};
 ghost use Rattle.process_journal.specs.Journals.{IsHistoryUnder, IsMadeBy};
 ghost use Rattle.process_journal.specs.Opened.{GoesOn};
 ghost use Rattle.history_files.specs.Sound.{IsSound, IsSoundForEither, is_among, is_barred};
-ghost use Rattle.history_files.specs.Standing.{Stand, EachFits, AreGoodBooks, Doubts, DoubtIs, Changes, Commits, ComeTo};
+ghost use Rattle.history_files.specs.Standing.{Stand, EachFits, AreGoodBooks, Doubts, Changes, ComeTo};
 
 use crate::Files;
 use gate_log::DiskFault;
@@ -51,27 +51,6 @@ impl<R: Rack + Drop, B: Resource> Files<R, B> {
         calls_make_good_books();
         effects_fit_their_bytes(effect);
         self.stores[usize::from(q)].prepare(&mut self.rack, effect)
-    }
-
-    /// Commits the effect that is in doubt in the store of a subsystem, which the history has.
-    pub fn commit(&mut self, q: u8) -> Result<(), DiskFault>
-        requires subsystem { q < 8 }
-        requires fits { EachFits B.meaning B.sort self.old.stores }
-        requires doubt { (s : Opened B) → slice_get self.old.stores q ≡ Some s → IsSome s.doubt }
-        requires stand { Told (R.disk self.old.rack) → (c : Catalog) × (h : History) × Stand c h self.old.journal self.old.stores (R.disk self.old.rack) }
-        ensures acknowledged { Told (R.disk self.old.rack) → (c : Catalog) (h : History) → Stand c h self.old.journal self.old.stores (R.disk self.old.rack) →
-            DoubtIs true c.ops h q self.old.stores → OnOk result (Stand c h self.new.journal self.new.stores (R.disk self.new.rack)) }
-        ensures any_moment { Told (R.disk self.old.rack) → (c : Catalog) (h : History) → Stand c h self.old.journal self.old.stores (R.disk self.old.rack) →
-            DoubtIs true c.ops h q self.old.stores → EachImage (R.disk self.new.rack) (R.disk self.old.rack).moment (IsSound c h) }
-        ensures follow { Told (R.disk self.old.rack) → ImagesFollow (R.disk self.old.rack) (R.disk self.new.rack) }
-        ensures fits { EachFits B.meaning B.sort self.new.stores }
-        ensures good { AreGoodBooks self.old.stores → AreGoodBooks self.new.stores }
-        ensures journal { self.new.journal ≡ self.old.journal }
-        ensures ok { OnOk result (Changes q Commits self.old.stores self.new.stores) }
-        ensures tells { (R.disk self.new.rack).tells ≡ (R.disk self.old.rack).tells }
-        ensures cause { HasCause (R.faults self.old.rack) (R.faults self.new.rack) result }
-    {
-        self.end_doubt(q, true)
     }
 
     /// Adds a record to the journal. A crash leaves files that are sound for the history before it or with it.

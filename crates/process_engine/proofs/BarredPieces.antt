@@ -20,10 +20,10 @@ use Rattle.process_core.specs.Answers.{after_call}
 use Rattle.process_core.specs.Cores.{CoreState, IsHandedBy, courses_in, history_of, machine_of, moment_of, relation}
 use Rattle.process_core.proofs.CoreEffects.{reply_is}
 use Rattle.history_files.specs.Sound.{IsSound}
-use Rattle.process_engine.specs.Engines.{EngineState, full_history}
+use Rattle.engine_steps.specs.Engines.{EngineState, full_history}
 use Rattle.process_engine.specs.Finishing.{Finishes, IsFinished, Leaves, MayLeave, RepliesAs}
-use Rattle.process_engine.specs.Pieces.{IsStepOut, history_with}
-use Rattle.process_engine.specs.declared.engines.Phase.TheVariants as phase
+use Rattle.engine_steps.specs.Pieces.{IsStepOut, history_with}
+use Rattle.engine_steps.specs.declared.engines.Phase.TheVariants as phase
 use Rattle.process_engine.specs.declared.finishing.Finish.{Finish}
 use Rattle.process_engine.specs.declared.finishing.Finish.TheVariants.{Effected, Retry, Failed, Over, Dropped, Exhausted, DiskFault, NoMemory, Closed}
 use Rattle.process_engine.proofs.Refusals.{is_refused, refusal_acknowledges}

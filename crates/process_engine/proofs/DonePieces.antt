@@ -9,10 +9,10 @@ use Rattle.machine_model.specs.Replies.{Handed, effected}
 use Rattle.process_core.specs.Answers.{after_call, answer_in}
 use Rattle.process_core.specs.Cores.{IsCore}
 use Rattle.history_files.specs.Sound.{IsSound, IsSoundForEither}
-use Rattle.process_engine.specs.Engines.{EngineState, full_history}
+use Rattle.engine_steps.specs.Engines.{EngineState, full_history}
 use Rattle.process_engine.specs.Finishing.{Finishes, is_barred, outcome_of}
-use Rattle.process_engine.specs.Pieces.{IsStepOut, act_of, bars_act, history_with}
-use Rattle.process_engine.specs.declared.engines.Phase.TheVariants as phase
+use Rattle.engine_steps.specs.Pieces.{IsStepOut, act_of, bars_act, history_with}
+use Rattle.engine_steps.specs.declared.engines.Phase.TheVariants as phase
 use Rattle.process_engine.specs.declared.finishing.Finish.TheVariants.{Effected, DiskFault}
 use Rattle.process_engine.specs.declared.gates.Answer.TheVariants.{Done}
 use Rattle.process_engine.proofs.FinishedPieces.{barred_by_act, effected_finishes, failed_finishes, images_through}

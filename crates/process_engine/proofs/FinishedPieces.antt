@@ -16,12 +16,12 @@ use Rattle.process_core.specs.Answers.{after_call, answer_in}
 use Rattle.process_core.specs.Cores.{IsCore, IsHandedBy, courses_in, history_of, moment_of, relation}
 use Rattle.process_core.proofs.CoreEffects.{reply_is}
 use Rattle.history_files.specs.Sound.{IsSound, IsSoundForEither}
-use Rattle.process_engine.specs.Engines.{EngineState, full_history}
+use Rattle.engine_steps.specs.Engines.{EngineState, full_history}
 use Rattle.process_engine.specs.Finishing.{Finishes, is_barred}
-use Rattle.process_engine.specs.Pieces.{act_of, bars_act, history_with}
-use Rattle.process_engine.specs.declared.engines.Phase.TheVariants as phase
+use Rattle.engine_steps.specs.Pieces.{act_of, bars_act, history_with}
+use Rattle.engine_steps.specs.declared.engines.Phase.TheVariants as phase
 use Rattle.process_engine.specs.declared.finishing.Finish.TheVariants.{Effected, DiskFault}
-use Rattle.process_engine.proofs.NextHistory.{history_is}
+use Rattle.engine_steps.proofs.NextHistory.{history_is}
 use Rattle.process_engine.proofs.Refusals.{same_finish}
 
 -- what bars a piece that is no end is what bars its act

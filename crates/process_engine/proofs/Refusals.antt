@@ -1,50 +1,23 @@
 -- What a refusal makes of an engine.
-use Rattle.std.proofs.Common.{◌≡◌, ℕ, Bool, true, false, List, Option, Some, None, ap, sym}
+use Rattle.std.proofs.Common.{◌≡◌, ◌∙◌, ℕ, Bool, true, false, ap, sym, subst}
 use Rattle.std.proofs.lemmas.Bool.{false≢true}
-use Rattle.process_disk.specs.Disk.{Disk}
+use Rattle.process_disk.specs.Disk.{Disk, Told}
 use Rattle.process_disk.specs.Images.{EachImage}
-use Rattle.process_tree.specs.Order.{Each}
 use Rattle.process_tree.specs.declared.play.Outcome.TheVariants.{Refused as Fails}
-use Rattle.schedule_model.specs.Conflict.{ConflictRelation}
-use Rattle.schedule_model.specs.Course.{Course}
 use Rattle.schedule_model.specs.declared.history.History.{History}
 use Rattle.commute_table.specs.declared.catalog.Catalog.{Catalog}
 use Rattle.machine_model.specs.Calls.{Reply, finish, started, not_started, admitted, next_is, finished, aborted, all_complete}
-use Rattle.machine_model.specs.Moment.{Moment, Piece}
-use Rattle.machine_model.specs.Pieces.{piece_of, state_of}
-use Rattle.machine_model.specs.Progress.{same_work}
-use Rattle.machine_model.specs.Replies.{Finish as Answered, effected, refused, over, dropped, no_piece, no_refusal, finish_by, finish_kept, finish_piece, out_finish, refused_unless_end}
-use Rattle.machine_model.specs.declared.kept.Work.TheVariants.{End}
-use Rattle.machine_model.specs.declared.replies.PieceState.{PieceState}
-use Rattle.machine_model.specs.declared.replies.PieceState.TheVariants.{Out, Dropped as WasDropped, Over as IsOver}
+use Rattle.machine_model.specs.Replies.{Finish as Answered, effected, refused, over, dropped, no_piece, no_refusal}
 use Rattle.machine_model.specs.declared.replies.Refusal.{Refusal}
 use Rattle.machine_model.specs.Replies.{Handed}
-use Rattle.process_core.specs.Answers.{after_call}
-use Rattle.process_core.specs.Cores.{CoreState, courses_in, moment_of, relation}
+use Rattle.process_core.specs.Answers.{after_call, answer_in}
 use Rattle.history_files.specs.Sound.{IsSound}
-use Rattle.process_engine.specs.Engines.{EngineState, full_history}
-use Rattle.process_engine.specs.Finishing.{Acknowledges, IsFinished, Leaves, MayLeave, RepliesAs}
+use Rattle.engine_steps.specs.Engines.{EngineState, full_history, with_core}
+use Rattle.engine_steps.specs.Pieces.{history_with}
+use Rattle.engine_steps.specs.declared.engines.Phase.TheVariants as phase
+use Rattle.process_engine.specs.Finishing.{Acknowledges, Finishes, IsFinished, Leaves, MayLeave, RepliesAs}
 use Rattle.process_engine.specs.declared.finishing.Finish.{Finish}
 use Rattle.process_engine.specs.declared.finishing.Finish.TheVariants.{Effected, Retry, Failed, Over, Dropped, Exhausted, DiskFault, NoMemory, Closed}
-use Rattle.process_engine.proofs.SameHistory.{IsQuiet, same_history}
-
-module _ (table : ConflictRelation) (courses : List Course) (m : Moment) (n : ℕ) where
-  by_end : (p : Piece) (t : Bool) → Each IsQuiet (finish_kept n (refused_unless_end table courses m p t))
-  by_end p true = tt
-  by_end p false = (tt, tt)
-
-  by_state : (p : Piece) (s : PieceState) → Each IsQuiet (finish_kept n (finish_by (out_finish table courses m p Fails) s))
-  by_state p Out = by_end p (same_work p.work End)
-  by_state p (WasDropped k) = tt
-  by_state p IsOver = tt
-
-  by_piece : (o : Option Piece) → Each IsQuiet (finish_kept n (finish_piece table courses m Fails o))
-  by_piece None = tt
-  by_piece (Some p) = by_state p (state_of m p.number)
-
--- a refusal leaves the history
-pub refused_same : (c : CoreState) (n : ℕ) → full_history (after_call c (finish n Fails)) ≡ full_history c
-refused_same c n = same_history c (finish n Fails) (by_piece (relation c) (courses_in c) (moment_of c) n (piece_of (moment_of c).kept n))
 
 -- what is finished is told by the reply
 abbrev answer_told : Reply → Answered
@@ -101,3 +74,26 @@ module _ {R B : Type 0} (old new : EngineState R B) (p : Handed) (r : Refusal) w
   refusal_acknowledges DiskFault is disk = tt
   refusal_acknowledges (NoMemory q) is disk = tt
   refusal_acknowledges (Closed n) is disk = tt
+
+-- So the refusal of a piece that is out finishes it.
+module _ {R B : Type 0} (disk : R → Disk) (old new : EngineState R B) (p : Handed) (r : Refusal) (settled : old.phase ≡ phase.Settled)
+    (is : new ≡ with_core old (after_call old.core (finish p.piece.number Fails))) (reply : finished (refused r) ≡ (answer_in old.core (finish p.piece.number Fails)).reply)
+    (each : Told (disk old.files.rack) → EachImage (disk old.files.rack) (disk old.files.rack).moment (IsSound old.catalog (full_history old.core))) where
+  untouched : new.files.rack ≡ old.files.rack
+  untouched = ap (λ (e : EngineState R B). e.files.rack) is
+
+  kept : IsFinished old new p.piece Fails
+  kept = record {
+    core = ap (λ (e : EngineState R B). e.core) is;
+    catalog = ap (λ (e : EngineState R B). e.catalog) is;
+    phase = ap (λ (e : EngineState R B). e.phase) is ∙ settled;
+  }
+
+  pub refused_finishes : (a : Finish) → RepliesAs a (refused r) → Finishes disk old new p Fails a
+  refused_finishes a replies = record {
+    reply = subst (RepliesAs a) (same_finish _ _ reply) replies;
+    left = refusal_leaves old new p r a replies kept untouched;
+    any_moment = λ told. refusal_images old new p r a replies old.catalog (full_history old.core) (history_with old.core p.piece) (disk new.files.rack) (disk old.files.rack).moment
+        (subst (λ x. EachImage (disk x) (disk old.files.rack).moment (IsSound old.catalog (full_history old.core))) (sym untouched) (each told));
+    acknowledged = refusal_acknowledges old new p r a replies (disk new.files.rack);
+  }

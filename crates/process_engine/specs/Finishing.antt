@@ -16,10 +16,10 @@ use Rattle.commute_table.specs.declared.catalog.Catalog.{Catalog}
 use Rattle.process_core.specs.Answers.{after_call}
 use Rattle.process_core.specs.Cores.{courses_in, moment_of, relation}
 use Rattle.history_files.specs.Sound.{IsSound, IsSoundForEither}
-use Rattle.process_engine.specs.Engines.{EngineState, full_history}
-use Rattle.process_engine.specs.Pieces.{act_of, bars_act, history_with}
-use Rattle.process_engine.specs.declared.engines.Phase.{Phase}
-use Rattle.process_engine.specs.declared.engines.Phase.TheVariants as phase
+use Rattle.engine_steps.specs.Engines.{EngineState, full_history}
+use Rattle.engine_steps.specs.Pieces.{act_of, bars_act, history_with}
+use Rattle.engine_steps.specs.declared.engines.Phase.{Phase}
+use Rattle.engine_steps.specs.declared.engines.Phase.TheVariants as phase
 use Rattle.process_engine.specs.declared.gates.Answer.{Answer}
 use Rattle.process_engine.specs.declared.gates.Answer.TheVariants.{Done, Refused}
 use Rattle.process_engine.specs.declared.finishing.Finish.{Finish}

@@ -1,5 +1,5 @@
 // Pieces are finished.
-ghost use Rattle.std.specs.Prelude.{◌≡◌, ◌≢◌, ◌≤◌, ◌<◌, ◌^◌, length, OnOk, OnErr, IfOk};
+ghost use Rattle.std.specs.Prelude.{◌≡◌, ◌≢◌, ◌≤◌, length};
 ghost use Rattle.process_flow.specs.Causes.{Rose, HasCause};
 ghost use Rattle.process_disk.specs.Disk.{Told};
 ghost use Rattle.process_disk.specs.Images.{EachImage, ImagesFollow};
@@ -7,24 +7,20 @@ ghost use Rattle.process_tree.specs.declared.play.Outcome.TheVariants.{Done as S
 ghost use Rattle.machine_model.specs.declared.kept.Work.TheVariants.{End};
 ghost use Rattle.machine_model.specs.declared.replies.PieceState.TheVariants.{Out};
 ghost use Rattle.machine_model.specs.Pieces.{state_of};
-ghost use Rattle.machine_model.specs.Progress.{same_work};
-ghost use Rattle.machine_model.specs.Calls.{finish, finished};
-ghost use Rattle.machine_model.specs.Replies.{effected, refused};
-ghost use Rattle.process_core.specs.Answers.{after_call, answer_in};
+ghost use Rattle.machine_model.specs.Replies.{refused};
 ghost use Rattle.process_core.specs.Cores.{IsHandedBy, moment_of};
 ghost use Rattle.history_files.specs.Sound.{IsSoundForEither};
 ghost use Rattle.history_files.specs.Standing.{EachFits};
-ghost use Rattle.process_engine.specs.Engines.{full_history};
+ghost use Rattle.engine_steps.specs.Engines.{full_history};
+ghost use Rattle.engine_steps.specs.Pieces.{IsPrepared, IsStepOut, history_with, SettlesPiece};
+ghost use Rattle.engine_steps.specs.declared.engines.Phase.TheVariants as phase;
 ghost use Rattle.process_engine.specs.Finishing.{Finishes, LeavesRack, RepliesAs, is_barred, outcome_of};
-ghost use Rattle.process_engine.specs.Pieces.{IsPrepared, IsStepOut, history_with, SettlesPiece};
-ghost use Rattle.process_engine.specs.declared.engines.Phase.TheVariants as phase;
 
-use crate::{Answer, Closed, Engine, Phase, PreparePiece, Prepared};
+use crate::Answer;
+use engine_steps::{Closed, Engine, PreparePiece, Prepared};
 use gate_log::DiskFault;
-use history_files::events_add_effects;
 use process_core::{Piece, PieceState, Refusal, Work};
 use process_disk::Rack;
-use process_journal::{Record, journals_keep_histories};
 use resource_box::Resource;
 
 /// What the end of a piece answers.
@@ -61,137 +57,133 @@ fn refused_as(refusal: Refusal) -> Finish
     }
 }
 
-/// The number of a process fits its bytes.
-fn fits_its_bytes(process: u32)
-    ensures { process < 2 ^ 32 }
-{}
+// A piece is refused.
+fn finish_refused<R: Rack + Drop, B: Resource>(engine: &mut Engine<R, B>, piece: Piece) -> Finish
+    requires fits { EachFits B.meaning B.sort engine.old.files.stores }
+    requires settled { engine.old.phase ≡ phase.Settled }
+    requires out { IsStepOut engine.old.core piece.piece }
+    ensures finishes { Finishes R.disk engine.old engine.new piece Fails result }
+    ensures fits { EachFits B.meaning B.sort engine.new.files.stores }
+    ensures rack { LeavesRack R.disk R.faults engine.old.files.rack engine.new.files.rack result }
+{
+    engine.is_sound();
+    refused_as(engine.refuse_piece(piece))
+}
 
-impl<R: Rack + Drop, B: Resource> Engine<R, B> {
-    /// A piece is refused.
-    fn finish_refused(&mut self, piece: Piece) -> Finish
-        requires fits { EachFits B.meaning B.sort self.old.files.stores }
-        requires settled { self.old.phase ≡ phase.Settled }
-        requires out { IsStepOut self.old.core piece.piece }
-        ensures finishes { Finishes R.disk self.old self.new piece Fails result }
-        ensures fits { EachFits B.meaning B.sort self.new.files.stores }
-        ensures rack { LeavesRack R.disk R.faults self.old.files.rack self.new.files.rack result }
-    {
-        self.is_sound();
-        refused_as(self.core.refused(piece))
+// The end of a process takes effect.
+fn finish_end<R: Rack + Drop, B: Resource>(engine: &mut Engine<R, B>, piece: Piece) -> Finish
+    requires fits { EachFits B.meaning B.sort engine.old.files.stores }
+    requires settled { engine.old.phase ≡ phase.Settled }
+    requires handed { IsHandedBy engine.old.core piece.piece }
+    requires out { state_of (moment_of engine.old.core) piece.piece.number ≡ Out }
+    requires end { piece.piece.work ≡ End }
+    ensures finishes { Finishes R.disk engine.old engine.new piece Succeeds result }
+    ensures fits { EachFits B.meaning B.sort engine.new.files.stores }
+    ensures rack { LeavesRack R.disk R.faults engine.old.files.rack engine.new.files.rack result }
+{
+    engine.is_sound();
+    match engine.end_piece(piece) {
+        Ok(count) => {
+            engine.is_sound();
+            Finish::Effected(count)
+        }
+        Err(DiskFault) => Finish::DiskFault,
     }
+}
 
-    /// The end of a process takes effect.
-    fn finish_end(&mut self, piece: Piece) -> Finish
-        requires fits { EachFits B.meaning B.sort self.old.files.stores }
-        requires settled { self.old.phase ≡ phase.Settled }
-        requires handed { IsHandedBy self.old.core piece.piece }
-        requires out { state_of (moment_of self.old.core) piece.piece.number ≡ Out }
-        requires end { piece.piece.work ≡ End }
-        ensures finishes { Finishes R.disk self.old self.new piece Succeeds result }
-        ensures fits { EachFits B.meaning B.sort self.new.files.stores }
-        ensures rack { LeavesRack R.disk R.faults self.old.files.rack self.new.files.rack result }
-    {
-        journals_keep_histories();
-        events_add_effects();
-        self.core.is_run();
-        let process = piece.process();
-        fits_its_bytes(process);
-        match self.files.record(&Record::End(process)) {
-            Ok(()) => {
-                let count = self.core.effected(piece);
-                self.is_sound();
+// A prepared piece is recorded and settled; the answer is how many events the history has then.
+fn finish_prepared<R: Rack + Drop, B: Resource>(
+    engine: &mut Engine<R, B>,
+    prepared: Prepared,
+) -> Result<u32, DiskFault>
+    requires fits { EachFits B.meaning B.sort engine.old.files.stores }
+    requires prepared { IsPrepared engine.old (R.disk engine.old.files.rack) prepared }
+    ensures settles { SettlesPiece engine.old engine.new prepared.piece result }
+    ensures any_moment { Told (R.disk engine.old.files.rack) → EachImage (R.disk engine.new.files.rack) (R.disk engine.old.files.rack).moment
+        (IsSoundForEither engine.old.catalog (full_history engine.old.core) (history_with engine.old.core prepared.piece.piece)) }
+    ensures follow { Told (R.disk engine.old.files.rack) → ImagesFollow (R.disk engine.old.files.rack) (R.disk engine.new.files.rack) }
+    ensures fits { EachFits B.meaning B.sort engine.new.files.stores }
+    ensures tells { (R.disk engine.new.files.rack).tells ≡ (R.disk engine.old.files.rack).tells }
+    ensures cause { HasCause (R.faults engine.old.files.rack) (R.faults engine.new.files.rack) result }
+{
+    let recorded = engine.record_piece(prepared)?;
+    engine.settle_piece(recorded)
+}
+
+// The work of a piece is done: it takes effect, unless the values bar it.
+fn finish_done<R: Rack + Drop, B: Resource>(engine: &mut Engine<R, B>, piece: Piece) -> Finish
+    requires fits { EachFits B.meaning B.sort engine.old.files.stores }
+    requires settled { engine.old.phase ≡ phase.Settled }
+    requires out { IsStepOut engine.old.core piece.piece }
+    ensures finishes { Finishes R.disk engine.old engine.new piece (outcome_of Answer.Done (is_barred engine.old piece.piece)) result }
+    ensures fits { EachFits B.meaning B.sort engine.new.files.stores }
+    ensures rack { LeavesRack R.disk R.faults engine.old.files.rack engine.new.files.rack result }
+{
+    engine.is_sound();
+    match engine.prepare_piece(piece) {
+        PreparePiece::Ready(prepared) => match finish_prepared(engine, prepared) {
+            Ok(count) => {
+                engine.is_sound();
                 Finish::Effected(count)
             }
-            Err(DiskFault) => {
-                self.phase = Phase::Closed;
-                Finish::DiskFault
-            }
-        }
+            Err(DiskFault) => Finish::DiskFault,
+        },
+        PreparePiece::Barred(piece) => finish_refused(engine, piece),
+        PreparePiece::DiskFault => Finish::DiskFault,
+        PreparePiece::NoMemory(piece) => Finish::NoMemory(piece),
     }
+}
 
-    /// A prepared piece is recorded and settled; the answer is how many events the history has then.
-    fn finish_prepared(&mut self, prepared: Prepared) -> Result<u32, DiskFault>
-        requires fits { EachFits B.meaning B.sort self.old.files.stores }
-        requires prepared { IsPrepared self.old (R.disk self.old.files.rack) prepared }
-        ensures settles { SettlesPiece self.old self.new prepared.piece result }
-        ensures any_moment { Told (R.disk self.old.files.rack) → EachImage (R.disk self.new.files.rack) (R.disk self.old.files.rack).moment
-            (IsSoundForEither self.old.catalog (full_history self.old.core) (history_with self.old.core prepared.piece.piece)) }
-        ensures follow { Told (R.disk self.old.files.rack) → ImagesFollow (R.disk self.old.files.rack) (R.disk self.new.files.rack) }
-        ensures fits { EachFits B.meaning B.sort self.new.files.stores }
-        ensures tells { (R.disk self.new.files.rack).tells ≡ (R.disk self.old.files.rack).tells }
-        ensures cause { HasCause (R.faults self.old.files.rack) (R.faults self.new.files.rack) result }
-    {
-        let recorded = self.record_piece(prepared)?;
-        self.settle_piece(recorded)
+// A piece that is out is finished.
+fn finish_out<R: Rack + Drop, B: Resource>(
+    engine: &mut Engine<R, B>,
+    piece: Piece,
+    answer: Answer,
+) -> Finish
+    requires fits { EachFits B.meaning B.sort engine.old.files.stores }
+    requires settled { engine.old.phase ≡ phase.Settled }
+    requires handed { IsHandedBy engine.old.core piece.piece }
+    requires out { state_of (moment_of engine.old.core) piece.piece.number ≡ Out }
+    requires end { piece.piece.work ≡ End → answer ≡ Answer.Done }
+    ensures finishes { Finishes R.disk engine.old engine.new piece (outcome_of answer (is_barred engine.old piece.piece)) result }
+    ensures fits { EachFits B.meaning B.sort engine.new.files.stores }
+    ensures rack { LeavesRack R.disk R.faults engine.old.files.rack engine.new.files.rack result }
+{
+    if let Work::End = piece.work() {
+        return finish_end(engine, piece);
     }
-
-    /// The work of a piece is done: it takes effect, unless the values bar it.
-    fn finish_done(&mut self, piece: Piece) -> Finish
-        requires fits { EachFits B.meaning B.sort self.old.files.stores }
-        requires settled { self.old.phase ≡ phase.Settled }
-        requires out { IsStepOut self.old.core piece.piece }
-        ensures finishes { Finishes R.disk self.old self.new piece (outcome_of Answer.Done (is_barred self.old piece.piece)) result }
-        ensures fits { EachFits B.meaning B.sort self.new.files.stores }
-        ensures rack { LeavesRack R.disk R.faults self.old.files.rack self.new.files.rack result }
-    {
-        self.is_sound();
-        match self.prepare_piece(piece) {
-            PreparePiece::Ready(prepared) => match self.finish_prepared(prepared) {
-                Ok(count) => {
-                    self.is_sound();
-                    Finish::Effected(count)
-                }
-                Err(DiskFault) => Finish::DiskFault,
-            },
-            PreparePiece::Barred(piece) => self.finish_refused(piece),
-            PreparePiece::DiskFault => Finish::DiskFault,
-            PreparePiece::NoMemory(piece) => Finish::NoMemory(piece),
-        }
+    match answer {
+        Answer::Done => finish_done(engine, piece),
+        Answer::Refused => finish_refused(engine, piece),
     }
+}
 
-    /// A piece that is out is finished.
-    fn finish_out(&mut self, piece: Piece, answer: Answer) -> Finish
-        requires fits { EachFits B.meaning B.sort self.old.files.stores }
-        requires settled { self.old.phase ≡ phase.Settled }
-        requires handed { IsHandedBy self.old.core piece.piece }
-        requires out { state_of (moment_of self.old.core) piece.piece.number ≡ Out }
-        requires end { piece.piece.work ≡ End → answer ≡ Answer.Done }
-        ensures finishes { Finishes R.disk self.old self.new piece (outcome_of answer (is_barred self.old piece.piece)) result }
-        ensures fits { EachFits B.meaning B.sort self.new.files.stores }
-        ensures rack { LeavesRack R.disk R.faults self.old.files.rack self.new.files.rack result }
-    {
-        if let Work::End = piece.work() {
-            return self.finish_end(piece);
-        }
-        match answer {
-            Answer::Done => self.finish_done(piece),
-            Answer::Refused => self.finish_refused(piece),
-        }
+/// Ends a piece that this engine handed out, by what came of its work; an end is answered that it is done. A piece whose work is
+/// done takes effect, unless the values bar it, which is as if it were refused.
+pub fn finish_piece<R: Rack + Drop, B: Resource>(
+    engine: &mut Engine<R, B>,
+    piece: Piece,
+    answer: Answer,
+) -> Finish
+    requires fits { EachFits B.meaning B.sort engine.old.files.stores }
+    requires rest { engine.old.phase ≢ phase.UnderWay }
+    requires handed { IsHandedBy engine.old.core piece.piece }
+    requires end { piece.piece.work ≡ End → answer ≡ Answer.Done }
+    ensures finishes { engine.old.phase ≡ phase.Settled → Finishes R.disk engine.old engine.new piece (outcome_of answer (is_barred engine.old piece.piece)) result }
+    ensures closed { engine.old.phase ≡ phase.Closed → (result ≡ Finish.Closed (length engine.old.core.kept)) × (engine.new ≡ engine.old) }
+    ensures follow { Told (R.disk engine.old.files.rack) → ImagesFollow (R.disk engine.old.files.rack) (R.disk engine.new.files.rack) }
+    ensures fits { EachFits B.meaning B.sort engine.new.files.stores }
+    ensures tells { (R.disk engine.new.files.rack).tells ≡ (R.disk engine.old.files.rack).tells }
+    ensures later { R.faults engine.old.files.rack ≤ R.faults engine.new.files.rack }
+    ensures fault { result ≡ Finish.DiskFault → Rose (R.faults engine.old.files.rack) (R.faults engine.new.files.rack) }
+{
+    if let Err(Closed(count)) = engine.not_closed() {
+        return Finish::Closed(count);
     }
-
-    /// Ends a piece that this engine handed out, by what came of its work; an end is answered that it is done. A piece whose work is
-    /// done takes effect, unless the values bar it, which is as if it were refused.
-    pub fn finish(&mut self, piece: Piece, answer: Answer) -> Finish
-        requires fits { EachFits B.meaning B.sort self.old.files.stores }
-        requires rest { self.old.phase ≢ phase.UnderWay }
-        requires handed { IsHandedBy self.old.core piece.piece }
-        requires end { piece.piece.work ≡ End → answer ≡ Answer.Done }
-        ensures finishes { self.old.phase ≡ phase.Settled → Finishes R.disk self.old self.new piece (outcome_of answer (is_barred self.old piece.piece)) result }
-        ensures closed { self.old.phase ≡ phase.Closed → (result ≡ Finish.Closed (length self.old.core.kept)) × (self.new ≡ self.old) }
-        ensures follow { Told (R.disk self.old.files.rack) → ImagesFollow (R.disk self.old.files.rack) (R.disk self.new.files.rack) }
-        ensures fits { EachFits B.meaning B.sort self.new.files.stores }
-        ensures tells { (R.disk self.new.files.rack).tells ≡ (R.disk self.old.files.rack).tells }
-        ensures later { R.faults self.old.files.rack ≤ R.faults self.new.files.rack }
-        ensures fault { result ≡ Finish.DiskFault → Rose (R.faults self.old.files.rack) (R.faults self.new.files.rack) }
-    {
-        if let Err(Closed(count)) = self.not_closed() {
-            return Finish::Closed(count);
-        }
-        self.is_sound();
-        match self.core.state(&piece) {
-            PieceState::Out => self.finish_out(piece, answer),
-            PieceState::Dropped(event) => Finish::Dropped(event),
-            PieceState::Over => Finish::Over,
-        }
+    engine.is_sound();
+    match engine.state(&piece) {
+        PieceState::Out => finish_out(engine, piece, answer),
+        PieceState::Dropped(event) => Finish::Dropped(event),
+        PieceState::Over => Finish::Over,
     }
 }

@@ -3,7 +3,7 @@ ghost use Rattle.std.specs.Prelude.{◌≡◌, ◌≤◌, length, None, Some, If
 ghost use Rattle.std.specs.List.{sum_by};
 ghost use Rattle.process_engine.specs.Fitting.{first_passed, limit_passed, need_of};
 
-use crate::Engine;
+use engine_steps::Engine;
 use process_disk::Rack;
 use process_tree::Plan;
 use resource_box::Resource;
@@ -51,19 +51,20 @@ fn first_passed(started: u32, active: u32, entries: u32) -> Option<StartLimit>
     None
 }
 
-impl<R: Rack + Drop, B: Resource> Engine<R, B> {
-    /// Whether all of these processes fit within the limits beside those that have started.
-    pub fn fits(&self, plans: &[Plan]) -> Result<(), StartLimit>
-        requires few { length plans.now ≤ 256 }
-        ensures fits { OnOk result (limit_passed self.now.core plans.now ≡ None) }
-        ensures passed { IfErr result (λ limit. limit_passed self.now.core plans.now ≡ Some limit) }
-    {
-        let counts = self.core.counts();
-        let more = plans.len() as u32;
-        let entries = counts.entries + needed_by(plans);
-        match first_passed(counts.processes + more, counts.active + more, entries) {
-            Some(limit) => Err(limit),
-            None => Ok(()),
-        }
+/// Whether all of these processes fit within the limits beside those that have started; else the first limit that they pass.
+pub fn fits<R: Rack + Drop, B: Resource>(
+    engine: &Engine<R, B>,
+    plans: &[Plan],
+) -> Result<(), StartLimit>
+    requires few { length plans.now ≤ 256 }
+    ensures fits { OnOk result (limit_passed engine.now.core plans.now ≡ None) }
+    ensures passed { IfErr result (λ limit. limit_passed engine.now.core plans.now ≡ Some limit) }
+{
+    let counts = engine.counts();
+    let more = plans.len() as u32;
+    let entries = counts.entries + needed_by(plans);
+    match first_passed(counts.processes + more, counts.active + more, entries) {
+        Some(limit) => Err(limit),
+        None => Ok(()),
     }
 }

@@ -1,24 +1,20 @@
-//! The engine: the scheduler over the journal and the stores of eight subsystems.
+//! The engine as it is used: the calls of `engine_steps` under the same names, whether more processes fit within the limits, and the end
+//! of a piece in one call.
 //!
-//! An engine is seen as a core, a catalog and files (`specs/Engines`). While nothing is under way and no call of the rack failed, its
-//! files stand for the history of its core, and each book is the effects of that history. Who does the work of a piece is a `Gate`.
+//! Who does the work of a piece is a `Gate`, and `finish_piece` ends the piece by its answer (`specs/Finishing`): a step or an undo whose work is
+//! done is prepared, recorded and settled, unless the values of the books bar it, and the end of a process is recorded. What is refused or
+//! barred touches no file. An effect is acknowledged once each later crash keeps it. `fits` tells beforehand which limit more processes
+//! would pass (`specs/Fitting`).
 #![tactic(auto)]
 
-mod asking;
-mod beginning;
-mod engines;
 mod finishing;
 mod fitting;
 mod gates;
-mod handing_back;
-mod making;
-mod opening;
-mod pieces;
 
-pub use beginning::{EngineStart, EngineStartWhy};
-pub use engines::{Closed, Engine, Phase};
-pub use finishing::Finish;
-pub use fitting::StartLimit;
+pub use engine_steps::{
+    BookFault, Closed, CreateError, CreateRefused, Engine, EngineStart, EngineStartWhy, OpenError,
+    OpenRefused, Parts, Phase, PreparePiece, Prepared, Recorded,
+};
+pub use finishing::{Finish, finish_piece};
+pub use fitting::{StartLimit, fits};
 pub use gates::{Answer, Gate};
-pub use history_files::{BookFault, CreateError, CreateRefused, OpenError, OpenRefused, Parts};
-pub use pieces::{PreparePiece, Prepared, Recorded};

@@ -13,7 +13,7 @@ use Rattle.schedule_model.specs.Limits.{entries}
 use Rattle.commute_table.specs.declared.catalog.Catalog.{Catalog}
 use Rattle.process_core.specs.Cores.{opened_on}
 use Rattle.process_journal.specs.Laws.{AreEqualInTurn}
-use Rattle.history_files.specs.Laws.{SoundFilesAreOpened}
+use Rattle.history_opening.specs.Laws.{SoundFilesAreOpened}
 use Rattle.process_engine.specs.Fitting.{first_passed, limit_passed, need_of}
 use Rattle.program_lines.specs.declared.refusal.Refusal.{Refusal}
 use Rattle.program_lines.specs.declared.refusal.Refusal.TheVariants as refusals

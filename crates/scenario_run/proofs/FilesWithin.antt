@@ -6,10 +6,10 @@ use Rattle.process_disk.specs.Disk.{Disk, FileSet, IsHonest, Told}
 use Rattle.process_disk.specs.Images.{EachImage, ImagesFollow}
 use Rattle.process_disk.proofs.Images.{each_so, each_then, still_told}
 use Rattle.process_core.specs.Cores.{history_of}
-use Rattle.history_files.specs.Images.{BecomesSound}
+use Rattle.history_opening.specs.Images.{BecomesSound}
 use Rattle.history_files.specs.Sound.{IsSound}
-use Rattle.process_engine.specs.Engines.{EngineState, full_history}
-use Rattle.process_engine.specs.declared.engines.Phase.TheVariants.{Settled}
+use Rattle.engine_steps.specs.Engines.{EngineState, full_history}
+use Rattle.engine_steps.specs.declared.engines.Phase.TheVariants.{Settled}
 use Rattle.engine_runs.specs.Runs.{GoesOn, IsLeftWithin}
 use Rattle.engine_runs.proofs.Goes.{continues}
 use Rattle.engine_runs.proofs.Within.{OneEach, within_old}

@@ -26,11 +26,11 @@ use Rattle.machine_model.proofs.CoursesRuns.{entries-courses}
 use Rattle.machine_model.proofs.RunsWithin.{session-within}
 use Rattle.process_core.specs.Answers.{after_start}
 use Rattle.process_core.specs.Cores.{CoreState, IsCore, courses_in, history_of, machine_of, moment_of, relation}
-use Rattle.process_engine.specs.Beginning.{history_with}
-use Rattle.process_engine.specs.Engines.{full_history}
+use Rattle.engine_steps.specs.Beginning.{history_with}
+use Rattle.engine_steps.specs.Engines.{full_history}
 use Rattle.process_engine.specs.Fitting.{active_with, entries_with, first_passed, limit_passed, need_of, need_of_good, processes_with}
 use Rattle.process_engine.specs.declared.fitting.StartLimit.TheVariants.{Processes, Active, Entries}
-use Rattle.process_engine.proofs.StartedHistory.{history_after}
+use Rattle.engine_steps.proofs.StartedHistory.{history_after}
 
 -- where no limit is passed, each number is within its own
 module _ (a b c : ℕ) where

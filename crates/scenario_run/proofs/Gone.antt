@@ -7,8 +7,8 @@ use Rattle.process_tree.specs.declared.plan.Plan.{Plan}
 use Rattle.schedule_model.specs.declared.history.History.{History}
 use Rattle.machine_model.specs.Replies.{Handed}
 use Rattle.process_core.specs.Cores.{CoreState, IsCore}
-use Rattle.process_engine.specs.Engines.{EngineState, full_history}
-use Rattle.process_engine.specs.Opening.{IsOpened}
+use Rattle.engine_steps.specs.Engines.{EngineState, full_history}
+use Rattle.engine_steps.specs.Opening.{IsOpened}
 use Rattle.process_engine.specs.declared.gates.Answer.{Answer}
 use Rattle.engine_runs.specs.GateAnswers.{AreAnswered, IsByGate, kept_since, unbarred_refusals}
 use Rattle.process_core.specs.Handing.{with_served}

@@ -7,8 +7,8 @@ use Rattle.machine_model.specs.declared.kept.Kept.TheVariants.{Start}
 use Rattle.machine_model.specs.Advance.{advance, advance_all}
 use Rattle.machine_model.specs.Moment.{Moment}
 use Rattle.process_core.specs.Cores.{CoreState}
-use Rattle.process_engine.specs.Engines.{EngineState}
-use Rattle.process_engine.specs.Opening.{IsOpened}
+use Rattle.engine_steps.specs.Engines.{EngineState}
+use Rattle.engine_steps.specs.Opening.{IsOpened}
 use Rattle.worker_gate.specs.Running.{NothingRuns}
 use Rattle.scenario_run.specs.Starting.{starts_from, with_started}
 

@@ -16,9 +16,9 @@ use Rattle.commute_table.specs.Document.{Said as Said', Says}
 use Rattle.process_journal.specs.Laws.{IsSameHistory}
 use Rattle.process_journal.proofs.OneHistory.{one_history_at_most}
 use Rattle.history_files.specs.Sound.{IsSound}
-use Rattle.history_files.specs.Laws.{SoundFilesAreOpened}
-use Rattle.history_files.specs.declared.faults.OpenError.{OpenError}
-use Rattle.history_files.specs.declared.faults.OpenError.TheVariants as errors
+use Rattle.history_opening.specs.Laws.{SoundFilesAreOpened}
+use Rattle.history_opening.specs.declared.faults.OpenError.{OpenError}
+use Rattle.history_opening.specs.declared.faults.OpenError.TheVariants as errors
 use Rattle.program_lines.specs.declared.refusal.Refusal.{Refusal}
 use Rattle.program_lines.specs.declared.refusal.Refusal.TheVariants as refusals
 use Rattle.command_input.specs.declared.scenario.NoPlans.TheVariants.{Refused, IllFormed}

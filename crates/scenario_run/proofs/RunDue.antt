@@ -9,11 +9,11 @@ use Rattle.schedule_model.specs.declared.history.History.{History}
 use Rattle.commute_table.specs.declared.catalog.Catalog.{Catalog}
 use Rattle.process_core.specs.Cores.{CoreState}
 use Rattle.history_files.specs.Sound.{IsSound}
-use Rattle.process_engine.specs.Engines.{EngineState, full_history}
+use Rattle.engine_steps.specs.Engines.{EngineState, full_history}
 use Rattle.process_engine.specs.Fitting.{limit_passed}
-use Rattle.process_engine.specs.Opening.{IsOpened}
-use Rattle.process_engine.specs.declared.engines.Phase.{Phase}
-use Rattle.process_engine.specs.declared.engines.Phase.TheVariants.{Settled, Closed}
+use Rattle.engine_steps.specs.Opening.{IsOpened}
+use Rattle.engine_steps.specs.declared.engines.Phase.{Phase}
+use Rattle.engine_steps.specs.declared.engines.Phase.TheVariants.{Settled, Closed}
 use Rattle.engine_runs.specs.Runs.{GoesOn}
 use Rattle.engine_runs.proofs.Within.{OneEach}
 use Rattle.program_lines.specs.declared.refusal.Refusal.{Refusal}

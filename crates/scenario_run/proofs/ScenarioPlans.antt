@@ -12,7 +12,7 @@ use Rattle.schedule_model.specs.Laws.{IsGoodPlan}
 use Rattle.commute_table.specs.declared.catalog.Catalog.{Catalog}
 use Rattle.commute_table.specs.declared.op.Op.{Op}
 use Rattle.commute_table.specs.Binding.{IsPlanOf, numbers_bound}
-use Rattle.process_engine.specs.Beginning.{IsPlanFor}
+use Rattle.engine_steps.specs.Beginning.{IsPlanFor}
 use Rattle.program_lines.specs.Verdicts.{IsFirstVerdict}
 use Rattle.command_input.specs.Scenarios.{ArePlansOf, IsBound}
 

@@ -7,7 +7,7 @@ use Rattle.machine_model.specs.declared.kept.Kept.TheVariants.{Start}
 use Rattle.machine_model.specs.Calls.{Answer, start, start_unless}
 use Rattle.process_core.specs.Answers.{after_start, answer_in}
 use Rattle.process_core.specs.Cores.{CoreState, IsCore, history_of}
-use Rattle.process_engine.specs.Beginning.{IsFree}
+use Rattle.engine_steps.specs.Beginning.{IsFree}
 use Rattle.scenario_run.specs.Starting.{starts_from, with_started}
 
 -- one more start is the last

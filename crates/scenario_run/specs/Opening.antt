@@ -9,12 +9,12 @@ use Rattle.schedule_model.specs.declared.history.History.{History}
 use Rattle.schedule_model.specs.Histories.{active}
 use Rattle.commute_table.specs.declared.catalog.Catalog.{Catalog}
 use Rattle.commute_table.specs.Bytes.{bytes_of}
-use Rattle.history_files.specs.declared.faults.OpenError.{OpenError}
-use Rattle.history_files.specs.declared.faults.OpenError.TheVariants as errors
-use Rattle.history_files.specs.Images.{BecomesSound}
-use Rattle.history_files.specs.Opening.{IsDueToOpening}
+use Rattle.history_opening.specs.declared.faults.OpenError.{OpenError}
+use Rattle.history_opening.specs.declared.faults.OpenError.TheVariants as errors
+use Rattle.history_opening.specs.Images.{BecomesSound}
+use Rattle.history_opening.specs.Opening.{IsDueToOpening}
 use Rattle.history_files.specs.Sound.{IsSound}
-use Rattle.process_engine.specs.Opening.{LeftByOpening}
+use Rattle.engine_steps.specs.Opening.{LeftByOpening}
 use Rattle.program_lines.specs.declared.faults.FileFault.TheVariants.{BadHeader, BadRecord, BadHistory, BadBook}
 use Rattle.program_lines.specs.declared.refusal.Refusal.{Refusal}
 use Rattle.program_lines.specs.declared.refusal.Refusal.TheVariants as refusals

@@ -9,7 +9,7 @@ use Rattle.commute_table.specs.declared.catalog.Catalog.{Catalog}
 use Rattle.machine_model.specs.declared.began.Cause.{Cause}
 use Rattle.machine_model.specs.State.{next_of}
 use Rattle.process_core.specs.Cores.{CoreState, began_in, courses_in, moment_of}
-use Rattle.process_engine.specs.Engines.{full_history}
+use Rattle.engine_steps.specs.Engines.{full_history}
 use Rattle.process_report.specs.Report.{report_text}
 use Rattle.session_text.specs.Answers.{exhausted_words}
 

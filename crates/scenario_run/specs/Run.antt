@@ -13,10 +13,10 @@ use Rattle.commute_table.specs.declared.catalog.Catalog.{Catalog}
 use Rattle.process_core.specs.Answers.{answer_in}
 use Rattle.process_core.specs.Cores.{CoreState, IsCore, history_of, opened_on}
 use Rattle.history_files.specs.Sound.{IsSound}
-use Rattle.process_engine.specs.Engines.{full_history}
+use Rattle.engine_steps.specs.Engines.{full_history}
 use Rattle.process_engine.specs.Fitting.{limit_passed}
-use Rattle.process_engine.specs.declared.engines.Phase.{Phase}
-use Rattle.process_engine.specs.declared.engines.Phase.TheVariants.{Settled, Closed}
+use Rattle.engine_steps.specs.declared.engines.Phase.{Phase}
+use Rattle.engine_steps.specs.declared.engines.Phase.TheVariants.{Settled, Closed}
 use Rattle.process_engine.specs.declared.fitting.StartLimit.{StartLimit}
 use Rattle.process_engine.specs.declared.fitting.StartLimit.TheVariants as limits
 use Rattle.process_engine.specs.declared.gates.Answer.{Answer}

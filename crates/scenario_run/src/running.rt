@@ -6,12 +6,12 @@ ghost use Rattle.schedule_model.specs.Laws.{IsGoodPlan};
 ghost use Rattle.commute_table.specs.Operations.{IsCatalog};
 ghost use Rattle.history_files.specs.Boxes.{AreBoxes};
 ghost use Rattle.history_files.specs.Standing.{EachFits};
-ghost use Rattle.process_engine.specs.Beginning.{IsPlanFor};
-ghost use Rattle.process_engine.specs.Engines.{full_history};
-ghost use Rattle.process_engine.specs.Opening.{IsOpened};
+ghost use Rattle.engine_steps.specs.Beginning.{IsPlanFor};
+ghost use Rattle.engine_steps.specs.Engines.{full_history};
+ghost use Rattle.engine_steps.specs.Opening.{IsOpened};
 ghost use Rattle.process_engine.specs.Fitting.{limit_passed};
 ghost use Rattle.process_engine.specs.declared.fitting.StartLimit.{StartLimit as Limit'};
-ghost use Rattle.process_engine.specs.declared.engines.Phase.TheVariants as phase;
+ghost use Rattle.engine_steps.specs.declared.engines.Phase.TheVariants as phase;
 ghost use Rattle.engine_runs.specs.Runs.{GoesOn, IsReady};
 ghost use Rattle.worker_gate.specs.Running.{IsOutcome, NothingRuns, RanBy};
 ghost use Rattle.command_input.specs.Inputs.{Input as Input', input};
@@ -27,9 +27,9 @@ use crate::reporting::{report_now, stuck_report};
 use crate::scenario::scenario_from;
 use crate::starting::start_all;
 use command_input::{Bound, CommandEnd, NoPlans, Said};
-use history_files::sound_files_are_opened;
+use history_opening::sound_files_are_opened;
 use process_disk::Rack;
-use process_engine::{Engine, Gate, Parts, StartLimit};
+use process_engine::{Engine, Gate, Parts, StartLimit, fits};
 use process_flow::Source;
 use process_tree::Plan;
 use program_lines::{Quantity, Refusal, Status};
@@ -85,7 +85,7 @@ fn all_fit<R: Rack + Drop, B: Resource>(
     ensures passed { IfErr result (λ r. (limit : Limit') × (r ≡ limit_refusal limit) × (limit_passed engine.now.core plans.now ≡ Some limit)) }
     ensures late { IfErr result (λ r. comes_before_files r ≡ false) }
 {
-    match engine.fits(plans) {
+    match fits(engine, plans) {
         Ok(()) => Ok(()),
         Err(limit) => Err(limit_refusal(limit)),
     }

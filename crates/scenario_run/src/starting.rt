@@ -6,9 +6,9 @@ ghost use Rattle.process_tree.specs.declared.plan.Plan.{Plan as Plan'};
 ghost use Rattle.schedule_model.specs.Laws.{IsGoodPlan};
 ghost use Rattle.process_core.specs.Answers.{after_start};
 ghost use Rattle.history_files.specs.Standing.{EachFits};
-ghost use Rattle.process_engine.specs.Beginning.{IsFree, IsPlanFor};
+ghost use Rattle.engine_steps.specs.Beginning.{IsFree, IsPlanFor};
 ghost use Rattle.process_engine.specs.Fitting.{limit_passed};
-ghost use Rattle.process_engine.specs.declared.engines.Phase.TheVariants as phase;
+ghost use Rattle.engine_steps.specs.declared.engines.Phase.TheVariants as phase;
 ghost use Rattle.engine_runs.specs.Runs.{GoesOn, IsReady};
 ghost use Rattle.scenario_run.specs.Starting.{with_started};
 

@@ -7,13 +7,13 @@ use Rattle.machine_model.specs.Replies.{Handed}
 use Rattle.process_core.specs.Cores.{CoreState}
 use Rattle.program_lines.specs.declared.status.Status.TheVariants.{Done}
 use Rattle.session_text.specs.declared.line.Line.{Line}
-use Rattle.session_run.specs.declared.cut.Cut.{Cut}
-use Rattle.session_run.specs.declared.cut.Cut.TheVariants.{DiskFault, NoMemory}
-use Rattle.session_run.specs.Alike.{AreAlike}
-use Rattle.session_run.specs.Answering.{status_of, AreAlikeSessions, HasAnswered, IsAnswered, IsCopy, IsCut}
-use Rattle.session_run.specs.Pieces.{session_of}
-use Rattle.session_run.specs.Playing.{Played, SessionState, behind, plan_for, play, play_all}
-use Rattle.session_run.specs.Playthrough.{begun_on, fault_line, printed_by, HasPlayed}
+use Rattle.session_lines.specs.declared.cut.Cut.{Cut}
+use Rattle.session_lines.specs.declared.cut.Cut.TheVariants.{DiskFault, NoMemory}
+use Rattle.session_run.specs.Alike.{AreAlike, AreAlikeSessions}
+use Rattle.session_lines.specs.Answering.{IsAnswered, IsCopy, IsCut}
+use Rattle.session_lines.specs.Pieces.{session_of}
+use Rattle.session_lines.specs.Playing.{Played, SessionState, plan_for, play}
+use Rattle.session_run.specs.Playthrough.{begun_on, behind, fault_line, play_all, printed_by, status_of, HasAnswered, HasPlayed}
 use Rattle.session_run.proofs.AlikeSessions.{ComeToSame, play_same}
 use Rattle.session_run.proofs.EqualPlans.{equal_plans}
 

@@ -1,12 +1,6 @@
 pub mod EqualPlans
 pub mod AlikeSessions
 pub mod AnsweredLines
-pub mod FoundPieces
-pub mod AskedPieces
-pub mod FinishedLines
-pub mod StartedLines
-pub mod FinishAt
-pub mod Outcomes
 pub mod SessionDue
 pub mod SessionComplete
 pub mod BadLines

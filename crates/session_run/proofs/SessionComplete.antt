@@ -4,7 +4,7 @@ use Rattle.std.specs.declared.alloc.Global.{Global}
 use Rattle.process_tree.specs.declared.plan.Plan.{Plan}
 use Rattle.schedule_model.specs.declared.history.History.{History}
 use Rattle.commute_table.specs.declared.catalog.Catalog.{Catalog}
-use Rattle.history_files.specs.Laws.{SoundFilesAreOpened}
+use Rattle.history_opening.specs.Laws.{SoundFilesAreOpened}
 use Rattle.program_lines.specs.declared.refusal.Refusal.{Refusal}
 use Rattle.program_lines.specs.declared.refusal.Refusal.TheVariants as refusals
 use Rattle.program_lines.specs.declared.status.Status.{Status}

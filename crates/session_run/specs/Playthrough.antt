@@ -8,8 +8,21 @@ use Rattle.program_lines.specs.declared.status.Status.{Status}
 use Rattle.program_lines.specs.declared.status.Status.TheVariants.{Done, DiskFault, NoMemory}
 use Rattle.program_lines.specs.Refusals.{refusal_text}
 use Rattle.session_text.specs.declared.line.Line.{Line}
-use Rattle.session_run.specs.Alike.{AreAlike}
-use Rattle.session_run.specs.Playing.{SessionState, play_all}
+use Rattle.machine_model.specs.Replies.{Handed}
+use Rattle.session_lines.specs.Pieces.{session_of}
+use Rattle.session_lines.specs.Playing.{Played, SessionState, plan_for, play}
+use Rattle.session_lines.specs.declared.cut.Cut.{Cut}
+use Rattle.session_lines.specs.declared.cut.Cut.TheVariants as cuts
+use Rattle.session_run.specs.Alike.{AreAlike, AreAlikeSessions}
+
+-- what was printed before is printed in front
+abbrev pub behind : List ℕ → Played → Played
+behind text p = record { state = p.state; printed = text ++ p.printed }
+
+-- Lines one after another, under this catalog and with the plans of its scenario.
+abbrev pub play_all : Catalog → List Plan → SessionState → List Line → Played
+play_all c plans s [] = record { state = s; printed = [] }
+play_all c plans s (l ∷ ls) = let p = play c s l (plan_for plans l) in behind p.printed (play_all c plans p.state ls)
 
 -- a session that begins on this machine
 abbrev pub begun_on : CoreState → SessionState
@@ -45,3 +58,15 @@ pub record HasPlayed (c : Catalog) (plans : List Plan) (first now : CoreState) (
   pub are : lines ≡ answered ++ rest
   pub printed : text ≡ printed_by c plans first answered ++ fault_line status
   pub ends : EndsAt c plans first now answered rest status
+
+-- Of the lines of a session that began on a machine these are left: those before were answered, and this was printed.
+pub record HasAnswered (c : Catalog) (plans : List Plan) (first now : CoreState) (pieces : List Handed) (lines rest : List Line) (text : List ℕ) : Type 0 where
+  pub answered : List Line
+  pub are : lines ≡ answered ++ rest
+  pub printed : text ≡ printed_by c plans first answered
+  pub alike : AreAlikeSessions (play_all c plans (begun_on first) answered).state (session_of now pieces)
+
+-- what a session that was cut off ends with
+abbrev pub status_of : Cut → Status
+status_of cuts.DiskFault = DiskFault
+status_of cuts.NoMemory = NoMemory

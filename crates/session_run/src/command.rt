@@ -6,7 +6,7 @@ ghost use Rattle.commute_table.specs.Operations.{IsCatalog};
 ghost use Rattle.process_core.specs.Cores.{IsCore};
 ghost use Rattle.history_files.specs.Boxes.{AreBoxes};
 ghost use Rattle.history_files.specs.Standing.{EachFits};
-ghost use Rattle.process_engine.specs.Beginning.{IsPlanFor};
+ghost use Rattle.engine_steps.specs.Beginning.{IsPlanFor};
 ghost use Rattle.engine_runs.specs.Runs.{GoesOn, IsReady};
 ghost use Rattle.program_lines.specs.declared.status.Status.TheVariants as statuses;
 ghost use Rattle.command_input.specs.Early.{comes_before_files};
@@ -19,7 +19,7 @@ ghost use Rattle.session_run.specs.Session.{lines_refusal, phase_by, IsNoSession
 use crate::playthrough::{FAULT_ROOM, play_lines};
 use command_input::{Bound, CommandEnd, NoPlans, Said, scenario_of, text_of};
 use commute_table::Catalog;
-use history_files::sound_files_are_opened;
+use history_opening::sound_files_are_opened;
 use process_disk::Rack;
 use process_engine::{Engine, Parts};
 use process_flow::Source;

@@ -24,7 +24,7 @@ use Rattle.process_core.specs.Cores.{CoreState, IsCore, IsHandedBy, courses_in, 
 use Rattle.process_core.specs.Room.{kept_for, room_of}
 use Rattle.process_core.proofs.KeptBound.{bound_on_kept}
 use Rattle.process_core.proofs.Rotations.{numbered_now}
-use Rattle.process_engine.specs.Engines.{EngineState}
+use Rattle.engine_steps.specs.Engines.{EngineState}
 use Rattle.process_engine.specs.Finishing.{Finishes}
 use Rattle.process_engine.specs.declared.finishing.Finish.{Finish}
 use Rattle.process_engine.specs.declared.finishing.Finish.TheVariants.{Effected, Retry, Failed, Over, Dropped, Exhausted, DiskFault, NoMemory, Closed}

@@ -13,8 +13,8 @@ use Rattle.machine_model.specs.Runs.{now, start_refusal}
 use Rattle.process_core.specs.Answers.{after_start, answer_in}
 use Rattle.process_core.specs.Cores.{CoreState, IsCore, courses_in, history_of, moment_of, relation}
 use Rattle.process_core.proofs.StartMoments.{moment_after}
-use Rattle.process_engine.specs.Engines.{EngineState}
-use Rattle.process_engine.specs.Opening.{IsOpened}
+use Rattle.engine_steps.specs.Engines.{EngineState}
+use Rattle.engine_steps.specs.Opening.{IsOpened}
 use Rattle.worker_gate.specs.Running.{NothingRuns}
 
 -- Nothing was handed out yet where the engine was just opened.

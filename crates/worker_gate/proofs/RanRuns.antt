@@ -18,9 +18,9 @@ use Rattle.machine_model.specs.State.{victim_of}
 use Rattle.process_core.specs.Answers.{after_call, answer_in}
 use Rattle.process_core.specs.Cores.{CoreState, IsCore, courses_in, moment_of, relation}
 use Rattle.history_files.specs.Sound.{IsSound}
-use Rattle.process_engine.specs.Engines.{EngineState, full_history, with_core}
+use Rattle.engine_steps.specs.Engines.{EngineState, full_history, with_core}
 use Rattle.process_engine.specs.Finishing.{Finishes}
-use Rattle.process_engine.specs.declared.engines.Phase.TheVariants as phase
+use Rattle.engine_steps.specs.declared.engines.Phase.TheVariants as phase
 use Rattle.process_engine.specs.declared.finishing.Finish.{Finish}
 use Rattle.process_engine.specs.declared.finishing.Finish.TheVariants.{Effected, Retry, Failed, Over, Dropped, Exhausted, DiskFault, NoMemory, Closed}
 use Rattle.process_engine.specs.declared.gates.Answer.{Answer}

@@ -10,8 +10,8 @@ use Rattle.machine_model.specs.CallLaws.{IsStuck}
 use Rattle.machine_model.specs.Replies.{Handed, stuck}
 use Rattle.process_core.specs.Answers.{answer_in}
 use Rattle.process_core.specs.Cores.{CoreState, courses_in, history_of, moment_of, relation}
-use Rattle.process_engine.specs.Engines.{EngineState}
-use Rattle.process_engine.specs.declared.engines.Phase.TheVariants as phase
+use Rattle.engine_steps.specs.Engines.{EngineState}
+use Rattle.engine_steps.specs.declared.engines.Phase.TheVariants as phase
 use Rattle.process_engine.specs.declared.finishing.Finish.{Finish}
 use Rattle.process_engine.specs.declared.finishing.Finish.TheVariants as finished
 use Rattle.process_engine.specs.declared.gates.Answer.{Answer}

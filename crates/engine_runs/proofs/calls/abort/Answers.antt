@@ -1,6 +1,6 @@
 use Rattle.machine_model.specs.Calls.{abort}
 use Rattle.process_core.specs.Answers.{after_call}
-use Rattle.process_engine.proofs.SameHistory.{abort_same}
+use Rattle.engine_steps.proofs.SameHistory.{abort_same}
 use Rattle.engine_runs.proofs.Ends.{called_goes, still_ready}
 use Rattle.engine_runs.proofs.calls.abort.Goals as goal
 

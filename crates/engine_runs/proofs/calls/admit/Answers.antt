@@ -1,8 +1,8 @@
 use Rattle.std.proofs.Common.{ap}
 use Rattle.machine_model.specs.Calls.{admit}
 use Rattle.process_core.specs.Answers.{after_call}
-use Rattle.process_engine.specs.Engines.{EngineState}
-use Rattle.process_engine.proofs.SameHistory.{admit_same}
+use Rattle.engine_steps.specs.Engines.{EngineState}
+use Rattle.engine_steps.proofs.SameHistory.{admit_same}
 use Rattle.engine_runs.proofs.Ends.{called_goes, still_ready}
 use Rattle.engine_runs.proofs.HandedPieces.{admitted_so}
 use Rattle.engine_runs.proofs.calls.admit.Goals as goal

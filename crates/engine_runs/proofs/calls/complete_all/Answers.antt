@@ -1,6 +1,6 @@
 use Rattle.machine_model.specs.Calls.{complete_all}
 use Rattle.process_core.specs.Answers.{after_call}
-use Rattle.process_engine.proofs.SameHistory.{complete_all_same}
+use Rattle.engine_steps.proofs.SameHistory.{complete_all_same}
 use Rattle.engine_runs.proofs.Ends.{called_goes, still_ready}
 use Rattle.engine_runs.proofs.calls.complete_all.Goals as goal
 

@@ -4,6 +4,6 @@ use Rattle.engine_runs.proofs.calls.finish.Goals as goal
 
 pub returns-clause-goes : goal.returns-clause-goes
 returns-clause-goes g c =
-    let end = c.finish-result.ensures in
-    finish_goes g.R.Rack.disk g.R.Rack.faults c.args.engine.now c.finish-result.new.self c.is_sound.ensures.run (c.is_sound.ensures.each c.requires.ready.settled) end.tells end.later end.follow
-    c.is_sound-2.ensures.run c.args.piece (outcome_of c.args.answer (is_barred c.args.engine.now c.args.piece.piece)) c.finish-result.result (end.finishes c.requires.ready.settled)
+    let end = c.finish_piece-result.ensures in
+    finish_goes g.R.Rack.disk g.R.Rack.faults c.args.engine.now c.finish_piece-result.new.engine c.is_sound.ensures.run (c.is_sound.ensures.each c.requires.ready.settled) end.tells end.later end.follow
+    c.is_sound-2.ensures.run c.args.piece (outcome_of c.args.answer (is_barred c.args.engine.now c.args.piece.piece)) c.finish_piece-result.result (end.finishes c.requires.ready.settled)

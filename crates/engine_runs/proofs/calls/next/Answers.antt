@@ -1,8 +1,8 @@
 use Rattle.std.proofs.Common.{ap}
 use Rattle.machine_model.specs.Calls.{next}
 use Rattle.process_core.specs.Answers.{after_call}
-use Rattle.process_engine.specs.Engines.{EngineState}
-use Rattle.process_engine.proofs.SameHistory.{next_same}
+use Rattle.engine_steps.specs.Engines.{EngineState}
+use Rattle.engine_steps.proofs.SameHistory.{next_same}
 use Rattle.engine_runs.proofs.Ends.{called_goes, still_ready}
 use Rattle.engine_runs.proofs.HandedPieces.{given}
 use Rattle.engine_runs.proofs.calls.next.Goals as goal

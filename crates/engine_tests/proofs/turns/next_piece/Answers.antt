@@ -2,7 +2,7 @@ use Rattle.std.proofs.Common.{◌∙◌, sym, ap}
 use Rattle.machine_model.specs.Calls.{next, next_is}
 use Rattle.process_core.specs.Answers.{after_call}
 use Rattle.process_core.specs.Rotation.{next_reply_of}
-use Rattle.process_engine.specs.Engines.{EngineState}
+use Rattle.engine_steps.specs.Engines.{EngineState}
 use Rattle.engine_tests.proofs.Ready.{handed_next, ready_asked}
 use Rattle.engine_tests.proofs.turns.next_piece.Goals as goal
 

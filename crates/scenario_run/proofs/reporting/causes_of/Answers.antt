@@ -1,7 +1,7 @@
 use Rattle.std.proofs.Common.{◌≡◌, ◌∙◌, ◌+◌, ◌-◌, suc, length, ap, sym, arith}
 use Rattle.std.specs.Option.{option_map}
 use Rattle.schedule_model.specs.declared.history.History.{History}
-use Rattle.process_engine.proofs.StartRecord.{few_plans}
+use Rattle.engine_steps.proofs.StartRecord.{few_plans}
 use Rattle.scenario_run.specs.Reports.{cause_of, causes_in}
 use Rattle.scenario_run.proofs.Causes.{told_none, told_one}
 use Rattle.scenario_run.proofs.reporting.causes_of.Goals as goal

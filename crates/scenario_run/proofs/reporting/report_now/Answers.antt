@@ -1,5 +1,5 @@
 use Rattle.std.proofs.Common.{◌≡◌, ◌∙◌, ap}
-use Rattle.process_engine.specs.Engines.{full_history}
+use Rattle.engine_steps.specs.Engines.{full_history}
 use Rattle.process_report.specs.Report.{report_text}
 use Rattle.scenario_run.specs.Reports.{causes_in, report_in}
 use Rattle.scenario_run.proofs.Causes.{so_ok}

@@ -2,7 +2,7 @@ use Rattle.std.proofs.Common.{◌∙◌, ℕ, List, ◌++◌, ap}
 use Rattle.process_tree.specs.declared.plan.Plan.{Plan}
 use Rattle.process_text.specs.Canonical.{line_of}
 use Rattle.schedule_model.specs.declared.history.History.{History}
-use Rattle.process_engine.specs.Engines.{EngineState}
+use Rattle.engine_steps.specs.Engines.{EngineState}
 use Rattle.session_text.specs.Answers.{exhausted_words}
 use Rattle.scenario_run.specs.Reports.{report_in}
 use Rattle.scenario_run.proofs.reporting.stuck_report.Goals as goal

@@ -1,6 +1,6 @@
 use Rattle.std.proofs.Common.{◌≡◌, ◌∙◌, inl, inr, ⊎_elim, subst}
-use Rattle.process_engine.specs.declared.engines.Phase.TheVariants.{Settled}
-use Rattle.process_engine.specs.Engines.{full_history}
+use Rattle.engine_steps.specs.declared.engines.Phase.TheVariants.{Settled}
+use Rattle.engine_steps.specs.Engines.{full_history}
 use Rattle.engine_runs.proofs.Goes.{goes_none, goes_then}
 use Rattle.scenario_run.specs.Run.{HasGone, SaysRun, asked}
 use Rattle.scenario_run.proofs.Causes.{so_ok}

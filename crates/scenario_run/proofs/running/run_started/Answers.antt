@@ -1,7 +1,7 @@
 use Rattle.std.proofs.Common.{◌≡◌, ◌≢◌, subst, sym}
 use Rattle.history_files.specs.Standing.{EachFits}
-use Rattle.process_engine.specs.Engines.{EngineState}
-use Rattle.process_engine.specs.declared.engines.Phase.TheVariants.{Settled}
+use Rattle.engine_steps.specs.Engines.{EngineState}
+use Rattle.engine_steps.specs.declared.engines.Phase.TheVariants.{Settled}
 use Rattle.worker_gate.specs.declared.alone.RunOutcome.TheVariants.{DiskFault}
 use Rattle.scenario_run.specs.Run.{SaysRun}
 use Rattle.scenario_run.proofs.Causes.{two_ok}

@@ -3,7 +3,7 @@ use Rattle.std.specs.Vec.Iter.{into_iter_items}
 use Rattle.process_tree.specs.Order.{Each}
 use Rattle.process_tree.specs.declared.plan.Plan.{Plan}
 use Rattle.schedule_model.specs.Laws.{IsGoodPlan}
-use Rattle.process_engine.specs.Beginning.{IsPlanFor}
+use Rattle.engine_steps.specs.Beginning.{IsPlanFor}
 use Rattle.process_engine.specs.Fitting.{limit_passed}
 use Rattle.engine_runs.proofs.Goes.{goes_none, goes_then}
 use Rattle.scenario_run.proofs.Fitting.{first_starts, others_fit}

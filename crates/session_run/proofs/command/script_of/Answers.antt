@@ -2,7 +2,7 @@ use Rattle.std.proofs.Common.{◌≡◌, ◌∙◌, Err, IfErr, ap, rules, subst
 use Rattle.process_tree.specs.declared.plan.Plan.{Plan}
 use Rattle.process_tree.proofs.Every.{Each-weaker}
 use Rattle.schedule_model.specs.Laws.{IsGoodPlan}
-use Rattle.process_engine.specs.Beginning.{IsPlanFor}
+use Rattle.engine_steps.specs.Beginning.{IsPlanFor}
 use Rattle.trace_verify.specs.Lines.{parts}
 use Rattle.command_input.specs.Inputs.{input}
 use Rattle.scenario_run.proofs.ScenarioPlans.{bound_start}

@@ -2,7 +2,7 @@ use Rattle.std.proofs.Common.{◌≢◌, ◌∙◌, Some, ap, subst, sym}
 use Rattle.std.specs.Option.{option_map}
 use Rattle.machine_model.specs.Replies.{all_ended, chosen, stuck}
 use Rattle.process_core.specs.Rotation.{waiting_of}
-use Rattle.process_engine.specs.Engines.{EngineState}
+use Rattle.engine_steps.specs.Engines.{EngineState}
 use Rattle.worker_gate.specs.declared.alone.RunOutcome.TheVariants.{DiskFault}
 use Rattle.worker_gate.proofs.AloneReplies.{all_have_ended, alone_out, no_wait_alone, stuck_again, stuck_stays}
 use Rattle.worker_gate.proofs.AloneTurns.{idle_after, no_fault}

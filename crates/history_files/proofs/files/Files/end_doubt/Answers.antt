@@ -6,7 +6,8 @@ use Rattle.process_disk.specs.Images.{EachImage}
 use Rattle.schedule_model.specs.declared.history.History.{History}
 use Rattle.commute_table.specs.declared.catalog.Catalog.{Catalog}
 use Rattle.history_files.specs.Sound.{IsSound}
-use Rattle.history_files.specs.Standing.{AreGoodBooks, Stand, EachFits, DoubtIs, Ends}
+use Rattle.history_files.specs.Standing.{AreGoodBooks, Stand, EachFits, DoubtIs, EndsDoubt}
+use Rattle.history_files.proofs.CalledStore.{asked_of_it, it_fits, it_stands}
 use Rattle.history_files.proofs.EndedDoubts.{ended_is_good, images_of_end, stands_with_end}
 use Rattle.history_files.proofs.Places.{at_place}
 use Rattle.history_files.proofs.OneStore.{changed, fits_with, stores_with}
@@ -22,22 +23,18 @@ its_store g c = at_place _ c.args.q _ _ c.from.ensures c.self.invariant.0.eight 
 
 -- and what is in doubt in it
 has_doubt : (g : given.Over) (c : goal.After-index_mut g) → IsSome c.index_mut.result.now.doubt
-has_doubt g c = subst (λ f. (s : _) → slice_get f.stores c.args.q ≡ Some s → IsSome s.doubt) (sym c.self.view_is) c.requires.doubt c.index_mut.result.now (its_store g c)
+has_doubt g c = asked_of_it _ _ c.self.view_is c.args.q _ (its_store g c) (λ s. IsSome s.doubt) c.requires.doubt
 
 pub end_in_store-requires-clause-doubt : goal.end_in_store-requires-clause-doubt
 end_in_store-requires-clause-doubt g c = has_doubt g (goal.at.end_in_store-requires-clause-doubt g c).After-index_mut
 
 pub end_in_store-requires-clause-fits : goal.end_in_store-requires-clause-fits
 end_in_store-requires-clause-fits g c =
-    let at = its_store g (goal.at.end_in_store-requires-clause-fits g c).After-index_mut in
-    subst (λ f. EachFits g.B.Resource.meaning g.B.Resource.sort f.stores) (sym c.self.view_is) c.requires.fits c.args.q c.index_mut.result.now at
+    it_fits _ _ c.self.view_is c.args.q _ (its_store g (goal.at.end_in_store-requires-clause-fits g c).After-index_mut) g.B.Resource.meaning g.B.Resource.sort c.requires.fits
 
 pub end_in_store-requires-clause-stands : goal.end_in_store-requires-clause-stands
 end_in_store-requires-clause-stands g c =
-    let at = its_store g (goal.at.end_in_store-requires-clause-stands g c).After-index_mut in
-    λ told.
-    let stand = subst (λ f. Told (g.R.Rack.disk f.rack) → (c : Catalog) × (h : History) × Stand c h f.journal f.stores (g.R.Rack.disk f.rack)) (sym c.self.view_is) c.requires.stand told in
-    stand.2.stores c.args.q c.index_mut.result.now at
+    it_stands _ _ c.self.view_is c.args.q _ (its_store g (goal.at.end_in_store-requires-clause-stands g c).After-index_mut) g.R.Rack.disk c.requires.stand
 
 pub invariant_of-self : goal.invariant_of-self
 invariant_of-self g c =
@@ -84,7 +81,7 @@ returns-clause-fits g c =
 pub returns-clause-ok : goal.returns-clause-ok
 returns-clause-ok g c =
     let at = its_store g (goal.at.returns-clause-ok g c).After-index_mut in
-    OnOk-then (λ ends. changed c.self.inside.stores.items c.args.q c.from.result c.index_mut.result.now c.end_in_store.new.store c.from.ensures at (Ends c.args.recorded) _ (ap (λ f. f.stores) c.self.view_is) ends)
+    OnOk-then (λ ends. changed c.self.inside.stores.items c.args.q c.from.result c.index_mut.result.now c.end_in_store.new.store c.from.ensures at (EndsDoubt c.args.recorded) _ (ap (λ f. f.stores) c.self.view_is) ends)
     c.end_in_store.result c.end_in_store.ensures.ok
 
 pub returns-clause-good : goal.returns-clause-good

@@ -12,6 +12,7 @@ use Rattle.subsystem_store.specs.declared.errors.Prepare.TheVariants.{Barred, Di
 use Rattle.history_files.specs.Effects.{effects}
 use Rattle.history_files.specs.Sound.{IsSound, is_among, is_barred}
 use Rattle.history_files.specs.Standing.{AreGoodBooks, Doubts, Stand, EachFits}
+use Rattle.history_files.proofs.CalledStore.{asked_of_it, it_fits, it_stands}
 use Rattle.history_files.proofs.Preparing.{MayCome, images_of_prepare, stands_with_prepare}
 use Rattle.history_files.proofs.Places.{at_place}
 use Rattle.subsystem_store.specs.Opened.{Opened}
@@ -29,7 +30,7 @@ its_store g c = at_place _ c.args.q _ _ c.from.ensures c.self.invariant.0.eight 
 -- and what it is asked of the effect
 may_come : (g : given.Over) (c : goal.After-index_mut g) → MayCome c.index_mut.result.now c.args.effect
 may_come g c =
-    let may = subst (λ f. (s : _) → slice_get f.stores c.args.q ≡ Some s → (s.doubt ≡ None) × (length s.book < 16384) × (may_follow s.kind s.book c.args.effect ≡ true)) (sym c.self.view_is) c.requires.may_come c.index_mut.result.now (its_store g c) in
+    let may = asked_of_it _ _ c.self.view_is c.args.q _ (its_store g c) (λ s. (s.doubt ≡ None) × (length s.book < 16384) × (may_follow s.kind s.book c.args.effect ≡ true)) c.requires.may_come in
     record { settled = may.0; few = may.1; follows = may.2; fits = c.effects_fit_their_bytes.ensures }
 
 pub prepare-requires-clause-settled : goal.prepare-requires-clause-settled
@@ -43,15 +44,11 @@ prepare-requires-clause-follows g c = (may_come g (goal.at.prepare-requires-clau
 
 pub prepare-requires-clause-fits : goal.prepare-requires-clause-fits
 prepare-requires-clause-fits g c =
-    let at = its_store g (goal.at.prepare-requires-clause-fits g c).After-index_mut in
-    subst (λ f. EachFits g.B.Resource.meaning g.B.Resource.sort f.stores) (sym c.self.view_is) c.requires.fits c.args.q c.index_mut.result.now at
+    it_fits _ _ c.self.view_is c.args.q _ (its_store g (goal.at.prepare-requires-clause-fits g c).After-index_mut) g.B.Resource.meaning g.B.Resource.sort c.requires.fits
 
 pub prepare-requires-clause-stands : goal.prepare-requires-clause-stands
 prepare-requires-clause-stands g c =
-    let at = its_store g (goal.at.prepare-requires-clause-stands g c).After-index_mut in
-    λ told.
-    let stand = subst (λ f. Told (g.R.Rack.disk f.rack) → (c : Catalog) × (h : History) × Stand c h f.journal f.stores (g.R.Rack.disk f.rack)) (sym c.self.view_is) c.requires.stand told in
-    stand.2.stores c.args.q c.index_mut.result.now at
+    it_stands _ _ c.self.view_is c.args.q _ (its_store g (goal.at.prepare-requires-clause-stands g c).After-index_mut) g.R.Rack.disk c.requires.stand
 
 pub invariant_of-self : goal.invariant_of-self
 invariant_of-self g c =

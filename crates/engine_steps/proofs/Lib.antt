@@ -1,0 +1,15 @@
+pub mod SameHistory
+pub mod StillUnder
+pub mod StartedHistory
+pub mod StartedRest
+pub mod StartRecord
+pub mod NewEngine
+pub mod OpenedEngine
+pub mod NextHistory
+pub mod PreparedStores
+pub mod RecordedStores
+pub mod RecordedPieces
+pub mod Subsystems
+pub mod PreparedPieces
+pub mod StoresThere
+pub mod EndedPieces

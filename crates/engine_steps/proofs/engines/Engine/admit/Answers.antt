@@ -1,0 +1,13 @@
+use Rattle.engine_steps.proofs.SameHistory.{admit_same}
+use Rattle.engine_steps.proofs.StillUnder.{still_rest, still_under}
+use Rattle.machine_model.specs.Calls.{admit}
+use Rattle.engine_steps.proofs.engines.Engine.admit.Goals as goal
+
+pub invariant_of-self : goal.invariant_of-self
+invariant_of-self g c =
+    let core = c.self.inside.core in
+    let same = admit_same core c.args.i in
+    let rest = still_rest c.self.inside.catalog core c.admit.new.self (admit c.args.i) c.admit.ensures.core same c.self.inside.files (g.R.Rack.disk c.self.inside.files.rack) in (
+      still_under c.self.inside.catalog core c.admit.new.self (admit c.args.i) c.admit.ensures.core same c.self.invariant.0,
+      λ settled. rest (c.self.invariant.1 settled),
+    )

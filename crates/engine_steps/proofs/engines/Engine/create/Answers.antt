@@ -1,0 +1,29 @@
+use Rattle.std.proofs.Common.{◌∙◌, sym}
+use Rattle.process_journal.specs.Bodies.{no_history}
+use Rattle.engine_steps.proofs.NewEngine.{new_rests, new_under, rest_unused}
+use Rattle.engine_steps.proofs.engines.Engine.create.Goals as goal
+
+pub invariant_of-result : goal.invariant_of-result
+invariant_of-result g c =
+    let files = c.in-Ok-create.files in
+    let made = c.in-Ok-create.ensures in (
+      new_under c.args.catalog c.in-Ok.core c.in-Ok.ensures c.requires.catalog,
+      λ settled. new_rests c.args.catalog c.in-Ok.core c.in-Ok.ensures files (g.R.Rack.disk files.rack)
+          (rest_unused c.calls_make_good_books.ensures.create c.args.catalog files (g.R.Rack.disk files.rack) made.count made.unused (λ told. made.stand (sym made.tells ∙ told))),
+    )
+
+pub returns-in-Ok-create-clause-rest : goal.returns-in-Ok-create-clause-rest
+returns-in-Ok-create-clause-rest g c =
+    let files = c.in-Ok-create.files in
+    let made = c.in-Ok-create.ensures in
+    rest_unused c.calls_make_good_books.ensures.create c.args.catalog files (g.R.Rack.disk files.rack) made.count made.unused (λ told. made.stand (sym made.tells ∙ told))
+
+pub returns-in-Ok-create-clause-read : goal.returns-in-Ok-create-clause-read
+returns-in-Ok-create-clause-read g c told =
+    let made = c.in-Ok-create.ensures in
+    c.are_sound.ensures.read (made.tells ∙ told) c.args.catalog no_history (made.stand told)
+
+pub returns-in-Ok-create-clause-each : goal.returns-in-Ok-create-clause-each
+returns-in-Ok-create-clause-each g c told =
+    let made = c.in-Ok-create.ensures in
+    c.are_sound.ensures.each (made.tells ∙ told) c.args.catalog no_history (made.stand told)

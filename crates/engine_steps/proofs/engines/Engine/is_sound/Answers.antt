@@ -1,0 +1,17 @@
+use Rattle.std.proofs.Common.{◌≡◌, subst}
+use Rattle.process_disk.specs.Disk.{Told}
+use Rattle.process_disk.specs.Images.{EachImage}
+use Rattle.history_files.specs.Sound.{IsSound}
+use Rattle.engine_steps.specs.Engines.{full_history}
+use Rattle.engine_steps.specs.declared.engines.Phase.TheVariants as phase
+use Rattle.engine_steps.proofs.engines.Engine.is_sound.Goals as goal
+
+pub returns-clause-read : goal.returns-clause-read
+returns-clause-read g c =
+    subst (λ e. e.phase ≡ phase.Settled → Told (g.R.Rack.disk e.files.rack) → IsSound e.catalog (full_history e.core) (g.R.Rack.disk e.files.rack).files) c.self.view_is
+    (λ settled told. c.are_sound.ensures.read told c.self.inside.catalog (full_history c.self.inside.core) ((c.self.invariant.1 settled).stand told))
+
+pub returns-clause-each : goal.returns-clause-each
+returns-clause-each g c =
+    subst (λ e. e.phase ≡ phase.Settled → Told (g.R.Rack.disk e.files.rack) → EachImage (g.R.Rack.disk e.files.rack) (g.R.Rack.disk e.files.rack).moment (IsSound e.catalog (full_history e.core))) c.self.view_is
+    (λ settled told. c.are_sound.ensures.each told c.self.inside.catalog (full_history c.self.inside.core) ((c.self.invariant.1 settled).stand told))

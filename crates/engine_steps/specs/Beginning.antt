@@ -1,0 +1,50 @@
+-- Which processes may start in an engine, and why one doesn't.
+use Rattle.std.specs.Prelude.{◌≡◌, ◌≢◌, ◌+◌, length, Some, None}
+use Rattle.process_tree.specs.declared.plan.Plan.{Plan}
+use Rattle.process_tree.specs.Shape.{shape_of}
+use Rattle.process_tree.specs.Termination.{IsWellFormed}
+use Rattle.process_text.specs.Grammar.{process_of}
+use Rattle.schedule_model.specs.declared.history.History.{History}
+use Rattle.schedule_model.specs.Course.{course_of}
+use Rattle.commute_table.specs.declared.catalog.Catalog.{Catalog}
+use Rattle.commute_table.specs.Binding.{IsPlanOf}
+use Rattle.machine_model.specs.declared.replies.StartWhy.{StartWhy}
+use Rattle.machine_model.specs.declared.replies.StartWhy.TheVariants as core
+use Rattle.machine_model.specs.Runs.{start_refusal}
+use Rattle.process_core.specs.Cores.{CoreState, courses_in, moment_of}
+use Rattle.process_journal.specs.Bodies.{with_start}
+use Rattle.engine_steps.specs.Engines.{EngineState, full_history}
+use Rattle.engine_steps.specs.declared.engines.Phase.TheVariants as phase
+use Rattle.engine_steps.specs.declared.beginning.EngineStartWhy.{EngineStartWhy}
+use Rattle.engine_steps.specs.declared.beginning.EngineStartWhy.TheVariants.{Closed, TooMany, NoRoom, NoMemory, DiskFault}
+
+-- A plan that may start under a catalog: it is well-formed, and the one that the catalog binds for its name and tree.
+pub record IsPlanFor (c : Catalog) (p : Plan) : Type 0 where
+  pub bound : IsPlanOf (process_of p.name p.tree) c.ops p
+  pub well_formed : IsWellFormed (shape_of p.tree)
+
+-- the history of a core once a process of this plan has started with the next number
+abbrev pub history_with : CoreState → Plan → History
+history_with core p = with_start (full_history core) (length core.plans + 1) p
+
+-- why a core refuses a start
+abbrev pub refusal_in : CoreState → Plan → StartWhy → Type 0
+refusal_in core p why = start_refusal (courses_in core) (moment_of core) (course_of p) ≡ Some why
+
+-- it refuses none
+abbrev pub IsFree : CoreState → Plan → Type 0
+IsFree core p = start_refusal (courses_in core) (moment_of core) (course_of p) ≡ None
+
+-- what a core's refusal is of an engine
+abbrev pub of_start_why : StartWhy → EngineStartWhy
+of_start_why (core.TooMany n) = TooMany n
+of_start_why (core.NoRoom n) = NoRoom n
+of_start_why core.NoMemory = NoMemory
+
+-- When a start is refused so: the first of these that holds. Want of memory and faults of the rack come where nothing else refuses it.
+abbrev pub IsDueToStart : {R B : Type 0} → EngineState R B → Plan → EngineStartWhy → Type 0
+IsDueToStart e p (Closed n) = (e.phase ≡ phase.Closed) × (n ≡ length e.core.kept)
+IsDueToStart e p (TooMany n) = (e.phase ≢ phase.Closed) × refusal_in e.core p (core.TooMany n)
+IsDueToStart e p (NoRoom n) = (e.phase ≢ phase.Closed) × refusal_in e.core p (core.NoRoom n)
+IsDueToStart e p NoMemory = (e.phase ≢ phase.Closed) × IsFree e.core p
+IsDueToStart e p DiskFault = (e.phase ≢ phase.Closed) × IsFree e.core p

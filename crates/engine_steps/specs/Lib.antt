@@ -1,0 +1,5 @@
+pub mod Beginning
+pub mod Engines
+pub mod Opening
+pub mod Pieces
+pub mod UnderWay

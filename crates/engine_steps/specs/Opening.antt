@@ -1,0 +1,38 @@
+-- What an engine is that was opened, and what an opening that was refused leaves.
+use Rattle.std.specs.Prelude.{◌≡◌, ◌⊎◌}
+use Rattle.process_disk.specs.Disk.{Disk}
+use Rattle.process_disk.specs.Images.{EachImage}
+use Rattle.schedule_model.specs.declared.history.History.{History}
+use Rattle.commute_table.specs.declared.catalog.Catalog.{Catalog}
+use Rattle.process_core.specs.Cores.{history_of, opened_on}
+use Rattle.history_opening.specs.declared.faults.OpenError.{OpenError}
+use Rattle.history_opening.specs.declared.faults.OpenError.TheVariants.{NoMemory}
+use Rattle.history_opening.specs.Images.{BecomesSound, LeftByRefusal}
+use Rattle.history_files.specs.Sound.{IsSound}
+use Rattle.history_files.specs.Standing.{FilesState}
+use Rattle.engine_steps.specs.Engines.{EngineState, full_history}
+use Rattle.engine_steps.specs.declared.engines.Phase.TheVariants as phase
+
+-- An engine that was opened on its history: nothing was kept since, and nothing is under way.
+pub record IsOpened {R B : Type 0} (e : EngineState R B) : Type 0 where
+  pub core : e.core ≡ opened_on e.catalog.conflicts e.core.plans (history_of e.core)
+  pub phase : e.phase ≡ phase.Settled
+
+-- An engine on these files, with this catalog and this history.
+pub record IsOn {R B : Type 0} (c : Catalog) (h : History) (f : FilesState R B) (e : EngineState R B) : Type 0 where
+  pub catalog : e.catalog ≡ c
+  pub history : full_history e.core ≡ h
+  pub files : e.files ≡ f
+
+-- Files that read as those of a history became sound for it and are so now, and so is each image from now on.
+pub record WereSettled (old new : Disk) : Type 0 where
+  pub catalog : Catalog
+  pub history : History
+  pub sound : IsSound catalog history old.files
+  pub becomes : BecomesSound catalog history old new
+  pub now : IsSound catalog history new.files
+  pub each : EachImage new new.moment (IsSound catalog history)
+
+-- What a refused opening leaves: what the opening of the files does, or, where there was no memory once they were settled, such files.
+abbrev pub LeftByOpening : OpenError → Disk → Disk → Type 0
+LeftByOpening e old new = LeftByRefusal e old new ⊎ ((e ≡ NoMemory) × WereSettled old new)

@@ -1,0 +1,22 @@
+//! An engine, and the steps in which its history grows: the scheduler over the journal and the stores of eight subsystems.
+//!
+//! An engine is seen as a core, a catalog and files (`specs/Engines`). While nothing is under way and no call of the rack failed, its
+//! files stand for the history of its core, and each book is the effects of that history. It is made on nine empty files, or opened on the
+//! history that nine files have; it starts processes, and hands out their pieces. A piece takes effect in three steps (`specs/Pieces`), the
+//! end of a process in one, and a refusal touches no file; `process_engine` makes one call of these.
+#![tactic(auto)]
+
+mod asking;
+mod beginning;
+mod ending;
+mod engines;
+mod handing_back;
+mod making;
+mod opening;
+mod pieces;
+
+pub use beginning::{EngineStart, EngineStartWhy};
+pub use engines::{Closed, Engine, Phase};
+pub use history_files::{CreateError, CreateRefused, Parts};
+pub use history_opening::{BookFault, OpenError, OpenRefused};
+pub use pieces::{PreparePiece, Prepared, Recorded};

@@ -1,0 +1,93 @@
+// Engines that are made on empty files.
+ghost use Rattle.std.specs.Prelude.{◌≡◌, ◌≤◌, [], None, IfOk, IfErr, OnOk};
+ghost use Rattle.process_flow.specs.Causes.{Rose};
+ghost use Rattle.process_disk.specs.Disk.{Told};
+ghost use Rattle.process_disk.specs.Images.{EachImage};
+ghost use Rattle.commute_table.specs.Operations.{IsCatalog};
+ghost use Rattle.process_core.specs.Cores.{opened_on};
+ghost use Rattle.process_journal.specs.Bodies.{no_history};
+ghost use Rattle.history_files.specs.Boxes.{AreBoxes, AreEmpty};
+ghost use Rattle.history_files.specs.Creating.{first_used, IsDueToFiles, AreLeftUnmade};
+ghost use Rattle.history_files.specs.Sound.{IsSound};
+ghost use Rattle.history_files.specs.Standing.{EachFits};
+ghost use Rattle.history_files.specs.declared.faults.CreateError.TheVariants.{DiskFault as Fault, NoMemory};
+ghost use Rattle.engine_steps.specs.Engines.{AreAtRest, IsNew};
+
+use crate::{Engine, Phase};
+use commute_table::Catalog;
+use history_files::{CreateError, CreateRefused, Files, Parts, clear_all};
+use process_core::Core;
+use process_disk::Rack;
+use resource_box::Resource;
+use schedule_model::{Events, History, Plans};
+use std::alloc::{AllocError, Global};
+use subsystem_store::calls_make_good_books;
+
+// A core under this catalog in which nothing has happened.
+fn new_core(alloc: Global, catalog: &Catalog) -> Result<Core, AllocError>
+    ensures { IfOk result (λ core. core ≡ opened_on catalog.now.conflicts [] []) }
+{
+    let plans = Plans::new(Vec::new(alloc))?;
+    let events = Events::new(Vec::new(alloc))?;
+    let conflicts = catalog.conflicts.copy(alloc)?;
+    Core::open(alloc, History { plans, events }, conflicts)
+}
+
+// Hands the parts back with their boxes empty, for want of memory.
+fn without_memory<R: Rack + Drop, B: Resource>(parts: Parts<R, B>) -> CreateRefused<R, B>
+    requires boxes { AreBoxes B.sort parts.resources.items }
+    ensures rack { result.parts.rack ≡ parts.rack }
+    ensures boxes { AreBoxes B.sort result.parts.resources.items × AreEmpty B.meaning result.parts.resources.items }
+    ensures why { result.why ≡ NoMemory }
+{
+    let Parts { rack, resources } = parts;
+    let mut resources = resources;
+    clear_all(&mut resources);
+    CreateRefused {
+        parts: Parts { rack, resources },
+        why: CreateError::NoMemory,
+    }
+}
+
+impl<R: Rack + Drop, B: Resource> Engine<R, B> {
+    /// Makes nine empty files the journal of the catalog and the stores of eight subsystems, in which nothing has happened.
+    pub fn create(
+        alloc: Global,
+        parts: Parts<R, B>,
+        catalog: Catalog,
+    ) -> Result<Self, CreateRefused<R, B>>
+        requires catalog { IsCatalog catalog }
+        requires boxes { AreBoxes B.sort parts.resources.items }
+        ensures new { IfOk result (IsNew catalog) }
+        ensures rest { IfOk result (λ e. AreAtRest catalog no_history e.files (R.disk e.files.rack)) }
+        ensures read { Told (R.disk parts.rack) → IfOk result (λ e. IsSound catalog no_history (R.disk e.files.rack).files) }
+        ensures each { Told (R.disk parts.rack) → IfOk result (λ e. EachImage (R.disk e.files.rack) (R.disk e.files.rack).moment (IsSound catalog no_history)) }
+        ensures fits { IfOk result (λ e. EachFits B.meaning B.sort e.files.stores) }
+        ensures empty { Told (R.disk parts.rack) → OnOk result (first_used (R.disk parts.rack).files ≡ None) }
+        ensures due { Told (R.disk parts.rack) → IfErr result (λ r. IsDueToFiles (first_used (R.disk parts.rack).files) r.why) }
+        ensures left { Told (R.disk parts.rack) → IfErr result (λ r. AreLeftUnmade r.why (R.disk parts.rack) (R.disk r.parts.rack)) }
+        ensures back { IfErr result (λ r. AreBoxes B.sort r.parts.resources.items × AreEmpty B.meaning r.parts.resources.items) }
+        ensures tells { IfOk result (λ e. (R.disk e.files.rack).tells ≡ (R.disk parts.rack).tells) }
+        ensures tells_back { IfErr result (λ r. (R.disk r.parts.rack).tells ≡ (R.disk parts.rack).tells) }
+        ensures later { IfOk result (λ e. R.faults parts.rack ≤ R.faults e.files.rack) }
+        ensures later_back { IfErr result (λ r. R.faults parts.rack ≤ R.faults r.parts.rack) }
+        ensures fault { IfErr result (λ r. r.why ≡ Fault → Rose (R.faults parts.rack) (R.faults r.parts.rack)) }
+    {
+        calls_make_good_books();
+        let Ok(core) = new_core(alloc, &catalog) else {
+            return Err(without_memory(parts));
+        };
+        match Files::create(alloc, parts, &catalog) {
+            Ok(files) => {
+                files.are_sound();
+                Ok(Engine {
+                    core,
+                    catalog,
+                    files,
+                    phase: Phase::Settled,
+                })
+            }
+            Err(refused) => Err(refused),
+        }
+    }
+}

@@ -1,0 +1,110 @@
+// Engines that are opened on the history of their files.
+ghost use Rattle.std.specs.Prelude.{◌≡◌, ◌≤◌, IfOk, IfErr};
+ghost use Rattle.process_flow.specs.Causes.{Rose};
+ghost use Rattle.process_disk.specs.Disk.{Told};
+ghost use Rattle.process_disk.specs.Images.{EachImage};
+ghost use Rattle.process_core.specs.Cores.{opened_on};
+ghost use Rattle.process_journal.specs.Journals.{IsHistoryUnder};
+ghost use Rattle.history_files.specs.Boxes.{AreBoxes, AreEmpty};
+ghost use Rattle.history_opening.specs.Images.{BecomesSound};
+ghost use Rattle.history_opening.specs.Opening.{IsDueToOpening};
+ghost use Rattle.history_files.specs.Sound.{IsSound};
+ghost use Rattle.history_files.specs.Standing.{EachFits};
+ghost use Rattle.history_opening.specs.declared.faults.OpenError.TheVariants.{DiskFault as Fault, NoMemory};
+ghost use Rattle.engine_steps.specs.Engines.{AreAtRest, full_history};
+ghost use Rattle.engine_steps.specs.Opening.{IsOn, IsOpened, LeftByOpening};
+
+use crate::{Engine, Phase};
+use commute_table::Catalog;
+use history_files::{Files, Parts, clear_all};
+use history_opening::{OpenError, OpenRefused, open_files};
+use process_core::Core;
+use process_disk::Rack;
+use resource_box::Resource;
+use schedule_model::History;
+use std::alloc::{AllocError, Global};
+
+// A core on a history that a journal of the catalog may have.
+fn opened_core(alloc: Global, catalog: &Catalog, history: History) -> Result<Core, AllocError>
+    requires history { IsHistoryUnder catalog.now history }
+    ensures { IfOk result (λ core. core ≡ opened_on catalog.now.conflicts history.plans history.events) }
+{
+    match catalog.conflicts.copy(alloc) {
+        Ok(conflicts) => Core::open(alloc, history, conflicts),
+        Err(error) => Err(error),
+    }
+}
+
+// Hands the parts of files back with their boxes empty, for want of memory.
+fn closed<R: Rack + Drop, B: Resource>(files: Files<R, B>) -> OpenRefused<R, B>
+    requires fits { EachFits B.meaning B.sort files.stores }
+    ensures rack { result.parts.rack ≡ files.rack }
+    ensures boxes { AreBoxes B.sort result.parts.resources.items × AreEmpty B.meaning result.parts.resources.items }
+    ensures why { result.why ≡ NoMemory }
+{
+    let mut parts = files.into_parts();
+    clear_all(&mut parts.resources);
+    OpenRefused {
+        parts,
+        why: OpenError::NoMemory,
+    }
+}
+
+// An engine on files that are settled for this history.
+fn engine_on<R: Rack + Drop, B: Resource>(
+    alloc: Global,
+    files: Files<R, B>,
+    catalog: Catalog,
+    history: History,
+) -> Result<Engine<R, B>, OpenRefused<R, B>>
+    requires history { IsHistoryUnder catalog history }
+    requires rest { AreAtRest catalog history files (R.disk files.rack) }
+    requires fits { EachFits B.meaning B.sort files.stores }
+    ensures opened { IfOk result IsOpened }
+    ensures on { IfOk result (IsOn catalog history files) }
+    ensures rack { IfErr result (λ r. r.parts.rack ≡ files.rack) }
+    ensures why { IfErr result (λ r. r.why ≡ NoMemory) }
+    ensures back { IfErr result (λ r. AreBoxes B.sort r.parts.resources.items × AreEmpty B.meaning r.parts.resources.items) }
+{
+    match opened_core(alloc, &catalog, history) {
+        Ok(core) => Ok(Engine {
+            core,
+            catalog,
+            files,
+            phase: Phase::Settled,
+        }),
+        Err(_) => Err(closed(files)),
+    }
+}
+
+impl<R: Rack + Drop, B: Resource> Engine<R, B> {
+    /// Opens on the history of nine files. All are read, file 0 first, and all books are compared with the history. Only then what is
+    /// in doubt is settled: the effects that the history has are committed, and the others taken back. What is refused is the first
+    /// fault in the order of the files; the parts are then handed back with their boxes empty.
+    pub fn open(alloc: Global, parts: Parts<R, B>) -> Result<Self, OpenRefused<R, B>>
+        requires boxes { AreBoxes B.sort parts.resources.items }
+        ensures opened { IfOk result IsOpened }
+        ensures rest { IfOk result (λ e. AreAtRest e.catalog (full_history e.core) e.files (R.disk e.files.rack)) }
+        ensures sound { Told (R.disk parts.rack) → IfOk result (λ e. IsSound e.catalog (full_history e.core) (R.disk parts.rack).files) }
+        ensures any_moment { Told (R.disk parts.rack) → IfOk result (λ e. BecomesSound e.catalog (full_history e.core) (R.disk parts.rack) (R.disk e.files.rack)) }
+        ensures read { Told (R.disk parts.rack) → IfOk result (λ e. IsSound e.catalog (full_history e.core) (R.disk e.files.rack).files) }
+        ensures each { Told (R.disk parts.rack) → IfOk result (λ e. EachImage (R.disk e.files.rack) (R.disk e.files.rack).moment (IsSound e.catalog (full_history e.core))) }
+        ensures fits { IfOk result (λ e. EachFits B.meaning B.sort e.files.stores) }
+        ensures due { Told (R.disk parts.rack) → IfErr result (λ r. IsDueToOpening (R.disk parts.rack).files r.why) }
+        ensures refused { Told (R.disk parts.rack) → IfErr result (λ r. LeftByOpening r.why (R.disk parts.rack) (R.disk r.parts.rack)) }
+        ensures back { IfErr result (λ r. AreBoxes B.sort r.parts.resources.items × AreEmpty B.meaning r.parts.resources.items) }
+        ensures tells { IfOk result (λ e. (R.disk e.files.rack).tells ≡ (R.disk parts.rack).tells) }
+        ensures tells_back { IfErr result (λ r. (R.disk r.parts.rack).tells ≡ (R.disk parts.rack).tells) }
+        ensures later { IfOk result (λ e. R.faults parts.rack ≤ R.faults e.files.rack) }
+        ensures later_back { IfErr result (λ r. R.faults parts.rack ≤ R.faults r.parts.rack) }
+        ensures fault { IfErr result (λ r. r.why ≡ Fault → Rose (R.faults parts.rack) (R.faults r.parts.rack)) }
+    {
+        match open_files(alloc, parts) {
+            Ok((files, catalog, history)) => {
+                files.are_sound();
+                engine_on(alloc, files, catalog, history)
+            }
+            Err(refused) => Err(refused),
+        }
+    }
+}

@@ -1,0 +1,56 @@
+use Rattle.std.proofs.Common.{◌∙◌, inr, refl, sym, subst}
+use Rattle.process_disk.specs.Disk.{Told}
+use Rattle.process_disk.specs.Images.{AllAsBefore}
+use Rattle.history_files.specs.Standing.{AreGoodBooks, ComeTo, EachFits}
+use Rattle.history_files.proofs.SoundImages.{sound_now}
+use Rattle.history_opening.specs.Images.{LeftByRefusal}
+use Rattle.history_opening.specs.declared.faults.OpenError.TheVariants.{DiskFault as Fault}
+use Rattle.history_opening.proofs.FewActs.{acts_counted}
+use Rattle.history_opening.proofs.Opened.{becomes_sound, sound_at_start}
+use Rattle.history_opening.proofs.opening.open_files.Goals as goal
+
+pub settle_all-requires-clause-fits : goal.settle_all-requires-clause-fits
+settle_all-requires-clause-fits g c = subst (λ f. EachFits g.B.Resource.meaning g.B.Resource.sort f.stores) (sym c.new-files.ensures) c.in-Ok.ensures.fits
+
+pub settle_all-requires-clause-come : goal.settle_all-requires-clause-come
+settle_all-requires-clause-come g c = subst (λ f. ComeTo c.in-Ok.read.catalog.ops c.in-Ok.read.history f.stores) (sym c.new-files.ensures) c.in-Ok.ensures.come
+
+pub settle_all-requires-clause-few : goal.settle_all-requires-clause-few
+settle_all-requires-clause-few g c = acts_counted c.in-Ok.read.catalog c.in-Ok.read.history c.in-Ok.ensures.journal.2
+
+pub returns-in-Ok-settle_all-clause-good : goal.returns-in-Ok-settle_all-clause-good
+returns-in-Ok-settle_all-clause-good g c = c.in-Ok-settle_all.ensures.good (subst (λ f. AreGoodBooks f.stores) (sym c.new-files.ensures) c.in-Ok.ensures.good)
+
+pub returns-in-Ok-settle_all-clause-sound : goal.returns-in-Ok-settle_all-clause-sound
+returns-in-Ok-settle_all-clause-sound g c told =
+    let read = c.in-Ok.read in
+    sound_at_start read.catalog read.history (g.R.Rack.disk c.args.parts.rack) (g.R.Rack.disk c.read_sound.new.rack) (c.in-Ok.ensures.all told)
+    (sound_now read.catalog read.history read.journal read.stores.items (g.R.Rack.disk c.read_sound.new.rack) c.in-Ok.ensures.stores (c.in-Ok.ensures.stand told) c.in-Ok.ensures.journal.0)
+
+pub returns-in-Ok-settle_all-clause-any_moment : goal.returns-in-Ok-settle_all-clause-any_moment
+returns-in-Ok-settle_all-clause-any_moment g c told =
+    let read = c.in-Ok.read in
+    let told_mid = subst (λ f. Told (g.R.Rack.disk f.rack)) (sym c.new-files.ensures) (c.in-Ok.ensures.tells ∙ told) in
+    becomes_sound read.catalog read.history (g.R.Rack.disk c.args.parts.rack) (g.R.Rack.disk c.new-files.result.rack) (g.R.Rack.disk c.settle_all.new.files.rack)
+    (subst (λ f. AllAsBefore (g.R.Rack.disk c.args.parts.rack) (g.R.Rack.disk f.rack)) (sym c.new-files.ensures) (c.in-Ok.ensures.all told))
+    (c.in-Ok-settle_all.ensures.follow told_mid) (c.in-Ok-settle_all.ensures.any_moment told_mid)
+
+pub returns-in-Err-settle_all-clause-refused : goal.returns-in-Err-settle_all-clause-refused
+returns-in-Err-settle_all-clause-refused g c told =
+    let read = c.in-Ok.read in
+    let old = g.R.Rack.disk c.args.parts.rack in
+    let mid = g.R.Rack.disk c.read_sound.new.rack in
+    let told_mid = subst (λ f. Told (g.R.Rack.disk f.rack)) (sym c.new-files.ensures) (c.in-Ok.ensures.tells ∙ told) in
+    subst (λ r. LeftByRefusal Fault old (g.R.Rack.disk r)) (sym c.into_cleared.ensures.rack)
+    (inr (
+      refl,
+      record {
+        catalog = read.catalog;
+        history = read.history;
+        sound = sound_at_start read.catalog read.history old mid (c.in-Ok.ensures.all told)
+            (sound_now read.catalog read.history read.journal read.stores.items mid c.in-Ok.ensures.stores (c.in-Ok.ensures.stand told) c.in-Ok.ensures.journal.0);
+        becomes = becomes_sound read.catalog read.history old (g.R.Rack.disk c.new-files.result.rack) (g.R.Rack.disk c.settle_all.new.files.rack)
+            (subst (λ f. AllAsBefore old (g.R.Rack.disk f.rack)) (sym c.new-files.ensures) (c.in-Ok.ensures.all told))
+            (c.in-Err-settle_all.ensures.follow told_mid) (c.in-Err-settle_all.ensures.any_moment told_mid);
+      },
+    ))

@@ -1,0 +1,5 @@
+pub mod Comparing
+pub mod Images
+pub mod Laws
+pub mod Opening
+pub mod Settling

@@ -1,0 +1,130 @@
+// Files that are opened for the history of their journal.
+ghost use Rattle.std.specs.Prelude.{◌≡◌, ◌≤◌, [], length, IfOk, IfErr, OnOk, vec_capacity};
+ghost use Rattle.process_flow.specs.Causes.{Rose};
+ghost use Rattle.process_disk.specs.Disk.{Told};
+ghost use Rattle.process_disk.specs.Images.{AllAsBefore};
+ghost use Rattle.process_journal.specs.Bodies.{journal_bodies};
+ghost use Rattle.process_journal.specs.Journals.{IsHistoryUnder};
+ghost use Rattle.history_files.specs.Boxes.{AreBoxes, AreEmpty};
+ghost use Rattle.history_files.specs.Laws.{AreSettled};
+ghost use Rattle.history_files.specs.Sound.{IsSound};
+ghost use Rattle.history_files.specs.Standing.{AreStores, AreGoodBooks, ComeTo, EachFits, Stand};
+ghost use Rattle.history_opening.specs.Images.{BecomesSound, LeftByRefusal};
+ghost use Rattle.history_opening.specs.Opening.{IsDueToOpening};
+ghost use Rattle.history_opening.specs.declared.faults.OpenError.TheVariants.{DiskFault as Fault};
+
+use crate::comparing::books_difference;
+use crate::reading::{ReadFiles, read_files};
+use crate::settling::settle_all;
+use crate::{OpenError, OpenRefused};
+use commute_table::Catalog;
+use history_files::{Files, Parts, clear_all, put_back};
+use process_disk::Rack;
+use resource_box::Resource;
+use schedule_rules::History;
+use std::alloc::Global;
+
+// Opens the journal and then the stores, and compares all books with the history. It writes nothing.
+fn read_sound<R: Rack, B: Resource>(
+    alloc: Global,
+    rack: &mut R,
+    boxes: &mut Vec<B>,
+) -> Result<ReadFiles<B>, OpenError>
+    requires boxes { AreBoxes B.sort boxes.old.items × AreEmpty B.meaning boxes.old.items }
+    requires room { 8 ≤ vec_capacity boxes.old }
+    ensures journal { IfOk result (λ r. (r.journal.file ≡ 0) × (r.journal.count ≡ length (journal_bodies r.catalog r.history)) × IsHistoryUnder r.catalog r.history) }
+    ensures stores { IfOk result (λ r. AreStores r.stores.items) }
+    ensures stand { Told (R.disk rack.old) → IfOk result (λ r. Stand r.catalog r.history r.journal r.stores.items (R.disk rack.new)) }
+    ensures come { IfOk result (λ r. ComeTo r.catalog.ops r.history r.stores.items) }
+    ensures good { IfOk result (λ r. AreGoodBooks r.stores.items) }
+    ensures fits { IfOk result (λ r. EachFits B.meaning B.sort r.stores.items) }
+    ensures emptied { OnOk result (boxes.new.items ≡ []) }
+    ensures back { IfErr result (λ e. AreBoxes B.sort boxes.new.items × AreEmpty B.meaning boxes.new.items) }
+    ensures room { 8 ≤ vec_capacity boxes.new }
+    ensures all { Told (R.disk rack.old) → AllAsBefore (R.disk rack.old) (R.disk rack.new) }
+    ensures due { Told (R.disk rack.old) → IfErr result (IsDueToOpening (R.disk rack.old).files) }
+    ensures tells { (R.disk rack.new).tells ≡ (R.disk rack.old).tells }
+    ensures later { R.faults rack.old ≤ R.faults rack.new }
+    ensures fault { IfErr result (λ e. e ≡ Fault → Rose (R.faults rack.old) (R.faults rack.new)) }
+{
+    let read = match read_files(alloc, rack, boxes) {
+        Ok(read) => read,
+        Err(why) => return Err(why),
+    };
+    let why = match books_difference(
+        alloc,
+        &read.stores,
+        read.catalog.ops.as_slice(),
+        &read.history,
+    ) {
+        Ok(None) => return Ok(read),
+        Ok(Some(fault)) => OpenError::BookDiffers(fault),
+        Err(_) => OpenError::NoMemory,
+    };
+    put_back(boxes, read.stores);
+    Err(why)
+}
+
+// The rack, and the boxes without their values.
+fn into_cleared<R: Rack + Drop, B: Resource>(files: Files<R, B>) -> Parts<R, B>
+    requires fits { EachFits B.meaning B.sort files.stores }
+    ensures rack { result.rack ≡ files.rack }
+    ensures boxes { AreBoxes B.sort result.resources.items × AreEmpty B.meaning result.resources.items }
+{
+    let mut parts = files.into_parts();
+    clear_all(&mut parts.resources);
+    parts
+}
+
+/// The files of a rack, the catalog and the history of their journal. All nine are read, file 0 first, and all books are compared
+/// with the history. Only then what is in doubt is settled: the effects that the history has are committed, and the others taken back.
+pub fn open_files<R: Rack + Drop, B: Resource>(
+    alloc: Global,
+    parts: Parts<R, B>,
+) -> Result<(Files<R, B>, Catalog, History), OpenRefused<R, B>>
+    requires boxes { AreBoxes B.sort parts.resources.items }
+    ensures stand { Told (R.disk parts.rack) → IfOk result (λ o. Stand o.1 o.2 o.0.journal o.0.stores (R.disk o.0.rack)) }
+    ensures settled { IfOk result (λ o. AreSettled o.1.ops o.2 o.0.stores) }
+    ensures good { IfOk result (λ o. AreGoodBooks o.0.stores) }
+    ensures fits { IfOk result (λ o. EachFits B.meaning B.sort o.0.stores) }
+    ensures history { IfOk result (λ o. IsHistoryUnder o.1 o.2) }
+    ensures count { IfOk result (λ o. o.0.journal.count ≡ length (journal_bodies o.1 o.2)) }
+    ensures sound { Told (R.disk parts.rack) → IfOk result (λ o. IsSound o.1 o.2 (R.disk parts.rack).files) }
+    ensures any_moment { Told (R.disk parts.rack) → IfOk result (λ o. BecomesSound o.1 o.2 (R.disk parts.rack) (R.disk o.0.rack)) }
+    ensures due { Told (R.disk parts.rack) → IfErr result (λ r. IsDueToOpening (R.disk parts.rack).files r.why) }
+    ensures refused { Told (R.disk parts.rack) → IfErr result (λ r. LeftByRefusal r.why (R.disk parts.rack) (R.disk r.parts.rack)) }
+    ensures back { IfErr result (λ r. AreBoxes B.sort r.parts.resources.items × AreEmpty B.meaning r.parts.resources.items) }
+    ensures tells { IfOk result (λ o. (R.disk o.0.rack).tells ≡ (R.disk parts.rack).tells) }
+    ensures tells_back { IfErr result (λ r. (R.disk r.parts.rack).tells ≡ (R.disk parts.rack).tells) }
+    ensures later { IfOk result (λ o. R.faults parts.rack ≤ R.faults o.0.rack) }
+    ensures later_back { IfErr result (λ r. R.faults parts.rack ≤ R.faults r.parts.rack) }
+    ensures fault { IfErr result (λ r. r.why ≡ Fault → Rose (R.faults parts.rack) (R.faults r.parts.rack)) }
+{
+    let Parts { rack, resources } = parts;
+    let mut rack = rack;
+    let mut resources = resources;
+    clear_all(&mut resources);
+    let read = match read_sound(alloc, &mut rack, &mut resources) {
+        Ok(read) => read,
+        Err(why) => {
+            return Err(OpenRefused {
+                parts: Parts { rack, resources },
+                why,
+            });
+        }
+    };
+    let ReadFiles {
+        journal,
+        stores,
+        catalog,
+        history,
+    } = read;
+    let mut files = Files::new(rack, journal, stores, resources);
+    match settle_all(&mut files, &catalog, &history) {
+        Ok(()) => Ok((files, catalog, history)),
+        Err(_) => Err(OpenRefused {
+            parts: into_cleared(files),
+            why: OpenError::DiskFault,
+        }),
+    }
+}

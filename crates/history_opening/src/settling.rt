@@ -1,0 +1,97 @@
+// Effects in doubt that are settled by a history.
+ghost use Rattle.std.specs.Prelude.{◌≡◌, ◌<◌, ◌≤◌, ◌+◌, ◌^◌, length, OnOk, IsErr};
+ghost use Rattle.process_flow.specs.Causes.{Rose, HasCause};
+ghost use Rattle.process_disk.specs.Disk.{Told};
+ghost use Rattle.process_disk.specs.Images.{EachImage, ImagesFollow};
+ghost use Rattle.schedule_model.specs.Histories.{acts};
+ghost use Rattle.history_files.specs.Effects.{effects};
+ghost use Rattle.history_files.specs.Laws.{AreSettled};
+ghost use Rattle.history_files.specs.Sound.{IsSound, is_among};
+ghost use Rattle.history_files.specs.Standing.{Stand, EachFits, AreGoodBooks, ComeTo};
+ghost use Rattle.history_opening.specs.Settling.{AreSettledBelow};
+
+use crate::effects::has_effect;
+use commute_table::Catalog;
+use gate_log::DiskFault;
+use history_files::Files;
+use process_disk::Rack;
+use resource_box::Resource;
+use schedule_rules::History;
+use subsystem_store::Effect;
+
+// Whether a history has an effect on a subsystem.
+fn is_recorded(catalog: &Catalog, history: &History, q: u8, effect: &Effect) -> bool
+    requires few { length (acts history.now.events) < 2 ^ 32 }
+    ensures { result ≡ is_among effect.now (effects catalog.now.ops history.now q) }
+{
+    has_effect(
+        catalog.ops.as_slice(),
+        history.plans.as_slice(),
+        history.events.as_slice(),
+        q,
+        effect,
+    )
+}
+
+// Commits the effect that is in doubt in the store of a subsystem, if the history has it, and takes it back if not.
+fn settle<R: Rack + Drop, B: Resource>(
+    files: &mut Files<R, B>,
+    q: u8,
+    catalog: &Catalog,
+    history: &History,
+) -> Result<(), DiskFault>
+    requires subsystem { q < 8 }
+    requires fits { EachFits B.meaning B.sort files.old.stores }
+    requires few { length (acts history.now.events) < 2 ^ 32 }
+    requires come { ComeTo catalog.now.ops history.now files.old.stores }
+    requires below { AreSettledBelow q catalog.now.ops history.now files.old.stores }
+    requires stand { Told (R.disk files.old.rack) → Stand catalog.now history.now files.old.journal files.old.stores (R.disk files.old.rack) }
+    ensures acknowledged { Told (R.disk files.old.rack) → OnOk result (Stand catalog.now history.now files.new.journal files.new.stores (R.disk files.new.rack)) }
+    ensures any_moment { Told (R.disk files.old.rack) → EachImage (R.disk files.new.rack) (R.disk files.old.rack).moment (IsSound catalog.now history.now) }
+    ensures follow { Told (R.disk files.old.rack) → ImagesFollow (R.disk files.old.rack) (R.disk files.new.rack) }
+    ensures come { OnOk result (ComeTo catalog.now.ops history.now files.new.stores) }
+    ensures below { OnOk result (AreSettledBelow (q + 1) catalog.now.ops history.now files.new.stores) }
+    ensures fits { EachFits B.meaning B.sort files.new.stores }
+    ensures good { AreGoodBooks files.old.stores → AreGoodBooks files.new.stores }
+    ensures journal { files.new.journal ≡ files.old.journal }
+    ensures tells { (R.disk files.new.rack).tells ≡ (R.disk files.old.rack).tells }
+    ensures cause { HasCause (R.faults files.old.rack) (R.faults files.new.rack) result }
+{
+    files.are_sound();
+    let effect = match files.in_doubt(q) {
+        Some(effect) => *effect,
+        None => return Ok(()),
+    };
+    files.end_doubt(q, is_recorded(catalog, history, q, &effect))
+}
+
+/// Settles what is in doubt in each store by the history: it commits what the history has, and takes back the others.
+pub fn settle_all<R: Rack + Drop, B: Resource>(
+    files: &mut Files<R, B>,
+    catalog: &Catalog,
+    history: &History,
+) -> Result<(), DiskFault>
+    requires fits { EachFits B.meaning B.sort files.old.stores }
+    requires few { length (acts history.now.events) < 2 ^ 32 }
+    requires come { ComeTo catalog.now.ops history.now files.old.stores }
+    requires stand { Told (R.disk files.old.rack) → Stand catalog.now history.now files.old.journal files.old.stores (R.disk files.old.rack) }
+    ensures acknowledged { Told (R.disk files.old.rack) → OnOk result (Stand catalog.now history.now files.new.journal files.new.stores (R.disk files.new.rack)) }
+    ensures any_moment { Told (R.disk files.old.rack) → EachImage (R.disk files.new.rack) (R.disk files.old.rack).moment (IsSound catalog.now history.now) }
+    ensures follow { Told (R.disk files.old.rack) → ImagesFollow (R.disk files.old.rack) (R.disk files.new.rack) }
+    ensures settled { OnOk result (AreSettled catalog.now.ops history.now files.new.stores) }
+    ensures fits { EachFits B.meaning B.sort files.new.stores }
+    ensures good { AreGoodBooks files.old.stores → AreGoodBooks files.new.stores }
+    ensures journal { files.new.journal ≡ files.old.journal }
+    ensures tells { (R.disk files.new.rack).tells ≡ (R.disk files.old.rack).tells }
+    ensures later { R.faults files.old.rack ≤ R.faults files.new.rack }
+    ensures cause { IsErr result → Rose (R.faults files.old.rack) (R.faults files.new.rack) }
+{
+    files.are_sound();
+    let mut q = 0;
+    while q < 8 {
+        settle(files, q, catalog, history)?;
+        q += 1;
+    }
+    files.are_stores();
+    Ok(())
+}

@@ -1,0 +1,20 @@
+use Rattle.engine_runs.proofs.Goes.{goes_none}
+use Rattle.session_lines.specs.Pieces.{AreHandedBy}
+use Rattle.session_lines.proofs.AskedPieces.{all_stay}
+use Rattle.session_lines.proofs.Outcomes.{on_ok}
+use Rattle.session_lines.proofs.lines.play_line.Goals as goal
+
+pub returns-in_err-report_now-in-Show-clause-goes : goal.returns-in_err-report_now-in-Show-clause-goes
+returns-in_err-report_now-in-Show-clause-goes g c = goes_none g.R.Rack.disk g.R.Rack.faults c.args.engine.now c.is_sound.ensures.run (c.is_sound.ensures.each c.requires.ready.settled)
+
+pub returns-in_ok-report_now-in-Show-clause-goes : goal.returns-in_ok-report_now-in-Show-clause-goes
+returns-in_ok-report_now-in-Show-clause-goes g c = goes_none g.R.Rack.disk g.R.Rack.faults c.args.engine.now c.is_sound.ensures.run (c.is_sound.ensures.each c.requires.ready.settled)
+
+pub returns-in-Stop-clause-goes : goal.returns-in-Stop-clause-goes
+returns-in-Stop-clause-goes g c = goes_none g.R.Rack.disk g.R.Rack.faults c.args.engine.now c.is_sound.ensures.run (c.is_sound.ensures.each c.requires.ready.settled)
+
+pub returns-in-Start-clause-handed : goal.returns-in-Start-clause-handed
+returns-in-Start-clause-handed g c =
+    let new = c.play_start.new.engine.core in
+    let goes = c.play_start.ensures.goes in
+    on_ok c.play_start.result (AreHandedBy new c.args.pieces.now.items) (all_stay c.args.engine.now.core new goes.added c.args.pieces.now.items goes.kept c.requires.handed)
