@@ -1,4 +1,4 @@
-//! Tests of the engine: stops within every device call of a run, openings of nine files by tables, and runs with gates.
+//! Tests of the engine: stops within every device call of a run, and runs with gates.
 //!
 //! They stand apart from the crates that they test, since a crate with tests is proved twice.
 #![tactic(auto)]
@@ -8,11 +8,7 @@ mod beginnings;
 #[cfg(test)]
 mod boxes;
 #[cfg(test)]
-mod cases;
-#[cfg(test)]
 mod gates;
-#[cfg(test)]
-mod openings;
 #[cfg(test)]
 mod stops;
 #[cfg(test)]

@@ -3,7 +3,6 @@ ghost use Rattle.history_files.specs.Boxes.{AreBoxes};
 
 use crate::boxes::boxes;
 use crate::gates::{expect_room, expect_runs};
-use crate::openings::expect_openings;
 use crate::stops::expect_any_stop;
 use resource_box::Resource;
 use std::alloc::Global;
@@ -14,7 +13,6 @@ use std::test::Fail;
 enum Test {
     Room,
     Runs,
-    Openings,
     Stops,
 }
 
@@ -30,7 +28,6 @@ fn run<H: Abort>(
     match test {
         Test::Room => expect_room(rt, alloc, boxes),
         Test::Runs => expect_runs(rt, alloc, boxes),
-        Test::Openings => expect_openings(rt, alloc, boxes),
         Test::Stops => expect_any_stop(rt, alloc, boxes),
     }
 }
@@ -49,11 +46,6 @@ fn a_process_fits_beside_another(rt: HostRuntime) -> Result<(), Fail> {
 #[test]
 fn gates_refuse_what_they_were_told(rt: HostRuntime) -> Result<(), Fail> {
     with_boxes(&rt, rt.alloc(), Test::Runs)
-}
-
-#[test]
-fn nine_files_are_opened_or_refused(rt: HostRuntime) -> Result<(), Fail> {
-    with_boxes(&rt, rt.alloc(), Test::Openings)
 }
 
 #[test]

@@ -1,23 +1,18 @@
-//! Tests that cross crates: what the program answers, row by row.
+//! Tests of processes on their way through the program: runs and sessions with their outputs and files, refusals in their order, and
+//! faults; and nine files with the program's own boxes, which are opened, settled or refused.
 #![tactic(auto)]
 
 #[cfg(test)]
-mod calls;
+mod cases;
 #[cfg(test)]
-mod check;
+mod expected;
 #[cfg(test)]
-mod init;
+mod openings;
 #[cfg(test)]
 mod plays;
-#[cfg(test)]
-mod program;
 #[cfg(test)]
 mod refusals;
 #[cfg(test)]
 mod runs;
 #[cfg(test)]
 mod sessions;
-#[cfg(test)]
-mod show;
-#[cfg(test)]
-mod verify;

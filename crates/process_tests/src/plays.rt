@@ -1,5 +1,6 @@
 // Calls of the program on one rack.
-use crate::calls::{empty, expect_on};
+use crate::expected::expect_on;
+use command_tests::calls::empty;
 use process_disk::MemoryRack;
 use std::alloc::{AllocError, Global};
 use std::process::Abort;

@@ -1,6 +1,7 @@
 // What is refused, in its order, and what it leaves.
-use crate::calls::{empty, expect_on};
+use crate::expected::expect_on;
 use crate::plays::{Call, played_anew, scenario};
+use command_tests::calls::empty;
 use std::alloc::{AllocError, Global};
 use std::test::Fail;
 

@@ -3,7 +3,7 @@ use process_engine::{BookFault, OpenError};
 use resource_box::{Call, Verb};
 use subsystem_store::Effect;
 
-/// FileParts of a file, one after another.
+/// The parts of a file, one after another.
 pub type FileParts = &'static [&'static [u8]];
 
 /// Files with their parts.
@@ -42,7 +42,7 @@ pub fn fault_of(opens: Opens) -> Option<OpenError> {
     }
 }
 
-// FileParts of file 0: its header, the catalog of adding on subsystem 0 and shipping on subsystem 2, the start of a process of two
+// Parts of file 0: its header, the catalog of adding on subsystem 0 and shipping on subsystem 2, the start of a process of two
 // steps, its steps, and its end.
 const JOURNAL: &[u8] = b"tpsl\x01\x00\x00\x00";
 
@@ -58,7 +58,7 @@ const ENDED: &[u8] = b"\x01\x05\x00\x03\x01\x00\x00\x00";
 
 const CLOSED: &[u8] = b"\x00";
 
-// FileParts of the store of subsystem 0.
+// Parts of the store of subsystem 0.
 const COUNTERS: &[u8] = b"tpsl\x01\x01\x00\x00";
 
 const ADDING: &[u8] =
@@ -73,7 +73,7 @@ const ADDING_MORE: &[u8] =
 
 const ADDED: &[u8] = b"\x01\x05\x00\x11\x00\x00\x00\x00";
 
-// FileParts of the store of subsystem 2.
+// Parts of the store of subsystem 2.
 const SHIPMENTS: &[u8] = b"tpsl\x01\x03\x00\x00";
 
 const SHIPPING: &[u8] =

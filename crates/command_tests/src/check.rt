@@ -1,5 +1,6 @@
 // The command `check`.
-use crate::calls::{Call, answer_to, empty, expect, expect_call, plain_call};
+use crate::calls::{Call, answer_to, empty, plain_call};
+use crate::expected::{expect, expect_call};
 use std::alloc::{AllocError, Global};
 use std::test::Fail;
 

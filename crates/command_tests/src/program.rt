@@ -1,8 +1,7 @@
 // The program over real files, and over a folder in memory.
 use crate::calls::words_of;
 use crate::init::{ADD_ALONE, MADE, NOTHING};
-use crate::runs::{TEXT, TWO_STEPS_KEPT};
-use crate::show::SHOWN;
+use crate::show::{SHOWN, TEXT, TWO_STEPS_KEPT};
 use file_rack::{FileRack, Folder, MemoryFolder, SystemFolder};
 use gate_log::Log;
 use process_disk::{MemoryRack, Rack};

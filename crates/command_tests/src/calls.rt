@@ -1,11 +1,11 @@
-// Calls of the program over objects in memory.
+//! Calls of the program over objects in memory.
 use process_disk::MemoryRack;
 use process_flow::{MemorySink, MemorySource};
 use process_program::{new_boxes, new_gates};
 use process_top::{Finished, top};
 use std::alloc::{AllocError, Global};
-use std::process::Abort;
 
+/// Words, each of them owned.
 pub fn words_of(alloc: Global, words: &[&str]) -> Result<Vec<String>, AllocError> {
     let mut list = Vec::new(alloc);
     for word in words {
@@ -65,6 +65,7 @@ pub struct Told {
     pub rack: MemoryRack,
 }
 
+/// What `top` answers to a call over this rack.
 pub fn answer_to<H>(
     rt: &H,
     alloc: Global,
@@ -78,48 +79,7 @@ pub fn answer_to<H>(
     Ok(Told { status, sink, rack })
 }
 
-/// A call on a rack has this status and this whole output. The answer is the rack after it.
-pub fn expect_call<H: Abort>(
-    rt: &H,
-    alloc: Global,
-    call: Call<'_>,
-    rack: MemoryRack,
-    status: u8,
-    output: &[u8],
-) -> Result<MemoryRack, AllocError> {
-    let told = answer_to(rt, alloc, call, rack)?;
-    assert_eq!(rt; told.sink.bytes(), output);
-    assert_eq!(rt; told.status, status);
-    Ok(told.rack)
-}
-
-/// The same of words and an input.
-pub fn expect_on<H: Abort>(
-    rt: &H,
-    alloc: Global,
-    words: &[&str],
-    text: &[u8],
-    rack: MemoryRack,
-    status: u8,
-    output: &[u8],
-) -> Result<MemoryRack, AllocError> {
-    expect_call(rt, alloc, plain_call(words, text), rack, status, output)
-}
-
 /// A rack of nine empty files, of which these calls fail.
 pub fn empty(alloc: Global, fails: &[u32]) -> Result<MemoryRack, AllocError> {
     MemoryRack::new(alloc, fails.to_vec(alloc)?)
-}
-
-/// Words and an input have this status and this output on a fresh rack.
-pub fn expect<H: Abort>(
-    rt: &H,
-    alloc: Global,
-    words: &[&str],
-    text: &[u8],
-    status: u8,
-    output: &[u8],
-) -> Result<(), AllocError> {
-    drop(expect_on(rt, alloc, words, text, empty(alloc, &[])?, status, output)?);
-    Ok(())
 }

@@ -1,5 +1,5 @@
 // The command `verify`.
-use crate::calls::expect;
+use crate::expected::expect;
 use std::alloc::{AllocError, Global};
 use std::test::Fail;
 

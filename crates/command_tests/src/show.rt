@@ -1,10 +1,23 @@
 // The command `show`.
-use crate::calls::{answer_to, empty, expect_on, plain_call};
-use crate::runs::TEXT;
+use crate::calls::{answer_to, empty, plain_call};
+use crate::expected::expect_on;
 use process_disk::{MemoryRack, Rack};
 use std::alloc::{AllocError, Global};
 use std::process::Abort;
 use std::test::Fail;
+
+/// A scenario of one operation, and of one process of two steps.
+pub const TEXT: &[u8] = b"version = 1\nprocesses = \"process a c x add 1 5 c y add 1 6 end\"\n\
+    [[op]]\nname = \"add\"\nsubsystem = 0\nverb = \"add\"\n";
+
+/// The journal of its run: the header, five records behind open gates, and a closed gate.
+pub const TWO_STEPS_KEPT: &[u8] = b"tpsl\x01\x00\x00\x00\
+    \x01\x0b\x00\x00\x01\x01\x00\x03add\x00\x00\x00\
+    \x01\x2b\x00\x01\x01\x00\x00\x00process a c x add 1 5 c y add 1 6 end\n\
+    \x01\x08\x00\x02\x01\x00\x00\x00\x00\x00\x00\
+    \x01\x08\x00\x02\x01\x00\x00\x00\x01\x00\x00\
+    \x01\x05\x00\x03\x01\x00\x00\x00\
+    \x00";
 
 // What is shown of a rack, and the rack after it.
 fn show_on<H: Abort>(

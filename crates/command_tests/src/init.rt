@@ -1,5 +1,6 @@
 // The command `init`.
-use crate::calls::{Call, empty, expect, expect_call, expect_on};
+use crate::calls::{Call, empty};
+use crate::expected::{expect, expect_call, expect_on};
 use process_disk::Rack;
 use std::alloc::Global;
 use std::process::Abort;

@@ -2,10 +2,10 @@
 ghost use Rattle.std.specs.Prelude.{IfOk};
 ghost use Rattle.history_files.specs.Boxes.{AreBoxes};
 
-use crate::beginnings::opened;
 use crate::cases::{CASES, Case, Contents, EMPTY, FileParts, Opens, fault_of};
 use process_disk::{MemoryRack, Rack};
 use process_engine::{Engine, OpenError, Parts};
+use process_program::new_boxes;
 use resource_box::Resource;
 use std::alloc::Global;
 use std::process::Abort;
@@ -115,7 +115,8 @@ fn expect_opening<H: Abort, B: Resource>(
     requires { AreBoxes B.sort resources.items }
     ensures { IfOk result (λ parts. AreBoxes B.sort parts.resources.items) }
 {
-    match opened(alloc, rack_of(alloc, case)?, resources) {
+    let rack = rack_of(alloc, case)?;
+    match Engine::open(alloc, Parts { rack, resources }) {
         Ok(engine) => {
             expect_found(rt, case, &engine);
             Ok(engine.into_parts())
@@ -127,8 +128,8 @@ fn expect_opening<H: Abort, B: Resource>(
     }
 }
 
-/// Nine files are opened or refused, and are as they should be then.
-pub fn expect_openings<H: Abort, B: Resource>(
+// Nine files are opened or refused, and are as they should be then.
+fn expect_openings<H: Abort, B: Resource>(
     rt: &H,
     alloc: Global,
     resources: Vec<B>,
@@ -142,4 +143,10 @@ pub fn expect_openings<H: Abort, B: Resource>(
         expect_files(rt, alloc, case, parts.rack)?;
     }
     Ok(())
+}
+
+#[test]
+fn nine_files_are_opened_or_refused(rt: HostRuntime) -> Result<(), Fail> {
+    let alloc = rt.alloc();
+    expect_openings(&rt, alloc, new_boxes(alloc)?)
 }

@@ -1,0 +1,20 @@
+//! Tests of the program: what `check`, `init`, `show` and `verify` answer, row by row, and the program over real files and over a
+//! folder in memory.
+//!
+//! `calls` has the calls of the program over objects in memory, which other tests use too. Tests stand apart from the crates that they
+//! test, since a crate with tests is proved twice.
+#![tactic(auto)]
+
+pub mod calls;
+#[cfg(test)]
+mod check;
+#[cfg(test)]
+mod expected;
+#[cfg(test)]
+mod init;
+#[cfg(test)]
+mod program;
+#[cfg(test)]
+mod show;
+#[cfg(test)]
+mod verify;

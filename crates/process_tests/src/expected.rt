@@ -1,0 +1,21 @@
+// Calls of the program with what they should answer.
+use command_tests::calls::{answer_to, plain_call};
+use process_disk::MemoryRack;
+use std::alloc::{AllocError, Global};
+use std::process::Abort;
+
+/// Words and an input on a rack have this status and this whole output. The answer is the rack after them.
+pub fn expect_on<H: Abort>(
+    rt: &H,
+    alloc: Global,
+    words: &[&str],
+    text: &[u8],
+    rack: MemoryRack,
+    status: u8,
+    output: &[u8],
+) -> Result<MemoryRack, AllocError> {
+    let told = answer_to(rt, alloc, plain_call(words, text), rack)?;
+    assert_eq!(rt; told.sink.bytes(), output);
+    assert_eq!(rt; told.status, status);
+    Ok(told.rack)
+}
