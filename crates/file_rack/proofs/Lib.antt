@@ -1,3 +1,0 @@
-mod Marks
-mod MemoryWrites
-mod WholeCalls

@@ -1,1 +1,1 @@
-pub mod Folder
+pub mod NewRack

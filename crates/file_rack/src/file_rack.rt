@@ -3,10 +3,10 @@ ghost use Rattle.std.specs.Prelude.{◌≡◌, ◌⊎◌, ◌<◌, ◌≤◌, �
 ghost use Rattle.process_flow.specs.Causes.{Rose, HasCause, CountsFaults, CountsOne};
 ghost use Rattle.process_disk.specs.Disk.{Told, file_of, put, Only};
 ghost use Rattle.process_disk.specs.Calls.{OnlyLooks, OnlyWrites};
-ghost use Rattle.file_rack.specs.Folder.{AreKept, IsMarked, IsNew, SomeMarked, NoneMarked, syncs_of, folder_place};
+ghost use Rattle.folder_files.specs.Folder.{AreKept, IsMarked, SomeMarked, NoneMarked, syncs_of, folder_place};
+ghost use Rattle.file_rack.specs.NewRack.{IsNew};
 
-use crate::Folder;
-use crate::transfers::{any_marked, read_whole, sync_marked, write_whole};
+use folder_files::{Folder, any_marked, read_whole, sync_marked, write_whole};
 use process_disk::Rack;
 use process_flow::Failed;
 

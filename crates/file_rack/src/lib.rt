@@ -1,19 +1,12 @@
 //! A rack over the files of a folder.
 //!
-//! A `Folder` is nine files with the calls that a system has: transfers that may be short, a sync of one file, and a lock. `FileRack`
-//! makes of a folder a `Rack` of `process_disk`, which tells what the folder tells: whole reads and writes, and a sync of all files
-//! that a crash may leave otherwise (`specs/Folder`). `SystemFolder` is the current folder, which tells nothing, and `MemoryFolder`
-//! one in memory, which tells all. No failed call of a folder is passed over. The layers above use `FileRack` and the two folders.
+//! `FileRack` makes of a folder of `folder_files` a `Rack` of `process_disk`, which tells what the folder tells: whole reads and
+//! writes, and a sync of all files that a crash may leave otherwise. It takes the folder before it writes, and counts its faults; no
+//! failed call of a folder is passed over. The layers above use `FileRack` over the two folders, that of the system and one in memory.
 #![tactic(auto)]
 
-mod counts;
 mod file_rack;
-mod folder;
-mod memory_folder;
-mod system_folder;
-mod transfers;
+mod system_rack;
 
 pub use file_rack::FileRack;
-pub use folder::Folder;
-pub use memory_folder::MemoryFolder;
-pub use system_folder::SystemFolder;
+pub use folder_files::{Folder, MemoryFolder, SystemFolder};

@@ -4,7 +4,7 @@ use Rattle.std.proofs.Common.{◌≡◌, ℕ, map, refl, ap, subst, ◌∙◌, i
 use Rattle.std.specs.Prelude.{replicate, Some}
 use Rattle.process_flow.specs.declared.source.Source.{Ghosts as Sources}
 use Rattle.process_flow.specs.declared.sink.Sink.{Ghosts as Sinks}
-use Rattle.file_rack.specs.declared.folder.Folder.{Ghosts as Folders}
+use Rattle.folder_files.specs.declared.folder.Folder.{Ghosts as Folders}
 use Rattle.worker_gate.specs.Gates.{PlainState, plain_answer}
 use Rattle.process_top.specs.Worlds.{BoxState, GatesState, World}
 use Rattle.process_top.specs.Commands.{Answers}

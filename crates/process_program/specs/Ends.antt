@@ -2,7 +2,7 @@
 use Rattle.std.specs.Prelude.{◌≡◌, ◌⊎◌, ℕ, List}
 use Rattle.process_flow.specs.declared.source.Source.{Ghosts as Sources}
 use Rattle.process_flow.specs.declared.sink.Sink.{Ghosts as Sinks}
-use Rattle.file_rack.specs.declared.folder.Folder.{Ghosts as Folders}
+use Rattle.folder_files.specs.declared.folder.Folder.{Ghosts as Folders}
 use Rattle.program_lines.specs.Statuses.{number_of}
 use Rattle.program_lines.specs.declared.status.Status.TheVariants.{NoMemory}
 use Rattle.process_top.specs.Worlds.{World, input, output}

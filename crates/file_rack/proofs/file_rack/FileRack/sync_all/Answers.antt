@@ -1,8 +1,8 @@
 use Rattle.std.proofs.Common.{◌∙◌, sym, refl}
 use Rattle.process_disk.proofs.Images.{still_told, told_before}
 use Rattle.std.proofs.lemmas.Bool.{false≢true}
-use Rattle.file_rack.proofs.Marks.{kept_by_looks}
-use Rattle.file_rack.proofs.WholeCalls.{looks_then, only_by_kept}
+use Rattle.folder_files.proofs.Marks.{kept_by_looks}
+use Rattle.folder_files.proofs.WholeCalls.{looks_then, only_by_kept}
 use Rattle.file_rack.proofs.file_rack.FileRack.sync_all.Goals as goal
 
 pub returns-then-not-any_marked-clause-kept : goal.returns-then-not-any_marked-clause-kept

@@ -1,4 +1,4 @@
-use Rattle.file_rack.proofs.Marks.{on_err, some_marked}
+use Rattle.folder_files.proofs.Marks.{on_err, some_marked}
 use Rattle.file_rack.proofs.file_rack.FileRackRack.sync.Goals as goal
 
 pub returns-then-self-clause-left : goal.returns-then-self-clause-left

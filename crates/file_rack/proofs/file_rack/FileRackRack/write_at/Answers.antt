@@ -1,5 +1,5 @@
 use Rattle.std.proofs.Common.{◌<◌, length, rules}
-use Rattle.file_rack.proofs.Marks.{not_none_set, kept_set}
+use Rattle.folder_files.proofs.Marks.{not_none_set, kept_set}
 use Rattle.file_rack.proofs.file_rack.FileRackRack.write_at.Goals as goal
 
 pub invariant_of-self : goal.invariant_of-self

@@ -5,7 +5,7 @@ use Rattle.std.proofs.lemmas.List.{get_or-set_same, length-take-le, length-drop,
 use Rattle.std.proofs.Math.Seq.{take-add, take-take, set-set}
 use Rattle.std.proofs.lemmas.Bool.{cases_eq}
 use Rattle.process_disk.specs.Disk.{FileSet, Disk, file_of, written, put, TornIn, Only, Looks, Writes, IsHonest}
-use Rattle.file_rack.specs.Folder.{IsKept, IsPart}
+use Rattle.folder_files.specs.Folder.{IsKept, IsPart}
 use Rattle.process_disk.specs.MemoryLaws.{length-written}
 use Rattle.process_disk.proofs.Images.{counts_now, torn_none}
 

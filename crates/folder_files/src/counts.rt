@@ -1,6 +1,6 @@
 // Counts of syncs: of the nine files, and of the folder behind them.
 ghost use Rattle.std.specs.Prelude.{◌<◌};
-ghost use Rattle.file_rack.specs.Folder.{IsSynced};
+ghost use Rattle.folder_files.specs.Folder.{IsSynced};
 
 /// Where syncs of the folder are counted.
 pub const FOLDER: usize = 9;

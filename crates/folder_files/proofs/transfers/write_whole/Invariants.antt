@@ -1,7 +1,7 @@
 use Rattle.std.proofs.Common.{◌≡◌, ◌-◌, ◌≤◌, length, take}
 use Rattle.process_disk.specs.Disk.{Told, put}
 use Rattle.process_disk.specs.Calls.{OnlyWrites}
-use Rattle.file_rack.proofs.transfers.write_whole.Given as goal
+use Rattle.folder_files.proofs.transfers.write_whole.Given as goal
 
 abbrev pub invariant-loop-sent : goal.invariant-loop-sent
 invariant-loop-sent g l = record {

@@ -3,7 +3,7 @@ ghost use Rattle.std.specs.Prelude.{◌≡◌, ◌<◌, ◌≤◌, ◌⊎◌, []
 ghost use Rattle.process_flow.specs.Causes.{CountsFaults};
 ghost use Rattle.process_disk.specs.Disk.{FileSet, file_of, put};
 ghost use Rattle.process_disk.specs.Calls.{OnlyLooks, OnlyWrites};
-ghost use Rattle.file_rack.specs.Folder.{IsKept, IsPart, IsSynced, folder_place};
+ghost use Rattle.folder_files.specs.Folder.{IsKept, IsPart, IsSynced, folder_place};
 ghost use Rattle.process_disk.specs.Memory.{disk_of, fresh, nine_empty};
 ghost use Rattle.process_disk.specs.MemoryView.{memory};
 

@@ -1,11 +1,11 @@
 use Rattle.std.proofs.Common.{◌<◌, ◌∙◌, sym, arith, rules, subst, inl, inr}
 use Rattle.std.proofs.lemmas.Bool.{cases_eq, false≢true}
 use Rattle.process_flow.specs.Causes.{Rose}
-use Rattle.file_rack.specs.Folder.{syncs_of, IsMarked, IsUnmarked}
+use Rattle.folder_files.specs.Folder.{syncs_of, IsMarked, IsUnmarked}
 use Rattle.process_disk.proofs.Images.{still_told}
-use Rattle.file_rack.proofs.WholeCalls.{kept_further, kept_by_look, looks_then}
-use Rattle.file_rack.proofs.transfers.sync_marked.Goals.{then-marks-from+in_ok-sync, else-marks-from}
-use Rattle.file_rack.proofs.transfers.sync_marked.Goals as goal
+use Rattle.folder_files.proofs.WholeCalls.{kept_further, kept_by_look, looks_then}
+use Rattle.folder_files.proofs.transfers.sync_marked.Goals.{then-marks-from+in_ok-sync, else-marks-from}
+use Rattle.folder_files.proofs.transfers.sync_marked.Goals as goal
 
 pub loop-file-preserved : goal.loop-file-preserved
 loop-file-preserved g c = elim c.if-marks-from.branch [

@@ -2,8 +2,8 @@ use Rattle.std.proofs.Common.{◌≡◌, ◌<◌, ◌≤◌, ℕ}
 use Rattle.process_flow.specs.Causes.{Rose}
 use Rattle.process_disk.specs.Disk.{Told}
 use Rattle.process_disk.specs.Calls.{OnlyLooks}
-use Rattle.file_rack.specs.Folder.{IsKept, AreKept, IsMarked, syncs_of}
-use Rattle.file_rack.proofs.transfers.sync_marked.Given as goal
+use Rattle.folder_files.specs.Folder.{IsKept, AreKept, IsMarked, syncs_of}
+use Rattle.folder_files.proofs.transfers.sync_marked.Given as goal
 
 abbrev pub invariant-loop-file : goal.invariant-loop-file
 invariant-loop-file g l = record {

@@ -1,8 +1,8 @@
 use Rattle.std.proofs.Common.{◌≡◌, ◌-◌, ◌≤◌, length}
 use Rattle.process_disk.specs.Disk.{Told, file_of}
 use Rattle.process_disk.specs.Calls.{OnlyLooks}
-use Rattle.file_rack.proofs.WholeCalls.{IsReadTo}
-use Rattle.file_rack.proofs.transfers.read_whole.Given as goal
+use Rattle.folder_files.proofs.WholeCalls.{IsReadTo}
+use Rattle.folder_files.proofs.transfers.read_whole.Given as goal
 
 abbrev pub invariant-loop-count : goal.invariant-loop-count
 invariant-loop-count g l = record {

@@ -1,8 +1,8 @@
 use Rattle.std.proofs.Common.{◌≤◌, length, arith}
 use Rattle.process_disk.specs.Memory.{disk_of}
 use Rattle.process_disk.specs.MemoryView.{memory}
-use Rattle.file_rack.proofs.MemoryWrites.{only_writes_wider, grows_by_write}
-use Rattle.file_rack.proofs.memory_folder.MemoryFolderFolder.write.Goals as goal
+use Rattle.folder_files.proofs.MemoryWrites.{only_writes_wider, grows_by_write}
+use Rattle.folder_files.proofs.memory_folder.MemoryFolderFolder.write.Goals as goal
 
 pub returns-in-Ok-clause-writes : goal.returns-in-Ok-clause-writes
 returns-in-Ok-clause-writes c =

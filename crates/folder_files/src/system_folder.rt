@@ -1,10 +1,10 @@
 // The files of the current folder, by the calls of the system.
 ghost use Rattle.std.specs.Prelude.{◌≡◌, ◌<◌, ◌≤◌, ◌+◌, ◌-◌, ◌^◌, ℕ, min, length, IfOk, OnOk, OnErr, IsErr, IsTrue, true, false};
 ghost use Rattle.process_flow.specs.Causes.{CountsFaults};
-ghost use Rattle.file_rack.specs.Folder.{IsSynced, IsNew, folder_place};
+ghost use Rattle.folder_files.specs.Folder.{IsSynced, folder_place};
 
+use crate::Folder;
 use crate::counts::{FOLDER, count};
-use crate::{FileRack, Folder};
 use process_flow::Failed;
 use std::fs::{File, OpenFile, OpenOptions};
 use std::io;
@@ -104,26 +104,6 @@ impl<F: Files<File = File> + Drop> SystemFolder<F> {
                 Err(Failed)
             }
         }
-    }
-}
-
-impl<F: Files<File = File> + Drop> FileRack<SystemFolder<F>> {
-    /// A rack over the files `tps.0` to `tps.8` of the current folder, which may write.
-    pub fn new(rt: F) -> Self
-        ensures runtime { result.folder.rt ≡ rt }
-        ensures writes { result.writes ≡ true }
-        ensures new { IsNew result.unsynced result.broken result.faults }
-    {
-        FileRack::over(SystemFolder::new(rt), true)
-    }
-
-    /// A rack over them that only reads: each write fails, and the folder isn't taken.
-    pub fn reading(rt: F) -> Self
-        ensures runtime { result.folder.rt ≡ rt }
-        ensures writes { result.writes ≡ false }
-        ensures new { IsNew result.unsynced result.broken result.faults }
-    {
-        FileRack::over(SystemFolder::new(rt), false)
     }
 }
 

@@ -1,9 +1,9 @@
 use Rattle.std.proofs.Common.{◌≡◌, ◌+◌, ◌∙◌, subst, arith, drop, length-append, rules}
 use Rattle.process_disk.specs.Disk.{file_of}
-use Rattle.file_rack.specs.Folder.{IsPart}
+use Rattle.folder_files.specs.Folder.{IsPart}
 use Rattle.process_disk.proofs.Images.{still_told}
-use Rattle.file_rack.proofs.WholeCalls.{looks_then, read_more}
-use Rattle.file_rack.proofs.transfers.read_whole.Goals as goal
+use Rattle.folder_files.proofs.WholeCalls.{looks_then, read_more}
+use Rattle.folder_files.proofs.transfers.read_whole.Goals as goal
 
 pub loop-count-preserved : goal.loop-count-preserved
 loop-count-preserved g c =

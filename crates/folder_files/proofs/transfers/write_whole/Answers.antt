@@ -1,8 +1,8 @@
 use Rattle.std.proofs.Common.{◌≡◌, ◌≤◌, ◌<◌, ◌+◌, ◌∙◌, sym, ap, subst, arith, length, take, refl, rules}
 use Rattle.process_disk.specs.Disk.{file_of, put}
 use Rattle.process_disk.proofs.Images.{still_told, told_before}
-use Rattle.file_rack.proofs.WholeCalls.{put_none, put_size, put_more, writes_of_looks, looks_none, writes_then, nine_read}
-use Rattle.file_rack.proofs.transfers.write_whole.Goals as goal
+use Rattle.folder_files.proofs.WholeCalls.{put_none, put_size, put_more, writes_of_looks, looks_none, writes_then, nine_read}
+use Rattle.folder_files.proofs.transfers.write_whole.Goals as goal
 
 pub loop-sent-init : goal.loop-sent-init
 loop-sent-init g c =

@@ -5,7 +5,7 @@ use Rattle.process_disk.specs.Disk.{FileSet, Disk, Writes}
 use Rattle.process_disk.specs.Calls.{OnlyWrites}
 use Rattle.process_disk.specs.Memory.{MemoryDisk, IsImage, KeepsWrite}
 use Rattle.process_disk.proofs.Images.{torn_none}
-use Rattle.file_rack.proofs.WholeCalls.{torn_then}
+use Rattle.folder_files.proofs.WholeCalls.{torn_then}
 
 -- A write of a range is one of a longer range.
 writes_wider : (q at n m : ℕ) (old new : Disk) → n ≤ m → Writes q at n old new → Writes q at m old new

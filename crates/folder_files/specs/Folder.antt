@@ -45,9 +45,3 @@ NoneMarked marks = (k : ℕ) → IsUnmarked marks k
 -- each file that isn't marked is kept, where the files are told
 abbrev pub AreKept : List Bool → Disk → Type 0
 AreKept marks disk = Told disk → (k : ℕ) → k < 9 → IsUnmarked marks k → IsKept k disk
-
--- what a new rack has: each file counts as unsynced, no sync has failed, and there is no fault
-pub record IsNew (marks : List Bool) (broken : Bool) (count : ℕ) : Type 0 where
-  pub unsynced : (k : ℕ) → k < 9 → IsMarked marks k
-  pub whole : broken ≡ false
-  pub faults : count ≡ 0

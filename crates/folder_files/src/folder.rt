@@ -3,7 +3,7 @@ ghost use Rattle.std.specs.Prelude.{◌≡◌, ◌<◌, ◌≤◌, ℕ, List, Bo
 ghost use Rattle.process_flow.specs.Causes.{CountsFaults};
 ghost use Rattle.process_disk.specs.Disk.{FileSet, Disk, Told, file_of, put, IsHonest};
 ghost use Rattle.process_disk.specs.Calls.{OnlyLooks, OnlyWrites};
-ghost use Rattle.file_rack.specs.Folder.{IsKept, IsPart, IsSynced, folder_place};
+ghost use Rattle.folder_files.specs.Folder.{IsKept, IsPart, IsSynced, folder_place};
 
 use process_flow::Failed;
 

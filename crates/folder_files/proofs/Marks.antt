@@ -4,9 +4,9 @@ use Rattle.std.proofs.Common.{◌≡◌, ◌<◌, ◌∙◌, ℕ, zero, suc, len
 use Rattle.std.proofs.lemmas.Bool.{cases_eq, false≢true}
 use Rattle.std.proofs.lemmas.List.{get_or-set_same, get_or-set_other}
 use Rattle.process_disk.specs.Disk.{Disk, Told, Looks}
-use Rattle.file_rack.specs.Folder.{IsUnmarked, SomeMarked, NoneMarked, AreKept}
+use Rattle.folder_files.specs.Folder.{IsUnmarked, SomeMarked, NoneMarked, AreKept}
 use Rattle.process_disk.proofs.Images.{told_before}
-use Rattle.file_rack.proofs.WholeCalls.{kept_by_look}
+use Rattle.folder_files.proofs.WholeCalls.{kept_by_look}
 
 some_or_none : (marks : List Bool) → SomeMarked marks ⊎ NoneMarked marks
 some_or_none [] = inr (λ k. refl)

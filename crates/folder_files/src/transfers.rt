@@ -3,12 +3,13 @@ ghost use Rattle.std.specs.Prelude.{◌≡◌, ◌⊎◌, ◌<◌, ◌≤◌, �
 ghost use Rattle.process_flow.specs.Causes.{Rose, CountsFaults};
 ghost use Rattle.process_disk.specs.Disk.{Told, file_of, put};
 ghost use Rattle.process_disk.specs.Calls.{OnlyLooks, OnlyWrites};
-ghost use Rattle.file_rack.specs.Folder.{IsKept, AreKept, IsMarked, SomeMarked, NoneMarked, syncs_of};
+ghost use Rattle.folder_files.specs.Folder.{IsKept, AreKept, IsMarked, SomeMarked, NoneMarked, syncs_of};
 
 use crate::Folder;
 use process_flow::Failed;
 
-/// Reads from a place on until the buffer is full or the file ends.
+/// Reads a file from byte `at` on until the buffer is full or the file ends, and says how many bytes stand in its front. It fails
+/// where a call of the folder does, or where a place is beyond 64 bits.
 pub fn read_whole<D: Folder>(
     folder: &mut D,
     file: u8,
@@ -42,7 +43,8 @@ pub fn read_whole<D: Folder>(
     Ok(count)
 }
 
-/// Writes all bytes in order.
+/// Writes all bytes in order, from byte `at` of a file on. The folder is taken, and the file reaches to `at`. It fails as a read does,
+/// and may have written some of them then.
 pub fn write_whole<D: Folder>(folder: &mut D, file: u8, at: u64, bytes: &[u8]) -> Result<(), Failed>
     requires file { file < 9 }
     requires taken { IsTrue (D.taken folder.old) }
@@ -67,7 +69,7 @@ pub fn write_whole<D: Folder>(folder: &mut D, file: u8, at: u64, bytes: &[u8]) -
     Ok(())
 }
 
-/// Brings each file that is marked to the disk.
+/// Brings each file that is marked to the disk; there is a mark for each of the nine. It fails where a sync does.
 pub fn sync_marked<D: Folder>(folder: &mut D, marks: &[bool]) -> Result<(), Failed>
     requires { length marks.now ≡ 9 }
     ensures kept { AreKept marks.now (D.disk folder.old) → Told (D.disk folder.old) → OnOk result ((k : ℕ) → k < 9 → IsKept k (D.disk folder.new)) }

@@ -1,0 +1,3 @@
+pub mod Marks
+mod MemoryWrites
+pub mod WholeCalls
