@@ -12,6 +12,8 @@ use crate::starts::{PURCHASE, SALE, catalog, opened, planned, started};
 use process_core::{Aborted, Core, StartRoom, Work};
 use process_tree::{Conflicts, Plan};
 use schedule_model::Event;
+use std::alloc::Global;
+use std::process::Abort;
 use std::test::Fail;
 
 #[test]
@@ -40,7 +42,32 @@ fn room_for(core: &Core, plan: Plan) -> Result<StartRoom, Fail>
     }
 }
 
-const SOLD: [(Call, Answer); 2] = [
+// The process of a plan starts in room that was made for it, given back with the plan and made again. The answer is its number.
+fn start_in_room(core: &mut Core, plan: Plan) -> Result<u32, Fail>
+    requires good { IsGoodPlan plan }
+    requires known { Each (λ op. op < operations_in core.old.conflicts) plan.ops }
+{
+    let given_back = room_for(core, plan)?.into_plan();
+    let room = room_for(core, given_back)?;
+    Ok(core.start_in(room))
+}
+
+// A core on which a purchase has started, and a sale in room that was made before, with the number of the sale.
+fn sale_in_room(alloc: Global) -> Result<(Core, u32), Fail> {
+    let catalog = catalog(alloc)?;
+    let mut core = started(alloc, &catalog, &[PURCHASE])?;
+    let plan = planned(alloc, SALE, &catalog)?;
+    let number = start_in_room(&mut core, plan)?;
+    Ok((core, number))
+}
+
+// Two processes have started, and nothing else happened.
+fn expect_two_starts<H: Abort>(rt: &H, core: &Core) {
+    let events = core.history().events.as_slice();
+    assert_eq!(rt; events, [Event::Start(1), Event::Start(2)].as_slice());
+}
+
+const SOLD: &[(Call, Answer)] = &[
     (Call::Admit(2), Answer::Piece(1, 2, 0, Work::Forward)),
     (Call::Done(1), Answer::Effected(3)),
 ];
@@ -48,13 +75,8 @@ const SOLD: [(Call, Answer); 2] = [
 #[test]
 fn a_process_starts_in_room_that_was_made_before(rt: HostRuntime) -> Result<(), Fail> {
     let alloc = rt.alloc();
-    let catalog = catalog(alloc)?;
-    let mut core = started(alloc, &catalog, &[PURCHASE])?;
-    let plan = planned(alloc, SALE, &catalog)?;
-    let given_back = room_for(&core, plan)?.into_plan();
-    let room = room_for(&core, given_back)?;
-    assert_eq!(rt; core.start_in(room), 2);
-    let events = [Event::Start(1), Event::Start(2)];
-    assert_eq!(rt; core.history().events.as_slice(), events.as_slice());
-    expect_answers(&rt, alloc, &mut core, "started in room", &[], &SOLD)
+    let (mut core, number) = sale_in_room(alloc)?;
+    assert_eq!(rt; number, 2);
+    expect_two_starts(&rt, &core);
+    expect_answers(&rt, alloc, &mut core, "started in room", &[], SOLD)
 }
