@@ -1,5 +1,8 @@
-# `make` proves and builds the program; `make demo` runs it on the examples; `make test` is what CI runs.
-.PHONY: build demo test bench
+# `make` proves and builds the program; `make demo` runs it on the examples; `make test` is what CI runs; `make install` puts the program
+# and its manual page under PREFIX.
+.PHONY: build demo test edits bench install
+
+PREFIX ?= /usr/local
 
 build:
 	./build
@@ -9,6 +12,14 @@ demo:
 
 test:
 	./gate
+
+install: build
+	install -D -m 755 crates/process_main/out/process_main $(DESTDIR)$(PREFIX)/bin/tps
+	install -D -m 644 docs/tps.1 $(DESTDIR)$(PREFIX)/share/man/man1/tps.1
+
+# Tries every wrong body, or with CRATES="A B" those of these crates.
+edits:
+	tests/edits $(CRATES)
 
 # Times the calls that have to stay quick on large inputs, and the check of the worst text within 1 MiB; no part of the gate.
 bench:
@@ -25,3 +36,4 @@ bench:
 	bench/report
 	awk -f bench/worst_text.awk > bench/worst.process
 	time ./tps check < bench/worst.process > /dev/null
+	bench/restart

@@ -4,7 +4,7 @@
 top=$(cd "$(dirname "$0")" && pwd)
 program=$top/crates/process_main/out/process_main
 if ! "$top/build" --is-built; then
-    echo 'tps: the program is proved and built first' >&2
+    echo 'tps: the program is proved and built first: about 25 minutes on four processors from nothing, a line a crate' >&2
     rm -f "$program"
     "$top/build" </dev/null >&2
     [ -x "$program" ] || exit 70

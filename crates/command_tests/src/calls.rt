@@ -1,5 +1,8 @@
 //! Calls of the program over objects in memory.
+ghost use Rattle.std.specs.Prelude.{◌≡◌, length};
+
 use process_disk::MemoryRack;
+use process_engine::Gate;
 use process_flow::{MemorySink, MemorySource};
 use process_program::{new_boxes, new_gates};
 use process_top::{Finished, top};
@@ -14,17 +17,19 @@ pub fn words_of(alloc: Global, words: &[&str]) -> Result<Vec<String>, AllocError
     Ok(list)
 }
 
-// The status of `top` over a source, a sink and a rack, and the rack after it.
-fn answered<H>(
+// The status of `top` over a source, a sink, a rack and gates, and the rack after it.
+fn answered<H, G: Gate + Drop>(
     rt: &H,
     alloc: Global,
     words: &[String],
     source: &mut MemorySource,
     sink: &mut MemorySink,
     rack: MemoryRack,
-) -> Result<(u8, MemoryRack), AllocError> {
+    gates: Vec<G>,
+) -> Result<(u8, MemoryRack), AllocError>
+    requires { length gates.items ≡ 16 }
+{
     let resources = new_boxes(alloc)?;
-    let gates = new_gates(alloc)?;
     let finished = top(rt, alloc, words, source, sink, rack, resources, gates);
     let Finished {
         status,
@@ -65,18 +70,31 @@ pub struct Told {
     pub rack: MemoryRack,
 }
 
-/// What `top` answers to a call over this rack.
+/// What `top` answers to a call over this rack, with these gates.
+pub fn answer_with<H, G: Gate + Drop>(
+    rt: &H,
+    alloc: Global,
+    call: Call<'_>,
+    rack: MemoryRack,
+    gates: Vec<G>,
+) -> Result<Told, AllocError>
+    requires { length gates.items ≡ 16 }
+{
+    let words = words_of(alloc, call.words)?;
+    let mut source = MemorySource::new(call.text.to_vec(alloc)?, call.reads.to_vec(alloc)?);
+    let mut sink = MemorySink::new(alloc, call.writes.to_vec(alloc)?);
+    let (status, rack) = answered(rt, alloc, &words, &mut source, &mut sink, rack, gates)?;
+    Ok(Told { status, sink, rack })
+}
+
+/// What `top` answers to a call over this rack, with the program's own gates.
 pub fn answer_to<H>(
     rt: &H,
     alloc: Global,
     call: Call<'_>,
     rack: MemoryRack,
 ) -> Result<Told, AllocError> {
-    let words = words_of(alloc, call.words)?;
-    let mut source = MemorySource::new(call.text.to_vec(alloc)?, call.reads.to_vec(alloc)?);
-    let mut sink = MemorySink::new(alloc, call.writes.to_vec(alloc)?);
-    let (status, rack) = answered(rt, alloc, &words, &mut source, &mut sink, rack)?;
-    Ok(Told { status, sink, rack })
+    answer_with(rt, alloc, call, rack, new_gates(alloc)?)
 }
 
 /// A rack of nine empty files, of which these calls fail.

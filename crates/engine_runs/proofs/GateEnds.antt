@@ -30,7 +30,7 @@ use Rattle.process_engine.specs.declared.finishing.Finish.TheVariants.{Effected,
 use Rattle.process_engine.specs.declared.gates.Answer.{Answer}
 use Rattle.process_engine.specs.declared.gates.Answer.TheVariants.{Done, Refused}
 use Rattle.process_engine.proofs.Refusals.{is_refused}
-use Rattle.engine_runs.specs.GateAnswers.{AreAnswered, IsAnswered, IsByGate, IsHandedAs, as_handed, is_barred_in, is_unbarred, unbarred_refusals}
+use Rattle.engine_runs.specs.GateAnswers.{AreAnswered, AskedGate, IsAnswered, IsByGate, IsHandedAs, as_handed, is_barred_in, is_unbarred, unbarred_refusals}
 use Rattle.engine_runs.proofs.GateRuns.{by_gate_none, kept_is}
 
 abbrev is_effected : Reply → Bool
@@ -167,9 +167,15 @@ module _ (answers : Handed → Option Answer) (catalog : Catalog) (c : CoreState
     refusal_counted fails' low = subst (λ o. before + ((if is_unbarred catalog c o then 1 else 0) + 0) ≤ after) (sym is.handed) (counted_by fails' low barred refl)
 
 -- The end of a piece that was handed out, and answered as its gate tells it, is by the gate.
-module _ {R B : Type 0} (disk : R → Disk) (old new : EngineState R B) (p : Handed) (answers : Handed → Option Answer) (handed : IsHandedAs old.core p) (answer : Answer)
-    (end : p.piece.work ≡ End → answer ≡ Done) (told : p.piece.work ≢ End → IfSome (answers p) (λ a. answer ≡ a))
-    (before after : ℕ) (later : before ≤ after) (rose : answer ≡ Refused → Rose before after) where
+module _ {R B : Type 0} (disk : R → Disk) (old new : EngineState R B) (p : Handed) (gate : AskedGate) (handed : IsHandedAs old.core p) (answer : Answer)
+    (end : p.piece.work ≡ End → answer ≡ Done) (told : p.piece.work ≢ End → IfSome (gate.answers p) (λ a. answer ≡ a))
+    (later : gate.before.refusals ≤ gate.after.refusals) (rose : answer ≡ Refused → Rose gate.before.refusals gate.after.refusals) where
+  abbrev before : ℕ
+  before = gate.before.refusals
+
+  abbrev after : ℕ
+  after = gate.after.refusals
+
   abbrev start : CoreState
   start = with_served old.core 0
 
@@ -179,31 +185,31 @@ module _ {R B : Type 0} (disk : R → Disk) (old new : EngineState R B) (p : Han
   abbrev outcome : Outcome
   outcome = outcome_of answer (is_barred old p.piece)
 
-  effect_by : new.core.kept ≡ old.core.kept ++ Effect p.piece.number ∷ [] → outcome ≡ Succeeds → IsByGate answers before after old.catalog old.core new.core
+  effect_by : new.core.kept ≡ old.core.kept ++ Effect p.piece.number ∷ [] → outcome ≡ Succeeds → IsByGate gate old.catalog old.core new.core
   effect_by is good =
       let same = kept_is old.core new.core (Effect p.piece.number ∷ []) is in
       record {
-        answered = subst (AreAnswered answers old.catalog start) (sym same) (effect_answered answers old.catalog start p here answer end told good, tt);
+        answered = subst (AreAnswered gate.answers old.catalog start) (sym same) (effect_answered gate.answers old.catalog start p here answer end told good, tt);
         counted = λ low. subst (λ ks. before + unbarred_refusals old.catalog start ks ≤ after) (sym same) (omega (arith, later));
         later = later;
       }
 
-  refusal_by : new.core.kept ≡ old.core.kept ++ Refuse p.piece.number ∷ [] → outcome ≡ Fails → IsByGate answers before after old.catalog old.core new.core
+  refusal_by : new.core.kept ≡ old.core.kept ++ Refuse p.piece.number ∷ [] → outcome ≡ Fails → IsByGate gate old.catalog old.core new.core
   refusal_by is bad =
       let same = kept_is old.core new.core (Refuse p.piece.number ∷ []) is in
       record {
-        answered = subst (AreAnswered answers old.catalog start) (sym same) (refusal_answered answers old.catalog start p here answer end told bad, tt);
-        counted = λ low. subst (λ ks. before + unbarred_refusals old.catalog start ks ≤ after) (sym same) (refusal_counted answers old.catalog start p here answer end told before after later rose bad low);
+        answered = subst (AreAnswered gate.answers old.catalog start) (sym same) (refusal_answered gate.answers old.catalog start p here answer end told bad, tt);
+        counted = λ low. subst (λ ks. before + unbarred_refusals old.catalog start ks ≤ after) (sym same) (refusal_counted gate.answers old.catalog start p here answer end told before after later rose bad low);
         later = later;
       }
 
-  nothing_by : new.core.kept ≡ old.core.kept ++ [] → IsByGate answers before after old.catalog old.core new.core
-  nothing_by is = by_gate_none answers old.catalog before after later old.core new.core [] is tt
+  nothing_by : new.core.kept ≡ old.core.kept ++ [] → IsByGate gate old.catalog old.core new.core
+  nothing_by is = by_gate_none gate old.catalog later old.core new.core [] is tt
 
   refused' : (r : Refusal) → finish_reply (relation old.core) (courses_in old.core) (moment_of old.core) p.piece.number outcome ≡ refused r → outcome ≡ Fails
   refused' r reply = refused_fails (relation old.core) (courses_in old.core) (moment_of old.core) p.piece.number outcome r reply
 
-  by_answer : (a : Finish) → Finishes disk old new p outcome a → new.core.kept ≡ old.core.kept ++ kept_by p.piece.number a → IsByGate answers before after old.catalog old.core new.core
+  by_answer : (a : Finish) → Finishes disk old new p outcome a → new.core.kept ≡ old.core.kept ++ kept_by p.piece.number a → IsByGate gate old.catalog old.core new.core
   by_answer (Effected k) fin is = effect_by is (effected_succeeds (relation old.core) (courses_in old.core) (moment_of old.core) p.piece.number outcome k fin.reply)
   by_answer (Retry k) fin is = refusal_by is (refused' (TryAgain k) fin.reply)
   by_answer Failed fin is = refusal_by is (⊎_elim (refused' Alternative) (refused' RollBack) fin.reply)
@@ -214,5 +220,5 @@ module _ {R B : Type 0} (disk : R → Disk) (old new : EngineState R B) (p : Han
   by_answer (NoMemory q) fin is = nothing_by is
   by_answer (Closed k) fin is = nothing_by is
 
-  pub end_by_gate : (a : Finish) → Finishes disk old new p outcome a → IsByGate answers before after old.catalog old.core new.core
+  pub end_by_gate : (a : Finish) → Finishes disk old new p outcome a → IsByGate gate old.catalog old.core new.core
   end_by_gate a fin = by_answer a fin (kept_of disk old new p outcome a fin)

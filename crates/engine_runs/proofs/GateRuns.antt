@@ -13,7 +13,7 @@ use Rattle.machine_model.specs.Replies.{Handed}
 use Rattle.process_core.specs.Cores.{CoreState}
 use Rattle.process_core.specs.Handing.{with_all, with_kept, with_served}
 use Rattle.process_engine.specs.declared.gates.Answer.{Answer}
-use Rattle.engine_runs.specs.GateAnswers.{AreAnswered, IsAnswered, IsByGate, kept_since, refuses_unbarred, unbarred_refusals}
+use Rattle.engine_runs.specs.GateAnswers.{AreAnswered, AskedGate, GateCounts, IsAnswered, IsByGate, kept_since, refuses_unbarred, unbarred_refusals}
 
 -- what was added is what was kept since
 pub kept_is : (old new : CoreState) (added : List Kept) → new.kept ≡ old.kept ++ added → kept_since old new ≡ added
@@ -64,17 +64,6 @@ module _ (answers : Handed → Option Answer) (catalog : Catalog) where
   none_refused c [] none = refl
   none_refused c (k ∷ ks) none = let rest = none_refused (with_kept c k) ks none.1 in rw ((none_answered c k none.0).1) (omega (arith, rest))
 
-  -- What ends no piece is by each gate.
-  pub by_gate_none : (before after : ℕ) → before ≤ after → (old new : CoreState) (added : List Kept) → new.kept ≡ old.kept ++ added → Each EndsNone added → IsByGate answers before after catalog old new
-  by_gate_none before after more old new added is none =
-      let same = kept_is old new added is in
-      let few = ap (unbarred_refusals catalog (with_served old 0)) same ∙ none_refused (with_served old 0) added none in
-      record {
-        answered = subst (AreAnswered answers catalog (with_served old 0)) (sym same) (all_answered (with_served old 0) added none);
-        counted = λ low. omega (arith, few, more);
-        later = more;
-      }
-
   core_same : (old mid : CoreState) (added : List Kept) → mid.conflicts ≡ old.conflicts → mid.plans ≡ old.plans → mid.opening ≡ old.opening → mid.kept ≡ old.kept ++ added
       → with_served mid 0 ≡ with_all (with_served old 0) added
   core_same old mid added conflicts plans opening kept =
@@ -83,27 +72,43 @@ module _ (answers : Handed → Option Answer) (catalog : Catalog) where
       ∙ (ap (λ (es : List Event). record { conflicts = old.conflicts; plans = old.plans; opening = es; kept = mid.kept; served = 0 }) opening
       ∙ ap (λ (ks : List Kept). record { conflicts = old.conflicts; plans = old.plans; opening = old.opening; kept = ks; served = 0 }) kept))
 
-  -- What was kept in one run of calls by a gate, and then in another by it, is by it, where no process started.
-  pub by_gate_then : (before between after : ℕ) (old mid new : CoreState) (one two : List Kept)
-      → mid.conflicts ≡ old.conflicts → mid.plans ≡ old.plans → mid.opening ≡ old.opening → mid.kept ≡ old.kept ++ one → new.kept ≡ mid.kept ++ two
-      → IsByGate answers before between catalog old mid → IsByGate answers between after catalog mid new → IsByGate answers before after catalog old new
-  by_gate_then before between after old mid new one two conflicts plans opening first second is_first is_second =
-      let c = with_served old 0 in
-      let all = kept_is old new (one ++ two) (second ∙ (ap (λ ks. ks ++ two) first ∙ append_assoc old.kept one two)) in
-      let here = core_same old mid one conflicts plans opening first ∙ sym (keeping_is c one) in
-      let ones = kept_is old mid one first in
-      let twos = kept_is mid new two second in
-      let answered_one = subst (AreAnswered answers catalog c) ones is_first.answered in
-      let answered_two = subst (λ d. AreAnswered answers catalog d two) here (subst (AreAnswered answers catalog (with_served mid 0)) twos is_second.answered) in
-      let count_one = ap (unbarred_refusals catalog c) ones in
-      let count_two = ap (unbarred_refusals catalog (with_served mid 0)) twos ∙ ap (λ d. unbarred_refusals catalog d two) here in
-      let count = ap (unbarred_refusals catalog c) all ∙ refusals-append c one two in
-      record {
-        answered = subst (AreAnswered answers catalog c) (sym all) (answered-append c one two answered_one answered_two);
-        counted = λ low.
-            let low_mid : between < 2 ^ 64 - 1 = omega (arith, low, is_second.later) in
-            let a = is_first.counted low_mid in
-            let b = is_second.counted low in
-            omega (arith, a, b, count, count_one, count_two);
-        later = omega (arith, is_first.later, is_second.later);
-      }
+-- What ends no piece is by each gate.
+pub by_gate_none : (gate : AskedGate) (catalog : Catalog) → gate.before.refusals ≤ gate.after.refusals
+    → (old new : CoreState) (added : List Kept) → new.kept ≡ old.kept ++ added → Each EndsNone added → IsByGate gate catalog old new
+by_gate_none gate catalog more old new added is none =
+    let same = kept_is old new added is in
+    let few = ap (unbarred_refusals catalog (with_served old 0)) same ∙ none_refused gate.answers catalog (with_served old 0) added none in
+    record {
+      answered = subst (AreAnswered gate.answers catalog (with_served old 0)) (sym same) (all_answered gate.answers catalog (with_served old 0) added none);
+      counted = λ low. omega (arith, few, more);
+      later = more;
+    }
+
+-- a gate of these answers whose counts were those and are these
+abbrev pub gate_from : (Handed → Option Answer) → GateCounts → GateCounts → AskedGate
+gate_from answers before after = record { answers = answers; before = before; after = after }
+
+-- What was kept in one run of calls by a gate, and then in another by it, is by it, where no process started.
+pub by_gate_then : (answers : Handed → Option Answer) (catalog : Catalog) (before between after : GateCounts) (old mid new : CoreState) (one two : List Kept)
+    → mid.conflicts ≡ old.conflicts → mid.plans ≡ old.plans → mid.opening ≡ old.opening → mid.kept ≡ old.kept ++ one → new.kept ≡ mid.kept ++ two
+    → IsByGate (gate_from answers before between) catalog old mid → IsByGate (gate_from answers between after) catalog mid new → IsByGate (gate_from answers before after) catalog old new
+by_gate_then answers catalog before between after old mid new one two conflicts plans opening first second is_first is_second =
+    let c = with_served old 0 in
+    let all = kept_is old new (one ++ two) (second ∙ (ap (λ ks. ks ++ two) first ∙ append_assoc old.kept one two)) in
+    let here = core_same answers catalog old mid one conflicts plans opening first ∙ sym (keeping_is c one) in
+    let ones = kept_is old mid one first in
+    let twos = kept_is mid new two second in
+    let answered_one = subst (AreAnswered answers catalog c) ones is_first.answered in
+    let answered_two = subst (λ d. AreAnswered answers catalog d two) here (subst (AreAnswered answers catalog (with_served mid 0)) twos is_second.answered) in
+    let count_one = ap (unbarred_refusals catalog c) ones in
+    let count_two = ap (unbarred_refusals catalog (with_served mid 0)) twos ∙ ap (λ d. unbarred_refusals catalog d two) here in
+    let count = ap (unbarred_refusals catalog c) all ∙ refusals-append answers catalog c one two in
+    record {
+      answered = subst (AreAnswered answers catalog c) (sym all) (answered-append answers catalog c one two answered_one answered_two);
+      counted = λ low.
+          let low_mid : between.refusals < 2 ^ 64 - 1 = omega (arith, low, is_second.later) in
+          let a = is_first.counted low_mid in
+          let b = is_second.counted low in
+          omega (arith, a, b, count, count_one, count_two);
+      later = omega (arith, is_first.later, is_second.later);
+    }

@@ -1,5 +1,5 @@
 -- What the answers of gates have to do with what an engine keeps.
-use Rattle.std.specs.Prelude.{◌≡◌, ◌≢◌, ◌⊎◌, ◌≤◌, ◌<◌, ⊤, ℕ, ◌+◌, ◌-◌, ◌^◌, Bool, false, not, nat_eq, List, [], ◌∷◌, drop, length, if◌then◌else◌, Option, Some, None, IfSome, IsTrue, refl}
+use Rattle.std.specs.Prelude.{◌≡◌, ◌≢◌, ◌⊎◌, ◌≤◌, ◌<◌, ⊤, ℕ, zero, suc, ◌+◌, ◌-◌, ◌^◌, min, Bool, false, not, nat_eq, List, [], ◌∷◌, ◌++◌, drop, filter, length, if◌then◌else◌, Option, Some, None, IfSome, IsTrue, refl}
 use Rattle.commute_table.specs.declared.catalog.Catalog.{Catalog}
 use Rattle.machine_model.specs.declared.kept.Kept.{Kept}
 use Rattle.machine_model.specs.declared.kept.Kept.TheVariants.{Start, Hand, Effect, Refuse, Abort, Victim, Restart}
@@ -17,6 +17,7 @@ use Rattle.process_core.specs.declared.replies.Next.TheVariants.{Piece as GivesP
 use Rattle.engine_steps.specs.Engines.{full_history}
 use Rattle.engine_steps.specs.Pieces.{act_of, bars_act}
 use Rattle.process_engine.specs.declared.gates.Answer.{Answer}
+use Rattle.process_engine.specs.declared.gates.Gate.{Ghosts as Gates}
 use Rattle.process_engine.specs.declared.gates.Answer.TheVariants.{Done, Refused}
 
 -- what was kept before piece n was handed out
@@ -101,12 +102,54 @@ unbarred_refusals catalog c (k ∷ ks) = (if refuses_unbarred catalog c k then 1
 abbrev pub kept_since : CoreState → CoreState → List Kept
 kept_since old new = drop (length old.kept) new.kept
 
+-- How many pieces a gate was asked to work on, and how many it refused; or the last number of a counter.
+pub record GateCounts : Type 0 where
+  pub asked : ℕ
+  pub refusals : ℕ
+
+-- the counts of a gate
+abbrev pub counts_of : {G : Type 0} → Gates G → G → GateCounts
+counts_of g gate = record { asked = g.asked gate; refusals = g.refusals gate }
+
+-- The gate of a call: what gates of its type tell of their answers, and its counts before and after.
+pub record AskedGate : Type 0 where
+  pub answers : Handed → Option Answer
+  pub before : GateCounts
+  pub after : GateCounts
+
+abbrev pub asked : {G : Type 0} → Gates G → G → G → AskedGate
+asked g before after = record { answers = g.answers; before = counts_of g before; after = counts_of g after }
+
 -- What was kept since is by a gate: each end of a piece is as the gate tells its answers; and while its count of refusals is not at its
 -- last value, it rose at least as often as a piece was refused that is not barred.
-pub record IsByGate (answers : Handed → Option Answer) (before after : ℕ) (catalog : Catalog) (old new : CoreState) : Type 0 where
-  pub answered : AreAnswered answers catalog (with_served old 0) (kept_since old new)
-  pub counted : after < 2 ^ 64 - 1 → before + unbarred_refusals catalog (with_served old 0) (kept_since old new) ≤ after
-  pub later : before ≤ after
+pub record IsByGate (gate : AskedGate) (catalog : Catalog) (old new : CoreState) : Type 0 where
+  pub answered : AreAnswered gate.answers catalog (with_served old 0) (kept_since old new)
+  pub counted : gate.after.refusals < 2 ^ 64 - 1
+      → gate.before.refusals + unbarred_refusals catalog (with_served old 0) (kept_since old new) ≤ gate.after.refusals
+  pub later : gate.before.refusals ≤ gate.after.refusals
+
+-- the hand of a step or of an undo, of which a gate is asked
+abbrev pub is_step_hand : Kept → Bool
+is_step_hand (Hand piece process step work) = not (same_work work End)
+is_step_hand (Start i) = false
+is_step_hand (Effect n) = false
+is_step_hand (Refuse n) = false
+is_step_hand (Abort i) = false
+is_step_hand (Victim i) = false
+is_step_hand Restart = false
+
+-- how many steps and undos were handed out among these
+abbrev pub steps_handed : List Kept → ℕ
+steps_handed ks = length (filter is_step_hand ks)
+
+-- the count of a gate that was asked so often since it had another: it stays at the last value of a counter
+abbrev pub count_after : ℕ → ℕ → ℕ
+count_after count zero = count
+count_after count (suc n) = count_after (min (count + 1) (2 ^ 64 - 1)) n
+
+-- a step is handed out, is refused, and is handed out again; then the process ends
+handed_twice : steps_handed (twice ++ Hand 3 1 0 End ∷ []) ≡ 2
+handed_twice = refl
 
 -- the piece of a reply to a request for any piece was handed out so
 abbrev pub IsGiven : CoreState → Next → Type 0

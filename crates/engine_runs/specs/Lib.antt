@@ -1,2 +1,4 @@
+pub mod Acknowledged
 pub mod GateAnswers
+pub mod Opened
 pub mod Runs

@@ -1,6 +1,7 @@
 // The calls of a settled engine.
-ghost use Rattle.std.specs.Prelude.{◌≡◌, ◌≢◌, IfOk, IfErr, OnOk};
+ghost use Rattle.std.specs.Prelude.{◌≡◌, ◌≢◌, List, IfOk, IfErr, OnOk};
 ghost use Rattle.process_flow.specs.Causes.{Rose};
+ghost use Rattle.process_tree.specs.declared.plan.Plan.{Plan as Plan'};
 ghost use Rattle.schedule_model.specs.Course.{course_of};
 ghost use Rattle.machine_model.specs.Calls.{abort, aborted, admit, admitted, complete_all, next, next_is, start, started};
 ghost use Rattle.machine_model.specs.declared.kept.Work.TheVariants.{End};
@@ -15,7 +16,8 @@ ghost use Rattle.process_engine.specs.Finishing.{Finishes, is_barred, outcome_of
 ghost use Rattle.engine_steps.specs.declared.beginning.EngineStartWhy.TheVariants.{DiskFault as Fault};
 ghost use Rattle.engine_steps.specs.declared.engines.Phase.TheVariants as phase;
 ghost use Rattle.engine_runs.specs.GateAnswers.{IsAdmitted, IsGiven};
-ghost use Rattle.engine_runs.specs.Runs.{GoesOn, IsReady};
+ghost use Rattle.engine_runs.specs.Acknowledged.{IsOneOf};
+ghost use Rattle.engine_runs.specs.Runs.{GoesOn, GoesOnAlone, IsReady};
 
 use process_core::{Aborted, Admit, Next, Piece};
 use process_disk::Rack;
@@ -30,7 +32,7 @@ pub fn next<R: Rack + Drop, B: Resource>(engine: &mut Engine<R, B>) -> Next
     ensures reply { next_is (next_reply_of result) ≡ (answer_in engine.old.core next).reply }
     ensures engine { engine.new ≡ with_core engine.old (after_call engine.old.core next) }
     ensures given { IsGiven engine.new.core result }
-    ensures goes { GoesOn R.disk R.faults engine.old engine.new }
+    ensures goes { GoesOnAlone R.disk R.faults engine.old engine.new }
     ensures ready { IsReady B.meaning B.sort engine.new }
 {
     engine.is_sound();
@@ -49,7 +51,7 @@ pub fn admit<R: Rack + Drop, B: Resource>(engine: &mut Engine<R, B>, i: u32) -> 
     ensures reply { admitted (admit_reply_of result) ≡ (answer_in engine.old.core (admit i)).reply }
     ensures engine { engine.new ≡ with_core engine.old (after_call engine.old.core (admit i)) }
     ensures given { IsAdmitted engine.new.core result }
-    ensures goes { GoesOn R.disk R.faults engine.old engine.new }
+    ensures goes { GoesOnAlone R.disk R.faults engine.old engine.new }
     ensures ready { IsReady B.meaning B.sort engine.new }
 {
     engine.is_sound();
@@ -67,7 +69,7 @@ pub fn abort<R: Rack + Drop, B: Resource>(engine: &mut Engine<R, B>, i: u32) -> 
     requires ready { IsReady B.meaning B.sort engine.old }
     ensures reply { aborted result ≡ (answer_in engine.old.core (abort i)).reply }
     ensures engine { engine.new ≡ with_core engine.old (after_call engine.old.core (abort i)) }
-    ensures goes { GoesOn R.disk R.faults engine.old engine.new }
+    ensures goes { GoesOnAlone R.disk R.faults engine.old engine.new }
     ensures ready { IsReady B.meaning B.sort engine.new }
 {
     engine.is_sound();
@@ -81,7 +83,7 @@ pub fn abort<R: Rack + Drop, B: Resource>(engine: &mut Engine<R, B>, i: u32) -> 
 pub fn complete_all<R: Rack + Drop, B: Resource>(engine: &mut Engine<R, B>)
     requires ready { IsReady B.meaning B.sort engine.old }
     ensures engine { engine.new ≡ with_core engine.old (after_call engine.old.core complete_all) }
-    ensures goes { GoesOn R.disk R.faults engine.old engine.new }
+    ensures goes { GoesOnAlone R.disk R.faults engine.old engine.new }
     ensures ready { IsReady B.meaning B.sort engine.new }
 {
     engine.is_sound();
@@ -106,7 +108,7 @@ pub fn start<R: Rack + Drop, B: Resource>(
     ensures left { IfErr result (λ e. e.why ≢ Fault → engine.new ≡ engine.old) }
     ensures closed { IfErr result (λ e. e.why ≡ Fault → (engine.new.phase ≡ phase.Closed) × (engine.new.core ≡ engine.old.core)) }
     ensures fault { IfErr result (λ e. e.why ≡ Fault → Rose (R.faults engine.old.files.rack) (R.faults engine.new.files.rack)) }
-    ensures goes { GoesOn R.disk R.faults engine.old engine.new }
+    ensures goes { (may_start : List Plan') → IsOneOf may_start plan → GoesOn R.disk R.faults may_start engine.old engine.new }
     ensures ready { OnOk result (IsReady B.meaning B.sort engine.new) }
     ensures fits { EachFits B.meaning B.sort engine.new.files.stores }
 {
@@ -132,7 +134,7 @@ pub fn finish<R: Rack + Drop, B: Resource>(
     requires end { piece.piece.work ≡ End → answer ≡ Answer.Done }
     ensures finishes { Finishes R.disk engine.old engine.new piece (outcome_of answer (is_barred engine.old piece.piece)) result }
     ensures fault { result ≡ Finish.DiskFault → Rose (R.faults engine.old.files.rack) (R.faults engine.new.files.rack) }
-    ensures goes { GoesOn R.disk R.faults engine.old engine.new }
+    ensures goes { GoesOnAlone R.disk R.faults engine.old engine.new }
     ensures ready { result ≢ Finish.DiskFault → IsReady B.meaning B.sort engine.new }
     ensures fits { EachFits B.meaning B.sort engine.new.files.stores }
 {

@@ -1,11 +1,11 @@
 // Gates work on the pieces of a settled engine.
-ghost use Rattle.std.specs.Prelude.{◌≡◌, ◌≢◌, ◌≤◌, IfSome};
+ghost use Rattle.std.specs.Prelude.{◌≡◌, ◌≢◌, ◌≤◌, ◌+◌, ◌-◌, ◌^◌, min, IfSome};
 ghost use Rattle.process_flow.specs.Causes.{Rose};
 ghost use Rattle.machine_model.specs.declared.kept.Work.TheVariants.{End};
 ghost use Rattle.history_files.specs.Standing.{EachFits};
 ghost use Rattle.engine_steps.specs.declared.engines.Phase.TheVariants as phase;
-ghost use Rattle.engine_runs.specs.GateAnswers.{IsByGate, IsHandedAs};
-ghost use Rattle.engine_runs.specs.Runs.{EndsPiece, GoesOn, IsReady};
+ghost use Rattle.engine_runs.specs.GateAnswers.{IsByGate, IsHandedAs, asked};
+ghost use Rattle.engine_runs.specs.Runs.{EndsPiece, GoesOnAlone, IsReady};
 
 use crate::finish;
 use process_core::{Piece, Work};
@@ -17,8 +17,11 @@ use resource_box::Resource;
 fn answer_of<G: Gate>(gate: &mut G, piece: &Piece) -> Answer
     ensures end { piece.now.piece.work ≡ End → result ≡ Answer.Done }
     ensures told { piece.now.piece.work ≢ End → IfSome (G.answers piece.now) (λ answer. result ≡ answer) }
+    ensures unasked { piece.now.piece.work ≡ End → gate.new ≡ gate.old }
+    ensures asked { piece.now.piece.work ≢ End → G.asked gate.new ≡ min (G.asked gate.old + 1) (2 ^ 64 - 1) }
     ensures later { G.refusals gate.old ≤ G.refusals gate.new }
     ensures counted { result ≡ Answer.Refused → Rose (G.refusals gate.old) (G.refusals gate.new) }
+    ensures uncounted { result ≡ Answer.Done → G.refusals gate.new ≡ G.refusals gate.old }
 {
     if let Work::End = piece.work() {
         return Answer::Done;
@@ -37,10 +40,12 @@ pub fn work<R: Rack + Drop, B: Resource, G: Gate>(
     requires handed { IsHandedAs engine.old.core piece }
     ensures ends { EndsPiece R.disk engine.old engine.new piece result }
     ensures fault { result ≡ Finish.DiskFault → Rose (R.faults engine.old.files.rack) (R.faults engine.new.files.rack) }
-    ensures goes { GoesOn R.disk R.faults engine.old engine.new }
+    ensures goes { GoesOnAlone R.disk R.faults engine.old engine.new }
     ensures ready { result ≢ Finish.DiskFault → IsReady B.meaning B.sort engine.new }
     ensures fits { EachFits B.meaning B.sort engine.new.files.stores }
-    ensures gate { IsByGate G.answers (G.refusals gate.old) (G.refusals gate.new) engine.old.catalog engine.old.core engine.new.core }
+    ensures gate { IsByGate (asked G.Gate gate.old gate.new) engine.old.catalog engine.old.core engine.new.core }
+    ensures unasked { piece.piece.work ≡ End → gate.new ≡ gate.old }
+    ensures asked { piece.piece.work ≢ End → G.asked gate.new ≡ min (G.asked gate.old + 1) (2 ^ 64 - 1) }
 {
     let answer = answer_of(gate, &piece);
     finish(engine, piece, answer)

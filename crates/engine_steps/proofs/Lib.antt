@@ -13,3 +13,4 @@ pub mod Subsystems
 pub mod PreparedPieces
 pub mod StoresThere
 pub mod EndedPieces
+pub mod ExactFiles

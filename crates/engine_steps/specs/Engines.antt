@@ -1,10 +1,12 @@
 -- What an engine is seen as, and what holds of one.
-use Rattle.std.specs.Prelude.{◌≡◌, ◌+◌, [], length, None}
-use Rattle.process_disk.specs.Disk.{Disk, Told}
+use Rattle.std.specs.Prelude.{◌≡◌, ◌<◌, ◌+◌, ℕ, [], length, None}
+use Rattle.process_disk.specs.Disk.{Disk, FileSet, Told}
 use Rattle.schedule_model.specs.declared.history.History.{History}
 use Rattle.commute_table.specs.declared.catalog.Catalog.{Catalog}
 use Rattle.subsystem_store.specs.Laws.{IsGoodBook}
+use Rattle.subsystem_store.specs.Opened.{IsStoreOf}
 use Rattle.process_journal.specs.Journals.{IsHistoryUnder}
+use Rattle.process_journal.specs.Opened.{IsJournalOf}
 use Rattle.process_core.specs.Cores.{CoreState, history_of, opened_on}
 use Rattle.history_files.specs.Effects.{effects}
 use Rattle.history_files.specs.Standing.{AtEach, FilesState, Stand}
@@ -36,6 +38,12 @@ pub record AreAtRest {R B : Type 0} (c : Catalog) (h : History) (files : FilesSt
   pub books : AtEach (λ q s. s.book ≡ effects c.ops h q) files.stores
   pub good : AtEach (λ q s. IsGoodBook s.kind s.book s.doubt) files.stores
   pub stand : Told disk → Stand c h files.journal files.stores disk
+
+-- The files are those of a history with nothing in doubt: the journal of it, and books that are exactly its effects.
+pub record AreExactly (c : Catalog) (h : History) (files : FileSet) : Type 0 where
+  pub history : IsHistoryUnder c h
+  pub journal : IsJournalOf c h files
+  pub books : (q : ℕ) → q < 8 → IsStoreOf (q + 1) (effects c.ops h q) None files
 
 -- the engine after a call that came to this core and touched no file
 abbrev pub with_core : {R B : Type 0} → EngineState R B → CoreState → EngineState R B

@@ -64,8 +64,10 @@ impl<R: Rack + Drop, B: Drop> Engine<R, B> {
         Ok(())
     }
 
-    /// A piece is refused: its process tries it again, or goes another way or back.
+    /// A piece is refused: its process tries it again, or goes another way or back. It is asked while nothing is under way, so a closed
+    /// engine keeps no refusal.
     pub fn refuse_piece(&mut self, piece: Piece) -> Refusal
+        requires settled { self.old.phase ≡ phase.Settled }
         requires out { IsStepOut self.old.core piece.piece }
         ensures engine { self.new ≡ with_core self.old (after_call self.old.core (finish piece.piece.number Refused)) }
         ensures reply { finished (refused result) ≡ (answer_in self.old.core (finish piece.piece.number Refused)).reply }

@@ -8,7 +8,7 @@ ghost use Rattle.process_core.specs.Cores.{IsCore, IsHandedBy, began_in, courses
 ghost use Rattle.machine_model.specs.Pieces.{state_of};
 ghost use Rattle.machine_model.specs.State.{undo_next};
 ghost use Rattle.history_files.specs.Sound.{IsSound};
-ghost use Rattle.engine_steps.specs.Engines.{AreAtRest, IsClosed, IsUnder, full_history};
+ghost use Rattle.engine_steps.specs.Engines.{AreAtRest, AreExactly, IsClosed, IsUnder, full_history};
 ghost use Rattle.engine_steps.specs.declared.engines.Phase.TheVariants as phase;
 
 use commute_table::Catalog;
@@ -62,7 +62,7 @@ impl<R: Rack + Drop, B: Drop> Model for Engine<R, B> {
 
 impl<R: Rack + Drop, B: Drop> Engine<R, B> {
     /// Its core is a run of the machine under its catalog. While nothing is under way, its files are sound for the history, each image
-    /// of them from now on is, and each book is the effects of the history.
+    /// of them from now on is, and each book is the effects of the history, on the files and in each image too.
     pub fn is_sound(&self)
         ensures run { IsCore self.now.core }
         ensures under { IsUnder self.now.catalog self.now.core }
@@ -70,6 +70,10 @@ impl<R: Rack + Drop, B: Drop> Engine<R, B> {
         ensures read { self.now.phase ≡ phase.Settled → Told (R.disk self.now.files.rack) → IsSound self.now.catalog (full_history self.now.core) (R.disk self.now.files.rack).files }
         ensures each { self.now.phase ≡ phase.Settled → Told (R.disk self.now.files.rack) →
             EachImage (R.disk self.now.files.rack) (R.disk self.now.files.rack).moment (IsSound self.now.catalog (full_history self.now.core)) }
+        ensures exactly { self.now.phase ≡ phase.Settled → Told (R.disk self.now.files.rack) →
+            AreExactly self.now.catalog (full_history self.now.core) (R.disk self.now.files.rack).files }
+        ensures exactly_each { self.now.phase ≡ phase.Settled → Told (R.disk self.now.files.rack) →
+            EachImage (R.disk self.now.files.rack) (R.disk self.now.files.rack).moment (AreExactly self.now.catalog (full_history self.now.core)) }
     {
         self.core.is_run();
         self.files.are_sound();

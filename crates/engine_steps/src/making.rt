@@ -2,7 +2,7 @@
 ghost use Rattle.std.specs.Prelude.{◌≡◌, ◌≤◌, [], None, IfOk, IfErr, OnOk};
 ghost use Rattle.process_flow.specs.Causes.{Rose};
 ghost use Rattle.process_disk.specs.Disk.{Told};
-ghost use Rattle.process_disk.specs.Images.{EachImage};
+ghost use Rattle.process_disk.specs.Images.{EachImage, ImagesFollow};
 ghost use Rattle.commute_table.specs.Operations.{IsCatalog};
 ghost use Rattle.process_core.specs.Cores.{opened_on};
 ghost use Rattle.process_journal.specs.Bodies.{no_history};
@@ -67,6 +67,8 @@ impl<R: Rack + Drop, B: Resource> Engine<R, B> {
         ensures due { Told (R.disk parts.rack) → IfErr result (λ r. IsDueToFiles (first_used (R.disk parts.rack).files) r.why) }
         ensures left { Told (R.disk parts.rack) → IfErr result (λ r. AreLeftUnmade r.why (R.disk parts.rack) (R.disk r.parts.rack)) }
         ensures back { IfErr result (λ r. AreBoxes B.sort r.parts.resources.items × AreEmpty B.meaning r.parts.resources.items) }
+        ensures follow { Told (R.disk parts.rack) → IfOk result (λ e. ImagesFollow (R.disk parts.rack) (R.disk e.files.rack)) }
+        ensures follow_back { Told (R.disk parts.rack) → IfErr result (λ r. ImagesFollow (R.disk parts.rack) (R.disk r.parts.rack)) }
         ensures tells { IfOk result (λ e. (R.disk e.files.rack).tells ≡ (R.disk parts.rack).tells) }
         ensures tells_back { IfErr result (λ r. (R.disk r.parts.rack).tells ≡ (R.disk parts.rack).tells) }
         ensures later { IfOk result (λ e. R.faults parts.rack ≤ R.faults e.files.rack) }

@@ -40,3 +40,7 @@ made_more start old new stores s honest honest_new files made others stands = re
   journal = λ log bodies zero before. stands_still (length stores + 1) log bodies old new honest honest_new (λ same. absurd (omega (arith, same, zero))) others (made.journal log bodies zero before);
   follow = follow_then start old new honest_new made.follow others.follow;
 }
+
+-- images follow over three runs of calls
+pub follow_thrice : (old first mid new : Disk) → IsHonest mid → IsHonest new → ImagesFollow old first → ImagesFollow first mid → ImagesFollow mid new → ImagesFollow old new
+follow_thrice old first mid new honest_mid honest one two three = follow_then old mid new honest (follow_then old first mid honest_mid one two) three

@@ -1,5 +1,5 @@
 -- Which files may be made.
-use Rattle.std.specs.Prelude.{◌≡◌, ⊤, ℕ, zero, suc, ◌+◌, Bool, true, false, List, [], ◌∷◌, Option, Some, None, if◌then◌else◌}
+use Rattle.std.specs.Prelude.{◌≡◌, ◌⊎◌, ⊤, ℕ, zero, suc, ◌+◌, Bool, true, false, List, [], ◌∷◌, Option, Some, None, if◌then◌else◌}
 use Rattle.process_disk.specs.Disk.{Disk, FileSet, file_of}
 use Rattle.process_disk.specs.Images.{AllAsBefore}
 use Rattle.history_files.specs.declared.faults.CreateError.{CreateError}
@@ -25,8 +25,12 @@ IsDueToFiles found DiskFault = ⊤
 IsDueToFiles found (NotEmpty q) = found ≡ Some q
 IsDueToFiles found NoMemory = ⊤
 
--- what is left of files that were not made: one that has a byte is found before anything is written
+-- all nine files are as before, or none of them had a byte
+abbrev pub UsedFilesStay : Disk → Disk → Type 0
+UsedFilesStay old new = AllAsBefore old new ⊎ (first_used old.files ≡ None)
+
+-- What is left of files that were not made: one that has a byte is found before anything is written.
 abbrev pub AreLeftUnmade : CreateError → Disk → Disk → Type 0
-AreLeftUnmade DiskFault old new = ⊤
+AreLeftUnmade DiskFault old new = UsedFilesStay old new
 AreLeftUnmade (NotEmpty q) old new = AllAsBefore old new
-AreLeftUnmade NoMemory old new = ⊤
+AreLeftUnmade NoMemory old new = UsedFilesStay old new

@@ -2,7 +2,7 @@
 ghost use Rattle.std.specs.Prelude.{◌≡◌, ◌<◌, ◌≤◌, [], None, Some, IfOk, IfErr, OnOk, vec_capacity};
 ghost use Rattle.process_flow.specs.Causes.{Rose, HasCause};
 ghost use Rattle.process_disk.specs.Disk.{Told};
-ghost use Rattle.process_disk.specs.Images.{AllAsBefore};
+ghost use Rattle.process_disk.specs.Images.{AllAsBefore, ImagesFollow};
 ghost use Rattle.commute_table.specs.Operations.{IsCatalog};
 ghost use Rattle.process_journal.specs.Bodies.{no_history};
 ghost use Rattle.history_files.specs.Boxes.{AreBoxes, AreEmpty};
@@ -61,6 +61,7 @@ fn made<R: Rack, B: Resource>(
     ensures due { Told (R.disk rack.old) → IfErr result (IsDueToFiles (first_used (R.disk rack.old).files)) }
     ensures empty { Told (R.disk rack.old) → OnOk result (first_used (R.disk rack.old).files ≡ None) }
     ensures left { Told (R.disk rack.old) → IfErr result (λ e. AreLeftUnmade e (R.disk rack.old) (R.disk rack.new)) }
+    ensures follow { Told (R.disk rack.old) → ImagesFollow (R.disk rack.old) (R.disk rack.new) }
     ensures tells { (R.disk rack.new).tells ≡ (R.disk rack.old).tells }
     ensures later { R.faults rack.old ≤ R.faults rack.new }
     ensures fault { IfErr result (λ e. e ≡ Fault → Rose (R.faults rack.old) (R.faults rack.new)) }
@@ -103,6 +104,8 @@ impl<R: Rack + Drop, B: Resource> Files<R, B> {
         ensures due { Told (R.disk parts.rack) → IfErr result (λ r. IsDueToFiles (first_used (R.disk parts.rack).files) r.why) }
         ensures left { Told (R.disk parts.rack) → IfErr result (λ r. AreLeftUnmade r.why (R.disk parts.rack) (R.disk r.parts.rack)) }
         ensures back { IfErr result (λ r. AreBoxes B.sort r.parts.resources.items × AreEmpty B.meaning r.parts.resources.items) }
+        ensures follow { Told (R.disk parts.rack) → IfOk result (λ f. ImagesFollow (R.disk parts.rack) (R.disk f.rack)) }
+        ensures follow_back { Told (R.disk parts.rack) → IfErr result (λ r. ImagesFollow (R.disk parts.rack) (R.disk r.parts.rack)) }
         ensures tells { IfOk result (λ f. (R.disk f.rack).tells ≡ (R.disk parts.rack).tells) }
         ensures tells_back { IfErr result (λ r. (R.disk r.parts.rack).tells ≡ (R.disk parts.rack).tells) }
         ensures later { IfOk result (λ f. R.faults parts.rack ≤ R.faults f.rack) }

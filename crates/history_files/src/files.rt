@@ -51,9 +51,11 @@ impl<R: Rack + Drop, B: Drop> Files<R, B> {
         }
     }
 
-    /// There are eight stores, in order. Files that stand for a history are sound for it, and so is each image of them from now on.
+    /// The journal is file 0, and there are eight stores, in order. Files that stand for a history are sound for it, and so is each
+    /// image of them from now on.
     pub fn are_sound(&self)
         ensures stores { AreStores self.now.stores }
+        ensures journal { self.now.journal.file ≡ 0 }
         ensures read { Told (R.disk self.now.rack) → (c : Catalog) (h : History) → Stand c h self.now.journal self.now.stores (R.disk self.now.rack) → IsSound c h (R.disk self.now.rack).files }
         ensures each { Told (R.disk self.now.rack) → (c : Catalog) (h : History) → Stand c h self.now.journal self.now.stores (R.disk self.now.rack) →
             EachImage (R.disk self.now.rack) (R.disk self.now.rack).moment (IsSound c h) }

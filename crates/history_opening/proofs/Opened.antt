@@ -64,6 +64,8 @@ due_to_book {B} c h files stores fault are journal read found = record {
 pub becomes_sound : (c : Catalog) (h : History) (old mid new : Disk) → AllAsBefore old mid → ImagesFollow mid new → EachImage new mid.moment (IsSound c h) → BecomesSound c h old new
 becomes_sound c h old mid new all follow each = record {
   moment = mid.moment;
+  begun = all.follow.later;
+  by_now = follow.later;
   before = λ files left. ⊎_elim (λ by_mid. inl (same files (all.images files by_mid))) (λ since_mid. inr since_mid) (follow.nothing_else old.moment files all.follow.later left);
   each = each;
 }

@@ -1,5 +1,5 @@
 -- What a crash leaves of files that are opened.
-use Rattle.std.specs.Prelude.{◌≡◌, ◌⊎◌, ℕ}
+use Rattle.std.specs.Prelude.{◌≡◌, ◌⊎◌, ◌≤◌, ℕ}
 use Rattle.process_disk.specs.Disk.{FileSet, Disk}
 use Rattle.process_disk.specs.Images.{AllAsBefore, EachImage}
 use Rattle.schedule_model.specs.declared.history.History.{History}
@@ -12,6 +12,8 @@ use Rattle.history_opening.specs.declared.faults.OpenError.TheVariants.{DiskFaul
 -- is sound for the history.
 pub record BecomesSound (c : Catalog) (h : History) (old new : Disk) : Type 0 where
   pub moment : ℕ
+  pub begun : old.moment ≤ moment
+  pub by_now : moment ≤ new.moment
   pub before : (files : FileSet) → new.left_since old.moment files → old.may_leave files ⊎ new.left_since moment files
   pub each : EachImage new moment (IsSound c h)
 

@@ -2,7 +2,7 @@
 ghost use Rattle.std.specs.Prelude.{◌≡◌, ◌≤◌, [], length, IfOk, IfErr, OnOk, vec_capacity};
 ghost use Rattle.process_flow.specs.Causes.{Rose};
 ghost use Rattle.process_disk.specs.Disk.{Told};
-ghost use Rattle.process_disk.specs.Images.{AllAsBefore};
+ghost use Rattle.process_disk.specs.Images.{AllAsBefore, ImagesFollow};
 ghost use Rattle.process_journal.specs.Bodies.{journal_bodies};
 ghost use Rattle.process_journal.specs.Journals.{IsHistoryUnder};
 ghost use Rattle.history_files.specs.Boxes.{AreBoxes, AreEmpty};
@@ -94,6 +94,8 @@ pub fn open_files<R: Rack + Drop, B: Resource>(
     ensures due { Told (R.disk parts.rack) → IfErr result (λ r. IsDueToOpening (R.disk parts.rack).files r.why) }
     ensures refused { Told (R.disk parts.rack) → IfErr result (λ r. LeftByRefusal r.why (R.disk parts.rack) (R.disk r.parts.rack)) }
     ensures back { IfErr result (λ r. AreBoxes B.sort r.parts.resources.items × AreEmpty B.meaning r.parts.resources.items) }
+    ensures follow { Told (R.disk parts.rack) → IfOk result (λ o. ImagesFollow (R.disk parts.rack) (R.disk o.0.rack)) }
+    ensures follow_back { Told (R.disk parts.rack) → IfErr result (λ r. ImagesFollow (R.disk parts.rack) (R.disk r.parts.rack)) }
     ensures tells { IfOk result (λ o. (R.disk o.0.rack).tells ≡ (R.disk parts.rack).tells) }
     ensures tells_back { IfErr result (λ r. (R.disk r.parts.rack).tells ≡ (R.disk parts.rack).tells) }
     ensures later { IfOk result (λ o. R.faults parts.rack ≤ R.faults o.0.rack) }

@@ -1,5 +1,5 @@
 // Gates: who does the work of pieces.
-ghost use Rattle.std.specs.Prelude.{◌≡◌, ◌≤◌, IfSome};
+ghost use Rattle.std.specs.Prelude.{◌≡◌, ◌≤◌, ◌+◌, ◌-◌, ◌^◌, min, IfSome};
 ghost use Rattle.process_flow.specs.Causes.{Rose};
 
 use process_core::Piece;
@@ -21,12 +21,17 @@ pub trait Gate {
     /// What gates of this type answer to a piece, where they tell it.
     ghost answers: { Handed → Option Answer };
 
-    /// How many pieces it has refused, or the last number of a counter.
+    /// How many pieces it was asked to work on, or the last number of a counter.
+    ghost asked: { Self → ℕ };
+
+    /// How many of them it has refused, or the last number of a counter.
     ghost refusals: { Self → ℕ };
 
     /// Does the work of a piece, or refuses it.
     fn work(&mut self, piece: &Piece) -> Answer
         ensures told { IfSome (answers piece.now) (λ answer. result ≡ answer) }
+        ensures asked { asked self.new ≡ min (asked self.old + 1) (2 ^ 64 - 1) }
         ensures later { refusals self.old ≤ refusals self.new }
-        ensures counted { result ≡ Answer.Refused → Rose (refusals self.old) (refusals self.new) };
+        ensures counted { result ≡ Answer.Refused → Rose (refusals self.old) (refusals self.new) }
+        ensures uncounted { result ≡ Answer.Done → refusals self.new ≡ refusals self.old };
 }

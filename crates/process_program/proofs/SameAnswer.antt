@@ -1,6 +1,6 @@
 -- The same answer, over a part of the rack, and told of equal words and an equal number.
 use Rattle.std.specs.Prelude.{List}
-use Rattle.std.proofs.Common.{◌≡◌, ℕ, map, refl, ap, subst, ◌∙◌, inl}
+use Rattle.std.proofs.Common.{◌≡◌, ℕ, map, ap, subst, ◌∙◌, inl}
 use Rattle.std.specs.Prelude.{replicate, Some}
 use Rattle.process_flow.specs.declared.source.Source.{Ghosts as Sources}
 use Rattle.process_flow.specs.declared.sink.Sink.{Ghosts as Sinks}
@@ -27,6 +27,7 @@ answers_of_part part words before after number answers = record {
   left = answers.left;
   boxes = answers.boxes;
   kept = answers.kept;
+  values = answers.values;
   gates = answers.gates;
   unasked = answers.unasked;
   untouched = λ none. ap part (answers.untouched none);
@@ -51,9 +52,10 @@ same_over {S} {K} {D} s k d source sink folder folder' faults faults' boxes boxe
     ∙ ap {B = World S K D} (λ b. world_over s k d source sink folder' faults' (record { boxes = b; gates = gates })) by_boxes
     ∙ ap {B = World S K D} (λ g. world_over s k d source sink folder' faults' (record { boxes = boxes'; gates = g })) by_gates
 
--- sixteen plain gates that have refused nothing
-pub gates_are_new : (gates : List PlainState) → gates ≡ replicate 16 (record { refusals = 0 }) → record { answers = λ p. Some (plain_answer p); refusals = map (λ g. g.refusals) gates } ≡ new_gates
-gates_are_new gates are = ap {B = GatesState} (λ (gs : List PlainState). record { answers = λ p. Some (plain_answer p); refusals = map (λ g. g.refusals) gs }) are
+-- sixteen plain gates that were never asked
+pub gates_are_new : (gates : List PlainState) → gates ≡ replicate 16 (record { calls = 0; refusals = 0 })
+    → record { answers = λ p. Some (plain_answer p); counts = map (λ g. record { asked = g.calls; refusals = g.refusals }) gates } ≡ new_gates
+gates_are_new gates are = ap {B = GatesState} (λ (gs : List PlainState). record { answers = λ p. Some (plain_answer p); counts = map (λ g. record { asked = g.calls; refusals = g.refusals }) gs }) are
 
 -- what is answered over new boxes and gates is how the call ends
 pub ends_so : {S K D : Type 0} (words : List (List ℕ)) (over over' : Own → World S K D) (number : ℕ) (after : World S K D) → Answers words (over new_own) after number

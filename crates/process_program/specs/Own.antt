@@ -1,9 +1,10 @@
 -- What a call of the program brings along: the boxes of the subsystems, and gates.
-use Rattle.std.specs.Prelude.{ℕ, List, [], map, replicate, Some}
+use Rattle.std.specs.Prelude.{List, [], map, replicate, Some}
 use Rattle.resource_box.specs.declared.call.Kind.{Kind}
 use Rattle.resource_box.specs.Meaning.{Pairs}
 use Rattle.history_files.specs.Sound.{kinds}
 use Rattle.worker_gate.specs.Gates.{plain_answer}
+use Rattle.process_top.specs.Run.{never_asked}
 use Rattle.process_top.specs.Worlds.{BoxState, GatesState}
 
 pub record Own : Type 0 where
@@ -22,9 +23,9 @@ empty_box k = record { kind = k; values = [] }
 abbrev pub empty_boxes : List BoxState
 empty_boxes = map empty_box kinds
 
--- sixteen plain gates that have refused nothing
+-- sixteen plain gates that were never asked
 abbrev pub new_gates : GatesState
-new_gates = record { answers = λ p. Some (plain_answer p); refusals = replicate 16 0 }
+new_gates = record { answers = λ p. Some (plain_answer p); counts = replicate 16 never_asked }
 
 -- with which a call begins
 abbrev pub new_own : Own

@@ -63,7 +63,7 @@ fn made_ready(alloc: Global, args: io::Result<Args>) -> Result<Ready, AllocError
     ensures words { IfOk result (λ r. map string_bytes r.words.items ≡ words_behind args) }
     ensures kinds { IfOk result (λ r. AreBoxes ⟦<OwnBox as Resource>⟧.sort r.resources.items) }
     ensures empty { IfOk result (λ r. boxes_of ⟦<OwnBox as Resource>⟧.sort ⟦<OwnBox as Resource>⟧.meaning r.resources.items ≡ empty_boxes) }
-    ensures gates { IfOk result (λ r. r.gates.items ≡ replicate 16 (record { refusals = 0 })) }
+    ensures gates { IfOk result (λ r. r.gates.items ≡ replicate 16 (record { calls = 0; refusals = 0 })) }
 {
     let words = words(alloc, args)?;
     let resources = new_boxes(alloc)?;

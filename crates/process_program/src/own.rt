@@ -98,7 +98,7 @@ pub fn new_boxes(alloc: Global) -> Result<Vec<OwnBox>, AllocError>
 
 /// Sixteen plain gates.
 pub fn new_gates(alloc: Global) -> Result<Vec<PlainGate>, AllocError>
-    ensures { IfOk result (λ gates. gates.items ≡ replicate 16 (record { refusals = 0 })) }
+    ensures { IfOk result (λ gates. gates.items ≡ replicate 16 (record { calls = 0; refusals = 0 })) }
 {
     let mut gates = Vec::new(alloc);
     for _ in 0..16_usize {

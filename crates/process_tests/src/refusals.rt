@@ -1,7 +1,8 @@
 // What is refused, in its order, and what it leaves.
 use crate::expected::expect_on;
-use crate::plays::{Call, played_anew, scenario};
+use crate::plays::{Call, played_anew};
 use command_tests::calls::empty;
+use command_tests::scenarios::scenario;
 use std::alloc::{AllocError, Global};
 use std::test::Fail;
 

@@ -1,22 +1,25 @@
 -- What was said on words and told is an answer to them.
-use Rattle.std.proofs.Common.{◌≡◌, ℕ, List, Bool, true, false, Option, Some, None, Result, Ok, Err, IfOk, IfErr, refl, sym, subst, ◌∙◌, inl, inr}
+use Rattle.std.proofs.Common.{◌≡◌, ℕ, List, true, false, Some, Result, Ok, Err, IfOk, IfErr, refl, sym, subst, ◌∙◌, inl, inr}
 use Rattle.program_words.specs.Commands.{asked}
-use Rattle.program_words.specs.declared.reading.Command.{Command}
+use Rattle.program_words.specs.declared.reading.Command.TheVariants.{Restart}
 use Rattle.program_lines.specs.Statuses.{number_of}
 use Rattle.program_lines.specs.declared.status.Status.{Status}
 use Rattle.program_lines.specs.declared.status.Status.TheVariants as statuses
 use Rattle.program_lines.specs.declared.refusal.Refusal.{Refusal}
 use Rattle.command_input.specs.declared.said.Said.{Said}
 use Rattle.command_input.specs.Early.{comes_before_files}
-use Rattle.process_top.specs.Worlds.{World}
+use Rattle.process_disk.specs.Disk.{Told}
+use Rattle.restart_run.specs.Boxes.{HaveValuesOf}
+use Rattle.process_top.specs.Worlds.{BoxState, World}
 use Rattle.history_files.specs.Boxes.{AreBoxes}
 use Rattle.command_input.specs.FilesLeft.{AreLeft}
 use Rattle.process_top.specs.Replies.{Reply, checked, created, ended, shown, accepted, refused, is_refused, status_of, text_of, IsReplyTold}
-use Rattle.process_top.specs.Told.{Output, IsTold}
+use Rattle.process_top.specs.Told.{Output, IsRefusalTold, IsTold}
 use Rattle.process_top.specs.Said.{Says, HasWorked, IsResultTold}
 use Rattle.process_top.specs.Run.{first_gate}
 use Rattle.process_top.specs.Commands.{uses_files, uses_boxes, asks_gate, reads_input, is_early, is_verdict, AreOthersAsBefore, IsDueTo, Answers}
 use Rattle.process_top.proofs.Complete.{Worked, done_or_wanting, worked_by}
+use Rattle.process_top.proofs.RefusedStatuses.{refused_undone}
 
 -- the one status of verdicts
 verdict_is : (s : Status) → is_verdict s ≡ true → s ≡ statuses.IllFormed
@@ -53,10 +56,14 @@ module _ {S K R : Type 0} (words : List (List ℕ)) (before after : World S K R)
     (boxes : AreBoxes (λ b. b.kind) after.boxes) (kept : uses_boxes (asked words) ≡ false → after.boxes ≡ before.boxes) (gates : AreOthersAsBefore before.gates after.gates)
     (unasked : asks_gate (asked words) ≡ false → after.gates ≡ before.gates) (untouched : uses_files (asked words) ≡ false → after.rack ≡ before.rack)
     (unread : reads_input (asked words) ≡ false → after.source ≡ before.source) where
+  -- what a restart leaves in the boxes, at the status of one that did its work
+  abbrev HaveBookValues : Type 0
+  HaveBookValues = asked words ≡ Some Restart → at ≡ statuses.Done → Told after.files.disk → HaveValuesOf (λ (b : BoxState). b.values) after.files.disk.files after.boxes
+
   -- a reply that was due and told
   answered_by : (reply : Reply) → IsDueTo (asked words) (first_gate before.gates after.gates) before.input after.input before.files after.files reply → IsReplyTold reply before.output after.output at
-      → Worked (asked words) before after at → (is_early reply ≡ true → after.rack ≡ before.rack) → Answers words before after number
-  answered_by reply due told worked early = record {
+      → Worked (asked words) before after at → (is_early reply ≡ true → after.rack ≡ before.rack) → HaveBookValues → Answers words before after number
+  answered_by reply due told worked early values = record {
     status = at;
     numbered = numbered;
     reply = reply;
@@ -66,6 +73,7 @@ module _ {S K R : Type 0} (words : List (List ℕ)) (before after : World S K R)
     left = left;
     boxes = boxes;
     kept = kept;
+    values = values;
     gates = gates;
     unasked = unasked;
     untouched = untouched;
@@ -81,11 +89,25 @@ module _ {S K R : Type 0} (words : List (List ℕ)) (before after : World S K R)
   said_early accepted s isnt is same early = absurd (cc)
   said_early (refused r) s isnt is same early = absurd (cc)
 
+  -- what is refused isn't told at that status
+  never_done : (r : Refusal) → IsRefusalTold r before.output after.output at → at ≡ statuses.Done → ⊥
+  never_done r (inl (inl told)) is = refused_undone r (sym told.0 ∙ is)
+  never_done r (inl (inr failed)) is = absurd (let write = failed.0 in cc)
+  never_done r (inr (needs, inl told)) is = absurd (let memory = told.0 in cc)
+  never_done r (inr (needs, inr failed)) is = absurd (let write = failed.0 in cc)
+
+  -- and what is said is told at its own
+  said_done : (said : Said) → IsTold said.status said.text.items before.output after.output at → at ≡ statuses.Done → said.status ≡ statuses.Done
+  said_done said (inl told) is = sym told.0 ∙ is
+  said_done said (inr failed) is = absurd (let write = failed.0 in cc)
+
   -- what a command found, said and told
   pub result_is_answered : (result : Result Said Refusal) → Says (IsDueTo (asked words) (first_gate before.gates after.gates) before.input after.input before.files after.files) result
       → IsResultTold result before.output after.output at → HasWorked (asked words) before.input after.input before.files after.files result
-      → IfErr result (λ r. comes_before_files r ≡ true → after.rack ≡ before.rack) → IfOk result (λ s. s.status ≡ statuses.IllFormed → after.rack ≡ before.rack) → Answers words before after number
-  result_is_answered (Ok said) says told has early verdict =
+      → IfErr result (λ r. comes_before_files r ≡ true → after.rack ≡ before.rack) → IfOk result (λ s. s.status ≡ statuses.IllFormed → after.rack ≡ before.rack)
+      → (asked words ≡ Some Restart → IfOk result (λ s. s.status ≡ statuses.Done → Told after.files.disk → HaveValuesOf (λ (b : BoxState). b.values) after.files.disk.files after.boxes)) → Answers words before after number
+  result_is_answered (Ok said) says told has early verdict values =
       answered_by says.0 says.2 (said_told says.0 said before.output after.output at says.1 says.3 says.4 told) (worked_by (asked words) before after (Ok said) at has told)
-      (said_early says.0 said.status says.1 says.4 verdict)
-  result_is_answered (Err r) says told has early verdict = answered_by (refused r) says told (worked_by (asked words) before after (Err r) at has told) early
+      (said_early says.0 said.status says.1 says.4 verdict) (λ asks is known. values asks (said_done said told is) known)
+  result_is_answered (Err r) says told has early verdict values =
+      answered_by (refused r) says told (worked_by (asked words) before after (Err r) at has told) early (λ asks is known. absurd (never_done r told is))

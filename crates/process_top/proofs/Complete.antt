@@ -5,7 +5,7 @@ use Rattle.process_flow.specs.Causes.{Rose}
 use Rattle.trace_verify.specs.declared.verdict.Verified.{Verified}
 use Rattle.trace_verify.specs.Verdicts.{verdict}
 use Rattle.program_words.specs.declared.reading.Command.{Command}
-use Rattle.program_words.specs.declared.reading.Command.TheVariants.{Check, Init, Run, Session, Show, Verify}
+use Rattle.program_words.specs.declared.reading.Command.TheVariants.{Check, Init, Run, Session, Restart, Show, Verify}
 use Rattle.program_lines.specs.Statuses.{IsOneOf}
 use Rattle.program_lines.specs.declared.status.Status.{Status}
 use Rattle.program_lines.specs.declared.status.Status.TheVariants.{Done, Exhausted, NoMemory}
@@ -23,10 +23,11 @@ use Rattle.process_top.specs.Said.{HasWorked, IsResultTold}
 use Rattle.process_top.specs.Check.{IsCheckDue, IsCheckComplete}
 use Rattle.process_top.specs.Init.{IsInitDue}
 use Rattle.scenario_run.specs.Completeness.{IsReportThere}
-use Rattle.scenario_run.specs.Run.{AskedGate}
+use Rattle.engine_runs.specs.GateAnswers.{AskedGate}
 use Rattle.command_input.specs.declared.said.Said.{Said}
 use Rattle.session_run.specs.Completeness.{AreAllAnswered}
 use Rattle.process_top.specs.Run.{IsRunComplete}
+use Rattle.process_top.specs.Restart.{IsRestartComplete}
 use Rattle.process_top.specs.Session.{IsSessionComplete}
 use Rattle.process_top.specs.Show.{IsShowDue, IsShowComplete}
 use Rattle.process_top.specs.Verify.{verdict_of, verified_status, IsVerifyDue, IsVerifyComplete}
@@ -68,13 +69,13 @@ init_done : (left : Option (List ℕ)) (faults : ℕ) (after : Input) (files fil
 init_done None faults after files files_after reply status due is quiet quiet_files = tt
 init_done (Some text) faults after files files_after reply status due is quiet quiet_files = init_ends text faults after files files_after reply status due is quiet quiet_files
 
--- a run
-run_status : (found : Result Said Refusal) (old new : Output) (status : Status) → IsReportThere found → IsResultTold found old new status → ¬ Rose old.faults new.faults
+-- a run, or a restart
+told_report : (found : Result Said Refusal) (old new : Output) (status : Status) → IsReportThere found → IsResultTold found old new status → ¬ Rose old.faults new.faults
     → IsOneOf status (Done ∷ Exhausted ∷ NoMemory ∷ [])
-run_status (Ok said) old new status (inl done) told quiet = inl (told_well _ _ old new status told quiet ∙ done)
-run_status (Ok said) old new status (inr exhausted) told quiet = inr (inl (told_well _ _ old new status told quiet ∙ exhausted))
-run_status (Err r) old new status memory (inl told) quiet = inr (inr (inl (told_well _ _ old new status told quiet ∙ ap refusal_status memory)))
-run_status (Err r) old new status memory (inr told) quiet = inr (inr (inl (told_well _ _ old new status told.1 quiet)))
+told_report (Ok said) old new status (inl done) told quiet = inl (told_well _ _ old new status told quiet ∙ done)
+told_report (Ok said) old new status (inr exhausted) told quiet = inr (inl (told_well _ _ old new status told quiet ∙ exhausted))
+told_report (Err r) old new status memory (inl told) quiet = inr (inr (inl (told_well _ _ old new status told quiet ∙ ap refusal_status memory)))
+told_report (Err r) old new status memory (inr told) quiet = inr (inr (inl (told_well _ _ old new status told.1 quiet)))
 
 -- a session
 session_status : (found : Result Said Refusal) (old new : Output) (status : Status) → AreAllAnswered found → IsResultTold found old new status → ¬ Rose old.faults new.faults
@@ -88,6 +89,7 @@ session_status (Err r) old new status memory (inr told) quiet = inr (inl (told_w
 abbrev pub Worked : {S K R : Type 0} → Option Command → World S K R → World S K R → Status → Type 0
 Worked (Some Run) before after status = IsQuiet (Some Run) before after → IsRunComplete before.input before.files status
 Worked (Some Session) before after status = IsQuiet (Some Session) before after → IsSessionComplete before.input before.files status
+Worked (Some Restart) before after status = IsQuiet (Some Restart) before after → IsRestartComplete before.files status
 Worked o before after status = ⊤
 
 pub worked_by : {S K R : Type 0} (o : Option Command) (before after : World S K R) (found : Result Said Refusal) (status : Status) → HasWorked o before.input after.input before.files after.files found
@@ -96,9 +98,11 @@ worked_by None before after found status has told = tt
 worked_by (Some Check) before after found status has told = tt
 worked_by (Some Init) before after found status has told = tt
 worked_by (Some Run) before after found status has told = λ quiet bytes c plans h scenario room.
-    run_status found before.output after.output status (has bytes c plans h scenario room (record { source = quiet.input refl; rack = quiet.files refl })) told quiet.output
+    told_report found before.output after.output status (has bytes c plans h scenario room (record { source = quiet.input refl; rack = quiet.files refl })) told quiet.output
 worked_by (Some Session) before after found status has told = λ quiet bytes c plans lines h text files.
     session_status found before.output after.output status (has bytes c plans lines h text files (record { source = quiet.input refl; rack = quiet.files refl })) told quiet.output
+worked_by (Some Restart) before after found status has told = λ quiet c h known sound.
+    told_report found before.output after.output status (has c h known sound (quiet.files refl)) told quiet.output
 worked_by (Some Show) before after found status has told = tt
 worked_by (Some Verify) before after found status has told = tt
 
@@ -170,6 +174,7 @@ done_by (Some Init) gate before after status reply due is worked quiet =
     init_done before.input.left before.input.faults after.input before.files after.files reply status due is (quiet.input refl) (quiet.files refl)
 done_by (Some Run) gate before after status reply due is worked quiet = worked quiet
 done_by (Some Session) gate before after status reply due is worked quiet = worked quiet
+done_by (Some Restart) gate before after status reply due is worked quiet = worked quiet
 done_by (Some Show) gate before after status reply due is worked quiet = show_done before.files after.files reply status due.0 is (quiet.files refl)
 done_by (Some Verify) gate before after status reply due is worked quiet = verify_done before.input.left before.input.faults after.input reply status due.0 is (quiet.input refl)
 
@@ -184,6 +189,7 @@ wanting (Some Check) input files status is = given_memory input.left _ (λ text 
 wanting (Some Init) input files status is = given_memory input.left _ (λ text c within has told empty. inr (inl is))
 wanting (Some Run) input files status is = λ bytes c plans h scenario room. inr (inr (inl is))
 wanting (Some Session) input files status is = λ bytes c plans lines h text room. inr (inl is)
+wanting (Some Restart) input files status is = λ c h told sound. inr (inr (inl is))
 wanting (Some Show) input files status is = λ c h good told log. inr (inl is)
 wanting (Some Verify) input files status is = given_memory input.left _ (λ text within. inr (inl is))
 

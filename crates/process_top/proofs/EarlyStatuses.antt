@@ -1,12 +1,12 @@
 -- At a status of the words or of the source, and at one of a verdict, the rack is as it was: what is answered of an early reply gives it,
 -- since no other reply of a command that calls the rack has such a status. For each command but `run` and `session` so is it at a status of
 -- the input.
-use Rattle.std.proofs.Common.{◌≡◌, ℕ, List, Bool, true, false, Option, Some, None, Ok, refl, sym, ap, subst, ◌∙◌, inl, inr}
+use Rattle.std.proofs.Common.{◌≡◌, ℕ, List, Bool, true, false, Option, Some, None, Ok, Err, refl, sym, ap, subst, ◌∙◌, inl, inr}
 use Rattle.process_journal.specs.declared.errors.JournalError.{JournalError}
 use Rattle.process_journal.specs.declared.errors.JournalError.TheVariants as journal
 use Rattle.program_words.specs.Commands.{asked}
 use Rattle.program_words.specs.declared.reading.Command.{Command}
-use Rattle.program_words.specs.declared.reading.Command.TheVariants.{Check, Init, Run, Session, Show, Verify}
+use Rattle.program_words.specs.declared.reading.Command.TheVariants.{Check, Init, Run, Session, Restart, Show, Verify}
 use Rattle.program_lines.specs.Statuses.{number_of}
 use Rattle.program_lines.specs.declared.status.Status.{Status}
 use Rattle.program_lines.specs.declared.status.Status.TheVariants as statuses
@@ -29,7 +29,12 @@ use Rattle.process_core.specs.Cores.{CoreState, opened_on}
 use Rattle.session_text.specs.declared.line.Line.{Line}
 use Rattle.session_run.specs.Playthrough.{EndsAt}
 use Rattle.session_run.specs.Session.{IsSessionDue as IsSessionFound}
-use Rattle.scenario_run.specs.Run.{AskedGate, IsRunDue as IsRunFound, SaysRun}
+use Rattle.engine_runs.specs.GateAnswers.{AskedGate}
+use Rattle.history_opening.specs.declared.faults.OpenError.{OpenError}
+use Rattle.history_opening.specs.declared.faults.OpenError.TheVariants as opening
+use Rattle.restart_run.specs.Restart.{IsRestartFound}
+use Rattle.scenario_run.specs.Opening.{open_refusal}
+use Rattle.scenario_run.specs.Run.{IsRunDue as IsRunFound, SaysRun}
 use Rattle.command_input.specs.declared.said.Said.{Said}
 use Rattle.process_text.specs.declared.error.TextError.{TextError}
 use Rattle.process_text.specs.declared.error.TextError.TheVariants as texts
@@ -60,6 +65,15 @@ late_create : (e : CreateError) → is_early_status (refusal_status (create_refu
 late_create create.DiskFault = refl
 late_create (create.NotEmpty q) = refl
 late_create create.NoMemory = refl
+
+late_opening : (e : OpenError) → is_early_status (refusal_status (open_refusal e)) ≡ false
+late_opening opening.DiskFault = refl
+late_opening (opening.BadHeader file) = refl
+late_opening (opening.BadRecord file n) = refl
+late_opening (opening.BadHistory n) = refl
+late_opening (opening.BadBook file n) = refl
+late_opening (opening.BookDiffers fault) = refl
+late_opening opening.NoMemory = refl
 
 early_scenario : (e : ScenarioError) → is_early_status (refusal_status (scenario_refusal e)) ≡ true → comes_before_files (scenario_refusal e) ≡ true
 early_scenario errors.BadToml is = refl
@@ -157,6 +171,19 @@ session_said before after files files_after said (inr played) is =
     let found = played.4 in
     absurd (late_session played.0 played.1 (opened_on played.0.conflicts found.history.plans found.history.events) found.now found.played.answered found.played.rest said.status found.played.ends is)
 
+-- what a restart has to say, or refuses, has none
+late_restart_said : (gate : AskedGate) (files files_after : Files) (said : Said) → IsRestartFound gate files files_after (Ok said) → is_early_status said.status ≡ true → ⊥
+late_restart_said gate files files_after said (c, h, now, made, inl all) is = let wrong : false ≡ true = ap is_early_status (sym all.0) ∙ is in absurd (cc)
+late_restart_said gate files files_after said (c, h, now, made, inr part) is = let wrong : false ≡ true = ap is_early_status (sym part.2) ∙ is in absurd (cc)
+
+late_refusal : (r e : Refusal) → r ≡ e → is_early_status (refusal_status e) ≡ false → is_early_status (refusal_status r) ≡ true → ⊥
+late_refusal r e same late is = let wrong : false ≡ true = sym late ∙ (ap (λ (x : Refusal). is_early_status (refusal_status x)) (sym same) ∙ is) in absurd (cc)
+
+late_restart : (gate : AskedGate) (files files_after : Files) (r : Refusal) → IsRestartFound gate files files_after (Err r) → is_early_status (refusal_status r) ≡ true → ⊥
+late_restart gate files files_after r (inl (e, same, none)) is = late_refusal r (open_refusal e) same (late_opening e) is
+late_restart gate files files_after r (inr (c, h, now, inl cut)) is = late_refusal r refusals.NoMemory cut.0 refl is
+late_restart gate files files_after r (inr (c, h, now, inr cut)) is = late_refusal r refusals.DiskFault cut.0 refl is
+
 module _ {S K R : Type 0} (before after : World S K R) where
   by_command : (o : Option Command) (gate : AskedGate) (reply : Reply) → IsDueTo o gate before.input after.input before.files after.files reply → (uses_files o ≡ false → after.rack ≡ before.rack)
       → (is_early reply ≡ true → after.rack ≡ before.rack) → is_early_for o (status_of reply) ≡ true → after.rack ≡ before.rack
@@ -181,6 +208,12 @@ module _ {S K R : Type 0} (before after : World S K R) where
   by_command (Some Session) gate created due untouched early is = absurd due
   by_command (Some Session) gate (shown c h) due untouched early is = absurd due
   by_command (Some Session) gate accepted due untouched early is = absurd due
+  by_command (Some Restart) gate (ended said) due untouched early is = absurd (late_restart_said gate before.files after.files said due is)
+  by_command (Some Restart) gate (refused r) due untouched early is = absurd (late_restart gate before.files after.files r due is)
+  by_command (Some Restart) gate (checked ps vs) due untouched early is = absurd due
+  by_command (Some Restart) gate created due untouched early is = absurd due
+  by_command (Some Restart) gate (shown c h) due untouched early is = absurd due
+  by_command (Some Restart) gate accepted due untouched early is = absurd due
   by_command (Some Show) gate (shown c h) due untouched early is = absurd (cc)
   by_command (Some Show) gate (refused r) due untouched early is =
       let wrong : false ≡ true = sym (late_journal due.0.0) ∙ ap (λ (e : Refusal). is_early_status (refusal_status e)) (sym due.0.1) ∙ is in absurd (cc)
@@ -196,6 +229,7 @@ module _ {S K R : Type 0} (before after : World S K R) where
   late_for (Some Init) = (refl, refl)
   late_for (Some Run) = (refl, refl)
   late_for (Some Session) = (refl, refl)
+  late_for (Some Restart) = (refl, refl)
   late_for (Some Show) = (refl, refl)
   late_for (Some Verify) = (refl, refl)
 

@@ -3,7 +3,9 @@ pub mod Completing
 pub mod Complete
 pub mod Saying
 pub mod BoxKinds
+pub mod BoxValues
 pub mod GatesAsked
+pub mod RefusedStatuses
 pub mod Answered
 pub mod StatusNumbers
 pub mod EarlyStatuses

@@ -1,5 +1,5 @@
 -- What the commands say is due.
-use Rattle.std.proofs.Common.{◌≡◌, ℕ, List, [], ◌∷◌, Bool, false, Result, Ok, Err, IfOk, IfErr, refl, sym, ap, subst, ◌∙◌, if◌then◌else◌, length}
+use Rattle.std.proofs.Common.{◌≡◌, ℕ, List, Bool, false, Result, Ok, Err, refl, ap, subst, ◌∙◌, if◌then◌else◌, length}
 use Rattle.process_tree.specs.declared.tree.Named.{Named}
 use Rattle.commute_table.specs.declared.catalog.Catalog.{Catalog}
 use Rattle.schedule_model.specs.declared.history.History.{History}
@@ -19,10 +19,13 @@ use Rattle.command_input.specs.declared.said.Said.{Said}
 use Rattle.process_top.specs.Said.{Says}
 use Rattle.process_top.specs.Check.{IsCheckDue}
 use Rattle.process_setup.specs.Init.{IsInitDue as IsInitFound}
-use Rattle.scenario_run.specs.Run.{AskedGate, IsRunDue as IsRunFound}
+use Rattle.engine_runs.specs.GateAnswers.{AskedGate}
+use Rattle.scenario_run.specs.Run.{IsRunDue as IsRunFound}
 use Rattle.process_top.specs.Init.{IsInitDue}
+use Rattle.restart_run.specs.Restart.{IsRestartFound}
 use Rattle.session_run.specs.Session.{IsSessionDue as IsSessionFound}
 use Rattle.process_top.specs.Run.{IsRunDue}
+use Rattle.process_top.specs.Restart.{IsRestartDue}
 use Rattle.process_top.specs.Session.{IsSessionDue}
 use Rattle.process_top.specs.Show.{IsNotOpened}
 
@@ -54,6 +57,11 @@ run_says gate before after files files_after (Err r) due = due
 pub session_says : (before after : Input) (files files_after : Files) (found : Result Said Refusal) → IsSessionFound before after files files_after found → Says (IsSessionDue before after files files_after) found
 session_says before after files files_after (Ok said) due = (ended said, refl, due, refl, refl)
 session_says before after files files_after (Err r) due = due
+
+-- what a restart found is said
+pub restart_says : (gate : AskedGate) (files files_after : Files) (found : Result Said Refusal) → IsRestartFound gate files files_after found → Says (IsRestartDue gate files files_after) found
+restart_says gate files files_after (Ok said) due = (ended said, refl, due, refl, refl)
+restart_says gate files files_after (Err r) due = due
 
 -- what `init` found is said
 pub init_says : (before after : Input) (files files_after : Files) (found : Result Said Refusal) → IsInitFound before after files files_after found → Says (IsInitDue before after files files_after) found

@@ -3,15 +3,17 @@ use Rattle.std.specs.Prelude.{◌≡◌, ◌⊎◌, ℕ, Bool, true, false, List
 use Rattle.std.specs.Str.{bytes_eq}
 use Rattle.program_words.specs.Commands.{asked}
 use Rattle.program_words.specs.declared.reading.Command.{Command}
-use Rattle.program_words.specs.declared.reading.Command.TheVariants.{Check, Init, Run, Session, Show, Verify}
+use Rattle.program_words.specs.declared.reading.Command.TheVariants.{Check, Init, Run, Session, Restart, Show, Verify}
 use Rattle.process_flow.specs.Causes.{Rose}
 use Rattle.program_lines.specs.Statuses.{number_of}
 use Rattle.program_lines.specs.declared.status.Status.{Status}
-use Rattle.program_lines.specs.declared.status.Status.TheVariants.{IllFormed}
+use Rattle.program_lines.specs.declared.status.Status.TheVariants.{Done, IllFormed}
 use Rattle.program_lines.specs.declared.refusal.Refusal.TheVariants.{BadWords, NoMemory}
 use Rattle.command_input.specs.Early.{comes_before_files}
-use Rattle.scenario_run.specs.Run.{AskedGate}
-use Rattle.process_top.specs.Worlds.{World, GatesState, Input, Files}
+use Rattle.process_disk.specs.Disk.{Told}
+use Rattle.engine_runs.specs.GateAnswers.{AskedGate}
+use Rattle.restart_run.specs.Boxes.{HaveValuesOf}
+use Rattle.process_top.specs.Worlds.{World, BoxState, GatesState, Input, Files}
 use Rattle.history_files.specs.Boxes.{AreBoxes}
 use Rattle.process_setup.specs.Init.{IsInitComplete}
 use Rattle.command_input.specs.FilesLeft.{AreUntouched, AreLeft}
@@ -20,6 +22,7 @@ use Rattle.process_top.specs.Check.{IsCheckDue, IsCheckComplete}
 use Rattle.process_top.specs.Init.{IsInitDue}
 use Rattle.process_top.specs.Run.{first_gate, IsRunDue, IsRunComplete}
 use Rattle.process_top.specs.Session.{IsSessionDue, IsSessionComplete}
+use Rattle.process_top.specs.Restart.{IsRestartDue, IsRestartComplete}
 use Rattle.process_top.specs.Show.{IsShowDue, IsShowComplete}
 use Rattle.process_top.specs.Verify.{IsVerifyDue, IsVerifyComplete}
 
@@ -30,6 +33,7 @@ IsDueTo (Some Check) gate before after files files_after reply = IsCheckDue befo
 IsDueTo (Some Init) gate before after files files_after reply = IsInitDue before after files files_after reply
 IsDueTo (Some Run) gate before after files files_after reply = IsRunDue gate before after files files_after reply
 IsDueTo (Some Session) gate before after files files_after reply = IsSessionDue before after files files_after reply
+IsDueTo (Some Restart) gate before after files files_after reply = IsRestartDue gate files files_after reply
 IsDueTo (Some Show) gate before after files files_after reply = IsShowDue files files_after reply × AreUntouched files files_after
 IsDueTo (Some Verify) gate before after files files_after reply = IsVerifyDue before after reply × AreUntouched files files_after
 
@@ -40,6 +44,7 @@ DoesItsWork (Some Check) input files status = IsCheckComplete input status
 DoesItsWork (Some Init) input files status = IsInitComplete input files.disk status
 DoesItsWork (Some Run) input files status = IsRunComplete input files status
 DoesItsWork (Some Session) input files status = IsSessionComplete input files status
+DoesItsWork (Some Restart) input files status = IsRestartComplete files status
 DoesItsWork (Some Show) input files status = IsShowComplete files.disk status
 DoesItsWork (Some Verify) input files status = IsVerifyComplete input status
 
@@ -50,6 +55,7 @@ reads_input (Some Check) = true
 reads_input (Some Init) = true
 reads_input (Some Run) = true
 reads_input (Some Session) = true
+reads_input (Some Restart) = false
 reads_input (Some Show) = false
 reads_input (Some Verify) = true
 
@@ -60,6 +66,7 @@ uses_files (Some Check) = false
 uses_files (Some Init) = true
 uses_files (Some Run) = true
 uses_files (Some Session) = true
+uses_files (Some Restart) = true
 uses_files (Some Show) = true
 uses_files (Some Verify) = false
 
@@ -70,6 +77,7 @@ uses_boxes (Some Check) = false
 uses_boxes (Some Init) = true
 uses_boxes (Some Run) = true
 uses_boxes (Some Session) = true
+uses_boxes (Some Restart) = true
 uses_boxes (Some Show) = false
 uses_boxes (Some Verify) = false
 
@@ -86,14 +94,15 @@ asks_gate (Some Check) = false
 asks_gate (Some Init) = false
 asks_gate (Some Run) = true
 asks_gate (Some Session) = false
+asks_gate (Some Restart) = true
 asks_gate (Some Show) = false
 asks_gate (Some Verify) = false
 
 -- all gates but the first are as they were
 pub record AreOthersAsBefore (before after : GatesState) : Type 0 where
   pub answers : after.answers ≡ before.answers
-  pub count : length after.refusals ≡ length before.refusals
-  pub others : drop 1 after.refusals ≡ drop 1 before.refusals
+  pub count : length after.counts ≡ length before.counts
+  pub others : drop 1 after.counts ≡ drop 1 before.counts
 
 -- the status of verdicts
 abbrev pub is_verdict : Status → Bool
@@ -124,6 +133,8 @@ pub record Answers {S K R : Type 0} (words : List (List ℕ)) (before after : Wo
   -- the boxes are those of the eight subsystems again, and a command that needs none leaves their values
   pub boxes : AreBoxes (λ b. b.kind) after.boxes
   pub kept : uses_boxes (asked words) ≡ false → after.boxes ≡ before.boxes
+  -- a restart that did its work leaves in each the values of its book
+  pub values : asked words ≡ Some Restart → status ≡ Done → Told after.files.disk → HaveValuesOf (λ (b : BoxState). b.values) after.files.disk.files after.boxes
   -- only the first gate may be asked, and a command that asks none leaves it as it is
   pub gates : AreOthersAsBefore before.gates after.gates
   pub unasked : asks_gate (asked words) ≡ false → after.gates ≡ before.gates

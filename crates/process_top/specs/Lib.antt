@@ -5,6 +5,7 @@ pub mod Check
 pub mod Init
 pub mod Run
 pub mod Session
+pub mod Restart
 pub mod Show
 pub mod Verify
 pub mod Commands

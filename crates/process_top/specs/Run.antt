@@ -9,13 +9,18 @@ use Rattle.program_lines.specs.Statuses.{IsOneOf}
 use Rattle.command_input.specs.Inputs.{Input}
 use Rattle.command_input.specs.FilesLeft.{Files}
 use Rattle.scenario_run.specs.Completeness.{HasRoomFor, HasScenario}
-use Rattle.scenario_run.specs.Run.{AskedGate, IsRunDue as IsRunFound}
+use Rattle.engine_runs.specs.GateAnswers.{AskedGate, GateCounts}
+use Rattle.scenario_run.specs.Run.{IsRunDue as IsRunFound}
 use Rattle.process_top.specs.Worlds.{GatesState}
 use Rattle.process_top.specs.Replies.{Reply, ended, refused}
 
+-- the counts of a gate that was never asked
+abbrev pub never_asked : GateCounts
+never_asked = record { asked = 0; refusals = 0 }
+
 -- the first gate, before and after
 abbrev pub first_gate : GatesState → GatesState → AskedGate
-first_gate before after = record { answers = before.answers; before = get_or before.refusals 0 0; after = get_or after.refusals 0 0 }
+first_gate before after = record { answers = before.answers; before = get_or before.counts 0 never_asked; after = get_or after.counts 0 never_asked }
 
 -- the report of the history once all processes of the scenario have ended, or one is stuck; or the verdict line of the first process
 -- that isn't well-formed; or what is refused

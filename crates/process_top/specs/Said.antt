@@ -3,12 +3,13 @@ use Rattle.std.specs.Prelude.{◌≡◌, false, Option, Some, Result, Ok, Err, �
 use Rattle.program_lines.specs.declared.status.Status.{Status}
 use Rattle.program_lines.specs.declared.refusal.Refusal.{Refusal}
 use Rattle.program_words.specs.declared.reading.Command.{Command}
-use Rattle.program_words.specs.declared.reading.Command.TheVariants.{Run, Session}
+use Rattle.program_words.specs.declared.reading.Command.TheVariants.{Run, Session, Restart}
 use Rattle.command_input.specs.declared.said.Said.{Said}
 use Rattle.command_input.specs.Inputs.{Input}
 use Rattle.command_input.specs.FilesLeft.{Files}
 use Rattle.scenario_run.specs.Completeness.{IsRunComplete}
 use Rattle.session_run.specs.Completeness.{IsSessionComplete}
+use Rattle.restart_run.specs.Restart.{IsRestartComplete}
 use Rattle.process_top.specs.Replies.{Reply, refused, is_refused, status_of, text_of}
 use Rattle.process_top.specs.Told.{Output, IsTold, IsRefusalTold}
 
@@ -26,4 +27,5 @@ IsResultTold (Err r) before after ended = IsRefusalTold r before after ended
 abbrev pub HasWorked : Option Command → Input → Input → Files → Files → Result Said Refusal → Type 0
 HasWorked (Some Run) before after files files_after found = IsRunComplete before after files files_after found
 HasWorked (Some Session) before after files files_after found = IsSessionComplete before after files files_after found
+HasWorked (Some Restart) before after files files_after found = IsRestartComplete files files_after found
 HasWorked o before after files files_after found = ⊤

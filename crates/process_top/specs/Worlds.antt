@@ -9,6 +9,7 @@ use Rattle.resource_box.specs.declared.call.Kind.{Kind}
 use Rattle.resource_box.specs.declared.resource.Resource.{Ghosts as Resources}
 use Rattle.process_engine.specs.declared.gates.Answer.{Answer}
 use Rattle.process_engine.specs.declared.gates.Gate.{Ghosts as Gates}
+use Rattle.engine_runs.specs.GateAnswers.{GateCounts, counts_of}
 pub use Rattle.command_input.specs.Inputs.{Input, input}
 pub use Rattle.process_top.specs.Told.{Output, output}
 pub use Rattle.command_input.specs.FilesLeft.{Files, files}
@@ -21,13 +22,13 @@ pub record BoxState : Type 0 where
 abbrev pub boxes : {B : Type 0} → Resources B → List B → List BoxState
 boxes b resources = map (λ x. record { kind = b.sort x; values = (b.meaning x).items }) resources
 
--- gates at some moment: what those of their type answer to a piece, where they tell it, and how many pieces each has refused
+-- gates at some moment: what those of their type answer to a piece, where they tell it, and how often each was asked and refused
 pub record GatesState : Type 0 where
   pub answers : Handed → Option Answer
-  pub refusals : List ℕ
+  pub counts : List GateCounts
 
 abbrev pub gates : {G : Type 0} → Gates G → List G → GatesState
-gates g workers = record { answers = g.answers; refusals = map g.refusals workers }
+gates g workers = record { answers = g.answers; counts = map (counts_of g) workers }
 
 pub record World (S K R : Type 0) : Type 1 where
   -- the source, the sink and the rack themselves

@@ -1,10 +1,13 @@
 // The front door: answers to lists of words.
 ghost use Rattle.std.specs.Prelude.{◌≡◌, true, false, length, map, string_bytes, IfOk, IfErr, Some};
-ghost use Rattle.program_lines.specs.declared.status.Status.TheVariants.{IllFormed};
+ghost use Rattle.process_disk.specs.Disk.{Told};
+ghost use Rattle.program_lines.specs.declared.status.Status.TheVariants.{Done, IllFormed};
 ghost use Rattle.program_words.specs.Commands.{asked};
+ghost use Rattle.program_words.specs.declared.reading.Command.TheVariants.{Restart};
 ghost use Rattle.history_files.specs.Boxes.{AreBoxes};
 ghost use Rattle.command_input.specs.FilesLeft.{AreLeft};
 ghost use Rattle.command_input.specs.Early.{comes_before_files};
+ghost use Rattle.restart_run.specs.Boxes.{HaveValuesOf};
 ghost use Rattle.process_top.specs.Run.{first_gate};
 ghost use Rattle.process_top.specs.Said.{Says, HasWorked};
 ghost use Rattle.process_top.specs.Worlds.{files, input, world, gates as told_gates};
@@ -22,6 +25,7 @@ use process_setup::init;
 use program_lines::Refusal;
 use program_words::{Command, WordsError, read_words};
 use resource_box::Resource;
+use restart_run::restart;
 use scenario_run::run;
 use session_run::session;
 use std::alloc::Global;
@@ -66,6 +70,8 @@ fn done<S: Source, R: Rack + Drop, B: Resource, G: Gate>(
     ensures unread { reads_input (Some command) ≡ false → source.new ≡ source.old }
     ensures early { IfErr result.found (λ r. comes_before_files r ≡ true → result.parts.rack ≡ parts.rack) }
     ensures verdict { IfOk result.found (λ s. s.status ≡ IllFormed → result.parts.rack ≡ parts.rack) }
+    ensures values { Some command ≡ Some Restart → IfOk result.found (λ s. s.status ≡ Done → Told (R.disk result.parts.rack)
+        → HaveValuesOf (λ b. (B.meaning b).items) (R.disk result.parts.rack).files result.parts.resources.items) }
 {
     match command {
         Command::Check => CommandEnd {
@@ -75,6 +81,7 @@ fn done<S: Source, R: Rack + Drop, B: Resource, G: Gate>(
         Command::Init => init(alloc, source, parts),
         Command::Run => run(alloc, source, parts, &mut gates[0]),
         Command::Session => session(alloc, source, parts),
+        Command::Restart => restart(alloc, parts, &mut gates[0]),
         Command::Show => {
             let mut parts = parts;
             let found = show(alloc, &mut parts.rack);
@@ -109,6 +116,8 @@ fn said<S: Source, R: Rack + Drop, B: Resource, G: Gate>(
     ensures unread { reads_input (asked (map string_bytes words.now)) ≡ false → source.new ≡ source.old }
     ensures early { IfErr result.found (λ r. comes_before_files r ≡ true → result.parts.rack ≡ parts.rack) }
     ensures verdict { IfOk result.found (λ s. s.status ≡ IllFormed → result.parts.rack ≡ parts.rack) }
+    ensures values { asked (map string_bytes words.now) ≡ Some Restart → IfOk result.found (λ s. s.status ≡ Done → Told (R.disk result.parts.rack)
+        → HaveValuesOf (λ b. (B.meaning b).items) (R.disk result.parts.rack).files result.parts.resources.items) }
 {
     match read_words(alloc, words) {
         Ok(command) => done(alloc, command, source, parts, gates),

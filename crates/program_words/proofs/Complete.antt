@@ -83,6 +83,7 @@ written_asked command.Check = plain_written (codes "check") command.Check
 written_asked command.Init = plain_written (codes "init") command.Init
 written_asked command.Run = plain_written (codes "run") command.Run
 written_asked command.Session = plain_written (codes "session") command.Session
+written_asked command.Restart = plain_written (codes "restart") command.Restart
 written_asked command.Show = plain_written (codes "show") command.Show
 written_asked command.Verify = plain_written (codes "verify") command.Verify
 

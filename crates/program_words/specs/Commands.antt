@@ -19,6 +19,7 @@ asked_after name.Check rest = plain_asked (codes "check") command.Check rest
 asked_after name.Init rest = plain_asked (codes "init") command.Init rest
 asked_after name.Run rest = plain_asked (codes "run") command.Run rest
 asked_after name.Session rest = plain_asked (codes "session") command.Session rest
+asked_after name.Restart rest = plain_asked (codes "restart") command.Restart rest
 asked_after name.Show rest = plain_asked (codes "show") command.Show rest
 asked_after name.Verify rest = plain_asked (codes "verify") command.Verify rest
 

@@ -10,6 +10,7 @@ written command.Check = codes "check" ∷ []
 written command.Init = codes "init" ∷ []
 written command.Run = codes "run" ∷ []
 written command.Session = codes "session" ∷ []
+written command.Restart = codes "restart" ∷ []
 written command.Show = codes "show" ∷ []
 written command.Verify = codes "verify" ∷ []
 

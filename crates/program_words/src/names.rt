@@ -9,6 +9,7 @@ pub(crate) enum Name {
     Init,
     Run,
     Session,
+    Restart,
     Show,
     Verify,
 }
@@ -22,6 +23,7 @@ pub(crate) fn name_of(word: &str) -> Option<Name>
         "init" => Some(Name::Init),
         "run" => Some(Name::Run),
         "session" => Some(Name::Session),
+        "restart" => Some(Name::Restart),
         "show" => Some(Name::Show),
         "verify" => Some(Name::Verify),
         _ => None,

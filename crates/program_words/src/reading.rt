@@ -16,6 +16,7 @@ pub enum Command {
     Init,
     Run,
     Session,
+    Restart,
     Show,
     Verify,
 }
@@ -57,6 +58,10 @@ fn read_after(alloc: Global, name: Name, rest: &[String]) -> Result<Command, Wor
         Name::Session => {
             read_no_argument(alloc, "session", rest)?;
             Ok(Command::Session)
+        }
+        Name::Restart => {
+            read_no_argument(alloc, "restart", rest)?;
+            Ok(Command::Restart)
         }
         Name::Show => {
             read_no_argument(alloc, "show", rest)?;

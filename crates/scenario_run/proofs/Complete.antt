@@ -14,6 +14,7 @@ use Rattle.commute_table.specs.declared.catalog.Catalog.{Catalog}
 use Rattle.process_core.specs.Cores.{opened_on}
 use Rattle.process_journal.specs.Laws.{AreEqualInTurn}
 use Rattle.history_opening.specs.Laws.{SoundFilesAreOpened}
+use Rattle.engine_runs.specs.GateAnswers.{AskedGate}
 use Rattle.process_engine.specs.Fitting.{first_passed, limit_passed, need_of}
 use Rattle.program_lines.specs.declared.refusal.Refusal.{Refusal}
 use Rattle.program_lines.specs.declared.refusal.Refusal.TheVariants as refusals
@@ -23,7 +24,7 @@ use Rattle.command_input.specs.FilesLeft.{Files}
 use Rattle.command_input.specs.Inputs.{Input, IsWholeText}
 use Rattle.command_input.specs.Scenarios.{IsBound, IsNotBound}
 use Rattle.scenario_run.specs.Completeness.{HasRoomFor, HasScenario, IsReportThere, IsRunComplete, NothingFailed}
-use Rattle.scenario_run.specs.Run.{AskedGate, IsCutOff, IsPastLimit, IsRunDue, IsRunOf}
+use Rattle.scenario_run.specs.Run.{IsCutOff, IsPastLimit, IsRunDue, IsRunOf}
 use Rattle.scenario_run.specs.Scenario.{IsNoScenarioRead, IsScenarioRead}
 use Rattle.scenario_run.proofs.NothingWrong.{catalog_of, ill_formed, no_lack, one_sound, unbound, unopened, whole_is}
 

@@ -1,20 +1,22 @@
 -- How a machine has gone that opened on a history: some processes started, and then all were run.
-use Rattle.std.proofs.Common.{◌≡◌, ◌∙◌, ℕ, ◌+◌, List, [], ◌++◌, drop, length, Option, refl, ap, sym, subst, append-nil, arith}
+use Rattle.std.proofs.Common.{◌≡◌, ◌∙◌, ℕ, List, [], ◌++◌, drop, length, Option, refl, ap, sym, subst, append-nil, arith}
 use Rattle.std.proofs.Math.Seq.{drop-append_seam}
 use Rattle.process_disk.specs.Disk.{Disk}
 use Rattle.process_tree.specs.Order.{Each}
 use Rattle.process_tree.specs.declared.plan.Plan.{Plan}
 use Rattle.schedule_model.specs.declared.history.History.{History}
+use Rattle.schedule_model.specs.Histories.{active}
 use Rattle.machine_model.specs.Replies.{Handed}
-use Rattle.process_core.specs.Cores.{CoreState, IsCore}
+use Rattle.commute_table.specs.declared.catalog.Catalog.{Catalog}
+use Rattle.process_core.specs.Cores.{CoreState, IsCore, history_of}
+use Rattle.process_core.specs.Handing.{with_served}
 use Rattle.engine_steps.specs.Engines.{EngineState, full_history}
 use Rattle.engine_steps.specs.Opening.{IsOpened}
 use Rattle.process_engine.specs.declared.gates.Answer.{Answer}
-use Rattle.engine_runs.specs.GateAnswers.{AreAnswered, IsByGate, kept_since, unbarred_refusals}
-use Rattle.process_core.specs.Handing.{with_served}
-use Rattle.worker_gate.specs.Running.{IsOfRunning, RanBy}
+use Rattle.engine_runs.specs.GateAnswers.{AreAnswered, AskedGate, GateCounts, count_after, kept_since, steps_handed, unbarred_refusals}
+use Rattle.worker_gate.specs.Running.{AreTurns, HasRun, IsOfRunning, RanBy}
 use Rattle.scenario_run.specs.Run.{HasGone}
-use Rattle.scenario_run.specs.Starting.{started_on, starts_from, with_started}
+use Rattle.scenario_run.specs.Starting.{started_on, with_started}
 
 -- behind a list stands what was put there
 drop_front : {A : Type 0} (front last all : List A) → all ≡ front ++ last → drop (length front) all ≡ last
@@ -24,7 +26,46 @@ drop_front front last all is = ap (drop (length front)) is ∙ drop-append_seam 
 since_itself : (core : CoreState) → kept_since core core ≡ []
 since_itself core = drop_front core.kept [] core.kept (sym (append-nil core.kept))
 
-module _ {R B : Type 0} (opening : EngineState R B) (opened : IsOpened opening) (started : List Plan) where
+-- the gate of a call that didn't ask it
+abbrev pub unasked : (Handed → Option Answer) → GateCounts → AskedGate
+unasked answers n = record { answers = answers; before = n; after = n }
+
+-- a machine has run by no turn
+run_none : (answers : Handed → Option Answer) (n : GateCounts) (c : Catalog) (core : CoreState) → IsCore core → core.conflicts ≡ c.conflicts → HasRun (unasked answers n) c core core
+run_none answers n c core is table =
+    let none = since_itself core in
+    record {
+      machine = is;
+      table = table;
+      opening = refl;
+      plans = refl;
+      kept = sym (ap (λ ks. core.kept ++ ks) none ∙ append-nil core.kept);
+      running = subst (Each IsOfRunning) (sym none) tt;
+      by_gate = record {
+        answered = subst (AreAnswered answers c (with_served core 0)) (sym none) tt;
+        counted = λ small. omega (arith, ap (unbarred_refusals c (with_served core 0)) none);
+        later = omega arith;
+      };
+      asked_once = sym (ap (λ ks. count_after n.asked (steps_handed ks)) none);
+    }
+
+-- it has, and by its turns, where an engine was only run
+run_by : {R B : Type 0} (disk : R → Disk) (faults : R → ℕ) (gate : AskedGate) (old new : EngineState R B) → IsCore new.core → old.core.conflicts ≡ old.catalog.conflicts → RanBy disk faults gate old new
+    → HasRun gate old.catalog old.core new.core
+run_by disk faults gate old new core table ran =
+    let goes = ran.goes [] in
+    record {
+      machine = core;
+      table = goes.conflicts ∙ table;
+      opening = goes.opening;
+      plans = ran.plans;
+      kept = goes.kept ∙ ap (λ ks. old.core.kept ++ ks) (sym (drop_front old.core.kept goes.added new.core.kept goes.kept));
+      running = ran.running;
+      by_gate = ran.by_gate;
+      asked_once = ran.asked_once;
+    }
+
+module _ {R B : Type 0} (opening : EngineState R B) (opened : IsOpened opening) (idle : active (history_of opening.core) ≡ []) (started : List Plan) where
   abbrev h : History
   h = full_history opening.core
 
@@ -34,39 +75,23 @@ module _ {R B : Type 0} (opening : EngineState R B) (opened : IsOpened opening) 
   on_is : (mid : CoreState) → mid ≡ with_started opening.core started → mid ≡ on
   on_is mid is = is ∙ ap (λ core. with_started core started) opened.core
 
-  -- once they have started and nothing more,
-  pub gone_started : (answers : Handed → Option Answer) (n : ℕ) (now : CoreState) → IsCore now → now ≡ with_started opening.core started
-      → HasGone (record { answers = answers; before = n; after = n }) opening.catalog h started now
+  -- Once they have started and nothing more,
+  pub gone_started : (answers : Handed → Option Answer) (n : GateCounts) (now : CoreState) → IsCore now → now ≡ with_started opening.core started
+      → HasGone (unasked answers n) opening.catalog h started now
   gone_started answers n now core is =
       let same = on_is now is in
-      subst (λ c. HasGone (record { answers = answers; before = n; after = n }) opening.catalog h started c) (sym same) (record {
-        machine = subst IsCore same core;
-        table = refl;
-        opening = refl;
-        plans = refl;
-        kept = sym (ap (λ ks. starts_from (length h.plans + 1) started ++ ks) (since_itself on) ∙ append-nil (starts_from (length h.plans + 1) started));
-        running = subst (Each IsOfRunning) (sym (since_itself on)) tt;
-        by_gate = record {
-          answered = subst (λ ks. AreAnswered answers opening.catalog (with_served on 0) ks) (sym (since_itself on)) tt;
-          counted = λ small. omega (arith, ap (unbarred_refusals opening.catalog (with_served on 0)) (since_itself on));
-          later = omega arith;
-        };
-      })
+      subst (HasGone (unasked answers n) opening.catalog h started) (sym same)
+      (record { idle = idle; run = run_none answers n opening.catalog on (subst IsCore same core) refl; cores = []; turns = refl })
 
-  -- and once they were run too
-  pub gone_run : (disk : R → Disk) (faults : R → ℕ) (answers : Handed → Option Answer) (before after : ℕ) (mid now : EngineState R B) → IsCore now.core → mid.catalog ≡ opening.catalog → mid.core ≡ with_started opening.core started
-      → RanBy disk faults answers before after mid now
-      → HasGone (record { answers = answers; before = before; after = after }) opening.catalog h started now.core
-  gone_run disk faults answers before after mid now core catalog is ran =
+  -- and once they were run too.
+  pub gone_run : (disk : R → Disk) (faults : R → ℕ) (gate : AskedGate) (mid now : EngineState R B) → IsCore now.core → mid.catalog ≡ opening.catalog → mid.core ≡ with_started opening.core started
+      → RanBy disk faults gate mid now → HasGone gate opening.catalog h started now.core
+  gone_run disk faults gate mid now core catalog is ran =
       let same = on_is mid.core is in
-      let since : kept_since mid.core now.core ≡ ran.goes.added = drop_front mid.core.kept ran.goes.added now.core.kept ran.goes.kept in
+      let table = ap (λ (c : CoreState). c.conflicts) same ∙ ap (λ (c : Catalog). c.conflicts) (sym catalog) in
       record {
-        machine = core;
-        table = ran.goes.conflicts ∙ ap (λ (c : CoreState). c.conflicts) same;
-        opening = ran.goes.opening ∙ ap (λ (c : CoreState). c.opening) same;
-        plans = ran.plans ∙ ap (λ (c : CoreState). c.plans) same;
-        kept = ran.goes.kept ∙ (ap (λ ks. mid.core.kept ++ ks) (sym since) ∙ (ap (λ ks. ks ++ kept_since mid.core now.core) (ap (λ (c : CoreState). c.kept) same)
-            ∙ ap (λ (c : CoreState). starts_from (length h.plans + 1) started ++ kept_since c now.core) same));
-        running = subst (λ (c : CoreState). Each IsOfRunning (kept_since c now.core)) same ran.running;
-        by_gate = subst (λ c. IsByGate answers before after c on now.core) catalog (subst (λ (m : CoreState). IsByGate answers before after mid.catalog m now.core) same ran.gate);
+        idle = idle;
+        run = subst (λ c. HasRun gate c on now.core) catalog (subst (λ core. HasRun gate mid.catalog core now.core) same (run_by disk faults gate mid now core table ran));
+        cores = ran.cores;
+        turns = subst (λ core. AreTurns ran.cores core now.core) same ran.turns;
       }

@@ -1,5 +1,5 @@
 -- What there is to say of a run is due.
-use Rattle.std.proofs.Common.{◌≡◌, ◌≤◌, ℕ, ◌+◌, ◌-◌, ◌^◌, min, List, Some, Result, Ok, Err, IfOk, IfErr, inl, inr, sym, subst, arith}
+use Rattle.std.proofs.Common.{◌≡◌, ◌∙◌, ◌≤◌, ℕ, ◌+◌, ◌-◌, ◌^◌, min, List, Some, Result, Ok, Err, IfOk, IfErr, inl, inr, ap, sym, subst, arith}
 use Rattle.process_flow.specs.Causes.{Rose}
 use Rattle.process_disk.specs.declared.rack.Rack.{Ghosts as Racks}
 use Rattle.process_disk.specs.Disk.{IsHonest, Told}
@@ -15,14 +15,18 @@ use Rattle.engine_steps.specs.Opening.{IsOpened}
 use Rattle.engine_steps.specs.declared.engines.Phase.{Phase}
 use Rattle.engine_steps.specs.declared.engines.Phase.TheVariants.{Settled, Closed}
 use Rattle.engine_runs.specs.Runs.{GoesOn}
-use Rattle.engine_runs.proofs.Within.{OneEach}
+use Rattle.engine_runs.specs.Acknowledged.{IsOneAhead}
+use Rattle.engine_runs.specs.GateAnswers.{AskedGate}
+use Rattle.engine_runs.specs.Opened.{AreKept, AreOnlyOpened}
+use Rattle.engine_runs.proofs.Beginnings.{OneEach}
+use Rattle.engine_runs.proofs.Opened.{are_kept}
 use Rattle.program_lines.specs.declared.refusal.Refusal.{Refusal}
 use Rattle.command_input.specs.declared.said.Said.{Said}
 use Rattle.command_input.specs.FilesLeft.{files}
 use Rattle.scenario_run.specs.Opening.{AreOpenedOn}
-use Rattle.scenario_run.specs.Run.{AreKept, AskedGate, HasGone, IsRunOf, SaysRun}
+use Rattle.scenario_run.specs.Run.{HasGone, IsRunOf, SaysRun}
 use Rattle.scenario_run.specs.Stops.{IsStopped}
-use Rattle.scenario_run.proofs.FilesWithin.{are_kept}
+use Rattle.scenario_run.proofs.OnlyOpened.{only_opened}
 
 rose_by : (a b c n : ℕ) → a ≤ b → min (b + 1) n ≤ c → min (a + 1) n ≤ c
 rose_by a b c n low rose = omega arith
@@ -33,7 +37,7 @@ rose_later a b c low rose = rose_by a b c (2 ^ 64 - 1) low rose
 
 module _ {R B : Type 0} (r : Racks R) (honest : (rack : R) → Told (r.disk rack) → IsHonest (r.disk rack)) (gate : AskedGate) (entry back : R) (opening now : EngineState R B) (plans : List Plan)
     (is : IsOpened opening) (one_each : OneEach (full_history opening.core)) (tells : (r.disk opening.files.rack).tells ≡ (r.disk entry).tells) (later : r.faults entry ≤ r.faults opening.files.rack)
-    (opened : AreOpenedOn opening.catalog (full_history opening.core) (files r entry) (files r opening.files.rack)) (goes : GoesOn r.disk r.faults opening now)
+    (opened : AreOpenedOn opening.catalog (full_history opening.core) (files r entry) (files r opening.files.rack)) (goes : GoesOn r.disk r.faults plans opening now)
     (read : now.phase ≡ Settled → Told (r.disk now.files.rack) → IsSound now.catalog (full_history now.core) (r.disk now.files.rack).files)
     (each : now.phase ≡ Settled → Told (r.disk now.files.rack) → EachImage (r.disk now.files.rack) (r.disk now.files.rack).moment (IsSound now.catalog (full_history now.core))) (handed : back ≡ now.files.rack) where
   abbrev c : Catalog
@@ -42,18 +46,20 @@ module _ {R B : Type 0} (r : Racks R) (honest : (rack : R) → Told (r.disk rack
   abbrev h : History
   h = full_history opening.core
 
-  abbrev KeptOn : Phase → History → Type 0
-  KeptOn on k = AreKept c h k on (files r entry) (files r back)
+  abbrev KeptOn : Phase → Type 0
+  KeptOn on = AreKept c h now.core (IsOneAhead c plans now.core on) on (r.disk entry) (r.disk back)
 
-  kept : KeptOn now.phase (full_history now.core)
-  kept = subst (λ rack. AreKept c h (full_history now.core) now.phase (files r entry) (files r rack)) (sym handed) (are_kept r honest entry opening now one_each tells opened goes read each)
+  kept : KeptOn now.phase
+  kept = subst (λ rack. AreKept c h now.core (IsOneAhead c plans now.core now.phase) now.phase (r.disk entry) (r.disk rack)) (sym handed)
+      (are_kept plans r honest entry opening now one_each tells opened.sound opened.becomes opened.each goes read each)
 
-  kept_on : (on : Phase) → now.phase ≡ on → KeptOn on (full_history now.core)
-  kept_on on at = subst (λ p. KeptOn p (full_history now.core)) at kept
+  kept_on : (on : Phase) → now.phase ≡ on → KeptOn on
+  kept_on on at = subst KeptOn at kept
 
   -- where the engine was left as it was opened
-  kept_still : now ≡ opening → KeptOn Settled h
-  kept_still same = subst (λ p. KeptOn p h) is.phase (subst (λ (e : EngineState R B). KeptOn e.phase (full_history e.core)) same kept)
+  kept_still : now ≡ opening → AreOnlyOpened c h (r.disk entry) (r.disk back)
+  kept_still same = subst (λ rack. AreOnlyOpened c h (r.disk entry) (r.disk rack)) (sym (handed ∙ ap (λ (e : EngineState R B). e.files.rack) same))
+      (only_opened c h (files r entry) (files r opening.files.rack) one_each opened)
 
   stopped : (x : Refusal) → IsStopped gate r.faults opening now plans x → IsRunOf gate c plans (files r entry) (files r back) (Err x)
   stopped x (inl (limit, said, passed, same)) =

@@ -1,80 +1,46 @@
 -- The command `run`: the processes of a scenario start in the order of its text, on files that are opened for it, and then they are run.
-use Rattle.std.specs.Prelude.{◌≡◌, ◌⊎◌, ℕ, ◌+◌, List, [], ◌++◌, length, Option, Some, Result, Ok, Err}
+use Rattle.std.specs.Prelude.{◌≡◌, ◌⊎◌, ℕ, List, [], ◌++◌, Some, Result, Ok, Err}
 use Rattle.process_flow.specs.Causes.{Rose}
-use Rattle.process_disk.specs.Disk.{Disk, FileSet, Told}
-use Rattle.process_disk.specs.Images.{EachImage}
-use Rattle.process_tree.specs.Order.{Each}
 use Rattle.process_tree.specs.declared.plan.Plan.{Plan}
 use Rattle.schedule_model.specs.declared.history.History.{History}
 use Rattle.schedule_model.specs.Histories.{active}
 use Rattle.machine_model.specs.Calls.{next, next_is}
-use Rattle.machine_model.specs.Replies.{Handed, stuck}
+use Rattle.machine_model.specs.Replies.{stuck}
 use Rattle.commute_table.specs.declared.catalog.Catalog.{Catalog}
 use Rattle.process_core.specs.Answers.{answer_in}
-use Rattle.process_core.specs.Cores.{CoreState, IsCore, history_of, opened_on}
-use Rattle.history_files.specs.Sound.{IsSound}
-use Rattle.engine_steps.specs.Engines.{full_history}
+use Rattle.process_core.specs.Cores.{CoreState, history_of, opened_on}
 use Rattle.process_engine.specs.Fitting.{limit_passed}
 use Rattle.engine_steps.specs.declared.engines.Phase.{Phase}
 use Rattle.engine_steps.specs.declared.engines.Phase.TheVariants.{Settled, Closed}
 use Rattle.process_engine.specs.declared.fitting.StartLimit.{StartLimit}
 use Rattle.process_engine.specs.declared.fitting.StartLimit.TheVariants as limits
-use Rattle.process_engine.specs.declared.gates.Answer.{Answer}
-use Rattle.process_engine.specs.declared.gates.Gate.{Ghosts as Gates}
-use Rattle.engine_runs.specs.GateAnswers.{IsByGate, kept_since}
-use Rattle.engine_runs.specs.Runs.{IsLeftWithin}
-use Rattle.worker_gate.specs.Running.{IsOfRunning}
+use Rattle.engine_runs.specs.Acknowledged.{IsOneAhead}
+use Rattle.engine_runs.specs.GateAnswers.{AskedGate}
+use Rattle.engine_runs.specs.Opened.{AreKept, AreOnlyOpened}
+use Rattle.worker_gate.specs.Running.{AreTurns, HasRun}
 use Rattle.program_lines.specs.declared.faults.Quantity.TheVariants.{Processes, Active, Entries}
 use Rattle.program_lines.specs.declared.refusal.Refusal.{Refusal}
 use Rattle.program_lines.specs.declared.refusal.Refusal.TheVariants.{DiskFault, Limit, NoMemory}
 use Rattle.program_lines.specs.declared.status.Status.TheVariants as statuses
 use Rattle.command_input.specs.declared.said.Said.{Said}
-use Rattle.command_input.specs.declared.scenario.NoPlans.TheVariants.{Refused, IllFormed}
 use Rattle.command_input.specs.FilesLeft.{Files, AreUntouched}
 use Rattle.command_input.specs.Inputs.{Input}
 use Rattle.scenario_run.specs.Opening.{IsNotOpenedFor}
 use Rattle.scenario_run.specs.Reports.{exhausted_line, report_in}
-use Rattle.scenario_run.specs.Scenario.{IsNoScenarioRead, IsScenarioRead}
-use Rattle.scenario_run.specs.Starting.{started_on, starts_from}
+use Rattle.scenario_run.specs.Scenario.{IsNoScenarioRead, IsSaidOfNone, IsScenarioRead}
+use Rattle.scenario_run.specs.Starting.{started_on}
 
--- the gate of a command: what gates of its type tell of their answers, and its count of refusals before and after
-pub record AskedGate : Type 0 where
-  pub answers : Handed → Option Answer
-  pub before : ℕ
-  pub after : ℕ
-
-abbrev pub asked : {G : Type 0} → Gates G → G → G → AskedGate
-asked g before after = record { answers = g.answers; before = g.refusals before; after = g.refusals after }
-
--- The machine opened on this history. Processes of these plans started, in this order, and since then all were only run, by this gate: none
--- started, and none was asked to complete.
+-- The machine opened on this history, in which no process is active. Processes of these plans started, in this order, and since then all
+-- were only run: a piece was handed out and ended, or not, turn after turn.
 pub record HasGone (gate : AskedGate) (c : Catalog) (h : History) (started : List Plan) (now : CoreState) : Type 0 where
-  pub machine : IsCore now
-  pub table : now.conflicts ≡ c.conflicts
-  pub opening : now.opening ≡ h.events
-  pub plans : now.plans ≡ h.plans ++ started
-  pub kept : now.kept ≡ starts_from (length h.plans + 1) started ++ kept_since (started_on c h started) now
-  pub running : Each IsOfRunning (kept_since (started_on c h started) now)
-  pub by_gate : IsByGate gate.answers gate.before gate.after c (started_on c h started) now
-
--- Until some moment of the opening an image is one that a crash before may leave. From then on each is sound for a beginning of the
--- history now that goes at least as far as the one before; or, where the last call of the rack failed, for one event more.
-pub record AreWithin (c : Catalog) (h now : History) (on : Phase) (old new : Disk) : Type 0 where
-  pub moment : ℕ
-  pub before : (files : FileSet) → new.left_since old.moment files → old.may_leave files ⊎ new.left_since moment files
-  pub each : EachImage new moment (IsLeftWithin c h.events now on)
-
--- The files, where they are told, were sound for the history before. Unless a call of the rack failed they are sound for the history now,
--- and so is each image of them from now on.
-pub record AreKept (c : Catalog) (h now : History) (on : Phase) (before after : Files) : Type 0 where
-  pub sound : Told before.disk → IsSound c h before.disk.files
-  pub any_moment : Told before.disk → AreWithin c h now on before.disk after.disk
-  pub read : on ≡ Settled → Told before.disk → IsSound c now after.disk.files
-  pub each : on ≡ Settled → Told before.disk → EachImage after.disk after.disk.moment (IsSound c now)
+  pub idle : active h.events ≡ []
+  pub run : HasRun gate c (started_on c h started) now
+  pub cores : List CoreState
+  pub turns : AreTurns cores (started_on c h started) now
 
 -- A run on files of this history, up to now.
-abbrev pub IsRun : AskedGate → Catalog → History → List Plan → CoreState → Phase → Files → Files → Type 0
-IsRun gate c h started now on before after = HasGone gate c h started now × AreKept c h (full_history now) on before after
+abbrev pub IsRun : AskedGate → Catalog → History → List Plan → List Plan → CoreState → Phase → Files → Files → Type 0
+IsRun gate c h plans started now on before after = HasGone gate c h started now × AreKept c h now (IsOneAhead c plans now on) on before.disk after.disk
 
 -- what is told of a limit that the processes of a scenario would pass
 abbrev pub limit_refusal : StartLimit → Refusal
@@ -86,13 +52,13 @@ limit_refusal (limits.Entries n) = Limit Entries n
 abbrev pub IsPastLimit : Catalog → List Plan → Files → Files → Refusal → Type 0
 IsPastLimit c plans before after r =
     (h : History) × (limit : StartLimit) × (r ≡ limit_refusal limit) × (limit_passed (opened_on c.conflicts h.plans h.events) plans ≡ Some limit)
-    × AreKept c h h Settled before after
+    × AreOnlyOpened c h before.disk after.disk
 
 -- A run was cut off once the first of the processes had started, or all: a call of the rack failed, or memory was wanting.
 abbrev pub IsCutOff : AskedGate → Catalog → List Plan → Files → Files → Refusal → Type 0
 IsCutOff gate c plans before after r =
     (h : History) × (started rest : List Plan) × (now : CoreState) × (plans ≡ started ++ rest)
-    × (((r ≡ NoMemory) × IsRun gate c h started now Settled before after) ⊎ ((r ≡ DiskFault) × IsRun gate c h started now Closed before after × Rose before.faults after.faults))
+    × (((r ≡ NoMemory) × IsRun gate c h plans started now Settled before after) ⊎ ((r ≡ DiskFault) × IsRun gate c h plans started now Closed before after × Rose before.faults after.faults))
 
 -- All have ended, and the report of the history is printed; or this process is stuck, since it has no try left, and behind the report stands
 -- a line that says so.
@@ -104,17 +70,12 @@ SaysRun c now said =
 -- What there is to say of a run of the processes of a scenario: its report. Else it is refused, in this order: the files, and what would
 -- pass a limit; or it was cut off.
 abbrev pub IsRunOf : AskedGate → Catalog → List Plan → Files → Files → Result Said Refusal → Type 0
-IsRunOf gate c plans before after (Ok said) = (h : History) × (now : CoreState) × IsRun gate c h plans now Settled before after × SaysRun c now said
+IsRunOf gate c plans before after (Ok said) = (h : History) × (now : CoreState) × IsRun gate c h plans plans now Settled before after × SaysRun c now said
 IsRunOf gate c plans before after (Err r) = IsNotOpenedFor c r before after ⊎ IsPastLimit c plans before after r ⊎ IsCutOff gate c plans before after r
 
--- the verdict line of the first process that isn't well-formed
-abbrev pub SaysIllFormed : Input → Input → Said → Type 0
-SaysIllFormed before after said = (said.status ≡ statuses.IllFormed) × IsNoScenarioRead before after (IllFormed said.text)
-
--- the input holds no scenario, so there is that line, or a refusal
+-- the input holds no scenario, so there is a verdict line, or a refusal
 abbrev pub IsNotReadAs : Input → Input → Result Said Refusal → Type 0
-IsNotReadAs before after (Ok said) = SaysIllFormed before after said
-IsNotReadAs before after (Err r) = IsNoScenarioRead before after (Refused r)
+IsNotReadAs before after found = IsSaidOfNone (IsNoScenarioRead before after) found
 
 -- What there is to say: what is refused of the input, and then the files are left as they were; or else what there is to say of a run of
 -- the processes of its scenario.

@@ -8,7 +8,8 @@ use Rattle.engine_steps.specs.declared.engines.Phase.TheVariants.{Settled, Close
 use Rattle.process_engine.specs.declared.fitting.StartLimit.{StartLimit}
 use Rattle.program_lines.specs.declared.refusal.Refusal.{Refusal}
 use Rattle.program_lines.specs.declared.refusal.Refusal.TheVariants.{DiskFault, NoMemory}
-use Rattle.scenario_run.specs.Run.{AskedGate, HasGone, limit_refusal}
+use Rattle.engine_runs.specs.GateAnswers.{AskedGate}
+use Rattle.scenario_run.specs.Run.{HasGone, limit_refusal}
 
 -- The processes would pass a limit, and the engine is left as it was; or, once the first of them had started, or all, memory was wanting, or a
 -- call of the rack failed and the engine is closed.

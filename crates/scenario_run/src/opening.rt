@@ -29,7 +29,8 @@ pub struct NotOpened<R: Drop, B: Drop = Box<dyn Resource + Send>> {
     pub why: Refusal,
 }
 
-fn open_refusal(why: OpenError) -> Refusal
+/// What is told of files that were not opened.
+pub fn open_refusal(why: OpenError) -> Refusal
     ensures refusal { result ≡ open_refusal why }
     ensures late { comes_before_files result ≡ false }
 {

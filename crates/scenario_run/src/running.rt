@@ -1,9 +1,11 @@
 // The command `run`.
-ghost use Rattle.std.specs.Prelude.{◌≡◌, ◌≢◌, ◌⊎◌, ◌≤◌, length, true, false, None, Some, IfOk, IfErr, OnOk};
+ghost use Rattle.std.specs.Prelude.{◌≡◌, ◌≢◌, ◌⊎◌, ◌≤◌, [], length, true, false, None, Some, IfOk, IfErr, OnOk};
 ghost use Rattle.process_flow.specs.Causes.{Rose};
 ghost use Rattle.process_tree.specs.Order.{Each};
+ghost use Rattle.schedule_model.specs.Histories.{active};
 ghost use Rattle.schedule_model.specs.Laws.{IsGoodPlan};
 ghost use Rattle.commute_table.specs.Operations.{IsCatalog};
+ghost use Rattle.process_core.specs.Cores.{history_of};
 ghost use Rattle.history_files.specs.Boxes.{AreBoxes};
 ghost use Rattle.history_files.specs.Standing.{EachFits};
 ghost use Rattle.engine_steps.specs.Beginning.{IsPlanFor};
@@ -12,21 +14,21 @@ ghost use Rattle.engine_steps.specs.Opening.{IsOpened};
 ghost use Rattle.process_engine.specs.Fitting.{limit_passed};
 ghost use Rattle.process_engine.specs.declared.fitting.StartLimit.{StartLimit as Limit'};
 ghost use Rattle.engine_steps.specs.declared.engines.Phase.TheVariants as phase;
+ghost use Rattle.engine_runs.specs.GateAnswers.{asked};
 ghost use Rattle.engine_runs.specs.Runs.{GoesOn, IsReady};
 ghost use Rattle.worker_gate.specs.Running.{IsOutcome, NothingRuns, RanBy};
-ghost use Rattle.command_input.specs.Inputs.{Input as Input', input};
+ghost use Rattle.command_input.specs.Inputs.{input};
 ghost use Rattle.command_input.specs.FilesLeft.{files};
 ghost use Rattle.command_input.specs.Early.{comes_before_files};
 ghost use Rattle.scenario_run.specs.Completeness.{IsRunComplete};
-ghost use Rattle.scenario_run.specs.Run.{HasGone, IsNotReadAs, IsRunDue, IsRunOf, SaysRun, asked, limit_refusal};
-ghost use Rattle.scenario_run.specs.Scenario.{IsNoScenarioRead};
+ghost use Rattle.scenario_run.specs.Run.{HasGone, IsRunDue, IsRunOf, SaysRun, limit_refusal};
 ghost use Rattle.scenario_run.specs.Stops.{IsStopped};
 
 use crate::opening::opened;
 use crate::reporting::{report_now, stuck_report};
-use crate::scenario::scenario_from;
+use crate::scenario::{said_of_none, scenario_from};
 use crate::starting::start_all;
-use command_input::{Bound, CommandEnd, NoPlans, Said};
+use command_input::{Bound, CommandEnd, Said};
 use history_opening::sound_files_are_opened;
 use process_disk::Rack;
 use process_engine::{Engine, Gate, Parts, StartLimit, fits};
@@ -99,7 +101,7 @@ fn run_started<R: Rack + Drop, B: Resource, G: Gate>(
 ) -> Result<Said, Refusal>
     requires ready { IsReady B.meaning B.sort engine.old }
     requires alone { NothingRuns engine.old.core }
-    ensures ran { RanBy R.disk R.faults G.answers (G.refusals gate.old) (G.refusals gate.new) engine.old engine.new }
+    ensures ran { RanBy R.disk R.faults (asked G.Gate gate.old gate.new) engine.old engine.new }
     ensures said { IfOk result (λ s. (engine.new.phase ≡ phase.Settled) × SaysRun engine.new.catalog engine.new.core s) }
     ensures refused { IfErr result (λ r. ((r ≡ Refusal.NoMemory) × (engine.new.phase ≡ phase.Settled)) ⊎ ((r ≡ Refusal.DiskFault) × (engine.new.phase ≡ phase.Closed) × Rose (R.faults engine.old.files.rack) (R.faults engine.new.files.rack))) }
     ensures fits { EachFits B.meaning B.sort engine.new.files.stores }
@@ -116,10 +118,11 @@ fn run_on<R: Rack + Drop, B: Resource, G: Gate>(
     gate: &mut G,
 ) -> Result<Said, Refusal>
     requires opened { IsOpened engine.old }
+    requires idle { active (history_of engine.old.core) ≡ [] }
     requires fits { EachFits B.meaning B.sort engine.old.files.stores }
     requires plans { Each (λ p. IsPlanFor engine.old.catalog p × IsGoodPlan p) plans.items }
     requires few { length plans.items ≤ 256 }
-    ensures goes { GoesOn R.disk R.faults engine.old engine.new }
+    ensures goes { GoesOn R.disk R.faults plans.items engine.old engine.new }
     ensures ran { IfOk result (λ s. HasGone (asked G.Gate gate.old gate.new) engine.old.catalog (full_history engine.old.core) plans.items engine.new.core × (engine.new.phase ≡ phase.Settled) × SaysRun engine.old.catalog engine.new.core s) }
     ensures refused { IfErr result (λ r. IsStopped (asked G.Gate gate.old gate.new) R.faults engine.old engine.new plans.items r) }
     ensures fits { EachFits B.meaning B.sort engine.new.files.stores }
@@ -170,19 +173,6 @@ fn run_bound<R: Rack + Drop, B: Resource, G: Gate>(
             parts: refused.parts,
             found: Err(refused.why),
         },
-    }
-}
-
-// What there is to say where no scenario was read.
-fn said_of_none(none: NoPlans) -> Result<Said, Refusal>
-    ensures { (before : Input') (after : Input') → IsNoScenarioRead before after none → IsNotReadAs before after result }
-{
-    match none {
-        NoPlans::Refused(refusal) => Err(refusal),
-        NoPlans::IllFormed(line) => Ok(Said {
-            text: line,
-            status: Status::IllFormed,
-        }),
     }
 }
 

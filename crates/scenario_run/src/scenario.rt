@@ -1,11 +1,12 @@
 // The scenario of a source.
-ghost use Rattle.std.specs.Prelude.{IfOk, IfErr};
+ghost use Rattle.std.specs.Prelude.{◌≡◌, IfOk, IfErr};
 ghost use Rattle.commute_table.specs.Operations.{IsCatalog};
 ghost use Rattle.command_input.specs.Inputs.{input};
-ghost use Rattle.scenario_run.specs.Scenario.{IsNoScenarioRead, IsScenarioRead};
+ghost use Rattle.scenario_run.specs.Scenario.{IsNoScenarioRead, IsSaidOfNone, IsScenarioRead};
 
-use command_input::{Bound, NoPlans, scenario_of, text_of};
+use command_input::{Bound, NoPlans, Said, scenario_of, text_of};
 use process_flow::Source;
+use program_lines::{Refusal, Status};
 use std::alloc::Global;
 
 /// The catalog of the source's scenario, and the plans of its processes.
@@ -16,4 +17,17 @@ pub fn scenario_from<S: Source>(alloc: Global, source: &mut S) -> Result<Bound, 
 {
     let text = text_of(alloc, source)?;
     scenario_of(alloc, &text)
+}
+
+/// What there is to say where no processes were read.
+pub fn said_of_none(none: NoPlans) -> Result<Said, Refusal>
+    ensures { IsSaidOfNone (λ why. why ≡ none) result }
+{
+    match none {
+        NoPlans::Refused(refusal) => Err(refusal),
+        NoPlans::IllFormed(text) => Ok(Said {
+            text,
+            status: Status::IllFormed,
+        }),
+    }
 }

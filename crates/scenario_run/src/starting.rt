@@ -9,6 +9,7 @@ ghost use Rattle.history_files.specs.Standing.{EachFits};
 ghost use Rattle.engine_steps.specs.Beginning.{IsFree, IsPlanFor};
 ghost use Rattle.process_engine.specs.Fitting.{limit_passed};
 ghost use Rattle.engine_steps.specs.declared.engines.Phase.TheVariants as phase;
+ghost use Rattle.engine_runs.specs.Acknowledged.{IsOneOf};
 ghost use Rattle.engine_runs.specs.Runs.{GoesOn, IsReady};
 ghost use Rattle.scenario_run.specs.Starting.{with_started};
 
@@ -32,7 +33,7 @@ fn start_one<R: Rack + Drop, B: Resource>(
     ensures ready { OnOk result (IsReady B.meaning B.sort engine.new) }
     ensures left { IfErr result (λ r. engine.new.core ≡ engine.old.core) }
     ensures why { IfErr result (λ r. ((r ≡ Refusal.NoMemory) × (engine.new ≡ engine.old)) ⊎ ((r ≡ Refusal.DiskFault) × (engine.new.phase ≡ phase.Closed) × Rose (R.faults engine.old.files.rack) (R.faults engine.new.files.rack))) }
-    ensures goes { GoesOn R.disk R.faults engine.old engine.new }
+    ensures goes { (may_start : List Plan') → IsOneOf may_start plan → GoesOn R.disk R.faults may_start engine.old engine.new }
     ensures fits { EachFits B.meaning B.sort engine.new.files.stores }
 {
     match engine_runs::start(engine, alloc, plan) {
@@ -58,7 +59,7 @@ pub fn start_all<R: Rack + Drop, B: Resource>(
     ensures ready { OnOk result (IsReady B.meaning B.sort engine.new) }
     ensures cut_off { IfErr result (λ r. (started rest : List Plan') × (plans.items ≡ started ++ rest) × (engine.new.core ≡ with_started engine.old.core started)) }
     ensures why { IfErr result (λ r. ((r ≡ Refusal.NoMemory) × IsReady B.meaning B.sort engine.new) ⊎ ((r ≡ Refusal.DiskFault) × (engine.new.phase ≡ phase.Closed) × Rose (R.faults engine.old.files.rack) (R.faults engine.new.files.rack))) }
-    ensures goes { GoesOn R.disk R.faults engine.old engine.new }
+    ensures goes { GoesOn R.disk R.faults plans.items engine.old engine.new }
     ensures fits { EachFits B.meaning B.sort engine.new.files.stores }
 {
     engine.is_sound();

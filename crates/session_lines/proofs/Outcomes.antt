@@ -3,6 +3,7 @@ use Rattle.std.proofs.Common.{Option, Some, None, Result, Ok, Err, IfOk, IfErr, 
 use Rattle.process_tree.specs.Form.{AreEqualPlans}
 use Rattle.process_tree.specs.declared.plan.Plan.{Plan}
 use Rattle.process_core.specs.Cores.{CoreState}
+use Rattle.scenario_run.proofs.OneOf.{equal_plan}
 use Rattle.session_lines.specs.declared.cut.Cut.{Cut}
 use Rattle.session_lines.specs.declared.cut.Cut.TheVariants.{DiskFault, NoMemory}
 use Rattle.session_lines.specs.Answering.{IsCopy, IsCut}
@@ -34,10 +35,7 @@ pub cut_none : (cut : Cut) (p : Played) (c : CoreState) → IsCut cut p c c
 cut_none DiskFault p c = refl
 cut_none NoMemory p c = inl refl
 
--- a plan is equal to itself
-pub equal_plan : (p : Plan) → AreEqualPlans p p
-equal_plan p = record { name = refl; tree = refl; says = refl; ops = refl }
-
+-- a plan is a copy of itself
 pub copy_itself : (o : Option Plan) → IsCopy o o
 copy_itself None = tt
 copy_itself (Some p) = equal_plan p

@@ -1,6 +1,8 @@
 -- Starts, as lines of a session.
-use Rattle.std.proofs.Common.{◌≡◌, ◌≢◌, ◌∙◌, ◌+◌, ℕ, Bool, true, false, List, [], ◌∷◌, length, map, find, ◌<◌, if◌then◌else◌, Option, Some, None, Ok, refl, ap, sym, subst}
+use Rattle.std.proofs.Common.{◌≡◌, ◌≢◌, ◌∙◌, ◌+◌, ℕ, Bool, List, [], length, map, find, ◌<◌, Option, Some, None, Ok, refl, ap, sym, subst}
+use Rattle.std.specs.List.{Contains}
 use Rattle.process_tree.specs.Form.{AreEqualPlans}
+use Rattle.process_tree.specs.Making.{same_text}
 use Rattle.process_tree.specs.Order.{Each}
 use Rattle.process_tree.specs.declared.plan.Plan.{Plan}
 use Rattle.process_tree.specs.Blocks.{Outline}
@@ -15,15 +17,18 @@ use Rattle.machine_model.specs.declared.replies.StartWhy.TheVariants as whys
 use Rattle.machine_model.specs.Calls.{Reply, start, started, start_unless as answer_unless}
 use Rattle.machine_model.specs.Runs.{start_refusal}
 use Rattle.machine_model.specs.Replies.{Handed}
+use Rattle.machine_model.proofs.OpenHoldings.{Each-contained}
+use Rattle.machine_model.proofs.TidyMoments.{Each-find}
 use Rattle.process_core.specs.Answers.{after_start, answer_in}
 use Rattle.process_core.specs.Cores.{CoreState, courses_in, history_of, moment_of}
 use Rattle.engine_steps.specs.Beginning.{IsDueToStart, IsPlanFor, of_start_why}
 use Rattle.engine_steps.specs.Engines.{EngineState}
 use Rattle.engine_steps.specs.declared.beginning.EngineStartWhy.{EngineStartWhy}
+use Rattle.engine_runs.specs.Acknowledged.{IsOneOf}
 use Rattle.session_text.specs.Answers.{not_started_words, started_words}
 use Rattle.session_lines.specs.Answering.{IsAnswered}
 use Rattle.session_lines.specs.Pieces.{session_of}
-use Rattle.session_lines.specs.Playing.{play_start, start_unless}
+use Rattle.session_lines.specs.Playing.{plan_named, play_start, start_unless}
 
 -- the number of a process that started
 abbrev number_in : Reply → ℕ → ℕ
@@ -73,11 +78,10 @@ copy_starts c p q equal is = record {
   well_formed = subst (λ (o : Outline). IsWellFormed (record { kinds = map (λ s. s.kind) o.steps; paths = o.paths })) equal.says is.well_formed;
 }
 
-has_by : (P : Plan → Type 0) (q p : Plan) (o : Option Plan) (b : Bool) → P q → (o ≡ Some p → P p) → (if b then Some q else o) ≡ Some p → P p
-has_by P q p o true first later here = subst P (let same : q ≡ p = cc in same) first
-has_by P q p o false first later here = later here
+-- A plan of that name is one of them.
+pub found_among : (plans : List Plan) (test : Plan → Bool) (p : Plan) → find test plans ≡ Some p → Contains plans p
+found_among plans test p found = Each-find (Contains plans) test plans p (Each-contained (Contains plans) plans (λ q among. among)) found
 
--- A plan that is found is one of them.
-pub found_has : (P : Plan → Type 0) (plans : List Plan) (test : Plan → Bool) (p : Plan) → find test plans ≡ Some p → Each P plans → P p
-found_has P [] test p found each = absurd cc
-found_has P (q ∷ plans) test p found each = has_by P q p (find test plans) (test q) each.0 (λ later. found_has P plans test p later each.1) found
+-- So its copy equals one of them.
+pub copy_is_one : (plans : List Plan) (name : List ℕ) (p q : Plan) → plan_named plans name ≡ Some p → AreEqualPlans p q → IsOneOf plans q
+copy_is_one plans name p q found equal = (p, found_among plans (λ (x : Plan). same_text x.name name) p found, equal)

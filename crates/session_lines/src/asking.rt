@@ -1,6 +1,6 @@
 // The lines `admit I`, `next` and `abort I`.
 ghost use Rattle.std.specs.Prelude.{◌≡◌, IfOk, IfErr, OnOk};
-ghost use Rattle.engine_runs.specs.Runs.{GoesOn, IsReady};
+ghost use Rattle.engine_runs.specs.Runs.{GoesOnAlone, IsReady};
 ghost use Rattle.session_lines.specs.Answering.{IsAnswered, IsCut};
 ghost use Rattle.session_lines.specs.Pieces.{session_of, AreHandedBy};
 ghost use Rattle.session_lines.specs.Playing.{play_abort, play_admit, play_next};
@@ -30,7 +30,7 @@ pub fn play_admit<R: Rack + Drop, B: Resource>(
     ensures answered { IfOk result (λ text. IsAnswered (play_admit (session_of engine.old.core pieces.old.items) i) engine.new.core pieces.new.items text.items) }
     ensures handed { OnOk result (AreHandedBy engine.new.core pieces.new.items) }
     ensures cut { IfErr result (λ cut. (cut ≡ NoMemory) × IsCut cut (play_admit (session_of engine.old.core pieces.old.items) i) engine.old.core engine.new.core) }
-    ensures goes { GoesOn R.disk R.faults engine.old engine.new }
+    ensures goes { GoesOnAlone R.disk R.faults engine.old engine.new }
     ensures ready { IsReady B.meaning B.sort engine.new }
 {
     let reply = admit(engine, i);
@@ -52,7 +52,7 @@ pub fn play_next<R: Rack + Drop, B: Resource>(
     ensures answered { IfOk result (λ text. IsAnswered (play_next (session_of engine.old.core pieces.old.items)) engine.new.core pieces.new.items text.items) }
     ensures handed { OnOk result (AreHandedBy engine.new.core pieces.new.items) }
     ensures cut { IfErr result (λ cut. (cut ≡ NoMemory) × IsCut cut (play_next (session_of engine.old.core pieces.old.items)) engine.old.core engine.new.core) }
-    ensures goes { GoesOn R.disk R.faults engine.old engine.new }
+    ensures goes { GoesOnAlone R.disk R.faults engine.old engine.new }
     ensures ready { IsReady B.meaning B.sort engine.new }
 {
     let before = engine.kept().len();
@@ -78,7 +78,7 @@ pub fn play_abort<R: Rack + Drop, B: Resource>(
     ensures answered { IfOk result (λ text. IsAnswered (play_abort (session_of engine.old.core pieces.now.items) i) engine.new.core pieces.now.items text.items) }
     ensures handed { OnOk result (AreHandedBy engine.new.core pieces.now.items) }
     ensures cut { IfErr result (λ cut. (cut ≡ NoMemory) × IsCut cut (play_abort (session_of engine.old.core pieces.now.items) i) engine.old.core engine.new.core) }
-    ensures goes { GoesOn R.disk R.faults engine.old engine.new }
+    ensures goes { GoesOnAlone R.disk R.faults engine.old engine.new }
     ensures ready { IsReady B.meaning B.sort engine.new }
 {
     let reply = abort(engine, i);

@@ -7,7 +7,7 @@ ghost use Rattle.machine_model.specs.Progress.{same_work};
 ghost use Rattle.process_core.specs.Cores.{IsHandedBy};
 ghost use Rattle.history_files.specs.Standing.{EachFits};
 ghost use Rattle.engine_steps.specs.declared.engines.Phase.TheVariants as phase;
-ghost use Rattle.engine_runs.specs.Runs.{GoesOn, IsReady};
+ghost use Rattle.engine_runs.specs.Runs.{GoesOnAlone, IsReady};
 ghost use Rattle.session_text.specs.Answers.{no_piece_words, no_refusal_words};
 ghost use Rattle.session_lines.specs.Answering.{finish_alone, IsAnswered, IsCut};
 ghost use Rattle.session_lines.specs.Pieces.{session_of, AreHandedBy};
@@ -58,7 +58,7 @@ fn finish_piece<R: Rack + Drop, B: Resource>(
     ensures text { IfOk result (λ text. text.items ≡ (finish_alone engine.old.catalog engine.old.core piece.piece answer).printed) }
     ensures cut { IfErr result (λ cut. IsCut cut (finish_alone engine.old.catalog engine.old.core piece.piece answer) engine.old.core engine.new.core) }
     ensures fault { IfErr result (λ cut. cut ≡ DiskFault → (engine.new.phase ≡ phase.Closed) × Rose (R.faults engine.old.files.rack) (R.faults engine.new.files.rack)) }
-    ensures goes { GoesOn R.disk R.faults engine.old engine.new }
+    ensures goes { GoesOnAlone R.disk R.faults engine.old engine.new }
     ensures fits { EachFits B.meaning B.sort engine.new.files.stores }
     ensures ready { result ≢ Err DiskFault → IsReady B.meaning B.sort engine.new }
 {
@@ -111,7 +111,7 @@ pub fn play_finish<R: Rack + Drop, B: Resource>(
     ensures handed { OnOk result (AreHandedBy engine.new.core pieces.new.items) }
     ensures cut { IfErr result (λ cut. IsCut cut (play_finish engine.old.catalog (session_of engine.old.core pieces.old.items) n outcome) engine.old.core engine.new.core) }
     ensures fault { IfErr result (λ cut. cut ≡ DiskFault → (engine.new.phase ≡ phase.Closed) × Rose (R.faults engine.old.files.rack) (R.faults engine.new.files.rack)) }
-    ensures goes { GoesOn R.disk R.faults engine.old engine.new }
+    ensures goes { GoesOnAlone R.disk R.faults engine.old engine.new }
     ensures fits { EachFits B.meaning B.sort engine.new.files.stores }
     ensures ready { result ≢ Err DiskFault → IsReady B.meaning B.sort engine.new }
 {

@@ -42,7 +42,7 @@ pub fn play_line<R: Rack + Drop, B: Resource>(
     ensures cut { IfErr result (λ cut. (copy : Option Plan) × IsCopy (plan_for plans.now line.now) copy
         × IsCut cut (play engine.old.catalog (session_of engine.old.core pieces.old.items) line.now copy) engine.old.core engine.new.core) }
     ensures fault { IfErr result (λ cut. cut ≡ DiskFault → (engine.new.phase ≡ phase.Closed) × Rose (R.faults engine.old.files.rack) (R.faults engine.new.files.rack)) }
-    ensures goes { GoesOn R.disk R.faults engine.old engine.new }
+    ensures goes { GoesOn R.disk R.faults plans.now engine.old engine.new }
     ensures fits { EachFits B.meaning B.sort engine.new.files.stores }
     ensures ready { result ≢ Err DiskFault → IsReady B.meaning B.sort engine.new }
 {

@@ -9,6 +9,7 @@ ghost use Rattle.machine_model.specs.declared.replies.StartWhy.{StartWhy};
 ghost use Rattle.history_files.specs.Standing.{EachFits};
 ghost use Rattle.engine_steps.specs.Beginning.{IsPlanFor, of_start_why};
 ghost use Rattle.engine_steps.specs.declared.engines.Phase.TheVariants as phase;
+ghost use Rattle.engine_runs.specs.Acknowledged.{IsOneOf};
 ghost use Rattle.engine_runs.specs.Runs.{GoesOn, IsReady};
 ghost use Rattle.session_text.specs.Answers.{no_process_words, not_started_words};
 ghost use Rattle.session_lines.specs.Answering.{IsAnswered, IsCopy, IsCut};
@@ -70,7 +71,7 @@ fn play_plan<R: Rack + Drop, B: Resource>(
     ensures answered { IfOk result (λ text. (ps : List Handed) → IsAnswered (play_start (session_of engine.old.core ps) name.now (Some plan)) engine.new.core ps text.items) }
     ensures cut { IfErr result (λ cut. (ps : List Handed) → IsCut cut (play_start (session_of engine.old.core ps) name.now (Some plan)) engine.old.core engine.new.core) }
     ensures fault { IfErr result (λ cut. cut ≡ DiskFault → (engine.new.phase ≡ phase.Closed) × Rose (R.faults engine.old.files.rack) (R.faults engine.new.files.rack)) }
-    ensures goes { GoesOn R.disk R.faults engine.old engine.new }
+    ensures goes { (may_start : List Plan) → IsOneOf may_start plan → GoesOn R.disk R.faults may_start engine.old engine.new }
     ensures fits { EachFits B.meaning B.sort engine.new.files.stores }
     ensures ready { result ≢ Err DiskFault → IsReady B.meaning B.sort engine.new }
 {
@@ -105,7 +106,7 @@ pub fn play_start<R: Rack + Drop, B: Resource>(
     ensures cut { IfErr result (λ cut. (copy : Option Plan) × IsCopy (plan_named plans.now name.now) copy
         × ((ps : List Handed) → IsCut cut (play_start (session_of engine.old.core ps) name.now copy) engine.old.core engine.new.core)) }
     ensures fault { IfErr result (λ cut. cut ≡ DiskFault → (engine.new.phase ≡ phase.Closed) × Rose (R.faults engine.old.files.rack) (R.faults engine.new.files.rack)) }
-    ensures goes { GoesOn R.disk R.faults engine.old engine.new }
+    ensures goes { GoesOn R.disk R.faults plans.now engine.old engine.new }
     ensures fits { EachFits B.meaning B.sort engine.new.files.stores }
     ensures ready { result ≢ Err DiskFault → IsReady B.meaning B.sort engine.new }
 {

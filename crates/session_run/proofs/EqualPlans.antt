@@ -28,7 +28,7 @@ use Rattle.process_report.specs.Names.{names_in, process_name, step_name, op_nam
 use Rattle.process_report.specs.Lines.{Line, cause_line, entry_line, event_line, place_word, step_line}
 use Rattle.process_report.specs.Blocks.{block_words, rule_word}
 use Rattle.process_report.specs.Report.{conflicts_lines, end_line, end_words, path_words, report_text, section}
-use Rattle.session_lines.proofs.Outcomes.{equal_plan}
+use Rattle.scenario_run.proofs.OneOf.{equal_plan}
 use Rattle.session_text.specs.Answers.{admit_words, exhausted_words, finish_words, next_lines, next_words, numbered, piece_words, refusal_words, wait_words, work_words}
 
 -- what is the same of equal plans is the same of lists of them

@@ -1,13 +1,15 @@
 -- The command `session`: event lines, each of which is one call of the machine, over files that are opened for a scenario.
-use Rattle.std.specs.Prelude.{◌≡◌, ◌⊎◌, ℕ, List, Result, Ok, Err}
+use Rattle.std.specs.Prelude.{◌≡◌, ◌⊎◌, ℕ, List, [], Result, Ok, Err}
 use Rattle.process_flow.specs.Causes.{Rose}
 use Rattle.process_tree.specs.declared.plan.Plan.{Plan}
 use Rattle.schedule_model.specs.declared.history.History.{History}
+use Rattle.schedule_model.specs.Histories.{active}
 use Rattle.commute_table.specs.declared.catalog.Catalog.{Catalog}
 use Rattle.process_core.specs.Cores.{CoreState, IsCore, opened_on}
-use Rattle.engine_steps.specs.Engines.{full_history}
 use Rattle.engine_steps.specs.declared.engines.Phase.{Phase}
 use Rattle.engine_steps.specs.declared.engines.Phase.TheVariants.{Settled, Closed}
+use Rattle.engine_runs.specs.Acknowledged.{IsOneAhead}
+use Rattle.engine_runs.specs.Opened.{AreKept, AreOnlyOpened}
 use Rattle.program_lines.specs.declared.refusal.Refusal.{Refusal}
 use Rattle.program_lines.specs.declared.refusal.Refusal.TheVariants.{BadLine, NoMemory}
 use Rattle.program_lines.specs.declared.status.Status.{Status}
@@ -19,7 +21,7 @@ use Rattle.command_input.specs.FilesLeft.{Files, AreUntouched}
 use Rattle.command_input.specs.Inputs.{Input, HasNoText, IsWholeText}
 use Rattle.command_input.specs.Scenarios.{IsBound, IsNotBound}
 use Rattle.scenario_run.specs.Opening.{IsNotOpenedFor}
-use Rattle.scenario_run.specs.Run.{AreKept}
+use Rattle.scenario_run.specs.Scenario.{IsSaidOfNone}
 use Rattle.session_text.specs.declared.line.Line.{Line}
 use Rattle.session_text.specs.declared.line.LinesError.{LinesError}
 use Rattle.session_text.specs.declared.line.LinesError.TheVariants as errors
@@ -52,19 +54,20 @@ abbrev pub phase_by : Status → Phase
 phase_by statuses.DiskFault = Closed
 phase_by status = Settled
 
--- The machine opened on the history of the files and went on by the lines. What it kept is kept in the files, and in what a crash leaves;
--- where a call of the rack failed, its count of faults rose.
+-- The machine opened on the history of the files, in which no process is active, and went on by the lines. What it kept is kept in the
+-- files, and in what a crash leaves; where a call of the rack failed, its count of faults rose.
 pub record IsSession (c : Catalog) (plans : List Plan) (lines : List Line) (before after : Files) (text : List ℕ) (status : Status) : Type 0 where
   pub history : History
+  pub idle : active history.events ≡ []
   pub now : CoreState
   pub machine : IsCore now
   pub played : HasPlayed c plans (opened_on c.conflicts history.plans history.events) now lines text status
-  pub kept : AreKept c history (full_history now) (phase_by status) before after
+  pub kept : AreKept c history now (IsOneAhead c plans now (phase_by status)) (phase_by status) before.disk after.disk
   pub fault : status ≡ statuses.DiskFault → Rose before.faults after.faults
 
 -- Memory was wanting before the first line: nothing was kept.
 abbrev pub IsNotBegun : Catalog → Files → Files → Refusal → Type 0
-IsNotBegun c before after r = (r ≡ NoMemory) × ((h : History) × AreKept c h h Settled before after)
+IsNotBegun c before after r = (r ≡ NoMemory) × ((h : History) × (active h.events ≡ []) × AreOnlyOpened c h before.disk after.disk)
 
 -- What the files and the lines come to: what the lines print; or else why the files were not opened; or memory was wanting.
 abbrev pub IsPlayedOn : Catalog → List Plan → List Line → Files → Files → Result Said Refusal → Type 0
@@ -73,8 +76,7 @@ IsPlayedOn c plans lines files files_after (Err r) = IsNotOpenedFor c r files fi
 
 -- No session was read. The verdict line of the first process that isn't well-formed is said; all else is refused.
 abbrev pub IsNotRead : Input → Input → Result Said Refusal → Type 0
-IsNotRead before after (Ok s) = (s.status ≡ statuses.IllFormed) × IsNoSessionRead before after (IllFormed s.text)
-IsNotRead before after (Err r) = IsNoSessionRead before after (Refused r)
+IsNotRead before after found = IsSaidOfNone (IsNoSessionRead before after) found
 
 -- What there is to say, in this order: what is wrong with the input, before any file is touched; or what the files and the lines come to.
 abbrev pub IsSessionDue : Input → Input → Files → Files → Result Said Refusal → Type 0

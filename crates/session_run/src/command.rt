@@ -11,10 +11,10 @@ ghost use Rattle.engine_runs.specs.Runs.{GoesOn, IsReady};
 ghost use Rattle.program_lines.specs.declared.status.Status.TheVariants as statuses;
 ghost use Rattle.command_input.specs.Early.{comes_before_files};
 ghost use Rattle.command_input.specs.FilesLeft.{files};
-ghost use Rattle.command_input.specs.Inputs.{input, Input};
+ghost use Rattle.command_input.specs.Inputs.{input};
 ghost use Rattle.session_run.specs.Completeness.{IsSessionComplete};
 ghost use Rattle.session_run.specs.Playthrough.{HasPlayed};
-ghost use Rattle.session_run.specs.Session.{lines_refusal, phase_by, IsNoSessionRead, IsNotRead, IsPlayedOn, IsSessionDue, IsSessionRead};
+ghost use Rattle.session_run.specs.Session.{lines_refusal, phase_by, IsNoSessionRead, IsPlayedOn, IsSessionDue, IsSessionRead};
 
 use crate::playthrough::{FAULT_ROOM, play_lines};
 use command_input::{Bound, CommandEnd, NoPlans, Said, scenario_of, text_of};
@@ -26,7 +26,7 @@ use process_flow::Source;
 use process_tree::Plan;
 use program_lines::{Refusal, Status};
 use resource_box::Resource;
-use scenario_run::opened;
+use scenario_run::{opened, said_of_none};
 use session_text::{Line, LinesError, divide, read_lines};
 use std::alloc::Global;
 
@@ -82,7 +82,7 @@ fn said_on<R: Rack + Drop, B: Resource>(
     ensures status { IfOk result (λ s. s.status ≢ Status.IllFormed) }
     ensures fault { IfOk result (λ s. s.status ≡ statuses.DiskFault → Rose (R.faults engine.old.files.rack) (R.faults engine.new.files.rack)) }
     ensures refused { IfErr result (λ r. (r ≡ Refusal.NoMemory) × (engine.new ≡ engine.old)) }
-    ensures goes { GoesOn R.disk R.faults engine.old engine.new }
+    ensures goes { GoesOn R.disk R.faults plans.now engine.old engine.new }
     ensures fits { EachFits B.meaning B.sort engine.new.files.stores }
 {
     engine.is_sound();
@@ -121,19 +121,6 @@ fn on_files<R: Rack + Drop, B: Resource>(
             parts: refused.parts,
             found: Err(refused.why),
         },
-    }
-}
-
-// What there is to say where no session was read.
-fn said_of_none(none: NoPlans) -> Result<Said, Refusal>
-    ensures due { (before after : Input) → IsNoSessionRead before after none → IsNotRead before after result }
-{
-    match none {
-        NoPlans::Refused(refusal) => Err(refusal),
-        NoPlans::IllFormed(text) => Ok(Said {
-            text,
-            status: Status::IllFormed,
-        }),
     }
 }
 

@@ -80,7 +80,7 @@ fn answer_line<R: Rack + Drop, B: Resource>(
     ensures left { OnErr result (said.new.items ≡ said.old.items) }
     ensures room { vec_len said.new + 11 ≤ vec_capacity said.new }
     ensures fault { IfErr result (λ cut. cut ≡ DiskFault → (engine.new.phase ≡ phase.Closed) × Rose (R.faults engine.old.files.rack) (R.faults engine.new.files.rack)) }
-    ensures goes { GoesOn R.disk R.faults engine.old engine.new }
+    ensures goes { GoesOn R.disk R.faults plans.now engine.old engine.new }
     ensures fits { EachFits B.meaning B.sort engine.new.files.stores }
     ensures ready { result ≢ Err DiskFault → IsReady B.meaning B.sort engine.new }
 {
@@ -104,7 +104,7 @@ pub fn play_lines<R: Rack + Drop, B: Resource>(
     requires room { vec_len said.old + 11 ≤ vec_capacity said.old }
     ensures played { HasPlayed engine.old.catalog plans.now engine.old.core engine.new.core lines.now said.new.items result }
     ensures fault { result ≡ Status.DiskFault → (engine.new.phase ≡ phase.Closed) × Rose (R.faults engine.old.files.rack) (R.faults engine.new.files.rack) }
-    ensures goes { GoesOn R.disk R.faults engine.old engine.new }
+    ensures goes { GoesOn R.disk R.faults plans.now engine.old engine.new }
     ensures fits { EachFits B.meaning B.sort engine.new.files.stores }
     ensures ready { result ≢ Status.DiskFault → IsReady B.meaning B.sort engine.new }
 {

@@ -46,7 +46,7 @@ ends_it (dropped k) = false
 ends_it no_piece = false
 
 module _ {R B : Type 0} (disk : R → Disk) (faults : R → ℕ) (old new : EngineState R B) (p : Handed) (handed : IsHandedBy old.core p.piece) (alone : (moment_of old.core).out ≡ p.piece ∷ [])
-    (goes : GoesOn disk faults old new) (outcome : Outcome) where
+    (goes : GoesOn disk faults [] old new) (outcome : Outcome) where
   reply_ends : (o : Outcome) → ends_it (out_finish (relation old.core) (courses_in old.core) (moment_of old.core) p.piece o) ≡ true
   reply_ends Succeeds = refl
   reply_ends Fails = by (same_work p.piece.work End)
@@ -85,7 +85,7 @@ module _ {R B : Type 0} (disk : R → Disk) (faults : R → ℕ) (old new : Engi
 
 -- A piece that was handed out and worked on adds to what is kept.
 pub more_kept : {R B : Type 0} (disk : R → Disk) (faults : R → ℕ) (old mid new : EngineState R B) (d : Handed) → mid.core ≡ after_call old.core next
-    → next_is (chosen d) ≡ (answer_in old.core next).reply → GoesOn disk faults mid new → length old.core.kept < length new.core.kept
+    → next_is (chosen d) ≡ (answer_in old.core next).reply → GoesOn disk faults [] mid new → length old.core.kept < length new.core.kept
 more_kept disk faults old mid new d is replied goes =
     let vs = all_victims (relation old.core) (courses_in old.core) (moment_of old.core) in
     let one = ap length (kept_next old.core mid.core is (chosen d) replied) ∙ length-append old.core.kept (vs ++ kept_hand d ∷ []) in

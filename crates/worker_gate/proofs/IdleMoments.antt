@@ -28,7 +28,7 @@ begins_idle cause m i idle = by (has_begun m i)
     by true = idle
     by false = ap (of_others i) idle
 
-all_begin_idle : (cause : Cause) (m : Moment) (is : List ℕ) → m.out ≡ [] → (all_begin cause m is).out ≡ []
+pub all_begin_idle : (cause : Cause) (m : Moment) (is : List ℕ) → m.out ≡ [] → (all_begin cause m is).out ≡ []
 all_begin_idle cause m [] idle = idle
 all_begin_idle cause m (i ∷ is) idle = all_begin_idle cause (begins cause m i) is (begins_idle cause m i idle)
 

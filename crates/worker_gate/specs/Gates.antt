@@ -4,8 +4,9 @@ use Rattle.machine_model.specs.Replies.{Handed}
 use Rattle.process_engine.specs.declared.gates.Answer.{Answer}
 use Rattle.process_engine.specs.declared.gates.Answer.TheVariants.{Done, Refused}
 
--- the plain gate: how many pieces it has refused, or the last number of a counter
+-- the plain gate: how many pieces it was asked to work on and how many it has refused, or the last number of a counter
 pub record PlainState : Type 0 where
+  pub calls : ℕ
   pub refusals : ℕ
 
 -- a gate by a script: the calls that it refuses, how many were made, and how many pieces it has refused

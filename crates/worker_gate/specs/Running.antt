@@ -1,22 +1,23 @@
 -- Processes that are only run: none starts, and none is asked to complete.
-use Rattle.std.specs.Prelude.{◌≡◌, ⊤, ℕ, [], Option, Some, None}
+use Rattle.std.specs.Prelude.{◌≡◌, ◌⊎◌, ⊤, ℕ, List, [], ◌∷◌, ◌++◌, Option, Some, None}
 use Rattle.process_disk.specs.Disk.{Disk}
 use Rattle.process_tree.specs.Order.{Each}
+use Rattle.process_tree.specs.declared.play.Outcome.{Outcome}
 use Rattle.schedule_model.specs.Histories.{active}
 use Rattle.machine_model.specs.declared.kept.Kept.{Kept}
 use Rattle.machine_model.specs.declared.kept.Kept.TheVariants.{Start, Hand, Effect, Refuse, Abort, Victim, Restart}
-use Rattle.machine_model.specs.Calls.{next, next_is}
+use Rattle.machine_model.specs.Calls.{finish, next, next_is}
 use Rattle.machine_model.specs.CallLaws.{IsStuck}
-use Rattle.machine_model.specs.Replies.{Handed, stuck}
-use Rattle.process_core.specs.Answers.{answer_in}
-use Rattle.process_core.specs.Cores.{CoreState, courses_in, history_of, moment_of, relation}
+use Rattle.machine_model.specs.Replies.{Handed, chosen, stuck}
+use Rattle.commute_table.specs.declared.catalog.Catalog.{Catalog}
+use Rattle.process_core.specs.Answers.{after_call, answer_in}
+use Rattle.process_core.specs.Cores.{CoreState, IsCore, courses_in, history_of, moment_of, relation}
 use Rattle.engine_steps.specs.Engines.{EngineState}
 use Rattle.engine_steps.specs.declared.engines.Phase.TheVariants as phase
 use Rattle.process_engine.specs.declared.finishing.Finish.{Finish}
 use Rattle.process_engine.specs.declared.finishing.Finish.TheVariants as finished
-use Rattle.process_engine.specs.declared.gates.Answer.{Answer}
-use Rattle.engine_runs.specs.GateAnswers.{IsByGate, kept_since}
-use Rattle.engine_runs.specs.Runs.{GoesOn}
+use Rattle.engine_runs.specs.GateAnswers.{AskedGate, IsByGate, count_after, kept_since, steps_handed}
+use Rattle.engine_runs.specs.Runs.{GoesOnAlone}
 use Rattle.worker_gate.specs.declared.alone.RunOutcome.{RunOutcome}
 use Rattle.worker_gate.specs.declared.alone.RunOutcome.TheVariants.{AllEnded, Stuck, DiskFault, NoMemory}
 
@@ -34,13 +35,43 @@ IsOfRunning Restart = ⊥
 abbrev pub NothingRuns : CoreState → Type 0
 NothingRuns c = (moment_of c).out ≡ []
 
--- An engine was only run from one state to another, by a gate of such answers, whose count of refusals went from one number to the other.
-pub record RanBy {R B : Type 0} (disk : R → Disk) (faults : R → ℕ) (answers : Handed → Option Answer) (before after : ℕ) (old new : EngineState R B) : Type 0 where
-  pub goes : GoesOn disk faults old new
+-- One turn of a thread that runs processes: the machine's answer to a request for any piece; and where that is a piece, it ended by one of
+-- its two outcomes, or is still out.
+abbrev pub IsTurn : CoreState → CoreState → Type 0
+IsTurn old new = (new ≡ after_call old next)
+    ⊎ ((d : Handed) × (outcome : Outcome) × ((answer_in old next).reply ≡ next_is (chosen d)) × (new ≡ after_call (after_call old next) (finish d.piece.number outcome)))
+
+-- turns one after another, each of which led to one of these cores
+abbrev pub AreTurns : List CoreState → CoreState → CoreState → Type 0
+AreTurns [] old new = new ≡ old
+AreTurns (core ∷ cores) old new = IsTurn old core × AreTurns cores core new
+
+-- A gate was asked once for each step and each undo that was handed out since, and for nothing else.
+abbrev pub IsAskedOnce : AskedGate → CoreState → CoreState → Type 0
+IsAskedOnce gate old new = gate.after.asked ≡ count_after gate.before.asked (steps_handed (kept_since old new))
+
+-- An engine was only run from one state to another, by this gate.
+pub record RanBy {R B : Type 0} (disk : R → Disk) (faults : R → ℕ) (gate : AskedGate) (old new : EngineState R B) : Type 0 where
+  pub goes : GoesOnAlone disk faults old new
   -- none started
   pub plans : new.core.plans ≡ old.core.plans
   pub running : Each IsOfRunning (kept_since old.core new.core)
-  pub gate : IsByGate answers before after old.catalog old.core new.core
+  pub by_gate : IsByGate gate old.catalog old.core new.core
+  pub asked_once : IsAskedOnce gate old.core new.core
+  -- what was kept is that of these turns
+  pub cores : List CoreState
+  pub turns : AreTurns cores old.core new.core
+
+-- A machine was this one, and since then processes were only run, by this gate: none started, and none was asked to complete.
+pub record HasRun (gate : AskedGate) (c : Catalog) (begun now : CoreState) : Type 0 where
+  pub machine : IsCore now
+  pub table : now.conflicts ≡ c.conflicts
+  pub opening : now.opening ≡ begun.opening
+  pub plans : now.plans ≡ begun.plans
+  pub kept : now.kept ≡ begun.kept ++ kept_since begun now
+  pub running : Each IsOfRunning (kept_since begun now)
+  pub by_gate : IsByGate gate c begun now
+  pub asked_once : IsAskedOnce gate begun now
 
 -- What the outcome of a run says of the engine after it: all processes have ended; or the machine is stuck now, and so it would answer
 -- again; or a call of the rack failed.

@@ -2,6 +2,7 @@
 ghost use Rattle.std.specs.Prelude.{◌≡◌, ◌≢◌, ◌<◌, length, IfSome, Some, None};
 ghost use Rattle.process_flow.specs.Causes.{Rose};
 ghost use Rattle.history_files.specs.Standing.{EachFits};
+ghost use Rattle.engine_runs.specs.GateAnswers.{asked};
 ghost use Rattle.engine_runs.specs.Runs.{IsReady};
 ghost use Rattle.worker_gate.specs.Running.{IsOutcome, NothingRuns, RanBy, failure_of};
 
@@ -42,7 +43,7 @@ fn turn<R: Rack + Drop, B: Resource, G: Gate>(
 ) -> Option<RunOutcome>
     requires ready { IsReady B.meaning B.sort engine.old }
     requires alone { NothingRuns engine.old.core }
-    ensures ran { RanBy R.disk R.faults G.answers (G.refusals gate.old) (G.refusals gate.new) engine.old engine.new }
+    ensures ran { RanBy R.disk R.faults (asked G.Gate gate.old gate.new) engine.old engine.new }
     ensures outcome { IfSome result (IsOutcome engine.new) }
     ensures fault { result ≡ Some RunOutcome.DiskFault → Rose (R.faults engine.old.files.rack) (R.faults engine.new.files.rack) }
     ensures ready { result ≢ Some RunOutcome.DiskFault → IsReady B.meaning B.sort engine.new }
@@ -69,7 +70,7 @@ pub fn run_alone<R: Rack + Drop, B: Resource, G: Gate>(
 ) -> RunOutcome
     requires ready { IsReady B.meaning B.sort engine.old }
     requires alone { NothingRuns engine.old.core }
-    ensures ran { RanBy R.disk R.faults G.answers (G.refusals gate.old) (G.refusals gate.new) engine.old engine.new }
+    ensures ran { RanBy R.disk R.faults (asked G.Gate gate.old gate.new) engine.old engine.new }
     ensures outcome { IsOutcome engine.new result }
     ensures fault { result ≡ RunOutcome.DiskFault → Rose (R.faults engine.old.files.rack) (R.faults engine.new.files.rack) }
     ensures ready { result ≢ RunOutcome.DiskFault → IsReady B.meaning B.sort engine.new }

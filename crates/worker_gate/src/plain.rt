@@ -10,6 +10,7 @@ use std::marker::Model;
 /// Refuses each piece as often as its step says, and does it then.
 #[derive(Drop)]
 pub struct PlainGate {
+    calls: u64,
     refusals: u64,
 }
 
@@ -18,14 +19,17 @@ impl Model for PlainGate {
 
     ghost Value = { PlainState };
 
-    ghost view = { λ g. record { refusals = g.refusals } };
+    ghost view = { λ g. record { calls = g.calls; refusals = g.refusals } };
 }
 
 impl PlainGate {
     pub fn new() -> Self
-        ensures { result.refusals ≡ 0 }
+        ensures { result ≡ record { calls = 0; refusals = 0 } }
     {
-        PlainGate { refusals: 0 }
+        PlainGate {
+            calls: 0,
+            refusals: 0,
+        }
     }
 }
 
@@ -35,13 +39,18 @@ impl Gate for PlainGate {
 
     ghost answers = { λ p. Some (plain_answer p) };
 
+    ghost asked = { λ g. g.calls };
+
     ghost refusals = { λ g. g.refusals };
 
     fn work(&mut self, piece: &Piece) -> Answer
         ensures told { result ≡ plain_answer piece.now }
+        ensures asked { self.new.calls ≡ min (self.old.calls + 1) (2 ^ 64 - 1) }
         ensures later { self.old.refusals ≤ self.new.refusals }
         ensures counted { result ≡ Answer.Refused → self.new.refusals ≡ min (self.old.refusals + 1) (2 ^ 64 - 1) }
+        ensures uncounted { result ≡ Answer.Done → self.new.refusals ≡ self.old.refusals }
     {
+        self.calls = self.calls.saturating_add(1);
         if piece.tried() < piece.refuse() {
             self.refusals = self.refusals.saturating_add(1);
             Answer::Refused

@@ -39,14 +39,17 @@ impl Gate for ScriptGate {
 
     ghost answers = { λ p. None };
 
+    ghost asked = { λ g. g.calls };
+
     ghost refusals = { λ g. g.refusals };
 
     fn work(&mut self, piece: &Piece) -> Answer
         ensures refused { (result ≡ Answer.Refused) ↔ Contains self.old.refuse self.old.calls }
         ensures list { self.new.refuse ≡ self.old.refuse }
-        ensures calls { self.new.calls ≡ min (self.old.calls + 1) (2 ^ 64 - 1) }
+        ensures asked { self.new.calls ≡ min (self.old.calls + 1) (2 ^ 64 - 1) }
         ensures later { self.old.refusals ≤ self.new.refusals }
         ensures counted { result ≡ Answer.Refused → self.new.refusals ≡ min (self.old.refusals + 1) (2 ^ 64 - 1) }
+        ensures uncounted { result ≡ Answer.Done → self.new.refusals ≡ self.old.refusals }
     {
         let _ = piece;
         let call = self.calls;

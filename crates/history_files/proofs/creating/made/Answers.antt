@@ -2,8 +2,10 @@ use Rattle.std.proofs.Common.{◌∙◌, ap, sym, arith, map}
 use Rattle.std.specs.Prelude.{reverse}
 use Rattle.std.proofs.lemmas.List.{reverse-reverse}
 use Rattle.process_disk.specs.Disk.{file_of}
+use Rattle.process_disk.proofs.Images.{follow_then}
 use Rattle.process_journal.specs.Bodies.{journal_bodies, no_history}
 use Rattle.history_files.proofs.Clearing.{map_reverse}
+use Rattle.history_files.proofs.MadeStores.{follow_thrice}
 use Rattle.history_files.proofs.UsedFiles.{none_used}
 use Rattle.history_files.proofs.Unused.{stand_unused, unused_are_good}
 use Rattle.history_files.proofs.creating.made.Goals as goal
@@ -43,3 +45,25 @@ returns-in-Ok-make_stores-clause-empty g c told = sym (c.in-Ok-None.ensures.foun
 
 pub returns-in-Ok-make_stores-clause-good : goal.returns-in-Ok-make_stores-clause-good
 returns-in-Ok-make_stores-clause-good g c = unused_are_good c.calls_make_good_books.ensures.create c.in-Ok-make_stores.stores.items c.in-Ok-make_stores.ensures.unused
+
+pub returns-in-Err-create-clause-follow : goal.returns-in-Err-create-clause-follow
+returns-in-Err-create-clause-follow g c told =
+    let told_first = c.in-Ok-None.ensures.tells ∙ told in
+    follow_then (g.R.Rack.disk c.args.rack.now) (g.R.Rack.disk c.first_used.new.rack) (g.R.Rack.disk c.create.new.rack) (g.met.R.Rack.honest c.create.new.rack (c.in-Err-create.ensures.tells ∙ told_first))
+    (c.in-Ok-None.ensures.all told).follow (c.in-Err-create.ensures.others told_first).follow
+
+pub returns-in-Err-make_stores-clause-follow : goal.returns-in-Err-make_stores-clause-follow
+returns-in-Err-make_stores-clause-follow g c told =
+    let told_first = c.in-Ok-None.ensures.tells ∙ told in
+    let told_made = c.in-Ok-create.ensures.tells ∙ told_first in
+    follow_thrice (g.R.Rack.disk c.args.rack.now) (g.R.Rack.disk c.first_used.new.rack) (g.R.Rack.disk c.create.new.rack) (g.R.Rack.disk c.make_stores.new.rack)
+    (g.met.R.Rack.honest c.create.new.rack told_made) (g.met.R.Rack.honest c.make_stores.new.rack (c.in-Err-make_stores.ensures.tells ∙ told_made))
+    (c.in-Ok-None.ensures.all told).follow (c.in-Ok-create.ensures.others told_first).follow (c.in-Err-make_stores.ensures.follow told_made)
+
+pub returns-in-Ok-make_stores-clause-follow : goal.returns-in-Ok-make_stores-clause-follow
+returns-in-Ok-make_stores-clause-follow g c told =
+    let told_first = c.in-Ok-None.ensures.tells ∙ told in
+    let told_made = c.in-Ok-create.ensures.tells ∙ told_first in
+    follow_thrice (g.R.Rack.disk c.args.rack.now) (g.R.Rack.disk c.first_used.new.rack) (g.R.Rack.disk c.create.new.rack) (g.R.Rack.disk c.make_stores.new.rack)
+    (g.met.R.Rack.honest c.create.new.rack told_made) (g.met.R.Rack.honest c.make_stores.new.rack (c.in-Ok-make_stores.ensures.tells ∙ told_made))
+    (c.in-Ok-None.ensures.all told).follow (c.in-Ok-create.ensures.others told_first).follow (c.in-Ok-make_stores.ensures.follow told_made)

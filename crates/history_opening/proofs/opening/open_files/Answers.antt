@@ -1,6 +1,7 @@
 use Rattle.std.proofs.Common.{◌∙◌, inr, refl, sym, subst}
 use Rattle.process_disk.specs.Disk.{Told}
-use Rattle.process_disk.specs.Images.{AllAsBefore}
+use Rattle.process_disk.specs.Images.{AllAsBefore, ImagesFollow}
+use Rattle.process_disk.proofs.Images.{follow_then}
 use Rattle.history_files.specs.Standing.{AreGoodBooks, ComeTo, EachFits}
 use Rattle.history_files.proofs.SoundImages.{sound_now}
 use Rattle.history_opening.specs.Images.{LeftByRefusal}
@@ -54,3 +55,20 @@ returns-in-Err-settle_all-clause-refused g c told =
             (c.in-Err-settle_all.ensures.follow told_mid) (c.in-Err-settle_all.ensures.any_moment told_mid);
       },
     ))
+
+pub returns-in-Ok-settle_all-clause-follow : goal.returns-in-Ok-settle_all-clause-follow
+returns-in-Ok-settle_all-clause-follow g c told =
+    let told_mid = subst (λ f. Told (g.R.Rack.disk f.rack)) (sym c.new-files.ensures) (c.in-Ok.ensures.tells ∙ told) in
+    follow_then (g.R.Rack.disk c.args.parts.rack) (g.R.Rack.disk c.new-files.result.rack) (g.R.Rack.disk c.settle_all.new.files.rack)
+    (g.met.R.Rack.honest c.settle_all.new.files.rack (c.in-Ok-settle_all.ensures.tells ∙ told_mid))
+    (subst (λ f. AllAsBefore (g.R.Rack.disk c.args.parts.rack) (g.R.Rack.disk f.rack)) (sym c.new-files.ensures) (c.in-Ok.ensures.all told)).follow
+    (c.in-Ok-settle_all.ensures.follow told_mid)
+
+pub returns-in-Err-settle_all-clause-follow_back : goal.returns-in-Err-settle_all-clause-follow_back
+returns-in-Err-settle_all-clause-follow_back g c told =
+    let told_mid = subst (λ f. Told (g.R.Rack.disk f.rack)) (sym c.new-files.ensures) (c.in-Ok.ensures.tells ∙ told) in
+    subst (λ r. ImagesFollow (g.R.Rack.disk c.args.parts.rack) (g.R.Rack.disk r)) (sym c.into_cleared.ensures.rack)
+    (follow_then (g.R.Rack.disk c.args.parts.rack) (g.R.Rack.disk c.new-files.result.rack) (g.R.Rack.disk c.settle_all.new.files.rack)
+    (g.met.R.Rack.honest c.settle_all.new.files.rack (c.in-Err-settle_all.ensures.tells ∙ told_mid))
+    (subst (λ f. AllAsBefore (g.R.Rack.disk c.args.parts.rack) (g.R.Rack.disk f.rack)) (sym c.new-files.ensures) (c.in-Ok.ensures.all told)).follow
+    (c.in-Err-settle_all.ensures.follow told_mid))

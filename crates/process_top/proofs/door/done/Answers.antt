@@ -1,13 +1,17 @@
-use Rattle.std.proofs.Common.{◌≡◌, slice_index_or, slice_set, subst, sym, arith}
+use Rattle.std.proofs.Common.{◌≡◌, ◌∙◌, slice_index_or, subst, sym, arith}
 use Rattle.std.specs.Prelude.{Some}
-use Rattle.program_words.specs.declared.reading.Command.TheVariants.{Run}
+use Rattle.std.proofs.lemmas.Result.{IfOk-weaker}
+use Rattle.process_disk.specs.Disk.{Told}
+use Rattle.program_words.specs.declared.reading.Command.TheVariants.{Run, Restart}
+use Rattle.program_lines.specs.declared.status.Status.TheVariants.{Done}
+use Rattle.restart_run.specs.Boxes.{HaveValuesOf}
 use Rattle.command_input.specs.Inputs.{input}
 use Rattle.command_input.specs.FilesLeft.{files}
-use Rattle.scenario_run.specs.Run.{AskedGate}
+use Rattle.engine_runs.specs.GateAnswers.{AskedGate}
 use Rattle.process_top.specs.Said.{Says}
 use Rattle.process_top.specs.Commands.{IsDueTo}
 use Rattle.process_top.proofs.GatesAsked.{first_asked}
-use Rattle.process_top.proofs.Saying.{run_says, says_so, session_says}
+use Rattle.process_top.proofs.Saying.{restart_says, run_says, says_so, session_says}
 use Rattle.process_setup.proofs.FilesMade.{untouched}
 use Rattle.process_top.proofs.door.done.Goals as goal
 
@@ -38,3 +42,24 @@ returns-in-Session-clause-due g c =
     rw c.in-Session.is
     (session_says (input g.S.Source c.args.source.now) (input g.S.Source c.session.new.source) (files g.R.Rack c.args.parts.rack) (files g.R.Rack c.session.result.parts.rack)
     c.session.result.found c.session.ensures.due)
+
+pub returns-in-Restart-clause-due : goal.returns-in-Restart-clause-due
+returns-in-Restart-clause-due g c =
+    let gates = c.args.gates.now.items in
+    let gate = c.index_mut-in-Restart.result.now in
+    let first : gate ≡ slice_index_or gates 0 gate = c.index_mut-in-Restart.ensures.value in
+    let found = c.restart.result.found in
+    let before = input g.S.Source c.args.source.now in
+    let left = files g.R.Rack c.restart.result.parts.rack in
+    rw c.in-Restart.is
+    (subst (λ (asked : AskedGate). Says (IsDueTo (Some Restart) asked before before (files g.R.Rack c.args.parts.rack) left) found)
+    (sym (first_asked g.G.Gate gates gate c.restart.new.gate (omega (arith, c.requires.gates)) first))
+    (restart_says _ (files g.R.Rack c.args.parts.rack) left found c.restart.ensures.due))
+
+pub returns-in-Restart-clause-values : goal.returns-in-Restart-clause-values
+returns-in-Restart-clause-values g c = λ asks.
+    let parts = c.restart.result.parts in
+    let b = g.B.Resource in
+    let have = HaveValuesOf (λ x. (b.meaning x).items) (g.R.Rack.disk parts.rack).files parts.resources.items in
+    IfOk-weaker c.restart.result.found (λ s. s.status ≡ Done → Told (g.R.Rack.disk c.args.parts.rack) → have) (λ s. s.status ≡ Done → Told (g.R.Rack.disk parts.rack) → have)
+    (λ s has done told. has done (sym c.restart.ensures.tells ∙ told)) c.restart.ensures.values

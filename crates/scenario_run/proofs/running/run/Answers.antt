@@ -3,9 +3,11 @@ use Rattle.process_disk.specs.Disk.{Same}
 use Rattle.process_disk.proofs.Images.{run_none}
 use Rattle.command_input.specs.FilesLeft.{files}
 use Rattle.command_input.specs.Inputs.{input}
-use Rattle.scenario_run.specs.Run.{asked}
+use Rattle.engine_runs.specs.GateAnswers.{asked}
 use Rattle.scenario_run.proofs.Complete.{due_is_complete}
 use Rattle.scenario_run.proofs.ScenarioPlans.{bound_few, bound_start}
+use Rattle.scenario_run.specs.Scenario.{IsNoScenarioRead}
+use Rattle.scenario_run.proofs.SaidOfNone.{said_of}
 use Rattle.scenario_run.proofs.running.run.Goals as goal
 
 pub run_bound-requires-clause-plans : goal.run_bound-requires-clause-plans
@@ -27,7 +29,7 @@ returns-in-Ok-clause-complete g c =
 pub returns-in-Err-clause-due : goal.returns-in-Err-clause-due
 returns-in-Err-clause-due g c =
     inl (
-      c.said_of_none.ensures (input g.S.Source c.args.source.now) (input g.S.Source c.scenario_from.new.source) c.in-Err.ensures.refused,
+      said_of (IsNoScenarioRead (input g.S.Source c.args.source.now) (input g.S.Source c.scenario_from.new.source)) c.in-Err.none c.said_of_none.result c.said_of_none.ensures c.in-Err.ensures.refused,
       λ told. run_none Same (g.R.Rack.disk c.args.parts.rack) (λ fs. refl) (g.met.R.Rack.honest c.args.parts.rack told),
     )
 
@@ -36,6 +38,6 @@ returns-in-Err-clause-complete g c =
     due_is_complete c.args.alloc (asked g.G.Gate c.args.gate.now c.args.gate.now) (input g.S.Source c.args.source.now) (input g.S.Source c.scenario_from.new.source)
     (files g.R.Rack c.args.parts.rack) (files g.R.Rack c.args.parts.rack) c.said_of_none.result c.sound_files_are_opened.ensures
     (inl (
-      c.said_of_none.ensures (input g.S.Source c.args.source.now) (input g.S.Source c.scenario_from.new.source) c.in-Err.ensures.refused,
+      said_of (IsNoScenarioRead (input g.S.Source c.args.source.now) (input g.S.Source c.scenario_from.new.source)) c.in-Err.none c.said_of_none.result c.said_of_none.ensures c.in-Err.ensures.refused,
       λ told. run_none Same (g.R.Rack.disk c.args.parts.rack) (λ fs. refl) (g.met.R.Rack.honest c.args.parts.rack told),
     ))

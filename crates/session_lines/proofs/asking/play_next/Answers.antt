@@ -1,4 +1,4 @@
-use Rattle.std.proofs.Common.{◌≡◌, ◌∙◌, ◌++◌, drop, length, map, codes, ap, sym, subst}
+use Rattle.std.proofs.Common.{◌≡◌, ◌∙◌, [], ◌++◌, drop, length, map, codes, ap, sym, subst}
 use Rattle.std.specs.List.{filter_map}
 use Rattle.std.proofs.lemmas.List.{drop_at}
 use Rattle.process_text.specs.Canonical.{line_of}
@@ -33,6 +33,6 @@ returns-clause-answered g c =
 pub returns-clause-handed : goal.returns-clause-handed
 returns-clause-handed g c =
     let new = c.next-reply.new.engine.core in
-    let goes = c.next-reply.ensures.goes in
+    let goes = c.next-reply.ensures.goes [] in
     subst (AreHandedBy new) (sym c.in_ok-keep_chosen.ensures.kept)
     (next_handed new c.args.pieces.now.items c.next-reply.result (all_stay c.args.engine.now.core new goes.added c.args.pieces.now.items goes.kept c.requires.handed) c.next-reply.ensures.given)

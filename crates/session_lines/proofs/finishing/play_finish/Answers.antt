@@ -1,4 +1,4 @@
-use Rattle.std.proofs.Common.{◌≡◌, ◌∙◌, ◌<◌, length, map, false, Some, ap, subst, sym}
+use Rattle.std.proofs.Common.{◌≡◌, ◌∙◌, ◌<◌, [], length, map, false, Some, ap, subst, sym}
 use Rattle.std.specs.List.{remove}
 use Rattle.machine_model.specs.Replies.{Handed}
 use Rattle.engine_runs.proofs.Goes.{goes_none}
@@ -11,16 +11,16 @@ use Rattle.session_lines.proofs.AskedPieces.{all_stay}
 use Rattle.session_lines.proofs.finishing.play_finish.Goals as goal
 
 pub returns-in_err-no_piece-clause-goes : goal.returns-in_err-no_piece-clause-goes
-returns-in_err-no_piece-clause-goes g c = goes_none g.R.Rack.disk g.R.Rack.faults c.args.engine.now c.is_sound.ensures.run (c.is_sound.ensures.each c.requires.ready.settled)
+returns-in_err-no_piece-clause-goes g c may_start = goes_none g.R.Rack.disk g.R.Rack.faults may_start c.args.engine.now c.is_sound.ensures.run (c.is_sound.ensures.each c.requires.ready.settled)
 
 pub returns-in_default-clause-goes : goal.returns-in_default-clause-goes
-returns-in_default-clause-goes g c = goes_none g.R.Rack.disk g.R.Rack.faults c.args.engine.now c.is_sound.ensures.run (c.is_sound.ensures.each c.requires.ready.settled)
+returns-in_default-clause-goes g c may_start = goes_none g.R.Rack.disk g.R.Rack.faults may_start c.args.engine.now c.is_sound.ensures.run (c.is_sound.ensures.each c.requires.ready.settled)
 
 pub returns-in_err-no_refusal-clause-goes : goal.returns-in_err-no_refusal-clause-goes
-returns-in_err-no_refusal-clause-goes g c = goes_none g.R.Rack.disk g.R.Rack.faults c.args.engine.now c.is_sound.ensures.run (c.is_sound.ensures.each c.requires.ready.settled)
+returns-in_err-no_refusal-clause-goes g c may_start = goes_none g.R.Rack.disk g.R.Rack.faults may_start c.args.engine.now c.is_sound.ensures.run (c.is_sound.ensures.each c.requires.ready.settled)
 
 pub returns-then-is_refused_end-clause-goes : goal.returns-then-is_refused_end-clause-goes
-returns-then-is_refused_end-clause-goes g c = goes_none g.R.Rack.disk g.R.Rack.faults c.args.engine.now c.is_sound.ensures.run (c.is_sound.ensures.each c.requires.ready.settled)
+returns-then-is_refused_end-clause-goes g c may_start = goes_none g.R.Rack.disk g.R.Rack.faults may_start c.args.engine.now c.is_sound.ensures.run (c.is_sound.ensures.each c.requires.ready.settled)
 
 pub returns-in_default-clause-answered : goal.returns-in_default-clause-answered
 returns-in_default-clause-answered g c =
@@ -96,7 +96,7 @@ returns-clause-handed g c =
     let hs = c.args.pieces.now.items in
     let place : place_in c.args.n (map number_of hs) ≡ Some c.in-Some.place = ap (λ hs. place_in c.args.n (map number_of hs)) (sym c.deref.ensures.value) ∙ (sym c.place_of.ensures ∙ c.in-Some.is) in
     let new = c.finish_piece.new.engine.core in
-    let goes = c.finish_piece.ensures.goes in
+    let goes = c.finish_piece.ensures.goes [] in
     on_ok c.finish_piece.result (AreHandedBy new c.remove-piece.new.self.items)
     (subst (AreHandedBy new) (sym c.remove-piece.ensures.items) (all_stay core new goes.added (remove hs c.in-Some.place) goes.kept
     (left cat core hs c.args.n c.in-Some.place c.args.outcome place c.requires.handed c.remove-piece.result c.remove-piece.ensures.value)))

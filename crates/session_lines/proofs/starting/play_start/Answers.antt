@@ -4,21 +4,22 @@ use Rattle.engine_steps.specs.Beginning.{IsPlanFor}
 use Rattle.engine_runs.proofs.Goes.{goes_none}
 use Rattle.process_tree.specs.declared.plan.Plan.{Plan}
 use Rattle.machine_model.specs.Replies.{Handed}
+use Rattle.machine_model.proofs.TidyMoments.{Each-find}
 use Rattle.session_lines.specs.Answering.{IsAnswered, IsCopy, IsCut}
 use Rattle.session_lines.specs.Pieces.{session_of}
 use Rattle.session_lines.specs.Playing.{plan_named, play_start}
 use Rattle.session_lines.proofs.Outcomes.{copy_itself, cut_none, equal_swap, err_all, err_map, ok_map}
-use Rattle.session_lines.proofs.StartedLines.{copy_starts, found_has}
+use Rattle.session_lines.proofs.StartedLines.{copy_is_one, copy_starts}
 use Rattle.session_lines.proofs.starting.play_start.Goals as goal
 
 pub returns-in_err-copy-in-Some-clause-goes : goal.returns-in_err-copy-in-Some-clause-goes
-returns-in_err-copy-in-Some-clause-goes g c = goes_none g.R.Rack.disk g.R.Rack.faults c.args.engine.now c.is_sound.ensures.run (c.is_sound.ensures.each c.requires.ready.settled)
+returns-in_err-copy-in-Some-clause-goes g c = goes_none g.R.Rack.disk g.R.Rack.faults c.args.plans.now c.args.engine.now c.is_sound.ensures.run (c.is_sound.ensures.each c.requires.ready.settled)
 
 pub returns-in_err-no_process-in-None-clause-goes : goal.returns-in_err-no_process-in-None-clause-goes
-returns-in_err-no_process-in-None-clause-goes g c = goes_none g.R.Rack.disk g.R.Rack.faults c.args.engine.now c.is_sound.ensures.run (c.is_sound.ensures.each c.requires.ready.settled)
+returns-in_err-no_process-in-None-clause-goes g c = goes_none g.R.Rack.disk g.R.Rack.faults c.args.plans.now c.args.engine.now c.is_sound.ensures.run (c.is_sound.ensures.each c.requires.ready.settled)
 
 pub returns-in_ok-no_process-in-None-clause-goes : goal.returns-in_ok-no_process-in-None-clause-goes
-returns-in_ok-no_process-in-None-clause-goes g c = goes_none g.R.Rack.disk g.R.Rack.faults c.args.engine.now c.is_sound.ensures.run (c.is_sound.ensures.each c.requires.ready.settled)
+returns-in_ok-no_process-in-None-clause-goes g c = goes_none g.R.Rack.disk g.R.Rack.faults c.args.plans.now c.args.engine.now c.is_sound.ensures.run (c.is_sound.ensures.each c.requires.ready.settled)
 
 pub returns-in_err-copy-in-Some-clause-cut : goal.returns-in_err-copy-in-Some-clause-cut
 returns-in_err-copy-in-Some-clause-cut g c =
@@ -32,7 +33,13 @@ play_plan-requires-clause-plan g c =
     let cat = c.args.engine.now.catalog in
     let plan = c.in-Some.plan.now in
     copy_starts cat plan c.in_ok-copy-in-Some.copy (equal_swap c.in_ok-copy-in-Some.copy plan c.in_ok-copy-in-Some.ensures)
-    (found_has (IsPlanFor cat) c.args.plans.now (λ (p : Plan). same_text p.name c.args.name.now) plan c.in-Some.ensures.some c.requires.plans)
+    (Each-find (IsPlanFor cat) (λ (p : Plan). same_text p.name c.args.name.now) c.args.plans.now plan c.requires.plans c.in-Some.ensures.some)
+
+pub returns-in_ok-copy-in-Some-clause-goes : goal.returns-in_ok-copy-in-Some-clause-goes
+returns-in_ok-copy-in-Some-clause-goes g c =
+    let plan = c.in-Some.plan.now in
+    let copy = c.in_ok-copy-in-Some.copy in
+    c.play_plan.ensures.goes c.args.plans.now (copy_is_one c.args.plans.now c.args.name.now plan copy c.in-Some.ensures.some (equal_swap copy plan c.in_ok-copy-in-Some.ensures))
 
 pub returns-in_ok-copy-in-Some-clause-answered : goal.returns-in_ok-copy-in-Some-clause-answered
 returns-in_ok-copy-in-Some-clause-answered g c =

@@ -3,13 +3,15 @@ use Rattle.process_disk.specs.Disk.{Same}
 use Rattle.process_disk.proofs.Images.{run_none}
 use Rattle.command_input.specs.Inputs.{input}
 use Rattle.command_input.specs.FilesLeft.{files}
+use Rattle.scenario_run.proofs.SaidOfNone.{said_of}
+use Rattle.session_run.specs.Session.{IsNoSessionRead}
 use Rattle.session_run.proofs.SessionComplete.{due_is_complete}
 use Rattle.session_run.proofs.command.session.Goals as goal
 
 pub returns-in-Err-clause-due : goal.returns-in-Err-clause-due
 returns-in-Err-clause-due g c =
     inl (
-      c.said_of_none.ensures.due (input g.S.Source c.args.source.now) (input g.S.Source c.script_of.new.source) c.in-Err.ensures.refused,
+      said_of (IsNoSessionRead (input g.S.Source c.args.source.now) (input g.S.Source c.script_of.new.source)) c.in-Err.none c.said_of_none.result c.said_of_none.ensures c.in-Err.ensures.refused,
       λ told. run_none Same (g.R.Rack.disk c.args.parts.rack) (λ fs. refl) (g.met.R.Rack.honest c.args.parts.rack told),
     )
 
@@ -19,7 +21,10 @@ returns-in-Err-clause-complete g c =
     let after = input g.S.Source c.script_of.new.source in
     let rack = files g.R.Rack c.args.parts.rack in
     due_is_complete c.args.alloc before after rack rack c.said_of_none.result c.sound_files_are_opened.ensures
-    (inl (c.said_of_none.ensures.due before after c.in-Err.ensures.refused, λ told. run_none Same (g.R.Rack.disk c.args.parts.rack) (λ fs. refl) (g.met.R.Rack.honest c.args.parts.rack told)))
+    (inl (
+      said_of (IsNoSessionRead before after) c.in-Err.none c.said_of_none.result c.said_of_none.ensures c.in-Err.ensures.refused,
+      λ told. run_none Same (g.R.Rack.disk c.args.parts.rack) (λ fs. refl) (g.met.R.Rack.honest c.args.parts.rack told),
+    ))
 
 pub returns-in-Ok-clause-complete : goal.returns-in-Ok-clause-complete
 returns-in-Ok-clause-complete g c =

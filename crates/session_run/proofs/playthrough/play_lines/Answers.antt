@@ -18,7 +18,7 @@ loop-rest-init g c =
     record {
       answered = subst (λ ps. HasAnswered cat plans core core ps lines lines c.args.said.now.items) (sym c.new-pieces.ensures.items)
           (subst (λ text. HasAnswered cat plans core core [] lines lines text) (sym c.requires.empty) (answered_none cat plans core lines));
-      goes = goes_none g.R.Rack.disk g.R.Rack.faults c.args.engine.now c.is_sound.ensures.run (c.is_sound.ensures.each c.requires.ready.settled);
+      goes = goes_none g.R.Rack.disk g.R.Rack.faults plans c.args.engine.now c.is_sound.ensures.run (c.is_sound.ensures.each c.requires.ready.settled);
       ready = c.requires.ready;
       core = c.is_sound.ensures.run;
       plans = c.requires.plans;
@@ -45,7 +45,7 @@ loop-rest-preserved g c =
     let here = subst (λ k. IsAnswered (play k (session_of now pieces) l told.0) new.core left told.1) inv.goes.catalog told.3 in
     record {
       answered = subst (λ said. HasAnswered cat plans core new.core left lines after said) (sym told.4) (answered_more cat plans core now pieces lines l after text told.0 before told.2 new.core left told.1 here);
-      goes = goes_then g.R.Rack.disk g.R.Rack.faults c.args.engine.now c.loop-rest.engine new inv.ready.settled inv.core.session.one_each (g.met.R.Rack.honest new.files.rack) inv.goes c.answer_line.ensures.goes;
+      goes = goes_then g.R.Rack.disk g.R.Rack.faults plans c.args.engine.now c.loop-rest.engine new inv.ready.settled inv.core.session.one_each (g.met.R.Rack.honest new.files.rack) inv.goes c.answer_line.ensures.goes;
       ready = c.answer_line.ensures.ready (λ bad. absurd (let is = c.in_default-answer_line.is in cc));
       core = c.is_sound-in-len1-up.ensures.run;
       plans = subst (λ k. Each (IsPlanFor k) plans) (sym c.answer_line.ensures.goes.catalog) inv.plans;
@@ -57,7 +57,7 @@ pub returns-in-Err-clause-goes : goal.returns-in-Err-clause-goes
 returns-in-Err-clause-goes g c =
     let inv = c.loop-rest.invariant in
     let new = c.answer_line.new.engine in
-    goes_then g.R.Rack.disk g.R.Rack.faults c.args.engine.now c.loop-rest.engine new inv.ready.settled inv.core.session.one_each (g.met.R.Rack.honest new.files.rack) inv.goes c.answer_line.ensures.goes
+    goes_then g.R.Rack.disk g.R.Rack.faults c.args.plans.now c.args.engine.now c.loop-rest.engine new inv.ready.settled inv.core.session.one_each (g.met.R.Rack.honest new.files.rack) inv.goes c.answer_line.ensures.goes
 
 pub returns-in-Err-clause-played : goal.returns-in-Err-clause-played
 returns-in-Err-clause-played g c =

@@ -11,7 +11,7 @@ use Rattle.session_run.proofs.playthrough.play_lines.Given as goal
 abbrev pub invariant-loop-rest : goal.invariant-loop-rest
 invariant-loop-rest g l = record {
   answered : HasAnswered l.fn.engine.catalog l.plans l.fn.engine.core l.engine.core l.pieces.items l.lines l.rest l.said.items;
-  goes : GoesOn g.R.Rack.disk g.R.Rack.faults l.fn.engine l.engine;
+  goes : GoesOn g.R.Rack.disk g.R.Rack.faults l.plans l.fn.engine l.engine;
   ready : IsReady g.B.Resource.meaning g.B.Resource.sort l.engine;
   core : IsCore l.engine.core;
   plans : Each (IsPlanFor l.engine.catalog) l.plans;

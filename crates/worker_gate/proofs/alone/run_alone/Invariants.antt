@@ -1,6 +1,7 @@
 use Rattle.std.proofs.Common.{◌-◌, length}
 use Rattle.process_core.specs.Cores.{IsCore}
 use Rattle.process_core.specs.Room.{room_of}
+use Rattle.engine_runs.specs.GateAnswers.{asked}
 use Rattle.engine_runs.specs.Runs.{IsReady}
 use Rattle.worker_gate.specs.Running.{NothingRuns, RanBy}
 use Rattle.worker_gate.proofs.alone.run_alone.Given as goal
@@ -8,7 +9,7 @@ use Rattle.worker_gate.proofs.alone.run_alone.Given as goal
 -- so far the engine was only run, and no piece is out
 abbrev pub invariant-turns : goal.invariant-turns
 invariant-turns g l = record {
-  ran : RanBy g.R.Rack.disk g.R.Rack.faults g.G.Gate.answers (g.G.Gate.refusals l.fn.gate) (g.G.Gate.refusals l.gate) l.fn.engine l.engine;
+  ran : RanBy g.R.Rack.disk g.R.Rack.faults (asked g.G.Gate l.fn.gate l.gate) l.fn.engine l.engine;
   ready : IsReady g.B.Resource.meaning g.B.Resource.sort l.engine;
   idle : NothingRuns l.engine.core;
   core : IsCore l.engine.core;

@@ -1,6 +1,6 @@
 use Rattle.std.proofs.Common.{◌≡◌, ◌∙◌, ◌≤◌, inl, inr, sym, subst}
 use Rattle.process_flow.specs.Causes.{Rose}
-use Rattle.process_disk.specs.Images.{EachImage}
+use Rattle.process_disk.specs.Images.{EachImage, ImagesFollow}
 use Rattle.history_opening.specs.Images.{BecomesSound}
 use Rattle.history_opening.specs.Opening.{IsDueToOpening}
 use Rattle.history_files.specs.Sound.{IsSound}
@@ -99,3 +99,14 @@ returns-in-Ok-clause-fault g c =
 
 pub returns-in-Err-clause-refused : goal.returns-in-Err-clause-refused
 returns-in-Err-clause-refused g c told = inl (c.in-Err.ensures.refused told)
+
+pub returns-in-Ok-clause-follow : goal.returns-in-Ok-clause-follow
+returns-in-Ok-clause-follow g c told =
+    carried c.engine_on.result c.in-Ok.catalog c.in-Ok.history c.in-Ok.files c.engine_on.ensures.on
+    (λ d h f. ImagesFollow (g.R.Rack.disk c.args.parts.rack) (g.R.Rack.disk f.rack)) (c.in-Ok.ensures.follow told)
+
+pub returns-in-Ok-clause-follow_back : goal.returns-in-Ok-clause-follow_back
+returns-in-Ok-clause-follow_back g c told =
+    both_hold c.engine_on.result (λ x. x.parts.rack ≡ c.in-Ok.files.rack) (λ x. x.why ≡ NoMemory) (λ x. ImagesFollow (g.R.Rack.disk c.args.parts.rack) (g.R.Rack.disk x.parts.rack))
+    c.engine_on.ensures.rack c.engine_on.ensures.why
+    (λ x rack why. subst (λ k. ImagesFollow (g.R.Rack.disk c.args.parts.rack) (g.R.Rack.disk k)) (sym rack) (c.in-Ok.ensures.follow told))

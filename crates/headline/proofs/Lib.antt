@@ -1,0 +1,11 @@
+pub mod GoodHistories
+pub mod ExactBooks
+pub mod Left
+pub mod Restored
+pub mod Recovered
+pub mod Exits
+pub mod Went
+pub mod WentByCommand
+pub mod Agree
+pub mod Whole
+pub mod Stops

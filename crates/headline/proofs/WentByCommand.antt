@@ -1,0 +1,169 @@
+-- What each command that goes on did to the files.
+use Rattle.std.proofs.Common.{◌≡◌, ◌⊎◌, ℕ, true, false, List, [], ◌++◌, Option, Some, None, Ok, Err, inl, inr, refl, ap, sym, append-nil}
+use Rattle.process_disk.specs.Disk.{IsHonest, Told}
+use Rattle.process_tree.specs.declared.plan.Plan.{Plan}
+use Rattle.schedule_model.specs.declared.history.History.{History}
+use Rattle.commute_table.specs.declared.catalog.Catalog.{Catalog}
+use Rattle.process_core.specs.Cores.{CoreState, opened_on}
+use Rattle.engine_steps.specs.declared.engines.Phase.{Phase}
+use Rattle.engine_steps.specs.declared.engines.Phase.TheVariants.{Settled, Closed}
+use Rattle.engine_runs.specs.Acknowledged.{IsOneAhead}
+use Rattle.engine_runs.specs.GateAnswers.{AskedGate}
+use Rattle.session_text.specs.declared.line.Line.{Line}
+use Rattle.program_lines.specs.Statuses.{number_of}
+use Rattle.program_lines.specs.declared.status.Status.{Status}
+use Rattle.program_lines.specs.declared.status.Status.TheVariants as statuses
+use Rattle.program_words.specs.declared.reading.Command.{Command}
+use Rattle.program_words.specs.declared.reading.Command.TheVariants.{Check, Init, Run, Session, Restart, Show, Verify}
+use Rattle.command_input.specs.declared.said.Said.{Said}
+use Rattle.scenario_run.specs.Run.{IsRun, IsRunOf, IsRunDue as IsRunFound, SaysRun}
+use Rattle.scenario_run.specs.Scenario.{IsScenarioRead}
+use Rattle.session_run.specs.Playthrough.{EndsAt}
+use Rattle.session_run.specs.Session.{IsPlayedOn, IsSession, IsSessionDue as IsSessionFound, IsSessionRead, phase_by}
+use Rattle.process_restart.specs.Completing.{IsNextOfCompletion}
+use Rattle.process_restart.specs.Restarting.{IsRestart}
+use Rattle.restart_run.specs.Restart.{SaysRestart}
+use Rattle.process_top.specs.Commands.{IsDueTo}
+use Rattle.process_top.specs.Replies.{Reply, checked, created, ended, shown, accepted, refused, IsReplyTold}
+use Rattle.process_top.specs.Restart.{IsRestartDue}
+use Rattle.process_top.specs.Run.{IsRunDue, first_gate}
+use Rattle.process_top.specs.Said.{IsResultTold}
+use Rattle.process_top.specs.Session.{IsSessionDue}
+use Rattle.process_top.specs.Told.{IsTold}
+use Rattle.process_top.specs.Worlds.{World}
+use Rattle.headline.specs.Headline.{IsAtEntry, IsRackFault, goes_on, is_refused_beforehand}
+use Rattle.headline.proofs.Exits.{cut_late, refused_fault, said_fault, said_late, told_cut}
+use Rattle.headline.proofs.Went.{Went, kept, nothing, not_opened, not_opened_for, untouched}
+
+module _ {S K R : Type 0} (c : Catalog) (h : History) (before after : World S K R) (entry : IsAtEntry c h before.files.disk)
+    (number : ℕ) (status : Status) (numbered : number ≡ number_of status) (known : Told after.files.disk) (honest : IsHonest after.files.disk) where
+  abbrev gate : AskedGate
+  gate = first_gate before.gates after.gates
+
+  abbrev Of : Command → Type 0
+  Of command = Went (Some command) c h before after entry number status numbered known honest
+
+  abbrev IsLate : Type 0
+  IsLate = is_refused_beforehand status ≡ true → ⊥
+
+  abbrev Settles : Phase → Type 0
+  Settles on = ¬ IsRackFault status before after → on ≡ Settled
+
+  -- `run`,
+  run_on : (d : Catalog) (plans : List Plan) → IsScenarioRead before.input after.input d plans → (k : History) (started rest : List Plan) (now : CoreState) (on : Phase) → plans ≡ started ++ rest
+      → IsRun gate d k plans started now on before.files after.files → Settles on → IsLate → Of Run
+  run_on d plans read k started rest now on are run settles late =
+      kept (Some Run) c h before after entry number status numbered known honest d k now (IsOneAhead d plans now on) on run.1 run.0.run.machine (inr (plans, started, rest, read, are, run.0))
+      (λ files ahead. (ahead.1.0, (plans, read, ahead.1.1), ahead.1.2)) settles (λ early. absurd (late early))
+
+  run_late : (d : Catalog) (now : CoreState) (s : Said) → SaysRun d now s → IsTold s.status s.text.items before.output after.output status → IsLate
+  run_late d now s (inl all) out = said_late s.status status before.output after.output s.text.items out (ap is_refused_beforehand all.0)
+  run_late d now s (inr stuck) out = said_late s.status status before.output after.output s.text.items out (ap is_refused_beforehand stuck.1)
+
+  run_of : (d : Catalog) (plans : List Plan) → IsScenarioRead before.input after.input d plans → (found : _) → IsRunOf gate d plans before.files after.files found
+      → IsResultTold found before.output after.output status → Of Run
+  run_of d plans read (Ok s) (k, now, run, says) out = run_on d plans read k plans [] now Settled (sym (append-nil plans)) run (λ well. refl) (run_late d now s says out)
+  run_of d plans read (Err r) (inl closed) out = not_opened_for (Some Run) c h before after entry number status numbered known honest d r closed out
+  run_of d plans read (Err r) (inr (inl past)) out = nothing (Some Run) c h before after entry number status numbered known honest d past.0 past.4
+  run_of d plans read (Err r) (inr (inr (k, started, rest, now, are, inl (memory, run)))) out =
+      run_on d plans read k started rest now Settled are run (λ well. refl) (cut_late status (told_cut r before.output after.output status (inr memory) out))
+  run_of d plans read (Err r) (inr (inr (k, started, rest, now, are, inr (fault, run, rose)))) out =
+      run_on d plans read k started rest now Closed are run (λ well. absurd (well (refused_fault before after r status fault rose out)))
+      (cut_late status (told_cut r before.output after.output status (inl fault) out))
+
+  run_found : (found : _) → IsRunFound gate before.input after.input before.files after.files found → IsResultTold found before.output after.output status → Of Run
+  run_found found (inl none) out = untouched (Some Run) c h before after entry number status numbered known honest none.1
+  run_found found (inr (d, plans, read, run)) out = run_of d plans read found run out
+
+  run_due : (reply : Reply) → IsRunDue gate before.input after.input before.files after.files reply → IsReplyTold reply before.output after.output status → Of Run
+  run_due (ended s) due out = run_found (Ok s) due out
+  run_due (refused r) due out = run_found (Err r) due out
+  run_due (checked ps vs) due out = absurd due
+  run_due created due out = absurd due
+  run_due (shown d k) due out = absurd due
+  run_due accepted due out = absurd due
+
+  -- `session`,
+  abbrev Ended : Status → Type 0
+  Ended s = (phase_by s ≡ Settled) ⊎ (s ≡ statuses.DiskFault)
+
+  session_ends : (d : Catalog) (plans : List Plan) (first now : CoreState) (answered rest : List Line) (s : Status) → EndsAt d plans first now answered rest s → (is_refused_beforehand s ≡ false) × Ended s
+  session_ends d plans first now answered rest statuses.Done ends = (refl, inl refl)
+  session_ends d plans first now answered rest statuses.BadWords ends = absurd ends
+  session_ends d plans first now answered rest statuses.BadInput ends = absurd ends
+  session_ends d plans first now answered rest statuses.IllFormed ends = absurd ends
+  session_ends d plans first now answered rest statuses.Limit ends = absurd ends
+  session_ends d plans first now answered rest statuses.Unfinished ends = absurd ends
+  session_ends d plans first now answered rest statuses.BadFile ends = absurd ends
+  session_ends d plans first now answered rest statuses.BookDiffers ends = absurd ends
+  session_ends d plans first now answered rest statuses.ReadFault ends = absurd ends
+  session_ends d plans first now answered rest statuses.WriteFault ends = absurd ends
+  session_ends d plans first now answered rest statuses.DiskFault ends = (refl, inr refl)
+  session_ends d plans first now answered rest statuses.Exhausted ends = absurd ends
+  session_ends d plans first now answered rest statuses.NotReduced ends = absurd ends
+  session_ends d plans first now answered rest statuses.NoMemory ends = (refl, inl refl)
+
+  played_out : (d : Catalog) (plans : List Plan) (lines : List Line) → IsSessionRead before.input after.input d plans lines → (s : Said) → IsSession d plans lines before.files after.files s.text.items s.status
+      → IsTold s.status s.text.items before.output after.output status → (is_refused_beforehand s.status ≡ false) × Ended s.status → Of Session
+  played_out d plans lines read s is out (late, ends) =
+      kept (Some Session) c h before after entry number status numbered known honest d is.history is.now (IsOneAhead d plans is.now (phase_by s.status)) (phase_by s.status) is.kept is.machine
+      (inr (plans, lines, s.text.items, s.status, read, is.idle, is.played)) (λ files ahead. (ahead.1.0, (plans, lines, read, ahead.1.1), ahead.1.2))
+      (settles ends) (λ early. absurd (said_late s.status status before.output after.output s.text.items out late early))
+    where
+      settles : Ended s.status → Settles (phase_by s.status)
+      settles (inl on) well = on
+      settles (inr fault) well = absurd (well (said_fault before after s.status status s.text.items fault (is.fault fault) out))
+
+  played_on : (d : Catalog) (plans : List Plan) (lines : List Line) → IsSessionRead before.input after.input d plans lines → (found : _)
+      → IsPlayedOn d plans lines before.files after.files found → IsResultTold found before.output after.output status → Of Session
+  played_on d plans lines read (Ok s) is out =
+      played_out d plans lines read s is out (session_ends d plans (opened_on d.conflicts is.history.plans is.history.events) is.now is.played.answered is.played.rest s.status is.played.ends)
+  played_on d plans lines read (Err r) (inl closed) out = not_opened_for (Some Session) c h before after entry number status numbered known honest d r closed out
+  played_on d plans lines read (Err r) (inr (memory, (k, idle, are))) out = nothing (Some Session) c h before after entry number status numbered known honest d k are
+
+  session_found : (found : _) → IsSessionFound before.input after.input before.files after.files found → IsResultTold found before.output after.output status → Of Session
+  session_found found (inl none) out = untouched (Some Session) c h before after entry number status numbered known honest none.1
+  session_found found (inr (d, plans, lines, read, is)) out = played_on d plans lines read found is out
+
+  session_due : (reply : Reply) → IsSessionDue before.input after.input before.files after.files reply → IsReplyTold reply before.output after.output status → Of Session
+  session_due (ended s) due out = session_found (Ok s) due out
+  session_due (refused r) due out = session_found (Err r) due out
+  session_due (checked ps vs) due out = absurd due
+  session_due created due out = absurd due
+  session_due (shown d k) due out = absurd due
+  session_due accepted due out = absurd due
+
+  -- and `restart`.
+  restart_on : (d : Catalog) (k : History) (now : CoreState) (on : Phase) → IsRestart gate d k now on before.files.disk after.files.disk → Settles on → IsLate → Of Restart
+  restart_on d k now on made settles late =
+      kept (Some Restart) c h before after entry number status numbered known honest d k now (IsNextOfCompletion d k now on) on made.kept made.completing.run.machine (inr made.completing)
+      (λ files ahead. (ahead.1.0, ahead.1.1, ahead.1.2)) settles (λ early. absurd (late early))
+
+  restart_late : (d : Catalog) (k : History) (now : CoreState) (s : Said) → SaysRestart d k now s → IsTold s.status s.text.items before.output after.output status → IsLate
+  restart_late d k now s (inl all) out = said_late s.status status before.output after.output s.text.items out (ap is_refused_beforehand all.0)
+  restart_late d k now s (inr part) out = said_late s.status status before.output after.output s.text.items out (ap is_refused_beforehand part.2)
+
+  restart_due : (reply : Reply) → IsRestartDue gate before.files after.files reply → IsReplyTold reply before.output after.output status → Of Restart
+  restart_due (ended s) (d, k, now, made, says) out = restart_on d k now Settled made (λ well. refl) (restart_late d k now s says out)
+  restart_due (refused r) (inl (e, is, why)) out = not_opened (Some Restart) c h before after entry number status numbered known honest e r is why out
+  restart_due (refused r) (inr (d, k, now, inl (memory, made))) out =
+      restart_on d k now Settled made (λ well. refl) (cut_late status (told_cut r before.output after.output status (inr memory) out))
+  restart_due (refused r) (inr (d, k, now, inr (fault, made, rose))) out =
+      restart_on d k now Closed made (λ well. absurd (well (refused_fault before after r status fault rose out)))
+      (cut_late status (told_cut r before.output after.output status (inl fault) out))
+  restart_due (checked ps vs) due out = absurd due
+  restart_due created due out = absurd due
+  restart_due (shown d k) due out = absurd due
+  restart_due accepted due out = absurd due
+
+  -- Whatever words asked for one of them.
+  pub went_by : (o : Option Command) → goes_on o ≡ true → (reply : Reply) → IsDueTo o gate before.input after.input before.files after.files reply
+      → IsReplyTold reply before.output after.output status → Went o c h before after entry number status numbered known honest
+  went_by (Some Run) goes reply due out = run_due reply due out
+  went_by (Some Session) goes reply due out = session_due reply due out
+  went_by (Some Restart) goes reply due out = restart_due reply due out
+  went_by (Some Check) goes reply due out = absurd cc
+  went_by (Some Init) goes reply due out = absurd cc
+  went_by (Some Show) goes reply due out = absurd cc
+  went_by (Some Verify) goes reply due out = absurd cc
+  went_by None goes reply due out = absurd cc

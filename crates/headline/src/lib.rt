@@ -1,0 +1,26 @@
+//! The headline: what a stop within `run`, `session` or `restart` leaves is restored by `restart`.
+//!
+//! `specs/Headline` quotes the sentence and says what each part of it is: what a stopped call leaves behind, on what premises a
+//! restart follows it, and what the restart makes of that. `stops_are_restored` proves it of any calls that were answered as
+//! `process_top` says, over any sources, sinks, racks, boxes and gates. Nothing here runs.
+#![tactic(auto)]
+
+ghost use Rattle.headline.specs.Headline.{Headline, StopsAreRestored};
+
+use history_opening::sound_files_are_opened;
+use process_disk::Rack;
+use process_engine::Gate;
+use process_flow::{Sink, Source};
+use resource_box::Resource;
+use subsystem_store::books_are_read_back;
+
+/// Whatever a call of `run`, `session` or `restart` did and wherever it is stopped, `restart` reads a beginning of its history
+/// with all that was acknowledged, completes it and prints it. Where it ends, and the rack failed no call, the next call finds the
+/// files of its history.
+pub fn stops_are_restored<S: Source, K: Sink, R: Rack + Drop, B: Resource, G: Gate>()
+    ensures stops { StopsAreRestored S.Source K.Sink R.Rack B.Resource G.Gate }
+    ensures headline { Headline S.Source K.Sink R.Rack B.Resource G.Gate }
+{
+    sound_files_are_opened();
+    books_are_read_back();
+}

@@ -1,0 +1,4 @@
+pub mod Asked
+pub mod OneWord
+pub mod Made
+pub mod Restarted

@@ -1,0 +1,74 @@
+// Calls of the program over objects in memory.
+ghost use Rattle.std.specs.Prelude.{◌≡◌, ◌∷◌, [], IfOk, length, map, string_bytes};
+ghost use Rattle.headline_tests.specs.Example.{IsCall};
+
+use process_disk::{MemoryRack, Rack};
+use process_engine::Gate;
+use process_flow::{MemorySink, MemorySource, Sink, Source};
+use process_program::{OwnBox, new_boxes};
+use process_top::{Finished, answer};
+use resource_box::Resource;
+use std::alloc::{AllocError, Global};
+use worker_gate::ScriptGate;
+
+/// What is answered.
+#[derive(Drop)]
+pub struct Told {
+    pub status: u8,
+    pub sink: MemorySink,
+    pub rack: MemoryRack,
+}
+
+// Sixteen gates that refuse nothing.
+fn willing_gates(alloc: Global) -> Result<Vec<ScriptGate>, AllocError>
+    ensures { IfOk result (λ gates. length gates.items ≡ 16) }
+{
+    let mut gates = Vec::new(alloc);
+    for _ in 0..16_usize {
+        gates.push(ScriptGate::new(Vec::new(alloc)))?;
+    }
+    Ok(gates)
+}
+
+fn one_word(alloc: Global, word: &str) -> Result<Vec<String>, AllocError>
+    ensures { IfOk result (λ words. map string_bytes words.items ≡ word.now ∷ []) }
+{
+    let mut words = Vec::new(alloc);
+    words.push(String::from_str(alloc, word)?)?;
+    Ok(words)
+}
+
+/// What is answered on one word and an input over a rack, with new boxes, and gates that refuse nothing.
+pub fn answered(
+    alloc: Global,
+    word: &str,
+    text: &[u8],
+    rack: MemoryRack,
+) -> Result<Told, AllocError>
+    ensures { IfOk result (λ t. IsCall ⟦<MemorySource as Source>⟧ ⟦<MemorySink as Sink>⟧ ⟦<MemoryRack as Rack>⟧
+        ⟦<OwnBox as Resource>⟧ ⟦<ScriptGate as Gate>⟧ word.now rack t.status t.sink t.rack) }
+{
+    let words = one_word(alloc, word)?;
+    let resources = new_boxes(alloc)?;
+    let gates = willing_gates(alloc)?;
+    let mut source = MemorySource::new(text.to_vec(alloc)?, Vec::new(alloc));
+    let mut sink = MemorySink::new(alloc, Vec::new(alloc));
+    let finished = answer(
+        alloc,
+        &words,
+        &mut source,
+        &mut sink,
+        rack,
+        resources,
+        gates,
+    );
+    let Finished {
+        status,
+        rack,
+        resources,
+        gates,
+    } = finished;
+    drop(resources);
+    drop(gates);
+    Ok(Told { status, sink, rack })
+}

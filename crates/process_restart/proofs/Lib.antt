@@ -1,0 +1,12 @@
+pub mod NextProcess
+pub mod Replies
+pub mod Begun
+pub mod Completed
+pub mod Asked
+pub mod InTurn
+pub mod Turns
+pub mod UnderWay
+pub mod EndedPieces
+pub mod Worked
+pub mod TurnByTurn
+pub mod RestartedFiles

@@ -1,0 +1,111 @@
+-- What became of files that were opened on their history, which was then completed as far as it went.
+use Rattle.std.proofs.Common.{◌≡◌, ◌∙◌, ◌≤◌, ℕ, List, [], refl, subst, sym, arith}
+use Rattle.process_flow.specs.Causes.{Rose}
+use Rattle.process_disk.specs.declared.rack.Rack.{Ghosts as Racks}
+use Rattle.process_disk.specs.Disk.{Disk, FileSet, IsHonest, Told}
+use Rattle.process_disk.specs.Images.{EachImage}
+use Rattle.process_disk.proofs.Images.{still_told}
+use Rattle.resource_box.specs.declared.call.Kind.{Kind}
+use Rattle.resource_box.specs.Meaning.{Pairs}
+use Rattle.schedule_model.specs.declared.history.History.{History}
+use Rattle.commute_table.specs.declared.catalog.Catalog.{Catalog}
+use Rattle.process_core.specs.Cores.{CoreState, IsCore}
+use Rattle.history_opening.specs.declared.faults.OpenError.{OpenError}
+use Rattle.history_opening.specs.declared.faults.OpenError.TheVariants as errors
+use Rattle.history_opening.specs.Images.{BecomesSound}
+use Rattle.history_files.specs.Sound.{IsSound}
+use Rattle.engine_steps.specs.Engines.{AreExactly, EngineState, full_history}
+use Rattle.engine_steps.specs.declared.engines.Phase.{Phase}
+use Rattle.engine_steps.specs.declared.engines.Phase.TheVariants.{Settled, Closed}
+use Rattle.engine_runs.specs.Acknowledged.{IsOneAhead}
+use Rattle.engine_runs.specs.GateAnswers.{AskedGate}
+use Rattle.engine_runs.specs.Opened.{AreKept}
+use Rattle.engine_runs.specs.Runs.{GoesOn}
+use Rattle.engine_runs.proofs.Acknowledged.{in_turn_so}
+use Rattle.engine_runs.proofs.Opened.{are_kept}
+use Rattle.process_restart.specs.Completing.{IsCompleting, IsNextOfCompletion, IsNextUnderWay, IsOutcome}
+use Rattle.process_restart.specs.Restarting.{AreCleared, IsLater, IsRestart}
+use Rattle.process_restart.specs.declared.completing.Completion.{Completion}
+use Rattle.process_restart.specs.declared.completing.Completion.TheVariants.{Ended, Exhausted, DiskFault, NoMemory}
+
+settled_or_closed : (on : Phase) → on ≡ Settled → on ≡ Closed → ⊥
+settled_or_closed on settled closed = absurd cc
+
+-- a completion leaves an engine closed where a call of the rack failed, and only there
+closed_by : (h : History) (now : CoreState) (on : Phase) (r : Completion) → IsOutcome h now on r → on ≡ Closed → r ≡ DiskFault
+closed_by h now on Ended is closed = absurd (settled_or_closed on is.0 closed)
+closed_by h now on (Exhausted process step) is closed = absurd (settled_or_closed on is.0 closed)
+closed_by h now on DiskFault is closed = refl
+closed_by h now on NoMemory is closed = absurd (settled_or_closed on is closed)
+
+module _ {R B : Type 0} (r : Racks R) (honest : (rack : R) → Told (r.disk rack) → IsHonest (r.disk rack)) (entry : R) (opening now : EngineState R B) (core : IsCore opening.core)
+    (tells : (r.disk opening.files.rack).tells ≡ (r.disk entry).tells)
+    (was_sound : Told (r.disk entry) → IsSound opening.catalog (full_history opening.core) (r.disk entry).files)
+    (became : Told (r.disk entry) → BecomesSound opening.catalog (full_history opening.core) (r.disk entry) (r.disk opening.files.rack))
+    (is_sound : Told (r.disk entry) → EachImage (r.disk opening.files.rack) (r.disk opening.files.rack).moment (IsSound opening.catalog (full_history opening.core)))
+    (goes : GoesOn r.disk r.faults [] opening now) (gate : AskedGate) (completing : IsCompleting gate opening.catalog (full_history opening.core) now.core)
+    (completion : Completion) (outcome : IsOutcome (full_history opening.core) now.core now.phase completion)
+    (under_way : completion ≡ DiskFault → IsNextUnderWay (full_history opening.core) now.core)
+    (read : now.phase ≡ Settled → Told (r.disk now.files.rack) → IsSound now.catalog (full_history now.core) (r.disk now.files.rack).files)
+    (each : now.phase ≡ Settled → Told (r.disk now.files.rack) → EachImage (r.disk now.files.rack) (r.disk now.files.rack).moment (IsSound now.catalog (full_history now.core)))
+    (exactly : now.phase ≡ Settled → Told (r.disk now.files.rack) → AreExactly now.catalog (full_history now.core) (r.disk now.files.rack).files)
+    (exactly_each : now.phase ≡ Settled → Told (r.disk now.files.rack) → EachImage (r.disk now.files.rack) (r.disk now.files.rack).moment (AreExactly now.catalog (full_history now.core))) where
+  abbrev c : Catalog
+  c = opening.catalog
+
+  abbrev h : History
+  h = full_history opening.core
+
+  abbrev after : Disk
+  after = r.disk now.files.rack
+
+  told_now : Told (r.disk entry) → Told after
+  told_now told = still_told (r.disk entry) after (goes.tells ∙ tells) told
+
+  -- what is ahead is the next of the completion
+  next_ahead : (files : FileSet) → IsOneAhead c [] now.core now.phase files → IsNextOfCompletion c h now.core now.phase files
+  next_ahead files ahead = (ahead.0, (ahead.1.0, under_way (closed_by h now.core now.phase completion outcome ahead.0) ahead.1.0 ahead.1.1, ahead.1.2))
+
+  one_ahead : AreKept c h now.core (IsOneAhead c [] now.core now.phase) now.phase (r.disk entry) after
+  one_ahead = are_kept [] r honest entry opening now core.session.one_each tells was_sound became is_sound goes read each
+
+  kept : AreKept c h now.core (IsNextOfCompletion c h now.core now.phase) now.phase (r.disk entry) after
+  kept = record {
+    came = one_ahead.came;
+    events = one_ahead.events;
+    started = one_ahead.started;
+    plans = one_ahead.plans;
+    sound = one_ahead.sound;
+    in_turn = λ told. (let from = one_ahead.in_turn told in record {
+      moment = from.moment;
+      begun = from.begun;
+      by_now = from.by_now;
+      before = from.before;
+      since = in_turn_so c (full_history now.core) (IsOneAhead c [] now.core now.phase) (IsNextOfCompletion c h now.core now.phase) after next_ahead one_ahead.came h.events from.moment from.since;
+    });
+    read = one_ahead.read;
+    each = one_ahead.each;
+  }
+
+  is_restart : IsRestart gate c h now.core now.phase (r.disk entry) after
+  is_restart = record {
+    completing = completing;
+    kept = kept;
+    read = λ on told. subst (λ d. AreExactly d (full_history now.core) after.files) goes.catalog (exactly on (told_now told));
+    each = λ on told. subst (λ d. EachImage after after.moment (AreExactly d (full_history now.core))) goes.catalog (exactly_each on (told_now told));
+  }
+
+  -- It is a restart on the files.
+  pub restart_is : (on : Phase) → now.phase ≡ on → IsRestart gate now.catalog h now.core on (r.disk entry) after
+  restart_is on is = subst (λ p. IsRestart gate now.catalog h now.core p (r.disk entry) after) is (subst (λ d. IsRestart gate d h now.core now.phase (r.disk entry) after) (sym goes.catalog) is_restart)
+
+-- What a rack came to by an opening and what followed.
+pub later_then : {R : Type 0} (disk : R → Disk) (faults : R → ℕ) (entry opened now : R) → (disk opened).tells ≡ (disk entry).tells → faults entry ≤ faults opened → (disk now).tells ≡ (disk opened).tells → faults opened ≤ faults now
+    → IsLater disk faults entry now
+later_then disk faults entry opened now tells later tells_on later_on = record { tells = tells_on ∙ tells; later = omega (arith, later, later_on) }
+
+-- So it is of a rack that is handed back with its boxes empty.
+pub handed_back : {R B : Type 0} (disk : R → Disk) (faults : R → ℕ) (meaning : B → Pairs) (sort : B → Kind) (entry now back : R) (boxes : List B) (why : OpenError) → back ≡ now → IsLater disk faults entry now
+    → AreCleared meaning sort boxes → (why ≡ errors.DiskFault → Rose (faults entry) (faults now)) → IsLater disk faults entry back × AreCleared meaning sort boxes × (why ≡ errors.DiskFault → Rose (faults entry) (faults back))
+handed_back disk faults meaning sort entry now back boxes why same later cleared rose =
+    subst (λ rack. IsLater disk faults entry rack × AreCleared meaning sort boxes × (why ≡ errors.DiskFault → Rose (faults entry) (faults rack))) (sym same) (later, cleared, rose)

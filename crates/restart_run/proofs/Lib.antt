@@ -1,0 +1,4 @@
+pub mod NobodyBegins
+pub mod RestartCauses
+pub mod BoxValues
+pub mod RestartSaid

@@ -1,0 +1,2 @@
+mod SameTexts
+pub mod SameHistories
