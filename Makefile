@@ -1,6 +1,6 @@
-# `make` proves and builds the program; `make demo` runs it on the examples; `make test` is what CI runs; `make install` puts the program
-# and its manual page under PREFIX.
-.PHONY: build demo test edits bench install
+# `make` proves and builds the program; `make demo` runs it on the examples; `make shop` runs a shop beside it; `make test` is what CI runs;
+# `make install` puts the program and its manual page under PREFIX.
+.PHONY: build demo shop test edits bench install
 
 PREFIX ?= /usr/local
 
@@ -9,6 +9,10 @@ build:
 
 demo:
 	./demo
+
+# Sixty orders over fresh files; after each 25 the shop goes on in other files.
+shop:
+	@folder=$$(mktemp -d) && trap 'rm -rf "$$folder"' EXIT && examples/shop/shop.py "$$folder" --orders 60 --orders-in-files 25
 
 test:
 	./gate
@@ -37,3 +41,4 @@ bench:
 	awk -f bench/worst_text.awk > bench/worst.process
 	time ./tps check < bench/worst.process > /dev/null
 	bench/restart
+	bench/serve

@@ -1,5 +1,6 @@
 pub mod Early
 pub mod Inputs
+pub mod Outputs
 pub mod FilesLeft
 pub mod Scenarios
 pub mod ScenarioExamples

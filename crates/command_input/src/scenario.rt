@@ -134,8 +134,8 @@ fn plans_of(alloc: Global, processes: Vec<Named>, c: &Catalog) -> Result<Vec<Pla
     Ok(plans)
 }
 
-// The plans of the processes of a text, or the verdict line of the first that is not well-formed.
-fn good_plans(alloc: Global, text: &[u8], c: &Catalog) -> Result<Vec<Plan>, NoPlans>
+/// The plans of the processes of a text, or the verdict line of the first that is not well-formed.
+pub fn good_plans(alloc: Global, text: &[u8], c: &Catalog) -> Result<Vec<Plan>, NoPlans>
     requires { IsCatalog c.now }
     ensures plans { IfOk result (λ plans. AreGoodPlans c.now.ops text.now plans.items) }
     ensures refused { IfErr result (λ r. AreNoGoodPlans c.now.ops text.now r) }

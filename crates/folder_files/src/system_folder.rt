@@ -64,6 +64,10 @@ impl Opened {
 /// The files `tps.0` to `tps.8` of the current folder, of whose contents it tells nothing. Each call is a call of the system,
 /// behind the opening of the file where that is due: for reading at the first look, and for writing at the first write, where
 /// an absent file is made. The folder is taken by the advisory lock on file 0, which is given up when this is dropped.
+///
+/// Where the caller closed a standard stream, the system would give its number to the next file, and what is printed would go
+/// into that file. So a folder first opens the root three times, for reading, and keeps it: a closed stream stays one that
+/// can't be read or written.
 #[derive(Drop)]
 pub struct SystemFolder<F: Files<File = File> + Drop> {
     pub rt: F,
@@ -73,6 +77,7 @@ pub struct SystemFolder<F: Files<File = File> + Drop> {
     /// How many syncs were finished: of each file, and of the names.
     pub syncs: [u64; 10],
     pub faults: u64,
+    streams: [Option<File>; 3],
 }
 
 impl<F: Files<File = File> + Drop> SystemFolder<F> {
@@ -81,6 +86,7 @@ impl<F: Files<File = File> + Drop> SystemFolder<F> {
         ensures taken { result.taken ≡ false }
         ensures faults { result.faults ≡ 0 }
     {
+        let streams = [held(&rt), held(&rt), held(&rt)];
         SystemFolder {
             rt,
             files: [None, None, None, None, None, None, None, None, None],
@@ -88,6 +94,7 @@ impl<F: Files<File = File> + Drop> SystemFolder<F> {
             taken: false,
             syncs: [0; 10],
             faults: 0,
+            streams,
         }
     }
 
@@ -220,6 +227,11 @@ impl<F: Files<File = File> + Drop> Folder for SystemFolder<F> {
         count(&mut self.syncs, FOLDER);
         Ok(())
     }
+}
+
+// Something that takes the number of a standard stream which is closed.
+fn held<F: Files<File = File>>(rt: &F) -> Option<File> {
+    File::open(rt, "/").ok()
 }
 
 // The file, opened for reading where no call opened it before; none where it is absent.

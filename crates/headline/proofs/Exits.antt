@@ -46,6 +46,11 @@ pub said_late : (s at : Status) (before after : Output) (text : _) → IsTold s 
 said_late s at before after text (inl out) late early = absurd (let t : is_refused_beforehand at ≡ false = ap is_refused_beforehand out.0 ∙ late in cc)
 said_late s at before after text (inr failed) late early = absurd (let t : is_refused_beforehand at ≡ false = ap is_refused_beforehand failed.0 in cc)
 
+-- Nor is another status than the one that was told.
+pub failed_late : (s at : Status) (before after : Output) (text : _) → IsTold s text before after at → is_refused_beforehand at ≡ true → ¬ at ≡ s → ⊥
+failed_late s at before after text (inl out) early other = other out.0
+failed_late s at before after text (inr failed) early other = absurd (let t : is_refused_beforehand at ≡ false = ap is_refused_beforehand failed.0 in cc)
+
 -- Where the rack failed a call, that is told, or the sink failed too.
 pub refused_fault : {S K R : Type 0} (before after : World S K R) (r : Refusal) (status : Status) → r ≡ refusals.DiskFault → Rose before.files.faults after.files.faults
     → IsRefusalTold r before.output after.output status → IsRackFault status before after

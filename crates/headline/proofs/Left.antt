@@ -11,7 +11,7 @@ use Rattle.history_files.specs.Sound.{IsSound}
 use Rattle.engine_steps.specs.Engines.{full_history}
 use Rattle.process_tree.specs.declared.plan.Plan.{Plan}
 use Rattle.program_words.specs.declared.reading.Command.{Command}
-use Rattle.program_words.specs.declared.reading.Command.TheVariants.{Check, Init, Run, Session, Restart, Show, Verify}
+use Rattle.program_words.specs.declared.reading.Command.TheVariants.{Check, Init, Run, Session, Serve, Restart, Show, Verify, Gen}
 use Rattle.command_input.specs.Inputs.{Input}
 use Rattle.process_top.specs.Worlds.{World}
 use Rattle.engine_runs.specs.Acknowledged.{ComeInTurn, IsUnderWay, acknowledged, events_of}
@@ -29,11 +29,13 @@ pub ahead_events : (o : Option Command) (before after : Input) (c : Catalog) (h 
     → (e : Event) × (k.events ≡ history_of now ++ e ∷ [])
 ahead_events (Some Run) before after c h now k ahead = under_way ahead.0 now k ahead.2
 ahead_events (Some Session) before after c h now k ahead = under_way ahead.0 now k ahead.3
+ahead_events (Some Serve) before after c h now k (plans, first, taken, read, spelled, ahead) = under_way (plans ++ spelled) now k ahead
 ahead_events (Some Restart) before after c h now k ahead = (ahead.event, ap (λ h. h.events) ahead.is)
 ahead_events (Some Check) before after c h now k ahead = absurd ahead
 ahead_events (Some Init) before after c h now k ahead = absurd ahead
 ahead_events (Some Show) before after c h now k ahead = absurd ahead
 ahead_events (Some Verify) before after c h now k ahead = absurd ahead
+ahead_events (Some (Gen number count)) before after c h now k ahead = absurd ahead
 ahead_events None before after c h now k ahead = absurd ahead
 
 -- Files that a stop left are sound for this history.

@@ -28,7 +28,7 @@ use Rattle.program_lines.specs.Statuses.{number_of, IsOneOf}
 use Rattle.command_input.specs.declared.said.Said.{Said}
 use Rattle.scenario_run.specs.Opening.{AreNotOpened, open_refusal}
 use Rattle.engine_runs.specs.GateAnswers.{AskedGate}
-use Rattle.process_top.specs.Replies.{Reply, checked, created, ended, shown, accepted, refused, IsReplyTold}
+use Rattle.process_top.specs.Replies.{Reply, checked, created, ended, served, shown, accepted, generated, refused, IsReplyTold}
 use Rattle.process_top.specs.Run.{first_gate}
 use Rattle.process_top.specs.Told.{IsTold}
 use Rattle.process_top.specs.Worlds.{BoxState, World}
@@ -199,8 +199,10 @@ module _ {S K R : Type 0} (c : Catalog) (h : History) (MayBeAhead : History → 
   by_reply (refused r) (inr cut) told = by_cut r cut told
   by_reply (checked ps vs) due told = absurd due
   by_reply created due told = absurd due
+  by_reply (served text at) due told = absurd due
   by_reply (shown d k) due told = absurd due
   by_reply accepted due told = absurd due
+  by_reply (generated text) due told = absurd due
 
   pub came_of : Came
   came_of = by_reply on.answered.reply

@@ -30,7 +30,7 @@ use Rattle.scenario_run.specs.Opening.{AreNotOpened, IsNotOpenedFor, open_refusa
 use Rattle.process_top.specs.Run.{first_gate}
 use Rattle.process_top.specs.Told.{IsRefusalTold}
 use Rattle.process_top.specs.Worlds.{World}
-use Rattle.headline.specs.Headline.{CameBy, IsAhead, IsAtEntry, IsRackFault, LeavesFiles, WentOn, is_refused_beforehand}
+use Rattle.headline.specs.Headline.{CameBy, IsAhead, FailsInDialogue, IsAtEntry, IsRackFault, LeavesFiles, WentOn, is_refused_beforehand}
 use Rattle.headline.proofs.Exits.{refused_fault}
 use Rattle.same_histories.proofs.SameHistories.{one_sound, same_itself}
 use Rattle.headline.proofs.GoodHistories.{whole_beginning}
@@ -43,16 +43,16 @@ none_came es (e ∷ came) is = absurd (let more : e.1 ∷ events_of came ≡ [] 
 module _ {S K R : Type 0} (o : Option Command) (c : Catalog) (h : History) (before after : World S K R) (entry : IsAtEntry c h before.files.disk)
     (number : ℕ) (status : Status) (numbered : number ≡ number_of status) (known : Told after.files.disk) (honest : IsHonest after.files.disk) where
   abbrev pub Went : Type 0
-  Went = (now : CoreState) × (came : List (ℕ × Event)) × WentOn o c h before after now came × LeavesFiles c before after number now came
+  Went = (now : CoreState) × (came : List (ℕ × Event)) × WentOn o c h before after now came × LeavesFiles o c before after number now came
 
   -- unless the rack failed, the files are sound for a history, and so is whatever a crash leaves from now on
   abbrev pub Stay : Catalog → History → Type 0
   Stay d k = ¬ IsRackFault status before after → IsSound d k after.files.disk.files × EachImage after.files.disk after.files.disk.moment (IsSound d k)
 
   abbrev pub NoneBeforehand : List (ℕ × Event) → Type 0
-  NoneBeforehand came = is_refused_beforehand status ≡ true → came ≡ []
+  NoneBeforehand came = is_refused_beforehand status ≡ true → ¬ FailsInDialogue o status → came ≡ []
 
-  leaves : (now : CoreState) (came : List (ℕ × Event)) → NoneBeforehand came → Stay c (full_history now) → LeavesFiles c before after number now came
+  leaves : (now : CoreState) (came : List (ℕ × Event)) → NoneBeforehand came → Stay c (full_history now) → LeavesFiles o c before after number now came
   leaves now came none stay = record {
     status = status;
     numbered = numbered;
@@ -89,7 +89,7 @@ module _ {S K R : Type 0} (o : Option Command) (c : Catalog) (h : History) (befo
         };
       };
     },
-    leaves (opened_on c.conflicts k.plans k.events) [] (λ early. refl) stay,
+    leaves (opened_on c.conflicts k.plans k.events) [] (λ early reads. refl) stay,
   )
 
   pub untouched : AreUntouched before.files after.files → Went
@@ -155,4 +155,4 @@ module _ {S K R : Type 0} (o : Option Command) (c : Catalog) (h : History) (befo
   pub nothing : (d : Catalog) (k : History) → AreOnlyOpened d k before.files.disk after.files.disk → Went
   nothing d k are =
       kept d k (opened_on d.conflicts k.plans k.events) (λ files. ⊥) Settled are (core_of_history d k (are.sound told).history) (inl refl) (λ files none. absurd none)
-      (λ well. refl) (λ early. none_came k.events are.came are.events)
+      (λ well. refl) (λ early reads. none_came k.events are.came are.events)

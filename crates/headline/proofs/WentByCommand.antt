@@ -1,5 +1,5 @@
 -- What each command that goes on did to the files.
-use Rattle.std.proofs.Common.{◌≡◌, ◌⊎◌, ℕ, true, false, List, [], ◌++◌, Option, Some, None, Ok, Err, inl, inr, refl, ap, sym, append-nil}
+use Rattle.std.proofs.Common.{◌≡◌, ◌⊎◌, ◌∙◌, ℕ, true, false, List, [], ◌++◌, Option, Some, None, Ok, Err, inl, inr, refl, ap, subst, sym, append-nil}
 use Rattle.process_disk.specs.Disk.{IsHonest, Told}
 use Rattle.process_tree.specs.declared.plan.Plan.{Plan}
 use Rattle.schedule_model.specs.declared.history.History.{History}
@@ -14,25 +14,30 @@ use Rattle.program_lines.specs.Statuses.{number_of}
 use Rattle.program_lines.specs.declared.status.Status.{Status}
 use Rattle.program_lines.specs.declared.status.Status.TheVariants as statuses
 use Rattle.program_words.specs.declared.reading.Command.{Command}
-use Rattle.program_words.specs.declared.reading.Command.TheVariants.{Check, Init, Run, Session, Restart, Show, Verify}
+use Rattle.program_words.specs.declared.reading.Command.TheVariants.{Check, Init, Run, Session, Serve, Restart, Show, Verify, Gen}
 use Rattle.command_input.specs.declared.said.Said.{Said}
 use Rattle.scenario_run.specs.Run.{IsRun, IsRunOf, IsRunDue as IsRunFound, SaysRun}
 use Rattle.scenario_run.specs.Scenario.{IsScenarioRead}
 use Rattle.session_run.specs.Playthrough.{EndsAt}
 use Rattle.session_run.specs.Session.{IsPlayedOn, IsSession, IsSessionDue as IsSessionFound, IsSessionRead, phase_by}
+use Rattle.serve_run.specs.Dialogue.{EndsWith}
+use Rattle.serve_run.specs.Dialogue.{phase_by as dialogue_phase}
+use Rattle.serve_run.specs.Serve.{IsNotServed, IsNotServedOn, IsServeRead, IsServeTold, IsServed, IsSpoken}
+use Rattle.driver_answers.specs.Serving.{DriverState}
 use Rattle.process_restart.specs.Completing.{IsNextOfCompletion}
 use Rattle.process_restart.specs.Restarting.{IsRestart}
 use Rattle.restart_run.specs.Restart.{SaysRestart}
 use Rattle.process_top.specs.Commands.{IsDueTo}
-use Rattle.process_top.specs.Replies.{Reply, checked, created, ended, shown, accepted, refused, IsReplyTold}
+use Rattle.process_top.specs.Replies.{Reply, checked, created, ended, served, shown, accepted, generated, refused, IsReplyTold}
 use Rattle.process_top.specs.Restart.{IsRestartDue}
 use Rattle.process_top.specs.Run.{IsRunDue, first_gate}
 use Rattle.process_top.specs.Said.{IsResultTold}
+use Rattle.process_top.specs.Serve.{IsServeDue}
 use Rattle.process_top.specs.Session.{IsSessionDue}
 use Rattle.process_top.specs.Told.{IsTold}
 use Rattle.process_top.specs.Worlds.{World}
-use Rattle.headline.specs.Headline.{IsAtEntry, IsRackFault, goes_on, is_refused_beforehand}
-use Rattle.headline.proofs.Exits.{cut_late, refused_fault, said_fault, said_late, told_cut}
+use Rattle.headline.specs.Headline.{FailsInDialogue, IsAtEntry, IsRackFault, goes_on, is_refused_beforehand}
+use Rattle.headline.proofs.Exits.{cut_late, failed_late, refused_fault, said_fault, said_late, told_cut}
 use Rattle.headline.proofs.Went.{Went, kept, nothing, not_opened, not_opened_for, untouched}
 
 module _ {S K R : Type 0} (c : Catalog) (h : History) (before after : World S K R) (entry : IsAtEntry c h before.files.disk)
@@ -54,7 +59,7 @@ module _ {S K R : Type 0} (c : Catalog) (h : History) (before after : World S K 
       → IsRun gate d k plans started now on before.files after.files → Settles on → IsLate → Of Run
   run_on d plans read k started rest now on are run settles late =
       kept (Some Run) c h before after entry number status numbered known honest d k now (IsOneAhead d plans now on) on run.1 run.0.run.machine (inr (plans, started, rest, read, are, run.0))
-      (λ files ahead. (ahead.1.0, (plans, read, ahead.1.1), ahead.1.2)) settles (λ early. absurd (late early))
+      (λ files ahead. (ahead.1.0, (plans, read, ahead.1.1), ahead.1.2)) settles (λ early reads. absurd (late early))
 
   run_late : (d : Catalog) (now : CoreState) (s : Said) → SaysRun d now s → IsTold s.status s.text.items before.output after.output status → IsLate
   run_late d now s (inl all) out = said_late s.status status before.output after.output s.text.items out (ap is_refused_beforehand all.0)
@@ -80,8 +85,10 @@ module _ {S K R : Type 0} (c : Catalog) (h : History) (before after : World S K 
   run_due (refused r) due out = run_found (Err r) due out
   run_due (checked ps vs) due out = absurd due
   run_due created due out = absurd due
+  run_due (served text at) due out = absurd due
   run_due (shown d k) due out = absurd due
   run_due accepted due out = absurd due
+  run_due (generated text) due out = absurd due
 
   -- `session`,
   abbrev Ended : Status → Type 0
@@ -108,7 +115,7 @@ module _ {S K R : Type 0} (c : Catalog) (h : History) (before after : World S K 
   played_out d plans lines read s is out (late, ends) =
       kept (Some Session) c h before after entry number status numbered known honest d is.history is.now (IsOneAhead d plans is.now (phase_by s.status)) (phase_by s.status) is.kept is.machine
       (inr (plans, lines, s.text.items, s.status, read, is.idle, is.played)) (λ files ahead. (ahead.1.0, (plans, lines, read, ahead.1.1), ahead.1.2))
-      (settles ends) (λ early. absurd (said_late s.status status before.output after.output s.text.items out late early))
+      (settles ends) (λ early reads. absurd (said_late s.status status before.output after.output s.text.items out late early))
     where
       settles : Ended s.status → Settles (phase_by s.status)
       settles (inl on) well = on
@@ -130,14 +137,81 @@ module _ {S K R : Type 0} (c : Catalog) (h : History) (before after : World S K 
   session_due (refused r) due out = session_found (Err r) due out
   session_due (checked ps vs) due out = absurd due
   session_due created due out = absurd due
+  session_due (served text at) due out = absurd due
   session_due (shown d k) due out = absurd due
   session_due accepted due out = absurd due
+  session_due (generated text) due out = absurd due
+
+  -- `serve`,
+  abbrev IsAnEnd : Status → Type 0
+  IsAnEnd s = ((is_refused_beforehand s ≡ false) ⊎ (s ≡ statuses.ReadFault)) × ((dialogue_phase s ≡ Settled) ⊎ (s ≡ statuses.DiskFault))
+
+  dialogue_ends : (d : Catalog) (plans : List Plan) (last : DriverState) (n : ℕ) (tail : List ℕ) (now : CoreState) (s : Status) → EndsWith d plans last n tail now s → IsAnEnd s
+  dialogue_ends d plans last n tail now statuses.Done ends = (inl refl, inl refl)
+  dialogue_ends d plans last n tail now statuses.BadWords ends = absurd ends
+  dialogue_ends d plans last n tail now statuses.BadInput ends = absurd ends
+  dialogue_ends d plans last n tail now statuses.IllFormed ends = absurd ends
+  dialogue_ends d plans last n tail now statuses.Limit ends = absurd ends
+  dialogue_ends d plans last n tail now statuses.Unfinished ends = absurd ends
+  dialogue_ends d plans last n tail now statuses.BadFile ends = absurd ends
+  dialogue_ends d plans last n tail now statuses.BookDiffers ends = absurd ends
+  dialogue_ends d plans last n tail now statuses.ReadFault ends = (inr refl, inl refl)
+  dialogue_ends d plans last n tail now statuses.WriteFault ends = (inl refl, inl refl)
+  dialogue_ends d plans last n tail now statuses.DiskFault ends = (inl refl, inr refl)
+  dialogue_ends d plans last n tail now statuses.Exhausted ends = absurd ends
+  dialogue_ends d plans last n tail now statuses.NotReduced ends = absurd ends
+  dialogue_ends d plans last n tail now statuses.NoMemory ends = (inl refl, inl refl)
+
+  spoken_ends : (d : Catalog) (plans : List Plan) (k : History) (first : ℕ) (now : CoreState) (taken : List ℕ) (rest : Option (List ℕ)) (answers : List ℕ) (s : Status)
+      → IsSpoken d plans k first now taken rest answers s → IsAnEnd s
+  spoken_ends d plans k first now taken rest answers s (inl held) = dialogue_ends d plans held.last held.reached held.tail now s held.ends
+  spoken_ends d plans k first now taken rest answers s (inr (none, failed, same)) = subst IsAnEnd (sym failed) (inl refl, inl refl)
+
+  served_on : (d : Catalog) (plans : List Plan) (first : ℕ) (taken : List ℕ) → IsServeRead before.input after.input d plans first taken → (text : List ℕ) (s : Status)
+      → IsServed d plans first taken before.input after.input before.files after.files text s → IsTold s text before.output after.output status → IsAnEnd s → Of Serve
+  served_on d plans first taken read text s is out (late, ends) =
+      kept (Some Serve) c h before after entry number status numbered known honest d is.history is.now (IsOneAhead d (plans ++ is.spelled) is.now (dialogue_phase s)) (dialogue_phase s) is.kept is.machine
+      (inr (plans, first, taken, is.answers, s, read, is.spoken)) (λ files ahead. (ahead.1.0, (plans, first, taken, read, is.spelled, ahead.1.1), ahead.1.2))
+      (settles ends) (λ early reads. absurd (beforehand late early reads))
+    where
+      settles : (dialogue_phase s ≡ Settled) ⊎ (s ≡ statuses.DiskFault) → Settles (dialogue_phase s)
+      settles (inl on) well = on
+      settles (inr fault) well = absurd (well (said_fault before after s status text fault (is.disk fault) out))
+
+      beforehand : (is_refused_beforehand s ≡ false) ⊎ (s ≡ statuses.ReadFault) → is_refused_beforehand status ≡ true → ¬ FailsInDialogue (Some Serve) status → ⊥
+      beforehand (inl late) early reads = said_late s status before.output after.output text out late early
+      beforehand (inr fault) early reads = failed_late s status before.output after.output text out early (λ same. reads (refl, same ∙ fault))
+
+  served_due : (text : List ℕ) (s : Status) → IsServeTold before.input after.input before.files after.files text s → IsTold s text before.output after.output status → Of Serve
+  served_due text s (d, plans, first, taken, read, is) out =
+      served_on d plans first taken read text s is out (spoken_ends d plans is.history first is.now taken after.input.left is.answers s is.spoken)
+
+  not_served_on : (d : Catalog) (found : _) → IsNotServedOn d before.files after.files found → IsResultTold found before.output after.output status → Of Serve
+  not_served_on d (Ok s) none out = absurd none
+  not_served_on d (Err r) (inl (inl closed)) out = not_opened_for (Some Serve) c h before after entry number status numbered known honest d r (inl closed) out
+  not_served_on d (Err r) (inl (inr (own, k, opened, other))) out =
+      not_opened_for (Some Serve) c h before after entry number status numbered known honest d r (inr (own, k, opened, inl other)) out
+  not_served_on d (Err r) (inr (memory, (k, are))) out = nothing (Some Serve) c h before after entry number status numbered known honest d k are
+
+  not_served : (found : _) → IsNotServed before.input after.input before.files after.files found → IsResultTold found before.output after.output status → Of Serve
+  not_served found (inl none) out = untouched (Some Serve) c h before after entry number status numbered known honest none.1
+  not_served found (inr (d, plans, first, taken, read, none)) out = not_served_on d found none out
+
+  serve_due : (reply : Reply) → IsServeDue before.input after.input before.files after.files reply → IsReplyTold reply before.output after.output status → Of Serve
+  serve_due (served text s) due out = served_due text s due out
+  serve_due (ended s) due out = not_served (Ok s) due out
+  serve_due (refused r) due out = not_served (Err r) due out
+  serve_due (checked ps vs) due out = absurd due
+  serve_due created due out = absurd due
+  serve_due (shown d k) due out = absurd due
+  serve_due accepted due out = absurd due
+  serve_due (generated text) due out = absurd due
 
   -- and `restart`.
   restart_on : (d : Catalog) (k : History) (now : CoreState) (on : Phase) → IsRestart gate d k now on before.files.disk after.files.disk → Settles on → IsLate → Of Restart
   restart_on d k now on made settles late =
       kept (Some Restart) c h before after entry number status numbered known honest d k now (IsNextOfCompletion d k now on) on made.kept made.completing.run.machine (inr made.completing)
-      (λ files ahead. (ahead.1.0, ahead.1.1, ahead.1.2)) settles (λ early. absurd (late early))
+      (λ files ahead. (ahead.1.0, ahead.1.1, ahead.1.2)) settles (λ early reads. absurd (late early))
 
   restart_late : (d : Catalog) (k : History) (now : CoreState) (s : Said) → SaysRestart d k now s → IsTold s.status s.text.items before.output after.output status → IsLate
   restart_late d k now s (inl all) out = said_late s.status status before.output after.output s.text.items out (ap is_refused_beforehand all.0)
@@ -153,17 +227,21 @@ module _ {S K R : Type 0} (c : Catalog) (h : History) (before after : World S K 
       (cut_late status (told_cut r before.output after.output status (inl fault) out))
   restart_due (checked ps vs) due out = absurd due
   restart_due created due out = absurd due
+  restart_due (served text at) due out = absurd due
   restart_due (shown d k) due out = absurd due
   restart_due accepted due out = absurd due
+  restart_due (generated text) due out = absurd due
 
   -- Whatever words asked for one of them.
   pub went_by : (o : Option Command) → goes_on o ≡ true → (reply : Reply) → IsDueTo o gate before.input after.input before.files after.files reply
       → IsReplyTold reply before.output after.output status → Went o c h before after entry number status numbered known honest
   went_by (Some Run) goes reply due out = run_due reply due out
   went_by (Some Session) goes reply due out = session_due reply due out
+  went_by (Some Serve) goes reply due out = serve_due reply due out
   went_by (Some Restart) goes reply due out = restart_due reply due out
   went_by (Some Check) goes reply due out = absurd cc
   went_by (Some Init) goes reply due out = absurd cc
   went_by (Some Show) goes reply due out = absurd cc
   went_by (Some Verify) goes reply due out = absurd cc
+  went_by (Some (Gen number count)) goes reply due out = absurd cc
   went_by None goes reply due out = absurd cc

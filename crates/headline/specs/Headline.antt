@@ -7,8 +7,8 @@
 --
 -- What its parts are in the definitions:
 --
--- - 'However .. interleave': the call that stops is one of `run`, `session` or `restart`, on any words, over any source, sink, rack, boxes
---   and gates. The machine came to where it is by what its gate answered or its lines said, whatever that was (`CameBy`).
+-- - 'However .. interleave': the call that stops is one of `run`, `session`, `serve` or `restart`, on any words, over any source, sink, rack,
+--   boxes and gates. The machine came to where it is by what its gate answered or its lines said, whatever that was (`CameBy`).
 -- - 'Wherever a stop falls': a moment of the call, between two device calls or within one, and any files that the device may have kept since
 --   then (`WereLeft`). The next call finds them, and nobody else wrote them (`IsRestartOn`).
 -- - 'A prefix of the history': the first events of the machine's history, or of that with the one event that was under way, with the plans of
@@ -55,7 +55,7 @@ use Rattle.program_lines.specs.declared.status.Status.TheVariants.{Done, BadWord
 use Rattle.program_lines.specs.Statuses.{IsOneOf, number_of}
 use Rattle.program_words.specs.Commands.{asked}
 use Rattle.program_words.specs.declared.reading.Command.{Command}
-use Rattle.program_words.specs.declared.reading.Command.TheVariants.{Run, Session, Restart}
+use Rattle.program_words.specs.declared.reading.Command.TheVariants.{Run, Session, Serve, Restart}
 use Rattle.command_input.specs.Inputs.{Input}
 use Rattle.scenario_run.specs.Reports.{exhausted_line}
 use Rattle.engine_runs.specs.GateAnswers.{AskedGate}
@@ -63,6 +63,7 @@ use Rattle.scenario_run.specs.Scenario.{IsScenarioRead}
 use Rattle.session_run.specs.Playthrough.{HasPlayed}
 use Rattle.session_run.specs.Session.{IsSessionRead}
 use Rattle.session_text.specs.declared.line.Line.{Line}
+use Rattle.serve_run.specs.Serve.{IsServeRead, IsSpoken}
 use Rattle.process_top.specs.Run.{first_gate}
 use Rattle.process_top.specs.Worlds.{BoxState, World, world}
 use Rattle.engine_runs.specs.Acknowledged.{ComeInTurn, IsUnderWay, acknowledged, events_of}
@@ -79,25 +80,32 @@ use Rattle.process_top.specs.Commands.{Answers, IsQuiet}
 abbrev pub goes_on : Option Command → Bool
 goes_on (Some Run) = true
 goes_on (Some Session) = true
+goes_on (Some Serve) = true
 goes_on (Some Restart) = true
 goes_on o = false
 
 -- The machine that opened on this history came to this one as the command says: by processes of the scenario, which started in its order, and
--- what the gate answers; by lines of the session; or by what completes the history.
+-- what the gate answers; by lines of the session; by lines of a driver, once whoever was active had begun to complete; or by what completes the
+-- history.
 abbrev pub CameBy : Option Command → AskedGate → Input → Input → Catalog → History → CoreState → Type 0
 CameBy (Some Run) gate before after c h now =
     (plans started rest : List Plan) × IsScenarioRead before after c plans × (plans ≡ started ++ rest) × HasGone gate c h started now
 CameBy (Some Session) gate before after c h now =
     (plans : List Plan) × (lines : List Line) × (text : List ℕ) × (status : Status)
     × IsSessionRead before after c plans lines × (active h.events ≡ []) × HasPlayed c plans (opened_on c.conflicts h.plans h.events) now lines text status
+CameBy (Some Serve) gate before after c h now =
+    (plans : List Plan) × (first : ℕ) × (taken answers : List ℕ) × (status : Status)
+    × IsServeRead before after c plans first taken × IsSpoken c plans h first now taken after.left answers status
 CameBy (Some Restart) gate before after c h now = IsCompleting gate c h now
 CameBy o gate before after c h now = ⊥
 
 -- The history of the machine with the event that may have been under way: of a piece that is out, of a start of the scenario's, or the next
--- of the completion.
+-- of the completion. In a dialogue it may be the start of another plan too, as a line may spell one out.
 abbrev pub IsAhead : Option Command → Input → Input → Catalog → History → CoreState → History → Type 0
 IsAhead (Some Run) before after c h now k = (plans : List Plan) × IsScenarioRead before after c plans × IsUnderWay plans now k
 IsAhead (Some Session) before after c h now k = (plans : List Plan) × (lines : List Line) × IsSessionRead before after c plans lines × IsUnderWay plans now k
+IsAhead (Some Serve) before after c h now k =
+    (plans : List Plan) × (first : ℕ) × (taken : List ℕ) × IsServeRead before after c plans first taken × (spelled : List Plan) × IsUnderWay (plans ++ spelled) now k
 IsAhead (Some Restart) before after c h now k = IsNextHistory h now k
 IsAhead o before after c h now k = ⊥
 
@@ -126,6 +134,10 @@ is_refused_beforehand BookDiffers = true
 is_refused_beforehand ReadFault = true
 is_refused_beforehand status = false
 
+-- the source failed a call of a dialogue
+abbrev pub FailsInDialogue : Option Command → Status → Type 0
+FailsInDialogue o status = (o ≡ Some Serve) × (status ≡ ReadFault)
+
 -- the rack failed a call and the status says so, or the sink failed beside it and the status is that of the sink
 abbrev pub IsRackFault : {S K R : Type 0} → Status → World S K R → World S K R → Type 0
 IsRackFault status before after = (status ≡ DiskFault) ⊎ ((status ≡ WriteFault) × Rose before.files.faults after.files.faults)
@@ -145,11 +157,11 @@ pub record IsAtEntry (c : Catalog) (h : History) (disk : Disk) : Type 0 where
   pub images : (files : FileSet) → disk.may_leave files → IsSound c h files
 
 -- What a call that ended leaves, of which this came.
-pub record LeavesFiles {S K R : Type 0} (c : Catalog) (before after : World S K R) (number : ℕ) (now : CoreState) (came : List (ℕ × Event)) : Type 0 where
+pub record LeavesFiles {S K R : Type 0} (o : Option Command) (c : Catalog) (before after : World S K R) (number : ℕ) (now : CoreState) (came : List (ℕ × Event)) : Type 0 where
   pub status : Status
   pub numbered : number ≡ number_of status
-  -- what was refused beforehand did nothing
-  pub nothing : is_refused_beforehand status ≡ true → came ≡ []
+  -- what was refused beforehand did nothing; but in a dialogue the source may fail at any line
+  pub nothing : is_refused_beforehand status ≡ true → ¬ FailsInDialogue o status → came ≡ []
   -- unless the rack failed, the files are sound for the history that the machine has come to, and so is whatever a crash leaves of them from
   -- now on: the next call finds them so
   pub kept : ¬ IsRackFault status before after → EachImage after.files.disk after.files.disk.moment (IsSound c (full_history now))
@@ -273,14 +285,14 @@ module _ {S K R B G : Type 0} (sources : Sources S) (sinks : Sinks K) (racks : R
       × (number ≡ number_of Done → IsCompleted c read (seen again) (seen last))
       × (number ≡ number_of Exhausted → IsHeldUp c read (seen again) (seen last))
 
-  -- Whatever a call of `run`, of `session` or of `restart` did, and wherever a stop falls in it: what it left is restored. And where it ends,
+  -- Whatever a call of `run`, of `session`, of `serve` or of `restart` did, and wherever a stop falls in it: what it left is restored. And where it ends,
   -- the next call finds the files of its history.
   abbrev pub StopsAreRestored : Type 0
   StopsAreRestored =
       (words : List (List ℕ)) (before after : Outside S K R B G) (number : ℕ) (c : Catalog) (h : History)
       → goes_on (asked words) ≡ true → Answers words (seen before) (seen after) number → IsAtEntry c h (seen before).files.disk
       → (now : CoreState) × (came : List (ℕ × Event)) × (went : WentOn (asked words) c h (seen before) (seen after) now came)
-      × LeavesFiles c (seen before) (seen after) number now came
+      × LeavesFiles (asked words) c (seen before) (seen after) number now came
       × OfEachRestart words c h before after now came went.opened
 
   -- The premises on a stop and on the restart after it.

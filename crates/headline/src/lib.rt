@@ -1,4 +1,4 @@
-//! The headline: what a stop within `run`, `session` or `restart` leaves is restored by `restart`.
+//! The headline: what a stop within `run`, `session`, `serve` or `restart` leaves is restored by `restart`.
 //!
 //! `specs/Headline` quotes the sentence and says what each part of it is: what a stopped call leaves behind, on what premises a
 //! restart follows it, and what the restart makes of that. `stops_are_restored` proves it of any calls that were answered as
@@ -14,7 +14,7 @@ use process_flow::{Sink, Source};
 use resource_box::Resource;
 use subsystem_store::books_are_read_back;
 
-/// Whatever a call of `run`, `session` or `restart` did and wherever it is stopped, `restart` reads a beginning of its history
+/// Whatever a call of `run`, `session`, `serve` or `restart` did and wherever it is stopped, `restart` reads a beginning of its history
 /// with all that was acknowledged, completes it and prints it. Where it ends, and the rack failed no call, the next call finds the
 /// files of its history.
 pub fn stops_are_restored<S: Source, K: Sink, R: Rack + Drop, B: Resource, G: Gate>()

@@ -14,6 +14,10 @@ fn words_of(alloc: Global, line: &str) -> Result<Vec<String>, AllocError> {
     Ok(words)
 }
 
+fn generated(number: u64, count: u32) -> Command {
+    Command::Gen { number, count }
+}
+
 #[test]
 fn words_are_read_as_commands(rt: HostRuntime) -> Result<(), Fail> {
     let alloc = rt.alloc();
@@ -22,6 +26,7 @@ fn words_are_read_as_commands(rt: HostRuntime) -> Result<(), Fail> {
         ("init", Ok(Command::Init)),
         ("run", Ok(Command::Run)),
         ("session", Ok(Command::Session)),
+        ("serve", Ok(Command::Serve)),
         ("show", Ok(Command::Show)),
         ("verify", Ok(Command::Verify)),
         ("check --", Ok(Command::Check)),
@@ -34,10 +39,18 @@ fn words_are_read_as_commands(rt: HostRuntime) -> Result<(), Fail> {
         ("show -V", Err(WordsError::BadWords)),
         ("init init", Err(WordsError::BadWords)),
         ("session 4", Err(WordsError::BadWords)),
+        ("serve 4", Err(WordsError::BadWords)),
         ("run 4", Err(WordsError::BadWords)),
         ("run --workers 4", Err(WordsError::BadWords)),
         ("run -- 4", Err(WordsError::BadWords)),
-        ("gen 1 1", Err(WordsError::BadWords)),
+        ("gen 1 1", Ok(generated(1, 1))),
+        ("gen 0 256", Ok(generated(0, 256))),
+        ("gen -- 7 08", Ok(generated(7, 8))),
+        ("gen", Err(WordsError::BadWords)),
+        ("gen 1", Err(WordsError::BadWords)),
+        ("gen 0 0", Err(WordsError::BadWords)),
+        ("gen 1 257", Err(WordsError::BadWords)),
+        ("gen 1 1 1", Err(WordsError::BadWords)),
         ("help", Err(WordsError::BadWords)),
         ("--help", Err(WordsError::BadWords)),
         ("-- check", Err(WordsError::BadWords)),

@@ -1,9 +1,18 @@
 //! The program: its words, standard input, standard output and the files of the current folder.
 #![tactic(auto)]
 
+use file_rack::SystemFolder;
 use process_program::program_of_system;
+use std::env;
 use std::process::ExitCode;
 
 fn main(rt: HostRuntime) -> ExitCode {
-    program_of_system(&rt, rt.stdin(), rt.stdout())
+    program_of_system(
+        &rt,
+        rt.alloc(),
+        env::args(&rt),
+        rt.stdin(),
+        rt.stdout(),
+        SystemFolder::new(&rt),
+    )
 }

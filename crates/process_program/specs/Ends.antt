@@ -1,35 +1,38 @@
 -- How a call of the program ends.
-use Rattle.std.specs.Prelude.{◌≡◌, ◌⊎◌, ℕ, List}
+use Rattle.std.specs.Prelude.{◌≡◌, ◌⊎◌, ℕ, Bool, not, List}
 use Rattle.process_flow.specs.declared.source.Source.{Ghosts as Sources}
 use Rattle.process_flow.specs.declared.sink.Sink.{Ghosts as Sinks}
-use Rattle.folder_files.specs.declared.folder.Folder.{Ghosts as Folders}
+use Rattle.process_disk.specs.declared.rack.Rack.{Ghosts as Racks}
+use Rattle.command_input.specs.FilesLeft.{files}
 use Rattle.program_lines.specs.Statuses.{number_of}
 use Rattle.program_lines.specs.declared.status.Status.TheVariants.{NoMemory}
 use Rattle.process_top.specs.Worlds.{World, input, output}
-use Rattle.process_top.specs.Commands.{Answers}
+use Rattle.process_top.specs.Commands.{Answers, first_is_show}
 use Rattle.process_program.specs.Own.{Own, new_own}
 
--- the world of a source, a sink and a folder, over which so many calls of a rack have failed, with boxes and gates of the call's own
-abbrev pub world_over : {S K D : Type 0} → Sources S → Sinks K → Folders D → S → K → D → ℕ → Own → World S K D
-world_over s k d source sink folder faults own = record {
+-- the world of a source, a sink and a rack, with boxes and gates of the call's own
+abbrev pub world_over : {S K R : Type 0} → Sources S → Sinks K → Racks R → S → K → R → Own → World S K R
+world_over s k r source sink rack own = record {
   source = source;
   sink = sink;
-  rack = folder;
+  rack = rack;
   input = input s source;
   output = output k sink;
-  files = record { disk = d.disk folder; faults = faults };
+  files = files r rack;
   boxes = own.boxes;
   gates = own.gates;
 }
 
--- all is as it was
-pub record AreSame {S K D : Type 0} (before after : World S K D) : Type 0 where
-  pub source : after.source ≡ before.source
-  pub sink : after.sink ≡ before.sink
-  pub folder : after.rack ≡ before.rack
+-- What is asked of a rack over a folder: the folder, whether it may write, and that it was never called.
+pub record RackOver (R D : Type 0) : Type 1 where
+  pub folder : R → D
+  pub writes : R → Bool
+  pub is_new : R → Type 0
 
--- What `top` answers to these words, over empty boxes and new gates, which are given up at the end; or there is no memory for the
--- words, the boxes or the gates, and all is as it was.
-abbrev pub EndsSo : {S K D : Type 0} → List (List ℕ) → (Own → World S K D) → (Own → World S K D) → ℕ → Type 0
-EndsSo words before after number =
-    ((own : Own) × Answers words (before new_own) (after own) number) ⊎ ((number ≡ number_of NoMemory) × AreSame (before new_own) (after new_own))
+-- What `top` answers to these words, over a rack over this folder that was never called, and that may write unless the words only read; with
+-- empty boxes and new gates, which are given up at the end. Or there is no memory for the words, the boxes or the gates, and all is as it
+-- was.
+abbrev pub EndsSo : {S K R D : Type 0} → Sources S → Sinks K → Racks R → RackOver R D → List (List ℕ) → S → K → D → S → K → R → ℕ → Type 0
+EndsSo {S} {K} {R} {D} s k r over words source sink folder source' sink' rack' number =
+    ((rack : R) × (over.folder rack ≡ folder) × (over.writes rack ≡ not (first_is_show words)) × over.is_new rack × ((own : Own) × Answers words (world_over s k r source sink rack new_own) (world_over s k r source' sink' rack' own) number))
+    ⊎ ((number ≡ number_of NoMemory) × (source' ≡ source) × (sink' ≡ sink) × (over.folder rack' ≡ folder))

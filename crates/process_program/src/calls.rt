@@ -3,23 +3,23 @@ ghost use Rattle.std.specs.Prelude.{◌≡◌, drop, map, replicate, string_byte
 ghost use Rattle.std.specs.Process.{exit_status};
 ghost use Rattle.std.specs.Vec.Iter.{into_iter_items, into_iter_len};
 ghost use Rattle.history_files.specs.Boxes.{AreBoxes};
-ghost use Rattle.process_program.specs.Ends.{EndsSo, world_over};
+ghost use Rattle.file_rack.specs.NewRack.{IsNew};
+ghost use Rattle.process_program.specs.Ends.{EndsSo};
 ghost use Rattle.process_program.specs.Own.{boxes_of, empty_boxes};
 ghost use Rattle.process_program.specs.Words.{words_behind};
 
 use crate::own::{OwnBox, new_boxes, new_gates};
-use file_rack::{FileRack, Folder, SystemFolder};
+use file_rack::{FileRack, Folder};
+use process_disk::Rack;
 use process_flow::{Sink, Source, StdSink, StdSource};
 use process_top::{Finished, only_reads, top};
 use program_lines::Status;
 use resource_box::Resource;
 use std::alloc::{AllocError, Global};
 use std::env::Args;
-use std::fs::File;
+use std::io;
 use std::io::{Read, Write};
 use std::process::ExitCode;
-use std::rt::{Env, Files};
-use std::{env, io};
 use worker_gate::PlainGate;
 
 /// What a call of the program ends with, and the rack that it leaves.
@@ -84,8 +84,9 @@ pub fn program<H, S: Source, K: Sink, D: Folder + Drop>(
     sink: &mut K,
     folder: D,
 ) -> Ended<D>
-    // On these words, from this world to that one, the call ends with this number.
-    ensures ends { EndsSo (words_behind args) (world_over S.Source K.Sink D.Folder source.old sink.old folder 0) (world_over S.Source K.Sink D.Folder source.new sink.new result.rack.folder result.rack.faults) (exit_status result.code) }
+    // On these words, from this source, sink and folder to those, the call ends with this number.
+    ensures ends { EndsSo S.Source K.Sink ⟦<FileRack<D> as Rack>⟧ (record { folder = λ r. r.folder; writes = λ r. r.writes; is_new = λ r. IsNew r.unsynced r.broken r.faults })
+        (words_behind args) source.old sink.old folder source.new sink.new result.rack (exit_status result.code) }
 {
     let Ok(ready) = made_ready(alloc, args) else {
         return Ended {
@@ -115,17 +116,22 @@ pub fn program<H, S: Source, K: Sink, D: Folder + Drop>(
     }
 }
 
-/// The same over what the system gives: its words, and the files of the current folder, which are given up at the end.
-pub fn program_of_system<
-    H: Env + Files<File = File> + AllocGlobal,
-    R: Read + Drop,
-    W: Write + Drop,
->(rt: &H, input: R, output: W) -> ExitCode {
+/// The same over what the system gives: its words, streams, and a folder, which are given up at the end.
+pub fn program_of_system<H, R: Read + Drop, W: Write + Drop, D: Folder + Drop>(
+    rt: &H,
+    alloc: Global,
+    args: io::Result<Args>,
+    input: R,
+    output: W,
+    folder: D,
+) -> ExitCode
+    ensures ends { (source : _) × (sink : _) × (rack : _) × EndsSo ⟦<StdSource<R> as Source>⟧ ⟦<StdSink<W> as Sink>⟧ ⟦<FileRack<D> as Rack>⟧
+        (record { folder = λ r. r.folder; writes = λ r. r.writes; is_new = λ r. IsNew r.unsynced r.broken r.faults })
+        (words_behind args) (record { inner = input; faults = 0 }) (record { inner = output; faults = 0 }) folder source sink rack (exit_status result) }
+{
     let mut source = StdSource::new(input);
     let mut sink = StdSink::new(output);
-    let args = env::args(rt);
-    let folder = SystemFolder::new(rt);
-    let Ended { code, rack } = program(rt, rt.alloc(), args, &mut source, &mut sink, folder);
+    let Ended { code, rack } = program(rt, alloc, args, &mut source, &mut sink, folder);
     drop(rack);
     code
 }

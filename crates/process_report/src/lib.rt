@@ -21,5 +21,5 @@ mod steps;
 pub use blocks::{blocked_text, place_word};
 pub use laws::printed_reports_are_accepted;
 pub use lines::put_line;
-pub use names::step_name;
+pub use names::{process_name, step_name};
 pub use printing::{report, report_of};

@@ -1,5 +1,6 @@
 -- What was said on words and told is an answer to them.
-use Rattle.std.proofs.Common.{◌≡◌, ℕ, List, true, false, Some, Result, Ok, Err, IfOk, IfErr, refl, sym, subst, ◌∙◌, inl, inr}
+use Rattle.std.proofs.Common.{◌≡◌, ◌≤◌, ℕ, List, true, false, Some, Result, Ok, Err, IfOk, IfErr, refl, sym, subst, ◌∙◌, inl, inr}
+use Rattle.std.specs.Prelude.{⊤}
 use Rattle.program_words.specs.Commands.{asked}
 use Rattle.program_words.specs.declared.reading.Command.TheVariants.{Restart}
 use Rattle.program_lines.specs.Statuses.{number_of}
@@ -10,15 +11,18 @@ use Rattle.command_input.specs.declared.said.Said.{Said}
 use Rattle.command_input.specs.Early.{comes_before_files}
 use Rattle.process_disk.specs.Disk.{Told}
 use Rattle.restart_run.specs.Boxes.{HaveValuesOf}
+use Rattle.serve_run.specs.declared.command.Ending.{Ending}
+use Rattle.serve_run.specs.declared.command.Ending.TheVariants as endings
+use Rattle.serve_run.specs.Serve.{OnEnding}
 use Rattle.process_top.specs.Worlds.{BoxState, World}
 use Rattle.history_files.specs.Boxes.{AreBoxes}
 use Rattle.command_input.specs.FilesLeft.{AreLeft}
-use Rattle.process_top.specs.Replies.{Reply, checked, created, ended, shown, accepted, refused, is_refused, status_of, text_of, IsReplyTold}
+use Rattle.process_top.specs.Replies.{Reply, checked, created, ended, served, shown, accepted, generated, refused, is_refused, status_of, text_of, IsReplyTold}
 use Rattle.process_top.specs.Told.{Output, IsRefusalTold, IsTold}
-use Rattle.process_top.specs.Said.{Says, HasWorked, IsResultTold}
+use Rattle.process_top.specs.Said.{EndsBy, Says, HasWorked, IsResultTold}
 use Rattle.process_top.specs.Run.{first_gate}
 use Rattle.process_top.specs.Commands.{uses_files, uses_boxes, asks_gate, reads_input, is_early, is_verdict, AreOthersAsBefore, IsDueTo, Answers}
-use Rattle.process_top.proofs.Complete.{Worked, done_or_wanting, worked_by}
+use Rattle.process_top.proofs.Complete.{Worked, done_or_wanting, worked_due, worked_held}
 use Rattle.process_top.proofs.RefusedStatuses.{refused_undone}
 
 -- the one status of verdicts
@@ -48,8 +52,10 @@ said_told reply said old new at isnt text status told = by_reply reply isnt
     by_reply (checked ps vs) isnt told = told
     by_reply created isnt told = told
     by_reply (ended s) isnt told = told
+    by_reply (served text status) isnt told = told
     by_reply (shown c h) isnt told = told
     by_reply accepted isnt told = told
+    by_reply (generated text) isnt told = told
     by_reply (refused r) isnt told = absurd (cc)
 
 module _ {S K R : Type 0} (words : List (List ℕ)) (before after : World S K R) (number : ℕ) (at : Status) (numbered : number ≡ number_of at) (left : AreLeft before.files after.files)
@@ -85,8 +91,10 @@ module _ {S K R : Type 0} (words : List (List ℕ)) (before after : World S K R)
   said_early (checked ps vs) s isnt is same early = absurd (cc)
   said_early created s isnt is same early = absurd (cc)
   said_early (ended said) s isnt is same early = same (is ∙ verdict_is said.status early)
+  said_early (served text status) s isnt is same early = absurd (cc)
   said_early (shown c h) s isnt is same early = absurd (cc)
   said_early accepted s isnt is same early = absurd (cc)
+  said_early (generated text) s isnt is same early = absurd (cc)
   said_early (refused r) s isnt is same early = absurd (cc)
 
   -- what is refused isn't told at that status
@@ -101,13 +109,47 @@ module _ {S K R : Type 0} (words : List (List ℕ)) (before after : World S K R)
   said_done said (inl told) is = sym told.0 ∙ is
   said_done said (inr failed) is = absurd (let write = failed.0 in cc)
 
+  abbrev IsDue : Reply → Type 0
+  IsDue = IsDueTo (asked words) (first_gate before.gates after.gates) before.input after.input before.files after.files
+
+  abbrev HaveBookValuesAt : Said → Type 0
+  HaveBookValuesAt s = s.status ≡ statuses.Done → Told after.files.disk → HaveValuesOf (λ (b : BoxState). b.values) after.files.disk.files after.boxes
+
+  abbrev WorkedTo : Output → Ending → Type 0
+  WorkedTo out ending = HasWorked (asked words) before.input after.input before.files after.files before.output out ending
+
   -- what a command found, said and told
-  pub result_is_answered : (result : Result Said Refusal) → Says (IsDueTo (asked words) (first_gate before.gates after.gates) before.input after.input before.files after.files) result
-      → IsResultTold result before.output after.output at → HasWorked (asked words) before.input after.input before.files after.files result
-      → IfErr result (λ r. comes_before_files r ≡ true → after.rack ≡ before.rack) → IfOk result (λ s. s.status ≡ statuses.IllFormed → after.rack ≡ before.rack)
-      → (asked words ≡ Some Restart → IfOk result (λ s. s.status ≡ statuses.Done → Told after.files.disk → HaveValuesOf (λ (b : BoxState). b.values) after.files.disk.files after.boxes)) → Answers words before after number
-  result_is_answered (Ok said) says told has early verdict values =
-      answered_by says.0 says.2 (said_told says.0 said before.output after.output at says.1 says.3 says.4 told) (worked_by (asked words) before after (Ok said) at has told)
+  result_is_answered : (result : Result Said Refusal) → Says IsDue result → IsResultTold result before.output after.output at → before.output.faults ≤ after.output.faults
+      → WorkedTo before.output (endings.Due result) → IfErr result (λ r. comes_before_files r ≡ true → after.rack ≡ before.rack)
+      → IfOk result (λ s. s.status ≡ statuses.IllFormed → after.rack ≡ before.rack) → (asked words ≡ Some Restart → IfOk result HaveBookValuesAt) → Answers words before after number
+  result_is_answered (Ok said) says told later has early verdict values =
+      answered_by says.0 says.2 (said_told says.0 said before.output after.output at says.1 says.3 says.4 told) (worked_due (asked words) before after (Ok said) at has told later)
       (said_early says.0 said.status says.1 says.4 verdict) (λ asks is known. values asks (said_done said told is) known)
-  result_is_answered (Err r) says told has early verdict values =
-      answered_by (refused r) says told (worked_by (asked words) before after (Err r) at has told) early (λ asks is known. absurd (never_done r told is))
+  result_is_answered (Err r) says told later has early verdict values =
+      answered_by (refused r) says told (worked_due (asked words) before after (Err r) at has told later) early (λ asks is known. absurd (never_done r told is))
+
+  -- a dialogue that was held and told
+  held_is_answered : (text : List ℕ) (status : Status) → IsDue (served text status) → IsTold status text before.output after.output at → WorkedTo after.output (endings.Told at)
+      → ¬ asked words ≡ Some Restart → Answers words before after number
+  held_is_answered text status due told has none =
+      answered_by (served text status) due told (worked_held (asked words) before after text status at due has) (λ early. absurd cc) (λ asks is known. absurd (none asks))
+
+  -- what a command came to, and what was told of it then
+  pub ending_is_answered : (out : Output) (ending : Ending) → EndsBy IsDue before.output out ending
+      → OnEnding (λ s. (at ≡ s) × (after.output ≡ out)) (λ found. IsResultTold found out after.output at) ending → out.faults ≤ after.output.faults → WorkedTo out ending
+      → OnEnding (λ _. ⊤) (λ found. IfErr found (λ r. comes_before_files r ≡ true → after.rack ≡ before.rack)) ending
+      → OnEnding (λ _. ⊤) (λ found. IfOk found (λ s. s.status ≡ statuses.IllFormed → after.rack ≡ before.rack)) ending
+      → (asked words ≡ Some Restart → OnEnding (λ _. ⊥) (λ found. IfOk found HaveBookValuesAt) ending) → Answers words before after number
+  ending_is_answered out (endings.Told s) (text, status, due, said) told later has early verdict values =
+      let same : s ≡ at = sym told.0 in
+      let put : out ≡ after.output = sym told.1 in
+      held_is_answered text status due (subst (λ (x : Status). IsTold status text before.output after.output x) same (subst (λ (o : Output). IsTold status text before.output o s) put said))
+      (subst (λ (x : Status). WorkedTo after.output (endings.Told x)) same (subst (λ (o : Output). WorkedTo o (endings.Told s)) put has)) values
+  ending_is_answered out (endings.Due found) (says, none) told later has early verdict values =
+      result_is_answered found says (subst (λ (o : Output). IsResultTold found o after.output at) none told) (subst (λ (o : Output). o.faults ≤ after.output.faults) none later)
+      (subst (λ (o : Output). WorkedTo o (endings.Due found)) none has) early verdict values
+
+-- what holds of what is still to be told, and so of what this makes of it
+pub due_so : {P Q : Result Said Refusal → Type 0} → ((found : Result Said Refusal) → P found → Q found) → (ending : Ending) → OnEnding (λ _. ⊥) P ending → OnEnding (λ _. ⊥) Q ending
+due_so so (endings.Told status) has = has
+due_so so (endings.Due found) has = so found has

@@ -1,11 +1,12 @@
 -- What is answered does what its command is for, where no call failed.
 use Rattle.std.proofs.Common.{◌≡◌, ◌≤◌, ◌⊎◌, ⊎_elim, ℕ, List, [], ◌∷◌, length, Option, Some, None, IfSome, Result, Ok, Err, refl, sym, ap, subst, ◌∙◌, inl, inr}
 use Rattle.std.specs.Prelude.{⊤}
+use Rattle.std.proofs.Math.Nat.{le_trans}
 use Rattle.process_flow.specs.Causes.{Rose}
 use Rattle.trace_verify.specs.declared.verdict.Verified.{Verified}
 use Rattle.trace_verify.specs.Verdicts.{verdict}
 use Rattle.program_words.specs.declared.reading.Command.{Command}
-use Rattle.program_words.specs.declared.reading.Command.TheVariants.{Check, Init, Run, Session, Restart, Show, Verify}
+use Rattle.program_words.specs.declared.reading.Command.TheVariants.{Check, Init, Run, Session, Serve, Restart, Show, Verify, Gen}
 use Rattle.program_lines.specs.Statuses.{IsOneOf}
 use Rattle.program_lines.specs.declared.status.Status.{Status}
 use Rattle.program_lines.specs.declared.status.Status.TheVariants.{Done, Exhausted, NoMemory}
@@ -17,7 +18,7 @@ use Rattle.program_lines.specs.Refusals.{report_status, refusal_status}
 use Rattle.program_lines.specs.Verdicts.{any_fault}
 use Rattle.process_top.specs.Worlds.{World, Input, Files}
 use Rattle.command_input.specs.Inputs.{most_input, first_refusal, input_tests, text_tests, IsRefused}
-use Rattle.process_top.specs.Replies.{Reply, checked, created, ended, shown, accepted, refused, status_of, IsReplyTold}
+use Rattle.process_top.specs.Replies.{Reply, checked, created, ended, served, shown, accepted, generated, refused, status_of, IsReplyTold}
 use Rattle.process_top.specs.Told.{Output}
 use Rattle.process_top.specs.Said.{HasWorked, IsResultTold}
 use Rattle.process_top.specs.Check.{IsCheckDue, IsCheckComplete}
@@ -26,10 +27,13 @@ use Rattle.scenario_run.specs.Completeness.{IsReportThere}
 use Rattle.engine_runs.specs.GateAnswers.{AskedGate}
 use Rattle.command_input.specs.declared.said.Said.{Said}
 use Rattle.session_run.specs.Completeness.{AreAllAnswered}
-use Rattle.process_top.specs.Run.{IsRunComplete}
+use Rattle.serve_run.specs.declared.command.Ending.TheVariants as endings
+use Rattle.process_top.specs.Run.{first_gate, IsRunComplete}
 use Rattle.process_top.specs.Restart.{IsRestartComplete}
+use Rattle.process_top.specs.Serve.{IsServeComplete}
 use Rattle.process_top.specs.Session.{IsSessionComplete}
 use Rattle.process_top.specs.Show.{IsShowDue, IsShowComplete}
+use Rattle.process_top.specs.Gen.{IsGenDue, IsGenComplete}
 use Rattle.process_top.specs.Verify.{verdict_of, verified_status, IsVerifyDue, IsVerifyComplete}
 use Rattle.process_top.specs.Commands.{IsDueTo, IsQuiet, DoesItsWork}
 use Rattle.command_input.proofs.InputRefusals.{is_within}
@@ -45,8 +49,10 @@ check_ends text faults after (refused r) status due is quiet qs within reading =
     inr (inr (inl (is ∙ quietly_refused text_tests r text faults after due quiet (text_passes text r qs within reading))))
 check_ends text faults after created status due is quiet qs within reading = absurd due
 check_ends text faults after (ended said) status due is quiet qs within reading = absurd due
+check_ends text faults after (served said at) status due is quiet qs within reading = absurd due
 check_ends text faults after (shown c h) status due is quiet qs within reading = absurd due
 check_ends text faults after accepted status due is quiet qs within reading = absurd due
+check_ends text faults after (generated said) status due is quiet qs within reading = absurd due
 
 check_done : (left : Option (List ℕ)) (faults : ℕ) (after : Input) (reply : Reply) (status : Status) → IsCheckDue (given left faults) after reply → status ≡ status_of reply → ¬ Rose faults after.faults
     → IsCheckComplete (given left faults) status
@@ -61,8 +67,10 @@ init_ends text faults after files files_after (refused r) status due is quiet qu
     inr (inl (is ∙ not_created_quietly r text faults after files files_after c due quiet quiet_files within has told empty))
 init_ends text faults after files files_after (checked ps vs) status due is quiet quiet_files c within has told empty = absurd due
 init_ends text faults after files files_after (ended said) status due is quiet quiet_files c within has told empty = absurd due
+init_ends text faults after files files_after (served said at) status due is quiet quiet_files c within has told empty = absurd due
 init_ends text faults after files files_after (shown d h) status due is quiet quiet_files c within has told empty = absurd due
 init_ends text faults after files files_after accepted status due is quiet quiet_files c within has told empty = absurd due
+init_ends text faults after files files_after (generated said) status due is quiet quiet_files c within has told empty = absurd due
 
 init_done : (left : Option (List ℕ)) (faults : ℕ) (after : Input) (files files_after : Files) (reply : Reply) (status : Status) → IsInitDue (given left faults) after files files_after reply → status ≡ status_of reply
     → ¬ Rose faults after.faults → ¬ Rose files.faults files_after.faults → IsInitComplete (given left faults) files.disk status
@@ -85,35 +93,74 @@ session_status (Ok said) old new status (inr memory) told quiet = inr (inl (told
 session_status (Err r) old new status memory (inl told) quiet = inr (inl (told_well _ _ old new status told quiet ∙ ap refusal_status memory))
 session_status (Err r) old new status memory (inr told) quiet = inr (inl (told_well _ _ old new status told.1 quiet))
 
+-- a dialogue that was not held, where nothing else was wrong: memory was wanting
+memory_status : (found : Result Said Refusal) (old new : Output) (status : Status) → found ≡ Err refusals.NoMemory → IsResultTold found old new status → ¬ Rose old.faults new.faults
+    → IsOneOf status (Done ∷ NoMemory ∷ [])
+memory_status found old new status memory told quiet = session_status (Err refusals.NoMemory) old new status refl (subst (λ (f : Result Said Refusal). IsResultTold f old new status) memory told) quiet
+
+-- and one that was held
+well_held : (status : Status) → (status ≡ Done) ⊎ (status ≡ NoMemory) → IsOneOf status (Done ∷ NoMemory ∷ [])
+well_held status (inl done) = inl done
+well_held status (inr memory) = inr (inl memory)
+
+-- a count that doesn't stand at its last value afterwards didn't before
+never_rose : (old new : Output) → old.faults ≤ new.faults → ¬ Rose old.faults new.faults → ¬ Rose old.faults old.faults
+never_rose old new later quiet rose = quiet (le_trans rose later)
+
 -- what is promised of the work of a command over an engine is promised of the status at which that was told
 abbrev pub Worked : {S K R : Type 0} → Option Command → World S K R → World S K R → Status → Type 0
 Worked (Some Run) before after status = IsQuiet (Some Run) before after → IsRunComplete before.input before.files status
 Worked (Some Session) before after status = IsQuiet (Some Session) before after → IsSessionComplete before.input before.files status
+Worked (Some Serve) before after status = IsQuiet (Some Serve) before after → IsServeComplete before.input before.files status
 Worked (Some Restart) before after status = IsQuiet (Some Restart) before after → IsRestartComplete before.files status
 Worked o before after status = ⊤
 
-pub worked_by : {S K R : Type 0} (o : Option Command) (before after : World S K R) (found : Result Said Refusal) (status : Status) → HasWorked o before.input after.input before.files after.files found
-    → IsResultTold found before.output after.output status → Worked o before after status
-worked_by None before after found status has told = tt
-worked_by (Some Check) before after found status has told = tt
-worked_by (Some Init) before after found status has told = tt
-worked_by (Some Run) before after found status has told = λ quiet bytes c plans h scenario room.
+-- of what was still to be told, and then was
+pub worked_due : {S K R : Type 0} (o : Option Command) (before after : World S K R) (found : Result Said Refusal) (status : Status)
+    → HasWorked o before.input after.input before.files after.files before.output before.output (endings.Due found) → IsResultTold found before.output after.output status
+    → before.output.faults ≤ after.output.faults → Worked o before after status
+worked_due None before after found status has told later = tt
+worked_due (Some Check) before after found status has told later = tt
+worked_due (Some Init) before after found status has told later = tt
+worked_due (Some Run) before after found status has told later = λ quiet bytes c plans h scenario room.
     told_report found before.output after.output status (has bytes c plans h scenario room (record { source = quiet.input refl; rack = quiet.files refl })) told quiet.output
-worked_by (Some Session) before after found status has told = λ quiet bytes c plans lines h text files.
+worked_due (Some Session) before after found status has told later = λ quiet bytes c plans lines h text files.
     session_status found before.output after.output status (has bytes c plans lines h text files (record { source = quiet.input refl; rack = quiet.files refl })) told quiet.output
-worked_by (Some Restart) before after found status has told = λ quiet c h known sound.
+worked_due (Some Serve) before after found status has told later = λ quiet bytes c plans h scene known sound.
+    memory_status found before.output after.output status
+    (has bytes c plans h scene known sound (record { source = quiet.input refl; rack = quiet.files refl }) (never_rose before.output after.output later quiet.output)) told quiet.output
+worked_due (Some Restart) before after found status has told later = λ quiet c h known sound.
     told_report found before.output after.output status (has c h known sound (quiet.files refl)) told quiet.output
-worked_by (Some Show) before after found status has told = tt
-worked_by (Some Verify) before after found status has told = tt
+worked_due (Some Show) before after found status has told later = tt
+worked_due (Some Verify) before after found status has told later = tt
+worked_due (Some (Gen number count)) before after found status has told later = tt
+
+-- of a dialogue that was held, which no other command does
+pub worked_held : {S K R : Type 0} (o : Option Command) (before after : World S K R) (text : List ℕ) (at status : Status)
+    → IsDueTo o (first_gate before.gates after.gates) before.input after.input before.files after.files (served text at)
+    → HasWorked o before.input after.input before.files after.files before.output after.output (endings.Told status) → Worked o before after status
+worked_held None before after text at status due has = tt
+worked_held (Some Check) before after text at status due has = tt
+worked_held (Some Init) before after text at status due has = tt
+worked_held (Some Run) before after text at status due has = absurd due
+worked_held (Some Session) before after text at status due has = absurd due
+worked_held (Some Serve) before after text at status due has = λ quiet bytes c plans h scene known sound.
+    well_held status (has bytes c plans h scene known sound (record { source = quiet.input refl; rack = quiet.files refl }) quiet.output)
+worked_held (Some Restart) before after text at status due has = absurd due
+worked_held (Some Show) before after text at status due has = tt
+worked_held (Some Verify) before after text at status due has = tt
+worked_held (Some (Gen number count)) before after text at status due has = tt
 
 -- a show
 show_done : (files files_after : Files) (reply : Reply) (status : Status) → IsShowDue files files_after reply → status ≡ status_of reply → ¬ Rose files.faults files_after.faults → IsShowComplete files.disk status
+show_done files files_after (served text at) status due is quiet c h good told log = absurd due
 show_done files files_after (shown d k) status due is quiet c h good told log = inl is
 show_done files files_after (refused r) status due is quiet c h good told log = inr (inl (is ∙ not_opened_quietly r files files_after c h due quiet good told log))
 show_done files files_after (checked ps vs) status due is quiet c h good told log = absurd due
 show_done files files_after created status due is quiet c h good told log = absurd due
 show_done files files_after (ended said) status due is quiet c h good told log = absurd due
 show_done files files_after accepted status due is quiet c h good told log = absurd due
+show_done files files_after (generated text) status due is quiet c h good told log = absurd due
 
 -- the status of a fault is that of its verdict
 fault_status : (fault : ReportFault) → report_status fault ≡ verified_status (verdict_of fault)
@@ -143,7 +190,9 @@ verify_ends text faults after accepted status due is quiet within = verified_by 
 verify_ends text faults after (checked ps vs) status due is quiet within = absurd due
 verify_ends text faults after created status due is quiet within = absurd due
 verify_ends text faults after (ended said) status due is quiet within = absurd due
+verify_ends text faults after (served said at) status due is quiet within = absurd due
 verify_ends text faults after (shown c h) status due is quiet within = absurd due
+verify_ends text faults after (generated said) status due is quiet within = absurd due
 verify_ends text faults after (refused (refusals.Report fault)) status due is quiet within =
     verified_by text (verdict_of fault) status due.1.1.0 (is ∙ fault_status fault)
 verify_ends text faults after (refused refusals.BadWords) status due is quiet within = not_verified text faults after refusals.BadWords status due is quiet within
@@ -165,6 +214,17 @@ verify_done : (left : Option (List ℕ)) (faults : ℕ) (after : Input) (reply :
 verify_done None faults after reply status due is quiet = tt
 verify_done (Some text) faults after reply status due is quiet = verify_ends text faults after reply status due is quiet
 
+-- a generation
+gen_done : (number count : ℕ) (reply : Reply) (status : Status) → IsGenDue number count reply → status ≡ status_of reply → IsGenComplete status
+gen_done number count (generated text) status due is = inl is
+gen_done number count (refused r) status due is = inr (inl (is ∙ ap refusal_status due))
+gen_done number count (checked ps vs) status due is = absurd due
+gen_done number count created status due is = absurd due
+gen_done number count (ended said) status due is = absurd due
+gen_done number count (served said at) status due is = absurd due
+gen_done number count (shown c h) status due is = absurd due
+gen_done number count accepted status due is = absurd due
+
 -- each command
 done_by : {S K R : Type 0} (o : Option Command) (gate : AskedGate) (before after : World S K R) (status : Status) (reply : Reply) → IsDueTo o gate before.input after.input before.files after.files reply
     → status ≡ status_of reply → Worked o before after status → IsQuiet o before after → DoesItsWork o before.input before.files status
@@ -174,9 +234,11 @@ done_by (Some Init) gate before after status reply due is worked quiet =
     init_done before.input.left before.input.faults after.input before.files after.files reply status due is (quiet.input refl) (quiet.files refl)
 done_by (Some Run) gate before after status reply due is worked quiet = worked quiet
 done_by (Some Session) gate before after status reply due is worked quiet = worked quiet
+done_by (Some Serve) gate before after status reply due is worked quiet = worked quiet
 done_by (Some Restart) gate before after status reply due is worked quiet = worked quiet
 done_by (Some Show) gate before after status reply due is worked quiet = show_done before.files after.files reply status due.0 is (quiet.files refl)
 done_by (Some Verify) gate before after status reply due is worked quiet = verify_done before.input.left before.input.faults after.input reply status due.0 is (quiet.input refl)
+done_by (Some (Gen number count)) gate before after status reply due is worked quiet = gen_done number count reply status due.0 is
 
 -- at want of memory each does what may be wanted of it
 given_memory : (left : Option (List ℕ)) (P : List ℕ → Type 0) → ((text : List ℕ) → P text) → IfSome left P
@@ -189,9 +251,11 @@ wanting (Some Check) input files status is = given_memory input.left _ (λ text 
 wanting (Some Init) input files status is = given_memory input.left _ (λ text c within has told empty. inr (inl is))
 wanting (Some Run) input files status is = λ bytes c plans h scenario room. inr (inr (inl is))
 wanting (Some Session) input files status is = λ bytes c plans lines h text room. inr (inl is)
+wanting (Some Serve) input files status is = λ bytes c plans h scene told sound. inr (inl is)
 wanting (Some Restart) input files status is = λ c h told sound. inr (inr (inl is))
 wanting (Some Show) input files status is = λ c h good told log. inr (inl is)
 wanting (Some Verify) input files status is = given_memory input.left _ (λ text within. inr (inl is))
+wanting (Some (Gen number count)) input files status is = inr (inl is)
 
 -- without a fault of the sink, the status is that of the reply, or memory was wanting
 status_told : (reply : Reply) (old new : Output) (status : Status) → IsReplyTold reply old new status → ¬ Rose old.faults new.faults → (status ≡ status_of reply) ⊎ (status ≡ NoMemory)
@@ -200,8 +264,10 @@ status_told (refused r) old new status (inr told) quiet = inr (told_well _ _ old
 status_told (checked ps vs) old new status told quiet = inl (told_well _ _ old new status told quiet)
 status_told created old new status told quiet = inl (told_well _ _ old new status told quiet)
 status_told (ended said) old new status told quiet = inl (told_well _ _ old new status told quiet)
+status_told (served text at) old new status told quiet = inl (told_well _ _ old new status told quiet)
 status_told (shown c h) old new status told quiet = inl (told_well _ _ old new status told quiet)
 status_told accepted old new status told quiet = inl (told_well _ _ old new status told quiet)
+status_told (generated text) old new status told quiet = inl (told_well _ _ old new status told quiet)
 
 pub done_or_wanting : {S K R : Type 0} (o : Option Command) (gate : AskedGate) (before after : World S K R) (status : Status) (reply : Reply) → IsDueTo o gate before.input after.input before.files after.files reply
     → IsReplyTold reply before.output after.output status → Worked o before after status → IsQuiet o before after → DoesItsWork o before.input before.files status

@@ -3,7 +3,7 @@ use Rattle.std.proofs.Common.{Option, Some, None, refl, inl, inr}
 use Rattle.process_journal.specs.declared.errors.JournalError.TheVariants as journal
 use Rattle.history_opening.specs.declared.faults.OpenError.TheVariants as opening
 use Rattle.program_words.specs.declared.reading.Command.{Command}
-use Rattle.program_words.specs.declared.reading.Command.TheVariants.{Check, Init, Run, Session, Restart, Show, Verify}
+use Rattle.program_words.specs.declared.reading.Command.TheVariants.{Check, Init, Run, Session, Serve, Restart, Show, Verify, Gen}
 use Rattle.program_lines.specs.declared.refusal.Refusal.TheVariants.{NoMemory}
 use Rattle.command_input.specs.FilesLeft.{AreUntouched}
 use Rattle.engine_runs.specs.GateAnswers.{AskedGate}
@@ -17,7 +17,9 @@ no_words_due (Some Check) gate before after files files_after untouched = (tt, u
 no_words_due (Some Init) gate before after files files_after untouched = inl (inl (inr (inr refl)), untouched)
 no_words_due (Some Run) gate before after files files_after untouched = inl (inl (inr (inr refl)), untouched)
 no_words_due (Some Session) gate before after files files_after untouched = inl (inl (inr (inr refl)), untouched)
+no_words_due (Some Serve) gate before after files files_after untouched = inl (inl (inr (inr refl)), untouched)
 no_words_due (Some Restart) gate before after files files_after untouched =
     inl (opening.NoMemory, refl, record { due = λ told. inl refl; left = λ told. inl (inl (untouched told)); fault = λ is. absurd (cc) })
 no_words_due (Some Show) gate before after files files_after untouched = ((journal.NoMemory, refl, λ told. tt, λ is. absurd (cc)), untouched)
 no_words_due (Some Verify) gate before after files files_after untouched = (tt, untouched)
+no_words_due (Some (Gen number count)) gate before after files files_after untouched = (refl, untouched)

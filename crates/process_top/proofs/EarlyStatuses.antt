@@ -1,12 +1,12 @@
 -- At a status of the words or of the source, and at one of a verdict, the rack is as it was: what is answered of an early reply gives it,
--- since no other reply of a command that calls the rack has such a status. For each command but `run` and `session` so is it at a status of
--- the input.
+-- since no other reply of a command that calls the rack has such a status. But in a dialogue of `serve` the source may fail at any line. For
+-- each command but `run`, `session` and `serve` so is it at a status of the input.
 use Rattle.std.proofs.Common.{◌≡◌, ℕ, List, Bool, true, false, Option, Some, None, Ok, Err, refl, sym, ap, subst, ◌∙◌, inl, inr}
 use Rattle.process_journal.specs.declared.errors.JournalError.{JournalError}
 use Rattle.process_journal.specs.declared.errors.JournalError.TheVariants as journal
 use Rattle.program_words.specs.Commands.{asked}
 use Rattle.program_words.specs.declared.reading.Command.{Command}
-use Rattle.program_words.specs.declared.reading.Command.TheVariants.{Check, Init, Run, Session, Restart, Show, Verify}
+use Rattle.program_words.specs.declared.reading.Command.TheVariants.{Check, Init, Run, Session, Serve, Restart, Show, Verify, Gen}
 use Rattle.program_lines.specs.Statuses.{number_of}
 use Rattle.program_lines.specs.declared.status.Status.{Status}
 use Rattle.program_lines.specs.declared.status.Status.TheVariants as statuses
@@ -38,8 +38,12 @@ use Rattle.scenario_run.specs.Run.{IsRunDue as IsRunFound, SaysRun}
 use Rattle.command_input.specs.declared.said.Said.{Said}
 use Rattle.process_text.specs.declared.error.TextError.{TextError}
 use Rattle.process_text.specs.declared.error.TextError.TheVariants as texts
+use Rattle.driver_answers.specs.Serving.{DriverState}
+use Rattle.serve_run.specs.Dialogue.{EndsWith}
+use Rattle.serve_run.specs.Serve.{IsNotServed, IsServeTold, IsSpoken}
+use Rattle.schedule_model.specs.declared.history.History.{History}
 use Rattle.process_top.specs.Run.{first_gate}
-use Rattle.process_top.specs.Replies.{Reply, checked, created, ended, shown, accepted, refused, status_of, IsReplyTold}
+use Rattle.process_top.specs.Replies.{Reply, checked, created, ended, served, shown, accepted, generated, refused, status_of, IsReplyTold}
 use Rattle.process_top.specs.Told.{IsTold}
 use Rattle.process_top.specs.Commands.{uses_files, is_early, is_verdict, IsDueTo, Answers}
 use Rattle.process_top.proofs.StatusNumbers.{same_status}
@@ -108,10 +112,18 @@ is_always_early statuses.ReadFault = true
 is_always_early statuses.NotReduced = true
 is_always_early status = false
 
--- those that do so at this one: `run` and `session` read the catalog of the files too, and `run` how much they have
+-- and those of them that do so at a command that goes on reading while it calls the rack
+abbrev pub is_early_in_dialogue : Status → Bool
+is_early_in_dialogue statuses.BadWords = true
+is_early_in_dialogue statuses.IllFormed = true
+is_early_in_dialogue statuses.NotReduced = true
+is_early_in_dialogue status = false
+
+-- those that do so at this one: `run`, `session` and `serve` read the catalog of the files too, and `run` how much they have
 abbrev pub is_early_for : Option Command → Status → Bool
 is_early_for (Some Run) s = is_always_early s
 is_early_for (Some Session) s = is_always_early s
+is_early_for (Some Serve) s = is_early_in_dialogue s
 is_early_for o s = is_early_status s
 
 always_text : (e : TextError) → is_always_early (error_status e) ≡ true → ⊥
@@ -171,6 +183,53 @@ session_said before after files files_after said (inr played) is =
     let found = played.4 in
     absurd (late_session played.0 played.1 (opened_on played.0.conflicts found.history.plans found.history.events) found.now found.played.answered found.played.rest said.status found.played.ends is)
 
+-- and of what a dialogue comes to, where the source may fail too
+dialogue_always : (s : Status) → is_early_in_dialogue s ≡ true → is_always_early s ≡ true
+dialogue_always statuses.Done is = absurd (cc)
+dialogue_always statuses.BadWords is = refl
+dialogue_always statuses.BadInput is = absurd (cc)
+dialogue_always statuses.IllFormed is = refl
+dialogue_always statuses.Limit is = absurd (cc)
+dialogue_always statuses.Unfinished is = absurd (cc)
+dialogue_always statuses.BadFile is = absurd (cc)
+dialogue_always statuses.BookDiffers is = absurd (cc)
+dialogue_always statuses.ReadFault is = absurd (cc)
+dialogue_always statuses.WriteFault is = absurd (cc)
+dialogue_always statuses.DiskFault is = absurd (cc)
+dialogue_always statuses.Exhausted is = absurd (cc)
+dialogue_always statuses.NotReduced is = refl
+dialogue_always statuses.NoMemory is = absurd (cc)
+
+late_dialogue : (c : Catalog) (plans : List Plan) (last : DriverState) (n : ℕ) (tail : List ℕ) (now : CoreState) (s : Status) → EndsWith c plans last n tail now s → is_early_in_dialogue s ≡ true → ⊥
+late_dialogue c plans last n tail now statuses.Done ends is = absurd (cc)
+late_dialogue c plans last n tail now statuses.BadWords ends is = absurd ends
+late_dialogue c plans last n tail now statuses.BadInput ends is = absurd ends
+late_dialogue c plans last n tail now statuses.IllFormed ends is = absurd ends
+late_dialogue c plans last n tail now statuses.Limit ends is = absurd ends
+late_dialogue c plans last n tail now statuses.Unfinished ends is = absurd ends
+late_dialogue c plans last n tail now statuses.BadFile ends is = absurd ends
+late_dialogue c plans last n tail now statuses.BookDiffers ends is = absurd ends
+late_dialogue c plans last n tail now statuses.ReadFault ends is = absurd (cc)
+late_dialogue c plans last n tail now statuses.WriteFault ends is = absurd (cc)
+late_dialogue c plans last n tail now statuses.DiskFault ends is = absurd (cc)
+late_dialogue c plans last n tail now statuses.Exhausted ends is = absurd ends
+late_dialogue c plans last n tail now statuses.NotReduced ends is = absurd ends
+late_dialogue c plans last n tail now statuses.NoMemory ends is = absurd (cc)
+
+late_spoken : (c : Catalog) (plans : List Plan) (h : History) (first : ℕ) (now : CoreState) (taken : List ℕ) (left : Option (List ℕ)) (text : List ℕ) (s : Status)
+    → IsSpoken c plans h first now taken left text s → is_early_in_dialogue s ≡ true → ⊥
+late_spoken c plans h first now taken left text s (inl held) is = late_dialogue c plans held.last held.reached held.tail now s held.ends is
+late_spoken c plans h first now taken left text s (inr failed) is =
+    let wrong : false ≡ true = ap is_early_in_dialogue (sym failed.1) ∙ is in absurd (cc)
+
+late_serve : (before after : Input) (files files_after : Files) (text : List ℕ) (s : Status) → IsServeTold before after files files_after text s → is_early_in_dialogue s ≡ true → ⊥
+late_serve before after files files_after text s (c, plans, first, taken, read, held) is =
+    late_spoken c plans held.history first held.now taken after.left held.answers s held.spoken is
+
+serve_said : (before after : Input) (files files_after : Files) (said : Said) → IsNotServed before after files files_after (Ok said) → is_early_in_dialogue said.status ≡ true → is_verdict said.status ≡ true
+serve_said before after files files_after said (inl none) is = subst (λ (s : Status). is_verdict s ≡ true) (sym none.0.0) refl
+serve_said before after files files_after said (inr (c, plans, first, taken, read, none)) is = absurd none
+
 -- what a restart has to say, or refuses, has none
 late_restart_said : (gate : AskedGate) (files files_after : Files) (said : Said) → IsRestartFound gate files files_after (Ok said) → is_early_status said.status ≡ true → ⊥
 late_restart_said gate files files_after said (c, h, now, made, inl all) is = let wrong : false ≡ true = ap is_early_status (sym all.0) ∙ is in absurd (cc)
@@ -190,30 +249,48 @@ module _ {S K R : Type 0} (before after : World S K R) where
   by_command None gate reply due untouched early is = untouched refl
   by_command (Some Check) gate reply due untouched early is = untouched refl
   by_command (Some Verify) gate reply due untouched early is = untouched refl
+  by_command (Some (Gen number count)) gate reply due untouched early is = untouched refl
   by_command (Some Init) gate created due untouched early is = absurd (cc)
   by_command (Some Init) gate (refused r) due untouched early is = early (early_init r before.input after.input before.files after.files due is)
   by_command (Some Init) gate (checked ps vs) due untouched early is = absurd due
   by_command (Some Init) gate (ended said) due untouched early is = absurd due
+  by_command (Some Init) gate (served text at) due untouched early is = absurd due
   by_command (Some Init) gate (shown c h) due untouched early is = absurd due
   by_command (Some Init) gate accepted due untouched early is = absurd due
+  by_command (Some Init) gate (generated text) due untouched early is = absurd due
   by_command (Some Run) gate (ended said) due untouched early is = early (always_said gate before.input after.input before.files after.files said due is)
   by_command (Some Run) gate (refused r) due untouched early is = early (always_refusal r is)
   by_command (Some Run) gate (checked ps vs) due untouched early is = absurd due
   by_command (Some Run) gate created due untouched early is = absurd due
+  by_command (Some Run) gate (served text at) due untouched early is = absurd due
   by_command (Some Run) gate (shown c h) due untouched early is = absurd due
   by_command (Some Run) gate accepted due untouched early is = absurd due
+  by_command (Some Run) gate (generated text) due untouched early is = absurd due
   by_command (Some Session) gate (ended said) due untouched early is = early (session_said before.input after.input before.files after.files said due is)
   by_command (Some Session) gate (refused r) due untouched early is = early (always_refusal r is)
   by_command (Some Session) gate (checked ps vs) due untouched early is = absurd due
   by_command (Some Session) gate created due untouched early is = absurd due
+  by_command (Some Session) gate (served text at) due untouched early is = absurd due
   by_command (Some Session) gate (shown c h) due untouched early is = absurd due
   by_command (Some Session) gate accepted due untouched early is = absurd due
+  by_command (Some Session) gate (generated text) due untouched early is = absurd due
+  by_command (Some Serve) gate (served text at) due untouched early is = absurd (late_serve before.input after.input before.files after.files text at due is)
+  by_command (Some Serve) gate (ended said) due untouched early is = early (serve_said before.input after.input before.files after.files said due is)
+  by_command (Some Serve) gate (refused r) due untouched early is = early (always_refusal r (dialogue_always (refusal_status r) is))
+  by_command (Some Serve) gate (checked ps vs) due untouched early is = absurd due
+  by_command (Some Serve) gate created due untouched early is = absurd due
+  by_command (Some Serve) gate (shown c h) due untouched early is = absurd due
+  by_command (Some Serve) gate accepted due untouched early is = absurd due
+  by_command (Some Serve) gate (generated text) due untouched early is = absurd due
   by_command (Some Restart) gate (ended said) due untouched early is = absurd (late_restart_said gate before.files after.files said due is)
   by_command (Some Restart) gate (refused r) due untouched early is = absurd (late_restart gate before.files after.files r due is)
   by_command (Some Restart) gate (checked ps vs) due untouched early is = absurd due
   by_command (Some Restart) gate created due untouched early is = absurd due
+  by_command (Some Restart) gate (served text at) due untouched early is = absurd due
   by_command (Some Restart) gate (shown c h) due untouched early is = absurd due
   by_command (Some Restart) gate accepted due untouched early is = absurd due
+  by_command (Some Restart) gate (generated text) due untouched early is = absurd due
+  by_command (Some Show) gate (served text at) due untouched early is = absurd due.0
   by_command (Some Show) gate (shown c h) due untouched early is = absurd (cc)
   by_command (Some Show) gate (refused r) due untouched early is =
       let wrong : false ≡ true = sym (late_journal due.0.0) ∙ ap (λ (e : Refusal). is_early_status (refusal_status e)) (sym due.0.1) ∙ is in absurd (cc)
@@ -221,6 +298,7 @@ module _ {S K R : Type 0} (before after : World S K R) where
   by_command (Some Show) gate created due untouched early is = absurd due.0
   by_command (Some Show) gate (ended said) due untouched early is = absurd due.0
   by_command (Some Show) gate accepted due untouched early is = absurd due.0
+  by_command (Some Show) gate (generated text) due untouched early is = absurd due.0
 
   -- neither a write fault nor want of memory is such a status
   late_for : (o : Option Command) → (is_early_for o statuses.WriteFault ≡ false) × (is_early_for o statuses.NoMemory ≡ false)
@@ -229,9 +307,11 @@ module _ {S K R : Type 0} (before after : World S K R) where
   late_for (Some Init) = (refl, refl)
   late_for (Some Run) = (refl, refl)
   late_for (Some Session) = (refl, refl)
+  late_for (Some Serve) = (refl, refl)
   late_for (Some Restart) = (refl, refl)
   late_for (Some Show) = (refl, refl)
   late_for (Some Verify) = (refl, refl)
+  late_for (Some (Gen number count)) = (refl, refl)
 
   by_told : (o : Option Command) (s status : Status) (text : List ℕ) (old new : Output) (at : Status) → IsTold status text old new at → at ≡ s → is_early_for o s ≡ true → is_early_for o status ≡ true
   by_told o s status text old new at (inl well) same is = ap (is_early_for o) (sym well.0 ∙ same) ∙ is
@@ -245,8 +325,10 @@ module _ {S K R : Type 0} (before after : World S K R) where
   by_reply o s (checked ps vs) old new at told same is = by_told o s _ _ old new at told same is
   by_reply o s created old new at told same is = by_told o s _ _ old new at told same is
   by_reply o s (ended said) old new at told same is = by_told o s _ _ old new at told same is
+  by_reply o s (served text at') old new at told same is = by_told o s _ _ old new at told same is
   by_reply o s (shown c h) old new at told same is = by_told o s _ _ old new at told same is
   by_reply o s accepted old new at told same is = by_told o s _ _ old new at told same is
+  by_reply o s (generated text) old new at told same is = by_told o s _ _ old new at told same is
 
   pub early_status_leaves : (words : List (List ℕ)) (number : ℕ) (s : Status) → Answers words before after number → is_early_for (asked words) s ≡ true → number ≡ number_of s → after.rack ≡ before.rack
   early_status_leaves words number s answers is numbered =

@@ -16,7 +16,8 @@ use Rattle.command_input.specs.Inputs.{Input, IsRead}
 use Rattle.command_input.specs.FilesLeft.{Files}
 use Rattle.process_top.specs.Replies.{Reply, checked, created, ended, refused, is_refused, status_of, text_of}
 use Rattle.command_input.specs.declared.said.Said.{Said}
-use Rattle.process_top.specs.Said.{Says}
+use Rattle.process_top.specs.Said.{EndsBy, Says}
+use Rattle.process_top.specs.Told.{Output}
 use Rattle.process_top.specs.Check.{IsCheckDue}
 use Rattle.process_setup.specs.Init.{IsInitDue as IsInitFound}
 use Rattle.engine_runs.specs.GateAnswers.{AskedGate}
@@ -24,8 +25,12 @@ use Rattle.scenario_run.specs.Run.{IsRunDue as IsRunFound}
 use Rattle.process_top.specs.Init.{IsInitDue}
 use Rattle.restart_run.specs.Restart.{IsRestartFound}
 use Rattle.session_run.specs.Session.{IsSessionDue as IsSessionFound}
+use Rattle.serve_run.specs.declared.command.Ending.{Ending}
+use Rattle.serve_run.specs.declared.command.Ending.TheVariants as endings
+use Rattle.serve_run.specs.Serve.{IsServeDue as IsServeFound}
 use Rattle.process_top.specs.Run.{IsRunDue}
 use Rattle.process_top.specs.Restart.{IsRestartDue}
+use Rattle.process_top.specs.Serve.{IsServeDue}
 use Rattle.process_top.specs.Session.{IsSessionDue}
 use Rattle.process_top.specs.Show.{IsNotOpened}
 
@@ -57,6 +62,13 @@ run_says gate before after files files_after (Err r) due = due
 pub session_says : (before after : Input) (files files_after : Files) (found : Result Said Refusal) → IsSessionFound before after files files_after found → Says (IsSessionDue before after files files_after) found
 session_says before after files files_after (Ok said) due = (ended said, refl, due, refl, refl)
 session_says before after files files_after (Err r) due = due
+
+-- what a dialogue comes to ends the call, or is said
+pub serve_says : (before after : Input) (files files_after : Files) (out out_after : Output) (ending : Ending) → IsServeFound before after files files_after out out_after ending
+    → EndsBy (IsServeDue before after files files_after) out out_after ending
+serve_says before after files files_after out out_after (endings.Told at) due = due
+serve_says before after files files_after out out_after (endings.Due (Ok said)) due = ((ended said, refl, due.0, refl, refl), due.1)
+serve_says before after files files_after out out_after (endings.Due (Err r)) due = due
 
 -- what a restart found is said
 pub restart_says : (gate : AskedGate) (files files_after : Files) (found : Result Said Refusal) → IsRestartFound gate files files_after found → Says (IsRestartDue gate files files_after) found

@@ -3,7 +3,7 @@ use Rattle.std.specs.Prelude.{◌≡◌, ◌⊎◌, ℕ, Bool, true, false, List
 use Rattle.std.specs.Str.{bytes_eq}
 use Rattle.program_words.specs.Commands.{asked}
 use Rattle.program_words.specs.declared.reading.Command.{Command}
-use Rattle.program_words.specs.declared.reading.Command.TheVariants.{Check, Init, Run, Session, Restart, Show, Verify}
+use Rattle.program_words.specs.declared.reading.Command.TheVariants.{Check, Init, Run, Session, Serve, Restart, Show, Verify, Gen}
 use Rattle.process_flow.specs.Causes.{Rose}
 use Rattle.program_lines.specs.Statuses.{number_of}
 use Rattle.program_lines.specs.declared.status.Status.{Status}
@@ -22,9 +22,11 @@ use Rattle.process_top.specs.Check.{IsCheckDue, IsCheckComplete}
 use Rattle.process_top.specs.Init.{IsInitDue}
 use Rattle.process_top.specs.Run.{first_gate, IsRunDue, IsRunComplete}
 use Rattle.process_top.specs.Session.{IsSessionDue, IsSessionComplete}
+use Rattle.process_top.specs.Serve.{IsServeDue, IsServeComplete}
 use Rattle.process_top.specs.Restart.{IsRestartDue, IsRestartComplete}
 use Rattle.process_top.specs.Show.{IsShowDue, IsShowComplete}
 use Rattle.process_top.specs.Verify.{IsVerifyDue, IsVerifyComplete}
+use Rattle.process_top.specs.Gen.{IsGenDue, IsGenComplete}
 
 -- what may be due to a command, which may ask the first gate; to words that ask for none, that they are bad, or that memory was wanting for them
 abbrev pub IsDueTo : Option Command → AskedGate → Input → Input → Files → Files → Reply → Type 0
@@ -33,9 +35,11 @@ IsDueTo (Some Check) gate before after files files_after reply = IsCheckDue befo
 IsDueTo (Some Init) gate before after files files_after reply = IsInitDue before after files files_after reply
 IsDueTo (Some Run) gate before after files files_after reply = IsRunDue gate before after files files_after reply
 IsDueTo (Some Session) gate before after files files_after reply = IsSessionDue before after files files_after reply
+IsDueTo (Some Serve) gate before after files files_after reply = IsServeDue before after files files_after reply
 IsDueTo (Some Restart) gate before after files files_after reply = IsRestartDue gate files files_after reply
 IsDueTo (Some Show) gate before after files files_after reply = IsShowDue files files_after reply × AreUntouched files files_after
 IsDueTo (Some Verify) gate before after files files_after reply = IsVerifyDue before after reply × AreUntouched files files_after
+IsDueTo (Some (Gen number count)) gate before after files files_after reply = IsGenDue number count reply × AreUntouched files files_after
 
 -- what a command does where nothing fails
 abbrev pub DoesItsWork : Option Command → Input → Files → Status → Type 0
@@ -44,9 +48,11 @@ DoesItsWork (Some Check) input files status = IsCheckComplete input status
 DoesItsWork (Some Init) input files status = IsInitComplete input files.disk status
 DoesItsWork (Some Run) input files status = IsRunComplete input files status
 DoesItsWork (Some Session) input files status = IsSessionComplete input files status
+DoesItsWork (Some Serve) input files status = IsServeComplete input files status
 DoesItsWork (Some Restart) input files status = IsRestartComplete files status
 DoesItsWork (Some Show) input files status = IsShowComplete files.disk status
 DoesItsWork (Some Verify) input files status = IsVerifyComplete input status
+DoesItsWork (Some (Gen number count)) input files status = IsGenComplete status
 
 -- the command reads the input
 abbrev pub reads_input : Option Command → Bool
@@ -55,9 +61,11 @@ reads_input (Some Check) = true
 reads_input (Some Init) = true
 reads_input (Some Run) = true
 reads_input (Some Session) = true
+reads_input (Some Serve) = true
 reads_input (Some Restart) = false
 reads_input (Some Show) = false
 reads_input (Some Verify) = true
+reads_input (Some (Gen number count)) = false
 
 -- the command calls the rack
 abbrev pub uses_files : Option Command → Bool
@@ -66,9 +74,11 @@ uses_files (Some Check) = false
 uses_files (Some Init) = true
 uses_files (Some Run) = true
 uses_files (Some Session) = true
+uses_files (Some Serve) = true
 uses_files (Some Restart) = true
 uses_files (Some Show) = true
 uses_files (Some Verify) = false
+uses_files (Some (Gen number count)) = false
 
 -- the command uses the boxes
 abbrev pub uses_boxes : Option Command → Bool
@@ -77,9 +87,11 @@ uses_boxes (Some Check) = false
 uses_boxes (Some Init) = true
 uses_boxes (Some Run) = true
 uses_boxes (Some Session) = true
+uses_boxes (Some Serve) = true
 uses_boxes (Some Restart) = true
 uses_boxes (Some Show) = false
 uses_boxes (Some Verify) = false
+uses_boxes (Some (Gen number count)) = false
 
 -- no call failed of the source, the rack and the sink, as far as the command uses them
 pub record IsQuiet {S K R : Type 0} (asked : Option Command) (before after : World S K R) : Type 0 where
@@ -94,9 +106,11 @@ asks_gate (Some Check) = false
 asks_gate (Some Init) = false
 asks_gate (Some Run) = true
 asks_gate (Some Session) = false
+asks_gate (Some Serve) = false
 asks_gate (Some Restart) = true
 asks_gate (Some Show) = false
 asks_gate (Some Verify) = false
+asks_gate (Some (Gen number count)) = false
 
 -- all gates but the first are as they were
 pub record AreOthersAsBefore (before after : GatesState) : Type 0 where

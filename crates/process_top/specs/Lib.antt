@@ -5,8 +5,10 @@ pub mod Check
 pub mod Init
 pub mod Run
 pub mod Session
+pub mod Serve
 pub mod Restart
 pub mod Show
 pub mod Verify
+pub mod Gen
 pub mod Commands
 pub mod Said

@@ -20,10 +20,14 @@ pub data Reply : Type 0 where
   created : Reply
   -- a command over an engine came to its end, with this to say
   ended : Said → Reply
+  -- a dialogue was held, in which this was printed, and ended at this status
+  served : List ℕ → Status → Reply
   -- the history of file 0, under its catalog
   shown : Catalog → History → Reply
   -- the report is accepted
   accepted : Reply
+  -- a scenario was generated, of this text
+  generated : List ℕ → Reply
   -- the command did not do what it is for
   refused : Refusal → Reply
 
@@ -35,16 +39,20 @@ abbrev pub status_of : Reply → Status
 status_of (checked ps verdicts) = if any_fault verdicts then IllFormed else Done
 status_of created = Done
 status_of (ended said) = said.status
+status_of (served text status) = status
 status_of (shown c h) = Done
 status_of accepted = Done
+status_of (generated text) = Done
 status_of (refused r) = refusal_status r
 
 abbrev pub text_of : Reply → List ℕ
 text_of (checked ps verdicts) = verdict_lines ps verdicts
 text_of created = codes "created\n"
 text_of (ended said) = said.text.items
+text_of (served text status) = text
 text_of (shown c h) = report_text c h []
 text_of accepted = codes "accepted\n"
+text_of (generated text) = text
 text_of (refused r) = refusal_line r
 
 -- a reply was told: its text went out, at its status; or it is a refusal whose line needs memory, and it was told that there is none

@@ -1,21 +1,24 @@
 // The front door: answers to lists of words.
-ghost use Rattle.std.specs.Prelude.{◌≡◌, true, false, length, map, string_bytes, IfOk, IfErr, Some};
+ghost use Rattle.std.specs.Prelude.{◌≡◌, true, false, length, map, string_bytes, IfOk, IfErr, Some, ⊤};
 ghost use Rattle.process_disk.specs.Disk.{Told};
 ghost use Rattle.program_lines.specs.declared.status.Status.TheVariants.{Done, IllFormed};
 ghost use Rattle.program_words.specs.Commands.{asked};
+ghost use Rattle.program_words.specs.Forms.{IsInRange};
 ghost use Rattle.program_words.specs.declared.reading.Command.TheVariants.{Restart};
 ghost use Rattle.history_files.specs.Boxes.{AreBoxes};
 ghost use Rattle.command_input.specs.FilesLeft.{AreLeft};
 ghost use Rattle.command_input.specs.Early.{comes_before_files};
 ghost use Rattle.restart_run.specs.Boxes.{HaveValuesOf};
 ghost use Rattle.process_top.specs.Run.{first_gate};
-ghost use Rattle.process_top.specs.Said.{Says, HasWorked};
-ghost use Rattle.process_top.specs.Worlds.{files, input, world, gates as told_gates};
+ghost use Rattle.serve_run.specs.Serve.{OnEnding};
+ghost use Rattle.process_top.specs.Said.{EndsBy, HasWorked};
+ghost use Rattle.process_top.specs.Worlds.{files, input, output, world, gates as told_gates};
 ghost use Rattle.process_top.specs.Commands.{asks_gate, first_is_show, reads_input, uses_boxes, uses_files, Answers, AreOthersAsBefore, IsDueTo};
 
 use crate::check::check;
+use crate::generating::scenario;
 use crate::show::show;
-use crate::told::tell_result;
+use crate::told::tell_ending;
 use crate::verify::verify;
 use command_input::CommandEnd;
 use process_disk::Rack;
@@ -27,6 +30,7 @@ use program_words::{Command, WordsError, read_words};
 use resource_box::Resource;
 use restart_run::restart;
 use scenario_run::run;
+use serve_run::{Ending, Served, serve};
 use session_run::session;
 use std::alloc::Global;
 
@@ -48,19 +52,33 @@ pub struct Finished<R, G, B = Box<dyn Resource + Send>> {
     pub gates: Vec<G>,
 }
 
-// What a command has to say.
-fn done<S: Source, R: Rack + Drop, B: Resource, G: Gate>(
+// What a command has to say is still to be told.
+fn unsaid<P: Drop>(end: CommandEnd<P>) -> Served<P>
+    ensures { result ≡ record { parts = end.parts; ending = Ending.Due end.found } }
+{
+    let CommandEnd { parts, found } = end;
+    Served {
+        parts,
+        ending: Ending::Due(found),
+    }
+}
+
+// How a command ends.
+fn done<S: Source, K: Sink, R: Rack + Drop, B: Resource, G: Gate>(
     alloc: Global,
     command: Command,
     source: &mut S,
+    sink: &mut K,
     parts: Parts<R, B>,
     gates: &mut Vec<G>,
-) -> CommandEnd<Parts<R, B>>
+) -> Served<Parts<R, B>>
+    requires range { IsInRange command }
     requires boxes { AreBoxes B.sort parts.resources.items }
     requires gates { length gates.old.items ≡ 16 }
-    ensures due { Says (IsDueTo (Some command) (first_gate (told_gates G.Gate gates.old.items) (told_gates G.Gate gates.new.items))
-        (input S.Source source.old) (input S.Source source.new) (files R.Rack parts.rack) (files R.Rack result.parts.rack)) result.found }
-    ensures worked { HasWorked (Some command) (input S.Source source.old) (input S.Source source.new) (files R.Rack parts.rack) (files R.Rack result.parts.rack) result.found }
+    ensures due { EndsBy (IsDueTo (Some command) (first_gate (told_gates G.Gate gates.old.items) (told_gates G.Gate gates.new.items))
+        (input S.Source source.old) (input S.Source source.new) (files R.Rack parts.rack) (files R.Rack result.parts.rack)) (output K.Sink sink.old) (output K.Sink sink.new) result.ending }
+    ensures worked { HasWorked (Some command) (input S.Source source.old) (input S.Source source.new) (files R.Rack parts.rack) (files R.Rack result.parts.rack)
+        (output K.Sink sink.old) (output K.Sink sink.new) result.ending }
     ensures left { AreLeft (files R.Rack parts.rack) (files R.Rack result.parts.rack) }
     ensures boxes { AreBoxes B.sort result.parts.resources.items }
     ensures kept { uses_boxes (Some command) ≡ false → result.parts.resources ≡ parts.resources }
@@ -68,45 +86,55 @@ fn done<S: Source, R: Rack + Drop, B: Resource, G: Gate>(
     ensures unasked { asks_gate (Some command) ≡ false → gates.new.items ≡ gates.old.items }
     ensures untouched { uses_files (Some command) ≡ false → result.parts.rack ≡ parts.rack }
     ensures unread { reads_input (Some command) ≡ false → source.new ≡ source.old }
-    ensures early { IfErr result.found (λ r. comes_before_files r ≡ true → result.parts.rack ≡ parts.rack) }
-    ensures verdict { IfOk result.found (λ s. s.status ≡ IllFormed → result.parts.rack ≡ parts.rack) }
-    ensures values { Some command ≡ Some Restart → IfOk result.found (λ s. s.status ≡ Done → Told (R.disk result.parts.rack)
-        → HaveValuesOf (λ b. (B.meaning b).items) (R.disk result.parts.rack).files result.parts.resources.items) }
+    ensures early { OnEnding (λ _. ⊤) (λ found. IfErr found (λ r. comes_before_files r ≡ true → result.parts.rack ≡ parts.rack)) result.ending }
+    ensures verdict { OnEnding (λ _. ⊤) (λ found. IfOk found (λ s. s.status ≡ IllFormed → result.parts.rack ≡ parts.rack)) result.ending }
+    ensures values { Some command ≡ Some Restart → OnEnding (λ _. ⊥) (λ found. IfOk found (λ s. s.status ≡ Done → Told (R.disk result.parts.rack)
+        → HaveValuesOf (λ b. (B.meaning b).items) (R.disk result.parts.rack).files result.parts.resources.items)) result.ending }
 {
     match command {
-        Command::Check => CommandEnd {
+        Command::Check => Served {
             parts,
-            found: check(alloc, source),
+            ending: Ending::Due(check(alloc, source)),
         },
-        Command::Init => init(alloc, source, parts),
-        Command::Run => run(alloc, source, parts, &mut gates[0]),
-        Command::Session => session(alloc, source, parts),
-        Command::Restart => restart(alloc, parts, &mut gates[0]),
+        Command::Init => unsaid(init(alloc, source, parts)),
+        Command::Run => unsaid(run(alloc, source, parts, &mut gates[0])),
+        Command::Session => unsaid(session(alloc, source, parts)),
+        Command::Serve => serve(alloc, source, sink, parts),
+        Command::Restart => unsaid(restart(alloc, parts, &mut gates[0])),
         Command::Show => {
             let mut parts = parts;
             let found = show(alloc, &mut parts.rack);
-            CommandEnd { parts, found }
+            Served {
+                parts,
+                ending: Ending::Due(found),
+            }
         }
-        Command::Verify => CommandEnd {
+        Command::Verify => Served {
             parts,
-            found: verify(alloc, source),
+            ending: Ending::Due(verify(alloc, source)),
+        },
+        Command::Gen { number, count } => Served {
+            parts,
+            ending: Ending::Due(scenario(alloc, number, count)),
         },
     }
 }
 
 // What there is to say on a list of words.
-fn said<S: Source, R: Rack + Drop, B: Resource, G: Gate>(
+fn said<S: Source, K: Sink, R: Rack + Drop, B: Resource, G: Gate>(
     alloc: Global,
     words: &[String],
     source: &mut S,
+    sink: &mut K,
     parts: Parts<R, B>,
     gates: &mut Vec<G>,
-) -> CommandEnd<Parts<R, B>>
+) -> Served<Parts<R, B>>
     requires boxes { AreBoxes B.sort parts.resources.items }
     requires gates { length gates.old.items ≡ 16 }
-    ensures due { Says (IsDueTo (asked (map string_bytes words.now)) (first_gate (told_gates G.Gate gates.old.items) (told_gates G.Gate gates.new.items))
-        (input S.Source source.old) (input S.Source source.new) (files R.Rack parts.rack) (files R.Rack result.parts.rack)) result.found }
-    ensures worked { HasWorked (asked (map string_bytes words.now)) (input S.Source source.old) (input S.Source source.new) (files R.Rack parts.rack) (files R.Rack result.parts.rack) result.found }
+    ensures due { EndsBy (IsDueTo (asked (map string_bytes words.now)) (first_gate (told_gates G.Gate gates.old.items) (told_gates G.Gate gates.new.items))
+        (input S.Source source.old) (input S.Source source.new) (files R.Rack parts.rack) (files R.Rack result.parts.rack)) (output K.Sink sink.old) (output K.Sink sink.new) result.ending }
+    ensures worked { HasWorked (asked (map string_bytes words.now)) (input S.Source source.old) (input S.Source source.new) (files R.Rack parts.rack) (files R.Rack result.parts.rack)
+        (output K.Sink sink.old) (output K.Sink sink.new) result.ending }
     ensures left { AreLeft (files R.Rack parts.rack) (files R.Rack result.parts.rack) }
     ensures boxes { AreBoxes B.sort result.parts.resources.items }
     ensures kept { uses_boxes (asked (map string_bytes words.now)) ≡ false → result.parts.resources ≡ parts.resources }
@@ -114,20 +142,20 @@ fn said<S: Source, R: Rack + Drop, B: Resource, G: Gate>(
     ensures unasked { asks_gate (asked (map string_bytes words.now)) ≡ false → gates.new.items ≡ gates.old.items }
     ensures untouched { uses_files (asked (map string_bytes words.now)) ≡ false → result.parts.rack ≡ parts.rack }
     ensures unread { reads_input (asked (map string_bytes words.now)) ≡ false → source.new ≡ source.old }
-    ensures early { IfErr result.found (λ r. comes_before_files r ≡ true → result.parts.rack ≡ parts.rack) }
-    ensures verdict { IfOk result.found (λ s. s.status ≡ IllFormed → result.parts.rack ≡ parts.rack) }
-    ensures values { asked (map string_bytes words.now) ≡ Some Restart → IfOk result.found (λ s. s.status ≡ Done → Told (R.disk result.parts.rack)
-        → HaveValuesOf (λ b. (B.meaning b).items) (R.disk result.parts.rack).files result.parts.resources.items) }
+    ensures early { OnEnding (λ _. ⊤) (λ found. IfErr found (λ r. comes_before_files r ≡ true → result.parts.rack ≡ parts.rack)) result.ending }
+    ensures verdict { OnEnding (λ _. ⊤) (λ found. IfOk found (λ s. s.status ≡ IllFormed → result.parts.rack ≡ parts.rack)) result.ending }
+    ensures values { asked (map string_bytes words.now) ≡ Some Restart → OnEnding (λ _. ⊥) (λ found. IfOk found (λ s. s.status ≡ Done → Told (R.disk result.parts.rack)
+        → HaveValuesOf (λ b. (B.meaning b).items) (R.disk result.parts.rack).files result.parts.resources.items)) result.ending }
 {
     match read_words(alloc, words) {
-        Ok(command) => done(alloc, command, source, parts, gates),
-        Err(WordsError::BadWords) => CommandEnd {
+        Ok(command) => done(alloc, command, source, sink, parts, gates),
+        Err(WordsError::BadWords) => Served {
             parts,
-            found: Err(Refusal::BadWords),
+            ending: Ending::Due(Err(Refusal::BadWords)),
         },
-        Err(WordsError::NoMemory) => CommandEnd {
+        Err(WordsError::NoMemory) => Served {
             parts,
-            found: Err(Refusal::NoMemory),
+            ending: Ending::Due(Err(Refusal::NoMemory)),
         },
     }
 }
@@ -150,11 +178,11 @@ pub fn answer<S: Source, K: Sink, R: Rack + Drop, B: Resource, G: Gate>(
 {
     let mut gates = gates;
     let parts = Parts { rack, resources };
-    let CommandEnd { parts, found } = said(alloc, words, source, parts, &mut gates);
-    let status = tell_result(alloc, sink, &found).number();
+    let Served { parts, ending } = said(alloc, words, source, sink, parts, &mut gates);
+    let status = tell_ending(alloc, sink, &ending);
     let Parts { rack, resources } = parts;
     Finished {
-        status,
+        status: status.number(),
         rack,
         resources,
         gates,

@@ -8,6 +8,7 @@
 
 mod check;
 mod door;
+mod generating;
 mod show;
 mod told;
 mod verify;

@@ -1,37 +1,23 @@
 // Telling what there is to say.
-ghost use Rattle.std.specs.Prelude.{◌≡◌, ◌++◌, ◌⊎◌, codes, string_bytes, IfOk};
+ghost use Rattle.std.specs.Prelude.{◌≡◌, ◌≤◌, ◌++◌, ◌⊎◌, codes};
 ghost use Rattle.program_lines.specs.declared.refusal.Refusal.TheVariants.{NoMemory};
+ghost use Rattle.serve_run.specs.Serve.{OnEnding};
 ghost use Rattle.process_top.specs.Said.{IsResultTold};
-ghost use Rattle.process_top.specs.Told.{output, refusal_line, IsTold, IsLineTold, IsRefusalTold};
+ghost use Rattle.process_top.specs.Told.{output, IsLineTold, IsRefusalTold};
 
-use command_input::Said;
-use process_flow::{Sink, write_all};
+use command_input::{Said, refusal_line, tell};
+use process_flow::Sink;
 use program_lines::{Refusal, Status};
-use std::alloc::{AllocError, Global};
-
-// Writes the text and answers the status, or that of a write fault.
-fn tell<K: Sink>(sink: &mut K, text: &[u8], status: Status) -> Status
-    ensures { IsTold status text.now (output K.Sink sink.old) (output K.Sink sink.new) result }
-{
-    match write_all(sink, text) {
-        Ok(()) => status,
-        Err(_) => Status::WriteFault,
-    }
-}
-
-// The line of a refusal.
-fn line_of(alloc: Global, refusal: &Refusal) -> Result<String, AllocError>
-    ensures { IfOk result (λ line. string_bytes line ≡ refusal_line refusal.now) }
-{
-    format!(in alloc; "{refusal}\n")
-}
+use serve_run::Ending;
+use std::alloc::Global;
 
 // Writes the line of a refusal, or that there is no memory for it.
 fn tell_line<K: Sink>(alloc: Global, sink: &mut K, refusal: &Refusal) -> Status
-    ensures { IsLineTold refusal.now (output K.Sink sink.old) (output K.Sink sink.new) result
+    ensures told { IsLineTold refusal.now (output K.Sink sink.old) (output K.Sink sink.new) result
         ⊎ IsLineTold NoMemory (output K.Sink sink.old) (output K.Sink sink.new) result }
+    ensures later { K.faults sink.old ≤ K.faults sink.new }
 {
-    match line_of(alloc, refusal) {
+    match refusal_line(alloc, refusal) {
         Ok(line) => tell(sink, line.as_bytes(), refusal.status()),
         Err(_) => tell(sink, b"no memory\n", Status::NoMemory),
     }
@@ -39,7 +25,8 @@ fn tell_line<K: Sink>(alloc: Global, sink: &mut K, refusal: &Refusal) -> Status
 
 // Writes the line of a refusal and answers its status; or says that there is no memory for a line that needs it.
 fn tell_refusal<K: Sink>(alloc: Global, sink: &mut K, refusal: &Refusal) -> Status
-    ensures { IsRefusalTold refusal.now (output K.Sink sink.old) (output K.Sink sink.new) result }
+    ensures told { IsRefusalTold refusal.now (output K.Sink sink.old) (output K.Sink sink.new) result }
+    ensures later { K.faults sink.old ≤ K.faults sink.new }
 {
     match refusal.fixed_line() {
         Some(line) => tell(sink, line, refusal.status()),
@@ -47,12 +34,25 @@ fn tell_refusal<K: Sink>(alloc: Global, sink: &mut K, refusal: &Refusal) -> Stat
     }
 }
 
-/// Tells what a command has to say, or why it did not do what it is for.
-pub fn tell_result<K: Sink>(alloc: Global, sink: &mut K, found: &Result<Said, Refusal>) -> Status
-    ensures { IsResultTold found.now (output K.Sink sink.old) (output K.Sink sink.new) result }
+// Tells what a command has to say, or why it did not do what it is for.
+fn tell_result<K: Sink>(alloc: Global, sink: &mut K, found: &Result<Said, Refusal>) -> Status
+    ensures told { IsResultTold found.now (output K.Sink sink.old) (output K.Sink sink.new) result }
+    ensures later { K.faults sink.old ≤ K.faults sink.new }
 {
     match found {
         Ok(said) => tell(sink, &said.text, said.status),
         Err(refusal) => tell_refusal(alloc, sink, refusal),
+    }
+}
+
+/// Tells what is still to be told. The status with which the call ends.
+pub fn tell_ending<K: Sink>(alloc: Global, sink: &mut K, ending: &Ending) -> Status
+    ensures told { OnEnding (λ at. (result ≡ at) × (output K.Sink sink.new ≡ output K.Sink sink.old))
+        (λ found. IsResultTold found (output K.Sink sink.old) (output K.Sink sink.new) result) ending.now }
+    ensures later { K.faults sink.old ≤ K.faults sink.new }
+{
+    match ending {
+        Ending::Told(status) => *status,
+        Ending::Due(found) => tell_result(alloc, sink, found),
     }
 }

@@ -12,7 +12,7 @@ use Rattle.program_words.specs.Asked.{Answers, number_of, numbers_asked, workers
 use Rattle.program_words.specs.Commands.{asked, asked_after, plain_asked}
 use Rattle.program_words.specs.Names.{named}
 use Rattle.program_words.specs.declared.names.Name.{Name}
-use Rattle.program_words.specs.Forms.{IsNumbersForm, IsWorkersForm, written}
+use Rattle.program_words.specs.Forms.{IsCommandForm, IsNumbersForm, IsWorkersForm}
 use Rattle.program_words.specs.declared.reading.Command.{Command}
 use Rattle.program_words.specs.declared.reading.Command.TheVariants as command
 use Rattle.program_words.specs.declared.refusals.WordsError.{WordsError}
@@ -77,15 +77,18 @@ numbers_form_asked name n k words h =
 plain_written : (name : Text) (c : Command) → plain_asked name c [] ≡ Some c
 plain_written name c = ap (option_map (λ (_ : ⊤). c)) (taken_by (fault_of (plain_app name) []) tt (nothing_passes name))
 
--- a written command asks for itself
-pub written_asked : (c : Command) → asked (written c) ≡ Some c
-written_asked command.Check = plain_written (codes "check") command.Check
-written_asked command.Init = plain_written (codes "init") command.Init
-written_asked command.Run = plain_written (codes "run") command.Run
-written_asked command.Session = plain_written (codes "session") command.Session
-written_asked command.Restart = plain_written (codes "restart") command.Restart
-written_asked command.Show = plain_written (codes "show") command.Show
-written_asked command.Verify = plain_written (codes "verify") command.Verify
+-- a command as it is written asks for itself
+pub form_asked : (c : Command) (words : List Text) → IsCommandForm c words → asked words ≡ Some c
+form_asked command.Check words is = ap asked is ∙ plain_written (codes "check") command.Check
+form_asked command.Init words is = ap asked is ∙ plain_written (codes "init") command.Init
+form_asked command.Run words is = ap asked is ∙ plain_written (codes "run") command.Run
+form_asked command.Session words is = ap asked is ∙ plain_written (codes "session") command.Session
+form_asked command.Serve words is = ap asked is ∙ plain_written (codes "serve") command.Serve
+form_asked command.Restart words is = ap asked is ∙ plain_written (codes "restart") command.Restart
+form_asked command.Show words is = ap asked is ∙ plain_written (codes "show") command.Show
+form_asked command.Verify words is = ap asked is ∙ plain_written (codes "verify") command.Verify
+form_asked (command.Gen number count) words (rest, is, form) =
+    ap asked is ∙ ap (option_map (λ ((n, k) : ℕ × ℕ). command.Gen n k)) (numbers_form_asked (codes "gen") number count rest form)
 
 -- an answer to words that ask for something is that, or memory is wanting
 pub answered : {X : Type 0} (x : X) (o : Option X) (r : Result X WordsError) → Answers o r → o ≡ Some x

@@ -2,7 +2,7 @@
 use Rattle.std.specs.Prelude.{List, [], ◌∷◌, Option, None, option_and_then, option_map, codes}
 use Rattle.clap.specs.Walk.{Text}
 use Rattle.program_words.specs.Apps.{plain_app}
-use Rattle.program_words.specs.Asked.{nothing_asked}
+use Rattle.program_words.specs.Asked.{nothing_asked, numbers_asked}
 use Rattle.program_words.specs.Names.{named}
 use Rattle.program_words.specs.declared.names.Name.{Name}
 use Rattle.program_words.specs.declared.names.Name.TheVariants as name
@@ -19,9 +19,11 @@ asked_after name.Check rest = plain_asked (codes "check") command.Check rest
 asked_after name.Init rest = plain_asked (codes "init") command.Init rest
 asked_after name.Run rest = plain_asked (codes "run") command.Run rest
 asked_after name.Session rest = plain_asked (codes "session") command.Session rest
+asked_after name.Serve rest = plain_asked (codes "serve") command.Serve rest
 asked_after name.Restart rest = plain_asked (codes "restart") command.Restart rest
 asked_after name.Show rest = plain_asked (codes "show") command.Show rest
 asked_after name.Verify rest = plain_asked (codes "verify") command.Verify rest
+asked_after name.Gen rest = option_map (λ (number, count). command.Gen number count) (numbers_asked (codes "gen") rest)
 
 -- what words ask for, or nothing where the first names no command, or `clap` refuses the others
 abbrev pub asked : List Text → Option Command

@@ -1,18 +1,8 @@
 -- How commands and their arguments are written.
-use Rattle.std.specs.Prelude.{◌≡◌, ◌⊎◌, ◌≤◌, ℕ, List, [], ◌∷◌, codes, decimal}
+use Rattle.std.specs.Prelude.{◌≡◌, ◌⊎◌, ◌≤◌, ℕ, List, [], ◌∷◌, codes, decimal, ⊤}
 use Rattle.clap.specs.Walk.{Text}
 use Rattle.program_words.specs.declared.reading.Command.{Command}
 use Rattle.program_words.specs.declared.reading.Command.TheVariants as command
-
--- a command as words
-abbrev pub written : Command → List Text
-written command.Check = codes "check" ∷ []
-written command.Init = codes "init" ∷ []
-written command.Run = codes "run" ∷ []
-written command.Session = codes "session" ∷ []
-written command.Restart = codes "restart" ∷ []
-written command.Show = codes "show" ∷ []
-written command.Verify = codes "verify" ∷ []
 
 -- the words give this number of workers: from 1 to 16, without a leading zero; no word is 1
 abbrev pub IsWorkersForm : ℕ → List Text → Type 0
@@ -24,3 +14,24 @@ IsWorkersForm workers words =
 abbrev pub IsNumbersForm : ℕ → ℕ → List Text → Type 0
 IsNumbersForm number count words =
     (number ≤ 18446744073709551615) × (1 ≤ count) × (count ≤ 256) × (words ≡ decimal number ∷ decimal count ∷ [])
+
+-- the words are the name of a command that takes no argument
+abbrev pub IsNamed : Text → List Text → Type 0
+IsNamed name words = words ≡ name ∷ []
+
+-- the words are a command as it is written
+abbrev pub IsCommandForm : Command → List Text → Type 0
+IsCommandForm command.Check words = IsNamed (codes "check") words
+IsCommandForm command.Init words = IsNamed (codes "init") words
+IsCommandForm command.Run words = IsNamed (codes "run") words
+IsCommandForm command.Session words = IsNamed (codes "session") words
+IsCommandForm command.Serve words = IsNamed (codes "serve") words
+IsCommandForm command.Restart words = IsNamed (codes "restart") words
+IsCommandForm command.Show words = IsNamed (codes "show") words
+IsCommandForm command.Verify words = IsNamed (codes "verify") words
+IsCommandForm (command.Gen number count) words = (rest : List Text) × (words ≡ codes "gen" ∷ rest) × IsNumbersForm number count rest
+
+-- COUNT is from 1 to 256
+abbrev pub IsInRange : Command → Type 0
+IsInRange (command.Gen number count) = (1 ≤ count) × (count ≤ 256)
+IsInRange c = ⊤

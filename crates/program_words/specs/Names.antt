@@ -11,7 +11,9 @@ named word = if bytes_eq word (codes "check") then Some name.Check
     else (if bytes_eq word (codes "init") then Some name.Init
     else (if bytes_eq word (codes "run") then Some name.Run
     else (if bytes_eq word (codes "session") then Some name.Session
+    else (if bytes_eq word (codes "serve") then Some name.Serve
     else (if bytes_eq word (codes "restart") then Some name.Restart
     else (if bytes_eq word (codes "show") then Some name.Show
     else (if bytes_eq word (codes "verify") then Some name.Verify
-    else None))))))
+    else (if bytes_eq word (codes "gen") then Some name.Gen
+    else None))))))))

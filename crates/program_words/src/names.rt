@@ -9,9 +9,11 @@ pub(crate) enum Name {
     Init,
     Run,
     Session,
+    Serve,
     Restart,
     Show,
     Verify,
+    Gen,
 }
 
 /// The command that the word names, if it names one.
@@ -23,9 +25,11 @@ pub(crate) fn name_of(word: &str) -> Option<Name>
         "init" => Some(Name::Init),
         "run" => Some(Name::Run),
         "session" => Some(Name::Session),
+        "serve" => Some(Name::Serve),
         "restart" => Some(Name::Restart),
         "show" => Some(Name::Show),
         "verify" => Some(Name::Verify),
+        "gen" => Some(Name::Gen),
         _ => None,
     }
 }

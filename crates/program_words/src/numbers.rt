@@ -1,5 +1,5 @@
 //! The arguments NUMBER and COUNT.
-ghost use Rattle.std.specs.Prelude.{◌≡◌, ◌⊎◌, ℕ, Ok, Err, map, string_bytes};
+ghost use Rattle.std.specs.Prelude.{◌≡◌, ◌⊎◌, ◌≤◌, ℕ, Ok, Err, IfOk, map, string_bytes};
 ghost use Rattle.program_words.specs.Asked.{Answers, numbers_asked};
 ghost use Rattle.program_words.specs.Forms.{IsNumbersForm};
 
@@ -7,8 +7,7 @@ use crate::refusals::{WordsError, cause_of};
 use clap::{Arg, ArgAction, Command, value_parser};
 use std::alloc::Global;
 
-/// Reads the words after the name of a command that takes NUMBER, a whole number of 64 bits, and COUNT, one from 1 to 256. The
-/// commands that take them come with their crates.
+/// Reads the words after the name of a command that takes NUMBER, a whole number of 64 bits, and COUNT, one from 1 to 256.
 pub fn read_number_and_count(
     alloc: Global,
     name: &str,
@@ -19,6 +18,7 @@ pub fn read_number_and_count(
     // Two numbers in range, written without a leading zero, are taken, unless memory is wanting.
     ensures complete { (number count : ℕ) → IsNumbersForm number count (map string_bytes rest.now)
         → (result ≡ Ok (number, count)) ⊎ (result ≡ Err WordsError.NoMemory) }
+    ensures range { IfOk result (λ found. (1 ≤ found.1) × (found.1 ≤ 256)) }
 {
     let number = Arg::new(alloc, "number")
         .required(true)

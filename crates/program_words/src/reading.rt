@@ -1,11 +1,12 @@
 //! A list of words as a command.
-ghost use Rattle.std.specs.Prelude.{◌≡◌, ◌⊎◌, Ok, Err, map, string_bytes};
+ghost use Rattle.std.specs.Prelude.{◌≡◌, ◌⊎◌, Ok, Err, IfOk, map, string_bytes};
 ghost use Rattle.program_words.specs.Asked.{Answers};
 ghost use Rattle.program_words.specs.Commands.{asked, asked_after};
-ghost use Rattle.program_words.specs.Forms.{written};
+ghost use Rattle.program_words.specs.Forms.{IsCommandForm, IsInRange};
 
 use crate::arguments::read_no_argument;
 use crate::names::{Name, name_of};
+use crate::numbers::read_number_and_count;
 use crate::refusals::WordsError;
 use std::alloc::Global;
 
@@ -16,9 +17,11 @@ pub enum Command {
     Init,
     Run,
     Session,
+    Serve,
     Restart,
     Show,
     Verify,
+    Gen { number: u64, count: u32 },
 }
 
 /// Reads the words after the program's name.
@@ -26,8 +29,9 @@ pub fn read_words(alloc: Global, words: &[String]) -> Result<Command, WordsError
     // Ok has the command that the words ask for. The words are bad exactly where they ask for none.
     ensures asked { Answers (asked (map string_bytes words.now)) result }
     // A command as it is written is taken, unless memory is wanting.
-    ensures complete { (command : Command) → map string_bytes words.now ≡ written command
+    ensures complete { (command : Command) → IsCommandForm command (map string_bytes words.now)
         → (result ≡ Ok command) ⊎ (result ≡ Err WordsError.NoMemory) }
+    ensures range { IfOk result IsInRange }
 {
     let [first, rest @ ..] = words else {
         return Err(WordsError::BadWords);
@@ -40,7 +44,8 @@ pub fn read_words(alloc: Global, words: &[String]) -> Result<Command, WordsError
 
 // Reads the words after the name of a command.
 fn read_after(alloc: Global, name: Name, rest: &[String]) -> Result<Command, WordsError>
-    ensures { Answers (asked_after name (map string_bytes rest.now)) result }
+    ensures asked { Answers (asked_after name (map string_bytes rest.now)) result }
+    ensures range { IfOk result IsInRange }
 {
     match name {
         Name::Check => {
@@ -59,6 +64,10 @@ fn read_after(alloc: Global, name: Name, rest: &[String]) -> Result<Command, Wor
             read_no_argument(alloc, "session", rest)?;
             Ok(Command::Session)
         }
+        Name::Serve => {
+            read_no_argument(alloc, "serve", rest)?;
+            Ok(Command::Serve)
+        }
         Name::Restart => {
             read_no_argument(alloc, "restart", rest)?;
             Ok(Command::Restart)
@@ -70,6 +79,10 @@ fn read_after(alloc: Global, name: Name, rest: &[String]) -> Result<Command, Wor
         Name::Verify => {
             read_no_argument(alloc, "verify", rest)?;
             Ok(Command::Verify)
+        }
+        Name::Gen => {
+            let (number, count) = read_number_and_count(alloc, "gen", rest)?;
+            Ok(Command::Gen { number, count })
         }
     }
 }

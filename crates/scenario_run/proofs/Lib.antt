@@ -9,6 +9,7 @@ pub mod NotRefused
 pub mod NothingWrong
 pub mod OneOf
 pub mod OnlyOpened
+pub mod OwnCatalog
 pub mod RunDue
 pub mod SaidOfNone
 pub mod ScenarioPlans

@@ -11,7 +11,6 @@ use Rattle.schedule_model.specs.declared.history.History.{History}
 use Rattle.schedule_model.specs.Histories.{active}
 use Rattle.commute_table.specs.declared.catalog.Catalog.{Catalog}
 use Rattle.commute_table.specs.declared.scenario.Scenario.{Scenario}
-use Rattle.commute_table.specs.Bytes.{bytes_of}
 use Rattle.commute_table.specs.Document.{Said as Said', Says}
 use Rattle.process_journal.specs.Laws.{IsSameHistory}
 use Rattle.process_journal.proofs.OneHistory.{one_history_at_most}
@@ -26,9 +25,9 @@ use Rattle.command_input.specs.FilesLeft.{Files}
 use Rattle.command_input.specs.Inputs.{Input, IsWholeText, HasNoText, most_input}
 use Rattle.command_input.specs.Scenarios.{AreNoGoodPlans, IsBound, IsNotBound}
 use Rattle.scenario_run.specs.Completeness.{AreAtRest, NothingFailed}
-use Rattle.scenario_run.specs.Opening.{AreNotOpened, AreOpenedOn, IsNotOpenedFor, IsUnfit, first_difference, open_refusal}
-use Rattle.scenario_run.proofs.Differences.{none_of_itself}
+use Rattle.scenario_run.specs.Opening.{AreNotOpened, AreOpenedOn, IsNotOpenedFor, IsOther, IsUnfit, open_refusal}
 use Rattle.scenario_run.proofs.NotRefused.{no_plans, no_scenario, no_text, no_verdict, says_one}
+use Rattle.scenario_run.proofs.OwnCatalog.{own_catalog}
 
 -- the scenario that is said, if one is
 abbrev said_or : Scenario → Said' Scenario → Scenario
@@ -94,28 +93,14 @@ module _ (c : Catalog) (h : History) (before after : Input) (files files_after :
 
   -- on a history with the same events.
   not_unfit : (d : Catalog) (k : History) → AreOpenedOn d k files files_after → (r : Refusal) → IsUnfit c d k r → r ≡ refusals.NoMemory
-  not_unfit d k on r why = by_refusal r why
+  not_unfit d k on r why = by_kind why
     where
       same : (d ≡ c) × IsSameHistory h k
       same = one_sound c d h k files.disk.files rest.sound (on.sound rest.told)
 
-      by_refusal : (r : Refusal) → IsUnfit c d k r → r ≡ refusals.NoMemory
-      by_refusal (refusals.CatalogDiffers n) why' =
-          absurd (let none = none_of_itself (bytes_of c) in let some : first_difference (bytes_of c) (bytes_of c) ≡ Some n = subst (λ e. first_difference (bytes_of c) (bytes_of e) ≡ Some n) same.0 why' in cc)
-      by_refusal (refusals.Unfinished i) why' =
-          absurd (let some = why'.1 in let none : first_of (active k.events) ≡ None = ap first_of (ap active (sym same.1.events) ∙ rest.idle) in cc)
-      by_refusal refusals.NoMemory why' = refl
-      by_refusal refusals.BadWords why' = absurd why'
-      by_refusal (refusals.Text e) why' = absurd why'
-      by_refusal (refusals.Scenario fault) why' = absurd why'
-      by_refusal (refusals.BadLine n) why' = absurd why'
-      by_refusal (refusals.Limit q n) why' = absurd why'
-      by_refusal (refusals.File fault) why' = absurd why'
-      by_refusal (refusals.BookDiffers q n) why' = absurd why'
-      by_refusal (refusals.Report fault) why' = absurd why'
-      by_refusal refusals.ReadFault why' = absurd why'
-      by_refusal refusals.DiskFault why' = absurd why'
-      by_refusal (refusals.Exhausted i step) why' = absurd why'
+      by_kind : IsUnfit c d k r → r ≡ refusals.NoMemory
+      by_kind (inl other) = own_catalog c r (subst (λ e. IsOther c e r) same.0 other)
+      by_kind (inr (own, (i, is, first))) = absurd (let none : first_of (active k.events) ≡ None = ap first_of (ap active (sym same.1.events) ∙ rest.idle) in cc)
 
   pub unopened : (r : Refusal) → IsNotOpenedFor c r files files_after → r ≡ refusals.NoMemory
   unopened r (inl (e, is, why)) = not_opened e r is why

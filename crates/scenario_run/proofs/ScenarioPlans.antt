@@ -26,7 +26,7 @@ own_plan ops p plan is = record {
   within = is.within;
 }
 
-plans_start : (c : Catalog) (ps : List Named) (plans : List Plan) → ArePlansOf c.ops ps plans → AreTrees ps → IsFirstVerdict ps None → Each (λ p. IsPlanFor c p × IsGoodPlan p) plans
+pub plans_start : (c : Catalog) (ps : List Named) (plans : List Plan) → ArePlansOf c.ops ps plans → AreTrees ps → IsFirstVerdict ps None → Each (λ p. IsPlanFor c p × IsGoodPlan p) plans
 plans_start c [] [] are trees good = tt
 plans_start c [] (plan ∷ plans) are trees good = absurd are
 plans_start c (p ∷ ps) [] are trees good = absurd are

@@ -37,13 +37,16 @@ first_difference [] (y ∷ ys) = Some 0
 first_difference (x ∷ xs) [] = Some 0
 first_difference (x ∷ xs) (y ∷ ys) = if nat_eq x y then option_map suc (first_difference xs ys) else Some 0
 
--- Why the history of files of one catalog doesn't go on with processes of a scenario of another: the catalogs differ, first at this
--- byte; or they don't, and this is the least active process; or memory was wanting.
+-- The catalog of the files isn't that of a scenario: they differ first at this byte; or memory was wanting.
+abbrev pub IsOther : Catalog → Catalog → Refusal → Type 0
+IsOther own c (refusals.CatalogDiffers n) = first_difference (bytes_of own) (bytes_of c) ≡ Some n
+IsOther own c refusals.NoMemory = ⊤
+IsOther own c r = ⊥
+
+-- Why the history of files of one catalog doesn't go on with processes of a scenario of another: the catalogs aren't the same; or they
+-- are, and this is the least active process.
 abbrev pub IsUnfit : Catalog → Catalog → History → Refusal → Type 0
-IsUnfit own c h (refusals.CatalogDiffers n) = first_difference (bytes_of own) (bytes_of c) ≡ Some n
-IsUnfit own c h (refusals.Unfinished i) = (c ≡ own) × (first_of (active h.events) ≡ Some i)
-IsUnfit own c h refusals.NoMemory = ⊤
-IsUnfit own c h r = ⊥
+IsUnfit own c h r = IsOther own c r ⊎ ((c ≡ own) × ((i : ℕ) × (r ≡ refusals.Unfinished i) × (first_of (active h.events) ≡ Some i)))
 
 -- The files, where they are told, were sound for this history, and became so again from some moment of the opening on: they are now, and
 -- so is each image of them from now on.
@@ -60,8 +63,14 @@ pub record AreNotOpened (e : OpenError) (before after : Files) : Type 0 where
   pub left : Told before.disk → LeftByOpening e before.disk after.disk
   pub fault : e ≡ errors.DiskFault → Rose before.faults after.faults
 
--- Why there is no engine for the processes of a scenario of this catalog: what is refused of the files; or, once they were opened on their
--- history, what is refused of that.
+-- Why there is no engine on files of this catalog: what is refused of the files; or, once they were opened on their history, that their
+-- catalog is another.
+abbrev pub IsNotOpenedWith : Catalog → Refusal → Files → Files → Type 0
+IsNotOpenedWith own r before after =
+    ((e : OpenError) × (r ≡ open_refusal e) × AreNotOpened e before after)
+    ⊎ ((c : Catalog) × (h : History) × AreOpenedOn c h before after × IsOther own c r)
+
+-- Why there is no engine for the processes of a scenario of this catalog: the same; or the history of the files is unfinished.
 abbrev pub IsNotOpenedFor : Catalog → Refusal → Files → Files → Type 0
 IsNotOpenedFor own r before after =
     ((e : OpenError) × (r ≡ open_refusal e) × AreNotOpened e before after)

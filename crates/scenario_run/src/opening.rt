@@ -11,7 +11,7 @@ ghost use Rattle.engine_steps.specs.Engines.{full_history};
 ghost use Rattle.engine_steps.specs.Opening.{IsOpened};
 ghost use Rattle.command_input.specs.FilesLeft.{files};
 ghost use Rattle.command_input.specs.Early.{comes_before_files};
-ghost use Rattle.scenario_run.specs.Opening.{first_difference, open_refusal, AreOpenedOn, IsNotOpenedFor, IsUnfit};
+ghost use Rattle.scenario_run.specs.Opening.{first_difference, open_refusal, AreOpenedOn, IsNotOpenedFor, IsNotOpenedWith, IsOther};
 
 use commute_table::{Catalog, catalog_bytes, no_catalog_begins_another};
 use process_disk::Rack;
@@ -72,7 +72,8 @@ fn same_catalog(alloc: Global, own: &Catalog, c: &Catalog) -> Result<(), Refusal
     requires own { IsCatalog own.now }
     requires other { IsCatalog c.now }
     ensures same { OnOk result (c.now ≡ own.now) }
-    ensures refused { IfErr result (λ r. (r ≡ Refusal.NoMemory) ⊎ ((n : ℕ) × (r ≡ Refusal.CatalogDiffers n) × (first_difference (bytes_of own.now) (bytes_of c.now) ≡ Some n))) }
+    ensures refused { IfErr result (IsOther own.now c.now) }
+    ensures late { IfErr result (λ r. comes_before_files r ≡ false) }
 {
     no_catalog_begins_another();
     let own = catalog_bytes(alloc, own)?;
@@ -99,25 +100,47 @@ fn first_active(h: &History) -> Option<u32>
     None
 }
 
-// Refuses a history that doesn't go on with the processes of a scenario of this catalog.
-fn fits_scenario(alloc: Global, own: &Catalog, c: &Catalog, h: &History) -> Result<(), Refusal>
-    requires own { IsCatalog own.now }
-    requires other { IsCatalog c.now }
-    ensures same { OnOk result (c.now ≡ own.now) }
-    ensures idle { OnOk result (active h.now.events ≡ []) }
-    ensures refused { IfErr result (IsUnfit own.now c.now h.now) }
-    ensures late { IfErr result (λ r. comes_before_files r ≡ false) }
+/// An engine on the history of the files, whose catalog is this one. What is refused first is a file, a book, and then the catalog. Once all
+/// nine files were found sound, what was in doubt is settled, whatever is refused then.
+pub fn opened_with<R: Rack + Drop, B: Resource>(
+    alloc: Global,
+    catalog: &Catalog,
+    parts: Parts<R, B>,
+) -> Result<Engine<R, B>, NotOpened<R, B>>
+    requires catalog { IsCatalog catalog.now }
+    requires boxes { AreBoxes B.sort parts.resources.items }
+    ensures opened { IfOk result IsOpened }
+    ensures catalog { IfOk result (λ e. e.catalog ≡ catalog.now) }
+    ensures on { IfOk result (λ e. AreOpenedOn e.catalog (full_history e.core) (files R.Rack parts.rack) (files R.Rack e.files.rack)) }
+    ensures fits { IfOk result (λ e. EachFits B.meaning B.sort e.files.stores) }
+    ensures due { IfErr result (λ n. IsNotOpenedWith catalog.now n.why (files R.Rack parts.rack) (files R.Rack n.parts.rack)) }
+    ensures late { IfErr result (λ n. comes_before_files n.why ≡ false) }
+    ensures back { IfErr result (λ n. AreBoxes B.sort n.parts.resources.items) }
+    ensures tells { IfOk result (λ e. (R.disk e.files.rack).tells ≡ (R.disk parts.rack).tells) }
+    ensures tells_back { IfErr result (λ n. (R.disk n.parts.rack).tells ≡ (R.disk parts.rack).tells) }
+    ensures later { IfOk result (λ e. R.faults parts.rack ≤ R.faults e.files.rack) }
+    ensures later_back { IfErr result (λ n. R.faults parts.rack ≤ R.faults n.parts.rack) }
 {
-    same_catalog(alloc, own, c)?;
-    match first_active(h) {
-        None => Ok(()),
-        Some(i) => Err(Refusal::Unfinished(i)),
+    let engine = match Engine::open(alloc, parts) {
+        Ok(engine) => engine,
+        Err(refused) => {
+            return Err(NotOpened {
+                parts: refused.parts,
+                why: open_refusal(refused.why),
+            });
+        }
+    };
+    engine.is_sound();
+    match same_catalog(alloc, catalog, engine.catalog()) {
+        Ok(()) => Ok(engine),
+        Err(why) => Err(NotOpened {
+            parts: engine.into_parts(),
+            why,
+        }),
     }
 }
 
-/// An engine on the history of the files, which goes on with the processes of a scenario of this catalog: the catalog is that of the files,
-/// and no process is active. What is refused first is a file, a book, the catalog, and then an active process. Once all nine files were
-/// found sound, what was in doubt is settled, whatever is refused then.
+/// The same where no process is active. An active process is refused last.
 pub fn opened<R: Rack + Drop, B: Resource>(
     alloc: Global,
     catalog: &Catalog,
@@ -138,21 +161,13 @@ pub fn opened<R: Rack + Drop, B: Resource>(
     ensures later { IfOk result (λ e. R.faults parts.rack ≤ R.faults e.files.rack) }
     ensures later_back { IfErr result (λ n. R.faults parts.rack ≤ R.faults n.parts.rack) }
 {
-    let engine = match Engine::open(alloc, parts) {
-        Ok(engine) => engine,
-        Err(refused) => {
-            return Err(NotOpened {
-                parts: refused.parts,
-                why: open_refusal(refused.why),
-            });
-        }
-    };
+    let engine = opened_with(alloc, catalog, parts)?;
     engine.is_sound();
-    match fits_scenario(alloc, catalog, engine.catalog(), engine.history()) {
-        Ok(()) => Ok(engine),
-        Err(why) => Err(NotOpened {
+    match first_active(engine.history()) {
+        None => Ok(engine),
+        Some(i) => Err(NotOpened {
             parts: engine.into_parts(),
-            why,
+            why: Refusal::Unfinished(i),
         }),
     }
 }

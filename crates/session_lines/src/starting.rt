@@ -59,8 +59,8 @@ fn put_refusal(alloc: Global, why: EngineStartWhy, out: &mut Vec<u8>) -> Result<
     Ok(())
 }
 
-// A process of this plan starts.
-fn play_plan<R: Rack + Drop, B: Resource>(
+/// A process of this plan and name starts, or is told why not.
+pub fn play_plan<R: Rack + Drop, B: Resource>(
     alloc: Global,
     engine: &mut Engine<R, B>,
     name: &[u8],

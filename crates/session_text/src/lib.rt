@@ -15,6 +15,7 @@ mod requests;
 
 pub use answers::{put_block, put_exhausted, put_number, put_piece};
 pub use finishing::{put_all_ended, put_no_piece, put_no_refusal, put_refusal, put_waiting};
+pub use forms::line_of;
 pub use line::{Line, LinesError};
 pub use reading::{Divided, divide, read_lines};
 pub use requests::{put_aborted, put_no_process, put_not_started, put_started};

@@ -1,4 +1,4 @@
-use Rattle.std.proofs.Common.{◌≡◌, ◌∙◌, slice_index_or, subst, sym, arith}
+use Rattle.std.proofs.Common.{◌≡◌, ◌∙◌, slice_index_or, refl, subst, sym, arith}
 use Rattle.std.specs.Prelude.{Some}
 use Rattle.std.proofs.lemmas.Result.{IfOk-weaker}
 use Rattle.process_disk.specs.Disk.{Told}
@@ -10,18 +10,34 @@ use Rattle.command_input.specs.FilesLeft.{files}
 use Rattle.engine_runs.specs.GateAnswers.{AskedGate}
 use Rattle.process_top.specs.Said.{Says}
 use Rattle.process_top.specs.Commands.{IsDueTo}
+use Rattle.process_top.specs.Worlds.{output}
 use Rattle.process_top.proofs.GatesAsked.{first_asked}
-use Rattle.process_top.proofs.Saying.{restart_says, run_says, says_so, session_says}
+use Rattle.process_top.proofs.Saying.{init_says, restart_says, run_says, says_so, serve_says, session_says}
 use Rattle.process_setup.proofs.FilesMade.{untouched}
 use Rattle.process_top.proofs.door.done.Goals as goal
 
 pub returns-in-Check-clause-due : goal.returns-in-Check-clause-due
 returns-in-Check-clause-due g c =
-    rw c.in-Check.is (says_so (λ reply due. (due, untouched (g.R.Rack.disk c.args.parts.rack) (g.met.R.Rack.honest c.args.parts.rack))) c.check.result c.check.ensures)
+    rw c.in-Check.is
+    (says_so (λ reply due. (due, untouched (g.R.Rack.disk c.args.parts.rack) (g.met.R.Rack.honest c.args.parts.rack))) c.check.result c.check.ensures, refl)
 
 pub returns-in-Verify-clause-due : goal.returns-in-Verify-clause-due
 returns-in-Verify-clause-due g c =
-    rw c.in-Verify.is (says_so (λ reply due. (due, untouched (g.R.Rack.disk c.args.parts.rack) (g.met.R.Rack.honest c.args.parts.rack))) c.verify.result c.verify.ensures)
+    rw c.in-Verify.is
+    (says_so (λ reply due. (due, untouched (g.R.Rack.disk c.args.parts.rack) (g.met.R.Rack.honest c.args.parts.rack))) c.verify.result c.verify.ensures, refl)
+
+pub returns-in-Gen-clause-due : goal.returns-in-Gen-clause-due
+returns-in-Gen-clause-due g c =
+    rw c.in-Gen.is
+    (says_so (λ reply due. (due, untouched (g.R.Rack.disk c.args.parts.rack) (g.met.R.Rack.honest c.args.parts.rack))) c.scenario.result c.scenario.ensures, refl)
+
+pub returns-in-Init-clause-due : goal.returns-in-Init-clause-due
+returns-in-Init-clause-due g c =
+    rw c.in-Init.is
+    (rw c.unsaid.ensures (
+      init_says (input g.S.Source c.args.source.now) (input g.S.Source c.init.new.source) (files g.R.Rack c.args.parts.rack) (files g.R.Rack c.init.result.parts.rack) c.init.result.found c.init.ensures.due,
+      refl,
+    ))
 
 pub returns-in-Run-clause-due : goal.returns-in-Run-clause-due
 returns-in-Run-clause-due g c =
@@ -33,15 +49,33 @@ returns-in-Run-clause-due g c =
     let after = input g.S.Source c.run.new.source in
     let left = files g.R.Rack c.run.result.parts.rack in
     rw c.in-Run.is
-    (subst (λ (asked : AskedGate). Says (IsDueTo (Some Run) asked before after (files g.R.Rack c.args.parts.rack) left) found)
-    (sym (first_asked g.G.Gate gates gate c.run.new.gate (omega (arith, c.requires.gates)) first))
-    (run_says _ before after (files g.R.Rack c.args.parts.rack) left found c.run.ensures.due))
+    (rw c.unsaid-in-Run.ensures (
+      subst (λ (asked : AskedGate). Says (IsDueTo (Some Run) asked before after (files g.R.Rack c.args.parts.rack) left) found)
+          (sym (first_asked g.G.Gate gates gate c.run.new.gate (omega (arith, c.requires.gates)) first))
+          (run_says _ before after (files g.R.Rack c.args.parts.rack) left found c.run.ensures.due),
+      refl,
+    ))
+
+pub returns-in-Run-clause-worked : goal.returns-in-Run-clause-worked
+returns-in-Run-clause-worked g c = rw c.in-Run.is (rw c.unsaid-in-Run.ensures c.run.ensures.complete)
 
 pub returns-in-Session-clause-due : goal.returns-in-Session-clause-due
 returns-in-Session-clause-due g c =
     rw c.in-Session.is
-    (session_says (input g.S.Source c.args.source.now) (input g.S.Source c.session.new.source) (files g.R.Rack c.args.parts.rack) (files g.R.Rack c.session.result.parts.rack)
-    c.session.result.found c.session.ensures.due)
+    (rw c.unsaid-in-Session.ensures (
+      session_says (input g.S.Source c.args.source.now) (input g.S.Source c.session.new.source) (files g.R.Rack c.args.parts.rack) (files g.R.Rack c.session.result.parts.rack)
+          c.session.result.found c.session.ensures.due,
+      refl,
+    ))
+
+pub returns-in-Session-clause-worked : goal.returns-in-Session-clause-worked
+returns-in-Session-clause-worked g c = rw c.in-Session.is (rw c.unsaid-in-Session.ensures c.session.ensures.complete)
+
+pub returns-in-Serve-clause-due : goal.returns-in-Serve-clause-due
+returns-in-Serve-clause-due g c =
+    rw c.in-Serve.is
+    (serve_says (input g.S.Source c.args.source.now) (input g.S.Source c.serve.new.source) (files g.R.Rack c.args.parts.rack) (files g.R.Rack c.serve.result.parts.rack)
+    (output g.K.Sink c.args.sink.now) (output g.K.Sink c.serve.new.sink) c.serve.result.ending c.serve.ensures.due)
 
 pub returns-in-Restart-clause-due : goal.returns-in-Restart-clause-due
 returns-in-Restart-clause-due g c =
@@ -52,14 +86,18 @@ returns-in-Restart-clause-due g c =
     let before = input g.S.Source c.args.source.now in
     let left = files g.R.Rack c.restart.result.parts.rack in
     rw c.in-Restart.is
-    (subst (λ (asked : AskedGate). Says (IsDueTo (Some Restart) asked before before (files g.R.Rack c.args.parts.rack) left) found)
-    (sym (first_asked g.G.Gate gates gate c.restart.new.gate (omega (arith, c.requires.gates)) first))
-    (restart_says _ (files g.R.Rack c.args.parts.rack) left found c.restart.ensures.due))
+    (rw c.unsaid-in-Restart.ensures (
+      subst (λ (asked : AskedGate). Says (IsDueTo (Some Restart) asked before before (files g.R.Rack c.args.parts.rack) left) found)
+          (sym (first_asked g.G.Gate gates gate c.restart.new.gate (omega (arith, c.requires.gates)) first))
+          (restart_says _ (files g.R.Rack c.args.parts.rack) left found c.restart.ensures.due),
+      refl,
+    ))
 
 pub returns-in-Restart-clause-values : goal.returns-in-Restart-clause-values
-returns-in-Restart-clause-values g c = λ asks.
+returns-in-Restart-clause-values g c =
     let parts = c.restart.result.parts in
     let b = g.B.Resource in
     let have = HaveValuesOf (λ x. (b.meaning x).items) (g.R.Rack.disk parts.rack).files parts.resources.items in
-    IfOk-weaker c.restart.result.found (λ s. s.status ≡ Done → Told (g.R.Rack.disk c.args.parts.rack) → have) (λ s. s.status ≡ Done → Told (g.R.Rack.disk parts.rack) → have)
-    (λ s has done told. has done (sym c.restart.ensures.tells ∙ told)) c.restart.ensures.values
+    rw c.unsaid-in-Restart.ensures
+    (λ asks. IfOk-weaker c.restart.result.found (λ s. s.status ≡ Done → Told (g.R.Rack.disk c.args.parts.rack) → have) (λ s. s.status ≡ Done → Told (g.R.Rack.disk parts.rack) → have)
+    (λ s has done told. has done (sym c.restart.ensures.tells ∙ told)) c.restart.ensures.values)

@@ -1,0 +1,4 @@
+pub mod StepNames
+pub mod MoreStarts
+pub mod SpelledStarts
+pub mod AnsweredLines

@@ -1,0 +1,86 @@
+use Rattle.std.proofs.Common.{◌≡◌, ◌∙◌, ◌⊎◌, List, [], ◌∷◌, ◌++◌, length, nat_eq, true, Some, ap, sym, subst}
+use Rattle.process_tree.specs.declared.plan.Plan.{Plan}
+use Rattle.command_input.specs.Scenarios.{AreGoodPlans}
+use Rattle.machine_model.specs.Replies.{Handed}
+use Rattle.session_lines.specs.Pieces.{AreHandedBy, session_of}
+use Rattle.session_lines.specs.Playing.{play_start}
+use Rattle.session_lines.specs.declared.cut.Cut.TheVariants.{DiskFault, NoMemory}
+use Rattle.session_lines.proofs.AskedPieces.{all_stay}
+use Rattle.session_lines.proofs.Outcomes.{err_map, ok_map, on_ok}
+use Rattle.driver_requests.specs.Requests.{request_of}
+use Rattle.driver_requests.specs.declared.request.Request.TheVariants.{StartSpelled}
+use Rattle.driver_answers.specs.Serving.{IsLineAnswered, IsLineCut, IsSpelledAnswered}
+use Rattle.driver_answers.proofs.AnsweredLines.{line_answered, spelled_line_cut}
+use Rattle.driver_answers.proofs.MoreStarts.{goes_at_rest, goes_wider, one_of_left, one_of_right}
+use Rattle.driver_answers.proofs.answering.answer_line.Goals as goal
+
+pub returns-then-is_empty-clause-goes : goal.returns-then-is_empty-clause-goes
+returns-then-is_empty-clause-goes g c = goes_at_rest g.R.Rack.disk g.R.Rack.faults c.args.plans.now c.args.engine.now c.is_sound.ensures.run (c.is_sound.ensures.each c.requires.ready.settled)
+
+pub returns-in_err-line-clause-goes : goal.returns-in_err-line-clause-goes
+returns-in_err-line-clause-goes g c = goes_at_rest g.R.Rack.disk g.R.Rack.faults c.args.plans.now c.args.engine.now c.is_sound.ensures.run (c.is_sound.ensures.each c.requires.ready.settled)
+
+pub returns-in_err-pieces_text-in-Some-Pieces-clause-goes : goal.returns-in_err-pieces_text-in-Some-Pieces-clause-goes
+returns-in_err-pieces_text-in-Some-Pieces-clause-goes g c = goes_at_rest g.R.Rack.disk g.R.Rack.faults c.args.plans.now c.args.engine.now c.is_sound.ensures.run (c.is_sound.ensures.each c.requires.ready.settled)
+
+pub returns-in_ok-pieces_text-in-Some-Pieces-clause-goes : goal.returns-in_ok-pieces_text-in-Some-Pieces-clause-goes
+returns-in_ok-pieces_text-in-Some-Pieces-clause-goes g c = goes_at_rest g.R.Rack.disk g.R.Rack.faults c.args.plans.now c.args.engine.now c.is_sound.ensures.run (c.is_sound.ensures.each c.requires.ready.settled)
+
+pub returns-in_err-happened_text-in-Some-Happened-clause-goes : goal.returns-in_err-happened_text-in-Some-Happened-clause-goes
+returns-in_err-happened_text-in-Some-Happened-clause-goes g c = goes_at_rest g.R.Rack.disk g.R.Rack.faults c.args.plans.now c.args.engine.now c.is_sound.ensures.run (c.is_sound.ensures.each c.requires.ready.settled)
+
+pub returns-in_ok-happened_text-in-Some-Happened-clause-goes : goal.returns-in_ok-happened_text-in-Some-Happened-clause-goes
+returns-in_ok-happened_text-in-Some-Happened-clause-goes g c = goes_at_rest g.R.Rack.disk g.R.Rack.faults c.args.plans.now c.args.engine.now c.is_sound.ensures.run (c.is_sound.ensures.each c.requires.ready.settled)
+
+pub returns-in_err-bad_line-in-None-clause-goes : goal.returns-in_err-bad_line-in-None-clause-goes
+returns-in_err-bad_line-in-None-clause-goes g c = goes_at_rest g.R.Rack.disk g.R.Rack.faults c.args.plans.now c.args.engine.now c.is_sound.ensures.run (c.is_sound.ensures.each c.requires.ready.settled)
+
+pub returns-in_ok-bad_line-in-None-clause-goes : goal.returns-in_ok-bad_line-in-None-clause-goes
+returns-in_ok-bad_line-in-None-clause-goes g c = goes_at_rest g.R.Rack.disk g.R.Rack.faults c.args.plans.now c.args.engine.now c.is_sound.ensures.run (c.is_sound.ensures.each c.requires.ready.settled)
+
+pub returns-in-Some-Session-clause-goes : goal.returns-in-Some-Session-clause-goes
+returns-in-Some-Session-clause-goes g c =
+    let plans = c.args.plans.now in
+    ([], goes_wider g.R.Rack.disk g.R.Rack.faults c.args.engine.now c.answer_session.new.engine plans (plans ++ []) (one_of_left plans []) c.answer_session.ensures.goes)
+
+pub returns-in-Some-StartSpelled-clause-goes : goal.returns-in-Some-StartSpelled-clause-goes
+returns-in-Some-StartSpelled-clause-goes g c =
+    let plans = c.args.plans.now in
+    let goes = c.start_spelled.ensures.goes in
+    (goes.0, goes.1 (plans ++ goes.0) (one_of_right plans goes.0))
+
+pub returns-in-Some-StartSpelled-clause-handed : goal.returns-in-Some-StartSpelled-clause-handed
+returns-in-Some-StartSpelled-clause-handed g c =
+    let new = c.start_spelled.new.engine.core in
+    let spelled = c.start_spelled.ensures.goes in
+    let goes = spelled.1 spelled.0 (λ p one. one) in
+    on_ok c.start_spelled.result (AreHandedBy new c.args.pieces.now.items) (all_stay c.args.engine.now.core new goes.added c.args.pieces.now.items goes.kept c.requires.handed)
+
+pub returns-in-Some-StartSpelled-clause-answered : goal.returns-in-Some-StartSpelled-clause-answered
+returns-in-Some-StartSpelled-clause-answered g c =
+    let old = c.args.engine.now in
+    let new = c.start_spelled.new.engine in
+    let hs = c.args.pieces.now.items in
+    let line = c.args.line.now in
+    let plans = c.args.plans.now in
+    let n = c.args.number in
+    let some : length line ≡ 0 → ⊥ = λ none. absurd (let zero : nat_eq (length line) 0 ≡ true = ap (λ n. nat_eq n 0) none in cc) in
+    let form : request_of line ≡ Some StartSpelled = sym c.in_ok-line.ensures ∙ (c.in-Some-StartSpelled.is ∙ ap Some c.in-Some-StartSpelled.field-0-is) in
+    ok_map c.start_spelled.result (λ text. (ps : List Handed) → IsSpelledAnswered old.catalog (record { core = old.core; unfinished = ps }) n c.behind.result.now (record { core = new.core; unfinished = ps }) text.items)
+    (λ text. IsLineAnswered old.catalog plans (record { core = old.core; unfinished = hs }) n line (record { core = new.core; unfinished = hs }) text.items) c.start_spelled.ensures.answered
+    (λ text is. line_answered old.catalog plans (record { core = old.core; unfinished = hs }) n line (Some StartSpelled) (record { core = new.core; unfinished = hs }) text.items some form
+    (subst (λ spelled. IsSpelledAnswered old.catalog (record { core = old.core; unfinished = hs }) n spelled (record { core = new.core; unfinished = hs }) text.items) c.behind.ensures (is hs)))
+
+pub returns-in-Some-StartSpelled-clause-cut : goal.returns-in-Some-StartSpelled-clause-cut
+returns-in-Some-StartSpelled-clause-cut g c =
+    let old = c.args.engine.now in
+    let new = c.start_spelled.new.engine in
+    let hs = c.args.pieces.now.items in
+    let line = c.args.line.now in
+    let form : request_of line ≡ Some StartSpelled = sym c.in_ok-line.ensures ∙ (c.in-Some-StartSpelled.is ∙ ap Some c.in-Some-StartSpelled.field-0-is) in
+    err_map c.start_spelled.result (λ cut. ((cut ≡ DiskFault) × (new.core ≡ old.core))
+    ⊎ ((cut ≡ NoMemory) × ((new.core ≡ old.core) ⊎ ((p : Plan) × AreGoodPlans old.catalog.ops c.behind.result.now (p ∷ []) × ((ps : List Handed) → new.core ≡ (play_start (session_of old.core ps) p.name (Some p)).state.core)))))
+    (λ cut. IsLineCut old.catalog c.args.plans.now (record { core = old.core; unfinished = hs }) line cut new.core) c.start_spelled.ensures.cut
+    (λ cut is. spelled_line_cut old.catalog c.args.plans.now old.core new.core hs line cut form
+    (subst (λ spelled. ((cut ≡ DiskFault) × (new.core ≡ old.core))
+    ⊎ ((cut ≡ NoMemory) × ((new.core ≡ old.core) ⊎ ((p : Plan) × AreGoodPlans old.catalog.ops spelled (p ∷ []) × ((ps : List Handed) → new.core ≡ (play_start (session_of old.core ps) p.name (Some p)).state.core))))) c.behind.ensures is))

@@ -1,0 +1,42 @@
+use Rattle.std.proofs.Common.{◌≡◌, ◌≢◌, ◌⊎◌, List, [], ◌∷◌, length, Some, inl}
+use Rattle.process_tree.specs.declared.plan.Plan.{Plan}
+use Rattle.process_text.specs.Canonical.{line_of}
+use Rattle.engine_runs.proofs.Goes.{goes_none}
+use Rattle.machine_model.specs.Replies.{Handed}
+use Rattle.session_lines.specs.Answering.{IsAnswered, IsCut}
+use Rattle.session_lines.specs.Pieces.{session_of}
+use Rattle.session_lines.specs.Playing.{play_start}
+use Rattle.session_lines.specs.declared.cut.Cut.TheVariants.{DiskFault, NoMemory}
+use Rattle.session_lines.proofs.Outcomes.{err_map, ok_map}
+use Rattle.driver_requests.specs.Answers.{bad_line_words}
+use Rattle.driver_answers.proofs.SpelledStarts.{cut_of_only}
+use Rattle.driver_answers.proofs.spelled.start_one.Goals as goal
+
+pub returns-in_err-bad_line-in-None-clause-goes : goal.returns-in_err-bad_line-in-None-clause-goes
+returns-in_err-bad_line-in-None-clause-goes g c may_start one = goes_none g.R.Rack.disk g.R.Rack.faults may_start c.args.engine.now c.is_sound.ensures.run (c.is_sound.ensures.each c.requires.ready.settled)
+
+pub returns-in_ok-bad_line-in-None-clause-goes : goal.returns-in_ok-bad_line-in-None-clause-goes
+returns-in_ok-bad_line-in-None-clause-goes g c may_start one = goes_none g.R.Rack.disk g.R.Rack.faults may_start c.args.engine.now c.is_sound.ensures.run (c.is_sound.ensures.each c.requires.ready.settled)
+
+pub returns-in-Some-clause-goes : goal.returns-in-Some-clause-goes
+returns-in-Some-clause-goes g c may_start one = c.start_named.ensures.goes may_start (one c.in-Some.plan c.in-Some.ensures.some)
+
+pub returns-in-Some-clause-answered : goal.returns-in-Some-clause-answered
+returns-in-Some-clause-answered g c =
+    let core = c.args.engine.now.core in
+    let new = c.start_named.new.engine in
+    let plan = c.in-Some.plan in
+    ok_map c.start_named.result (λ text. (ps : List Handed) → IsAnswered (play_start (session_of core ps) plan.name (Some plan)) new.core ps text.items)
+    (λ text. ((p : Plan) × (c.args.plans.items ≡ p ∷ []) × ((ps : List Handed) → IsAnswered (play_start (session_of core ps) p.name (Some p)) new.core ps text.items))
+    ⊎ ((length c.args.plans.items ≢ 1) × (new ≡ c.args.engine.now) × (text.items ≡ line_of (bad_line_words c.args.number)))) c.start_named.ensures.answered
+    (λ text is. inl (plan, c.in-Some.ensures.some, is))
+
+pub returns-in-Some-clause-cut : goal.returns-in-Some-clause-cut
+returns-in-Some-clause-cut g c =
+    let core = c.args.engine.now.core in
+    let new = c.start_named.new.engine.core in
+    let plan = c.in-Some.plan in
+    err_map c.start_named.result (λ cut. (ps : List Handed) → IsCut cut (play_start (session_of core ps) plan.name (Some plan)) core new)
+    (λ cut. ((cut ≡ DiskFault) × (new ≡ core))
+    ⊎ ((cut ≡ NoMemory) × ((new ≡ core) ⊎ ((p : Plan) × (c.args.plans.items ≡ p ∷ []) × ((ps : List Handed) → new ≡ (play_start (session_of core ps) p.name (Some p)).state.core))))) c.start_named.ensures.cut
+    (λ cut is. cut_of_only core new plan c.args.plans.items c.in-Some.ensures.some cut is)

@@ -1,0 +1,110 @@
+// The lines of a driver.
+ghost use Rattle.std.specs.Prelude.{◌≡◌, ◌≢◌, ◌++◌, ◌⊎◌, ℕ, List, Option, Err, drop, IfOk, IfErr, OnOk};
+ghost use Rattle.process_flow.specs.Causes.{Rose};
+ghost use Rattle.process_tree.specs.Order.{Each};
+ghost use Rattle.process_tree.specs.declared.plan.Plan.{Plan as Plan'};
+ghost use Rattle.engine_steps.specs.Beginning.{IsPlanFor};
+ghost use Rattle.engine_steps.specs.declared.engines.Phase.TheVariants as phase;
+ghost use Rattle.engine_runs.specs.Runs.{GoesOn, IsReady};
+ghost use Rattle.history_files.specs.Standing.{EachFits};
+ghost use Rattle.session_lines.specs.Answering.{IsAnswered, IsCopy};
+ghost use Rattle.session_lines.specs.Pieces.{session_of, AreHandedBy};
+ghost use Rattle.session_lines.specs.Playing.{plan_for, play};
+ghost use Rattle.session_lines.specs.declared.cut.Cut.TheVariants.{DiskFault, NoMemory};
+ghost use Rattle.driver_answers.specs.Serving.{has_many_lines, served, IsLineAnswered, IsLineCut};
+
+use crate::happenings::happened_text;
+use crate::listing::{add_handed, pieces_text};
+use crate::spelled::{bad_line, start_spelled};
+use driver_requests::{Request, framed, request_of};
+use process_core::Piece;
+use process_disk::Rack;
+use process_engine::Engine;
+use process_tree::Plan;
+use resource_box::Resource;
+use session_lines::{Cut, play_line};
+use session_text::Line;
+use std::alloc::Global;
+
+// Whether a line is answered with any number of lines.
+fn has_many_lines(line: &Line) -> bool
+    ensures { result ≡ has_many_lines line.now }
+{
+    match line {
+        Line::Show => true,
+        _ => false,
+    }
+}
+
+// What stands behind the first n of these, if there are more.
+fn behind<T>(all: &[T], n: usize) -> &[T]
+    ensures { result.now ≡ drop n all.now }
+{
+    let (_, rest) = all.split_at(n.min(all.len()));
+    rest
+}
+
+// Answers a line of a session.
+fn answer_session<R: Rack + Drop, B: Resource>(
+    alloc: Global,
+    engine: &mut Engine<R, B>,
+    plans: &[Plan],
+    pieces: &mut Vec<Piece>,
+    line: &Line,
+) -> Result<Vec<u8>, Cut>
+    requires ready { IsReady B.meaning B.sort engine.old }
+    requires plans { Each (IsPlanFor engine.old.catalog) plans.now }
+    requires handed { AreHandedBy engine.old.core pieces.old.items }
+    ensures answered { IfOk result (λ text. (copy : Option Plan') × (printed : List ℕ) × IsCopy (plan_for plans.now line.now) copy
+        × IsAnswered (play engine.old.catalog (session_of engine.old.core pieces.old.items) line.now copy) engine.new.core pieces.new.items printed
+        × (text.items ≡ served (record { core = engine.old.core; unfinished = pieces.old.items }) (record { core = engine.new.core; unfinished = pieces.new.items }) line.now printed)) }
+    ensures handed { OnOk result (AreHandedBy engine.new.core pieces.new.items) }
+    ensures cut { IfErr result (λ cut. ((cut ≡ DiskFault) × (engine.new.core ≡ engine.old.core)) ⊎ ((cut ≡ NoMemory) × ((engine.new.core ≡ engine.old.core)
+        ⊎ ((copy : Option Plan') × IsCopy (plan_for plans.now line.now) copy × (engine.new.core ≡ (play engine.old.catalog (session_of engine.old.core pieces.old.items) line.now copy).state.core))))) }
+    ensures fault { IfErr result (λ cut. cut ≡ DiskFault → (engine.new.phase ≡ phase.Closed) × Rose (R.faults engine.old.files.rack) (R.faults engine.new.files.rack)) }
+    ensures goes { GoesOn R.disk R.faults plans.now engine.old engine.new }
+    ensures fits { EachFits B.meaning B.sort engine.new.files.stores }
+    ensures ready { result ≢ Err DiskFault → IsReady B.meaning B.sort engine.new }
+{
+    let before = pieces.len();
+    let mut text = play_line(alloc, engine, plans, pieces, line)?;
+    add_handed(alloc, engine.history(), behind(pieces, before), &mut text)?;
+    Ok(framed(alloc, has_many_lines(line), text)?)
+}
+
+/// Answers a line of a driver that has this number, with these plans of the scenario.
+pub fn answer_line<R: Rack + Drop, B: Resource>(
+    alloc: Global,
+    engine: &mut Engine<R, B>,
+    plans: &[Plan],
+    pieces: &mut Vec<Piece>,
+    line: &[u8],
+    number: u64,
+) -> Result<Vec<u8>, Cut>
+    requires ready { IsReady B.meaning B.sort engine.old }
+    requires plans { Each (IsPlanFor engine.old.catalog) plans.now }
+    requires handed { AreHandedBy engine.old.core pieces.old.items }
+    ensures answered { IfOk result (λ text. IsLineAnswered engine.old.catalog plans.now (record { core = engine.old.core; unfinished = pieces.old.items }) number line.now
+        (record { core = engine.new.core; unfinished = pieces.new.items }) text.items) }
+    ensures handed { OnOk result (AreHandedBy engine.new.core pieces.new.items) }
+    ensures cut { IfErr result (λ cut. IsLineCut engine.old.catalog plans.now (record { core = engine.old.core; unfinished = pieces.old.items }) line.now cut engine.new.core) }
+    ensures fault { IfErr result (λ cut. cut ≡ DiskFault → (engine.new.phase ≡ phase.Closed) × Rose (R.faults engine.old.files.rack) (R.faults engine.new.files.rack)) }
+    // No start was under way but of a plan of the scenario, or of one that the line spells.
+    ensures goes { (spelled : List Plan') × GoesOn R.disk R.faults (plans.now ++ spelled) engine.old engine.new }
+    ensures fits { EachFits B.meaning B.sort engine.new.files.stores }
+    ensures ready { result ≢ Err DiskFault → IsReady B.meaning B.sort engine.new }
+{
+    engine.is_sound();
+    if line.is_empty() {
+        return Ok(Vec::new(alloc));
+    }
+    match request_of(alloc, line)? {
+        Some(Request::Session(line)) => answer_session(alloc, engine, plans, pieces, &line),
+        Some(Request::StartSpelled) => { start_spelled(alloc, engine, behind(line, 6), number) }
+        Some(Request::Pieces) => Ok(pieces_text(alloc, engine.history(), pieces)?),
+        Some(Request::Happened(i, step)) => {
+            Ok(happened_text(alloc, engine.history(), i, &step)?)
+        }
+        None => Ok(bad_line(alloc, number)?),
+    }
+}

@@ -1,0 +1,132 @@
+// Processes that a line spells.
+ghost use Rattle.std.specs.Prelude.{◌≡◌, ◌≢◌, ◌⊎◌, ◌∷◌, [], length, Err, List, Some, IfSome, IfNone, IfOk, IfErr};
+ghost use Rattle.process_flow.specs.Causes.{Rose};
+ghost use Rattle.process_tree.specs.Order.{Each};
+ghost use Rattle.process_tree.specs.declared.plan.Plan.{Plan as Plan'};
+ghost use Rattle.process_text.specs.Canonical.{line_of};
+ghost use Rattle.engine_steps.specs.Beginning.{IsPlanFor};
+ghost use Rattle.engine_steps.specs.declared.engines.Phase.TheVariants as phase;
+ghost use Rattle.engine_runs.specs.Runs.{GoesOn, IsReady};
+ghost use Rattle.history_files.specs.Standing.{EachFits};
+ghost use Rattle.machine_model.specs.Replies.{Handed};
+ghost use Rattle.engine_runs.specs.Acknowledged.{IsOneOf};
+ghost use Rattle.command_input.specs.Scenarios.{AreGoodPlans};
+ghost use Rattle.session_lines.specs.Answering.{IsAnswered, IsCut};
+ghost use Rattle.session_lines.specs.Pieces.{session_of};
+ghost use Rattle.session_lines.specs.Playing.{play_start};
+ghost use Rattle.session_lines.specs.declared.cut.Cut.TheVariants.{DiskFault, NoMemory};
+ghost use Rattle.driver_requests.specs.Answers.{bad_line_words};
+ghost use Rattle.driver_answers.specs.Serving.{no_plans_text, IsSpelledAnswered};
+
+use command_input::{NoPlans, good_plans, refusal_line};
+use driver_requests::put_bad_line;
+use process_disk::Rack;
+use process_engine::Engine;
+use process_tree::Plan;
+use program_lines::Refusal;
+use resource_box::Resource;
+use session_lines::{Cut, play_plan};
+use std::alloc::{AllocError, Global};
+
+/// `bad line N`
+pub fn bad_line(alloc: Global, number: u64) -> Result<Vec<u8>, AllocError>
+    ensures { IfOk result (λ text. text.items ≡ line_of (bad_line_words number)) }
+{
+    let mut text = Vec::new(alloc);
+    put_bad_line(alloc, number, &mut text)?;
+    Ok(text)
+}
+
+// What is told where a text gives no plans.
+fn no_plans_text(alloc: Global, none: NoPlans) -> Result<Vec<u8>, AllocError>
+    ensures { IfOk result (λ text. (none ≢ NoPlans.Refused Refusal.NoMemory) × (text.items ≡ no_plans_text none)) }
+{
+    match none {
+        NoPlans::Refused(Refusal::NoMemory) => Err(AllocError),
+        NoPlans::Refused(refusal) => {
+            let line = refusal_line(alloc, &refusal)?;
+            line.as_bytes().to_vec(alloc)
+        }
+        NoPlans::IllFormed(line) => Ok(line),
+    }
+}
+
+// The plan, where it is the only one.
+fn only_one(plans: Vec<Plan>) -> Option<Plan>
+    ensures some { IfSome result (λ plan. plans.items ≡ plan ∷ []) }
+    ensures none { IfNone result (length plans.items ≢ 1) }
+{
+    let mut plans = plans;
+    let last = plans.pop()?;
+    if plans.is_empty() { Some(last) } else { None }
+}
+
+// A process of this plan starts under its own name.
+fn start_named<R: Rack + Drop, B: Resource>(
+    alloc: Global,
+    engine: &mut Engine<R, B>,
+    plan: Plan,
+) -> Result<Vec<u8>, Cut>
+    requires ready { IsReady B.meaning B.sort engine.old }
+    requires plan { IsPlanFor engine.old.catalog plan }
+    ensures answered { IfOk result (λ text. (ps : List Handed) → IsAnswered (play_start (session_of engine.old.core ps) plan.name (Some plan)) engine.new.core ps text.items) }
+    ensures cut { IfErr result (λ cut. (ps : List Handed) → IsCut cut (play_start (session_of engine.old.core ps) plan.name (Some plan)) engine.old.core engine.new.core) }
+    ensures fault { IfErr result (λ cut. cut ≡ DiskFault → (engine.new.phase ≡ phase.Closed) × Rose (R.faults engine.old.files.rack) (R.faults engine.new.files.rack)) }
+    ensures goes { (may_start : List Plan') → IsOneOf may_start plan → GoesOn R.disk R.faults may_start engine.old engine.new }
+    ensures fits { EachFits B.meaning B.sort engine.new.files.stores }
+    ensures ready { result ≢ Err DiskFault → IsReady B.meaning B.sort engine.new }
+{
+    engine.is_sound();
+    let name = plan.name.bytes().to_vec(alloc)?;
+    play_plan(alloc, engine, &name, plan)
+}
+
+// A process of the one plan starts, unless there is none or more than one.
+fn start_one<R: Rack + Drop, B: Resource>(
+    alloc: Global,
+    engine: &mut Engine<R, B>,
+    plans: Vec<Plan>,
+    number: u64,
+) -> Result<Vec<u8>, Cut>
+    requires ready { IsReady B.meaning B.sort engine.old }
+    requires plans { Each (IsPlanFor engine.old.catalog) plans.items }
+    ensures answered { IfOk result (λ text. ((p : Plan') × (plans.items ≡ p ∷ []) × ((ps : List Handed) → IsAnswered (play_start (session_of engine.old.core ps) p.name (Some p)) engine.new.core ps text.items))
+        ⊎ ((length plans.items ≢ 1) × (engine.new ≡ engine.old) × (text.items ≡ line_of (bad_line_words number)))) }
+    ensures cut { IfErr result (λ cut. ((cut ≡ DiskFault) × (engine.new.core ≡ engine.old.core)) ⊎ ((cut ≡ NoMemory) × ((engine.new.core ≡ engine.old.core)
+        ⊎ ((p : Plan') × (plans.items ≡ p ∷ []) × ((ps : List Handed) → engine.new.core ≡ (play_start (session_of engine.old.core ps) p.name (Some p)).state.core))))) }
+    ensures fault { IfErr result (λ cut. cut ≡ DiskFault → (engine.new.phase ≡ phase.Closed) × Rose (R.faults engine.old.files.rack) (R.faults engine.new.files.rack)) }
+    ensures goes { (may_start : List Plan') → ((p : Plan') → plans.items ≡ p ∷ [] → IsOneOf may_start p) → GoesOn R.disk R.faults may_start engine.old engine.new }
+    ensures fits { EachFits B.meaning B.sort engine.new.files.stores }
+    ensures ready { result ≢ Err DiskFault → IsReady B.meaning B.sort engine.new }
+{
+    engine.is_sound();
+    match only_one(plans) {
+        Some(plan) => start_named(alloc, engine, plan),
+        None => Ok(bad_line(alloc, number)?),
+    }
+}
+
+/// Answers `start process NAME .. end`, of which this is the text behind the first word.
+pub fn start_spelled<R: Rack + Drop, B: Resource>(
+    alloc: Global,
+    engine: &mut Engine<R, B>,
+    spelled: &[u8],
+    number: u64,
+) -> Result<Vec<u8>, Cut>
+    requires ready { IsReady B.meaning B.sort engine.old }
+    ensures answered { IfOk result (λ text. (ps : List Handed) → IsSpelledAnswered engine.old.catalog (record { core = engine.old.core; unfinished = ps }) number spelled.now
+        (record { core = engine.new.core; unfinished = ps }) text.items) }
+    ensures cut { IfErr result (λ cut. ((cut ≡ DiskFault) × (engine.new.core ≡ engine.old.core)) ⊎ ((cut ≡ NoMemory) × ((engine.new.core ≡ engine.old.core)
+        ⊎ ((p : Plan') × AreGoodPlans engine.old.catalog.ops spelled.now (p ∷ []) × ((ps : List Handed) → engine.new.core ≡ (play_start (session_of engine.old.core ps) p.name (Some p)).state.core))))) }
+    ensures fault { IfErr result (λ cut. cut ≡ DiskFault → (engine.new.phase ≡ phase.Closed) × Rose (R.faults engine.old.files.rack) (R.faults engine.new.files.rack)) }
+    // No start was under way but of a plan that the text spells.
+    ensures goes { (spelled : List Plan') × ((may_start : List Plan') → ((p : Plan') → IsOneOf spelled p → IsOneOf may_start p) → GoesOn R.disk R.faults may_start engine.old engine.new) }
+    ensures fits { EachFits B.meaning B.sort engine.new.files.stores }
+    ensures ready { result ≢ Err DiskFault → IsReady B.meaning B.sort engine.new }
+{
+    engine.is_sound();
+    match good_plans(alloc, spelled, engine.catalog()) {
+        Ok(plans) => start_one(alloc, engine, plans, number),
+        Err(none) => Ok(no_plans_text(alloc, none)?),
+    }
+}

@@ -1,0 +1,29 @@
+use Rattle.std.proofs.Common.{◌≡◌, [], ◌++◌, Err, inl, rules, ◌∙◌}
+use Rattle.std.specs.Io.KnownBytes.{IsAtEnd}
+use Rattle.std.proofs.KnownBytes.{Consumes-trans}
+use Rattle.line_reader.proofs.UnderWay.{goes_on, line_ends, all_taken, none_ready}
+use Rattle.line_reader.proofs.reader.LineReader.take_line.Goals as goal
+
+pub returns-then-branch-clause-taken : goal.returns-then-branch-clause-taken
+returns-then-branch-clause-taken g c =
+    line_ends _ _ _ _ _ _ _ _ _ _ c.if-branch.true c.loop.invariant.under_way c.in_ok-take_front.ensures c.ended.ensures.first (c.ended.ensures.end _)
+
+pub returns-then-not-branch-clause-taken : goal.returns-then-not-branch-clause-taken
+returns-then-not-branch-clause-taken g c =
+    let end : (c.refill.new.self ≡ []) × IsAtEnd (g.S.Source.left c.refill.new.source) = c.in_ok-refill.ensures.end c.if-not-branch.true in
+    let all = goes_on _ _ _ _ _ _ _ _ _ _ _ c.if-branch.false c.loop.invariant.under_way c.in_ok-take_front.ensures c.in_ok-refill.ensures.more in
+    all_taken _ _ _ _ _ _ _ end.0 all c.at_end.ensures.first (c.at_end.ensures.end _ end.1)
+
+pub loop-preserved : goal.loop-preserved
+loop-preserved g c = record {
+  under_way = goes_on _ _ _ _ _ _ _ _ _ _ _ c.if-branch.false c.loop.invariant.under_way c.in_ok-take_front.ensures c.in_ok-refill.ensures.more;
+  called = inl (none_ready c.args.most _ _ c.take_front.new.self _ _ _ c.if-branch.false c.loop.invariant.called c.in_ok-take_front.ensures);
+  quiet = c.in_ok-refill.ensures.quiet ∙ c.loop.invariant.quiet;
+}
+
+pub returns-in_err-refill-clause-gave : goal.returns-in_err-refill-clause-gave
+returns-in_err-refill-clause-gave g c =
+    let failed : c.from_residual-in_err-refill.result ≡ Err c.in_err-refill.field-0.0 = search rules in
+    let way = c.loop.invariant.under_way in
+    let more = c.in_err-refill.ensures.gave in
+    rw failed (way.given ++ more.0, Consumes-trans _ _ _ way.given more.0 way.gave more.1)

@@ -1,0 +1,21 @@
+use Rattle.std.proofs.Common.{inl, inr, subst, sym}
+use Rattle.engine_steps.specs.Engines.{full_history}
+use Rattle.command_input.specs.FilesLeft.{files}
+use Rattle.scenario_run.specs.Opening.{AreOpenedOn, IsOther}
+use Rattle.scenario_run.proofs.opening.opened_with.Goals as goal
+
+pub returns-in-Err-clause-due : goal.returns-in-Err-clause-due
+returns-in-Err-clause-due g c =
+    inl (c.in-Err.refused.why, c.open_refusal.ensures.refusal, record { due = c.in-Err.ensures.due; left = c.in-Err.ensures.refused; fault = c.in-Err.ensures.fault })
+
+pub returns-in-Err-same_catalog-clause-due : goal.returns-in-Err-same_catalog-clause-due
+returns-in-Err-same_catalog-clause-due g c =
+    let is = c.in-Ok.ensures in
+    let engine = c.in-Ok.engine in
+    inr (
+      engine.catalog,
+      full_history engine.core,
+      subst (λ rack. AreOpenedOn engine.catalog (full_history engine.core) (files g.R.Rack c.args.parts.rack) (files g.R.Rack rack)) (sym c.into_parts.ensures.rack)
+          (record { sound = is.sound; becomes = is.any_moment; now = is.read; each = is.each }),
+      subst (λ d. IsOther c.args.catalog.now d c.in-Err-same_catalog.why) c.catalog.ensures c.in-Err-same_catalog.ensures.refused,
+    )

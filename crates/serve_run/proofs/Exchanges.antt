@@ -1,0 +1,97 @@
+-- What lines with their answers come to, one after another.
+use Rattle.std.proofs.Common.{◌≡◌, ◌∙◌, ℕ, List, [], ◌∷◌, ◌++◌, Some, refl, ap, sym, subst, append-nil, append_assoc}
+use Rattle.std.specs.Io.KnownBytes.{Appends, Consumes}
+use Rattle.std.proofs.KnownBytes.{Appends-nil, Appends-trans, Consumes-nil, Consumes-trans}
+use Rattle.process_flow.specs.declared.source.Source.{Ghosts as Sources}
+use Rattle.process_flow.specs.declared.sink.Sink.{Ghosts as Sinks}
+use Rattle.process_disk.specs.declared.rack.Rack.{Ghosts as Racks}
+use Rattle.process_disk.specs.Disk.{IsHonest, Told}
+use Rattle.process_tree.specs.declared.plan.Plan.{Plan}
+use Rattle.trace_verify.specs.Lines.{cut}
+use Rattle.engine_steps.specs.Engines.{EngineState}
+use Rattle.engine_runs.specs.Runs.{GoesOn}
+use Rattle.engine_runs.proofs.Goes.{goes_none, goes_then}
+use Rattle.line_reader.proofs.Cuts.{cut-whole}
+use Rattle.driver_answers.proofs.MoreStarts.{goes_wider}
+use Rattle.serve_run.specs.Dialogue.{AreAnswered, AreExchanged, DialogueState, Exchange, IsBetween, IsExchange, bytes_of, driver_state, printed_of}
+use Rattle.serve_run.proofs.Starts.{among_amid, among_more}
+
+-- a line stands in front of the lines behind it
+line_behind : (ready given line rest more bytes left : List ℕ) → cut 10 (ready ++ given) ≡ Some (line, rest) → rest ++ more ≡ bytes ++ left → ready ++ (given ++ more) ≡ ((line ++ 10 ∷ []) ++ bytes) ++ left
+line_behind ready given line rest more bytes left is behind =
+    sym (append_assoc ready given more)
+    ∙ ap (λ xs. xs ++ more) (cut-whole 10 (ready ++ given) line rest is)
+    ∙ append_assoc line (10 ∷ rest) more
+    ∙ ap (λ xs. line ++ 10 ∷ xs) behind
+    ∙ sym (append_assoc line (10 ∷ []) (bytes ++ left))
+    ∙ sym (append_assoc (line ++ 10 ∷ []) bytes left)
+
+module _ {S K R B : Type 0} (s : Sources S) (k : Sinks K) (r : Racks R) (honest : (rack : R) → Told (r.disk rack) → IsHonest (r.disk rack)) (plans : List Plan) where
+  -- the catalog stays
+  pub same_catalog : (a b : DialogueState S K R B) (xs : List Exchange) → AreExchanged s k r plans a xs b → b.engine.catalog ≡ a.engine.catalog
+  same_catalog a b [] is = ap (λ (d : DialogueState S K R B). d.engine.catalog) (sym is)
+  same_catalog a b (x ∷ xs) (m, one, more) = same_catalog m b xs more ∙ one.goes.catalog
+
+  -- the lines are answered
+  pub are_answered : (a b : DialogueState S K R B) (xs : List Exchange) → AreExchanged s k r plans a xs b → AreAnswered a.engine.catalog plans (driver_state a) a.number xs (driver_state b)
+  are_answered a b [] is = ap driver_state is
+  are_answered a b (x ∷ xs) (m, one, more) = (
+    driver_state m,
+    one.answered,
+    subst (λ n. AreAnswered a.engine.catalog plans (driver_state m) n xs (driver_state b)) one.next
+        (subst (λ c. AreAnswered c plans (driver_state m) m.number xs (driver_state b)) one.goes.catalog (are_answered m b xs more)),
+  )
+
+  -- they stand in front of what was taken
+  pub lines_taken : (a b : DialogueState S K R B) (xs : List Exchange) → AreExchanged s k r plans a xs b
+      → (given : List ℕ) × Consumes (s.left a.source) (s.left b.source) given × (a.ready ++ given ≡ bytes_of xs ++ b.ready)
+  lines_taken a b [] is = (
+    [],
+    subst (λ (d : DialogueState S K R B). Consumes (s.left a.source) (s.left d.source) []) is (Consumes-nil (s.left a.source)),
+    append-nil a.ready ∙ ap (λ (d : DialogueState S K R B). d.ready) is,
+  )
+  lines_taken a b (x ∷ xs) (m, one, more) =
+      let rest = lines_taken m b xs more in (
+        one.given ++ rest.0,
+        Consumes-trans (s.left a.source) (s.left m.source) (s.left b.source) one.given rest.0 one.consumed rest.1,
+        line_behind a.ready one.given x.line m.ready rest.0 (bytes_of xs) b.ready one.line rest.2,
+      )
+
+  -- their answers were given
+  pub answers_given : (a b : DialogueState S K R B) (xs : List Exchange) → AreExchanged s k r plans a xs b → Appends (k.taken a.sink) (k.taken b.sink) (printed_of xs)
+  answers_given a b [] is = subst (λ (d : DialogueState S K R B). Appends (k.taken a.sink) (k.taken d.sink) []) is (Appends-nil (k.taken a.sink))
+  answers_given a b (x ∷ xs) (m, one, more) = Appends-trans (k.taken a.sink) (k.taken m.sink) (k.taken b.sink) x.answer (printed_of xs) one.told (answers_given m b xs more)
+
+  -- and no call of the source or of the sink failed
+  pub no_read_fault : (a b : DialogueState S K R B) (xs : List Exchange) → AreExchanged s k r plans a xs b → s.faults b.source ≡ s.faults a.source
+  no_read_fault a b [] is = ap (λ (d : DialogueState S K R B). s.faults d.source) (sym is)
+  no_read_fault a b (x ∷ xs) (m, one, more) = no_read_fault m b xs more ∙ one.no_read_fault
+
+  pub no_write_fault : (a b : DialogueState S K R B) (xs : List Exchange) → AreExchanged s k r plans a xs b → k.faults b.sink ≡ k.faults a.sink
+  no_write_fault a b [] is = ap (λ (d : DialogueState S K R B). k.faults d.sink) (sym is)
+  no_write_fault a b (x ∷ xs) (m, one, more) = no_write_fault m b xs more ∙ one.no_write_fault
+
+  -- the engine is between two lines again
+  pub between : (a b : DialogueState S K R B) (xs : List Exchange) → IsBetween r a.engine → AreExchanged s k r plans a xs b → IsBetween r b.engine
+  between a b [] at is = subst (λ (d : DialogueState S K R B). IsBetween r d.engine) is at
+  between a b (x ∷ xs) at (m, one, more) = between m b xs one.between more
+
+  -- two engines that went on, one behind the other
+  pub both_go : (e f g : EngineState R B) (one two : List Plan) → IsBetween r f → GoesOn r.disk r.faults (plans ++ one) e f → GoesOn r.disk r.faults (plans ++ two) f g → GoesOn r.disk r.faults (plans ++ (one ++ two)) e g
+  both_go e f g one two at first second =
+      goes_then r.disk r.faults (plans ++ (one ++ two)) e f g at.settled at.machine.session.one_each (honest g.files.rack)
+      (goes_wider r.disk r.faults e f (plans ++ one) (plans ++ (one ++ two)) (among_more plans one two) first)
+      (goes_wider r.disk r.faults f g (plans ++ two) (plans ++ (one ++ two)) (among_amid plans one two) second)
+
+  -- it went on
+  pub goes_on : (a b : DialogueState S K R B) (xs : List Exchange) → IsBetween r a.engine → AreExchanged s k r plans a xs b → (spelled : List Plan) × GoesOn r.disk r.faults (plans ++ spelled) a.engine b.engine
+  goes_on a b [] at is =
+      ([], subst (λ (d : DialogueState S K R B). GoesOn r.disk r.faults (plans ++ []) a.engine d.engine) is (goes_none r.disk r.faults (plans ++ []) a.engine at.machine at.each))
+  goes_on a b (x ∷ xs) at (m, one, more) =
+      let rest = goes_on m b xs one.between more in
+      (one.spelled ++ rest.0, both_go a.engine m.engine b.engine one.spelled rest.0 one.between one.goes rest.1)
+
+  -- one line more comes behind
+  pub one_more : (a b d : DialogueState S K R B) (xs : List Exchange) (x : Exchange) → AreExchanged s k r plans a xs b → IsExchange s k r plans x b d → AreExchanged s k r plans a (xs ++ x ∷ []) d
+  one_more a b d [] x is one = (d, subst (λ (e : DialogueState S K R B). IsExchange s k r plans x e d) (sym is) one, refl)
+  one_more a b d (y ∷ xs) x (m, first, more) one = (m, first, one_more m b d xs x more one)

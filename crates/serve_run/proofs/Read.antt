@@ -1,0 +1,38 @@
+-- A dialogue over files, behind the scenario that was taken before it.
+use Rattle.std.proofs.Common.{◌≤◌, ℕ, List, [], ◌++◌, inr, refl, sym, subst}
+use Rattle.std.specs.Io.KnownBytes.{Consumes}
+use Rattle.std.proofs.KnownBytes.{Consumes-nil}
+use Rattle.process_tree.specs.declared.plan.Plan.{Plan}
+use Rattle.commute_table.specs.declared.catalog.Catalog.{Catalog}
+use Rattle.program_lines.specs.declared.status.Status.{Status}
+use Rattle.command_input.specs.FilesLeft.{Files}
+use Rattle.command_input.specs.Inputs.{Input}
+use Rattle.command_input.specs.Outputs.{Output}
+use Rattle.scenario_run.proofs.RunDue.{rose_later}
+use Rattle.serve_run.specs.declared.command.Ending.{Ending}
+use Rattle.serve_run.specs.declared.command.Ending.TheVariants.{Told, Due}
+use Rattle.serve_run.specs.Serve.{IsHeldOn, IsScene, IsServeDue, IsServeRead, IsServed}
+
+module _ (before mid after : Input) (files files_after : Files) (out out_after : Output) (c : Catalog) (plans : List Plan) (first : ℕ) (ready : List ℕ) (scene : IsScene before.left mid.left c plans ready first) (later : before.faults ≤ mid.faults) where
+  read_with : (given : List ℕ) → Consumes mid.left after.left given → IsServeRead before after c plans first (ready ++ given)
+  read_with given consumed = record { scenario = scene.0; ready = ready; mid = mid.left; preamble = scene.1; bound = scene.2; given = given; consumed = consumed; bytes = refl }
+
+  served_since : (taken text : List ℕ) (status : Status) → IsServed c plans first taken mid after files files_after text status → IsServed c plans first taken before after files files_after text status
+  served_since taken text status is = record {
+    history = is.history;
+    now = is.now;
+    machine = is.machine;
+    answers = is.answers;
+    spoken = is.spoken;
+    printed = is.printed;
+    spelled = is.spelled;
+    kept = is.kept;
+    disk = is.disk;
+    read = λ fault. rose_later before.faults mid.faults after.faults later (is.read fault);
+  }
+
+  pub due_on : (ending : Ending) → IsHeldOn c plans first ready mid after files files_after out out_after ending → IsServeDue before after files files_after out out_after ending
+  due_on (Told ended) (given, text, status, consumed, served, told) =
+      (text, status, (c, plans, first, ready ++ given, read_with given consumed, served_since (ready ++ given) text status served), told)
+  due_on (Due found) (why, unsaid, unread) =
+      (inr (c, plans, first, ready ++ [], read_with [] (subst (λ (i : Input). Consumes mid.left i.left []) (sym unread) (Consumes-nil mid.left)), why), unsaid)

@@ -1,0 +1,109 @@
+-- What a dialogue over files comes to is due.
+use Rattle.std.proofs.Common.{◌≡◌, ◌≤◌, ℕ, List, ◌++◌, ◌∙◌, Result, Err, inl, inr, refl, ap, sym, subst}
+use Rattle.std.specs.Prelude.{⊤}
+use Rattle.process_flow.specs.Causes.{Rose}
+use Rattle.process_flow.specs.declared.source.Source.{Ghosts as Sources}
+use Rattle.process_flow.specs.declared.sink.Sink.{Ghosts as Sinks}
+use Rattle.process_disk.specs.declared.rack.Rack.{Ghosts as Racks}
+use Rattle.process_disk.specs.Disk.{IsHonest, Told as IsKnown}
+use Rattle.process_disk.specs.Images.{EachImage}
+use Rattle.process_tree.specs.declared.plan.Plan.{Plan}
+use Rattle.schedule_model.specs.declared.history.History.{History}
+use Rattle.commute_table.specs.declared.catalog.Catalog.{Catalog}
+use Rattle.process_core.specs.Cores.{IsCore}
+use Rattle.history_files.specs.Sound.{IsSound}
+use Rattle.engine_steps.specs.Engines.{EngineState, full_history}
+use Rattle.engine_steps.specs.declared.engines.Phase.{Phase}
+use Rattle.engine_steps.specs.declared.engines.Phase.TheVariants.{Settled}
+use Rattle.engine_runs.specs.Acknowledged.{IsOneAhead}
+use Rattle.engine_runs.specs.Opened.{AreKept, AreOnlyOpened}
+use Rattle.engine_runs.proofs.Opened.{are_kept}
+use Rattle.program_lines.specs.declared.refusal.Refusal.{Refusal}
+use Rattle.program_lines.specs.declared.refusal.Refusal.TheVariants.{NoMemory}
+use Rattle.program_lines.specs.declared.status.Status.{Status}
+use Rattle.program_lines.specs.declared.status.Status.TheVariants.{WriteFault}
+use Rattle.command_input.specs.declared.said.Said.{Said}
+use Rattle.command_input.specs.FilesLeft.{files}
+use Rattle.command_input.specs.Inputs.{input}
+use Rattle.command_input.specs.Outputs.{output, IsTold}
+use Rattle.scenario_run.specs.Opening.{AreOpenedOn}
+use Rattle.scenario_run.proofs.OnlyOpened.{only_opened}
+use Rattle.scenario_run.proofs.RunDue.{rose_later}
+use Rattle.driver_requests.specs.Readiness.{ready_text}
+use Rattle.serve_run.specs.declared.command.Ending.{Ending}
+use Rattle.serve_run.specs.declared.command.Ending.TheVariants.{Told, Due}
+use Rattle.serve_run.specs.Serve.{IsHeld, IsHeldOn, IsNotBegun, IsNotServedOn, IsServed, OnEnding}
+
+module _ {S K R B : Type 0} (s : Sources S) (k : Sinks K) (r : Racks R) (honest : (rack : R) → IsKnown (r.disk rack) → IsHonest (r.disk rack)) (plans : List Plan) (first : ℕ) (ready : List ℕ) (source source' : S) (sink sink' : K)
+    (entry : R) (opening now : EngineState R B) (begun : IsCore opening.core) (tells : (r.disk opening.files.rack).tells ≡ (r.disk entry).tells)
+    (opened : AreOpenedOn opening.catalog (full_history opening.core) (files r entry) (files r opening.files.rack)) (machine : IsCore now.core)
+    (read : now.phase ≡ Settled → IsKnown (r.disk now.files.rack) → IsSound now.catalog (full_history now.core) (r.disk now.files.rack).files)
+    (each : now.phase ≡ Settled → IsKnown (r.disk now.files.rack) → EachImage (r.disk now.files.rack) (r.disk now.files.rack).moment (IsSound now.catalog (full_history now.core)))
+    (later : r.faults entry ≤ r.faults opening.files.rack) where
+  abbrev c : Catalog
+  c = opening.catalog
+
+  abbrev h : History
+  h = full_history opening.core
+
+  module _ (ended : Status) (is : IsHeld s k r plans first ready source source' sink sink' opening now ended) where
+    abbrev KeptOn : Phase → Type 0
+    KeptOn on = AreKept c h now.core (IsOneAhead c (plans ++ is.spelled) now.core on) on (r.disk entry) (r.disk now.files.rack)
+
+    kept : KeptOn now.phase
+    kept = are_kept (plans ++ is.spelled) r honest entry opening now begun.session.one_each tells opened.sound opened.becomes opened.each is.goes read each
+
+    served : IsServed c plans first (ready ++ is.given) (input s source) (input s source') (files r entry) (files r now.files.rack) (ready_text h ++ is.text) is.status
+    served = record {
+      history = h;
+      now = now.core;
+      machine = machine;
+      answers = is.text;
+      spoken = is.spoken;
+      printed = refl;
+      spelled = is.spelled;
+      kept = subst KeptOn is.phase kept;
+      disk = λ fault. rose_later (r.faults entry) (r.faults opening.files.rack) (r.faults now.files.rack) later (is.disk fault);
+      read = is.read;
+    }
+
+    told : IsHeldOn c plans first ready (input s source) (input s source') (files r entry) (files r now.files.rack) (output k sink) (output k sink') (Told ended)
+    told = (is.given, ready_text h ++ is.text, is.status, is.consumed, served, is.told)
+
+  not_begun : now ≡ opening → IsNotBegun c (files r entry) (files r now.files.rack) NoMemory
+  not_begun left = (
+    refl,
+    (
+      h,
+      subst (λ rack. AreOnlyOpened c h (r.disk entry) (r.disk rack)) (ap (λ (e : EngineState R B). e.files.rack) (sym left))
+          (only_opened c h (files r entry) (files r opening.files.rack) begun.session.one_each opened),
+    ),
+  )
+
+  due : (found : Result Said Refusal) → (found ≡ Err NoMemory) × (now ≡ opening) × (sink' ≡ sink) × (source' ≡ source)
+      → IsHeldOn c plans first ready (input s source) (input s source') (files r entry) (files r now.files.rack) (output k sink) (output k sink') (Due found)
+  due found (is, left, unsaid, unread) =
+      (subst (IsNotServedOn c (files r entry) (files r now.files.rack)) (sym is) (inr (not_begun left)), ap (output k) unsaid, ap (input s) unread)
+
+  by_ending : (ending : Ending) → OnEnding (IsHeld s k r plans first ready source source' sink sink' opening now) (λ found. (found ≡ Err NoMemory) × (now ≡ opening) × (sink' ≡ sink) × (source' ≡ source)) ending
+      → IsHeldOn c plans first ready (input s source) (input s source') (files r entry) (files r now.files.rack) (output k sink) (output k sink') ending
+  by_ending (Told ended) is = told ended is
+  by_ending (Due found) is = due found is
+
+  -- So it is, on files that were opened for this catalog and are handed back.
+  pub held_on : (d : Catalog) (rack : R) (ending : Ending) → c ≡ d → rack ≡ now.files.rack
+      → OnEnding (IsHeld s k r plans first ready source source' sink sink' opening now) (λ found. (found ≡ Err NoMemory) × (now ≡ opening) × (sink' ≡ sink) × (source' ≡ source)) ending
+      → IsHeldOn d plans first ready (input s source) (input s source') (files r entry) (files r rack) (output k sink) (output k sink') ending
+  held_on d rack ending catalog back is =
+      subst (λ x. IsHeldOn d plans first ready (input s source) (input s source') (files r entry) (files r x) (output k sink) (output k sink') ending) (sym back)
+      (subst (λ x. IsHeldOn x plans first ready (input s source) (input s source') (files r entry) (files r now.files.rack) (output k sink) (output k sink') ending) catalog (by_ending ending is))
+
+-- what a dialogue was told of has its cause
+pub written : {S K R B : Type 0} (s : Sources S) (k : Sinks K) (r : Racks R) (plans : List Plan) (first : ℕ) (ready : List ℕ) (source source' : S) (sink sink' : K) (opening now : EngineState R B) (ending : Ending) (P : Result Said Refusal → Type 0)
+    → OnEnding (IsHeld s k r plans first ready source source' sink sink' opening now) P ending → OnEnding (λ ended. ended ≡ WriteFault → Rose (k.faults sink) (k.faults sink')) (λ found. ⊤) ending
+written s k r plans first ready source source' sink sink' opening now (Told ended) P is = λ fault. by_told fault is.told
+  where
+    by_told : ended ≡ WriteFault → IsTold is.status (ready_text (full_history opening.core) ++ is.text) (output k sink) (output k sink') ended → Rose (k.faults sink) (k.faults sink')
+    by_told fault (inl told) = is.write (sym told.0 ∙ fault)
+    by_told fault (inr failed) = failed.1
+written s k r plans first ready source source' sink sink' opening now (Due found) P is = tt

@@ -1,0 +1,210 @@
+-- The lines of a driver one after another, each with its answer before the next is taken.
+use Rattle.std.specs.Prelude.{◌≡◌, ◌≢◌, ◌⊎◌, ◌≤◌, ◌<◌, ◌+◌, ◌-◌, ◌^◌, ℕ, List, [], ◌∷◌, ◌++◌, flat_map, length, min, codes, Option, Some, None}
+use Rattle.std.specs.Io.KnownBytes.{Appends, Consumes, IsAtEnd}
+use Rattle.process_flow.specs.Causes.{Rose}
+use Rattle.process_flow.specs.declared.source.Source.{Ghosts as Sources}
+use Rattle.process_flow.specs.declared.sink.Sink.{Ghosts as Sinks}
+use Rattle.process_disk.specs.declared.rack.Rack.{Ghosts as Racks}
+use Rattle.process_disk.specs.Disk.{Told}
+use Rattle.process_disk.specs.Images.{EachImage}
+use Rattle.process_tree.specs.declared.plan.Plan.{Plan}
+use Rattle.process_text.specs.Canonical.{line_of}
+use Rattle.trace_verify.specs.Lines.{cut}
+use Rattle.commute_table.specs.declared.catalog.Catalog.{Catalog}
+use Rattle.machine_model.specs.Replies.{Handed}
+use Rattle.process_core.specs.Cores.{CoreState, IsCore}
+use Rattle.history_files.specs.Sound.{IsSound}
+use Rattle.engine_steps.specs.Engines.{EngineState, full_history}
+use Rattle.engine_steps.specs.declared.engines.Phase.{Phase}
+use Rattle.engine_steps.specs.declared.engines.Phase.TheVariants.{Settled, Closed}
+use Rattle.engine_runs.specs.Runs.{GoesOn}
+use Rattle.program_lines.specs.declared.refusal.Refusal.TheVariants as refusals
+use Rattle.program_lines.specs.declared.status.Status.{Status}
+use Rattle.program_lines.specs.declared.status.Status.TheVariants.{Done, DiskFault, NoMemory, ReadFault, WriteFault}
+use Rattle.command_input.specs.Outputs.{output, refusal_line, IsTold}
+use Rattle.session_lines.specs.declared.cut.Cut.{Cut}
+use Rattle.session_lines.specs.declared.cut.Cut.TheVariants as cuts
+use Rattle.driver_requests.specs.Answers.{bad_line_words}
+use Rattle.driver_requests.specs.Requests.{request_of}
+use Rattle.driver_answers.specs.Serving.{DriverState, IsLineAnswered, LeadsTo}
+use Rattle.serve_run.specs.declared.faults.Fault.{Fault}
+use Rattle.serve_run.specs.declared.faults.Fault.TheVariants as faults
+use Rattle.serve_run.specs.declared.taking.Next.{Next}
+use Rattle.serve_run.specs.declared.taking.Next.TheVariants.{Line, LongLine, Stop}
+
+-- what an engine is left in by a dialogue that ends at this status
+abbrev pub phase_by : Status → Phase
+phase_by DiskFault = Closed
+phase_by status = Settled
+
+-- the status of a fault, and its line
+abbrev pub status_of : Fault → Status
+status_of faults.ReadFault = ReadFault
+status_of faults.DiskFault = DiskFault
+status_of faults.NoMemory = NoMemory
+
+abbrev pub fault_line : Fault → List ℕ
+fault_line faults.ReadFault = refusal_line refusals.ReadFault
+fault_line faults.DiskFault = refusal_line refusals.DiskFault
+fault_line faults.NoMemory = refusal_line refusals.NoMemory
+
+-- why a dialogue ends with a line that was not answered
+abbrev pub fault_of : Cut → Fault
+fault_of cuts.DiskFault = faults.DiskFault
+fault_of cuts.NoMemory = faults.NoMemory
+
+-- the greatest size of a line, in bytes
+abbrev pub most_line : ℕ
+most_line = 65536
+
+-- the number of the next line: it stays at the last number of 64 bits
+abbrev pub next_number : ℕ → ℕ
+next_number n = min (n + 1) (2 ^ 64 - 1)
+
+-- A line and its answer.
+pub record Exchange : Type 0 where
+  pub line : List ℕ
+  pub answer : List ℕ
+
+-- what a line is answered; one that is too long has no form
+abbrev pub IsAnswered : Catalog → List Plan → DriverState → ℕ → List ℕ → DriverState → List ℕ → Type 0
+IsAnswered c plans s n line t text =
+    ((length line ≤ most_line) × IsLineAnswered c plans s n line t text) ⊎ ((most_line < length line) × (t ≡ s) × (text ≡ line_of (bad_line_words n)))
+
+-- lines of which the first has the number n lead from one state to another, each with its answer
+abbrev pub AreAnswered : Catalog → List Plan → DriverState → ℕ → List Exchange → DriverState → Type 0
+AreAnswered c plans s n [] t = s ≡ t
+AreAnswered c plans s n (x ∷ xs) t = (m : DriverState) × IsAnswered c plans s n x.line m x.answer × AreAnswered c plans m (next_number n) xs t
+
+-- A dialogue between two lines: its source with the bytes that came and no line took, its sink, its engine with the pieces that are
+-- unfinished, and the number of the next line.
+pub record DialogueState (S K R B : Type 0) : Type 0 where
+  pub source : S
+  pub ready : List ℕ
+  pub sink : K
+  pub engine : EngineState R B
+  pub unfinished : List Handed
+  pub number : ℕ
+
+-- the dialogue of these
+abbrev pub state_at : {S K R B : Type 0} → S → List ℕ → K → EngineState R B → List Handed → ℕ → DialogueState S K R B
+state_at source ready sink engine unfinished number = record { source = source; ready = ready; sink = sink; engine = engine; unfinished = unfinished; number = number }
+
+-- what a driver sees of it
+abbrev pub driver_state : {S K R B : Type 0} → DialogueState S K R B → DriverState
+driver_state d = record { core = d.engine.core; unfinished = d.unfinished }
+
+-- An engine between two lines: nothing is under way, and what it keeps is in the files, and in whatever a crash leaves from now on.
+pub record IsBetween {R B : Type 0} (r : Racks R) (e : EngineState R B) : Type 0 where
+  pub machine : IsCore e.core
+  pub settled : e.phase ≡ Settled
+  pub read : Told (r.disk e.files.rack) → IsSound e.catalog (full_history e.core) (r.disk e.files.rack).files
+  pub each : Told (r.disk e.files.rack) → EachImage (r.disk e.files.rack) (r.disk e.files.rack).moment (IsSound e.catalog (full_history e.core))
+
+-- One line and its answer, from one state of a dialogue to the next.
+pub record IsExchange {S K R B : Type 0} (s : Sources S) (k : Sinks K) (r : Racks R) (plans : List Plan) (x : Exchange) (a b : DialogueState S K R B) : Type 0 where
+  -- the line was taken
+  pub given : List ℕ
+  pub consumed : Consumes (s.left a.source) (s.left b.source) given
+  pub line : cut 10 (a.ready ++ given) ≡ Some (x.line, b.ready)
+  -- it led to this, and this is its answer
+  pub answered : IsAnswered a.engine.catalog plans (driver_state a) a.number x.line (driver_state b) x.answer
+  -- no start was under way but of a plan of the scenario, or of these
+  pub spelled : List Plan
+  pub goes : GoesOn r.disk r.faults (plans ++ spelled) a.engine b.engine
+  -- what it led to is in the files, and in whatever a crash leaves from now on
+  pub between : IsBetween r b.engine
+  -- and its answer was given, whole
+  pub told : Appends (k.taken a.sink) (k.taken b.sink) x.answer
+  -- no call failed
+  pub no_read_fault : s.faults b.source ≡ s.faults a.source
+  pub no_write_fault : k.faults b.sink ≡ k.faults a.sink
+  pub next : b.number ≡ next_number a.number
+
+-- Lines and their answers, one after another: each begins in the state in which the one before ended, so its line is taken once the answer before was given.
+abbrev pub AreExchanged : {S K R B : Type 0} → Sources S → Sinks K → Racks R → List Plan → DialogueState S K R B → List Exchange → DialogueState S K R B → Type 0
+AreExchanged s k r plans a [] b = a ≡ b
+AreExchanged {S} {K} {R} {B} s k r plans a (x ∷ xs) b = (m : DialogueState S K R B) × IsExchange s k r plans x a m × AreExchanged s k r plans m xs b
+
+-- what is printed of lines
+abbrev pub printed_of : List Exchange → List ℕ
+printed_of xs = flat_map (λ x. x.answer) xs
+
+-- the bytes of lines, each with its line feed
+abbrev pub bytes_of : List Exchange → List ℕ
+bytes_of xs = flat_map (λ x. x.line ++ 10 ∷ []) xs
+
+-- How a dialogue ends behind the lines that were answered, with what is printed last: by `stop`, or with its input; by a fault, or for want of memory, which
+-- has a line; or an answer was not taken whole. What the machine kept is what the answered lines make; or, where memory was wanting to print an
+-- answer or it was not taken, that line too.
+abbrev pub EndsWith : Catalog → List Plan → DriverState → ℕ → List ℕ → CoreState → Status → Type 0
+EndsWith c plans last n tail now Done = (tail ≡ []) × (now ≡ last.core)
+EndsWith c plans last n tail now ReadFault = (tail ≡ refusal_line refusals.ReadFault) × (now ≡ last.core)
+EndsWith c plans last n tail now DiskFault = (tail ≡ refusal_line refusals.DiskFault) × (now ≡ last.core)
+EndsWith c plans last n tail now NoMemory =
+    (tail ≡ refusal_line refusals.NoMemory) × ((now ≡ last.core) ⊎ ((line : List ℕ) × LeadsTo c plans last line (request_of line) now))
+EndsWith c plans last n tail now WriteFault = (line : List ℕ) × (t : DriverState) × IsAnswered c plans last n line t tail × (now ≡ t.core)
+EndsWith c plans last n tail now status = ⊥
+
+-- the line that comes next is `stop`, or no line comes
+abbrev pub IsStop : List ℕ → Option (List ℕ) → Type 0
+IsStop rest left = ((behind : List ℕ) × (cut 10 rest ≡ Some (codes "stop", behind))) ⊎ ((cut 10 rest ≡ None) × IsAtEnd left)
+
+-- What comes next of a dialogue: of the bytes that stood ready and those that the source gave the first line, which isn't too long; or one that is; or
+-- `stop`, or no line.
+abbrev pub IsNext : List ℕ → List ℕ → Option (List ℕ) → Option (List ℕ) → Next → Type 0
+IsNext ready rest before after (Line line) =
+    (given : List ℕ) × Consumes before after given × (cut 10 (ready ++ given) ≡ Some (line.items, rest)) × (length line.items ≤ most_line)
+IsNext ready rest before after LongLine =
+    (given : List ℕ) × (line : List ℕ) × Consumes before after given × (cut 10 (ready ++ given) ≡ Some (line, rest)) × (most_line < length line)
+IsNext ready rest before after Stop = (given : List ℕ) × Consumes before after given × IsStop (ready ++ given) after
+
+-- What is printed last, and at which status the dialogue ends with it: an engine and a sink went from one state to the last.
+pub record IsCutShort {K R B : Type 0} (k : Sinks K) (r : Racks R) (plans : List Plan) (s : DriverState) (n : ℕ) (sink sink_after : K) (engine engine_after : EngineState R B) (ended : Status) : Type 0 where
+  pub tail : List ℕ
+  pub status : Status
+  pub ends : EndsWith engine.catalog plans s n tail engine_after.core status
+  pub told : IsTold status tail (output k sink) (output k sink_after) ended
+  -- no start was under way but of a plan of the scenario, or of these
+  pub spelled : List Plan
+  pub goes : GoesOn r.disk r.faults (plans ++ spelled) engine engine_after
+  pub phase : engine_after.phase ≡ phase_by status
+  -- each fault has its cause
+  pub disk : status ≡ DiskFault → Rose (r.faults engine.files.rack) (r.faults engine_after.files.rack)
+  pub write : status ≡ WriteFault → Rose (k.faults sink) (k.faults sink_after)
+
+-- the same where a line was taken
+pub record IsCutAmid {K R B : Type 0} (k : Sinks K) (r : Racks R) (plans : List Plan) (s : DriverState) (n : ℕ) (sink sink_after : K) (engine engine_after : EngineState R B) (ended : Status) : Type 0 where
+  pub cut : IsCutShort k r plans s n sink sink_after engine engine_after ended
+  pub not_stopped : cut.status ≢ Done
+  pub not_unread : cut.status ≢ ReadFault
+
+-- A dialogue ended, from one state to the last.
+pub record IsOver {S K R B : Type 0} (s : Sources S) (k : Sinks K) (r : Racks R) (plans : List Plan) (a b : DialogueState S K R B) (ended : Status) : Type 0 where
+  pub given : List ℕ
+  pub consumed : Consumes (s.left a.source) (s.left b.source) given
+  pub cut : IsCutShort k r plans (driver_state a) a.number a.sink b.sink a.engine b.engine ended
+  pub stops : cut.status ≡ Done → IsStop (a.ready ++ given) (s.left b.source)
+  pub read : cut.status ≡ ReadFault → Rose (s.faults a.source) (s.faults b.source)
+  pub later : s.faults a.source ≤ s.faults b.source
+
+-- A dialogue: lines with their answers, and its end.
+pub record IsDialogue {S K R B : Type 0} (s : Sources S) (k : Sinks K) (r : Racks R) (plans : List Plan) (a b : DialogueState S K R B) (ended : Status) : Type 0 where
+  pub exchanges : List Exchange
+  pub last : DialogueState S K R B
+  pub exchanged : AreExchanged s k r plans a exchanges last
+  pub over : IsOver s k r plans last b ended
+
+-- What a dialogue prints, at which status, that began in this state with line n: these lines were answered, and so it ended.
+pub record HasConversed (c : Catalog) (plans : List Plan) (first : DriverState) (n : ℕ) (now : CoreState) (taken : List ℕ) (left : Option (List ℕ)) (text : List ℕ) (status : Status) : Type 0 where
+  pub exchanges : List Exchange
+  pub last : DriverState
+  pub answered : AreAnswered c plans first n exchanges last
+  -- the lines stand in front of what was taken of the input
+  pub rest : List ℕ
+  pub lines : taken ≡ bytes_of exchanges ++ rest
+  pub stops : status ≡ Done → IsStop rest left
+  pub tail : List ℕ
+  pub printed : text ≡ printed_of exchanges ++ tail
+  pub reached : ℕ
+  pub ends : EndsWith c plans last reached tail now status

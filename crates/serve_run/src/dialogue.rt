@@ -1,0 +1,56 @@
+// The lines of a driver, one after another.
+ghost use Rattle.std.specs.Prelude.{◌≡◌, ℕ, List, []};
+ghost use Rattle.process_tree.specs.Order.{Each};
+ghost use Rattle.machine_model.specs.Replies.{Handed};
+ghost use Rattle.history_files.specs.Standing.{EachFits};
+ghost use Rattle.engine_steps.specs.Beginning.{IsPlanFor};
+ghost use Rattle.engine_runs.specs.Runs.{IsReady};
+ghost use Rattle.serve_run.specs.Dialogue.{state_at, IsDialogue};
+
+use crate::exchange::exchange;
+use crate::faults::{Fault, tell_fault};
+use line_reader::LineReader;
+use process_disk::Rack;
+use process_engine::Engine;
+use process_flow::{Sink, Source};
+use process_tree::Plan;
+use program_lines::Status;
+use resource_box::Resource;
+use std::alloc::Global;
+
+/// Answers the lines of a source, the first of which has this number, with these plans of the scenario: each before the next is taken.
+pub fn converse<S: Source, K: Sink, R: Rack + Drop, B: Resource>(
+    alloc: Global,
+    engine: &mut Engine<R, B>,
+    plans: &[Plan],
+    reader: &mut LineReader,
+    source: &mut S,
+    sink: &mut K,
+    first: u64,
+) -> Status
+    requires ready { IsReady B.meaning B.sort engine.old }
+    requires plans { Each (IsPlanFor engine.old.catalog) plans.now }
+    ensures held { (unfinished : List Handed) × (number : ℕ) × IsDialogue S.Source K.Sink R.Rack plans.now (state_at source.old reader.old sink.old engine.old [] first)
+        (state_at source.new reader.new sink.new engine.new unfinished number) result }
+    ensures fits { EachFits B.meaning B.sort engine.new.files.stores }
+{
+    let mut pieces = Vec::new(alloc);
+    let mut number = first;
+    engine.is_sound();
+    for _ in 0..u64::MAX {
+        if let Some(status) = exchange(
+            alloc,
+            engine,
+            plans,
+            &mut pieces,
+            reader,
+            source,
+            sink,
+            number,
+        ) {
+            return status;
+        }
+        number = number.saturating_add(1);
+    }
+    tell_fault(sink, Fault::NoMemory)
+}
