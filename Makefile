@@ -25,20 +25,7 @@ install: build
 edits:
 	tests/edits $(CRATES)
 
-# Times the calls that have to stay quick on large inputs, and the check of the worst text within 1 MiB; no part of the gate.
+# Times the calls that have to stay quick on large inputs, and the check of the worst text within 1 MiB, over what was proved before;
+# no part of the gate. With BENCHES="A B" only these of bench/.
 bench:
-	bench/run
-	bench/store
-	bench/journal
-	bench/trace
-	bench/verify
-	bench/legal
-	bench/admit
-	bench/core
-	bench/engine
-	bench/scenario
-	bench/report
-	awk -f bench/worst_text.awk > bench/worst.process
-	time ./tps check < bench/worst.process > /dev/null
-	bench/restart
-	bench/serve
+	bench/all $(BENCHES)

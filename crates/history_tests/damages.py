@@ -54,7 +54,7 @@ def takes(subsystem, verb):
 
 def catalog(data):
     """The names of the operations of a catalog that is all of the bytes, or None."""
-    if len(data) < 3 or data[0] != 1:
+    if len(data) < 3 or data[0] not in (1, 2):
         return None
     count, at, names = int.from_bytes(data[1:3], "little"), 3, []
     if count > 256:
@@ -68,8 +68,9 @@ def catalog(data):
             return None
         names.append(name)
         at = end + 2
+    # A pair has a code up to 1 in version 1, and up to 2 in version 2.
     pairs = data[at:]
-    if len(pairs) != count * (count + 1) // 2 or any(pair > 1 for pair in pairs):
+    if len(pairs) != count * (count + 1) // 2 or any(pair > data[0] for pair in pairs):
         return None
     return names
 
@@ -212,4 +213,5 @@ def main():
         sys.exit(1)
 
 
-main()
+if __name__ == "__main__":
+    main()

@@ -4,7 +4,7 @@ from dataclasses import dataclass
 
 from orders import AT_FIRST, ITEMS, Delivery, order
 
-TITLES = ("conflicts", "history", "completion", "ends", "causes", "trace", "serial")
+TITLES = ("conflicts 2", "history", "completion", "ends", "causes", "trace", "serial")
 
 
 @dataclass(frozen=True)

@@ -101,14 +101,14 @@ class Stock(Database):
 
     def open_shelf(self, item, count):
         """What is on the shelf when the shop opens for the first time."""
-        self._all("INSERT OR IGNORE INTO rows VALUES (?, 'deliver_first', ?, ?, 'committed')", f"opening/{item}", item, count)
+        self._all("INSERT OR IGNORE INTO rows VALUES (?, 'deliver', ?, ?, 'committed')", f"opening/{item}", item, count)
 
     def _refusal(self, operation, item, count):
         free = self._sum("state = 'committed' OR amount < 0", item)
-        return "there are too few" if operation.startswith("reserve_") and free < count else None
+        return "there are too few" if operation == "reserve" and free < count else None
 
     def _change(self, operation, count):
-        return -count if operation.startswith("reserve_") else count
+        return -count if operation == "reserve" else count
 
 
 class Payments(Database):
@@ -138,7 +138,7 @@ class Parcels(Database):
 
 
 class Databases:
-    """The three of a folder, as one thread opens them. An operation is of the database that has its first word: `reserve_tea` is of the stock."""
+    """The three of a folder, as one thread opens them. An operation is of the database that has its first word: `place_north` is of the parcels."""
 
     kinds = (Stock, Payments, Parcels)
 

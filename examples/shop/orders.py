@@ -11,24 +11,21 @@ PLACES = 20
 
 
 def scenario(processes=""):
-    """The operations of the shop and their conflicts. Items and vans have operations of their own, since conflicts look at no key. Two
-    reservations don't conflict: where both took effect, there was enough for both."""
-    operations = [("charge", 1, "add"), ("ship", 2, "add"), ("keep", 3, "add")]
-    conflicts = []
-    for item in ITEMS:
-        operations += [(f"deliver_{item}", 0, "add"), (f"reserve_{item}", 0, "take")]
-        conflicts.append((f"deliver_{item}", f"reserve_{item}"))
+    """The operations of the shop and their conflicts, which are by key: by item, and by place in a van. Two reservations don't conflict:
+    where both took effect, there was enough for both."""
+    operations = [("charge", 1, "add"), ("ship", 2, "add"), ("keep", 3, "add"), ("deliver", 0, "add"), ("reserve", 0, "take")]
+    conflicts = [("deliver", "reserve")]
     for subsystem, van in enumerate(VANS, 6):
         operations.append((f"place_{van}", subsystem, "hold"))
         conflicts.append((f"place_{van}", f"place_{van}"))
     tables = [f'[[op]]\nname = "{name}"\nsubsystem = {subsystem}\nverb = "{verb}"' for name, subsystem, verb in operations]
-    pairs = ", ".join(f'["{one}", "{other}"]' for one, other in conflicts)
-    return f'version = 1\nconflicts = [{pairs}]\nprocesses = "{processes}"\n' + "\n".join(tables) + "\n"
+    pairs = ", ".join(f'["{one}", "{other}", "key"]' for one, other in conflicts)
+    return f'version = 2\nconflicts = [{pairs}]\nprocesses = "{processes}"\n' + "\n".join(tables) + "\n"
 
 
 def opening(shelves, places):
     """The first process of fresh files: it brings over the shelves, a count by item, and the places, (operation, key, order)."""
-    steps = [f"c {item} deliver_{item} {ITEMS[item]} {count}" for item, count in shelves.items()]
+    steps = [f"c {item} deliver {ITEMS[item]} {count}" for item, count in shelves.items()]
     steps += [f"c {operation}_{key} {operation} {key} {order}" for operation, key, order in places]
     return f"process opening {' '.join(steps)} end"
 
@@ -50,7 +47,7 @@ class Delivery:
     @cached_property
     def calls(self):
         """What each step calls: its operation, key and amount."""
-        return {"unload": (f"deliver_{self.item}", ITEMS[self.item], self.count)}
+        return {"unload": ("deliver", ITEMS[self.item], self.count)}
 
     @property
     def process(self):
@@ -82,7 +79,7 @@ class Order:
     def calls(self):
         """What each step calls: its operation, key and amount."""
         return {
-            "reserve": (f"reserve_{self.item}", ITEMS[self.item], self.count),
+            "reserve": ("reserve", ITEMS[self.item], self.count),
             "pay": ("charge", self.card, self.price),
             "place": (f"place_{self.van}", self.place, self.number),
             "ship": ("ship", self.number, self.count),

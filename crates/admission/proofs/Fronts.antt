@@ -27,7 +27,7 @@ same_at (x ∷ xs) zero a b within = refl
 same_at (x ∷ xs) (suc place) a b within = same_at xs place a b (omega arith)
 
 abbrev no_entry : Entry
-no_entry = record { process = 0; step = 0; op = 0; undo = false }
+no_entry = record { process = 0; step = 0; op = 0; key = 0; undo = false }
 
 -- none of these is of the step of x
 none_of : (x : Entry) (es : List Entry) → list_all (λ f. not (same_step x f)) es ≡ true → Each (λ y. same_step y x ≡ false) es

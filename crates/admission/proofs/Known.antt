@@ -19,9 +19,9 @@ known_running t tidy i opened e is =
     let found = (tidy_row t tidy i opened).0.running in
     (subst (λ o. IfSome o (λ x. (x.process ≡ r.process) × (can_come (of_process r.process t.net) r x ≡ true) × IsKnown t.conflicts x)) is found).2
 
-pub known_reserved : (t : Tables) → AreTidy t → (i : ℕ) → is_open t i ≡ true → (place : ℕ) (d : ℕ × ℕ) → place < length (kept_of t i).reserved
+pub known_reserved : (t : Tables) → AreTidy t → (i : ℕ) → is_open t i ≡ true → (place : ℕ) (d : ℕ × ℕ × ℕ) → place < length (kept_of t i).reserved
     → (slice_index_or (kept_of t i).reserved place d).1 < operations_in t.conflicts
-known_reserved t tidy i opened place d within = each_place (λ pair. pair.1 < operations_in t.conflicts) (kept_of t i).reserved place d within (tidy_row t tidy i opened).0.reserved
+known_reserved t tidy i opened place d within = each_place (λ step. step.1 < operations_in t.conflicts) (kept_of t i).reserved place d within (tidy_row t tidy i opened).0.reserved
 
 -- the entries of a process are numbered with it
 pub own_number : (t : Tables) → AreTidy t → (i : ℕ) → is_open t i ≡ true → (kept_of t i).process ≡ i

@@ -2,7 +2,7 @@ pub mod Order
 pub mod Over
 pub mod Places
 pub mod Greatest
-pub mod ByNumber
+pub mod Busy
 pub mod Known
 pub mod Looking
 pub mod Fronts

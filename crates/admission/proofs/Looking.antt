@@ -20,18 +20,18 @@ pub with_table : (a b : Table) (rule : Rule) (own other : Entry) (o p : Option B
 with_table a b rule own other o p same found = ap (λ t. least_with (do_conflict t) rule own other o) same ∙ ap (least_with (do_conflict b) rule own other) found
 
 -- one reserved step more
-pub reserved_more : (table : ConflictRelation) (rule : Rule) (own : Entry) (i : ℕ) (pairs : List (ℕ × ℕ)) (place : ℕ) (pair : ℕ × ℕ)
-    → 0 < place → place ≤ length pairs → ((d : ℕ × ℕ) → pair ≡ slice_index_or pairs (place - 1) d)
-    → least_with table rule own (reserved_entry i pair) (least_on table rule own (map (reserved_entry i) (drop place pairs)))
-    ≡ least_on table rule own (map (reserved_entry i) (drop (place - 1) pairs))
-reserved_more table rule own i pairs place pair some most is =
-    sym (on-cons table rule own (reserved_entry i pair) (map (reserved_entry i) (drop place pairs)))
-    ∙ ap (λ ps. least_on table rule own (map (reserved_entry i) ps)) (sym (rest_back pairs place pair some most is))
+pub reserved_more : (table : ConflictRelation) (rule : Rule) (own : Entry) (i : ℕ) (planned : List (ℕ × ℕ × ℕ)) (place : ℕ) (step : ℕ × ℕ × ℕ)
+    → 0 < place → place ≤ length planned → ((d : ℕ × ℕ × ℕ) → step ≡ slice_index_or planned (place - 1) d)
+    → least_with table rule own (reserved_entry i step) (least_on table rule own (map (reserved_entry i) (drop place planned)))
+    ≡ least_on table rule own (map (reserved_entry i) (drop (place - 1) planned))
+reserved_more table rule own i planned place step some most is =
+    sym (on-cons table rule own (reserved_entry i step) (map (reserved_entry i) (drop place planned)))
+    ∙ ap (λ ps. least_on table rule own (map (reserved_entry i) ps)) (sym (rest_back planned place step some most is))
 
 -- whether it is among the steps
-pub step_more : (b : ℕ) (pairs : List (ℕ × ℕ)) (place : ℕ) (pair : ℕ × ℕ) → 0 < place → place ≤ length pairs → ((d : ℕ × ℕ) → pair ≡ slice_index_or pairs (place - 1) d)
-    → (nat_eq b pair.0 || is_in b (map (λ p. p.0) (drop place pairs))) ≡ is_in b (map (λ p. p.0) (drop (place - 1) pairs))
-step_more b pairs place pair some most is = ap (λ ps. is_in b (map (λ p. p.0) ps)) (sym (rest_back pairs place pair some most is))
+pub step_more : (b : ℕ) (planned : List (ℕ × ℕ × ℕ)) (place : ℕ) (step : ℕ × ℕ × ℕ) → 0 < place → place ≤ length planned → ((d : ℕ × ℕ × ℕ) → step ≡ slice_index_or planned (place - 1) d)
+    → (nat_eq b step.0 || is_in b (map (λ p. p.0) (drop place planned))) ≡ is_in b (map (λ p. p.0) (drop (place - 1) planned))
+step_more b planned place step some most is = ap (λ ps. is_in b (map (λ p. p.0) ps)) (sym (rest_back planned place step some most is))
 
 -- an entry of the process more
 pub own_more : (i : ℕ) (net : List Entry) (place : ℕ) (e : Entry) → 0 < place → place ≤ length net → ((d : Entry) → e ≡ slice_index_or net (place - 1) d) → e.process ≡ i

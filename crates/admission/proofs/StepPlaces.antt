@@ -91,4 +91,4 @@ first_found i b (e ∷ es) place d is = by (is_of_step i b e) (place_of_step i b
 -- it is one of the places of the net
 pub place_within : (i b : ℕ) (net : List Entry) (o : Option ℕ) → o ≡ place_of_step i b net → IfSome o (λ place. place < length net)
 place_within i b net None is = tt
-place_within i b net (Some place) is = (first_found i b net place (record { process = 0; step = 0; op = 0; undo = false }) (sym is)).within
+place_within i b net (Some place) is = (first_found i b net place (record { process = 0; step = 0; op = 0; key = 0; undo = false }) (sym is)).within

@@ -32,7 +32,7 @@ IsWithin plan (Exhausted b) = ⊥
 
 -- the steps that process i has reserved
 abbrev pub reserved_steps : Tables → ℕ → List ℕ
-reserved_steps t i = map (λ pair. pair.0) (kept_of t i).reserved
+reserved_steps t i = map (λ step. step.0) (kept_of t i).reserved
 
 -- the class of step b of process i: reserved where its process has reserved it, else by its kind
 abbrev pub class_in_tables : Tables → Plan → ℕ → ℕ → StepClass

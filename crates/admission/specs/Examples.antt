@@ -3,7 +3,9 @@ use Rattle.std.specs.Prelude.{◌≡◌, ℕ, true, false, [], ◌∷◌, codes,
 use Rattle.process_tree.specs.declared.plan.Plan.{Plan}
 use Rattle.process_tree.specs.declared.step.StepKind.{StepKind}
 use Rattle.process_tree.specs.declared.step.StepKind.TheVariants.{C, P, R}
-use Rattle.process_tree.specs.Conflicts.{no_conflicts, with_conflict}
+use Rattle.process_tree.specs.Conflicts.{no_conflicts, with_mode}
+use Rattle.process_tree.specs.declared.conflicts.Mode.{Mode}
+use Rattle.process_tree.specs.declared.conflicts.Mode.TheVariants.{Key, Always}
 use Rattle.schedule_model.specs.PlannedExample.{plain_step, purchase_plan, sale_plan, two_steps}
 use Rattle.schedule_model.specs.Samples.{add, note, pay, take}
 use Rattle.machine_model.specs.declared.blocked.Admitted.{Admitted}
@@ -23,13 +25,21 @@ plan_of first op second other = record {
   ops = op ∷ other ∷ [];
 }
 
--- adding conflicts with taking, and a note with a note
-abbrev pub both_open : Tables
-both_open = opened 2 2 (opened 1 2 (none_open (with_conflict (with_conflict (no_conflicts 5) add take) note note)))
+-- adding conflicts with taking in this mode, and a note with a note
+abbrev pub open_in : Mode → Tables
+open_in mode = opened 2 2 (opened 1 2 (none_open (with_mode (with_mode (no_conflicts 5) add take mode) note note mode)))
 
--- a step of a process is under way
+-- whatever the keys are
+abbrev pub both_open : Tables
+both_open = open_in Always
+
+-- a step of a process is under way, on this key
+abbrev pub under_way_on : ℕ → ℕ → ℕ → ℕ → Tables → Tables
+under_way_on key i step op t = run (record { process = i; step = step; op = op; key = key; undo = false }) t
+
+-- on the key of the plans here
 abbrev pub under_way : ℕ → ℕ → ℕ → Tables → Tables
-under_way i step op t = run (record { process = i; step = step; op = op; undo = false }) t
+under_way = under_way_on 1
 
 -- its first step is done
 abbrev pub first_done : ℕ → ℕ → Tables → Tables
@@ -59,8 +69,18 @@ undone_too_early = refl
 pub taken_while_added : admission (under_way 1 0 add both_open) sale_plan 2 (Forward 0) ≡ blocked 1 0 0 A0
 taken_while_added = refl
 
+-- whatever is being added, unless they conflict by key: then what is added on another key lets it be taken
+pub taken_while_another_is_added : admission (under_way_on 2 1 0 add both_open) sale_plan 2 (Forward 0) ≡ blocked 1 0 0 A0
+taken_while_another_is_added = refl
+
+pub taken_on_one_key : admission (under_way_on 1 1 0 add (open_in Key)) sale_plan 2 (Forward 0) ≡ blocked 1 0 0 A0
+taken_on_one_key = refl
+
+pub taken_on_another_key : admission (under_way_on 2 1 0 add (open_in Key)) sale_plan 2 (Forward 0) ≡ Free
+taken_on_another_key = refl
+
 -- a payment that will owe a taking is under way, and nothing is added
-pub added_before_owed : admission (changed (with_reserved ((1, take) ∷ [])) 1 (under_way 1 0 pay both_open)) (plan_of C add C pay) 2 (Forward 0) ≡ blocked 1 1 0 A1
+pub added_before_owed : admission (changed (with_reserved ((1, take, 1) ∷ [])) 1 (under_way 1 0 pay both_open)) (plan_of C add C pay) 2 (Forward 0) ≡ blocked 1 1 0 A1
 added_before_owed = refl
 
 -- such a payment isn't begun while what was added may be taken back
@@ -68,7 +88,7 @@ pub owed_after_added : admission (first_done 2 add both_open) (plan_of P pay R t
 owed_after_added = refl
 
 -- the taking that is owed then isn't held back by its class
-pub owed_goes_on : admission (changed (with_reserved ((1, take) ∷ [])) 1 (first_done 1 pay both_open)) (plan_of P pay R take) 1 (Forward 1) ≡ Free
+pub owed_goes_on : admission (changed (with_reserved ((1, take, 1) ∷ [])) 1 (first_done 1 pay both_open)) (plan_of P pay R take) 1 (Forward 1) ≡ Free
 owed_goes_on = refl
 
 -- one has added, and would end with a note; the other began with a note, and is taking

@@ -10,17 +10,18 @@ use crate::least::lesser_of;
 use crate::net::least_in_net;
 use crate::processes::{Sought, least_of_all};
 use hold_tables::{Blocked, Holds, Rule};
-use process_tree::{Entry, Place, Plan};
+use process_tree::{Entry, Place, Plan, key_of, op_of};
 
 /// A step of the process, as an entry.
 pub fn entry_of(plan: &Plan, process: u32, step: u16) -> Entry
-    requires { step < length plan.now.ops }
+    requires { step < length (outline plan.now.tree).steps }
     ensures { result ≡ entry_of plan.now process step }
 {
     Entry {
         process,
         step,
-        op: plan.ops.as_slice()[usize::from(step)],
+        op: op_of(plan.ops.as_slice(), step),
+        key: key_of(&plan.tree, step),
         undo: false,
     }
 }

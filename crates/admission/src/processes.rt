@@ -1,13 +1,11 @@
 // What the open processes have against a step.
-ghost use Rattle.std.specs.Prelude.{◌≡◌, ◌+◌, ◌<◌, true};
+ghost use Rattle.std.specs.Prelude.{◌≡◌, IfSome, true};
 ghost use Rattle.process_tree.specs.Conflicts.{do_conflict};
-ghost use Rattle.process_tree.specs.Order.{Each};
 ghost use Rattle.machine_model.specs.declared.blocked.Rule.TheVariants.{A1};
 ghost use Rattle.hold_tables.specs.Kept.{AreTidy, IsKnown};
-ghost use Rattle.hold_tables.specs.Reading.{next_open};
 ghost use Rattle.hold_tables.specs.Tables.{is_open, kept_of, reserved_of, running_of};
 ghost use Rattle.admission.specs.Least.{least_on};
-ghost use Rattle.admission.specs.Parts.{least_of_all, least_of_process, pending_of};
+ghost use Rattle.admission.specs.Parts.{least_of_all, least_of_process, pending_of, with_process};
 
 use crate::least::{least_with, lesser_of};
 use hold_tables::{Blocked, Holds, Rule};
@@ -43,11 +41,12 @@ fn least_reserved(holds: &Holds, rule: Rule, own: Entry, process: u32) -> Option
     let mut least = None;
     'places: while 0 < place {
         place -= 1;
-        let (step, op) = holds.reserved_at(process, place);
+        let (step, op, key) = holds.reserved_at(process, place);
         let other = Entry {
             process,
             step,
             op,
+            key,
             undo: false,
         };
         least = least_with(c, rule, own, other, least);
@@ -95,14 +94,21 @@ fn least_of_process(holds: &Holds, sought: Sought, own: Entry, process: u32) -> 
     }
 }
 
-/// The open process after this one.
-fn open_after(holds: &Holds, process: u32) -> Option<u32>
-    requires numbers { Each (λ r. r.process < 4294967296) holds.now.processes }
-    ensures { result ≡ next_open holds.now (process + 1) }
+/// The least block on what a process holds beside its net, if there is one that does, and of what was found.
+fn with_process(
+    holds: &Holds,
+    sought: Sought,
+    own: Entry,
+    busy: Option<u32>,
+    least: Option<Blocked>,
+) -> Option<Blocked>
+    requires open { IfSome busy (λ i. is_open holds.now i ≡ true) }
+    requires own { IsKnown holds.now.conflicts own }
+    ensures { result ≡ with_process holds.now sought own busy least }
 {
-    match process.checked_add(1) {
-        Some(from) => holds.next_open(from),
-        None => None,
+    match busy {
+        Some(process) => lesser_of(least_of_process(holds, sought, own, process), least),
+        None => least,
     }
 }
 
@@ -112,11 +118,11 @@ pub fn least_of_all(holds: &Holds, sought: Sought, own: Entry) -> Option<Blocked
     ensures least { result ≡ least_of_all holds.now sought own }
     ensures tidy { AreTidy holds.now }
 {
-    let mut next = holds.next_open(0);
+    let mut place = holds.open_len();
     let mut least = None;
-    'processes: while let Some(process) = next {
-        least = lesser_of(least_of_process(holds, sought, own, process), least);
-        next = open_after(holds, process);
+    'places: while 0 < place {
+        place -= 1;
+        least = with_process(holds, sought, own, holds.busy_at(place), least);
     }
     least
 }

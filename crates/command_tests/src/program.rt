@@ -1,6 +1,5 @@
 // The program over real files, and over a folder in memory.
 use crate::calls::words_of;
-use crate::init::{ADD_ALONE, MADE, NOTHING};
 use crate::show::{SHOWN, TEXT, TWO_STEPS_KEPT};
 use file_rack::{FileRack, Folder, MemoryFolder, SystemFolder};
 use gate_log::Log;
@@ -90,22 +89,6 @@ const SHOW: Call<'static> = Call {
     output: SHOWN,
 };
 
-// Calls that write nothing.
-const IN_VAIN: [Call<'static>; 2] = [
-    Call {
-        word: "show",
-        text: b"",
-        code: 6,
-        output: b"bad header file 0\n",
-    },
-    Call {
-        word: "run",
-        text: b"version = 1\nprocesses = \"process a c x add 1\"\n",
-        code: 2,
-        output: b"bad text at line 1 column 20: expected amount\n",
-    },
-];
-
 // The files of that scenario are made.
 const MAKE_TEXT: Call<'static> = Call {
     word: "init",
@@ -113,56 +96,6 @@ const MAKE_TEXT: Call<'static> = Call {
     code: 0,
     output: b"created\n",
 };
-
-#[test]
-fn what_is_run_on_real_files_is_shown(rt: HostRuntime) -> Result<(), Fail> {
-    let alloc = rt.alloc();
-    fresh_folder(&rt, "run")?;
-    expect_all(&rt, alloc, &IN_VAIN)?;
-    assert!(rt; !fs::exists(&rt, "tps.0")?);
-    expect_all(&rt, alloc, &[MAKE_TEXT, RUN, SHOW])?;
-    let written = fs::read(&rt, "tps.0")?;
-    assert_eq!(rt; written.as_slice(), TWO_STEPS_KEPT);
-    leave(&rt, "run")?;
-    Ok(())
-}
-
-const MAKE: Call<'static> = Call {
-    word: "init",
-    text: ADD_ALONE,
-    code: 0,
-    output: b"created\n",
-};
-
-// What was made is shown, and not made again.
-const BEHIND_MAKE: [Call<'static>; 2] = [
-    Call {
-        word: "show",
-        text: b"",
-        code: 0,
-        output: NOTHING,
-    },
-    Call {
-        word: "init",
-        text: ADD_ALONE,
-        code: 6,
-        output: b"not empty file 0\n",
-    },
-];
-
-#[test]
-fn what_is_made_of_real_files_is_shown_and_not_made_again(rt: HostRuntime) -> Result<(), Fail> {
-    let alloc = rt.alloc();
-    fresh_folder(&rt, "init")?;
-    expect_all(&rt, alloc, &[MAKE])?;
-    let written = fs::read(&rt, "tps.0")?;
-    assert_eq!(rt; written.as_slice(), MADE);
-    let written = fs::read(&rt, "tps.8")?;
-    assert_eq!(rt; written.as_slice(), b"tpsl\x01\x08\x00\x00\x00".as_slice());
-    expect_all(&rt, alloc, &BEHIND_MAKE)?;
-    leave(&rt, "init")?;
-    Ok(())
-}
 
 // Calls while another program has the folder, which has made its log.
 const BESIDE: [Call<'static>; 2] = [

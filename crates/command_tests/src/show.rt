@@ -1,7 +1,7 @@
 // The command `show`.
 use crate::calls::{answer_to, empty, plain_call};
 use crate::expected::expect_on;
-use process_disk::{MemoryRack, Rack};
+use process_disk::MemoryRack;
 use std::alloc::{AllocError, Global};
 use std::process::Abort;
 use std::test::Fail;
@@ -42,9 +42,7 @@ pub const SHOWN: &[u8] =
     b"conflicts\nhistory\nstart 1 a\ndo 1.x add\ndo 1.y add\nend 1\ncompletion\nends\n\
     1 a path x y\ncauses\ntrace\nserial\ndo 1.x add\ndo 1.y add\n";
 
-// What is told of its first records: of none, of the catalog alone, with the start, and with one step and two.
-const NO_RECORD: &[u8] = b"bad record file 0 at 1\n";
-
+// What is told of its first records: of the catalog alone, with the start, and with one step and two.
 const CATALOG_ALONE: &[u8] = b"conflicts\nhistory\ncompletion\nends\ncauses\ntrace\nserial\n";
 
 const STARTED: &[u8] =
@@ -62,121 +60,8 @@ const TWO_STEPS: &[u8] = b"conflicts\nhistory\nstart 1 a\ndo 1.x add\ndo 1.y add
 const BEGINNINGS: [&[u8]; 5] = [CATALOG_ALONE, STARTED, ONE_STEP, TWO_STEPS, SHOWN];
 
 #[test]
-fn what_was_run_is_shown(rt: HostRuntime) -> Result<(), Fail> {
+fn a_disk_fault_is_told(rt: HostRuntime) -> Result<(), Fail> {
     let alloc = rt.alloc();
-    let rack = run_before(&rt, alloc)?;
-    let rack = show_on(&rt, alloc, rack, 0, SHOWN)?;
-    let rack = show_on(&rt, alloc, rack, 0, SHOWN)?;
-    drop(rack);
-    Ok(())
-}
-
-const SETUP: &[u8] = &[0, 1, 1, 0, 3, 97, 100, 100, 0, 0, 0];
-
-const START: &[u8] = b"\x01\x01\x00\x00\x00process a c x add 1 5 c y add 1 6 end\n";
-
-const ACT_0: &[u8] = &[2, 1, 0, 0, 0, 0, 0, 0];
-
-const ACT_1: &[u8] = &[2, 1, 0, 0, 0, 1, 0, 0];
-
-const END: &[u8] = &[3, 1, 0, 0, 0];
-
-// Bodies in file 0, and what is told of them.
-const ROWS: [(&[&[u8]], u8, &[u8]); 16] = [
-    (&[], 6, NO_RECORD),
-    (&[SETUP], 0, CATALOG_ALONE),
-    (&[SETUP, START], 0, STARTED),
-    (&[SETUP, START, ACT_0], 0, ONE_STEP),
-    (&[SETUP, START, ACT_0, ACT_1], 0, TWO_STEPS),
-    (&[SETUP, START, ACT_0, ACT_1, END], 0, SHOWN),
-    (&[START], 6, b"bad record file 0 at 1\n"),
-    (&[SETUP, SETUP], 6, b"bad record file 0 at 2\n"),
-    // another process's number
-    (
-        &[SETUP, b"\x01\x02\x00\x00\x00process a c x add 1 5 end\n"],
-        6,
-        b"bad history at record 2\n",
-    ),
-    // no canonical text, no text, an operation that the catalog lacks, and two processes
-    (
-        &[SETUP, b"\x01\x01\x00\x00\x00process a c x add 1 5 end"],
-        6,
-        b"bad record file 0 at 2\n",
-    ),
-    (
-        &[SETUP, b"\x01\x01\x00\x00\x00process a end\n"],
-        6,
-        b"bad record file 0 at 2\n",
-    ),
-    (
-        &[SETUP, b"\x01\x01\x00\x00\x00process a c x pay 1 5 end\n"],
-        6,
-        b"bad record file 0 at 2\n",
-    ),
-    (
-        &[
-            SETUP,
-            b"\x01\x01\x00\x00\x00process a c x add 1 5 end\nprocess b c x add 1 5 end\n",
-        ],
-        6,
-        b"bad record file 0 at 2\n",
-    ),
-    (&[SETUP, START, ACT_1], 6, b"bad history at record 3\n"),
-    (&[SETUP, START, ACT_0, END], 6, b"bad history at record 4\n"),
-    (
-        &[SETUP, START, ACT_0, ACT_1, END, END],
-        6,
-        b"bad history at record 6\n",
-    ),
-];
-
-// A rack whose file 0 is the log of these bodies, each shorter than 256 bytes.
-fn rack_of(alloc: Global, bodies: &[&[u8]]) -> Result<MemoryRack, Fail> {
-    let mut file = b"tpsl\x01\x00\x00\x00".to_vec(alloc)?;
-    for body in bodies {
-        file.extend_from_slice(&[1, (body.len() % 256) as u8, 0])?;
-        file.extend_from_slice(body)?;
-    }
-    file.push(0)?;
-    let mut rack = MemoryRack::new(alloc, Vec::new(alloc))?;
-    rack.write_at(0, 0, &file)?;
-    Ok(rack)
-}
-
-#[test]
-fn a_history_is_shown_or_the_first_record_at_fault_is_named(rt: HostRuntime) -> Result<(), Fail> {
-    let alloc = rt.alloc();
-    for (bodies, status, output) in ROWS {
-        let rack = show_on(&rt, alloc, rack_of(alloc, bodies)?, status, output)?;
-        drop(rack);
-    }
-    Ok(())
-}
-
-// Bytes of file 0, and what is told of them: an odd record counts only where all are whole.
-const FILES: [(&[u8], &[u8]); 5] = [
-    (b"", b"bad header file 0\n"),
-    (b"tpsl\x01\x01\x00\x00\x00", b"bad header file 0\n"),
-    (b"tpsl\x01\x00\x00\x00", b"bad record file 0 at 1\n"),
-    (
-        b"tpsl\x01\x00\x00\x00\x01\x01\x00\x09\x01\x02\x00\x09",
-        b"bad record file 0 at 2\n",
-    ),
-    (
-        b"tpsl\x01\x00\x00\x00\x01\x01\x00\x09\x00",
-        b"bad record file 0 at 1\n",
-    ),
-];
-
-#[test]
-fn a_file_that_is_no_log_is_refused(rt: HostRuntime) -> Result<(), Fail> {
-    let alloc = rt.alloc();
-    for (bytes, output) in FILES {
-        let mut rack = MemoryRack::new(alloc, Vec::new(alloc))?;
-        rack.write_at(0, 0, bytes)?;
-        let mut rack = show_on(&rt, alloc, rack, 6, output)?;
-        assert_eq!(rt; rack.len(0), Ok(bytes.len() as u64));
-    }
     for call in [0, 1, 2] {
         let rack = MemoryRack::new(alloc, vec![in alloc; call]?)?;
         let rack = show_on(&rt, alloc, rack, 10, b"disk fault\n")?;

@@ -1,19 +1,21 @@
 -- What a document's table says is never that the document is none.
 use Rattle.std.proofs.Common.{◌≡◌, ℕ, Bool, true, false, cond, List, [], ◌∷◌, ◌++◌, length, Option, Some, None, Result, Ok, Err, refl, codes}
-use Rattle.std.specs.Prelude.{IsUtf8, nat_lt, option_and_then, ◌==◌}
+use Rattle.std.specs.Prelude.{IsUtf8, nat_lt, option_and_then}
 use Rattle.toml.specs.Data.{Data, Items, no_items, item, Members, get_member, as_table, as_array, as_str}
 use Rattle.toml.specs.Parse.{parse_document}
 use Rattle.process_tree.specs.Name.{is_name}
-use Rattle.process_tree.specs.Conflicts.{Table, no_conflicts, with_conflict}
+use Rattle.process_tree.specs.declared.conflicts.Mode.{Mode}
+use Rattle.process_tree.specs.Conflicts.{no_conflicts}
 use Rattle.commute_table.specs.declared.op.Op.{Op}
 use Rattle.commute_table.specs.declared.op.Verb.{Verb}
 use Rattle.commute_table.specs.declared.document.Keys.{Keys}
 use Rattle.commute_table.specs.declared.document.Keys.TheVariants.{OfDocument, OfOperation}
+use Rattle.commute_table.specs.declared.pairs.Pair.{Pair}
 use Rattle.commute_table.specs.declared.scenario.Scenario.{Scenario}
 use Rattle.commute_table.specs.declared.errors.ScenarioError.{ScenarioError}
 use Rattle.commute_table.specs.declared.errors.ScenarioError.TheVariants.{BadToml, BadKey, UnknownOp, SameOp, Ops, NoMemory}
-use Rattle.commute_table.specs.Operations.{takes, has_name}
-use Rattle.commute_table.specs.Document.{Said, ◌>>=◌, Gives, IsAnswer, least_unknown, unless_unknown, known_keys, text_at, number_at, one_or_bad, version_said, name_or_bad, name_said, subsystem_or_bad, subsystem_said, verb_named, verb_or_bad, verb_said, op_said, are_tables, items_length, table_said, ops_said, few_said, tables_or_bad, operations_by_key, operations_said, number_of, number_or_unknown, number_said, pair_in, pair_said, are_pairs, pairs_said, pairs_or_bad, conflicts_by_key, conflicts_said, text_or_bad, processes_by_key, processes_said, catalog_said, scenario_said}
+use Rattle.commute_table.specs.Operations.{is_version, takes, has_name}
+use Rattle.commute_table.specs.Document.{Said, ◌>>=◌, Gives, IsAnswer, least_unknown, unless_unknown, known_keys, text_at, number_at, version_or_bad, version_said, name_or_bad, name_said, subsystem_or_bad, subsystem_said, verb_named, verb_or_bad, verb_said, op_said, are_tables, items_length, table_said, ops_said, few_said, tables_or_bad, operations_by_key, operations_said, number_of, number_or_unknown, number_said, NamedPair, pair_in, pair_said, are_pairs, pairs_said, some_disagree, with_pairs, table_or_bad, table_of_items, pairs_or_bad, conflicts_by_key, conflicts_said, text_or_bad, processes_by_key, processes_said, catalog_said, scenario_said}
 
 abbrev bad_toml : {A : Type 0} → Said A
 bad_toml = Err BadToml
@@ -48,9 +50,9 @@ real_keys keys ms = by_case (least_unknown keys ms)
     by_case None = real_ok tt
     by_case (Some k) = real_key k
 
-real_version : (o : Option ℕ) → IsReal (one_or_bad o)
+real_version : (o : Option ℕ) → IsReal (version_or_bad o)
 real_version None = real_key _
-real_version (Some n) = real_if (n == 1) (Ok tt) (Err (BadKey (codes "version"))) (real_ok tt) (real_key _)
+real_version (Some n) = real_if (is_version n) (Ok n) (Err (BadKey (codes "version"))) (real_ok n) (real_key _)
 
 real_name : (o : Option (List ℕ)) → IsReal (name_or_bad o)
 real_name None = real_key _
@@ -63,6 +65,9 @@ real_subsystem (Some n) = real_if (nat_lt n 8) (Ok n) (Err (BadKey (codes "subsy
 real_verb : (q : ℕ) (o : Option Verb) → IsReal (verb_or_bad q o)
 real_verb q None = real_key _
 real_verb q (Some v) = real_if (takes q v) (Ok v) (Err (BadKey (codes "verb"))) (real_ok v) (real_key _)
+
+abbrev pair_with : ℕ → ℕ → Mode → Pair
+pair_with a b mode = record { first = a; second = b; mode = mode }
 
 abbrev op_with : List ℕ → ℕ → Verb → Op
 op_with name q v = record { name = name; subsystem = q; verb = v }
@@ -106,24 +111,31 @@ real_number : (name : List ℕ) (o : Option ℕ) → IsReal (number_or_unknown n
 real_number name None = record { real = λ e. cc }
 real_number name (Some n) = real_ok n
 
-real_pair : (ops : List Op) (t : Table) (o : Option (List ℕ × List ℕ)) → IsReal (pair_said ops t o)
-real_pair ops t None = real_key _
-real_pair ops t (Some p) =
-    real_then (number_said ops p.0) (λ a. number_said ops p.1 >>= λ b. Ok (with_conflict t a b)) (real_number p.0 (number_of ops p.0))
-    (λ a. real_then (number_said ops p.1) (λ b. Ok (with_conflict t a b)) (real_number p.1 (number_of ops p.1)) (λ b. real_ok (with_conflict t a b)))
+real_pair : (ops : List Op) (o : Option NamedPair) → IsReal (pair_said ops o)
+real_pair ops None = real_key _
+real_pair ops (Some p) =
+    real_then (number_said ops p.0) (λ a. number_said ops p.1 >>= λ b. Ok (pair_with a b p.2)) (real_number p.0 (number_of ops p.0))
+    (λ a. real_then (number_said ops p.1) (λ b. Ok (pair_with a b p.2)) (real_number p.1 (number_of ops p.1)) (λ b. real_ok (pair_with a b p.2)))
 
-real_pairs : (ops : List Op) (t : Table) (ds : Items) → IsReal (pairs_said ops t ds)
+real_pairs : (version : ℕ) (ops : List Op) (done : List Pair) (ds : Items) → IsReal (pairs_said version ops done ds)
 unfolding pairs_said
-real_pairs ops t no_items = real_ok t
-real_pairs ops t (item d ds) = real_then (pair_said ops t (pair_in d)) (λ more. pairs_said ops more ds) (real_pair ops t (pair_in d)) (λ more. real_pairs ops more ds)
+real_pairs version ops done no_items = real_ok done
+real_pairs version ops done (item d ds) = real_then (pair_said ops (pair_in version d)) (λ pair. pairs_said version ops (done ++ pair ∷ []) ds) (real_pair ops (pair_in version d)) (λ pair. real_pairs version ops (done ++ pair ∷ []) ds)
 
-real_array : (ops : List Op) (o : Option Items) → IsReal (pairs_or_bad ops o)
-real_array ops None = real_key _
-real_array ops (Some ds) = real_if (are_pairs ds) (pairs_said ops (no_conflicts (length ops)) ds) (Err (BadKey (codes "conflicts"))) (real_pairs ops (no_conflicts (length ops)) ds) (real_key _)
+real_agreeing : (ops : List Op) (ps : List Pair) → IsReal (table_or_bad ops ps)
+real_agreeing ops ps = real_if (some_disagree ps) (Err (BadKey (codes "conflicts"))) (Ok (with_pairs (no_conflicts (length ops)) ps)) (real_key _) (real_ok (with_pairs (no_conflicts (length ops)) ps))
 
-real_conflicts : (ops : List Op) (o : Option Data) → IsReal (conflicts_by_key ops o)
-real_conflicts ops None = real_ok (no_conflicts (length ops))
-real_conflicts ops (Some d) = real_array ops (as_array d)
+real_items : (version : ℕ) (ops : List Op) (ds : Items) → IsReal (table_of_items version ops ds)
+unfolding table_of_items
+real_items version ops ds = real_then (pairs_said version ops [] ds) (table_or_bad ops) (real_pairs version ops [] ds) (real_agreeing ops)
+
+real_array : (version : ℕ) (ops : List Op) (o : Option Items) → IsReal (pairs_or_bad version ops o)
+real_array version ops None = real_key _
+real_array version ops (Some ds) = real_if (are_pairs version ds) (table_of_items version ops ds) (Err (BadKey (codes "conflicts"))) (real_items version ops ds) (real_key _)
+
+real_conflicts : (version : ℕ) (ops : List Op) (o : Option Data) → IsReal (conflicts_by_key version ops o)
+real_conflicts version ops None = real_ok (no_conflicts (length ops))
+real_conflicts version ops (Some d) = real_array version ops (as_array d)
 
 real_text : (o : Option (List ℕ)) → IsReal (text_or_bad o)
 real_text None = real_key _
@@ -139,7 +151,7 @@ real_catalog ms =
     real_then (known_keys OfDocument ms) _ (real_keys OfDocument ms)
     (λ known. real_then (version_said ms) _ (real_version (number_at (codes "version") ms))
     (λ version. real_then (operations_said ms) _ (real_operations (get_member (codes "op") ms))
-    (λ ops. real_then (conflicts_said ops ms) _ (real_conflicts ops (get_member (codes "conflicts") ms)) (λ conflicts. real_ok _))))
+    (λ ops. real_then (conflicts_said version ops ms) _ (real_conflicts version ops (get_member (codes "conflicts") ms)) (λ conflicts. real_ok _))))
 
 real_scenario : (ms : Members) → IsReal (scenario_said ms)
 unfolding scenario_said processes_said

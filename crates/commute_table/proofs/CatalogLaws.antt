@@ -1,16 +1,18 @@
 -- Catalogs: what is read is spelled so, and what is spelled so is read.
-use Rattle.std.proofs.Common.{◌≡◌, ℕ, zero, suc, ◌+◌, ◌*◌, ◌<◌, ◌≤◌, Bool, true, false, not, cond, List, [], ◌∷◌, ◌++◌, length, get_or, Result, Ok, Err, refl, sym, ap, ◌∙◌, subst, append_assoc, arith}
+use Rattle.std.proofs.Common.{◌≡◌, ℕ, zero, suc, ◌+◌, ◌*◌, ◌<◌, ◌≤◌, true, not, cond, List, [], ◌∷◌, ◌++◌, length, get_or, Result, Ok, Err, refl, sym, ap, ◌∙◌, subst, append_assoc, arith}
 use Rattle.std.specs.Prelude.{nat_lt, nat_le, nat_eq, ◌==◌, ◌/◌, ◌%◌}
 use Rattle.std.specs.List.{list_all, flat_map}
 use Rattle.std.proofs.lemmas.Bool.{and_parts, leb-true, le-leb, ltb-true, eqb-true, eq-eqb, and_from}
 use Rattle.std.proofs.lemmas.List.{append-nil}
 use Rattle.std.proofs.lemmas.List.Concat.{flat_map-cons}
+use Rattle.process_tree.specs.declared.conflicts.Mode.{Mode}
+use Rattle.process_tree.specs.declared.conflicts.Mode.TheVariants.{Never, Key, Always}
 use Rattle.process_tree.specs.Conflicts.{Table, is_table}
 use Rattle.commute_table.specs.declared.op.Op.{Op}
 use Rattle.commute_table.specs.declared.catalog.Catalog.{Catalog}
-use Rattle.commute_table.specs.Operations.{has_name, is_good_op, differ_from, IsCatalog}
+use Rattle.commute_table.specs.Operations.{is_version, has_mode, has_modes, has_name, is_good_op, differ_from, IsCatalog}
 use Rattle.commute_table.specs.Bytes.{op_bytes, cell_byte, row_bytes, bytes_of, NoCatalogBeginsAnother}
-use Rattle.commute_table.specs.Reading.{◌>>=◌, byte_at, count_at, op_at, ops_at, cells_at, rows_at, front_at, catalog_at}
+use Rattle.commute_table.specs.Reading.{◌>>=◌, byte_at, count_at, op_at, ops_at, mode_with, is_cell, cells_at, rows_at, front_at, catalog_at}
 use Rattle.commute_table.proofs.RowLoops.{bind_ok, ok_is}
 use Rattle.commute_table.proofs.Fresh.{Follows, follows_more}
 use Rattle.commute_table.proofs.OpLaws.{byte_read, byte_again, op_takes, op_again}
@@ -53,83 +55,103 @@ ops_again earlier (op ∷ ops) rest good differ =
 
 -- ---- pairs
 
-pub record CellsTake (n : ℕ) (done : List Bool) (bytes : List ℕ) (x : List Bool × List ℕ) : Type 0 where
-  pub row : List Bool
+pub record CellsTake (version n : ℕ) (done : List Mode) (bytes : List ℕ) (x : List Mode × List ℕ) : Type 0 where
+  pub row : List Mode
   pub row_is : x.0 ≡ done ++ row
   pub parts : bytes ≡ row_bytes row ++ x.1
   pub count : length row ≡ n
+  pub modes : list_all (has_mode version) row ≡ true
 
-pub byte_of_cell : (b : ℕ) → b < 2 → cell_byte (b == 1) ≡ b
+pub byte_of_cell : (b : ℕ) → b < 3 → cell_byte (mode_with b) ≡ b
 byte_of_cell zero lt = refl
 byte_of_cell (suc zero) lt = refl
-byte_of_cell (suc (suc b)) lt = absurd (omega arith)
+byte_of_cell (suc (suc zero)) lt = refl
+byte_of_cell (suc (suc (suc b))) lt = absurd (omega arith)
 
-pub cells_take : (n : ℕ) (done : List Bool) (bytes : List ℕ) (x : List Bool × List ℕ) → cells_at n done bytes ≡ Ok x → CellsTake n done bytes x
+-- a cell's byte that was read
+pub cell_taken : (version b : ℕ) → is_cell version b ≡ true → (cell_byte (mode_with b) ≡ b) × (has_mode version (mode_with b) ≡ true)
+cell_taken version b ok =
+    let is = and_parts (nat_lt b 3) (has_mode version (mode_with b)) ok in
+    (byte_of_cell b (ltb-true b 3 is.0), is.1)
+
+pub cells_take : (version n : ℕ) (done : List Mode) (bytes : List ℕ) (x : List Mode × List ℕ) → cells_at version n done bytes ≡ Ok x → CellsTake version n done bytes x
 unfolding cells_at
-cells_take zero done bytes x e =
-    subst (λ (y : List Bool × List ℕ). CellsTake 0 done bytes y) (ok_is (done, bytes) x e) (record { row = []; row_is = sym (append-nil done); parts = refl; count = refl })
-cells_take (suc n) done bytes x e =
-    let b = bind_ok (byte_at (λ b. nat_lt b 2) bytes) (λ b. cells_at n (done ++ (b.0 == 1) ∷ []) b.1) x e in
-    let byte = byte_read (λ b. nat_lt b 2) bytes b.0 b.1 in
-    let rest = cells_take n (done ++ (b.0.0 == 1) ∷ []) b.0.1 x b.2 in
+cells_take version zero done bytes x e =
+    subst (λ (y : List Mode × List ℕ). CellsTake version 0 done bytes y) (ok_is (done, bytes) x e) (record { row = []; row_is = sym (append-nil done); parts = refl; count = refl; modes = refl })
+cells_take version (suc n) done bytes x e =
+    let b = bind_ok (byte_at (is_cell version) bytes) (λ b. cells_at version n (done ++ mode_with b.0 ∷ []) b.1) x e in
+    let byte = byte_read (is_cell version) bytes b.0 b.1 in
+    let cell = cell_taken version b.0.0 byte.1 in
+    let rest = cells_take version n (done ++ mode_with b.0.0 ∷ []) b.0.1 x b.2 in
     record {
-      row = (b.0.0 == 1) ∷ rest.row;
-      row_is = rest.row_is ∙ append_assoc done ((b.0.0 == 1) ∷ []) rest.row;
-      parts = byte.0 ∙ ap (λ (r : List ℕ). b.0.0 ∷ r) rest.parts ∙ ap (λ (k : ℕ). k ∷ (row_bytes rest.row ++ x.1)) (sym (byte_of_cell b.0.0 (ltb-true b.0.0 2 byte.1)));
+      row = mode_with b.0.0 ∷ rest.row;
+      row_is = rest.row_is ∙ append_assoc done (mode_with b.0.0 ∷ []) rest.row;
+      parts = byte.0 ∙ ap (λ (r : List ℕ). b.0.0 ∷ r) rest.parts ∙ ap (λ (k : ℕ). k ∷ (row_bytes rest.row ++ x.1)) (sym cell.0);
       count = ap suc rest.count;
+      modes = and_from _ _ cell.1 rest.modes;
     }
 
-cell_passes : (c : Bool) → nat_lt (cell_byte c) 2 ≡ true
-cell_passes true = refl
-cell_passes false = refl
+cell_is_small : (mode : Mode) → nat_lt (cell_byte mode) 3 ≡ true
+cell_is_small Never = refl
+cell_is_small Key = refl
+cell_is_small Always = refl
 
-cell_again : (c : Bool) → (cell_byte c == 1) ≡ c
-cell_again true = refl
-cell_again false = refl
+cell_again : (mode : Mode) → mode_with (cell_byte mode) ≡ mode
+cell_again Never = refl
+cell_again Key = refl
+cell_again Always = refl
 
-pub cells_again : (row done : List Bool) (rest : List ℕ) → cells_at (length row) done (row_bytes row ++ rest) ≡ Ok (done ++ row, rest)
+cell_passes : (version : ℕ) (mode : Mode) → has_mode version mode ≡ true → is_cell version (cell_byte mode) ≡ true
+cell_passes version mode has = and_from _ _ (cell_is_small mode) (rw (cell_again mode) has)
+
+pub cells_again : (version : ℕ) (row done : List Mode) (rest : List ℕ) → list_all (has_mode version) row ≡ true → cells_at version (length row) done (row_bytes row ++ rest) ≡ Ok (done ++ row, rest)
 unfolding cells_at
-cells_again [] done rest = rw (append-nil done) refl
-cells_again (c ∷ row) done rest =
-    ap (λ (r : Result (ℕ × List ℕ) ℕ). r >>= λ b. cells_at (length row) (done ++ (b.0 == 1) ∷ []) b.1) (byte_again (λ b. nat_lt b 2) (cell_byte c) (row_bytes row ++ rest) (cell_passes c))
-    ∙ ap (λ (d : Bool). cells_at (length row) (done ++ d ∷ []) (row_bytes row ++ rest)) (cell_again c)
-    ∙ cells_again row (done ++ c ∷ []) rest ∙ rw (append_assoc done (c ∷ []) row) refl
+cells_again version [] done rest modes = rw (append-nil done) refl
+cells_again version (c ∷ row) done rest modes =
+    let has = and_parts (has_mode version c) (list_all (has_mode version) row) modes in
+    ap (λ (r : Result (ℕ × List ℕ) ℕ). r >>= λ b. cells_at version (length row) (done ++ mode_with b.0 ∷ []) b.1) (byte_again (is_cell version) (cell_byte c) (row_bytes row ++ rest) (cell_passes version c has.0))
+    ∙ ap (λ (d : Mode). cells_at version (length row) (done ++ d ∷ []) (row_bytes row ++ rest)) (cell_again c)
+    ∙ cells_again version row (done ++ c ∷ []) rest has.1 ∙ rw (append_assoc done (c ∷ []) row) refl
 
-pub record RowsTake (n : ℕ) (done : Table) (bytes : List ℕ) (x : Table × List ℕ) : Type 0 where
+pub record RowsTake (version n : ℕ) (done : Table) (bytes : List ℕ) (x : Table × List ℕ) : Type 0 where
   pub rows : Table
   pub rows_is : x.0 ≡ done ++ rows
   pub parts : bytes ≡ flat_map row_bytes rows ++ x.1
   pub count : length rows ≡ n
   pub table : is_table rows ≡ true
+  pub modes : has_modes version rows ≡ true
 
-pub rows_take : (n : ℕ) (done : Table) (bytes : List ℕ) (x : Table × List ℕ) → rows_at n done bytes ≡ Ok x → RowsTake n done bytes x
+pub rows_take : (version n : ℕ) (done : Table) (bytes : List ℕ) (x : Table × List ℕ) → rows_at version n done bytes ≡ Ok x → RowsTake version n done bytes x
 unfolding rows_at
-rows_take zero done bytes x e =
-    subst (λ (y : Table × List ℕ). RowsTake 0 done bytes y) (ok_is (done, bytes) x e) (record { rows = []; rows_is = sym (append-nil done); parts = refl; count = refl; table = refl })
-rows_take (suc n) done bytes x e =
-    let row = bind_ok (cells_at (suc n) [] bytes) (λ row. rows_at n (done ++ row.0 ∷ []) row.1) x e in
-    let first = cells_take (suc n) [] bytes row.0 row.1 in
-    let rest = rows_take n (done ++ row.0.0 ∷ []) row.0.1 x row.2 in
+rows_take version zero done bytes x e =
+    subst (λ (y : Table × List ℕ). RowsTake version 0 done bytes y) (ok_is (done, bytes) x e) (record { rows = []; rows_is = sym (append-nil done); parts = refl; count = refl; table = refl; modes = refl })
+rows_take version (suc n) done bytes x e =
+    let row = bind_ok (cells_at version (suc n) [] bytes) (λ row. rows_at version n (done ++ row.0 ∷ []) row.1) x e in
+    let first = cells_take version (suc n) [] bytes row.0 row.1 in
+    let rest = rows_take version n (done ++ row.0.0 ∷ []) row.0.1 x row.2 in
     let long : length row.0.0 ≡ suc (length rest.rows) = ap length first.row_is ∙ first.count ∙ ap suc (sym rest.count) in
+    let has : list_all (has_mode version) row.0.0 ≡ true = ap (list_all (has_mode version)) first.row_is ∙ first.modes in
     record {
       rows = row.0.0 ∷ rest.rows;
       rows_is = rest.rows_is ∙ append_assoc done (row.0.0 ∷ []) rest.rows;
-      parts = first.parts ∙ ap (λ (r : List Bool). row_bytes r ++ row.0.1) (sym first.row_is) ∙ ap (λ (r : List ℕ). row_bytes row.0.0 ++ r) rest.parts ∙ sym (append_assoc (row_bytes row.0.0) (flat_map row_bytes rest.rows) x.1) ∙ ap (λ (w : List ℕ). w ++ x.1) (sym (flat_map-cons row_bytes row.0.0 rest.rows));
+      parts = first.parts ∙ ap (λ (r : List Mode). row_bytes r ++ row.0.1) (sym first.row_is) ∙ ap (λ (r : List ℕ). row_bytes row.0.0 ++ r) rest.parts ∙ sym (append_assoc (row_bytes row.0.0) (flat_map row_bytes rest.rows) x.1) ∙ ap (λ (w : List ℕ). w ++ x.1) (sym (flat_map-cons row_bytes row.0.0 rest.rows));
       count = ap suc rest.count;
       table = and_from _ _ (eq-eqb _ _ long) rest.table;
+      modes = and_from _ _ has rest.modes;
     }
 
-pub rows_again : (rows done : Table) (rest : List ℕ) → is_table rows ≡ true → rows_at (length rows) done (flat_map row_bytes rows ++ rest) ≡ Ok (done ++ rows, rest)
+pub rows_again : (version : ℕ) (rows done : Table) (rest : List ℕ) → is_table rows ≡ true → has_modes version rows ≡ true → rows_at version (length rows) done (flat_map row_bytes rows ++ rest) ≡ Ok (done ++ rows, rest)
 unfolding rows_at
-rows_again [] done rest table = rw (append-nil done) refl
-rows_again (row ∷ rows) done rest table =
+rows_again version [] done rest table modes = rw (append-nil done) refl
+rows_again version (row ∷ rows) done rest table modes =
     let is = and_parts (nat_eq (length row) (suc (length rows))) (is_table rows) table in
+    let has = and_parts (list_all (has_mode version) row) (has_modes version rows) modes in
     let long : length row ≡ suc (length rows) = eqb-true _ _ is.0 in
     let regrouped : flat_map row_bytes (row ∷ rows) ++ rest ≡ row_bytes row ++ (flat_map row_bytes rows ++ rest) = ap (λ (w : List ℕ). w ++ rest) (flat_map-cons row_bytes row rows) ∙ append_assoc (row_bytes row) (flat_map row_bytes rows) rest in
-    let read : cells_at (suc (length rows)) [] (row_bytes row ++ (flat_map row_bytes rows ++ rest)) ≡ Ok (row, flat_map row_bytes rows ++ rest) = rw (← long) (cells_again row [] (flat_map row_bytes rows ++ rest)) in
-    ap (rows_at (suc (length rows)) done) regrouped
-    ∙ ap (λ (r : Result (List Bool × List ℕ) ℕ). r >>= λ row. rows_at (length rows) (done ++ row.0 ∷ []) row.1) read
-    ∙ rows_again rows (done ++ row ∷ []) rest is.1 ∙ rw (append_assoc done (row ∷ []) rows) refl
+    let read : cells_at version (suc (length rows)) [] (row_bytes row ++ (flat_map row_bytes rows ++ rest)) ≡ Ok (row, flat_map row_bytes rows ++ rest) = rw (← long) (cells_again version row [] (flat_map row_bytes rows ++ rest) has.0) in
+    ap (rows_at version (suc (length rows)) done) regrouped
+    ∙ ap (λ (r : Result (List Mode × List ℕ) ℕ). r >>= λ row. rows_at version (length rows) (done ++ row.0 ∷ []) row.1) read
+    ∙ rows_again version rows (done ++ row ∷ []) rest is.1 has.1 ∙ rw (append_assoc done (row ∷ []) rows) refl
 
 -- ---- the number of operations
 
@@ -166,36 +188,37 @@ pub record FrontTakes (bytes : List ℕ) (x : Catalog × List ℕ) : Type 0 wher
   pub valid : IsCatalog x.0
 
 -- the bytes of its parts are those of the catalog
-front_spelled : (bytes a b c rest : List ℕ) (v n : ℕ) (all ops : List Op) (table rows : Table) → bytes ≡ v ∷ a → v ≡ 1 → a ≡ n % 256 ∷ n / 256 ∷ b → b ≡ flat_map op_bytes ops ++ c → all ≡ ops → c ≡ flat_map row_bytes rows ++ rest → table ≡ rows → length all ≡ n
-    → bytes ≡ bytes_of (record { ops = all; conflicts = table }) ++ rest
-front_spelled bytes a b c rest v n all ops table rows e1 e2 e3 e4 e5 e6 e7 e8 =
-    rw (e1, e2, e3, e4, e6, e8, e5, e7) (ap (λ (r : List ℕ). 1 ∷ n % 256 ∷ n / 256 ∷ r) (sym (append_assoc (flat_map op_bytes ops) (flat_map row_bytes rows) rest)))
+front_spelled : (bytes a b c rest : List ℕ) (v n : ℕ) (all ops : List Op) (table rows : Table) → bytes ≡ v ∷ a → a ≡ n % 256 ∷ n / 256 ∷ b → b ≡ flat_map op_bytes ops ++ c → all ≡ ops → c ≡ flat_map row_bytes rows ++ rest → table ≡ rows → length all ≡ n
+    → bytes ≡ bytes_of (record { version = v; ops = all; conflicts = table }) ++ rest
+front_spelled bytes a b c rest v n all ops table rows e1 e3 e4 e5 e6 e7 e8 =
+    rw (e1, e3, e4, e6, e8, e5, e7) (ap (λ (r : List ℕ). v ∷ n % 256 ∷ n / 256 ∷ r) (sym (append_assoc (flat_map op_bytes ops) (flat_map row_bytes rows) rest)))
 
 pub front_takes : (bytes : List ℕ) (x : Catalog × List ℕ) → get_or bytes 1 0 < 256 → front_at bytes ≡ Ok x → FrontTakes bytes x
 unfolding front_at
 front_takes bytes x byte e =
-    let version = bind_ok (byte_at (λ b. b == 1) bytes) (λ version. count_at version.1 >>= λ n. ops_at n.0 [] n.1 >>= λ ops. rows_at n.0 [] ops.1 >>= λ rows. Ok (record { ops = ops.0; conflicts = rows.0 }, rows.1)) x e in
-    let n = bind_ok (count_at version.0.1) (λ n. ops_at n.0 [] n.1 >>= λ ops. rows_at n.0 [] ops.1 >>= λ rows. Ok (record { ops = ops.0; conflicts = rows.0 }, rows.1)) x version.2 in
-    let ops = bind_ok (ops_at n.0.0 [] n.0.1) (λ ops. rows_at n.0.0 [] ops.1 >>= λ rows. Ok (record { ops = ops.0; conflicts = rows.0 }, rows.1)) x n.2 in
-    let rows = bind_ok (rows_at n.0.0 [] ops.0.1) (λ rows. Ok (record { ops = ops.0.0; conflicts = rows.0 }, rows.1)) x ops.2 in
-    let first = byte_read (λ b. b == 1) bytes version.0 version.1 in
-    let one : version.0.0 ≡ 1 = eqb-true _ _ first.1 in
+    let version = bind_ok (byte_at is_version bytes) (λ version. count_at version.1 >>= λ n. ops_at n.0 [] n.1 >>= λ ops. rows_at version.0 n.0 [] ops.1 >>= λ rows. Ok (record { version = version.0; ops = ops.0; conflicts = rows.0 }, rows.1)) x e in
+    let n = bind_ok (count_at version.0.1) (λ n. ops_at n.0 [] n.1 >>= λ ops. rows_at version.0.0 n.0 [] ops.1 >>= λ rows. Ok (record { version = version.0.0; ops = ops.0; conflicts = rows.0 }, rows.1)) x version.2 in
+    let ops = bind_ok (ops_at n.0.0 [] n.0.1) (λ ops. rows_at version.0.0 n.0.0 [] ops.1 >>= λ rows. Ok (record { version = version.0.0; ops = ops.0; conflicts = rows.0 }, rows.1)) x n.2 in
+    let rows = bind_ok (rows_at version.0.0 n.0.0 [] ops.0.1) (λ rows. Ok (record { version = version.0.0; ops = ops.0.0; conflicts = rows.0 }, rows.1)) x ops.2 in
+    let first = byte_read is_version bytes version.0 version.1 in
     let second : get_or version.0.1 0 0 < 256 = let same : get_or bytes 1 0 ≡ get_or version.0.1 0 0 = ap (λ (w : List ℕ). get_or w 1 0) first.0 in omega (arith, same, byte) in
     let count = count_takes version.0.1 n.0 second n.1 in
     let all = ops_take n.0.0 [] n.0.1 ops.0 ops.1 in
-    let table = rows_take n.0.0 [] ops.0.1 rows.0 rows.1 in
+    let table = rows_take version.0.0 n.0.0 [] ops.0.1 rows.0 rows.1 in
     let many : length ops.0.0 ≡ n.0.0 = ap length all.ops_is ∙ all.follow.count_is in
-    let made : Catalog × List ℕ = (record { ops = ops.0.0; conflicts = rows.0.0 }, rows.0.1) in
+    let made : Catalog × List ℕ = (record { version = version.0.0; ops = ops.0.0; conflicts = rows.0.0 }, rows.0.1) in
     let spelled : bytes ≡ bytes_of made.0 ++ rows.0.1 =
-    front_spelled bytes version.0.1 n.0.1 ops.0.1 rows.0.1 version.0.0 n.0.0 ops.0.0 all.ops rows.0.0 table.rows first.0 one count.parts all.parts all.ops_is table.parts table.rows_is many in
+    front_spelled bytes version.0.1 n.0.1 ops.0.1 rows.0.1 version.0.0 n.0.0 ops.0.0 all.ops rows.0.0 table.rows first.0 count.parts all.parts all.ops_is table.parts table.rows_is many in
     subst (λ (y : Catalog × List ℕ). FrontTakes bytes y) (ok_is made x rows.2) (record {
       parts = spelled;
       valid = record {
+        version = first.1;
         few = omega (arith, many, count.few);
         good = rw all.ops_is all.follow.good;
         own_names = rw all.ops_is all.follow.own_names;
         table = rw table.rows_is table.table;
         of_all = ap length table.rows_is ∙ table.count ∙ sym many;
+        modes = rw table.rows_is table.modes;
       };
     })
 
@@ -203,8 +226,8 @@ pub front_again : (c : Catalog) (rest : List ℕ) → IsCatalog c → front_at (
 unfolding front_at
 front_again c rest valid =
     let regrouped : (flat_map op_bytes c.ops ++ flat_map row_bytes c.conflicts) ++ rest ≡ flat_map op_bytes c.ops ++ (flat_map row_bytes c.conflicts ++ rest) = append_assoc (flat_map op_bytes c.ops) (flat_map row_bytes c.conflicts) rest in
-    let rows : rows_at (length c.ops) [] (flat_map row_bytes c.conflicts ++ rest) ≡ Ok (c.conflicts, rest) = rw (← valid.of_all) (rows_again c.conflicts [] rest valid.table) in
-    rw (count_again (length c.ops) ((flat_map op_bytes c.ops ++ flat_map row_bytes c.conflicts) ++ rest) valid.few, regrouped, ops_again [] c.ops (flat_map row_bytes c.conflicts ++ rest) valid.good valid.own_names, rows) refl
+    let rows : rows_at c.version (length c.ops) [] (flat_map row_bytes c.conflicts ++ rest) ≡ Ok (c.conflicts, rest) = rw (← valid.of_all) (rows_again c.version c.conflicts [] rest valid.table valid.modes) in
+    rw (byte_again is_version c.version (length c.ops % 256 ∷ length c.ops / 256 ∷ ((flat_map op_bytes c.ops ++ flat_map row_bytes c.conflicts) ++ rest)) valid.version, count_again (length c.ops) ((flat_map op_bytes c.ops ++ flat_map row_bytes c.conflicts) ++ rest) valid.few, regrouped, ops_again [] c.ops (flat_map row_bytes c.conflicts ++ rest) valid.good valid.own_names, rows) refl
 
 -- what is read is a catalog, and the bytes are its own
 pub catalog_takes : (bytes : List ℕ) (c : Catalog) → get_or bytes 1 0 < 256 → catalog_at bytes ≡ Ok c → (bytes ≡ bytes_of c) × IsCatalog c

@@ -1,24 +1,27 @@
 -- The place where reading a catalog stops is the first that rules out every catalog.
-use Rattle.std.proofs.Common.{◌≡◌, ℕ, zero, suc, ◌+◌, ◌-◌, ◌*◌, ◌^◌, ◌<◌, ◌≤◌, Bool, true, false, cond, List, [], ◌∷◌, ◌++◌, length, get_or, take, drop, Result, Ok, Err, refl, sym, ap, ◌∙◌, subst, append_assoc, arith, inl, inr}
-use Rattle.std.specs.Prelude.{nat_lt, nat_le, nat_eq, ◌==◌, ◌/◌, ◌%◌, replicate, slice_get, IsErr}
+use Rattle.std.proofs.Common.{◌≡◌, ℕ, zero, suc, ◌+◌, ◌-◌, ◌*◌, ◌^◌, ◌<◌, ◌≤◌, true, false, cond, List, [], ◌∷◌, ◌++◌, length, get_or, take, drop, Result, Ok, Err, refl, sym, ap, ◌∙◌, subst, append_assoc, arith, inl, inr}
+use Rattle.std.specs.Prelude.{nat_le, nat_eq, ◌==◌, ◌/◌, ◌%◌, replicate, slice_get, IsErr}
 use Rattle.std.specs.List.{list_all, flat_map}
-use Rattle.std.proofs.lemmas.Bool.{and_parts, eqb-true, eq-eqb, ltb-true, and_from}
+use Rattle.std.proofs.lemmas.Bool.{and_parts, eqb-true, eq-eqb, and_from}
 use Rattle.std.proofs.lemmas.List.{length-append, append-nil, length-replicate, take_at, take-append-drop}
 use Rattle.std.proofs.lemmas.List.Concat.{flat_map-cons}
 use Rattle.std.proofs.Math.Dec.{eqb-suc-zero}
+use Rattle.process_tree.specs.declared.conflicts.Mode.{Mode}
+use Rattle.process_tree.specs.declared.conflicts.Mode.TheVariants.{Never}
 use Rattle.process_tree.specs.Conflicts.{Table, is_table, no_conflicts}
 use Rattle.process_tree.proofs.Tables.{is_table-no_conflicts, length-no_conflicts}
 use Rattle.process_tree.specs.Name.{is_name}
 use Rattle.std.proofs.lemmas.List.{length-map}
 use Rattle.commute_table.specs.declared.op.Op.{Op}
 use Rattle.commute_table.specs.declared.catalog.Catalog.{Catalog}
-use Rattle.commute_table.specs.Operations.{has_name, is_good_op, IsCatalog}
+use Rattle.commute_table.specs.Operations.{is_version, has_mode, has_modes, has_name, is_good_op, IsCatalog}
 use Rattle.commute_table.specs.Bytes.{op_bytes, row_bytes, bytes_of, cell_byte, verb_code, GoesOn, IsFirstBad}
-use Rattle.commute_table.specs.Reading.{◌>>=◌, byte_at, count_at, op_at, ops_at, cells_at, rows_at, front_at, catalog_at}
+use Rattle.commute_table.specs.Reading.{◌>>=◌, byte_at, count_at, op_at, ops_at, mode_with, is_cell, cells_at, rows_at, front_at, catalog_at}
 use Rattle.commute_table.proofs.Stops.{Stops, catalog_stops, head_of, bind_err}
 use Rattle.commute_table.proofs.Fresh.{Follows, follows_more, fill}
 use Rattle.commute_table.proofs.OpLaws.{byte_read, op_takes, name_is_short}
-use Rattle.commute_table.proofs.CatalogLaws.{ops_take, cells_take, count_takes, front_takes, catalog_again, byte_of_cell}
+use Rattle.commute_table.proofs.CatalogLaws.{ops_take, cells_take, count_takes, front_takes, catalog_again, cell_taken}
+use Rattle.commute_table.proofs.Modes.{has_never, has_modes-no_conflicts}
 use Rattle.commute_table.proofs.Begun.{Begun, begun_after, begun_longer, begun_same, byte_begun, not_err, left_of, op_begun}
 
 -- ---- operations
@@ -58,41 +61,57 @@ ops_begun (suc n) earlier bytes left le e =
 
 -- ---- pairs
 
-abbrev pub AreCells : ℕ → List ℕ → Type 0
-AreCells n w = (row : List Bool) × (length row ≡ n) × (w ≡ row_bytes row)
+abbrev pub AreCells : ℕ → ℕ → List ℕ → Type 0
+AreCells version n w = (row : List Mode) × (length row ≡ n) × (list_all (has_mode version) row ≡ true) × (w ≡ row_bytes row)
 
-pub cells_begun : (n : ℕ) (done : List Bool) (bytes : List ℕ) (left : ℕ) → cells_at n done bytes ≡ Err left → Begun (AreCells n) bytes left
+pub cells_begun : (version n : ℕ) (done : List Mode) (bytes : List ℕ) (left : ℕ) → cells_at version n done bytes ≡ Err left → Begun (AreCells version n) bytes left
 unfolding cells_at
-cells_begun zero done bytes left e = absurd (not_err (done, bytes) left e)
-cells_begun (suc n) done bytes left e =
-    elim (bind_err (byte_at (λ b. nat_lt b 2) bytes) (λ b. cells_at n (done ++ (b.0 == 1) ∷ []) b.1) left e) [
-      | inl d ↦ byte_begun (AreCells (suc n)) (λ b. nat_lt b 2) bytes (row_bytes (replicate (suc n) false)) left d (replicate (suc n) false, length-replicate (suc n) false, refl)
+cells_begun version zero done bytes left e = absurd (not_err (done, bytes) left e)
+cells_begun version (suc n) done bytes left e =
+    elim (bind_err (byte_at (is_cell version) bytes) (λ b. cells_at version n (done ++ mode_with b.0 ∷ []) b.1) left e) [
+      | inl d ↦ byte_begun (AreCells version (suc n)) (is_cell version) bytes (row_bytes (replicate (suc n) Never)) left d (replicate (suc n) Never, length-replicate (suc n) Never, has_never version (suc n), refl)
       | inr d ↦
-          let byte = byte_read (λ b. nat_lt b 2) bytes d.0 d.1 in
-          begun_after (AreCells (suc n)) bytes (d.0.0 ∷ []) d.0.1 left byte.0
-          (begun_same (AreCells n) (λ w. AreCells (suc n) (d.0.0 ∷ w)) d.0.1 left (λ w h. ((d.0.0 == 1) ∷ h.0, ap suc h.1, ap (λ (r : List ℕ). d.0.0 ∷ r) h.2 ∙ ap (λ (k : ℕ). k ∷ row_bytes h.0) (sym (byte_of_cell d.0.0 (ltb-true d.0.0 2 byte.1)))))
-          (cells_begun n (done ++ (d.0.0 == 1) ∷ []) d.0.1 left d.2))
+          let byte = byte_read (is_cell version) bytes d.0 d.1 in
+          let cell = cell_taken version d.0.0 byte.1 in
+          begun_after (AreCells version (suc n)) bytes (d.0.0 ∷ []) d.0.1 left byte.0
+          (begun_same (AreCells version n) (λ w. AreCells version (suc n) (d.0.0 ∷ w)) d.0.1 left (λ w h. (mode_with d.0.0 ∷ h.0, ap suc h.1, and_from _ _ cell.1 h.2, ap (λ (r : List ℕ). d.0.0 ∷ r) h.3 ∙ ap (λ (k : ℕ). k ∷ row_bytes h.0) (sym cell.0)))
+          (cells_begun version n (done ++ mode_with d.0.0 ∷ []) d.0.1 left d.2))
     ]
 
-abbrev pub AreRows : ℕ → List ℕ → Type 0
-AreRows n w = (rows : Table) × (length rows ≡ n) × (is_table rows ≡ true) × (w ≡ flat_map row_bytes rows)
+-- a table of so many operations that a catalog of the version can have
+pub record IsFit (version n : ℕ) (rows : Table) : Type 0 where
+  pub count : length rows ≡ n
+  pub table : is_table rows ≡ true
+  pub modes : has_modes version rows ≡ true
 
-one_row : (n : ℕ) (row : List Bool) (w : List ℕ) → length row ≡ suc n → AreRows n w → AreRows (suc n) (row_bytes row ++ w)
-one_row n row w long h = (row ∷ h.0, ap suc h.1, and_from _ _ (eq-eqb _ _ (long ∙ ap suc (sym h.1))) h.2, ap (λ (r : List ℕ). row_bytes row ++ r) h.3 ∙ sym (flat_map-cons row_bytes row h.0))
+abbrev pub AreRows : ℕ → ℕ → List ℕ → Type 0
+AreRows version n w = (rows : Table) × IsFit version n rows × (w ≡ flat_map row_bytes rows)
 
-no_rows : (n : ℕ) → AreRows n (flat_map row_bytes (no_conflicts n))
-no_rows n = (no_conflicts n, length-no_conflicts n, is_table-no_conflicts n, refl)
+one_row : (version n : ℕ) (row : List Mode) (w : List ℕ) → length row ≡ suc n → list_all (has_mode version) row ≡ true → AreRows version n w → AreRows version (suc n) (row_bytes row ++ w)
+one_row version n row w long has h = (
+  row ∷ h.0,
+  record { count = ap suc h.1.count; table = and_from _ _ (eq-eqb _ _ (long ∙ ap suc (sym h.1.count))) h.1.table; modes = and_from _ _ has h.1.modes },
+  ap (λ (r : List ℕ). row_bytes row ++ r) h.2 ∙ sym (flat_map-cons row_bytes row h.0),
+)
 
-pub rows_begun : (n : ℕ) (done : Table) (bytes : List ℕ) (left : ℕ) → rows_at n done bytes ≡ Err left → Begun (AreRows n) bytes left
+empty_is_fit : (version n : ℕ) → IsFit version n (no_conflicts n)
+empty_is_fit version n = record { count = length-no_conflicts n; table = is_table-no_conflicts n; modes = has_modes-no_conflicts version n }
+
+no_rows : (version n : ℕ) → AreRows version n (flat_map row_bytes (no_conflicts n))
+no_rows version n = (no_conflicts n, empty_is_fit version n, refl)
+
+pub rows_begun : (version n : ℕ) (done : Table) (bytes : List ℕ) (left : ℕ) → rows_at version n done bytes ≡ Err left → Begun (AreRows version n) bytes left
 unfolding rows_at
-rows_begun zero done bytes left e = absurd (not_err (done, bytes) left e)
-rows_begun (suc n) done bytes left e =
-    elim (bind_err (cells_at (suc n) [] bytes) (λ row. rows_at n (done ++ row.0 ∷ []) row.1) left e) [
-      | inl d ↦ begun_longer (AreCells (suc n)) (AreRows (suc n)) (flat_map row_bytes (no_conflicts n)) bytes left (λ w h. subst (λ (v : List ℕ). AreRows (suc n) (v ++ flat_map row_bytes (no_conflicts n))) (sym h.2) (one_row n h.0 (flat_map row_bytes (no_conflicts n)) h.1 (no_rows n))) (cells_begun (suc n) [] bytes left d)
+rows_begun version zero done bytes left e = absurd (not_err (done, bytes) left e)
+rows_begun version (suc n) done bytes left e =
+    elim (bind_err (cells_at version (suc n) [] bytes) (λ row. rows_at version n (done ++ row.0 ∷ []) row.1) left e) [
+      | inl d ↦
+          let others = flat_map row_bytes (no_conflicts n) in
+          begun_longer (AreCells version (suc n)) (AreRows version (suc n)) others bytes left (λ w h. subst (λ (v : List ℕ). AreRows version (suc n) (v ++ others)) (sym h.3) (one_row version n h.0 others h.1 h.2 (no_rows version n))) (cells_begun version (suc n) [] bytes left d)
       | inr d ↦
-          let first = cells_take (suc n) [] bytes d.0 d.1 in
-          begun_after (AreRows (suc n)) bytes (row_bytes first.row) d.0.1 left first.parts
-          (begun_same (AreRows n) (λ w. AreRows (suc n) (row_bytes first.row ++ w)) d.0.1 left (λ w h. one_row n first.row w first.count h) (rows_begun n (done ++ d.0.0 ∷ []) d.0.1 left d.2))
+          let first = cells_take version (suc n) [] bytes d.0 d.1 in
+          begun_after (AreRows version (suc n)) bytes (row_bytes first.row) d.0.1 left first.parts
+          (begun_same (AreRows version n) (λ w. AreRows version (suc n) (row_bytes first.row ++ w)) d.0.1 left (λ w h. one_row version n first.row w first.count first.modes h) (rows_begun version n (done ++ d.0.0 ∷ []) d.0.1 left d.2))
     ]
 
 -- ---- catalogs
@@ -101,62 +120,68 @@ rows_begun (suc n) done bytes left e =
 abbrev pub IsCatalogBytes : List ℕ → Type 0
 IsCatalogBytes w = (c : Catalog) × IsCatalog c × (w ≡ bytes_of c)
 
+-- what stands behind the version and the number of operations
+abbrev pub IsBehindCount : ℕ → ℕ → List ℕ → Type 0
+IsBehindCount version n w = IsCatalogBytes (version ∷ n % 256 ∷ n / 256 ∷ w)
+
 -- a catalog of these operations and pairs
-made_of : (n : ℕ) (ops : List Op) (rows : Table) → n ≤ 256 → Follows [] ops n → length rows ≡ n → is_table rows ≡ true → IsCatalogBytes (1 ∷ n % 256 ∷ n / 256 ∷ (flat_map op_bytes ops ++ flat_map row_bytes rows))
-made_of n ops rows few follow many table =
-    let c : Catalog = record { ops = ops; conflicts = rows } in
-    let counted : 1 ∷ n % 256 ∷ n / 256 ∷ (flat_map op_bytes ops ++ flat_map row_bytes rows) ≡ bytes_of c = rw follow.count_is refl in
-    (c, record { few = omega (arith, follow.count_is); good = follow.good; own_names = follow.own_names; table = table; of_all = many ∙ sym follow.count_is }, counted)
+made_of : (version n : ℕ) (ops : List Op) (rows : Table) → is_version version ≡ true → n ≤ 256 → Follows [] ops n → IsFit version n rows → IsBehindCount version n (flat_map op_bytes ops ++ flat_map row_bytes rows)
+made_of version n ops rows is few follow fit =
+    let c : Catalog = record { version = version; ops = ops; conflicts = rows } in
+    let counted : version ∷ n % 256 ∷ n / 256 ∷ (flat_map op_bytes ops ++ flat_map row_bytes rows) ≡ bytes_of c = rw follow.count_is refl in
+    (c, record { version = is; few = omega (arith, follow.count_is); good = follow.good; own_names = follow.own_names; table = fit.table; of_all = fit.count ∙ sym follow.count_is; modes = fit.modes }, counted)
 
 -- a catalog that isn't read
 abbrev unread : ℕ → Result (Catalog × List ℕ) ℕ
 unread left = Err left
 
 -- some catalog of so many operations
-some_catalog : (n : ℕ) → n ≤ 256 → (w : List ℕ) × IsCatalogBytes (1 ∷ n % 256 ∷ n / 256 ∷ w)
-some_catalog n few =
+some_catalog : (version n : ℕ) → is_version version ≡ true → n ≤ 256 → (w : List ℕ) × IsBehindCount version n w
+some_catalog version n is few =
     let ops = fill n [] (omega arith) in
-    (flat_map op_bytes ops.0 ++ flat_map row_bytes (no_conflicts n), made_of n ops.0 (no_conflicts n) few ops.1 (length-no_conflicts n) (is_table-no_conflicts n))
+    (flat_map op_bytes ops.0 ++ flat_map row_bytes (no_conflicts n), made_of version n ops.0 (no_conflicts n) is few ops.1 (empty_is_fit version n))
 
 -- behind the operations
-pairs_begun : (n : ℕ) (ops : List Op) (bytes : List ℕ) (left : ℕ) → n ≤ 256 → Follows [] ops n
-    → (rows_at n [] bytes >>= λ rows. Ok (record { ops = ops; conflicts = rows.0 }, rows.1)) ≡ unread left
-    → Begun (λ w. IsCatalogBytes (1 ∷ n % 256 ∷ n / 256 ∷ (flat_map op_bytes ops ++ w))) bytes left
-pairs_begun n ops bytes left few follow e =
-    elim (bind_err (rows_at n [] bytes) (λ rows. Ok (record { ops = ops; conflicts = rows.0 }, rows.1)) left e) [
-      | inl d ↦ begun_same (AreRows n) (λ w. IsCatalogBytes (1 ∷ n % 256 ∷ n / 256 ∷ (flat_map op_bytes ops ++ w))) bytes left (λ w h. subst (λ (v : List ℕ). IsCatalogBytes (1 ∷ n % 256 ∷ n / 256 ∷ (flat_map op_bytes ops ++ v))) (sym h.3) (made_of n ops h.0 few follow h.1 h.2)) (rows_begun n [] bytes left d)
+pairs_begun : (version n : ℕ) (ops : List Op) (bytes : List ℕ) (left : ℕ) → is_version version ≡ true → n ≤ 256 → Follows [] ops n
+    → (rows_at version n [] bytes >>= λ rows. Ok (record { version = version; ops = ops; conflicts = rows.0 }, rows.1)) ≡ unread left
+    → Begun (λ w. IsBehindCount version n (flat_map op_bytes ops ++ w)) bytes left
+pairs_begun version n ops bytes left is few follow e =
+    elim (bind_err (rows_at version n [] bytes) (λ rows. Ok (record { version = version; ops = ops; conflicts = rows.0 }, rows.1)) left e) [
+      | inl d ↦ begun_same (AreRows version n) (λ w. IsBehindCount version n (flat_map op_bytes ops ++ w)) bytes left (λ w h. subst (λ (v : List ℕ). IsBehindCount version n (flat_map op_bytes ops ++ v)) (sym h.2) (made_of version n ops h.0 is few follow h.1)) (rows_begun version n [] bytes left d)
       | inr d ↦ absurd (not_err {A = Catalog × List ℕ} _ left d.2)
     ]
 
 -- behind the number of operations
-parts_begun : (n : ℕ) (bytes : List ℕ) (left : ℕ) → n ≤ 256
-    → (ops_at n [] bytes >>= λ ops. rows_at n [] ops.1 >>= λ rows. Ok (record { ops = ops.0; conflicts = rows.0 }, rows.1)) ≡ unread left
-    → Begun (λ w. IsCatalogBytes (1 ∷ n % 256 ∷ n / 256 ∷ w)) bytes left
-parts_begun n bytes left few e =
-    elim (bind_err (ops_at n [] bytes) (λ ops. rows_at n [] ops.1 >>= λ rows. Ok (record { ops = ops.0; conflicts = rows.0 }, rows.1)) left e) [
-      | inl d ↦ begun_longer (AreOpsBytes [] n) (λ w. IsCatalogBytes (1 ∷ n % 256 ∷ n / 256 ∷ w)) (flat_map row_bytes (no_conflicts n)) bytes left (λ w h. subst (λ (v : List ℕ). IsCatalogBytes (1 ∷ n % 256 ∷ n / 256 ∷ (v ++ flat_map row_bytes (no_conflicts n)))) (sym h.2) (made_of n h.0 (no_conflicts n) few h.1 (length-no_conflicts n) (is_table-no_conflicts n))) (ops_begun n [] bytes left (omega arith) d)
+parts_begun : (version n : ℕ) (bytes : List ℕ) (left : ℕ) → is_version version ≡ true → n ≤ 256
+    → (ops_at n [] bytes >>= λ ops. rows_at version n [] ops.1 >>= λ rows. Ok (record { version = version; ops = ops.0; conflicts = rows.0 }, rows.1)) ≡ unread left
+    → Begun (IsBehindCount version n) bytes left
+parts_begun version n bytes left is few e =
+    elim (bind_err (ops_at n [] bytes) (λ ops. rows_at version n [] ops.1 >>= λ rows. Ok (record { version = version; ops = ops.0; conflicts = rows.0 }, rows.1)) left e) [
+      | inl d ↦
+          let pairs = flat_map row_bytes (no_conflicts n) in
+          begun_longer (AreOpsBytes [] n) (IsBehindCount version n) pairs bytes left (λ w h. subst (λ (v : List ℕ). IsBehindCount version n (v ++ pairs)) (sym h.2) (made_of version n h.0 (no_conflicts n) is few h.1 (empty_is_fit version n))) (ops_begun n [] bytes left (omega arith) d)
       | inr d ↦
           let all = ops_take n [] bytes d.0 d.1 in
           let ops_is : d.0.0 ≡ all.ops = all.ops_is in
-          begun_after (λ w. IsCatalogBytes (1 ∷ n % 256 ∷ n / 256 ∷ w)) bytes (flat_map op_bytes d.0.0) d.0.1 left (all.parts ∙ ap (λ (os : List Op). flat_map op_bytes os ++ d.0.1) (sym ops_is))
-          (pairs_begun n d.0.0 d.0.1 left few (subst (λ (os : List Op). Follows [] os n) (sym ops_is) all.follow) d.2)
+          begun_after (IsBehindCount version n) bytes (flat_map op_bytes d.0.0) d.0.1 left (all.parts ∙ ap (λ (os : List Op). flat_map op_bytes os ++ d.0.1) (sym ops_is))
+          (pairs_begun version n d.0.0 d.0.1 left is few (subst (λ (os : List Op). Follows [] os n) (sym ops_is) all.follow) d.2)
     ]
 
 -- in the number of operations
-count_begun : (bytes : List ℕ) (left : ℕ) → get_or bytes 0 0 < 256 → count_at bytes ≡ Err left → Begun (λ w. IsCatalogBytes (1 ∷ w)) bytes left
+count_begun : (version : ℕ) (bytes : List ℕ) (left : ℕ) → is_version version ≡ true → get_or bytes 0 0 < 256 → count_at bytes ≡ Err left → Begun (λ w. IsCatalogBytes (version ∷ w)) bytes left
 unfolding count_at
-count_begun bytes left byte e =
+count_begun version bytes left is byte e =
     elim (bind_err (byte_at (λ _. true) bytes) (λ low. byte_at (λ b. nat_le (low.0 + 256 * b) 256) low.1 >>= λ high. Ok (low.0 + 256 * high.0, high.1)) left e) [
-      | inl d ↦ let c = some_catalog 0 (omega arith) in byte_begun (λ w. IsCatalogBytes (1 ∷ w)) (λ _. true) bytes (0 ∷ 0 ∷ c.0) left d c.1
+      | inl d ↦ let c = some_catalog version 0 is (omega arith) in byte_begun (λ w. IsCatalogBytes (version ∷ w)) (λ _. true) bytes (0 ∷ 0 ∷ c.0) left d c.1
       | inr d ↦
           let first = byte_read (λ _. true) bytes d.0 d.1 in
           let small : d.0.0 < 256 = let same : get_or bytes 0 0 ≡ d.0.0 = ap (λ (w : List ℕ). get_or w 0 0) first.0 in omega (arith, same, byte) in
           elim (bind_err (byte_at (λ b. nat_le (d.0.0 + 256 * b) 256) d.0.1) (λ high. Ok (d.0.0 + 256 * high.0, high.1)) left d.2) [
             | inl f ↦
-                let c = some_catalog d.0.0 (omega arith) in
+                let c = some_catalog version d.0.0 is (omega arith) in
                 let low : d.0.0 % 256 ≡ d.0.0 = omega arith in
-                begun_after (λ w. IsCatalogBytes (1 ∷ w)) bytes (d.0.0 ∷ []) d.0.1 left first.0
-                (byte_begun (λ w. IsCatalogBytes (1 ∷ d.0.0 ∷ w)) (λ b. nat_le (d.0.0 + 256 * b) 256) d.0.1 (d.0.0 / 256 ∷ c.0) left f (subst (λ (k : ℕ). IsCatalogBytes (1 ∷ k ∷ d.0.0 / 256 ∷ c.0)) low c.1))
+                begun_after (λ w. IsCatalogBytes (version ∷ w)) bytes (d.0.0 ∷ []) d.0.1 left first.0
+                (byte_begun (λ w. IsCatalogBytes (version ∷ d.0.0 ∷ w)) (λ b. nat_le (d.0.0 + 256 * b) 256) d.0.1 (d.0.0 / 256 ∷ c.0) left f (subst (λ (k : ℕ). IsCatalogBytes (version ∷ k ∷ d.0.0 / 256 ∷ c.0)) low c.1))
             | inr f ↦ absurd (not_err {A = ℕ × List ℕ} _ left f.2)
           ]
     ]
@@ -164,19 +189,18 @@ count_begun bytes left byte e =
 pub front_begun : (bytes : List ℕ) (left : ℕ) → get_or bytes 1 0 < 256 → front_at bytes ≡ Err left → Begun IsCatalogBytes bytes left
 unfolding front_at
 front_begun bytes left byte e =
-    elim (bind_err (byte_at (λ b. b == 1) bytes) (λ version. count_at version.1 >>= λ n. ops_at n.0 [] n.1 >>= λ ops. rows_at n.0 [] ops.1 >>= λ rows. Ok (record { ops = ops.0; conflicts = rows.0 }, rows.1)) left e) [
-      | inl d ↦ let c = some_catalog 0 (omega arith) in byte_begun IsCatalogBytes (λ b. b == 1) bytes (1 ∷ 0 ∷ 0 ∷ c.0) left d c.1
+    elim (bind_err (byte_at is_version bytes) (λ version. count_at version.1 >>= λ n. ops_at n.0 [] n.1 >>= λ ops. rows_at version.0 n.0 [] ops.1 >>= λ rows. Ok (record { version = version.0; ops = ops.0; conflicts = rows.0 }, rows.1)) left e) [
+      | inl d ↦ let c = some_catalog 1 0 refl (omega arith) in byte_begun IsCatalogBytes is_version bytes (1 ∷ 0 ∷ 0 ∷ c.0) left d c.1
       | inr d ↦
-          let first = byte_read (λ b. b == 1) bytes d.0 d.1 in
-          let one : d.0.0 ≡ 1 = eqb-true _ _ first.1 in
-          let parts : bytes ≡ 1 ∷ d.0.1 = first.0 ∙ ap (λ (k : ℕ). k ∷ d.0.1) one in
+          let first = byte_read is_version bytes d.0 d.1 in
+          let version = d.0.0 in
           let second : get_or d.0.1 0 0 < 256 = let same : get_or bytes 1 0 ≡ get_or d.0.1 0 0 = ap (λ (w : List ℕ). get_or w 1 0) first.0 in omega (arith, same, byte) in
-          begun_after IsCatalogBytes bytes (1 ∷ []) d.0.1 left parts
-          (elim (bind_err (count_at d.0.1) (λ n. ops_at n.0 [] n.1 >>= λ ops. rows_at n.0 [] ops.1 >>= λ rows. Ok (record { ops = ops.0; conflicts = rows.0 }, rows.1)) left d.2) [
-            | inl f ↦ count_begun d.0.1 left second f
+          begun_after IsCatalogBytes bytes (version ∷ []) d.0.1 left first.0
+          (elim (bind_err (count_at d.0.1) (λ n. ops_at n.0 [] n.1 >>= λ ops. rows_at version n.0 [] ops.1 >>= λ rows. Ok (record { version = version; ops = ops.0; conflicts = rows.0 }, rows.1)) left d.2) [
+            | inl f ↦ count_begun version d.0.1 left first.1 second f
             | inr f ↦
                 let count = count_takes d.0.1 f.0 second f.1 in
-                begun_after (λ w. IsCatalogBytes (1 ∷ w)) d.0.1 (f.0.0 % 256 ∷ f.0.0 / 256 ∷ []) f.0.1 left count.parts (parts_begun f.0.0 f.0.1 left count.few f.2)
+                begun_after (λ w. IsCatalogBytes (version ∷ w)) d.0.1 (f.0.0 % 256 ∷ f.0.0 / 256 ∷ []) f.0.1 left count.parts (parts_begun version f.0.0 f.0.1 left first.1 count.few f.2)
           ])
     ]
 

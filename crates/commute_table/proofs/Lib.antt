@@ -5,11 +5,14 @@ pub mod Stops
 pub mod Texts
 pub mod Fresh
 pub mod OpLaws
+pub mod Modes
 pub mod CatalogLaws
 pub mod Begun
 pub mod FirstBad
 pub mod Unknown
 pub mod Walks
+pub mod PairWalks
+pub mod Agreeing
 pub mod Valid
 pub mod Answered
 pub mod Bound

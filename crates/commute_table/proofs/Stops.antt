@@ -3,9 +3,11 @@ use Rattle.std.proofs.Common.{◌≡◌, ℕ, zero, suc, ◌+◌, Bool, true, fa
 use Rattle.std.specs.Prelude.{IsErr, nat_lt, nat_le, ◌==◌, ◌*◌}
 use Rattle.std.proofs.lemmas.Bool.{cases_Bool}
 use Rattle.std.proofs.Math.Dec.{eqb-suc-zero}
+use Rattle.process_tree.specs.declared.conflicts.Mode.{Mode}
 use Rattle.commute_table.specs.declared.op.Op.{Op}
 use Rattle.commute_table.specs.declared.catalog.Catalog.{Catalog}
-use Rattle.commute_table.specs.Reading.{Reader, ◌>>=◌, byte_at, count_at, can_be_new, length_at, name_at, verb_with, takes_code, op_at, ops_at, cells_at, rows_at, front_at, catalog_at}
+use Rattle.commute_table.specs.Operations.{is_version}
+use Rattle.commute_table.specs.Reading.{Reader, ◌>>=◌, byte_at, mode_with, is_cell, count_at, can_be_new, length_at, name_at, verb_with, takes_code, op_at, ops_at, cells_at, rows_at, front_at, catalog_at}
 use Rattle.commute_table.proofs.RowLoops.{bind_ok, ok_is}
 
 abbrev pub head_of : List ℕ → Option ℕ
@@ -178,27 +180,27 @@ unfolding ops_at
 plain_ops zero earlier = plain_ok earlier
 plain_ops (suc n) earlier = plain_then (op_at earlier) (λ op rest. ops_at n (earlier ++ op ∷ []) rest) (plain_op earlier) (λ op. plain_ops n (earlier ++ op ∷ []))
 
-pub plain_cells : (n : ℕ) (done : List Bool) → IsPlain (cells_at n done)
+pub plain_cells : (version n : ℕ) (done : List Mode) → IsPlain (cells_at version n done)
 unfolding cells_at
-plain_cells zero done = plain_ok done
-plain_cells (suc n) done = plain_then (byte_at (λ b. nat_lt b 2)) (λ b rest. cells_at n (done ++ (b == 1) ∷ []) rest) (plain_byte (λ b. nat_lt b 2)) (λ b. plain_cells n (done ++ (b == 1) ∷ []))
+plain_cells version zero done = plain_ok done
+plain_cells version (suc n) done = plain_then (byte_at (is_cell version)) (λ b rest. cells_at version n (done ++ mode_with b ∷ []) rest) (plain_byte (is_cell version)) (λ b. plain_cells version n (done ++ mode_with b ∷ []))
 
-pub plain_rows : (n : ℕ) (done : List (List Bool)) → IsPlain (rows_at n done)
+pub plain_rows : (version n : ℕ) (done : List (List Mode)) → IsPlain (rows_at version n done)
 unfolding rows_at
-plain_rows zero done = plain_ok done
-plain_rows (suc n) done = plain_then (cells_at (suc n) []) (λ row rest. rows_at n (done ++ row ∷ []) rest) (plain_cells (suc n) []) (λ row. plain_rows n (done ++ row ∷ []))
+plain_rows version zero done = plain_ok done
+plain_rows version (suc n) done = plain_then (cells_at version (suc n) []) (λ row rest. rows_at version n (done ++ row ∷ []) rest) (plain_cells version (suc n) []) (λ row. plain_rows version n (done ++ row ∷ []))
 
-plain_table : (n : ℕ) (ops : List Op) → IsPlain {A = Catalog} (λ bytes. rows_at n [] bytes >>= λ rows. Ok (record { ops = ops; conflicts = rows.0 }, rows.1))
-plain_table n ops = plain_then (rows_at n []) (λ rows rest. Ok (record { ops = ops; conflicts = rows }, rest)) (plain_rows n []) (λ rows. plain_ok (record { ops = ops; conflicts = rows }))
+plain_table : (version n : ℕ) (ops : List Op) → IsPlain {A = Catalog} (λ bytes. rows_at version n [] bytes >>= λ rows. Ok (record { version = version; ops = ops; conflicts = rows.0 }, rows.1))
+plain_table version n ops = plain_then (rows_at version n []) (λ rows rest. Ok (record { version = version; ops = ops; conflicts = rows }, rest)) (plain_rows version n []) (λ rows. plain_ok (record { version = version; ops = ops; conflicts = rows }))
 
-plain_rest : (n : ℕ) → IsPlain {A = Catalog} (λ bytes. ops_at n [] bytes >>= λ ops. rows_at n [] ops.1 >>= λ rows. Ok (record { ops = ops.0; conflicts = rows.0 }, rows.1))
-plain_rest n = plain_then (ops_at n []) (λ ops rest. rows_at n [] rest >>= λ rows. Ok (record { ops = ops; conflicts = rows.0 }, rows.1)) (plain_ops n []) (plain_table n)
+plain_rest : (version n : ℕ) → IsPlain {A = Catalog} (λ bytes. ops_at n [] bytes >>= λ ops. rows_at version n [] ops.1 >>= λ rows. Ok (record { version = version; ops = ops.0; conflicts = rows.0 }, rows.1))
+plain_rest version n = plain_then (ops_at n []) (λ ops rest. rows_at version n [] rest >>= λ rows. Ok (record { version = version; ops = ops; conflicts = rows.0 }, rows.1)) (plain_ops n []) (plain_table version n)
 
 pub plain_front : IsPlain front_at
 unfolding front_at
 plain_front =
-    plain_then (byte_at (λ b. b == 1)) (λ version rest. count_at rest >>= λ n. ops_at n.0 [] n.1 >>= λ ops. rows_at n.0 [] ops.1 >>= λ rows. Ok (record { ops = ops.0; conflicts = rows.0 }, rows.1)) (plain_byte (λ b. b == 1))
-    (λ version. plain_then count_at (λ n rest. ops_at n [] rest >>= λ ops. rows_at n [] ops.1 >>= λ rows. Ok (record { ops = ops.0; conflicts = rows.0 }, rows.1)) plain_count plain_rest)
+    plain_then (byte_at is_version) (λ version rest. count_at rest >>= λ n. ops_at n.0 [] n.1 >>= λ ops. rows_at version n.0 [] ops.1 >>= λ rows. Ok (record { version = version; ops = ops.0; conflicts = rows.0 }, rows.1)) (plain_byte is_version)
+    (λ version. plain_then count_at (λ n rest. ops_at n [] rest >>= λ ops. rows_at version n [] ops.1 >>= λ rows. Ok (record { version = version; ops = ops.0; conflicts = rows.0 }, rows.1)) plain_count (plain_rest version))
 
 -- ---- all of the bytes
 

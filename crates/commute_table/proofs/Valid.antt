@@ -1,22 +1,28 @@
 -- What a document says is a valid catalog.
-use Rattle.std.proofs.Common.{◌≡◌, ℕ, suc, ◌+◌, ◌≤◌, Bool, true, false, cond, List, [], ◌∷◌, ◌++◌, length, Option, Some, None, Result, Ok, Err, refl, sym, ◌∙◌, subst, append_assoc, arith, inl, inr, codes}
-use Rattle.std.specs.Prelude.{nat_lt, option_and_then, IfOk}
+use Rattle.std.proofs.Common.{◌≡◌, ℕ, suc, ◌+◌, ◌≤◌, Bool, true, false, cond, List, [], ◌∷◌, ◌++◌, length, Option, Some, None, Result, Ok, Err, refl, sym, ap, ◌∙◌, subst, append_assoc, arith, inl, inr, codes}
+use Rattle.std.specs.Prelude.{nat_lt, ◌==◌, option_and_then, IfOk}
 use Rattle.std.specs.List.{list_all}
 use Rattle.std.proofs.lemmas.Bool.{cases_Bool, ltb-false, and_from}
 use Rattle.std.proofs.lemmas.List.{append-nil}
-use Rattle.toml.specs.Data.{Data, Items, no_items, item, Members, get_member, as_table, as_array}
+use Rattle.toml.specs.Data.{Data, Items, no_items, item, Members, get_member, as_str, as_table, as_array}
 use Rattle.process_tree.specs.Name.{is_name}
-use Rattle.process_tree.specs.Conflicts.{Table, is_table, operations_in, no_conflicts, with_conflict}
-use Rattle.process_tree.proofs.Tables.{is_table-no_conflicts, length-no_conflicts, is_table-with_conflict, length-with_conflict}
+use Rattle.process_tree.specs.Order.{Each}
+use Rattle.process_tree.specs.declared.conflicts.Mode.{Mode}
+use Rattle.process_tree.specs.declared.conflicts.Mode.TheVariants.{Never, Key, Always}
+use Rattle.process_tree.specs.Conflicts.{Table, is_table, operations_in, no_conflicts, with_mode}
+use Rattle.process_tree.proofs.Every.{Each-append}
+use Rattle.process_tree.proofs.Tables.{is_table-no_conflicts, length-no_conflicts, is_table-with_mode, length-with_mode}
 use Rattle.commute_table.specs.declared.op.Op.{Op}
 use Rattle.commute_table.specs.declared.op.Verb.{Verb}
 use Rattle.commute_table.specs.declared.catalog.Catalog.{Catalog}
+use Rattle.commute_table.specs.declared.pairs.Pair.{Pair}
 use Rattle.commute_table.specs.declared.scenario.Scenario.{Scenario}
 use Rattle.commute_table.specs.declared.errors.ScenarioError.{ScenarioError}
 use Rattle.commute_table.specs.declared.errors.ScenarioError.TheVariants.{BadKey, Ops, SameOp}
 use Rattle.commute_table.specs.declared.document.Keys.TheVariants.{OfDocument, OfOperation}
-use Rattle.commute_table.specs.Operations.{takes, has_name, is_good_op, differ_from, IsCatalog}
-use Rattle.commute_table.specs.Document.{Said, ◌>>=◌, Gives, known_keys, version_said, text_at, name_or_bad, name_said, subsystem_said, verb_named, verb_or_bad, verb_said, op_said, are_tables, items_length, table_said, ops_said, few_said, tables_or_bad, operations_by_key, operations_said, number_said, pair_in, pair_said, are_pairs, pairs_said, pairs_or_bad, conflicts_by_key, conflicts_said, processes_said, catalog_said, scenario_said}
+use Rattle.commute_table.specs.Operations.{is_version, has_mode, has_modes, takes, has_name, is_good_op, differ_from, IsCatalog}
+use Rattle.commute_table.specs.Document.{Said, ◌>>=◌, Gives, known_keys, version_said, text_at, name_or_bad, name_said, subsystem_said, verb_named, verb_or_bad, verb_said, op_said, are_tables, items_length, table_said, ops_said, few_said, tables_or_bad, operations_by_key, operations_said, number_at, version_or_bad, NamedPair, named_pair, mode_behind, pair_of, number_said, pair_in, pair_said, are_pairs, pairs_said, some_disagree, with_pairs, table_or_bad, table_of_items, pairs_or_bad, conflicts_by_key, conflicts_said, processes_said, catalog_said, scenario_said}
+use Rattle.commute_table.proofs.Modes.{has_modes-no_conflicts, has_modes-with_mode}
 use Rattle.commute_table.proofs.Fresh.{Follows, follows_more}
 
 -- what was said behind a step
@@ -45,8 +51,11 @@ said_unless false x y e h = (refl, h)
 abbrev made : List ℕ → ℕ → Verb → Op
 made name q v = record { name = name; subsystem = q; verb = v }
 
-abbrev catalog_of : List Op → Table → Catalog
-catalog_of ops conflicts = record { ops = ops; conflicts = conflicts }
+abbrev catalog_of : ℕ → List Op → Table → Catalog
+catalog_of version ops conflicts = record { version = version; ops = ops; conflicts = conflicts }
+
+abbrev pair_with : ℕ → ℕ → Mode → Pair
+pair_with a b mode = record { first = a; second = b; mode = mode }
 
 abbrev scenario_of : Catalog → List ℕ → Scenario
 scenario_of catalog text = record { catalog = catalog; processes = text }
@@ -122,54 +131,135 @@ pub operations_are_ops : (ms : Members) (ops : List Op) → operations_said ms �
 unfolding operations_said
 operations_are_ops ms ops e = keyed_are_ops (get_member (codes "op") ms) ops e
 
+-- ---- the version
+
+version_is_one : (o : Option ℕ) (n : ℕ) → version_or_bad o ≡ Ok n → is_version n ≡ true
+version_is_one None n e = absurd (refused _ n e)
+version_is_one (Some m) n e =
+    let is = said_if (is_version m) m n (BadKey (codes "version")) e in
+    rw (← is.1) is.0
+
 -- ---- conflicts
 
--- a table of these operations
-pub record IsTableOf (ops : List Op) (t : Table) : Type 0 where
+-- a table of these operations, as a catalog of the version has it
+pub record IsTableOf (version : ℕ) (ops : List Op) (t : Table) : Type 0 where
   pub table : is_table t ≡ true
   pub of_all : operations_in t ≡ length ops
+  pub modes : has_modes version t ≡ true
 
-pair_is_table : (ops : List Op) (t u : Table) (o : Option (List ℕ × List ℕ)) → IsTableOf ops t → pair_said ops t o ≡ Ok u → IsTableOf ops u
-pair_is_table ops t u None is e = absurd (refused _ u e)
-pair_is_table ops t u (Some p) is e =
-    let a = said_then (number_said ops p.0) (λ a. number_said ops p.1 >>= λ b. Ok (with_conflict t a b)) u e in
-    let b = said_then (number_said ops p.1) (λ b. Ok (with_conflict t a.0 b)) u a.2 in
-    subst (IsTableOf ops) (said_is _ u b.2) (record { table = is_table-with_conflict t a.0 b.0 is.table; of_all = length-with_conflict t a.0 b.0 ∙ is.of_all })
+-- version 2 has each mode
+has_each : (version : ℕ) (mode : Mode) → (version == 2) ≡ true → has_mode version mode ≡ true
+has_each version Never two = refl
+has_each version Key two = two
+has_each version Always two = refl
 
-pairs_are_table : (ops : List Op) (t u : Table) (ds : Items) → IsTableOf ops t → pairs_said ops t ds ≡ Ok u → IsTableOf ops u
+-- the mode of a pair is one of the version's
+mode_is_one : (version : ℕ) (ds : Items) (mode : Mode) → mode_behind version ds ≡ Some mode → has_mode version mode ≡ true
+mode_is_one version no_items mode e =
+    elim (cases_Bool (version == 1)) [
+      | inl one ↦
+          let is : mode ≡ Always = is_always (sym (rw one refl) ∙ e) in
+          rw is refl
+      | inr other ↦ absurd (no_mode mode (sym (rw other refl) ∙ e))
+    ]
+  where
+    is_always : {mode : Mode} → Some Always ≡ Some mode → mode ≡ Always
+    is_always e = cc
+
+    no_mode : (mode : Mode) → None ≡ Some mode → ⊥
+    no_mode mode e = cc
+mode_is_one version (item d no_items) mode e =
+    elim (cases_Bool (version == 2)) [
+      | inl two ↦ has_each version mode two
+      | inr other ↦ absurd (no_mode mode (sym (rw other refl) ∙ e))
+    ]
+  where
+    no_mode : (mode : Mode) → None ≡ Some mode → ⊥
+    no_mode mode e = cc
+mode_is_one version (item d (item e ds)) mode h = absurd cc
+
+named_mode : (a b : Option (List ℕ)) (m : Option Mode) (p : NamedPair) → named_pair a b m ≡ Some p → m ≡ Some p.2
+named_mode None b m p e = absurd cc
+named_mode (Some a) None m p e = absurd cc
+named_mode (Some a) (Some b) None p e = absurd cc
+named_mode (Some a) (Some b) (Some mode) p e =
+    let made : NamedPair = (a, b, mode) in
+    let is : made ≡ p = cc in
+    ap (λ (q : NamedPair). Some q.2) is
+
+pair_has : (version : ℕ) (ds : Items) (p : NamedPair) → pair_of version ds ≡ Some p → has_mode version p.2 ≡ true
+pair_has version no_items p e = absurd cc
+pair_has version (item d no_items) p e = absurd cc
+pair_has version (item d (item f ds)) p e = mode_is_one version ds p.2 (named_mode (as_str d) (as_str f) (mode_behind version ds) p e)
+
+items_have : (version : ℕ) (o : Option Items) (p : NamedPair) → option_and_then (pair_of version) o ≡ Some p → has_mode version p.2 ≡ true
+items_have version None p e = absurd cc
+items_have version (Some ds) p e = pair_has version ds p e
+
+-- a pair as the version has it
+abbrev pub IsPairIn : ℕ → Pair → Type 0
+IsPairIn version pair = has_mode version pair.mode ≡ true
+
+pair_is_in : (version : ℕ) (ops : List Op) (o : Option NamedPair) (pair : Pair) → ((p : NamedPair) → o ≡ Some p → has_mode version p.2 ≡ true) → pair_said ops o ≡ Ok pair → IsPairIn version pair
+pair_is_in version ops None pair has e = absurd (refused _ pair e)
+pair_is_in version ops (Some p) pair has e =
+    let a = said_then (number_said ops p.0) (λ a. number_said ops p.1 >>= λ b. Ok (pair_with a b p.2)) pair e in
+    let b = said_then (number_said ops p.1) (λ b. Ok (pair_with a.0 b p.2)) pair a.2 in
+    subst (IsPairIn version) (said_is _ pair b.2) (has p refl)
+
+pairs_are_in : (version : ℕ) (ops : List Op) (done pairs : List Pair) (ds : Items) → Each (IsPairIn version) done → pairs_said version ops done ds ≡ Ok pairs → Each (IsPairIn version) pairs
 unfolding pairs_said
-pairs_are_table ops t u no_items is e = subst (IsTableOf ops) (said_is t u e) is
-pairs_are_table ops t u (item d ds) is e =
-    let more = said_then (pair_said ops t (pair_in d)) (λ more. pairs_said ops more ds) u e in
-    pairs_are_table ops more.0 u ds (pair_is_table ops t more.0 (pair_in d) is more.1) more.2
+pairs_are_in version ops done pairs no_items are e = subst (Each (IsPairIn version)) (said_is done pairs e) are
+pairs_are_in version ops done pairs (item d ds) are e =
+    let pair = said_then (pair_said ops (pair_in version d)) (λ pair. pairs_said version ops (done ++ pair ∷ []) ds) pairs e in
+    let is = pair_is_in version ops (pair_in version d) pair.0 (items_have version (as_array d)) pair.1 in
+    pairs_are_in version ops (done ++ pair.0 ∷ []) pairs ds (Each-append (IsPairIn version) done (pair.0 ∷ []) are (is, tt)) pair.2
 
-empty_table : (ops : List Op) → IsTableOf ops (no_conflicts (length ops))
-empty_table ops = record { table = is_table-no_conflicts (length ops); of_all = length-no_conflicts (length ops) }
+with_pairs_is_table : (version : ℕ) (ops : List Op) (t : Table) (pairs : List Pair) → IsTableOf version ops t → Each (IsPairIn version) pairs → IsTableOf version ops (with_pairs t pairs)
+with_pairs_is_table version ops t [] is are = is
+with_pairs_is_table version ops t (p ∷ ps) is are =
+    with_pairs_is_table version ops (with_mode t p.first p.second p.mode) ps (record {
+      table = is_table-with_mode t p.first p.second p.mode is.table;
+      of_all = length-with_mode t p.first p.second p.mode ∙ is.of_all;
+      modes = has_modes-with_mode version t p.first p.second p.mode is.modes are.0;
+    }) are.1
 
-array_is_table : (ops : List Op) (u : Table) (o : Option Items) → pairs_or_bad ops o ≡ Ok u → IsTableOf ops u
-array_is_table ops u None e = absurd (refused _ u e)
-array_is_table ops u (Some ds) e =
-    elim (cases_Bool (are_pairs ds)) [
-      | inl all ↦ pairs_are_table ops (no_conflicts (length ops)) u ds (empty_table ops) (sym (rw all refl) ∙ e)
+empty_table : (version : ℕ) (ops : List Op) → IsTableOf version ops (no_conflicts (length ops))
+empty_table version ops = record { table = is_table-no_conflicts (length ops); of_all = length-no_conflicts (length ops); modes = has_modes-no_conflicts version (length ops) }
+
+items_are_table : (version : ℕ) (ops : List Op) (u : Table) (ds : Items) → table_of_items version ops ds ≡ Ok u → IsTableOf version ops u
+unfolding table_of_items
+items_are_table version ops u ds e =
+    let pairs = said_then (pairs_said version ops [] ds) (table_or_bad ops) u e in
+    let are = pairs_are_in version ops [] pairs.0 ds tt pairs.1 in
+    let last = said_unless (some_disagree pairs.0) (said (with_pairs (no_conflicts (length ops)) pairs.0)) u (BadKey (codes "conflicts")) pairs.2 in
+    subst (IsTableOf version ops) (said_is _ u last.1) (with_pairs_is_table version ops (no_conflicts (length ops)) pairs.0 (empty_table version ops) are)
+
+array_is_table : (version : ℕ) (ops : List Op) (u : Table) (o : Option Items) → pairs_or_bad version ops o ≡ Ok u → IsTableOf version ops u
+array_is_table version ops u None e = absurd (refused _ u e)
+array_is_table version ops u (Some ds) e =
+    elim (cases_Bool (are_pairs version ds)) [
+      | inl all ↦ items_are_table version ops u ds (sym (rw all refl) ∙ e)
       | inr some ↦ absurd (refused (BadKey (codes "conflicts")) u (sym (rw some refl) ∙ e))
     ]
 
-keyed_is_table : (ops : List Op) (u : Table) (o : Option Data) → conflicts_by_key ops o ≡ Ok u → IsTableOf ops u
-keyed_is_table ops u None e = subst (IsTableOf ops) (said_is _ u e) (empty_table ops)
-keyed_is_table ops u (Some d) e = array_is_table ops u (as_array d) e
+keyed_is_table : (version : ℕ) (ops : List Op) (u : Table) (o : Option Data) → conflicts_by_key version ops o ≡ Ok u → IsTableOf version ops u
+keyed_is_table version ops u None e = subst (IsTableOf version ops) (said_is _ u e) (empty_table version ops)
+keyed_is_table version ops u (Some d) e = array_is_table version ops u (as_array d) e
 
 -- ---- catalogs
 
 pub catalog_is_valid : (ms : Members) (c : Catalog) → catalog_said ms ≡ Ok c → IsCatalog c
 unfolding catalog_said conflicts_said
 catalog_is_valid ms c e =
-    let known = said_then (known_keys OfDocument ms) (λ known. version_said ms >>= λ version. operations_said ms >>= λ ops. conflicts_said ops ms >>= λ conflicts. Ok (catalog_of ops conflicts)) c e in
-    let version = said_then (version_said ms) (λ version. operations_said ms >>= λ ops. conflicts_said ops ms >>= λ conflicts. Ok (catalog_of ops conflicts)) c known.2 in
-    let ops = said_then (operations_said ms) (λ ops. conflicts_said ops ms >>= λ conflicts. Ok (catalog_of ops conflicts)) c version.2 in
-    let conflicts = said_then (conflicts_said ops.0 ms) (λ conflicts. Ok (catalog_of ops.0 conflicts)) c ops.2 in
+    let known = said_then (known_keys OfDocument ms) (λ known. version_said ms >>= λ version. operations_said ms >>= λ ops. conflicts_said version ops ms >>= λ conflicts. Ok (catalog_of version ops conflicts)) c e in
+    let version = said_then (version_said ms) (λ version. operations_said ms >>= λ ops. conflicts_said version ops ms >>= λ conflicts. Ok (catalog_of version ops conflicts)) c known.2 in
+    let ops = said_then (operations_said ms) (λ ops. conflicts_said version.0 ops ms >>= λ conflicts. Ok (catalog_of version.0 ops conflicts)) c version.2 in
+    let conflicts = said_then (conflicts_said version.0 ops.0 ms) (λ conflicts. Ok (catalog_of version.0 ops.0 conflicts)) c ops.2 in
+    let is = version_is_one (number_at (codes "version") ms) version.0 version.1 in
     let are = operations_are_ops ms ops.0 ops.1 in
-    let table = keyed_is_table ops.0 conflicts.0 (get_member (codes "conflicts") ms) conflicts.1 in
-    subst IsCatalog (said_is _ c conflicts.2) (record { few = are.few; good = are.good; own_names = are.own_names; table = table.table; of_all = table.of_all })
+    let table = keyed_is_table version.0 ops.0 conflicts.0 (get_member (codes "conflicts") ms) conflicts.1 in
+    subst IsCatalog (said_is _ c conflicts.2) (record { version = is; few = are.few; good = are.good; own_names = are.own_names; table = table.table; of_all = table.of_all; modes = table.modes })
 
 pub scenario_is_valid : (ms : Members) (s : Scenario) → scenario_said ms ≡ Ok s → IsCatalog s.catalog
 unfolding scenario_said

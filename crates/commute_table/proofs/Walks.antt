@@ -1,15 +1,14 @@
--- Going over the operations and the conflicts of a document.
-use Rattle.std.proofs.Common.{◌≡◌, ◌≢◌, ◌-◌, take, ℕ, ◌+◌, ◌<◌, ◌≤◌, true, false, List, [], ◌∷◌, ◌++◌, length, get_or, drop, Option, Some, None, Ok, Err, refl, sym, ◌∙◌, arith, codes}
+-- Going over the operations of a document.
+use Rattle.std.proofs.Common.{◌≡◌, ◌-◌, take, ℕ, ◌+◌, ◌<◌, ◌≤◌, true, false, List, [], ◌∷◌, ◌++◌, length, get_or, drop, Option, Some, None, Ok, Err, refl, sym, ◌∙◌, arith, codes}
 use Rattle.std.proofs.lemmas.List.{drop_more, drop_all, take_all, nil_from_length}
-use Rattle.toml.specs.Data.{as_table, item, no_items}
+use Rattle.toml.specs.Data.{as_table}
 use Rattle.toml.specs.View.{view, items_view}
 use Rattle.toml.specs.declared.value.Value.{Value}
 use Rattle.process_tree.specs.Making.{same_text}
 use Rattle.commute_table.specs.declared.op.Op.{Op}
 use Rattle.commute_table.specs.declared.errors.ScenarioError.{ScenarioError}
 use Rattle.commute_table.specs.declared.errors.ScenarioError.TheVariants.{BadToml, BadKey, UnknownOp, SameOp, Ops, NoMemory}
-use Rattle.commute_table.specs.Document.{Said, ◌>>=◌, Fails, items_length, table_said, ops_said, number_from, pair_of, pair_in, pair_said, pairs_said}
-use Rattle.process_tree.specs.Conflicts.{Table}
+use Rattle.commute_table.specs.Document.{Said, ◌>>=◌, Fails, items_length, table_said, ops_said, number_from}
 
 pub items_length-view : (vs : List Value) → items_length (items_view vs) ≡ length vs
 items_length-view [] = refl
@@ -57,22 +56,6 @@ number_later ops n name d total lt e h = sym (rw (drop_more ops n d lt, e) refl)
 pub number_none : (ops : List Op) (n : ℕ) (name : List ℕ) (total : Option ℕ) → length ops ≤ n → number_from n (drop n ops) name ≡ total → total ≡ None
 number_none ops n name total le h = sym h ∙ rw (drop_all n ops le) refl
 
--- ---- pairs
-
--- one string or three are no pair
-pub no_pair : (vs : List Value) → length vs ≢ 2 → pair_of (items_view vs) ≡ None
-no_pair [] other = refl
-no_pair (a ∷ []) other = refl
-no_pair (a ∷ b ∷ []) other = absurd (other refl)
-no_pair (a ∷ b ∷ c ∷ vs) other = refl
-
--- two values make a pair, if they are strings
-pub two_view : (vs : List Value) (a b : Value) → length vs ≡ 2 → a ≡ get_or vs 0 a → b ≡ get_or vs 1 b → items_view vs ≡ item (view a) (item (view b) no_items)
-two_view [] a b two e f = absurd (omega arith)
-two_view (x ∷ []) a b two e f = absurd (omega arith)
-two_view (x ∷ y ∷ []) a b two e f = rw (e, f) refl
-two_view (x ∷ y ∷ z ∷ vs) a b two e f = absurd (omega arith)
-
 -- a list that isn't empty is its first and the others
 pub as_cons : (rest : List Value) (first : Value) → 1 ≤ length rest → first ≡ get_or rest 0 first → rest ≡ first ∷ take (length rest - 1) (drop 1 rest)
 as_cons [] first some e = absurd (omega arith)
@@ -86,23 +69,3 @@ pub ops_refused : (ops : List Op) (rest after : List Value) (first : Value) (tot
     → ops_said ops (items_view rest) ≡ total → total ≡ Err (BadKey (codes "op"))
 unfolding ops_said
 ops_refused ops rest after first total is e h = sym h ∙ rw (is, e) refl
-
--- ---- conflicts
-
-pub pairs_next : (ops : List Op) (t u : Table) (rest after : List Value) (first : Value) (total : Said Table) → rest ≡ first ∷ after → pair_said ops t (pair_in (view first)) ≡ Ok u
-    → pairs_said ops t (items_view rest) ≡ total → pairs_said ops u (items_view after) ≡ total
-unfolding pairs_said
-pairs_next ops t u rest after first total is e h =
-    let one : pairs_said ops t (items_view rest) ≡ pairs_said ops u (items_view after) = rw (is, e) refl in
-    sym one ∙ h
-
-pub pairs_fail : (error : ScenarioError) (ops : List Op) (t : Table) (rest after : List Value) (first : Value) (total : Said Table) → rest ≡ first ∷ after → Fails error (pair_said ops t (pair_in (view first)))
-    → pairs_said ops t (items_view rest) ≡ total → Fails error total
-unfolding pairs_said
-pairs_fail error ops t rest after first total is e h = rw (← h, is) (fails_on error (pair_said ops t (pair_in (view first))) (λ more. pairs_said ops more (items_view after)) e)
-
-pub pairs_stop : (ops : List Op) (t : Table) (rest : List Value) (total : Said Table) → length rest < 1 → pairs_said ops t (items_view rest) ≡ total → total ≡ Ok t
-unfolding pairs_said
-pairs_stop ops t rest total none h =
-    let is : rest ≡ [] = nil_from_length rest (omega arith) in
-    sym h ∙ rw is refl

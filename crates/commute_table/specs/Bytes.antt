@@ -1,6 +1,8 @@
 -- The bytes of a catalog, and where bytes stop being those of any.
-use Rattle.std.specs.Prelude.{◌≡◌, ℕ, ◌<◌, ◌/◌, ◌%◌, Bool, List, [], ◌∷◌, ◌++◌, length, take, map, slice_get, if◌then◌else◌}
+use Rattle.std.specs.Prelude.{◌≡◌, ℕ, ◌<◌, ◌/◌, ◌%◌, List, [], ◌∷◌, ◌++◌, length, take, map, slice_get}
 use Rattle.std.specs.List.{flat_map}
+use Rattle.process_tree.specs.declared.conflicts.Mode.{Mode}
+use Rattle.process_tree.specs.declared.conflicts.Mode.TheVariants.{Never, Key, Always}
 use Rattle.commute_table.specs.declared.op.Verb.{Verb}
 use Rattle.commute_table.specs.declared.op.Verb.TheVariants.{Add, Take, Look, Put, Hold, Free}
 use Rattle.commute_table.specs.declared.op.Op.{Op}
@@ -20,17 +22,19 @@ verb_code Free = 5
 abbrev pub op_bytes : Op → List ℕ
 op_bytes o = length o.name ∷ (o.name ++ o.subsystem ∷ verb_code o.verb ∷ [])
 
--- 1 where a pair conflicts, else 0
-abbrev pub cell_byte : Bool → ℕ
-cell_byte conflict = if conflict then 1 else 0
+-- how a pair's mode is written: 2 is in version 2 alone
+abbrev pub cell_byte : Mode → ℕ
+cell_byte Never = 0
+cell_byte Always = 1
+cell_byte Key = 2
 
-abbrev pub row_bytes : List Bool → List ℕ
+abbrev pub row_bytes : List Mode → List ℕ
 row_bytes row = map cell_byte row
 
 -- the version, the number of operations in two bytes, the low one first, each operation, and each pair: those of
 -- operation 0 with itself and each later one, then those of operation 1, and so on
 abbrev pub bytes_of : Catalog → List ℕ
-bytes_of c = 1 ∷ length c.ops % 256 ∷ length c.ops / 256 ∷ (flat_map op_bytes c.ops ++ flat_map row_bytes c.conflicts)
+bytes_of c = c.version ∷ length c.ops % 256 ∷ length c.ops / 256 ∷ (flat_map op_bytes c.ops ++ flat_map row_bytes c.conflicts)
 
 -- up to place n, that one included, the bytes are those of some catalog; behind the last byte their end is a place too
 abbrev pub GoesOn : List ℕ → ℕ → Type 0

@@ -1,22 +1,27 @@
 -- What a scenario's document says, and what is refused of it first.
-use Rattle.std.specs.Prelude.{◌≡◌, ℕ, ◌+◌, ℤ, pos, negsuc, Bool, true, ◌&&◌, ◌||◌, List, [], ◌∷◌, ◌++◌, length, Option, Some, None, option_and_then, is_some, Result, Ok, Err, nat_lt, ◌==◌, codes, IsUtf8, if◌then◌else◌}
+use Rattle.std.specs.Prelude.{◌≡◌, ℕ, ◌+◌, ◌<◌, ℤ, pos, negsuc, Bool, true, false, not, ◌&&◌, ◌||◌, List, [], ◌∷◌, ◌++◌, length, Option, Some, None, option_and_then, is_some, Result, Ok, Err, nat_eq, nat_lt, ◌==◌, codes, IsUtf8, if◌then◌else◌}
+use Rattle.std.specs.List.{list_any}
 use Rattle.std.specs.Ordering.{nat_cmp, is_lt}
 use Rattle.std.specs.Cmp.Lexicographic.{slice_cmp}
 use Rattle.toml.specs.Data.{Data, Items, no_items, item, Members, no_members, member, get_member, as_str, as_integer, as_array, as_table}
 use Rattle.toml.specs.Parse.{parse_document}
 use Rattle.process_tree.specs.Name.{is_name}
 use Rattle.process_tree.specs.Making.{same_text}
-use Rattle.process_tree.specs.Conflicts.{Table, no_conflicts, with_conflict}
+use Rattle.process_tree.specs.Conflicts.{Table, no_conflicts, with_mode, is_same_pair}
+use Rattle.process_tree.specs.declared.conflicts.Mode.{Mode}
+use Rattle.process_tree.specs.declared.conflicts.Mode.TheVariants.{Key, Always}
 use Rattle.commute_table.specs.declared.op.Verb.{Verb}
 use Rattle.commute_table.specs.declared.op.Verb.TheVariants.{Add, Take, Look, Put, Hold, Free}
 use Rattle.commute_table.specs.declared.op.Op.{Op}
 use Rattle.commute_table.specs.declared.document.Keys.{Keys}
 use Rattle.commute_table.specs.declared.document.Keys.TheVariants.{OfDocument, OfOperation}
 use Rattle.commute_table.specs.declared.catalog.Catalog.{Catalog}
+use Rattle.commute_table.specs.declared.pairs.Pair.{Pair}
 use Rattle.commute_table.specs.declared.scenario.Scenario.{Scenario}
 use Rattle.commute_table.specs.declared.errors.ScenarioError.{ScenarioError}
 use Rattle.commute_table.specs.declared.errors.ScenarioError.TheVariants.{BadToml, BadKey, UnknownOp, SameOp, Ops, NoMemory}
-use Rattle.commute_table.specs.Operations.{takes, verb_word, has_name}
+use Rattle.commute_table.specs.Operations.{is_version, takes, verb_word, has_name}
+use Rattle.commute_table.specs.Bytes.{cell_byte}
 
 -- what is said, or why it is refused
 abbrev pub Said : Type 0 → Type 0
@@ -68,14 +73,14 @@ number_at k ms = option_and_then natural (option_and_then as_integer (get_member
 
 -- ---- the version
 
--- nothing if it is 1
-abbrev pub one_or_bad : Option ℕ → Said (Unit {0})
-one_or_bad None = Err (BadKey (codes "version"))
-one_or_bad (Some n) = if n == 1 then Ok tt else Err (BadKey (codes "version"))
+-- the number if it is a version
+abbrev pub version_or_bad : Option ℕ → Said ℕ
+version_or_bad None = Err (BadKey (codes "version"))
+version_or_bad (Some n) = if is_version n then Ok n else Err (BadKey (codes "version"))
 
--- the version is the whole number 1
-abbrev pub version_said : Members → Said (Unit {0})
-version_said ms = one_or_bad (number_at (codes "version") ms)
+-- the version is the whole number 1 or 2
+abbrev pub version_said : Members → Said ℕ
+version_said ms = version_or_bad (number_at (codes "version") ms)
 
 -- ---- operations
 
@@ -166,26 +171,40 @@ operations_said ms = operations_by_key (get_member (codes "op") ms)
 
 -- ---- conflicts
 
--- both, if they are there
-abbrev pub both_strings : Option (List ℕ) → Option (List ℕ) → Option (List ℕ × List ℕ)
-both_strings None b = None
-both_strings (Some a) None = None
-both_strings (Some a) (Some b) = Some (a, b)
+-- a pair of a document: two names and a mode
+abbrev pub NamedPair : Type 0
+NamedPair = List ℕ × List ℕ × Mode
 
--- two strings
-abbrev pub pair_of : Items → Option (List ℕ × List ℕ)
-pair_of no_items = None
-pair_of (item d no_items) = None
-pair_of (item d (item e no_items)) = both_strings (as_str d) (as_str e)
-pair_of (item d (item e (item f ds))) = None
+-- these three, if they are there
+abbrev pub named_pair : Option (List ℕ) → Option (List ℕ) → Option Mode → Option NamedPair
+named_pair None b mode = None
+named_pair (Some a) None mode = None
+named_pair (Some a) (Some b) None = None
+named_pair (Some a) (Some b) (Some mode) = Some (a, b, mode)
 
-abbrev pub pair_in : Data → Option (List ℕ × List ℕ)
-pair_in d = option_and_then pair_of (as_array d)
+-- the mode of a word
+abbrev pub mode_named : List ℕ → Option Mode
+mode_named s = if same_text s (codes "always") then Some Always else (if same_text s (codes "key") then Some Key else None)
 
--- whether all are pairs of strings
-abbrev pub are_pairs : Items → Bool
-are_pairs no_items = true
-are_pairs (item d ds) = is_some (pair_in d) && are_pairs ds
+-- the mode behind two names: in version 1 always, and no item says so; in version 2 one word says it
+abbrev pub mode_behind : ℕ → Items → Option Mode
+mode_behind version no_items = if version == 1 then Some Always else None
+mode_behind version (item d no_items) = if version == 2 then option_and_then mode_named (as_str d) else None
+mode_behind version (item d (item e ds)) = None
+
+-- two strings, and a mode as the version has it
+abbrev pub pair_of : ℕ → Items → Option NamedPair
+pair_of version no_items = None
+pair_of version (item d no_items) = None
+pair_of version (item d (item e ds)) = named_pair (as_str d) (as_str e) (mode_behind version ds)
+
+abbrev pub pair_in : ℕ → Data → Option NamedPair
+pair_in version d = option_and_then (pair_of version) (as_array d)
+
+-- whether all are pairs as the version has them
+abbrev pub are_pairs : ℕ → Items → Bool
+are_pairs version no_items = true
+are_pairs version (item d ds) = is_some (pair_in version d) && are_pairs version ds
 
 -- the number of the first operation with this name, where the first of these has the number n
 abbrev pub number_from : ℕ → List Op → List ℕ → Option ℕ
@@ -203,34 +222,66 @@ number_or_unknown name (Some n) = Ok n
 abbrev pub number_said : List Op → List ℕ → Said ℕ
 number_said ops name = number_or_unknown name (number_of ops name)
 
--- the table with a pair more
-abbrev pub pair_said : List Op → Table → Option (List ℕ × List ℕ) → Said Table
-pair_said ops t None = Err (BadKey (codes "conflicts"))
-pair_said ops t (Some p) = do
+-- a pair with the numbers of its operations
+abbrev pub pair_said : List Op → Option NamedPair → Said Pair
+pair_said ops None = Err (BadKey (codes "conflicts"))
+pair_said ops (Some p) = do
   a ← number_said ops p.0
   b ← number_said ops p.1
-  Ok (with_conflict t a b)
+  Ok (record { first = a; second = b; mode = p.2 })
 
--- with these pairs more
-unfoldable pub pairs_said : List Op → Table → Items → Said Table
-pairs_said ops t no_items = Ok t
-pairs_said ops t (item d ds) = do
-  more ← pair_said ops t (pair_in d)
-  pairs_said ops more ds
+-- the pairs of these items, behind those
+unfoldable pub pairs_said : ℕ → List Op → List Pair → Items → Said (List Pair)
+pairs_said version ops done no_items = Ok done
+pairs_said version ops done (item d ds) = do
+  pair ← pair_said ops (pair_in version d)
+  pairs_said version ops (done ++ pair ∷ []) ds
 
--- the table of these pairs
-abbrev pub pairs_or_bad : List Op → Option Items → Said Table
-pairs_or_bad ops None = Err (BadKey (codes "conflicts"))
-pairs_or_bad ops (Some ds) = if are_pairs ds then pairs_said ops (no_conflicts (length ops)) ds else Err (BadKey (codes "conflicts"))
+-- its operations are among so many
+abbrev pub IsPairOf : ℕ → Pair → Type 0
+IsPairOf count p = (p.first < count) × (p.second < count)
+
+-- whether two modes are one
+abbrev pub same_mode : Mode → Mode → Bool
+same_mode a b = nat_eq (cell_byte a) (cell_byte b)
+
+-- whether they are one pair of operations with two modes
+abbrev pub disagree : Pair → Pair → Bool
+disagree p q = is_same_pair p.first p.second q.first q.second && not (same_mode p.mode q.mode)
+
+-- whether some pair of operations stands with two modes
+abbrev pub some_disagree : List Pair → Bool
+some_disagree [] = false
+some_disagree (p ∷ ps) = list_any (disagree p) ps || some_disagree ps
+
+-- the table with these pairs more
+abbrev pub with_pairs : Table → List Pair → Table
+with_pairs t [] = t
+with_pairs t (p ∷ ps) = with_pairs (with_mode t p.first p.second p.mode) ps
+
+-- the table of these pairs, if no two disagree
+abbrev pub table_or_bad : List Op → List Pair → Said Table
+table_or_bad ops ps = if some_disagree ps then Err (BadKey (codes "conflicts")) else Ok (with_pairs (no_conflicts (length ops)) ps)
+
+-- the table of these items
+unfoldable pub table_of_items : ℕ → List Op → Items → Said Table
+table_of_items version ops ds = do
+  pairs ← pairs_said version ops [] ds
+  table_or_bad ops pairs
+
+-- the items have the form of pairs before any name is looked up
+abbrev pub pairs_or_bad : ℕ → List Op → Option Items → Said Table
+pairs_or_bad version ops None = Err (BadKey (codes "conflicts"))
+pairs_or_bad version ops (Some ds) = if are_pairs version ds then table_of_items version ops ds else Err (BadKey (codes "conflicts"))
 
 -- no conflicts where the key is absent
-abbrev pub conflicts_by_key : List Op → Option Data → Said Table
-conflicts_by_key ops None = Ok (no_conflicts (length ops))
-conflicts_by_key ops (Some d) = pairs_or_bad ops (as_array d)
+abbrev pub conflicts_by_key : ℕ → List Op → Option Data → Said Table
+conflicts_by_key version ops None = Ok (no_conflicts (length ops))
+conflicts_by_key version ops (Some d) = pairs_or_bad version ops (as_array d)
 
--- the table of conflicts: none where the key is absent, and else an array of pairs of names of operations
-unfoldable pub conflicts_said : List Op → Members → Said Table
-conflicts_said ops ms = conflicts_by_key ops (get_member (codes "conflicts") ms)
+-- the table of conflicts: none where the key is absent, and else an array of pairs as the version has them
+unfoldable pub conflicts_said : ℕ → List Op → Members → Said Table
+conflicts_said version ops ms = conflicts_by_key version ops (get_member (codes "conflicts") ms)
 
 -- ---- processes
 
@@ -256,8 +307,8 @@ catalog_said ms = do
   known ← known_keys OfDocument ms
   version ← version_said ms
   ops ← operations_said ms
-  conflicts ← conflicts_said ops ms
-  Ok (record { ops = ops; conflicts = conflicts })
+  conflicts ← conflicts_said version ops ms
+  Ok (record { version = version; ops = ops; conflicts = conflicts })
 
 -- the scenario that a table says; what is refused is the first thing in this order
 unfoldable pub scenario_said : Members → Said Scenario
@@ -278,11 +329,6 @@ Fails (Ops n) said = said ≡ Err (Ops n)
 abbrev pub Gives : {A : Type 0} → Result A ScenarioError → Said A → Type 0
 Gives (Ok x) said = said ≡ Ok x
 Gives (Err e) said = Fails e said
-
--- the same of a function that changes a table
-abbrev pub GivesTable : Result (Unit {0}) ScenarioError → Table → Said Table → Type 0
-GivesTable (Ok done) t said = said ≡ Ok t
-GivesTable (Err e) t said = Fails e said
 
 -- the bytes are a TOML document, and its table says so
 abbrev pub Says : List ℕ → Said Scenario → Type 0

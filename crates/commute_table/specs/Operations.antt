@@ -1,9 +1,11 @@
 -- Which operations there are, and which catalogs are valid.
-use Rattle.std.specs.Prelude.{◌≡◌, ℕ, ◌≤◌, Bool, true, not, ◌&&◌, List, [], ◌∷◌, ◌++◌, length, nat_lt, nat_le, codes}
+use Rattle.std.specs.Prelude.{◌≡◌, ℕ, ◌≤◌, Bool, true, not, ◌&&◌, ◌||◌, ◌==◌, List, [], ◌∷◌, ◌++◌, length, nat_lt, nat_le, codes}
 use Rattle.std.specs.List.{list_any, list_all}
 use Rattle.process_tree.specs.Name.{is_name}
 use Rattle.process_tree.specs.Making.{same_text}
-use Rattle.process_tree.specs.Conflicts.{is_table, operations_in}
+use Rattle.process_tree.specs.Conflicts.{Table, is_table, operations_in}
+use Rattle.process_tree.specs.declared.conflicts.Mode.{Mode}
+use Rattle.process_tree.specs.declared.conflicts.Mode.TheVariants.{Never, Key, Always}
 use Rattle.commute_table.specs.declared.op.Verb.{Verb}
 use Rattle.commute_table.specs.declared.op.Verb.TheVariants.{Add, Take, Look, Put, Hold, Free}
 use Rattle.commute_table.specs.declared.op.Op.{Op}
@@ -40,8 +42,23 @@ abbrev pub differ_from : List Op → List Op → Bool
 differ_from earlier [] = true
 differ_from earlier (o ∷ ops) = not (has_name o.name earlier) && differ_from (earlier ++ o ∷ []) ops
 
+-- the versions that there are
+abbrev pub is_version : ℕ → Bool
+is_version n = n == 1 || n == 2
+
+-- whether a version has the mode: version 1 has no conflict by key
+abbrev pub has_mode : ℕ → Mode → Bool
+has_mode version Never = true
+has_mode version Key = version == 2
+has_mode version Always = true
+
+-- whether it has each mode of the table
+abbrev pub has_modes : ℕ → Table → Bool
+has_modes version table = list_all (list_all (has_mode version)) table
+
 -- which catalogs are valid
 pub record IsCatalog (c : Catalog) : Type 0 where
+  pub version : is_version c.version ≡ true
   -- there are at most 256 operations
   pub few : length c.ops ≤ 256
   pub good : list_all is_good_op c.ops ≡ true
@@ -50,3 +67,5 @@ pub record IsCatalog (c : Catalog) : Type 0 where
   -- the conflicts are a table of just so many operations
   pub table : is_table c.conflicts ≡ true
   pub of_all : operations_in c.conflicts ≡ length c.ops
+  -- version 1 has the modes never and always alone
+  pub modes : has_modes c.version c.conflicts ≡ true

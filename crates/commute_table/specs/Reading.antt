@@ -3,6 +3,8 @@
 use Rattle.std.specs.Prelude.{◌≡◌, ℕ, zero, suc, ◌+◌, ◌*◌, Bool, true, not, ◌&&◌, List, [], ◌∷◌, ◌++◌, length, Result, Ok, Err, nat_lt, nat_le, ◌==◌, codes, if◌then◌else◌, slice_set}
 use Rattle.std.specs.List.{list_any}
 use Rattle.process_tree.specs.Name.{is_name}
+use Rattle.process_tree.specs.declared.conflicts.Mode.{Mode}
+use Rattle.process_tree.specs.declared.conflicts.Mode.TheVariants.{Never, Key, Always}
 use Rattle.process_tree.specs.Conflicts.{Table}
 use Rattle.commute_table.specs.declared.op.Verb.{Verb}
 use Rattle.commute_table.specs.declared.op.Verb.TheVariants.{Add, Take, Look, Put, Hold, Free}
@@ -10,7 +12,7 @@ use Rattle.commute_table.specs.declared.op.Op.{Op}
 use Rattle.commute_table.specs.declared.catalog.Catalog.{Catalog}
 use Rattle.commute_table.specs.declared.reading.Fault.{Fault}
 use Rattle.commute_table.specs.declared.reading.Fault.TheVariants.{Memory, Left}
-use Rattle.commute_table.specs.Operations.{takes, has_name}
+use Rattle.commute_table.specs.Operations.{is_version, has_mode, takes, has_name}
 
 -- a reader of values
 abbrev pub Reader : Type 0 → Type 0
@@ -102,28 +104,38 @@ ops_at (suc n) earlier bytes = do
   op ← op_at earlier bytes
   ops_at n (earlier ++ op.0 ∷ []) op.1
 
+-- the mode of a cell's byte, which is below 3
+abbrev pub mode_with : ℕ → Mode
+mode_with zero = Never
+mode_with (suc zero) = Always
+mode_with (suc (suc b)) = Key
+
+-- a byte whose mode the version has
+abbrev pub is_cell : ℕ → ℕ → Bool
+is_cell version b = nat_lt b 3 && has_mode version (mode_with b)
+
 -- so many cells after these
-unfoldable pub cells_at : ℕ → List Bool → Reader (List Bool)
-cells_at zero done bytes = Ok (done, bytes)
-cells_at (suc n) done bytes = do
-  b ← byte_at (λ b. nat_lt b 2) bytes
-  cells_at n (done ++ (b.0 == 1) ∷ []) b.1
+unfoldable pub cells_at : ℕ → ℕ → List Mode → Reader (List Mode)
+cells_at version zero done bytes = Ok (done, bytes)
+cells_at version (suc n) done bytes = do
+  b ← byte_at (is_cell version) bytes
+  cells_at version n (done ++ mode_with b.0 ∷ []) b.1
 
 -- the rows of a table of n operations, after these
-unfoldable pub rows_at : ℕ → Table → Reader Table
-rows_at zero done bytes = Ok (done, bytes)
-rows_at (suc n) done bytes = do
-  row ← cells_at (suc n) [] bytes
-  rows_at n (done ++ row.0 ∷ []) row.1
+unfoldable pub rows_at : ℕ → ℕ → Table → Reader Table
+rows_at version zero done bytes = Ok (done, bytes)
+rows_at version (suc n) done bytes = do
+  row ← cells_at version (suc n) [] bytes
+  rows_at version n (done ++ row.0 ∷ []) row.1
 
 -- a catalog, and what stands behind it
 unfoldable pub front_at : Reader Catalog
 front_at bytes = do
-  version ← byte_at (λ b. b == 1) bytes
+  version ← byte_at is_version bytes
   n ← count_at version.1
   ops ← ops_at n.0 [] n.1
-  rows ← rows_at n.0 [] ops.1
-  Ok (record { ops = ops.0; conflicts = rows.0 }, rows.1)
+  rows ← rows_at version.0 n.0 [] ops.1
+  Ok (record { version = version.0; ops = ops.0; conflicts = rows.0 }, rows.1)
 
 -- a catalog that is all of the bytes
 unfoldable pub catalog_at : List ℕ → Result Catalog ℕ
@@ -132,6 +144,6 @@ catalog_at bytes = do
   if length c.1 == 0 then Ok c.0 else Err (length c.1)
 
 -- what reading a row into a table leaves: the row in its place
-abbrev pub PutsRow : {R : Type 0} → (R → List ℕ) → Table → ℕ → Table → Result R Fault → Result (List Bool × List ℕ) ℕ → Type 0
-PutsRow view old first new (Ok rest) read = (cells : List Bool) × (read ≡ Ok (cells, view rest)) × (new ≡ slice_set old first cells)
+abbrev pub PutsRow : {R : Type 0} → (R → List ℕ) → Table → ℕ → Table → Result R Fault → Result (List Mode × List ℕ) ℕ → Type 0
+PutsRow view old first new (Ok rest) read = (cells : List Mode) × (read ≡ Ok (cells, view rest)) × (new ≡ slice_set old first cells)
 PutsRow view old first new (Err e) read = Fails e read

@@ -6,15 +6,17 @@ ghost use Rattle.commute_table.specs.Operations.{IsCatalog};
 ghost use Rattle.commute_table.specs.Bytes.{bytes_of, op_bytes, cell_byte, row_bytes};
 
 use crate::{Op, Ops};
-use process_tree::Conflicts;
+use process_tree::{Conflicts, Mode};
 use std::alloc::{AllocError, Global};
 
 /// How many operations a catalog may have.
 pub const MOST_OPERATIONS: usize = 256;
 
-/// The operations that there are, and which of them conflict.
+/// The operations that there are, and when steps of them conflict.
 #[derive(Drop)]
 pub struct Catalog {
+    /// 1 or 2: version 1 has no conflict by key.
+    pub version: u8,
     pub ops: Ops,
     pub conflicts: Conflicts,
 }
@@ -27,7 +29,7 @@ pub fn catalog_bytes(alloc: Global, c: &Catalog) -> Result<Vec<u8>, AllocError>
     let ops = c.ops.as_slice();
     let count = ops.len() as u16;
     let mut out = Vec::new(alloc);
-    out.extend_from_slice(&[1, (count % 256) as u8, (count / 256) as u8])?;
+    out.extend_from_slice(&[c.version, (count % 256) as u8, (count / 256) as u8])?;
     put_ops(&mut out, ops)?;
     put_pairs(&mut out, &c.conflicts, count)?;
     Ok(out)
@@ -52,10 +54,15 @@ fn put_ops(out: &mut Vec<u8>, ops: &[Op]) -> Result<(), AllocError>
     Ok(())
 }
 
-fn cell_byte(conflict: bool) -> u8
-    ensures { result ≡ cell_byte conflict }
+/// How a mode is written.
+pub fn cell_byte(mode: Mode) -> u8
+    ensures { result ≡ cell_byte mode }
 {
-    if conflict { 1 } else { 0 }
+    match mode {
+        Mode::Never => 0,
+        Mode::Always => 1,
+        Mode::Key => 2,
+    }
 }
 
 fn put_row(
@@ -70,7 +77,7 @@ fn put_row(
     ensures { OnOk result (out.new.items ≡ out.old.items ++ row_bytes (slice_index_or conflicts.now first [])) }
 {
     for later in first..count {
-        out.push(cell_byte(conflicts.holds(first, later)))?;
+        out.push(cell_byte(conflicts.mode(first, later)))?;
     }
     Ok(())
 }

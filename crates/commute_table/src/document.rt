@@ -99,12 +99,12 @@ pub fn number_at(table: &Table, key: &str) -> Option<u64>
     }
 }
 
-/// The version is the whole number 1.
-pub fn version_of(alloc: Global, table: &Table) -> Result<(), ScenarioError>
+/// The version is the whole number 1 or 2.
+pub fn version_of(alloc: Global, table: &Table) -> Result<u8, ScenarioError>
     ensures { Gives result (version_said (table_view table.now)) }
 {
     match number_at(table, "version") {
-        Some(1) => Ok(()),
+        Some(version) if version == 1 || version == 2 => Ok(version as u8),
         _ => refuse(alloc, "version"),
     }
 }

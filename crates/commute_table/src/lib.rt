@@ -1,4 +1,4 @@
-//! The catalog: which operations there are, on which subsystems and with which verbs, and which of them conflict.
+//! The catalog: which operations there are, on which subsystems and with which verbs, and when steps of them conflict.
 //!
 //! `specs/Operations` says which catalogs are valid, `specs/Bytes` which bytes stand for each and where bytes stop being any
 //! catalog's, `specs/Document` what a scenario says and what is refused of one first, and `specs/Binding` what the plan of
@@ -12,6 +12,7 @@ mod document;
 mod errors;
 mod laws;
 mod op;
+mod pairs;
 mod reading;
 mod scenario;
 mod word;

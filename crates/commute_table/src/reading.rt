@@ -1,15 +1,16 @@
 // Reading a catalog from its bytes.
-ghost use Rattle.std.specs.Prelude.{◌≡◌, ◌<◌, ◌-◌, ◌++◌, ◌∷◌, [], true, false, IfOk, IfErr, length, replicate, slice_index_or, codes, nat_lt, ◌==◌};
+ghost use Rattle.std.specs.Prelude.{◌≡◌, ◌<◌, ◌-◌, ◌++◌, ◌∷◌, [], true, IfOk, IfErr, length, replicate, slice_index_or, codes, nat_lt};
 ghost use Rattle.process_tree.specs.Conflicts.{is_table, operations_in};
 ghost use Rattle.std.specs.List.{list_any};
-ghost use Rattle.commute_table.specs.Operations.{has_name, takes, IsCatalog};
+ghost use Rattle.commute_table.specs.Operations.{is_version, has_mode, has_name, takes, IsCatalog};
 ghost use Rattle.commute_table.specs.Bytes.{bytes_of};
 ghost use Rattle.commute_table.specs.Errors.{TellsPlace, IsReadAs};
-ghost use Rattle.commute_table.specs.Reading.{Gives, PutsRow, byte_at, count_at, is_new, can_be_new, length_at, name_at, verb_with, takes_code, op_at, ops_at, cells_at, rows_at, front_at, catalog_at, name_bytes};
+ghost use Rattle.commute_table.specs.Reading.{Gives, PutsRow, byte_at, count_at, is_new, can_be_new, length_at, name_at, verb_with, takes_code, op_at, ops_at, mode_with, is_cell, cells_at, rows_at, front_at, catalog_at, name_bytes};
 ghost use Rattle.commute_table.specs.declared.reading.Fault.TheVariants.{Memory};
+ghost use Rattle.process_tree.specs.declared.conflicts.Mode.TheVariants.{Never};
 
 use crate::{Catalog, CatalogError, Op, Ops, Verb};
-use process_tree::{Conflicts, MOST_NAME_BYTES, Name, is_name};
+use process_tree::{Conflicts, MOST_NAME_BYTES, Mode, Name, is_name};
 use std::alloc::{AllocError, AllocFailed, Global};
 
 // The bytes that names are made of.
@@ -40,10 +41,10 @@ impl<T: Drop> From<AllocFailed<T>> for Fault {
 }
 
 fn version_of(bytes: &[u8]) -> Result<(u8, &[u8]), Fault>
-    ensures { Gives (λ x. (x.0, x.1.now)) result (byte_at (λ b. b == 1) bytes.now) }
+    ensures { Gives (λ x. (x.0, x.1.now)) result (byte_at is_version bytes.now) }
 {
     match bytes {
-        [1, rest @ ..] => Ok((1, rest)),
+        [version, rest @ ..] if *version == 1 || *version == 2 => Ok((*version, rest)),
         _ => Err(Fault::Left(bytes.len())),
     }
 }
@@ -227,17 +228,37 @@ fn ops_of(alloc: Global, count: u16, bytes: &[u8]) -> Result<(Vec<Op>, &[u8]), F
     Ok((ops, rest))
 }
 
-fn cell_of(bytes: &[u8]) -> Result<(u8, &[u8]), Fault>
-    ensures { Gives (λ x. (x.0, x.1.now)) result (byte_at (λ b. nat_lt b 2) bytes.now) }
+fn mode_with(cell: u8) -> Mode
+    ensures { result ≡ mode_with cell }
+{
+    match cell {
+        0 => Mode::Never,
+        1 => Mode::Always,
+        _ => Mode::Key,
+    }
+}
+
+fn has_mode(version: u8, mode: Mode) -> bool
+    ensures { result ≡ has_mode version mode }
+{
+    match mode {
+        Mode::Never | Mode::Always => true,
+        Mode::Key => version == 2,
+    }
+}
+
+fn cell_of(version: u8, bytes: &[u8]) -> Result<(u8, &[u8]), Fault>
+    ensures { Gives (λ x. (x.0, x.1.now)) result (byte_at (is_cell version) bytes.now) }
 {
     match bytes {
-        [cell, rest @ ..] if *cell < 2 => Ok((*cell, rest)),
+        [cell, rest @ ..] if *cell < 3 && has_mode(version, mode_with(*cell)) => Ok((*cell, rest)),
         _ => Err(Fault::Left(bytes.len())),
     }
 }
 
 // Reads the row of an operation, which has no conflict yet, into the table.
 fn row_of<'a>(
+    version: u8,
     conflicts: &mut Conflicts,
     first: u16,
     count: u16,
@@ -246,27 +267,30 @@ fn row_of<'a>(
     requires within { first < count }
     requires count { operations_in conflicts.old ≡ count }
     requires table { is_table conflicts.old ≡ true }
-    requires free { slice_index_or conflicts.old first [] ≡ replicate (count - first) false }
-    ensures row { PutsRow (λ r. r.now) conflicts.old first conflicts.new result (cells_at (count - first) [] bytes.now) }
+    requires free { slice_index_or conflicts.old first [] ≡ replicate (count - first) Never }
+    ensures row { PutsRow (λ r. r.now) conflicts.old first conflicts.new result (cells_at version (count - first) [] bytes.now) }
 {
     let mut rest = bytes;
     for later in first..count {
-        let (cell, after) = cell_of(rest)?;
-        if cell == 1 {
-            conflicts.set(first, later);
-        }
+        let (cell, after) = cell_of(version, rest)?;
+        conflicts.set(first, later, mode_with(cell));
         rest = after;
     }
     Ok(rest)
 }
 
-fn rows_of(alloc: Global, count: u16, bytes: &[u8]) -> Result<(Conflicts, &[u8]), Fault>
-    ensures { Gives (λ x. (x.0, x.1.now)) result (rows_at count [] bytes.now) }
+fn rows_of(
+    alloc: Global,
+    version: u8,
+    count: u16,
+    bytes: &[u8],
+) -> Result<(Conflicts, &[u8]), Fault>
+    ensures { Gives (λ x. (x.0, x.1.now)) result (rows_at version count [] bytes.now) }
 {
     let mut conflicts = Conflicts::new(alloc, count)?;
     let mut rest = bytes;
     for first in 0..count {
-        rest = row_of(&mut conflicts, first, count, rest)?;
+        rest = row_of(version, &mut conflicts, first, count, rest)?;
     }
     Ok((conflicts, rest))
 }
@@ -275,12 +299,17 @@ fn rows_of(alloc: Global, count: u16, bytes: &[u8]) -> Result<(Conflicts, &[u8])
 fn front_of(alloc: Global, bytes: &[u8]) -> Result<(Catalog, &[u8]), Fault>
     ensures { Gives (λ x. (x.0, x.1.now)) result (front_at bytes.now) }
 {
-    let (_, rest) = version_of(bytes)?;
+    let (version, rest) = version_of(bytes)?;
     let (count, rest) = count_of(rest)?;
     let (ops, rest) = ops_of(alloc, count, rest)?;
-    let (conflicts, rest) = rows_of(alloc, count, rest)?;
+    let (conflicts, rest) = rows_of(alloc, version, count, rest)?;
     let ops = Ops::new(ops);
-    Ok((Catalog { ops, conflicts }, rest))
+    let catalog = Catalog {
+        version,
+        ops,
+        conflicts,
+    };
+    Ok((catalog, rest))
 }
 
 #[tactic(auto, unfolding(crate::specs::Reading::catalog_at))]

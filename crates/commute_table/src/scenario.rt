@@ -1,15 +1,15 @@
 // Scenarios: a catalog and the text of processes, read from a TOML document.
-ghost use Rattle.std.specs.Prelude.{◌≡◌, ◌<◌, ◌≤◌, ◌++◌, length, is_some, option_map, option_and_then, IfOk, IfSome, [], true};
+ghost use Rattle.std.specs.Prelude.{◌≡◌, ◌<◌, ◌++◌, length, is_some, option_and_then, IfOk, IfSome, [], true};
 ghost use Rattle.toml.specs.Data.{as_array, as_table};
 ghost use Rattle.toml.specs.View.{view, items_view, table_view};
-ghost use Rattle.process_tree.specs.Conflicts.{operations_in, no_conflicts};
 ghost use Rattle.commute_table.specs.Operations.{IsCatalog};
-ghost use Rattle.commute_table.specs.Document.{Gives, GivesTable, IsAnswer, name_said, subsystem_said, verb_named, verb_said, op_said, are_tables, ops_said, few_said, operations_said, pair_of, pair_in, are_pairs, number_of, number_said, pair_said, pairs_said, conflicts_said, processes_said, catalog_said, scenario_said};
+ghost use Rattle.commute_table.specs.Document.{Gives, IsAnswer, name_said, subsystem_said, verb_named, verb_said, op_said, are_tables, ops_said, few_said, operations_said, number_of, processes_said, catalog_said, scenario_said};
 
 use crate::document::{Keys, known_keys, member, number_at, refuse, text_at, version_of};
+use crate::pairs::conflicts_of;
 use crate::reading::{has_name, takes};
-use crate::{Catalog, MOST_OPERATIONS, Op, Ops, ScenarioError, Text, Verb, Word};
-use process_tree::{Conflicts, Name, NameError};
+use crate::{Catalog, MOST_OPERATIONS, Op, Ops, ScenarioError, Text, Verb};
+use process_tree::{Name, NameError};
 use std::alloc::Global;
 use toml::{Table, Value};
 
@@ -155,40 +155,6 @@ fn operations_of(alloc: Global, table: &Table) -> Result<Ops, ScenarioError>
     few_of(alloc, items)
 }
 
-fn pair_of(items: &[Value]) -> Option<(&str, &str)>
-    ensures { option_map (λ p. (p.0.now, p.1.now)) result ≡ pair_of (items_view items.now) }
-{
-    if items.len() != 2 {
-        return None;
-    }
-    match (items[0].as_str(), items[1].as_str()) {
-        (Some(first), Some(second)) => Some((first, second)),
-        _ => None,
-    }
-}
-
-fn pair_in(value: &Value) -> Option<(&str, &str)>
-    ensures { option_map (λ p. (p.0.now, p.1.now)) result ≡ pair_in (view value.now) }
-{
-    match value.as_array() {
-        Some(items) => pair_of(items),
-        None => None,
-    }
-}
-
-fn are_pairs(items: &[Value]) -> bool
-    ensures { result ≡ are_pairs (items_view items.now) }
-{
-    let mut rest = items;
-    while let [first, after @ ..] = rest {
-        if pair_in(first).is_none() {
-            return false;
-        }
-        rest = after;
-    }
-    true
-}
-
 /// The number of the first operation with this name.
 pub fn number_of(ops: &[Op], name: &[u8]) -> Option<usize>
     ensures number { result ≡ number_of ops.now name.now }
@@ -200,72 +166,6 @@ pub fn number_of(ops: &[Op], name: &[u8]) -> Option<usize>
         }
     }
     None
-}
-
-// The number of the operation that a conflict names.
-fn number_said(alloc: Global, ops: &[Op], name: &str) -> Result<u16, ScenarioError>
-    requires few { length ops.now ≤ 256 }
-    ensures said { Gives result (number_said ops.now name.now) }
-    ensures within { IfOk result (λ n. n < length ops.now) }
-{
-    match number_of(ops, name.as_bytes()) {
-        Some(number) => Ok(number as u16),
-        None => match name.as_bytes().to_vec(alloc) {
-            Ok(bytes) => Err(ScenarioError::UnknownOp(Word::new(bytes))),
-            Err(_) => Err(ScenarioError::NoMemory),
-        },
-    }
-}
-
-// The table with the pair that the value is.
-fn with_pair(
-    alloc: Global,
-    ops: &[Op],
-    conflicts: &mut Conflicts,
-    value: &Value,
-) -> Result<(), ScenarioError>
-    requires few { length ops.now ≤ 256 }
-    requires of_all { operations_in conflicts.old ≡ length ops.now }
-    ensures said { GivesTable result conflicts.new (pair_said ops.now conflicts.old (pair_in (view value.now))) }
-    ensures of_all { operations_in conflicts.new ≡ length ops.now }
-{
-    let Some((first, second)) = pair_in(value) else {
-        return refuse(alloc, "conflicts");
-    };
-    let a = number_said(alloc, ops, first)?;
-    let b = number_said(alloc, ops, second)?;
-    conflicts.set(a, b);
-    Ok(())
-}
-
-fn pairs_of(alloc: Global, ops: &[Op], items: &[Value]) -> Result<Conflicts, ScenarioError>
-    requires few { length ops.now ≤ 256 }
-    ensures { Gives result (pairs_said ops.now (no_conflicts (length ops.now)) (items_view items.now)) }
-{
-    let mut conflicts = Conflicts::new(alloc, ops.len() as u16)?;
-    let mut rest = items;
-    while let [first, after @ ..] = rest {
-        with_pair(alloc, ops, &mut conflicts, first)?;
-        rest = after;
-    }
-    Ok(conflicts)
-}
-
-#[tactic(auto, unfolding(crate::specs::Document::conflicts_said))]
-fn conflicts_of(alloc: Global, ops: &[Op], table: &Table) -> Result<Conflicts, ScenarioError>
-    requires few { length ops.now ≤ 256 }
-    ensures { Gives result (conflicts_said ops.now (table_view table.now)) }
-{
-    let Some(value) = member(table, "conflicts") else {
-        return Ok(Conflicts::new(alloc, ops.len() as u16)?);
-    };
-    let Some(items) = value.as_array() else {
-        return refuse(alloc, "conflicts");
-    };
-    if !are_pairs(items) {
-        return refuse(alloc, "conflicts");
-    }
-    pairs_of(alloc, ops, items)
 }
 
 #[tactic(auto, unfolding(crate::specs::Document::processes_said))]
@@ -286,10 +186,14 @@ fn catalog_of(alloc: Global, table: &Table) -> Result<Catalog, ScenarioError>
     ensures { Gives result (catalog_said (table_view table.now)) }
 {
     known_keys(alloc, Keys::OfDocument, table)?;
-    version_of(alloc, table)?;
+    let version = version_of(alloc, table)?;
     let ops = operations_of(alloc, table)?;
-    let conflicts = conflicts_of(alloc, ops.as_slice(), table)?;
-    Ok(Catalog { ops, conflicts })
+    let conflicts = conflicts_of(alloc, version, ops.as_slice(), table)?;
+    Ok(Catalog {
+        version,
+        ops,
+        conflicts,
+    })
 }
 
 #[tactic(auto, unfolding(crate::specs::Document::scenario_said))]

@@ -20,12 +20,12 @@ use Rattle.machine_model.specs.Pieces.{running_of}
 use Rattle.machine_model.specs.State.{hold_of, owed_soon}
 use Rattle.hold_tables.specs.Tables.{OpenProcess, Tables, holdings_of, kept_of}
 use Rattle.admission.specs.Admission.{class_in_tables, owed_behind, reserved_steps}
-use Rattle.core_state.specs.OpenTables.{pairs_of, row_of, tables_of}
+use Rattle.core_state.specs.OpenTables.{planned_of, row_of, tables_of}
 use Rattle.core_state.proofs.MayStand.{numbered_map}
 use Rattle.core_state.proofs.StoodRows.{owes_behind}
 
 -- the steps of a process, as its reserved steps in the tables
-pub steps_back : (courses : List Course) (i : ℕ) (bs : List ℕ) → map (λ (pair : ℕ × ℕ). pair.0) (pairs_of (map (doing courses i) bs)) ≡ bs
+pub steps_back : (courses : List Course) (i : ℕ) (bs : List ℕ) → map (λ (step : ℕ × ℕ × ℕ). step.0) (planned_of (map (doing courses i) bs)) ≡ bs
 steps_back courses i [] = refl
 steps_back courses i (b ∷ bs) = ap (λ xs. b ∷ xs) (steps_back courses i bs)
 
@@ -63,7 +63,7 @@ module _ (conflicts : Table) (courses : List Course) (m : Moment) (i : ℕ) (p :
   same_shape = ap (λ (x : Course). x.shape) (sym plan)
 
   pub entry_is : (b : ℕ) → entry_of p i b ≡ doing courses i b
-  entry_is b = ap (λ (x : Course). record { process = i; step = b; op = slice_index_or x.ops b 0; undo = false }) (sym plan)
+  entry_is b = ap (λ (x : Course). record { process = i; step = b; op = slice_index_or x.ops b 0; key = slice_index_or x.keys b 0; undo = false }) (sym plan)
 
   entries_are : (bs : List ℕ) → map (entry_of p i) bs ≡ map (doing courses i) bs
   entries_are [] = refl
@@ -76,8 +76,8 @@ module _ (conflicts : Table) (courses : List Course) (m : Moment) (i : ℕ) (p :
     -- it has reserved what it owes
     pub reserved_owed : reserved_steps (tables_of conflicts courses m) i ≡ owed_steps courses m.events i
     reserved_owed =
-        ap (λ (r : OpenProcess). map (λ (pair : ℕ × ℕ). pair.0) r.reserved) kept_is
-        ∙ (ap (λ es. map (λ (pair : ℕ × ℕ). pair.0) (pairs_of es)) reserved_are
+        ap (λ (r : OpenProcess). map (λ (step : ℕ × ℕ × ℕ). step.0) r.reserved) kept_is
+        ∙ (ap (λ es. map (λ (step : ℕ × ℕ × ℕ). step.0) (planned_of es)) reserved_are
         ∙ steps_back courses i (owed_steps courses m.events i))
 
     -- so the class of a step is that of the machine

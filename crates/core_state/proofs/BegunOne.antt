@@ -30,7 +30,7 @@ use Rattle.instance_state.specs.Instances.{InstanceState, moved_to}
 use Rattle.hold_tables.specs.Tables.{OpenProcess}
 use Rattle.core_state.specs.Beginnings.{begun_row, begun_row_of, begun_seat}
 use Rattle.core_state.specs.Cores.{CoreState, IsCore, courses_in, machine_of, moment_of, relation}
-use Rattle.core_state.specs.OpenTables.{pairs_of, row_of}
+use Rattle.core_state.specs.OpenTables.{planned_of, row_of}
 use Rattle.core_state.specs.Seats.{SeatState, lost_by, seat_of}
 use Rattle.core_state.proofs.BegunLost.{lost_at, lost_now}
 use Rattle.core_state.proofs.SeatFrames.{active_stays}
@@ -40,13 +40,13 @@ first_part : {X : Type 0} (xs ys : List X) (n : ℕ) → n ≡ length xs → tak
 first_part xs ys n is = ap (λ k. take k (xs ++ ys)) is ∙ take-append_seam xs ys
 
 -- of what is reserved the first is what the process owes
-pub owed_first : (courses : List Course) (n : Moment) (i : ℕ) → pairs_of (owed courses n.events i) ≡ take (length (forward (shape courses i) (net_steps n.events i))) (pairs_of (hold_of courses n i).reserved)
+pub owed_first : (courses : List Course) (n : Moment) (i : ℕ) → planned_of (owed courses n.events i) ≡ take (length (forward (shape courses i) (net_steps n.events i))) (planned_of (hold_of courses n i).reserved)
 owed_first courses n i =
     let o = owed courses n.events i in
     let later = owed_soon courses n.events (running_of n i) in
     let owes = forward (shape courses i) (net_steps n.events i) in
-    let many : length owes ≡ length (pairs_of o) = sym (length-map o (λ (e : Entry). (e.step, e.op)) ∙ length-map owes (doing courses i)) in
-    sym (ap (take (length owes)) (map-append (λ (e : Entry). (e.step, e.op)) o later) ∙ first_part (pairs_of o) (pairs_of later) (length owes) many)
+    let many : length owes ≡ length (planned_of o) = sym (length-map o (λ (e : Entry). (e.step, e.op, e.key)) ∙ length-map owes (doing courses i)) in
+    sym (ap (take (length owes)) (map-append (λ (e : Entry). (e.step, e.op, e.key)) o later) ∙ first_part (planned_of o) (planned_of later) (length owes) many)
 
 module _ (c : CoreState) (core : IsCore c) (k : Kept) (may : may_be_kept (relation c) (courses_in c) (moment_of c) k ≡ true) (i : ℕ) (away : LeavesPieceOf c.kept k i)
     (plain : state_by_piece k i (process_state (courses_in c) (moment_of c) i) (piece_ended c.kept k) ≡ process_state (courses_in c) (moment_of c) i)
@@ -103,8 +103,8 @@ module _ (c : CoreState) (core : IsCore c) (k : Kept) (may : may_be_kept (relati
       seat_by : Option InstanceState → Option Piece → Option Lost → Option Beginning → SeatState
       seat_by x r l o = record { instance = x; out = option_map (λ (q : Piece). q.number) r; lost = option_map (λ (y : Lost). y.piece.number) l; began = option_map (λ (y : Beginning). y.began) o }
 
-  abbrev row_by : Option Entry → List (ℕ × ℕ) → ℕ → ℕ → OpenProcess
-  row_by r pairs f p = record { process = i; steps = length (shape (courses_in c) i).kinds; running = r; reserved = pairs; fixed = f; pending = p }
+  abbrev row_by : Option Entry → List (ℕ × ℕ × ℕ) → ℕ → ℕ → OpenProcess
+  row_by r planned f p = record { process = i; steps = length (shape (courses_in c) i).kinds; running = r; reserved = planned; fixed = f; pending = p }
 
   -- as many are pending as the process alone says
   pending_is : length (backward_entries cs m.events i) ≡ pending_count (begun s)
@@ -123,7 +123,7 @@ module _ (c : CoreState) (core : IsCore c) (k : Kept) (may : may_be_kept (relati
   row_begins =
       let f = fixed_len (shape cs i) (net_steps m.events i) in
       ap (λ t. begun_row_of (if t then Some (record { course = course cs i; state = s }) else None) (row_of cs m i)) active'
-      ∙ (ap (λ p. row_by None (take (length (forward (shape cs i) (net_steps m.events i))) (pairs_of (hold_of cs m i).reserved)) f p) (sym pending_is)
-      ∙ (ap (λ pairs. row_by None pairs f (length (backward_entries cs m.events i))) (sym (owed_first cs m i))
-      ∙ (ap (λ w. row_by None (pairs_of (owed cs m.events i)) (fixed_len (shape cs i) w) (length (backward_entries cs m.events i))) (sym steps_stay)
-      ∙ sym (ap (λ (h : Hold). row_by h.running (pairs_of h.reserved) (fixed_len (shape cs i) (net_steps after.events i)) (length h.pending)) (beginnings_stop (relation c) (machine_of c) k i core.session.run may was is)))))
+      ∙ (ap (λ p. row_by None (take (length (forward (shape cs i) (net_steps m.events i))) (planned_of (hold_of cs m i).reserved)) f p) (sym pending_is)
+      ∙ (ap (λ planned. row_by None planned f (length (backward_entries cs m.events i))) (sym (owed_first cs m i))
+      ∙ (ap (λ w. row_by None (planned_of (owed cs m.events i)) (fixed_len (shape cs i) w) (length (backward_entries cs m.events i))) (sym steps_stay)
+      ∙ sym (ap (λ (h : Hold). row_by h.running (planned_of h.reserved) (fixed_len (shape cs i) (net_steps after.events i)) (length h.pending)) (beginnings_stop (relation c) (machine_of c) k i core.session.run may was is)))))

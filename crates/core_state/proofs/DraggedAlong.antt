@@ -42,7 +42,7 @@ use Rattle.process_tree.specs.Conflicts.{do_conflict}
 use Rattle.core_state.specs.declared.beginnings.Beginners.TheVariants.{DraggedBy}
 use Rattle.core_state.specs.Beginnings.{AreOpen, can_begin, cause_if, cause_of, row_with, seat_with, seats_begun, tables_begun}
 use Rattle.core_state.specs.Cores.{CoreState, IsCore, courses_in, history_of, moment_of, relation}
-use Rattle.core_state.specs.OpenTables.{pairs_of, row_of, tables_of}
+use Rattle.core_state.specs.OpenTables.{planned_of, row_of, tables_of}
 use Rattle.core_state.specs.Seats.{SeatState, Stands, seat_of, seats_of}
 use Rattle.core_state.proofs.BegunAll.{BeginsNow, Goes, Tells, begun_stands, goes}
 use Rattle.core_state.proofs.BegunRestart.{active_apart, began_is, event_is, no_beginning, some_beginning}
@@ -58,9 +58,9 @@ use Rattle.core_state.proofs.TablesHoldings.{lasts_drop, own_net, tables_stand_f
 -- what stays of a process leaves its row
 pub row_same : (courses : List Course) (n o : Moment) (i : ℕ) → StaysFor courses n o i → has_begun o i ≡ has_begun n i → row_of courses o i ≡ row_of courses n i
 row_same courses n o i stays begun =
-    ap (λ (h : Hold). record { process = i; steps = length (shape courses i).kinds; running = h.running; reserved = pairs_of h.reserved; fixed = fixed_len (shape courses i) (net_steps o.events i); pending = length h.pending }) (stays-hold courses n o i stays begun)
+    ap (λ (h : Hold). record { process = i; steps = length (shape courses i).kinds; running = h.running; reserved = planned_of h.reserved; fixed = fixed_len (shape courses i) (net_steps o.events i); pending = length h.pending }) (stays-hold courses n o i stays begun)
     ∙ (let h = hold_of courses n i in
-    ap (λ es. record { process = i; steps = length (shape courses i).kinds; running = h.running; reserved = pairs_of h.reserved; fixed = fixed_len (shape courses i) (steps_of es); pending = length h.pending }) stays.history.net)
+    ap (λ es. record { process = i; steps = length (shape courses i).kinds; running = h.running; reserved = planned_of h.reserved; fixed = fixed_len (shape courses i) (steps_of es); pending = length h.pending }) stays.history.net)
 
 module _ (c : CoreState) (core : IsCore c) (k : Kept) (may : may_be_kept (relation c) (courses_in c) (moment_of c) k ≡ true) (root : ℕ) (middle : Moment) where
   abbrev cs : List Course

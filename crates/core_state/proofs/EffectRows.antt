@@ -24,7 +24,7 @@ use Rattle.machine_model.proofs.TidyMoments.{every}
 use Rattle.hold_tables.specs.Changes.{change_numbered}
 use Rattle.hold_tables.specs.Tables.{OpenProcess, kept_of}
 use Rattle.core_state.specs.Cores.{CoreState, IsCore, courses_in, machine_of, moment_of, relation}
-use Rattle.core_state.specs.OpenTables.{pairs_of, row_of, tables_of}
+use Rattle.core_state.specs.OpenTables.{planned_of, row_of, tables_of}
 use Rattle.core_state.proofs.EffectSeats.{begun_same, its_active, others_away, own, stopped}
 use Rattle.core_state.proofs.MayStand.{numbered_map, rising_apart}
 use Rattle.core_state.proofs.SeatFrames.{row_frame}
@@ -91,8 +91,8 @@ module _ (c : CoreState) (core : IsCore c) (d : Piece) (found : piece_of c.kept 
       ∙ ap (map (row_of cs after)) (sym same)
 
   -- the row of the process, by its parts: nothing is under way
-  abbrev pub row_by : List (ℕ × ℕ) → ℕ → ℕ → OpenProcess
-  row_by pairs fixed pending = record { process = d.process; steps = length (shape (courses_in c) d.process).kinds; running = None; reserved = pairs; fixed = fixed; pending = pending }
+  abbrev pub row_by : List (ℕ × ℕ × ℕ) → ℕ → ℕ → OpenProcess
+  row_by planned fixed pending = record { process = d.process; steps = length (shape (courses_in c) d.process).kinds; running = None; reserved = planned; fixed = fixed; pending = pending }
 
   pub row_after : row_of (courses_in c) (advance (relation c) (courses_in c) (moment_of c) (Effect d.number)) d.process
       ≡ (let g = hold_of (courses_in c) (advance (relation c) (courses_in c) (moment_of c) (Effect d.number)) d.process in
@@ -100,11 +100,11 @@ module _ (c : CoreState) (core : IsCore c) (d : Piece) (found : piece_of c.kept 
         process = d.process;
         steps = length (shape (courses_in c) d.process).kinds;
         running = None;
-        reserved = pairs_of g.reserved;
+        reserved = planned_of g.reserved;
         fixed = fixed_len (shape (courses_in c) d.process) (net_steps (advance (relation c) (courses_in c) (moment_of c) (Effect d.number)).events d.process);
         pending = length g.pending;
       })
   row_after =
       let g = hold_of cs after i in
-      ap (λ (o : Option Piece). record { process = i; steps = length (shape cs i).kinds; running = entry_of cs o; reserved = pairs_of g.reserved; fixed = fixed_len (shape cs i) (net_steps after.events i); pending = length g.pending })
+      ap (λ (o : Option Piece). record { process = i; steps = length (shape cs i).kinds; running = entry_of cs o; reserved = planned_of g.reserved; fixed = fixed_len (shape cs i) (net_steps after.events i); pending = length g.pending })
       (stopped c core d found out)

@@ -29,7 +29,7 @@ use Rattle.hold_tables.specs.Changes.{all_fixed, change_numbered, changed, net_a
 use Rattle.hold_tables.specs.Tables.{OpenProcess, Tables, kept_of}
 use Rattle.core_state.specs.Cores.{CoreState, IsCore, courses_in, moment_of, relation}
 use Rattle.core_state.specs.Effects.{step_effected}
-use Rattle.core_state.specs.OpenTables.{pairs_behind, pairs_of, row_of, step_pair, tables_of}
+use Rattle.core_state.specs.OpenTables.{planned_behind, planned_of, row_of, planned_step, tables_of}
 use Rattle.core_state.proofs.EffectRows.{its_row, listed, net_listed, own_listed, row_after, row_by, rows_are, runs_it}
 use Rattle.core_state.proofs.EffectSeats.{events_are, is_next, its_active, own, stopped}
 use Rattle.core_state.proofs.NetEntries.{branch_is_net}
@@ -94,7 +94,7 @@ module _ (c : CoreState) (core : IsCore c) (d : Piece) (found : piece_of c.kept 
       (ap (λ v. keeps_order cs m.events (event_by cs i b v)) (sym is) ∙ piece_keeps (relation c) c.plans core.session.good m d facts (is_next c core d found out) (its_active c core d found out))
 
   on : branch_to s b ≡ w
-  on = branch_is_net c.plans core.session.good (net m.events) x (record { goes = goes; forward = refl; op = refl })
+  on = branch_is_net c.plans core.session.good (net m.events) x (record { goes = goes; forward = refl; access = refl })
 
   was_running : entry_of cs (running_of m i) ≡ Some x
   was_running = ap (entry_of cs) (runs_it c core d found out) ∙ ap (entry_by cs i b) is
@@ -105,9 +105,9 @@ module _ (c : CoreState) (core : IsCore c) (d : Piece) (found : piece_of c.kept 
       ap (λ o. map (doing cs i) (forward s (net_steps after.events i)) ++ owed_soon cs after.events o) (stopped c core d found out)
       ∙ (append-nil (map (doing cs i) (forward s (net_steps after.events i))) ∙ ap (λ v. map (doing cs i) (forward s v)) steps_now)
 
-  pairs_same : (bs : List ℕ) → pairs_of (map (doing cs i) bs) ≡ map (step_pair p) bs
-  pairs_same [] = refl
-  pairs_same (a ∷ bs) = ap (λ (y : Course). (a, slice_index_or y.ops a 0) ∷ pairs_of (map (doing cs i) bs)) plan ∙ ap (λ ps. step_pair p a ∷ ps) (pairs_same bs)
+  planned_same : (bs : List ℕ) → planned_of (map (doing cs i) bs) ≡ map (planned_step p) bs
+  planned_same [] = refl
+  planned_same (a ∷ bs) = ap (λ (y : Course). (a, slice_index_or y.ops a 0, slice_index_or y.keys a 0) ∷ planned_of (map (doing cs i) bs)) plan ∙ ap (λ ps. planned_step p a ∷ ps) (planned_same bs)
 
   same_shape : s ≡ shape_of p.tree
   same_shape = ap (λ (y : Course). y.shape) plan
@@ -138,12 +138,12 @@ module _ (c : CoreState) (core : IsCore c) (d : Piece) (found : piece_of c.kept 
       omega arith
 
   module _ (n : ℕ) (pends : n ≡ length (hold_of (courses_in c) (advance (relation c) (courses_in c) (moment_of c) (Effect d.number)) d.process).pending) where
-    its_row_now : row_of cs after i ≡ row_by c core d found out (pairs_of (map (doing cs i) (forward s (w ++ b ∷ [])))) (fixed_len s (w ++ b ∷ [])) n
+    its_row_now : row_of cs after i ≡ row_by c core d found out (planned_of (map (doing cs i) (forward s (w ++ b ∷ [])))) (fixed_len s (w ++ b ∷ [])) n
     its_row_now =
         row_after c core d found out
-        ∙ (ap (λ es. row_by c core d found out (pairs_of es) (fixed_len s (net_steps after.events i)) (length (hold_of cs after i).pending)) reserved_now
-        ∙ (ap (λ v. row_by c core d found out (pairs_of (map (doing cs i) (forward s (w ++ b ∷ [])))) (fixed_len s v) (length (hold_of cs after i).pending)) steps_now
-        ∙ ap (row_by c core d found out (pairs_of (map (doing cs i) (forward s (w ++ b ∷ [])))) (fixed_len s (w ++ b ∷ []))) (sym pends)))
+        ∙ (ap (λ es. row_by c core d found out (planned_of es) (fixed_len s (net_steps after.events i)) (length (hold_of cs after i).pending)) reserved_now
+        ∙ (ap (λ v. row_by c core d found out (planned_of (map (doing cs i) (forward s (w ++ b ∷ [])))) (fixed_len s v) (length (hold_of cs after i).pending)) steps_now
+        ∙ ap (row_by c core d found out (planned_of (map (doing cs i) (forward s (w ++ b ∷ [])))) (fixed_len s (w ++ b ∷ []))) (sym pends)))
 
     abbrev rows : List OpenProcess
     rows = map (row_of (courses_in c) (moment_of c)) (active (moment_of c).events)
@@ -158,9 +158,9 @@ module _ (c : CoreState) (core : IsCore c) (d : Piece) (found : piece_of c.kept 
         let reserved' : (hold_of cs m i).reserved ≡ map (doing cs i) (forward s (w ++ b ∷ [])) =
         ap (λ es. map (doing cs i) (forward s w) ++ es) soon ∙ (append-nil (map (doing cs i) (forward s w)) ∙ ap (map (doing cs i)) (sym (owes_same s w b own'))) in
         let row : with_pending n (with_running None (row_of cs m i)) ≡ row_of cs after i =
-        ap (λ es. row_by c core d found out (pairs_of es) (fixed_len s w) n) reserved'
-        ∙ (ap (λ f. row_by c core d found out (pairs_of (map (doing cs i) (forward s (w ++ b ∷ [])))) f n) (sym fixed) ∙ sym its_row_now) in
-        ap (λ t. changed (with_pending n) i (if t then changed (with_reserved (pairs_behind p b)) i (all_fixed i (took_effect i T)) else took_effect i T)) none
+        ap (λ es. row_by c core d found out (planned_of es) (fixed_len s w) n) reserved'
+        ∙ (ap (λ f. row_by c core d found out (planned_of (map (doing cs i) (forward s (w ++ b ∷ [])))) f n) (sym fixed) ∙ sym its_row_now) in
+        ap (λ t. changed (with_pending n) i (if t then changed (with_reserved (planned_behind p b)) i (all_fixed i (took_effect i T)) else took_effect i T)) none
         ∙ (ap (λ ns. record { conflicts = c.conflicts; net = ns; processes = change_numbered (with_pending n) i (change_numbered (with_running None) i rows) }) net_is
         ∙ ap (λ rs. record { conflicts = c.conflicts; net = active_net (holdings cs after); processes = rs })
         (changed_twice (with_running None) (with_pending n) i rows (λ r. refl)
@@ -172,19 +172,19 @@ module _ (c : CoreState) (core : IsCore c) (d : Piece) (found : piece_of c.kept 
         let own' : commits (kind_of s b) ≡ true = ap (λ y. commits (kind_of y b)) same_shape ∙ fixes in
         let len = length (of_process i (active_net (holdings cs after))) in
         let fixed : len ≡ fixed_len s (w ++ b ∷ []) = own_count ∙ sym (fixed_more s w b ∙ ap (λ t. if t then length w + 1 else fixed_len s w) own') in
-        let pairs : pairs_behind p b ≡ pairs_of (map (doing cs i) (forward s (w ++ b ∷ []))) =
-        sym (pairs_same (forward s (w ++ b ∷ [])) ∙ ap (map (step_pair p))
+        let planned : planned_behind p b ≡ planned_of (map (doing cs i) (forward s (w ++ b ∷ []))) =
+        sym (planned_same (forward s (w ++ b ∷ [])) ∙ ap (map (planned_step p))
         (owes_behind s w b own' ∙ (ap (λ v. last_after s (v ++ b ∷ [])) (sym on) ∙ ap (λ y. last_after y (branch_to y b ++ b ∷ [])) same_shape))) in
-        let row : with_pending n (with_reserved (pairs_behind p b) (with_fixed len (with_running None (row_of cs m i)))) ≡ row_of cs after i =
-        ap (λ ps. row_by c core d found out ps len n) pairs
-        ∙ (ap (λ f. row_by c core d found out (pairs_of (map (doing cs i) (forward s (w ++ b ∷ [])))) f n) fixed ∙ sym its_row_now) in
-        ap (λ t. changed (with_pending n) i (if t then changed (with_reserved (pairs_behind p b)) i (all_fixed i (took_effect i T)) else took_effect i T)) fixes
-        ∙ (ap (λ ns. record { conflicts = c.conflicts; net = ns; processes = change_numbered (with_pending n) i (change_numbered (with_reserved (pairs_behind p b)) i (change_numbered (with_fixed (length (of_process i ns))) i (change_numbered (with_running None) i rows))) }) net_is
+        let row : with_pending n (with_reserved (planned_behind p b) (with_fixed len (with_running None (row_of cs m i)))) ≡ row_of cs after i =
+        ap (λ ps. row_by c core d found out ps len n) planned
+        ∙ (ap (λ f. row_by c core d found out (planned_of (map (doing cs i) (forward s (w ++ b ∷ [])))) f n) fixed ∙ sym its_row_now) in
+        ap (λ t. changed (with_pending n) i (if t then changed (with_reserved (planned_behind p b)) i (all_fixed i (took_effect i T)) else took_effect i T)) fixes
+        ∙ (ap (λ ns. record { conflicts = c.conflicts; net = ns; processes = change_numbered (with_pending n) i (change_numbered (with_reserved (planned_behind p b)) i (change_numbered (with_fixed (length (of_process i ns))) i (change_numbered (with_running None) i rows))) }) net_is
         ∙ ap (λ rs. record { conflicts = c.conflicts; net = active_net (holdings cs after); processes = rs })
-        (ap (λ rs. change_numbered (with_pending n) i (change_numbered (with_reserved (pairs_behind p b)) i rs)) (changed_twice (with_running None) (with_fixed len) i rows (λ r. refl))
-        ∙ (ap (change_numbered (with_pending n) i) (changed_twice (λ r. with_fixed len (with_running None r)) (with_reserved (pairs_behind p b)) i rows (λ r. refl))
-        ∙ (changed_twice (λ r. with_reserved (pairs_behind p b) (with_fixed len (with_running None r))) (with_pending n) i rows (λ r. refl)
-        ∙ rows_are c core d found out (λ r. with_pending n (with_reserved (pairs_behind p b) (with_fixed len (with_running None r)))) active_same row))))
+        (ap (λ rs. change_numbered (with_pending n) i (change_numbered (with_reserved (planned_behind p b)) i rs)) (changed_twice (with_running None) (with_fixed len) i rows (λ r. refl))
+        ∙ (ap (change_numbered (with_pending n) i) (changed_twice (λ r. with_fixed len (with_running None r)) (with_reserved (planned_behind p b)) i rows (λ r. refl))
+        ∙ (changed_twice (λ r. with_reserved (planned_behind p b) (with_fixed len (with_running None r))) (with_pending n) i rows (λ r. refl)
+        ∙ rows_are c core d found out (λ r. with_pending n (with_reserved (planned_behind p b) (with_fixed len (with_running None r)))) active_same row))))
 
     pub tables_step : changed (with_pending n) d.process (step_effected p d.process d.step (tables_of c.conflicts (courses_in c) (moment_of c)))
         ≡ tables_of c.conflicts (courses_in c) (advance (relation c) (courses_in c) (moment_of c) (Effect d.number))

@@ -26,7 +26,7 @@ use Rattle.machine_model.proofs.OwnOrderLaws.{undos_take_back_the_last}
 use Rattle.hold_tables.specs.Changes.{change_numbered, changed, dropped, net_after, took_effect, with_pending, with_running, without_last}
 use Rattle.hold_tables.specs.Tables.{OpenProcess, Tables, kept_of}
 use Rattle.core_state.specs.Cores.{CoreState, IsCore, courses_in, machine_of, moment_of, relation}
-use Rattle.core_state.specs.OpenTables.{pairs_of, row_of, tables_of}
+use Rattle.core_state.specs.OpenTables.{planned_of, row_of, tables_of}
 use Rattle.core_state.proofs.EffectRows.{its_row, listed, net_listed, others_stay, own_listed, row_after, row_by, rows_are, runs_it}
 use Rattle.core_state.proofs.EffectSeats.{end_goes, events_are}
 use Rattle.core_state.proofs.LastEntries.{all_pass, filter_both, filter_swap, last_goes}
@@ -158,9 +158,9 @@ module _ (c : CoreState) (core : IsCore c) (d : Piece) (found : piece_of c.kept 
     module _ (n : ℕ) (pends : n ≡ length (hold_of (courses_in c) (advance (relation c) (courses_in c) (moment_of c) (Effect d.number)) d.process).pending) where
       row : with_pending n (with_running None (row_of cs m i)) ≡ row_of cs after i
       row =
-          ap (λ es. row_by c core d found out (pairs_of es) kept_len n) (sym effect.still_reserved)
-          ∙ (ap (λ f. row_by c core d found out (pairs_of g.reserved) f n) (sym fixed_same)
-          ∙ (ap (row_by c core d found out (pairs_of g.reserved) (fixed_len s (net_steps after.events i))) pends ∙ sym (row_after c core d found out)))
+          ap (λ es. row_by c core d found out (planned_of es) kept_len n) (sym effect.still_reserved)
+          ∙ (ap (λ f. row_by c core d found out (planned_of g.reserved) f n) (sym fixed_same)
+          ∙ (ap (row_by c core d found out (planned_of g.reserved) (fixed_len s (net_steps after.events i))) pends ∙ sym (row_after c core d found out)))
 
       pub tables_undo : changed (with_pending n) d.process (took_effect d.process (tables_of c.conflicts (courses_in c) (moment_of c)))
           ≡ tables_of c.conflicts (courses_in c) (advance (relation c) (courses_in c) (moment_of c) (Effect d.number))

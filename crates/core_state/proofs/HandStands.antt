@@ -36,7 +36,7 @@ use Rattle.machine_model.proofs.StateSteps.{states_go_by_transitions}
 use Rattle.hold_tables.specs.Changes.{changed, with_reserved, with_running}
 use Rattle.hold_tables.specs.Tables.{OpenProcess, Tables}
 use Rattle.core_state.specs.Cores.{CoreState, IsCore, courses_in, machine_of, moment_of, relation}
-use Rattle.core_state.specs.OpenTables.{pairs_of, row_of, tables_of}
+use Rattle.core_state.specs.OpenTables.{planned_of, row_of, tables_of}
 use Rattle.core_state.specs.Seats.{SeatState, Stands, seat_of, seats_of}
 use Rattle.core_state.proofs.MayStand.{rising_apart}
 use Rattle.core_state.proofs.SeatFacts.{has_plan}
@@ -114,11 +114,11 @@ module _ (c : CoreState) (core : IsCore c) (apart : Apart (active (moment_of c).
 
   -- what it makes of the row of its process
   abbrev pub handed_row : OpenProcess → OpenProcess
-  handed_row r = with_reserved (pairs_of ((hold_of (courses_in c) (moment_of c) d.process).reserved ++ owed_by_work (courses_in c) (moment_of c).events d.process d.step d.work))
+  handed_row r = with_reserved (planned_of ((hold_of (courses_in c) (moment_of c) d.process).reserved ++ owed_by_work (courses_in c) (moment_of c).events d.process d.step d.work))
       (with_running (entry_by (courses_in c) d.process d.step d.work) r)
 
   row_hands : handed_row (row_of cs m i) ≡ row_of cs after i
-  row_hands = sym (ap (λ (h : Hold). record { process = i; steps = length (shape cs i).kinds; running = h.running; reserved = pairs_of h.reserved; fixed = fixed_len (shape cs i) (net_steps m.events i); pending = length h.pending })
+  row_hands = sym (ap (λ (h : Hold). record { process = i; steps = length (shape cs i).kinds; running = h.running; reserved = planned_of h.reserved; fixed = fixed_len (shape cs i) (net_steps m.events i); pending = length h.pending })
       (hands_reserve (relation c) (machine_of c) d.number i d.step d.work core.session.run may).1)
 
   -- and all else in the tables stays

@@ -7,7 +7,7 @@ use Rattle.process_tree.specs.declared.plan.Plan.{Plan}
 use Rattle.process_tree.specs.declared.step.StepKind.{StepKind}
 use Rattle.process_tree.specs.Blocks.{outline}
 use Rattle.process_tree.specs.Conflicts.{operations_in}
-use Rattle.process_tree.specs.Entries.{entry_of, undo_of}
+use Rattle.process_tree.specs.Entries.{entry_of, key_of, undo_of}
 use Rattle.process_tree.specs.Order.{Each, IsLaidOut}
 use Rattle.process_tree.specs.Recovery.{StepClass, class_by_kind, committing, last_after, reserved, undoable}
 use Rattle.process_tree.specs.Shape.{Shape, branch_to, fixed_len, kind_of, shape_of}
@@ -33,7 +33,7 @@ use Rattle.hold_tables.specs.Tables.{OpenProcess, Tables, is_open, kept_of, last
 use Rattle.admission.specs.Admission.{IsPlanFor}
 use Rattle.core_state.specs.Cores.{CoreState, IsCore, courses_in, moment_of, relation}
 use Rattle.core_state.specs.UnderWay.{FitsClass, MayComeUnderWay, step_under_way, under_way}
-use Rattle.core_state.specs.OpenTables.{pairs_behind, pairs_of, row_of, step_pair, tables_of}
+use Rattle.core_state.specs.OpenTables.{planned_behind, planned_of, row_of, planned_step, tables_of}
 use Rattle.core_state.proofs.Admissions.{class_is, entry_is, kept_is, owed_is, reserved_are}
 use Rattle.core_state.proofs.LastSteps.{known_op, last_within}
 use Rattle.core_state.proofs.NextTasks.{comes_next, more_than_fixed, net_ends, next_branch, next_new, next_within, undone_within}
@@ -144,15 +144,15 @@ module _ (v : CoreState) (core : IsCore v) (d : Piece) (may : may_be_kept (relat
     net_is = own_net cs m i listed
 
     -- what it has reserved is what it owes
-    reserved_row : (kept_of ts i).reserved ≡ pairs_of (owed cs m.events i)
-    reserved_row = ap (λ (r : OpenProcess). r.reserved) row_is ∙ ap pairs_of (reserved_are v.conflicts cs m i p listed own.course' idle_now)
+    reserved_row : (kept_of ts i).reserved ≡ planned_of (owed cs m.events i)
+    reserved_row = ap (λ (r : OpenProcess). r.reserved) row_is ∙ ap planned_of (reserved_are v.conflicts cs m i p listed own.course' idle_now)
 
-    pairs_known : (bs : List ℕ) → Each (λ b. b < length p.ops) bs → AreKnown v.conflicts (pairs_of (map (doing cs i) bs))
-    pairs_known [] within = tt
-    pairs_known (b ∷ bs) within =
+    planned_known : (bs : List ℕ) → Each (λ b. b < length p.ops) bs → AreKnown v.conflicts (planned_of (map (doing cs i) bs))
+    planned_known [] within = tt
+    planned_known (b ∷ bs) within =
         let known = known_op p.ops (operations_in v.conflicts) b own.known within.0 in
         let same = ap (λ (x : Course). slice_index_or x.ops b 0) own.course' in
-        (omega arith, pairs_known bs within.1)
+        (omega arith, planned_known bs within.1)
 
     module _ (b : ℕ) (next : next_of cs m i ≡ record { work = Forward; step = b }) where
       laid : IsLaidOut (length t.kinds) t.paths
@@ -162,12 +162,12 @@ module _ (v : CoreState) (core : IsCore v) (d : Piece) (may : may_be_kept (relat
       owed_within true = tt
       owed_within false = last_within t (length t.kinds) (length t.kinds) (take (fixed_len t w) w) laid.within
 
-      many_pairs : (bs : List ℕ) → length (pairs_of (map (doing cs i) bs)) ≡ length bs
-      many_pairs bs = length-map (map (doing cs i) bs) (λ (e : Entry). (e.step, e.op)) ∙ length-map bs (doing cs i)
+      many_planned : (bs : List ℕ) → length (planned_of (map (doing cs i) bs)) ≡ length bs
+      many_planned bs = length-map (map (doing cs i) bs) (λ (e : Entry). (e.step, e.op, e.key)) ∙ length-map bs (doing cs i)
 
-      behind_length : length (pairs_behind p b) ≡ length (last_after t (w ++ b ∷ []))
+      behind_length : length (planned_behind p b) ≡ length (last_after t (w ++ b ∷ []))
       behind_length =
-          length-map (last_after (shape_of p.tree) (branch_to (shape_of p.tree) b ++ b ∷ [])) (step_pair p)
+          length-map (last_after (shape_of p.tree) (branch_to (shape_of p.tree) b ++ b ∷ [])) (planned_step p)
           ∙ (ap (λ (x : Shape). length (last_after x (branch_to x b ++ b ∷ []))) (ap (λ (x : Course). x.shape) (sym own.course'))
           ∙ ap (λ u. length (last_after t (u ++ b ∷ []))) (next_branch v core i active_now b next))
 
@@ -176,12 +176,12 @@ module _ (v : CoreState) (core : IsCore v) (d : Piece) (may : may_be_kept (relat
       fits_by undoable is = tt
       fits_by committing is =
           let fits = owed_fits t laid w b (next_new v core i active_now b next) (class_free (is_in b (owed_steps cs m.events i)) (kind_of t b) is) in
-          let one = ap length reserved_row ∙ many_pairs (owed_steps cs m.events i) in
+          let one = ap length reserved_row ∙ many_planned (owed_steps cs m.events i) in
           let two = behind_length in
           let three = own_steps v i p own in
           let four = own.good.operations in (
             omega arith,
-            subst (AreKnown v.conflicts) (sym reserved_row) (pairs_known (owed_steps cs m.events i)
+            subst (AreKnown v.conflicts) (sym reserved_row) (planned_known (owed_steps cs m.events i)
                 (subst (λ n. Each (λ x. x < n) (owed_steps cs m.events i)) (let e : length t.kinds ≡ length p.ops = omega arith in e) (owed_within (eqb (fixed_len t w) 0)))),
           )
 
@@ -218,7 +218,7 @@ module _ (v : CoreState) (core : IsCore v) (d : Piece) (may : may_be_kept (relat
 
     -- the row with these reserved and this under way
     abbrev row_with : List Entry → Option Entry → OpenProcess → OpenProcess
-    row_with es e r = with_reserved (pairs_of es) (with_running e r)
+    row_with es e r = with_reserved (planned_of es) (with_running e r)
 
     abbrev tables_with : (OpenProcess → OpenProcess) → Tables
     tables_with f = record { conflicts = v.conflicts; net = ts.net; processes = change_numbered f d.process (map (row_of (courses_in v) (moment_of v)) (active (moment_of v).events)) }
@@ -227,27 +227,27 @@ module _ (v : CoreState) (core : IsCore v) (d : Piece) (may : may_be_kept (relat
     same_change f g same = ap (λ rs. record { conflicts = v.conflicts; net = ts.net; processes = rs }) (change_same f g i ts.processes (ap f row_is ∙ (same ∙ ap g (sym row_is))))
 
     -- where nothing is reserved anew
-    runs_alone : (b op : ℕ) (u : Bool) → run (record { process = d.process; step = b; op = op; undo = u }) ts ≡ tables_with (row_with (held ++ []) (Some (record { process = d.process; step = b; op = op; undo = u })))
-    runs_alone b op u = let e : Entry = record { process = d.process; step = b; op = op; undo = u } in same_change (with_running (Some e)) (row_with (held ++ []) (Some e)) (ap (λ es. row_with es (Some e) (row_of cs m i)) (sym (append-nil held)))
+    runs_alone : (b op key : ℕ) (u : Bool) → run (record { process = d.process; step = b; op = op; key = key; undo = u }) ts ≡ tables_with (row_with (held ++ []) (Some (record { process = d.process; step = b; op = op; key = key; undo = u })))
+    runs_alone b op key u = let e : Entry = record { process = d.process; step = b; op = op; key = key; undo = u } in same_change (with_running (Some e)) (row_with (held ++ []) (Some e)) (ap (λ es. row_with es (Some e) (row_of cs m i)) (sym (append-nil held)))
 
-    entry_pairs : (bs : List ℕ) → map (step_pair p) bs ≡ pairs_of (map (entry_of p i) bs)
-    entry_pairs [] = refl
-    entry_pairs (b ∷ bs) = ap (λ ps. step_pair p b ∷ ps) (entry_pairs bs)
+    entries_planned : (bs : List ℕ) → map (planned_step p) bs ≡ planned_of (map (entry_of p i) bs)
+    entries_planned [] = refl
+    entries_planned (b ∷ bs) = ap (λ ps. planned_step p b ∷ ps) (entries_planned bs)
 
     module _ (b : ℕ) (next : next_of cs m i ≡ record { work = Forward; step = b }) where
       reserves : class_in cs m.events i b ≡ committing → step_under_way p i b ts committing ≡ tables_with (row_with (held ++ owed_after cs m.events i b) (Some (entry_of p i b)))
       reserves is =
           let e = entry_of p i b in
-          let pairs : (kept_of ts i).reserved ++ pairs_behind p b ≡ pairs_of (held ++ owed_after cs m.events i b) =
-          ap (λ (r : OpenProcess). r.reserved ++ pairs_behind p b) row_is
-          ∙ (ap (λ ps. pairs_of held ++ ps) (entry_pairs (last_after (shape_of p.tree) (branch_to (shape_of p.tree) b ++ b ∷ [])) ∙ ap pairs_of (owed_is v.conflicts cs m i p listed own.course' idle_now b (next_branch v core i active_now b next) is))
-          ∙ sym (map-append (λ (x : Entry). (x.step, x.op)) held (owed_after cs m.events i b))) in
-          ap (λ ps. changed (with_reserved ps) i (run e ts)) pairs
-          ∙ ap (λ rs. record { conflicts = v.conflicts; net = ts.net; processes = rs }) (changed_twice (with_running (Some e)) (with_reserved (pairs_of (held ++ owed_after cs m.events i b))) i ts.processes (λ r. refl))
+          let planned : (kept_of ts i).reserved ++ planned_behind p b ≡ planned_of (held ++ owed_after cs m.events i b) =
+          ap (λ (r : OpenProcess). r.reserved ++ planned_behind p b) row_is
+          ∙ (ap (λ ps. planned_of held ++ ps) (entries_planned (last_after (shape_of p.tree) (branch_to (shape_of p.tree) b ++ b ∷ [])) ∙ ap planned_of (owed_is v.conflicts cs m i p listed own.course' idle_now b (next_branch v core i active_now b next) is))
+          ∙ sym (map-append (λ (x : Entry). (x.step, x.op, x.key)) held (owed_after cs m.events i b))) in
+          ap (λ ps. changed (with_reserved ps) i (run e ts)) planned
+          ∙ ap (λ rs. record { conflicts = v.conflicts; net = ts.net; processes = rs }) (changed_twice (with_running (Some e)) (with_reserved (planned_of (held ++ owed_after cs m.events i b))) i ts.processes (λ r. refl))
 
       by_class : (k : StepClass) → class_in cs m.events i b ≡ k → step_under_way p i b ts k ≡ tables_with (row_with (held ++ owed_by_class k (owed_after cs m.events i b)) (Some (entry_of p i b)))
-      by_class reserved is = runs_alone b (slice_index_or p.ops b 0) false
-      by_class undoable is = runs_alone b (slice_index_or p.ops b 0) false
+      by_class reserved is = runs_alone b (slice_index_or p.ops b 0) (key_of p.tree b) false
+      by_class undoable is = runs_alone b (slice_index_or p.ops b 0) (key_of p.tree b) false
       by_class committing is = reserves is
 
       step_comes : under_way p i b ts Forward ≡ tables_with (row_with (held ++ owed_by_work cs m.events i b Forward) (Some (doing cs i b)))
@@ -258,13 +258,13 @@ module _ (v : CoreState) (core : IsCore v) (d : Piece) (may : may_be_kept (relat
 
     comes_by : (x : Work) (b : ℕ) → next_of cs m i ≡ record { work = x; step = b } → under_way p i b ts x ≡ tables_with (row_with (held ++ owed_by_work cs m.events i b x) (entry_by cs i b x))
     comes_by Forward b next = step_comes b next
-    comes_by Undo b next = runs_alone b (slice_index_or p.ops b 0) true ∙ ap (λ e. tables_with (row_with (held ++ []) (Some (undo_of e)))) (entry_is v.conflicts cs m i p listed own.course' b)
+    comes_by Undo b next = runs_alone b (slice_index_or p.ops b 0) (key_of p.tree b) true ∙ ap (λ e. tables_with (row_with (held ++ []) (Some (undo_of e)))) (entry_is v.conflicts cs m i p listed own.course' b)
     comes_by End b next =
         sym (ap (λ rs. record { conflicts = v.conflicts; net = ts.net; processes = rs }) (change_none (row_with (held ++ []) None) i ts.processes
         (ap (row_with (held ++ []) None) row_is ∙ (ap (λ es. row_with es None (row_of cs m i)) (append-nil held) ∙ (ap (λ o. with_running o (row_of cs m i)) (sym (ap (λ o. entry_running cs o) idle_now)) ∙ sym row_is)))))
 
     -- what it makes of the tables
     pub tables_under_way : under_way p d.process d.step (tables_of v.conflicts (courses_in v) (moment_of v)) d.work
-        ≡ changed (λ r. with_reserved (pairs_of ((hold_of (courses_in v) (moment_of v) d.process).reserved ++ owed_by_work (courses_in v) (moment_of v).events d.process d.step d.work)) (with_running (entry_by (courses_in v) d.process d.step d.work) r))
+        ≡ changed (λ r. with_reserved (planned_of ((hold_of (courses_in v) (moment_of v) d.process).reserved ++ owed_by_work (courses_in v) (moment_of v).events d.process d.step d.work)) (with_running (entry_by (courses_in v) d.process d.step d.work) r))
         d.process (tables_of v.conflicts (courses_in v) (moment_of v))
     tables_under_way = comes_by d.work d.step next_is

@@ -8,7 +8,7 @@ use Rattle.process_tree.specs.Order.{Each}
 use Rattle.process_tree.specs.Recovery.{last_after, last_path, with_rest}
 use Rattle.process_tree.specs.Shape.{Shape, branch_to, greatest, next_steps, shape_of}
 use Rattle.process_tree.proofs.InTurn.{goes_within, greatest_is}
-use Rattle.core_state.specs.OpenTables.{pairs_behind, step_pair}
+use Rattle.core_state.specs.OpenTables.{planned_behind, planned_step}
 
 pub last_within : (t : Shape) (c n : ℕ) (v : List ℕ) → Each (Each (λ b. b < c)) t.paths → Each (λ b. b < c) (last_path n t v)
 last_within t c zero v within = tt
@@ -31,19 +31,19 @@ known_op [] most b each within = absurd (omega arith)
 known_op (op ∷ ops) most zero each within = each.0
 known_op (op ∷ ops) most (suc b) each within = known_op ops most b each.1 (omega arith)
 
-pub known_pairs : (p : Plan) (most : ℕ) (bs : List ℕ) → Each (λ op. op < most) p.ops → Each (λ b. b < length p.ops) bs → Each (λ (pair : ℕ × ℕ). pair.1 < most) (map (step_pair p) bs)
-known_pairs p most [] known within = tt
-known_pairs p most (b ∷ bs) known within = (known_op p.ops most b known within.0, known_pairs p most bs known within.1)
+pub steps_known : (p : Plan) (most : ℕ) (bs : List ℕ) → Each (λ op. op < most) p.ops → Each (λ b. b < length p.ops) bs → Each (λ (step : ℕ × ℕ × ℕ). step.1 < most) (map (planned_step p) bs)
+steps_known p most [] known within = tt
+steps_known p most (b ∷ bs) known within = (known_op p.ops most b known within.0, steps_known p most bs known within.1)
 
 -- of a plan whose steps have operations that a table has, those that follow a step have
-pub pairs_known : (p : Plan) (most b : ℕ) → Each (Each (λ b. b < length p.ops)) (shape_of p.tree).paths → Each (λ op. op < most) p.ops → Each (λ (pair : ℕ × ℕ). pair.1 < most) (pairs_behind p b)
-pairs_known p most b within known =
-    let t = shape_of p.tree in known_pairs p most (last_after t (branch_to t b ++ b ∷ [])) known (last_within t (length p.ops) (length t.kinds) (branch_to t b ++ b ∷ []) within)
+pub planned_known : (p : Plan) (most b : ℕ) → Each (Each (λ b. b < length p.ops)) (shape_of p.tree).paths → Each (λ op. op < most) p.ops → Each (λ (step : ℕ × ℕ × ℕ). step.1 < most) (planned_behind p b)
+planned_known p most b within known =
+    let t = shape_of p.tree in steps_known p most (last_after t (branch_to t b ++ b ∷ [])) known (last_within t (length p.ops) (length t.kinds) (branch_to t b ++ b ∷ []) within)
 
-pub pairs_few : (p : Plan) (b : ℕ) → length (pairs_behind p b) ≤ length (outline p.tree).steps
-pairs_few p b =
+pub planned_few : (p : Plan) (b : ℕ) → length (planned_behind p b) ≤ length (outline p.tree).steps
+planned_few p b =
     let t = shape_of p.tree in
     let few = last_few t (length t.kinds) (branch_to t b ++ b ∷ []) in
-    let one = length-map (last_after t (branch_to t b ++ b ∷ [])) (step_pair p) in
+    let one = length-map (last_after t (branch_to t b ++ b ∷ [])) (planned_step p) in
     let two = length-map (outline p.tree).steps (λ (s : Step). s.kind) in
     omega arith

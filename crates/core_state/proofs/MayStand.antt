@@ -31,7 +31,7 @@ use Rattle.machine_model.proofs.TidyMoments.{every}
 use Rattle.hold_tables.specs.Tables.{OpenProcess, has_number, is_open, kept_of, numbered}
 use Rattle.hold_tables.specs.Changes.{can_run, is_new_step, undoes_last}
 use Rattle.core_state.specs.Cores.{IsCore, opened_on}
-use Rattle.core_state.specs.OpenTables.{pairs_of, row_at, stood, tables_at}
+use Rattle.core_state.specs.OpenTables.{planned_of, row_at, stood, tables_at}
 use Rattle.core_state.proofs.LastSteps.{known_op}
 use Rattle.core_state.proofs.NetEntries.{ComesBehind, branch_is_net, step_is_new, step_is_one}
 use Rattle.core_state.proofs.StartedProcesses.{course_at}
@@ -124,7 +124,7 @@ module _ (conflicts : Table) (plans : List Plan) (h : List Event) (core : IsCore
         let many = good_plan.operations in
         let one = its_step in
         let known = known_op p.ops (operations_in conflicts) e.step its_operations (omega arith) in
-        let same = comes.op ∙ ap (λ (c : Course). slice_index_or c.ops e.step 0) its_course in
+        let same = ap (λ a. a.op) comes.access ∙ ap (λ (c : Course). slice_index_or c.ops e.step 0) its_course in
         omega arith
 
   pub kept_idle : (kept_of (tables_at conflicts (courses_of plans) (active h) es) e.process).running ≡ None
@@ -175,5 +175,5 @@ passed_over conflicts courses is es e out =
 
     stays : (k : ℕ) → eqb e.process k ≡ false → row_at courses (es ++ e ∷ []) k ≡ row_at courses es k
     stays k other =
-        ap (λ (xs : List Entry). record { process = k; steps = length (shape courses k).kinds; running = None; reserved = pairs_of (map (doing courses k) (forward (shape courses k) (steps_of xs))); fixed = fixed_len (shape courses k) (steps_of xs); pending = 0 })
+        ap (λ (xs : List Entry). record { process = k; steps = length (shape courses k).kinds; running = None; reserved = planned_of (map (doing courses k) (forward (shape courses k) (steps_of xs))); fixed = fixed_len (shape courses k) (steps_of xs); pending = 0 })
         (of_process-append k es (e ∷ []) ∙ (ap (λ c. of_process k es ++ (if c then e ∷ [] else [])) other ∙ append-nil (of_process k es)))

@@ -5,6 +5,7 @@ use Rattle.std.proofs.Math.Seq.{drop-cons}
 use Rattle.std.proofs.lemmas.List.{map-append, take-append-drop}
 use Rattle.std.proofs.lemmas.List.Elements.{All-contains}
 use Rattle.std.proofs.lemmas.Bool.{eq-eqb, ne_eqb, or_from}
+use Rattle.process_tree.specs.Entries.{access_of}
 use Rattle.process_tree.specs.declared.entry.Entry.{Entry}
 use Rattle.process_tree.specs.declared.plan.Plan.{Plan}
 use Rattle.process_tree.specs.Order.{Each, IsRising}
@@ -15,7 +16,7 @@ use Rattle.process_tree.proofs.Branches.{Each-among}
 use Rattle.process_tree.proofs.TreeLaws.{paths_lie_in_order}
 use Rattle.schedule_model.specs.declared.event.Event.{Event}
 use Rattle.schedule_model.specs.Conflict.{no_conflict}
-use Rattle.schedule_model.specs.Course.{Course, courses_of, op_of, shape}
+use Rattle.schedule_model.specs.Course.{Course, courses_of, shape, access_at}
 use Rattle.schedule_model.specs.Histories.{acts, is_in, net, net_of, net_steps, of_process, steps_of}
 use Rattle.schedule_model.specs.Laws.{AreGood}
 use Rattle.schedule_model.specs.Legal.{is_legal}
@@ -31,7 +32,7 @@ use Rattle.schedule_rules.proofs.Branches.{prefix_goes}
 pub record ComesBehind (courses : List Course) (es : List Entry) (e : Entry) : Type 0 where
   pub goes : goes_on_to (shape courses e.process) (steps_of (of_process e.process es)) e.step ≡ true
   pub forward : e.undo ≡ false
-  pub op : e.op ≡ op_of courses e.process e.step
+  pub access : access_of e ≡ access_at courses e.process e.step
 
 module _ (plans : List Plan) (good : AreGood plans) (h : List Event) (legal : IsTrue (is_legal no_conflict (courses_of plans) h)) where
   pub comes_at : (front rest : List Entry) (e : Entry) → net h ≡ front ++ e ∷ rest → ComesBehind (courses_of plans) front e
@@ -44,7 +45,7 @@ module _ (plans : List Plan) (good : AreGood plans) (h : List Event) (legal : Is
         ap steps_of own ∙ map-append (λ (x : Entry). x.step) (of_process i front) (e ∷ of_process i rest) in
         prefix_goes (shape (courses_of plans) i) (net_steps h i) (steps_of (of_process i front)) (steps_of (of_process i rest)) e.step (net-branch (courses_of plans) i h legal) steps;
     forward = All-contains (λ (x : Entry). x.undo ≡ false) (net h) e (net_acts-forward (acts h)) (contains-from_among e (net h) (subst (Among e) (sym is) (among_there front e rest)));
-    op = net-of_plans plans good h legal e (subst (Among e) (sym is) (among_there front e rest));
+    access = net-of_plans plans good h legal e (subst (Among e) (sym is) (among_there front e rest));
   }
 
   -- so it is at each place

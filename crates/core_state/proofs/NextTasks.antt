@@ -8,7 +8,7 @@ use Rattle.std.proofs.lemmas.List.Elements.{All-contains}
 use Rattle.process_tree.specs.declared.entry.Entry.{Entry}
 use Rattle.process_tree.specs.Shape.{branch_to, fixed_len, goes_on_to}
 use Rattle.schedule_model.specs.Conflict.{no_conflict}
-use Rattle.schedule_model.specs.Course.{Course, op_of, shape}
+use Rattle.schedule_model.specs.Course.{Course, op_of, shape, key_of}
 use Rattle.schedule_model.specs.Histories.{active, acts, doing, done_steps, is_active, is_in, net, net_of, net_steps, undoing}
 use Rattle.schedule_model.specs.Legal.{is_legal}
 use Rattle.schedule_model.specs.OwnOrder.{goes_on, is_of_last}
@@ -94,7 +94,7 @@ module _ (c : CoreState) (core : IsCore c) (i : ℕ) (active' : is_active (momen
     pub comes_next : ComesBehind (courses_in c) (net (moment_of c).events) (doing (courses_in c) i b)
     comes_next =
         let on = and_parts _ (goes_on cs m.events i b) (subst Keeps next keeps) in
-        record { goes = (and_parts (goes_on_to (shape cs i) w b) (list_all (λ d. ltb d b) (done_steps m.events i)) on.1).0; forward = refl; op = refl }
+        record { goes = (and_parts (goes_on_to (shape cs i) w b) (list_all (λ d. ltb d b) (done_steps m.events i)) on.1).0; forward = refl; access = refl }
 
     pub next_branch : branch_to (shape (courses_in c) i) b ≡ net_steps (moment_of c).events i
     next_branch = branch_is_net c.plans core.session.good (net m.events) (doing cs i b) comes_next
@@ -108,12 +108,12 @@ module _ (c : CoreState) (core : IsCore c) (i : ℕ) (active' : is_active (momen
   -- an entry of the net is its step taking effect
   pub net_entry_is : (e : Entry) → Among e (net (moment_of c).events) → (b : ℕ) → e.process ≡ i → e.step ≡ b → e ≡ doing (courses_in c) i b
   net_entry_is e among b own step =
-      let op = net-of_plans c.plans core.session.good m.events legal e among in
+      let access = net-of_plans c.plans core.session.good m.events legal e among in
       let plain = All-contains (λ (x : Entry). x.undo ≡ false) (net m.events) e (net_acts-forward (acts m.events)) (contains-from_among e (net m.events) among) in
-      ap (λ u. record { process = e.process; step = e.step; op = e.op; undo = u }) plain
-      ∙ (ap (λ o. record { process = e.process; step = e.step; op = o; undo = false }) op
-      ∙ (ap (λ k. record { process = k; step = e.step; op = op_of cs k e.step; undo = false }) own
-      ∙ ap (λ s. record { process = i; step = s; op = op_of cs i s; undo = false }) step))
+      ap (λ u. record { process = e.process; step = e.step; op = e.op; key = e.key; undo = u }) plain
+      ∙ (ap (λ a. record { process = e.process; step = e.step; op = a.op; key = a.key; undo = false }) access
+      ∙ (ap (λ k. record { process = k; step = e.step; op = op_of cs k e.step; key = key_of cs k e.step; undo = false }) own
+      ∙ ap (λ s. record { process = i; step = s; op = op_of cs i s; key = key_of cs i s; undo = false }) step))
 
   module _ (b : ℕ) (next : next_of (courses_in c) (moment_of c) i ≡ record { work = Undo; step = b }) where
     last_is : is_of_last (backward_entries cs m.events i) (undoing (doing cs i b)) ≡ true

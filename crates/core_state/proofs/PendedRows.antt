@@ -27,7 +27,7 @@ use Rattle.instance_state.specs.Instances.{InstanceState}
 use Rattle.hold_tables.specs.Changes.{changed, with_pending}
 use Rattle.hold_tables.specs.Tables.{OpenProcess, has_number, is_open}
 use Rattle.core_state.specs.Cores.{IsCore, opened_on}
-use Rattle.core_state.specs.OpenTables.{pairs_of, row_at, row_of, row_up_to, tables_at, tables_of, tables_up_to}
+use Rattle.core_state.specs.OpenTables.{planned_of, row_at, row_of, row_up_to, tables_at, tables_of, tables_up_to}
 use Rattle.core_state.specs.Seats.{SeatState, instance_of, seat_of, seats_of}
 use Rattle.core_state.proofs.MayStand.{rising_apart}
 use Rattle.core_state.proofs.SeatFacts.{length-numbers, seat_at}
@@ -86,8 +86,8 @@ module _ (courses : List Course) (h : List Event) where
   -- the row of a process with what it has to undo
   row_pended : (i count : ℕ) → count ≡ pending_count (process_state courses (opening_moment h) i) → with_pending count (row_at courses (net h) i) ≡ row_of courses (opening_moment h) i
   row_pended i count is =
-      ap (λ (p : ℕ). record { process = i; steps = length (shape courses i).kinds; running = None; reserved = pairs_of (owed courses h i); fixed = fixed_len (shape courses i) (net_steps h i); pending = p }) (is ∙ count_is i)
-      ∙ ap (λ (es : List Entry). record { process = i; steps = length (shape courses i).kinds; running = None; reserved = pairs_of es; fixed = fixed_len (shape courses i) (net_steps h i); pending = length (hold_of courses m i).pending }) (sym (append-nil (owed courses h i)))
+      ap (λ (p : ℕ). record { process = i; steps = length (shape courses i).kinds; running = None; reserved = planned_of (owed courses h i); fixed = fixed_len (shape courses i) (net_steps h i); pending = p }) (is ∙ count_is i)
+      ∙ ap (λ (es : List Entry). record { process = i; steps = length (shape courses i).kinds; running = None; reserved = planned_of es; fixed = fixed_len (shape courses i) (net_steps h i); pending = length (hold_of courses m i).pending }) (sym (append-nil (owed courses h i)))
 
 module _ (conflicts : Table) (plans : List Plan) (h : List Event) (core : IsCore (opened_on conflicts plans h)) where
   abbrev cs : List Course

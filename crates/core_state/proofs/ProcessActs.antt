@@ -3,12 +3,14 @@ use Rattle.std.proofs.Common.{◌≡◌, Bool, true, false, not, cond, eqb, ◌&
 use Rattle.std.specs.Bool.{IsTrue}
 use Rattle.std.specs.List.{list_any, list_all}
 use Rattle.std.proofs.lemmas.Bool.{and_parts, and_from, eqb-true}
+use Rattle.process_tree.specs.Entries.{access_of}
+use Rattle.process_tree.specs.Conflicts.{same_access}
 use Rattle.process_tree.specs.declared.entry.Entry.{Entry}
 use Rattle.process_tree.specs.declared.plan.Plan.{Plan}
 use Rattle.process_tree.specs.Shape.{Shape, fixed_len, goes_on_to}
 use Rattle.schedule_model.specs.declared.event.Event.{Event}
 use Rattle.schedule_model.specs.declared.event.Event.TheVariants.{Start, Act, End}
-use Rattle.schedule_model.specs.Course.{Course, course, courses_of, op_of, shape}
+use Rattle.schedule_model.specs.Course.{Course, course, courses_of, shape, access_at}
 use Rattle.schedule_model.specs.Histories.{acts, done_steps, is_active, net_acts, net_steps, of_process, steps_of, takes_back}
 use Rattle.schedule_model.specs.OwnOrder.{goes_on, is_in_own_order, is_of_last, keeps_order}
 use Rattle.schedule_model.specs.Recovery.{backward_entries}
@@ -90,7 +92,7 @@ follows_push t before (x ∷ es) e all may =
 module _ (courses : List Course) (i : ℕ) where
   -- what keeps the order of a process may follow its acts
   follows_own : (h : List Event) (e : Entry) → e.process ≡ i → IsTrue (keeps_order courses h (Act e)) → may_follow (shape courses i) (of_process i (acts h)) e ≡ true
-  follows_own h e own keeps = by_undo e.undo refl (and_parts (is_active h e.process && eqb e.op (op_of courses e.process e.step)) _ keeps).1
+  follows_own h e own keeps = by_undo e.undo refl (and_parts (is_active h e.process && same_access (access_of e) (access_at courses e.process e.step)) _ keeps).1
     where
       step : (j : ℕ) → j ≡ i → goes_on courses h j e.step ≡ goes_further (shape courses i) (of_process i (acts h)) e.step
       step j same = ap (λ k. goes_on courses h k e.step) same ∙ (ap (λ w. goes_on_to (shape courses i) w e.step && list_all (λ d. ltb d e.step) (done_steps h i)) (net_steps_own h i)

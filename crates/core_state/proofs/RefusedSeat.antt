@@ -38,7 +38,7 @@ use Rattle.machine_model.proofs.OwnEvents.{refused_begins_without_way_on}
 use Rattle.hold_tables.specs.Tables.{OpenProcess}
 use Rattle.core_state.specs.Beginnings.{began_refused, refused_row, refused_row_of, refused_seat}
 use Rattle.core_state.specs.Cores.{CoreState, IsCore, courses_in, machine_of, moment_of, relation}
-use Rattle.core_state.specs.OpenTables.{pairs_of, row_of}
+use Rattle.core_state.specs.OpenTables.{planned_of, row_of}
 use Rattle.core_state.specs.Seats.{lost_by, seat_of}
 use Rattle.core_state.proofs.BegunLost.{lost_at, lost_then, none_lost}
 use Rattle.core_state.proofs.BegunOne.{owed_first}
@@ -223,8 +223,8 @@ module _ (c : CoreState) (core : IsCore c) (d : Piece) (found : piece_of c.kept 
       ∙ (ap (λ x. record { instance = Some (record { course = course cs root; state = x }); out = option_map (λ (q : Piece). q.number) (running_of after root); lost = option_map (λ (l : Lost). l.piece.number) (lost_by after root); began = option_map (λ (b : Beginning). b.began) (beginning_of after root) }) (sym state_refused)
       ∙ ap (λ t. record { instance = if t then Some (record { course = course cs root; state = process_state cs after root }) else None; out = option_map (λ (q : Piece). q.number) (running_of after root); lost = option_map (λ (l : Lost). l.piece.number) (lost_by after root); began = option_map (λ (b : Beginning). b.began) (beginning_of after root) }) (sym still_active)))))
 
-  abbrev row_by : List (ℕ × ℕ) → ℕ → ℕ → OpenProcess
-  row_by pairs f p = record { process = d.process; steps = length (shape (courses_in c) d.process).kinds; running = None; reserved = pairs; fixed = f; pending = p }
+  abbrev row_by : List (ℕ × ℕ × ℕ) → ℕ → ℕ → OpenProcess
+  row_by planned f p = record { process = d.process; steps = length (shape (courses_in c) d.process).kinds; running = None; reserved = planned; fixed = f; pending = p }
 
   pending_is : pending_count (was_refused s) ≡ length (pending_of cs after root)
   pending_is =
@@ -235,17 +235,17 @@ module _ (c : CoreState) (core : IsCore c) (d : Piece) (found : piece_of c.kept 
       let e = length-map (net_of after.events root) (λ (x : Entry). x.step) in
       omega arith
 
-  reserved_after : pairs_of (hold_of cs after root).reserved ≡ pairs_of (owed cs m.events root)
+  reserved_after : planned_of (hold_of cs after root).reserved ≡ planned_of (owed cs m.events root)
   reserved_after =
-      ap (λ o. pairs_of (owed cs after.events root ++ owed_soon cs after.events o)) stops
-      ∙ (ap pairs_of (append-nil (owed cs after.events root)) ∙ ap (λ h. pairs_of (owed cs h root)) events_stay)
+      ap (λ o. planned_of (owed cs after.events root ++ owed_soon cs after.events o)) stops
+      ∙ (ap planned_of (append-nil (owed cs after.events root)) ∙ ap (λ h. planned_of (owed cs h root)) events_stay)
 
   -- its row
   pub refused_row_is : refused_row (seat_of (courses_in c) (moment_of c) d.process) (row_of (courses_in c) (moment_of c) d.process) ≡ row_of (courses_in c) (advance (relation c) (courses_in c) (moment_of c) (Refuse d.number)) d.process
   refused_row_is =
       let f = fixed_len (shape cs root) (net_steps m.events root) in
       ap (λ t. refused_row_of (if t then Some (record { course = course cs root; state = s }) else None) (row_of cs m root)) (refused_active c core d found may)
-      ∙ (ap (λ p. row_by (take (length (forward (shape cs root) (net_steps m.events root))) (pairs_of (hold_of cs m root).reserved)) f p) pending_is
-      ∙ (ap (λ pairs. row_by pairs f (length (pending_of cs after root))) (sym (owed_first cs m root) ∙ sym reserved_after)
-      ∙ (ap (λ h. row_by (pairs_of (hold_of cs after root).reserved) (fixed_len (shape cs root) (net_steps h root)) (length (pending_of cs after root))) (sym events_stay)
-      ∙ ap (λ o. record { process = root; steps = length (shape cs root).kinds; running = entry_of cs o; reserved = pairs_of (hold_of cs after root).reserved; fixed = fixed_len (shape cs root) (net_steps after.events root); pending = length (pending_of cs after root) }) (sym stops))))
+      ∙ (ap (λ p. row_by (take (length (forward (shape cs root) (net_steps m.events root))) (planned_of (hold_of cs m root).reserved)) f p) pending_is
+      ∙ (ap (λ planned. row_by planned f (length (pending_of cs after root))) (sym (owed_first cs m root) ∙ sym reserved_after)
+      ∙ (ap (λ h. row_by (planned_of (hold_of cs after root).reserved) (fixed_len (shape cs root) (net_steps h root)) (length (pending_of cs after root))) (sym events_stay)
+      ∙ ap (λ o. record { process = root; steps = length (shape cs root).kinds; running = entry_of cs o; reserved = planned_of (hold_of cs after root).reserved; fixed = fixed_len (shape cs root) (net_steps after.events root); pending = length (pending_of cs after root) }) (sym stops))))

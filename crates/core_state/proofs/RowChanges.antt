@@ -8,7 +8,7 @@ use Rattle.schedule_model.specs.Histories.{of_process}
 use Rattle.hold_tables.specs.Tables.{OpenProcess, Tables, has_number, is_open, kept_of, numbered}
 use Rattle.hold_tables.specs.Changes.{all_fixed, change_numbered, changed, run, took_effect, with_fixed, with_reserved, with_running}
 use Rattle.core_state.specs.Effects.{step_effected}
-use Rattle.core_state.specs.OpenTables.{pairs_behind}
+use Rattle.core_state.specs.OpenTables.{planned_behind}
 use Rattle.hold_tables.proofs.Tidy.{KeepsPlan, numbers_stay}
 
 -- a change of a row doesn't change who is open
@@ -55,13 +55,13 @@ fixed_open i t open' = open_changed (with_fixed (length (of_process i t.net))) i
 pub fixed_row : (i : ℕ) (t : Tables) → is_open t i ≡ true → kept_of (all_fixed i t) i ≡ with_fixed (length (of_process i t.net)) (kept_of t i)
 fixed_row i t open' = row_changed (with_fixed (length (of_process i t.net))) i t.processes (fixed_keeps (length (of_process i t.net))) open'
 
-pub reserved_open : (pairs : List (ℕ × ℕ)) (i : ℕ) (t : Tables) → is_open t i ≡ true → is_open (changed (with_reserved pairs) i t) i ≡ true
-reserved_open pairs i t open' = open_changed (with_reserved pairs) i i t.processes (λ r. (refl, refl)) ∙ open'
+pub reserved_open : (planned : List (ℕ × ℕ × ℕ)) (i : ℕ) (t : Tables) → is_open t i ≡ true → is_open (changed (with_reserved planned) i t) i ≡ true
+reserved_open planned i t open' = open_changed (with_reserved planned) i i t.processes (λ r. (refl, refl)) ∙ open'
 
 -- an effect of a step leaves its process open
 pub step_open : (p : Plan) (i b : ℕ) (t : Tables) → is_open t i ≡ true → is_open (step_effected p i b t) i ≡ true
 step_open p i b t open' = by_kind (commits (kind_of (shape_of p.tree) b))
   where
-    by_kind : (k : Bool) → is_open (if k then changed (with_reserved (pairs_behind p b)) i (all_fixed i (took_effect i t)) else took_effect i t) i ≡ true
-    by_kind true = reserved_open (pairs_behind p b) i (all_fixed i (took_effect i t)) (fixed_open i (took_effect i t) (effect_open i t open'))
+    by_kind : (k : Bool) → is_open (if k then changed (with_reserved (planned_behind p b)) i (all_fixed i (took_effect i t)) else took_effect i t) i ≡ true
+    by_kind true = reserved_open (planned_behind p b) i (all_fixed i (took_effect i t)) (fixed_open i (took_effect i t) (effect_open i t open'))
     by_kind false = effect_open i t open'

@@ -27,7 +27,7 @@ use Rattle.machine_model.proofs.RunInduction.{IsKeptByBeginnings, advance-keeps,
 use Rattle.machine_model.proofs.Snoc.{now-kept}
 use Rattle.machine_model.proofs.TidyMoments.{run-tidy}
 use Rattle.core_state.specs.Cores.{CoreState, IsCore, courses_in, machine_of, moment_of, relation}
-use Rattle.core_state.specs.OpenTables.{pairs_of, row_of}
+use Rattle.core_state.specs.OpenTables.{planned_of, row_of}
 use Rattle.core_state.specs.Seats.{SeatState, instance_of, lost_by, seat_of}
 use Rattle.instance_state.specs.Instances.{InstanceState}
 use Rattle.machine_model.specs.ProcessState.{ProcessState}
@@ -128,8 +128,8 @@ module _ (c : CoreState) (core : IsCore c) (k : Kept) (may : may_be_kept (relati
 
     pub row_frame : row_of (courses_in c) (advance (relation c) (courses_in c) (moment_of c) k) i ≡ row_of (courses_in c) (moment_of c) i
     row_frame =
-        ap (λ (h : Hold). record { process = i; steps = length (shape cs i).kinds; running = h.running; reserved = pairs_of h.reserved; fixed = fixed_len (shape cs i) (net_steps after.events i); pending = length h.pending }) others.2
-        ∙ (let h = hold_of cs m i in ap (λ w. record { process = i; steps = length (shape cs i).kinds; running = h.running; reserved = pairs_of h.reserved; fixed = fixed_len (shape cs i) w; pending = length h.pending }) steps_stay)
+        ap (λ (h : Hold). record { process = i; steps = length (shape cs i).kinds; running = h.running; reserved = planned_of h.reserved; fixed = fixed_len (shape cs i) (net_steps after.events i); pending = length h.pending }) others.2
+        ∙ (let h = hold_of cs m i in ap (λ w. record { process = i; steps = length (shape cs i).kinds; running = h.running; reserved = planned_of h.reserved; fixed = fixed_len (shape cs i) w; pending = length h.pending }) steps_stay)
 
   module _ (started : is_in i (starts (moment_of c).events) ≡ true) where
     -- it stays active, or not

@@ -31,7 +31,7 @@ use Rattle.machine_model.proofs.Snoc.{advance_all-append}
 use Rattle.instance_state.specs.Instances.{InstanceState}
 use Rattle.hold_tables.specs.Tables.{OpenProcess}
 use Rattle.core_state.specs.Cores.{CoreState, IsCore, courses_in, machine_of, moment_of, relation}
-use Rattle.core_state.specs.OpenTables.{pairs_of, row_of}
+use Rattle.core_state.specs.OpenTables.{planned_of, row_of}
 use Rattle.core_state.specs.Seats.{instance_of, seat_of}
 
 at_seam : (cs : List Course) (c d : Course) → slice_index_or (cs ++ c ∷ []) (length cs) d ≡ c
@@ -131,7 +131,7 @@ module _ (c : CoreState) (core : IsCore c) (p : Plan) where
     seat_stays = let s = seat_of cs m k in ap (λ o. record { instance = o; out = s.out; lost = s.lost; began = s.began }) instance_stays
 
     abbrev row_by : Hold → Shape → List ℕ → OpenProcess
-    row_by h t w = record { process = k; steps = length t.kinds; running = h.running; reserved = pairs_of h.reserved; fixed = fixed_len t w; pending = length h.pending }
+    row_by h t w = record { process = k; steps = length t.kinds; running = h.running; reserved = planned_of h.reserved; fixed = fixed_len t w; pending = length h.pending }
 
     -- and so does its row
     pub row_stays : row_of (courses_in c ++ course_of p ∷ []) (after_start (moment_of c)) k ≡ row_of (courses_in c) (moment_of c) k

@@ -35,7 +35,7 @@ use Rattle.machine_model.proofs.WaysOn.{drop_past}
 use Rattle.instance_state.specs.Instances.{InstanceState, opened}
 use Rattle.hold_tables.specs.Tables.{holds_nothing}
 use Rattle.core_state.specs.Cores.{CoreState, IsCore, courses_in, machine_of, moment_of, relation}
-use Rattle.core_state.specs.OpenTables.{pairs_of, row_of}
+use Rattle.core_state.specs.OpenTables.{planned_of, row_of}
 use Rattle.core_state.specs.Seats.{SeatState, lost_by, seat_of}
 use Rattle.core_state.proofs.BegunStarted.{run-started}
 use Rattle.core_state.proofs.ProcessActs.{net_own, opens_by_acts}
@@ -145,6 +145,6 @@ module _ (c : CoreState) (core : IsCore c) (p : Plan) where
   -- its row
   pub row_new : row_of (courses_in c ++ course_of p ∷ []) (after_start (moment_of c)) (length (starts (moment_of c).events) + 1) ≡ holds_nothing (length (starts (moment_of c).events) + 1) (length (outline p.tree).steps)
   row_new =
-      ap (λ (h : Hold). record { process = i; steps = length (shape ds i).kinds; running = h.running; reserved = pairs_of h.reserved; fixed = fixed_len (shape ds i) (net_steps after.events i); pending = length h.pending }) hold_new
+      ap (λ (h : Hold). record { process = i; steps = length (shape ds i).kinds; running = h.running; reserved = planned_of h.reserved; fixed = fixed_len (shape ds i) (net_steps after.events i); pending = length h.pending }) hold_new
       ∙ (ap (λ (es : List Entry). record { process = i; steps = length (shape ds i).kinds; running = None; reserved = []; fixed = fixed_len (shape ds i) (steps_of es); pending = 0 }) none_net
       ∙ ap (λ n. record { process = i; steps = n; running = None; reserved = []; fixed = 0; pending = 0 }) (ap (λ (x : Course). length x.shape.kinds) (its_course c core p) ∙ length-map (outline p.tree).steps (λ (s : Step). s.kind)))

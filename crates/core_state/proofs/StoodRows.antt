@@ -19,7 +19,7 @@ use Rattle.machine_model.proofs.OpenHoldings.{filter-kept}
 use Rattle.machine_model.proofs.TidyMoments.{every}
 use Rattle.hold_tables.specs.Tables.{OpenProcess, Tables, has_number, is_open, kept_of}
 use Rattle.hold_tables.specs.Changes.{all_fixed, change_numbered, changed, net_after, run, took_effect, with_fixed, with_reserved, with_running, without_last}
-use Rattle.core_state.specs.OpenTables.{pairs_behind, pairs_of, row_at, step_pair, stood, tables_at}
+use Rattle.core_state.specs.OpenTables.{planned_behind, planned_of, row_at, planned_step, stood, tables_at}
 use Rattle.core_state.proofs.RowChanges.{run_row}
 
 -- no number stands twice
@@ -150,14 +150,14 @@ module _ (conflicts : Table) (courses : List Course) (is : List ℕ) (es : List 
   others_stay k other =
       let same : of_process k (es ++ e ∷ []) ≡ of_process k es =
       of_process-append k es (e ∷ []) ∙ (ap (λ c. of_process k es ++ (if c then e ∷ [] else [])) (flipped k i other) ∙ append-nil (of_process k es)) in
-      ap (λ (xs : List Entry). record { process = k; steps = length (shape courses k).kinds; running = None; reserved = pairs_of (map (doing courses k) (forward (shape courses k) (steps_of xs))); fixed = fixed_len (shape courses k) (steps_of xs); pending = 0 }) (sym same)
+      ap (λ (xs : List Entry). record { process = k; steps = length (shape courses k).kinds; running = None; reserved = planned_of (map (doing courses k) (forward (shape courses k) (steps_of xs))); fixed = fixed_len (shape courses k) (steps_of xs); pending = 0 }) (sym same)
 
   -- its row, by what it owes and how many are fixed
-  abbrev own_row : List (ℕ × ℕ) → ℕ → OpenProcess
-  own_row pairs n = record { process = e.process; steps = length (shape courses e.process).kinds; running = None; reserved = pairs; fixed = n; pending = 0 }
+  abbrev own_row : List (ℕ × ℕ × ℕ) → ℕ → OpenProcess
+  own_row planned n = record { process = e.process; steps = length (shape courses e.process).kinds; running = None; reserved = planned; fixed = n; pending = 0 }
 
-  own_after : row_at courses (es ++ e ∷ []) i ≡ own_row (pairs_of (map (doing courses i) (forward s (w ++ e.step ∷ [])))) (fixed_len s (w ++ e.step ∷ []))
-  own_after = ap (λ v. own_row (pairs_of (map (doing courses i) (forward s v))) (fixed_len s v)) steps_more
+  own_after : row_at courses (es ++ e ∷ []) i ≡ own_row (planned_of (map (doing courses i) (forward s (w ++ e.step ∷ [])))) (fixed_len s (w ++ e.step ∷ []))
+  own_after = ap (λ v. own_row (planned_of (map (doing courses i) (forward s v))) (fixed_len s v)) steps_more
 
   same_shape : s ≡ shape_of p.tree
   same_shape = ap (λ (c : Course). c.shape) plan
@@ -171,16 +171,16 @@ module _ (conflicts : Table) (courses : List Course) (is : List ℕ) (es : List 
       let own : commits (kind_of s e.step) ≡ false = ap (λ x. commits (kind_of x e.step)) same_shape ∙ none in
       let fixed = fixed_more s w e.step ∙ ap (λ c. if c then length w + 1 else fixed_len s w) own in
       let row : row_at courses es i ≡ row_at courses (es ++ e ∷ []) i =
-      sym (own_after ∙ (ap (λ bs. own_row (pairs_of (map (doing courses i) bs)) (fixed_len s (w ++ e.step ∷ []))) (owes_same s w e.step own) ∙ ap (own_row (pairs_of (map (doing courses i) (forward s w)))) fixed)) in
-      ap (λ c. if c then changed (with_reserved (pairs_behind p e.step)) i (all_fixed i (took_effect i (run e t))) else took_effect i (run e t)) none
+      sym (own_after ∙ (ap (λ bs. own_row (planned_of (map (doing courses i) bs)) (fixed_len s (w ++ e.step ∷ []))) (owes_same s w e.step own) ∙ ap (own_row (planned_of (map (doing courses i) (forward s w)))) fixed)) in
+      ap (λ c. if c then changed (with_reserved (planned_behind p e.step)) i (all_fixed i (took_effect i (run e t))) else took_effect i (run e t)) none
       ∙ (ap (λ ns. record { conflicts = conflicts; net = ns; processes = change_numbered (with_running None) i (change_numbered (with_running (Some e)) i (map (row_at courses es) is)) }) net_is
       ∙ ap (λ rs. record { conflicts = conflicts; net = filter (λ (x : Entry). is_in x.process is) (es ++ e ∷ []); processes = rs })
       (changed_twice (with_running (Some e)) (with_running None) i (map (row_at courses es) is) (λ r. refl)
       ∙ rows_changed effect_row (row_at courses es) (row_at courses (es ++ e ∷ [])) i is apart (λ k. refl) row others_stay among))
 
-  pairs_same : (bs : List ℕ) → pairs_of (map (doing courses i) bs) ≡ map (step_pair p) bs
-  pairs_same [] = refl
-  pairs_same (b ∷ bs) = ap (λ (c : Course). (b, slice_index_or c.ops b 0) ∷ pairs_of (map (doing courses i) bs)) plan ∙ ap (λ ps. step_pair p b ∷ ps) (pairs_same bs)
+  planned_same : (bs : List ℕ) → planned_of (map (doing courses i) bs) ≡ map (planned_step p) bs
+  planned_same [] = refl
+  planned_same (b ∷ bs) = ap (λ (c : Course). (b, slice_index_or c.ops b 0, slice_index_or c.keys b 0) ∷ planned_of (map (doing courses i) bs)) plan ∙ ap (λ ps. planned_step p b ∷ ps) (planned_same bs)
 
   -- with a commit point
   fixing : commits (kind_of (shape_of p.tree) e.step) ≡ true → stood p e t ≡ tables_at conflicts courses is (es ++ e ∷ [])
@@ -189,19 +189,19 @@ module _ (conflicts : Table) (courses : List Course) (is : List ℕ) (es : List 
       let after = took_effect i (run e t) in
       let n = length (of_process i (filter (λ (x : Entry). is_in x.process is) (es ++ e ∷ []))) in
       let fixed : n ≡ fixed_len s (w ++ e.step ∷ []) = own_count ∙ sym (fixed_more s w e.step ∙ ap (λ c. if c then length w + 1 else fixed_len s w) own) in
-      let pairs : pairs_behind p e.step ≡ pairs_of (map (doing courses i) (forward s (w ++ e.step ∷ []))) =
-      sym (pairs_same (forward s (w ++ e.step ∷ [])) ∙ ap (map (step_pair p))
+      let planned : planned_behind p e.step ≡ planned_of (map (doing courses i) (forward s (w ++ e.step ∷ []))) =
+      sym (planned_same (forward s (w ++ e.step ∷ [])) ∙ ap (map (planned_step p))
       (owes_behind s w e.step own ∙ (ap (λ v. last_after s (v ++ e.step ∷ [])) (sym on) ∙ ap (λ x. last_after x (branch_to x e.step ++ e.step ∷ [])) same_shape))) in
-      let row : with_reserved (pairs_behind p e.step) (with_fixed n (effect_row (row_at courses es i))) ≡ row_at courses (es ++ e ∷ []) i =
-      ap (λ ps. own_row ps n) pairs ∙ (ap (own_row (pairs_of (map (doing courses i) (forward s (w ++ e.step ∷ []))))) fixed ∙ sym own_after) in
+      let row : with_reserved (planned_behind p e.step) (with_fixed n (effect_row (row_at courses es i))) ≡ row_at courses (es ++ e ∷ []) i =
+      ap (λ ps. own_row ps n) planned ∙ (ap (own_row (planned_of (map (doing courses i) (forward s (w ++ e.step ∷ []))))) fixed ∙ sym own_after) in
       let rows = map (row_at courses es) is in
-      ap (λ c. if c then changed (with_reserved (pairs_behind p e.step)) i (all_fixed i after) else after) fixes
-      ∙ (ap (λ ns. record { conflicts = conflicts; net = ns; processes = change_numbered (with_reserved (pairs_behind p e.step)) i (change_numbered (with_fixed (length (of_process i ns))) i (change_numbered (with_running None) i (change_numbered (with_running (Some e)) i rows))) }) net_is
+      ap (λ c. if c then changed (with_reserved (planned_behind p e.step)) i (all_fixed i after) else after) fixes
+      ∙ (ap (λ ns. record { conflicts = conflicts; net = ns; processes = change_numbered (with_reserved (planned_behind p e.step)) i (change_numbered (with_fixed (length (of_process i ns))) i (change_numbered (with_running None) i (change_numbered (with_running (Some e)) i rows))) }) net_is
       ∙ ap (λ rs. record { conflicts = conflicts; net = filter (λ (x : Entry). is_in x.process is) (es ++ e ∷ []); processes = rs })
-      (ap (λ rs. change_numbered (with_reserved (pairs_behind p e.step)) i (change_numbered (with_fixed n) i rs)) (changed_twice (with_running (Some e)) (with_running None) i rows (λ r. refl))
-      ∙ (ap (change_numbered (with_reserved (pairs_behind p e.step)) i) (changed_twice effect_row (with_fixed n) i rows (λ r. refl))
-      ∙ (changed_twice (λ r. with_fixed n (effect_row r)) (with_reserved (pairs_behind p e.step)) i rows (λ r. refl)
-      ∙ rows_changed (λ r. with_reserved (pairs_behind p e.step) (with_fixed n (effect_row r))) (row_at courses es) (row_at courses (es ++ e ∷ [])) i is apart (λ k. refl) row others_stay among))))
+      (ap (λ rs. change_numbered (with_reserved (planned_behind p e.step)) i (change_numbered (with_fixed n) i rs)) (changed_twice (with_running (Some e)) (with_running None) i rows (λ r. refl))
+      ∙ (ap (change_numbered (with_reserved (planned_behind p e.step)) i) (changed_twice effect_row (with_fixed n) i rows (λ r. refl))
+      ∙ (changed_twice (λ r. with_fixed n (effect_row r)) (with_reserved (planned_behind p e.step)) i rows (λ r. refl)
+      ∙ rows_changed (λ r. with_reserved (planned_behind p e.step) (with_fixed n (effect_row r))) (row_at courses es) (row_at courses (es ++ e ∷ [])) i is apart (λ k. refl) row others_stay among))))
 
   pub stood_is : stood p e t ≡ tables_at conflicts courses is (es ++ e ∷ [])
   stood_is = by_kind (commits (kind_of (shape_of p.tree) e.step)) refl

@@ -24,7 +24,7 @@ use Rattle.machine_model.proofs.TidyMoments.{every}
 use Rattle.machine_model.proofs.OpenHoldings.{filter-kept, holders-active}
 use Rattle.machine_model.proofs.WaysOn.{drop_past}
 use Rattle.hold_tables.specs.Tables.{hold_in, lasts, reserved_entry}
-use Rattle.core_state.specs.OpenTables.{TablesStandForHoldings, pairs_of, row_of}
+use Rattle.core_state.specs.OpenTables.{TablesStandForHoldings, planned_of, row_of}
 
 -- what is left behind a place is as many of the last
 pub lasts_drop : {X : Type 0} (n : ℕ) (xs : List X) → lasts (length (drop n xs)) xs ≡ drop n xs
@@ -47,11 +47,11 @@ map_same f g h (i ∷ is) each = ap (λ y. y ∷ map f (map g is)) each.0 ∙ ap
 abbrev IsStepOf : ℕ → Entry → Type 0
 IsStepOf i e = (e.process ≡ i) × (e.undo ≡ false)
 
-pairs_back : (i : ℕ) (es : List Entry) → Each (IsStepOf i) es → map (reserved_entry i) (pairs_of es) ≡ es
-pairs_back i [] each = refl
-pairs_back i (e ∷ es) each =
-    ap (λ (x : Entry). x ∷ map (reserved_entry i) (pairs_of es)) (ap (λ k. record { process = k; step = e.step; op = e.op; undo = false }) (sym each.0.0) ∙ ap (λ u. record { process = e.process; step = e.step; op = e.op; undo = u }) (sym each.0.1))
-    ∙ ap (λ xs. e ∷ xs) (pairs_back i es each.1)
+planned_back : (i : ℕ) (es : List Entry) → Each (IsStepOf i) es → map (reserved_entry i) (planned_of es) ≡ es
+planned_back i [] each = refl
+planned_back i (e ∷ es) each =
+    ap (λ (x : Entry). x ∷ map (reserved_entry i) (planned_of es)) (ap (λ k. record { process = k; step = e.step; op = e.op; key = e.key; undo = false }) (sym each.0.0) ∙ ap (λ u. record { process = e.process; step = e.step; op = e.op; key = e.key; undo = u }) (sym each.0.1))
+    ∙ ap (λ xs. e ∷ xs) (planned_back i es each.1)
 
 doing_steps : (courses : List Course) (i : ℕ) (bs : List ℕ) → Each (IsStepOf i) (map (doing courses i) bs)
 doing_steps courses i [] = tt
@@ -95,7 +95,7 @@ module _ (courses : List Course) (m : Moment) (i : ℕ) where
         let h = hold_of courses m i in
         let f = fixed_len (shape courses i) (net_steps m.events i) in
         ap (λ (rs : List Entry). record { process = i; running = h.running; reserved = rs; pending = lasts (length h.pending) (of_process i (active_net (holdings courses m))); backward_entries = drop f (of_process i (active_net (holdings courses m))) })
-        (pairs_back i h.reserved reserved_steps)
+        (planned_back i h.reserved reserved_steps)
         ∙ (ap (λ (es : List Entry). record { process = i; running = h.running; reserved = h.reserved; pending = lasts (length h.pending) es; backward_entries = drop f es }) own_net
         ∙ ap (λ (ps : List Entry). record { process = i; running = h.running; reserved = h.reserved; pending = ps; backward_entries = drop f (net_of m.events i) }) (lasts_drop (staying (progress courses m i)) (net_of m.events i)))
 

@@ -17,7 +17,7 @@ use Rattle.machine_model.specs.Progress.{same_work}
 use Rattle.instance_state.specs.Instances.{InstanceState, moved_to}
 use Rattle.hold_tables.specs.Changes.{all_fixed, changed, dropped, took_effect, with_pending, with_reserved}
 use Rattle.hold_tables.specs.Tables.{Tables, is_open, kept_of}
-use Rattle.core_state.specs.OpenTables.{pairs_behind}
+use Rattle.core_state.specs.OpenTables.{planned_behind}
 use Rattle.core_state.specs.Seats.{SeatState}
 
 -- how a process stands after the effect of this work: after its end it isn't active
@@ -34,7 +34,7 @@ seat_effected w s = record { instance = instance_effected w s.instance; out = No
 abbrev pub step_effected : Plan → ℕ → ℕ → Tables → Tables
 step_effected p i b t =
     let after = took_effect i t in
-    if commits (kind_of (shape_of p.tree) b) then changed (with_reserved (pairs_behind p b)) i (all_fixed i after) else after
+    if commits (kind_of (shape_of p.tree) b) then changed (with_reserved (planned_behind p b)) i (all_fixed i after) else after
 
 -- the tables, where n entries of the process are to be undone after it
 abbrev pub tables_effected : Plan → ℕ → ℕ → Work → ℕ → Tables → Tables

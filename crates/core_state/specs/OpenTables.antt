@@ -2,6 +2,7 @@
 use Rattle.std.specs.Prelude.{◌≡◌, ℕ, not, List, [], ◌∷◌, ◌++◌, filter, length, map, nat_eq, nat_le, slice_index_or, Option, None, if◌then◌else◌}
 use Rattle.process_tree.specs.declared.entry.Entry.{Entry}
 use Rattle.process_tree.specs.Conflicts.{Table}
+use Rattle.process_tree.specs.Entries.{key_of}
 use Rattle.process_tree.specs.declared.plan.Plan.{Plan}
 use Rattle.process_tree.specs.Recovery.{forward, last_after}
 use Rattle.process_tree.specs.Shape.{branch_to, commits, fixed_len, kind_of, last_of, shape_of}
@@ -15,9 +16,9 @@ use Rattle.machine_model.specs.Laws.{open_only}
 use Rattle.hold_tables.specs.Changes.{all_fixed, changed, run, took_effect, with_reserved}
 use Rattle.hold_tables.specs.Tables.{OpenProcess, Tables, holdings_of, kept_of}
 
--- these entries as steps with their operations
-abbrev pub pairs_of : List Entry → List (ℕ × ℕ)
-pairs_of es = map (λ e. (e.step, e.op)) es
+-- these entries as steps with their operations and keys
+abbrev pub planned_of : List Entry → List (ℕ × ℕ × ℕ)
+planned_of es = map (λ e. (e.step, e.op, e.key)) es
 
 -- the row of process i
 abbrev pub row_of : List Course → Moment → ℕ → OpenProcess
@@ -27,7 +28,7 @@ row_of courses m i =
       process = i;
       steps = length (shape courses i).kinds;
       running = h.running;
-      reserved = pairs_of h.reserved;
+      reserved = planned_of h.reserved;
       fixed = fixed_len (shape courses i) (net_steps m.events i);
       pending = length h.pending;
     }
@@ -40,19 +41,19 @@ tables_of conflicts courses m = record {
   processes = map (row_of courses m) (active m.events);
 }
 
--- a step of a plan with its operation
-abbrev pub step_pair : Plan → ℕ → ℕ × ℕ
-step_pair p b = (b, slice_index_or p.ops b 0)
+-- a step of a plan with its operation and its key
+abbrev pub planned_step : Plan → ℕ → ℕ × ℕ × ℕ
+planned_step p b = (b, slice_index_or p.ops b 0, key_of p.tree b)
 
--- the steps of a plan that follow step b through last alternatives, each with its operation
-abbrev pub pairs_behind : Plan → ℕ → List (ℕ × ℕ)
-pairs_behind p b = let t = shape_of p.tree in map (step_pair p) (last_after t (branch_to t b ++ b ∷ []))
+-- the steps of a plan that follow step b through last alternatives, each with its operation and its key
+abbrev pub planned_behind : Plan → ℕ → List (ℕ × ℕ × ℕ)
+planned_behind p b = let t = shape_of p.tree in map (planned_step p) (last_after t (branch_to t b ++ b ∷ []))
 
 -- what an entry that stands makes of the tables: it comes last, and a commit point fixes all and reserves what follows it
 abbrev pub stood : Plan → Entry → Tables → Tables
 stood p e t =
     let after = took_effect e.process (run e t) in
-    if commits (kind_of (shape_of p.tree) e.step) then changed (with_reserved (pairs_behind p e.step)) e.process (all_fixed e.process after) else after
+    if commits (kind_of (shape_of p.tree) e.step) then changed (with_reserved (planned_behind p e.step)) e.process (all_fixed e.process after) else after
 
 -- the row of process i where these entries stand
 abbrev pub row_at : List Course → List Entry → ℕ → OpenProcess
@@ -60,7 +61,7 @@ row_at courses es i = record {
   process = i;
   steps = length (shape courses i).kinds;
   running = None;
-  reserved = pairs_of (map (doing courses i) (forward (shape courses i) (steps_of (of_process i es))));
+  reserved = planned_of (map (doing courses i) (forward (shape courses i) (steps_of (of_process i es))));
   fixed = fixed_len (shape courses i) (steps_of (of_process i es));
   pending = 0;
 }

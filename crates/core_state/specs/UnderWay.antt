@@ -10,7 +10,7 @@ use Rattle.hold_tables.specs.Changes.{can_run, changed, run, with_reserved}
 use Rattle.hold_tables.specs.Kept.{AreKnown}
 use Rattle.hold_tables.specs.Tables.{Tables, kept_of}
 use Rattle.admission.specs.Admission.{class_in_tables}
-use Rattle.core_state.specs.OpenTables.{pairs_behind}
+use Rattle.core_state.specs.OpenTables.{planned_behind}
 
 -- whether a step of this class is a new commit point
 abbrev pub is_committing : StepClass → Bool
@@ -22,7 +22,7 @@ is_committing committing = true
 abbrev pub step_under_way : Plan → ℕ → ℕ → Tables → StepClass → Tables
 step_under_way p i b t reserved = run (entry_of p i b) t
 step_under_way p i b t undoable = run (entry_of p i b) t
-step_under_way p i b t committing = changed (with_reserved ((kept_of t i).reserved ++ pairs_behind p b)) i (run (entry_of p i b) t)
+step_under_way p i b t committing = changed (with_reserved ((kept_of t i).reserved ++ planned_behind p b)) i (run (entry_of p i b) t)
 
 -- work on step b of process i comes under way
 abbrev pub under_way : Plan → ℕ → ℕ → Tables → Work → Tables
@@ -35,7 +35,7 @@ abbrev pub FitsClass : Plan → ℕ → ℕ → Tables → StepClass → Type 0
 FitsClass p i b t reserved = Unit
 FitsClass p i b t undoable = Unit
 FitsClass p i b t committing =
-    (length (kept_of t i).reserved + length (pairs_behind p b) ≤ length (outline p.tree).steps) × AreKnown t.conflicts (kept_of t i).reserved
+    (length (kept_of t i).reserved + length (planned_behind p b) ≤ length (outline p.tree).steps) × AreKnown t.conflicts (kept_of t i).reserved
 
 -- work on step b of process i may come under way
 abbrev pub MayComeUnderWay : Plan → ℕ → ℕ → Tables → Work → Type 0

@@ -8,9 +8,9 @@ ghost use Rattle.machine_model.specs.declared.kept.Work.TheVariants.{Forward};
 ghost use Rattle.hold_tables.specs.Changes.{all_fixed, changed, with_reserved};
 ghost use Rattle.hold_tables.specs.Tables.{is_open, kept_of};
 ghost use Rattle.core_state.specs.Effects.{HoldsWork, event_told, step_effected, tables_effected};
-ghost use Rattle.core_state.specs.OpenTables.{pairs_behind};
+ghost use Rattle.core_state.specs.OpenTables.{planned_behind};
 
-use crate::owed::{Pairs, add_owed};
+use crate::owed::{PlannedSteps, add_owed};
 use hold_tables::Holds;
 use machine_model::Work;
 use process_tree::{Plan, kind_of};
@@ -36,12 +36,12 @@ fn fix_and_reserve(holds: &mut Holds, plan: &Plan, process: u32, step: u16)
     requires good { tree_fault plan.now.tree ≡ None }
     requires operations { length plan.now.ops ≡ length (outline plan.now.tree).steps }
     requires known { Each (λ op. op < operations_in holds.old.conflicts) plan.now.ops }
-    ensures { holds.new ≡ changed (with_reserved (pairs_behind plan.now step)) process (all_fixed process holds.old) }
+    ensures { holds.new ≡ changed (with_reserved (planned_behind plan.now step)) process (all_fixed process holds.old) }
 {
-    let mut pairs = Pairs::new();
-    add_owed(&mut pairs, plan, step);
+    let mut planned = PlannedSteps::new();
+    add_owed(&mut planned, plan, step);
     holds.fix(process);
-    holds.reserve(process, pairs.as_slice());
+    holds.reserve(process, planned.as_slice());
 }
 
 /// A step took effect.

@@ -1,5 +1,5 @@
 // The tables of holds at an opening.
-ghost use Rattle.std.specs.Prelude.{◌≡◌, ◌<◌, ◌≤◌, [], true, false, length, map, slice_index_or, IfOk, OnOk, None};
+ghost use Rattle.std.specs.Prelude.{◌≡◌, ◌<◌, ◌≤◌, [], true, false, length, map, IfOk, OnOk, None};
 ghost use Rattle.process_tree.specs.Blocks.{outline};
 ghost use Rattle.process_tree.specs.Conflicts.{operations_in};
 ghost use Rattle.process_tree.specs.Making.{tree_fault};
@@ -11,36 +11,41 @@ ghost use Rattle.hold_tables.specs.Tables.{is_open, kept_of};
 ghost use Rattle.schedule_model.specs.Course.{courses_of};
 ghost use Rattle.schedule_model.specs.Histories.{active, net};
 ghost use Rattle.core_state.specs.Cores.{IsCore, opened_on};
-ghost use Rattle.core_state.specs.OpenTables.{pairs_behind, stood, tables_at, tables_of};
+ghost use Rattle.core_state.specs.OpenTables.{planned_behind, planned_step, stood, tables_at, tables_of};
 ghost use Rattle.core_state.specs.Seats.{seats_of};
 
+use crate::owed::planned_step;
 use crate::seats::Seat;
 use hold_tables::Holds;
-use process_tree::{Conflicts, Entry, Plan, kind_of, op_of};
+use process_tree::{Conflicts, Entry, Plan, kind_of};
 use schedule_model::History;
 use schedule_rules::{active, net};
 use std::alloc::{AllocError, Global};
 
-/// These steps, each with its operation.
-fn pairs_of(alloc: Global, ops: &[u16], steps: &[u16]) -> Result<Vec<(u16, u16)>, AllocError>
-    ensures { IfOk result (λ pairs. pairs.items ≡ map (λ b. (b, slice_index_or ops.now b 0)) steps.now) }
+/// These steps of a plan, each with its operation and its key.
+fn planned_steps(
+    alloc: Global,
+    plan: &Plan,
+    steps: &[u16],
+) -> Result<Vec<(u16, u16, u32)>, AllocError>
+    ensures { IfOk result (λ planned. planned.items ≡ map (planned_step plan.now) steps.now) }
 {
-    let mut pairs = Vec::new(alloc);
+    let mut planned = Vec::new(alloc);
     let mut rest = steps;
     while let [step, after @ ..] = rest {
-        pairs.push((*step, op_of(ops, *step)))?;
+        planned.push(planned_step(plan, *step))?;
         rest = after;
     }
-    Ok(pairs)
+    Ok(planned)
 }
 
-/// The steps that follow a step through last alternatives, each with its operation.
-fn pairs_behind(alloc: Global, plan: &Plan, step: u16) -> Result<Vec<(u16, u16)>, AllocError>
+/// The steps that follow a step through last alternatives, each with its operation and its key.
+fn planned_behind(alloc: Global, plan: &Plan, step: u16) -> Result<Vec<(u16, u16, u32)>, AllocError>
     requires { step < length (outline plan.now.tree).steps }
-    ensures { IfOk result (λ pairs. pairs.items ≡ pairs_behind plan.now step) }
+    ensures { IfOk result (λ planned. planned.items ≡ planned_behind plan.now step) }
 {
     let steps = plan.tree.completion(alloc, step)?;
-    pairs_of(alloc, plan.ops.as_slice(), steps.as_slice())
+    planned_steps(alloc, plan, steps.as_slice())
 }
 
 /// An entry of the net stands in the tables.
@@ -60,9 +65,9 @@ fn stand(alloc: Global, holds: &mut Holds, plan: &Plan, e: Entry) -> Result<(), 
     holds.run(e);
     holds.take_effect(e.process);
     if kind_of(&plan.tree, e.step).commits() {
-        let pairs = pairs_behind(alloc, plan, e.step)?;
+        let planned = planned_behind(alloc, plan, e.step)?;
         holds.fix(e.process);
-        holds.reserve(e.process, &pairs);
+        holds.reserve(e.process, &planned);
     }
     Ok(())
 }

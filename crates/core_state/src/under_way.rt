@@ -1,7 +1,6 @@
 // What a piece makes of the tables once it is handed out.
 ghost use Rattle.std.specs.Prelude.{◌≡◌, ◌<◌, ◌≤◌, ◌+◌, ◌++◌, None, length, true};
 ghost use Rattle.process_tree.specs.Blocks.{outline};
-ghost use Rattle.process_tree.specs.Entries.{entry_of};
 ghost use Rattle.process_tree.specs.Making.{tree_fault};
 ghost use Rattle.hold_tables.specs.Changes.{changed, with_reserved};
 ghost use Rattle.hold_tables.specs.Tables.{is_open, kept_of};
@@ -9,25 +8,14 @@ ghost use Rattle.admission.specs.Admission.{IsPlanFor, class_in_tables};
 ghost use Rattle.core_state.specs.UnderWay.{FitsClass, MayComeUnderWay, is_committing, under_way};
 ghost use Rattle.process_tree.specs.Recovery.{committing};
 ghost use Rattle.machine_model.specs.declared.kept.Work.TheVariants.{Forward};
-ghost use Rattle.core_state.specs.OpenTables.{pairs_behind};
+ghost use Rattle.core_state.specs.OpenTables.{planned_behind};
 
-use crate::owed::{Pairs, add_owed};
+use crate::owed::{PlannedSteps, add_owed};
 use admission::is_reserved;
 use hold_tables::Holds;
 use machine_model::Work;
-use process_tree::{Entry, Plan, kind_of, op_of};
-
-/// A step of a process, as an entry.
-fn entry_of(plan: &Plan, process: u32, step: u16) -> Entry
-    ensures { result ≡ entry_of plan.now process step }
-{
-    Entry {
-        process,
-        step,
-        op: op_of(plan.ops.as_slice(), step),
-        undo: false,
-    }
-}
+use process_tree::{Entry, Plan, kind_of};
+use schedule_rules::entry_of;
 
 /// Whether a step would be a new commit point of its process.
 fn is_committing(holds: &Holds, plan: &Plan, process: u32, step: u16) -> bool
@@ -42,16 +30,16 @@ fn is_committing(holds: &Holds, plan: &Plan, process: u32, step: u16) -> bool
 }
 
 /// What a process has reserved.
-fn reserved_pairs(holds: &Holds, process: u32) -> Pairs
+fn reserved_steps(holds: &Holds, process: u32) -> PlannedSteps
     requires open { is_open holds.now process ≡ true }
     requires few { length (kept_of holds.now process).reserved ≤ 256 }
     ensures { result.items ≡ (kept_of holds.now process).reserved }
 {
-    let mut pairs = Pairs::new();
+    let mut planned = PlannedSteps::new();
     for place in 0..holds.reserved_len(process) {
-        pairs.push(holds.reserved_at(process, place));
+        planned.push(holds.reserved_at(process, place));
     }
-    pairs
+    planned
 }
 
 /// A new commit point of a process reserves what it will make the process owe.
@@ -62,11 +50,11 @@ fn reserve_owed(holds: &mut Holds, plan: &Plan, process: u32, step: u16)
     requires steps { (kept_of holds.old process).steps ≡ length (outline plan.now.tree).steps }
     requires step { step < length (outline plan.now.tree).steps }
     requires reserved { FitsClass plan.now process step holds.old committing }
-    ensures { holds.new ≡ changed (with_reserved ((kept_of holds.old process).reserved ++ pairs_behind plan.now step)) process holds.old }
+    ensures { holds.new ≡ changed (with_reserved ((kept_of holds.old process).reserved ++ planned_behind plan.now step)) process holds.old }
 {
-    let mut pairs = reserved_pairs(holds, process);
-    add_owed(&mut pairs, plan, step);
-    holds.reserve(process, pairs.as_slice());
+    let mut planned = reserved_steps(holds, process);
+    add_owed(&mut planned, plan, step);
+    holds.reserve(process, planned.as_slice());
 }
 
 /// A step comes under way.

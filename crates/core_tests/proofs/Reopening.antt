@@ -23,7 +23,7 @@ abbrev shape_by : Outline → Shape
 shape_by o = record { kinds = map (λ s. s.kind) o.steps; paths = o.paths }
 
 abbrev course_by : Outline → List ℕ → Course
-course_by o ops = record { shape = shape_by o; ops = ops; allowances = map allowance_of o.steps }
+course_by o ops = record { shape = shape_by o; ops = ops; keys = map (λ s. s.key) o.steps; allowances = map allowance_of o.steps }
 
 -- an equal plan has the same course
 same_course : (p q : Plan) → AreEqualPlans q p → course_of q ≡ course_of p

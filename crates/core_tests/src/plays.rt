@@ -15,10 +15,10 @@ use std::test::Fail;
 #[derive(Clone, Copy, Debug, PartialEq, Eq)]
 pub enum Happens {
     Start(u32),
-    /// This process does this step, which has this operation.
-    Do(u32, u16, u16),
+    /// This process does this step, which has this operation and this key.
+    Do(u32, u16, u16, u32),
     /// It undoes it.
-    Undo(u32, u16, u16),
+    Undo(u32, u16, u16, u32),
     End(u32),
 }
 
@@ -44,11 +44,12 @@ pub const FIRST_STEPS: &[(Call, Answer)] = &[
     (Call::Done(2), Answer::Effected(4)),
 ];
 
-fn act(process: u32, step: u16, op: u16, undo: bool) -> Event {
+fn act(process: u32, step: u16, op: u16, key: u32, undo: bool) -> Event {
     Event::Act(Entry {
         process,
         step,
         op,
+        key,
         undo,
     })
 }
@@ -56,8 +57,8 @@ fn act(process: u32, step: u16, op: u16, undo: bool) -> Event {
 fn event_of(happens: Happens) -> Event {
     match happens {
         Happens::Start(i) => Event::Start(i),
-        Happens::Do(i, step, op) => act(i, step, op, false),
-        Happens::Undo(i, step, op) => act(i, step, op, true),
+        Happens::Do(i, step, op, key) => act(i, step, op, key, false),
+        Happens::Undo(i, step, op, key) => act(i, step, op, key, true),
         Happens::End(i) => Event::End(i),
     }
 }

@@ -25,13 +25,15 @@ pub const SHIP: u16 = 3;
 
 pub const NOTE: u16 = 4;
 
+pub const BOOK: u16 = 5;
+
 pub const PURCHASE: &[u8] = b"process a c x add 1 5 p y pay 1 5 end";
 
 pub const SALE: &[u8] = b"process b c u take 1 2 p v pay 2 2 end";
 
 // A table of nine operations: version and count, then each with its subsystem and verb, and then the pairs of each with itself and the
-// later ones. Adding conflicts with taking, taking with taking, noting with noting, and booking with booking.
-const CATALOG: &[u8] = b"\x01\x09\x00\
+// later ones. Adding conflicts with taking, taking with taking and noting with noting, always; booking with booking by key.
+const CATALOG: &[u8] = b"\x02\x09\x00\
 \x03add\x00\x00\
 \x04take\x00\x01\
 \x03pay\x01\x00\
@@ -46,7 +48,7 @@ const CATALOG: &[u8] = b"\x01\x09\x00\
 \x00\x00\x00\x00\x00\x00\x00\
 \x00\x00\x00\x00\x00\x00\
 \x01\x00\x00\x00\x00\
-\x01\x00\x00\x00\
+\x02\x00\x00\x00\
 \x00\x00\x00\
 \x00\x00\
 \x00";

@@ -1,12 +1,12 @@
 // Plays in which a process waits for another.
 use crate::calls::{Answer, Call};
 use crate::plays::{FIRST_STEPS, Happens, Play, expect_plays};
-use crate::starts::{ADD, NOTE, PAY, PURCHASE, SALE, SHIP, TAKE};
+use crate::starts::{ADD, BOOK, NOTE, PAY, PURCHASE, SALE, SHIP, TAKE};
 use machine_model::Rule;
-use process_core::{Cause, Refusal, Work};
+use process_core::{Aborted, Cause, Refusal, Work};
 use std::test::Fail;
 
-const WAITING: [Play; 6] = [
+const WAITING: [Play; 7] = [
     Play {
         name: "two that don't conflict take turns",
         texts: &[PURCHASE, b"process b c u add 1 7 r v ship 1 1 end"],
@@ -24,10 +24,10 @@ const WAITING: [Play; 6] = [
         events: &[
             Happens::Start(1),
             Happens::Start(2),
-            Happens::Do(1, 0, ADD),
-            Happens::Do(2, 0, ADD),
-            Happens::Do(2, 1, SHIP),
-            Happens::Do(1, 1, PAY),
+            Happens::Do(1, 0, ADD, 1),
+            Happens::Do(2, 0, ADD, 1),
+            Happens::Do(2, 1, SHIP, 1),
+            Happens::Do(1, 1, PAY, 1),
             Happens::End(2),
             Happens::End(1),
         ],
@@ -48,9 +48,9 @@ const WAITING: [Play; 6] = [
         events: &[
             Happens::Start(1),
             Happens::Start(2),
-            Happens::Do(1, 0, ADD),
-            Happens::Do(2, 0, TAKE),
-            Happens::Do(1, 1, PAY),
+            Happens::Do(1, 0, ADD, 1),
+            Happens::Do(2, 0, TAKE, 1),
+            Happens::Do(1, 1, PAY, 1),
             Happens::End(1),
         ],
         began: &[(1, None), (2, None)],
@@ -87,9 +87,9 @@ const WAITING: [Play; 6] = [
         events: &[
             Happens::Start(1),
             Happens::Start(2),
-            Happens::Do(1, 0, ADD),
-            Happens::Do(2, 0, NOTE),
-            Happens::Do(2, 1, TAKE),
+            Happens::Do(1, 0, ADD, 1),
+            Happens::Do(2, 0, NOTE, 2),
+            Happens::Do(2, 1, TAKE, 1),
         ],
         began: &[(1, None), (2, None)],
     },
@@ -103,6 +103,40 @@ const WAITING: [Play; 6] = [
         ],
         events: &[Happens::Start(1), Happens::Start(2)],
         began: &[(1, None), (2, None)],
+    },
+    Play {
+        name: "bookings wait for those on their key alone",
+        texts: &[
+            b"process a c x book 7 1 end",
+            b"process b c u book 8 1 end",
+            b"process c c w book 7 1 end",
+        ],
+        opening: &[],
+        turns: &[
+            (Call::Admit(1), Answer::Piece(1, 1, 0, Work::Forward)),
+            (Call::Admit(2), Answer::Piece(2, 2, 0, Work::Forward)),
+            (Call::Admit(3), Answer::Blocked(1, 0, 0, Rule::A0)),
+            (Call::Done(2), Answer::Effected(4)),
+            (Call::Done(1), Answer::Effected(5)),
+            (Call::Admit(3), Answer::Piece(3, 3, 0, Work::Forward)),
+            (Call::Done(3), Answer::Effected(6)),
+            (Call::Abort(1), Answer::Aborted(Aborted::Ok)),
+            (Call::Admit(2), Answer::Piece(4, 2, 0, Work::End)),
+            (Call::Admit(1), Answer::Blocked(3, 0, 0, Rule::A5)),
+        ],
+        events: &[
+            Happens::Start(1),
+            Happens::Start(2),
+            Happens::Start(3),
+            Happens::Do(2, 0, BOOK, 8),
+            Happens::Do(1, 0, BOOK, 7),
+            Happens::Do(3, 0, BOOK, 7),
+        ],
+        began: &[
+            (1, Some((10, Cause::Abort))),
+            (2, None),
+            (3, Some((10, Cause::Cascade(1)))),
+        ],
     },
     Play {
         name: "a pivot waits where it would owe what conflicts",
@@ -122,7 +156,7 @@ const WAITING: [Play; 6] = [
         events: &[
             Happens::Start(1),
             Happens::Start(2),
-            Happens::Do(1, 0, ADD),
+            Happens::Do(1, 0, ADD, 1),
             Happens::End(1),
         ],
         began: &[(1, None), (2, None)],

@@ -17,9 +17,9 @@ use Rattle.driver_answers.specs.Serving.{happened, listed, with_call}
 abbrev pub worked : List Event
 worked =
     Start 1
-    ∷ Act (record { process = 1; step = 0; op = 0; undo = false })
-    ∷ Act (record { process = 1; step = 0; op = 0; undo = true })
-    ∷ Act (record { process = 1; step = 1; op = 1; undo = false })
+    ∷ Act (record { process = 1; step = 0; op = 0; key = 0; undo = false })
+    ∷ Act (record { process = 1; step = 0; op = 0; key = 0; undo = true })
+    ∷ Act (record { process = 1; step = 1; op = 1; key = 0; undo = false })
     ∷ End 1
     ∷ []
 

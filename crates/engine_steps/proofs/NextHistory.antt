@@ -7,7 +7,7 @@ use Rattle.process_tree.specs.declared.entry.Entry.{Entry}
 use Rattle.process_tree.specs.declared.plan.Plan.{Plan}
 use Rattle.process_tree.specs.declared.play.Outcome.TheVariants.{Done}
 use Rattle.schedule_model.specs.declared.event.Event.TheVariants.{Act}
-use Rattle.schedule_model.specs.Course.{courses_of, op_of}
+use Rattle.schedule_model.specs.Course.{courses_of, op_of, key_of}
 use Rattle.schedule_model.specs.Legal.{is_legal}
 use Rattle.schedule_model.specs.Limits.{is_within_limits}
 use Rattle.commute_table.specs.declared.catalog.Catalog.{Catalog}
@@ -39,7 +39,7 @@ pub act_is : (plans : List Plan) (p : Piece) → same_work p.work End ≡ false 
 act_is plans p no_end = by p.work no_end
   where
     by : (w : Work) → same_work w End ≡ false
-        → event_by (courses_of plans) p.process p.step w ≡ Act (record { process = p.process; step = p.step; op = op_of (courses_of plans) p.process p.step; undo = same_work w Undo })
+        → event_by (courses_of plans) p.process p.step w ≡ Act (record { process = p.process; step = p.step; op = op_of (courses_of plans) p.process p.step; key = key_of (courses_of plans) p.process p.step; undo = same_work w Undo })
     by Forward not_end = refl
     by Undo not_end = refl
     by End not_end = absurd (false≢true (sym not_end))

@@ -5,7 +5,7 @@ use Rattle.process_tree.specs.declared.entry.Entry.{Entry}
 use Rattle.process_tree.specs.declared.plan.Plan.{Plan}
 use Rattle.schedule_model.specs.declared.event.Event.TheVariants.{Act}
 use Rattle.schedule_model.specs.declared.history.History.{History}
-use Rattle.schedule_model.specs.Course.{courses_of, op_of}
+use Rattle.schedule_model.specs.Course.{courses_of, op_of, key_of}
 use Rattle.machine_model.specs.declared.kept.Work.TheVariants.{Forward, Undo, End}
 use Rattle.machine_model.specs.declared.replies.PieceState.TheVariants.{Out}
 use Rattle.machine_model.specs.Advance.{event_of}
@@ -38,7 +38,7 @@ use Rattle.engine_steps.specs.declared.pieces.PreparePiece.TheVariants.{Ready, B
 
 -- the act that a piece makes once it takes effect: a step of its process, or the undo of one
 abbrev pub act_of : List Plan → Piece → Entry
-act_of plans p = record { process = p.process; step = p.step; op = op_of (courses_of plans) p.process p.step; undo = same_work p.work Undo }
+act_of plans p = record { process = p.process; step = p.step; op = op_of (courses_of plans) p.process p.step; key = key_of (courses_of plans) p.process p.step; undo = same_work p.work Undo }
 
 -- the history of a core with the event of a piece
 abbrev pub history_with : CoreState → Piece → History

@@ -32,7 +32,7 @@ use process_journal::{Record, journals_keep_histories};
 use process_tree::{Entry, Plan};
 use resource_box::Resource;
 use schedule_model::Event;
-use schedule_rules::planned_op;
+use schedule_rules::{planned_key, planned_op};
 use std::marker::Model;
 use subsystem_store::{Effect, Prepare};
 
@@ -119,6 +119,7 @@ fn act_of(plans: &[Plan], piece: &Piece) -> Entry
         process: piece.process(),
         step: piece.step(),
         op: planned_op(plans, piece.process(), piece.step()),
+        key: planned_key(plans, piece.process(), piece.step()),
         undo: is_undo(piece.work()),
     }
 }

@@ -14,13 +14,13 @@ use Rattle.program_lines.specs.Statuses.{number_of}
 use Rattle.program_lines.specs.declared.status.Status.{Status}
 use Rattle.program_lines.specs.declared.status.Status.TheVariants as statuses
 use Rattle.program_words.specs.declared.reading.Command.{Command}
-use Rattle.program_words.specs.declared.reading.Command.TheVariants.{Check, Init, Run, Session, Serve, Restart, Show, Verify, Gen}
+use Rattle.program_words.specs.declared.reading.Command.TheVariants.{Check, Init, Run, Session, Serve, Restart, Show, Verify, Gen, Bulk}
 use Rattle.command_input.specs.declared.said.Said.{Said}
 use Rattle.scenario_run.specs.Run.{IsRun, IsRunOf, IsRunDue as IsRunFound, SaysRun}
 use Rattle.scenario_run.specs.Scenario.{IsScenarioRead}
 use Rattle.session_run.specs.Playthrough.{EndsAt}
 use Rattle.session_run.specs.Session.{IsPlayedOn, IsSession, IsSessionDue as IsSessionFound, IsSessionRead, phase_by}
-use Rattle.serve_run.specs.Dialogue.{EndsWith}
+use Rattle.serve_run.specs.Dialogue.{EndsWith, number_behind}
 use Rattle.serve_run.specs.Dialogue.{phase_by as dialogue_phase}
 use Rattle.serve_run.specs.Serve.{IsNotServed, IsNotServedOn, IsServeRead, IsServeTold, IsServed, IsSpoken}
 use Rattle.driver_answers.specs.Serving.{DriverState}
@@ -146,25 +146,25 @@ module _ {S K R : Type 0} (c : Catalog) (h : History) (before after : World S K 
   abbrev IsAnEnd : Status → Type 0
   IsAnEnd s = ((is_refused_beforehand s ≡ false) ⊎ (s ≡ statuses.ReadFault)) × ((dialogue_phase s ≡ Settled) ⊎ (s ≡ statuses.DiskFault))
 
-  dialogue_ends : (d : Catalog) (plans : List Plan) (last : DriverState) (n : ℕ) (tail : List ℕ) (now : CoreState) (s : Status) → EndsWith d plans last n tail now s → IsAnEnd s
-  dialogue_ends d plans last n tail now statuses.Done ends = (inl refl, inl refl)
-  dialogue_ends d plans last n tail now statuses.BadWords ends = absurd ends
-  dialogue_ends d plans last n tail now statuses.BadInput ends = absurd ends
-  dialogue_ends d plans last n tail now statuses.IllFormed ends = absurd ends
-  dialogue_ends d plans last n tail now statuses.Limit ends = absurd ends
-  dialogue_ends d plans last n tail now statuses.Unfinished ends = absurd ends
-  dialogue_ends d plans last n tail now statuses.BadFile ends = absurd ends
-  dialogue_ends d plans last n tail now statuses.BookDiffers ends = absurd ends
-  dialogue_ends d plans last n tail now statuses.ReadFault ends = (inr refl, inl refl)
-  dialogue_ends d plans last n tail now statuses.WriteFault ends = (inl refl, inl refl)
-  dialogue_ends d plans last n tail now statuses.DiskFault ends = (inl refl, inr refl)
-  dialogue_ends d plans last n tail now statuses.Exhausted ends = absurd ends
-  dialogue_ends d plans last n tail now statuses.NotReduced ends = absurd ends
-  dialogue_ends d plans last n tail now statuses.NoMemory ends = (inl refl, inl refl)
+  dialogue_ends : (d : Catalog) (plans : List Plan) (last : DriverState) (n : ℕ) (u : Option (List ℕ)) (tail : List ℕ) (now : CoreState) (s : Status) → EndsWith d plans last n u tail now s → IsAnEnd s
+  dialogue_ends d plans last n u tail now statuses.Done ends = (inl refl, inl refl)
+  dialogue_ends d plans last n u tail now statuses.BadWords ends = absurd ends
+  dialogue_ends d plans last n u tail now statuses.BadInput ends = absurd ends
+  dialogue_ends d plans last n u tail now statuses.IllFormed ends = absurd ends
+  dialogue_ends d plans last n u tail now statuses.Limit ends = absurd ends
+  dialogue_ends d plans last n u tail now statuses.Unfinished ends = absurd ends
+  dialogue_ends d plans last n u tail now statuses.BadFile ends = absurd ends
+  dialogue_ends d plans last n u tail now statuses.BookDiffers ends = absurd ends
+  dialogue_ends d plans last n u tail now statuses.ReadFault ends = (inr refl, inl refl)
+  dialogue_ends d plans last n u tail now statuses.WriteFault ends = (inl refl, inl refl)
+  dialogue_ends d plans last n u tail now statuses.DiskFault ends = (inl refl, inr refl)
+  dialogue_ends d plans last n u tail now statuses.Exhausted ends = absurd ends
+  dialogue_ends d plans last n u tail now statuses.NotReduced ends = absurd ends
+  dialogue_ends d plans last n u tail now statuses.NoMemory ends = (inl refl, inl refl)
 
   spoken_ends : (d : Catalog) (plans : List Plan) (k : History) (first : ℕ) (now : CoreState) (taken : List ℕ) (rest : Option (List ℕ)) (answers : List ℕ) (s : Status)
       → IsSpoken d plans k first now taken rest answers s → IsAnEnd s
-  spoken_ends d plans k first now taken rest answers s (inl held) = dialogue_ends d plans held.last held.reached held.tail now s held.ends
+  spoken_ends d plans k first now taken rest answers s (inl held) = dialogue_ends d plans held.last (number_behind first held.exchanges) held.unanswered held.tail now s held.ends
   spoken_ends d plans k first now taken rest answers s (inr (none, failed, same)) = subst IsAnEnd (sym failed) (inl refl, inl refl)
 
   served_on : (d : Catalog) (plans : List Plan) (first : ℕ) (taken : List ℕ) → IsServeRead before.input after.input d plans first taken → (text : List ℕ) (s : Status)
@@ -244,4 +244,5 @@ module _ {S K R : Type 0} (c : Catalog) (h : History) (before after : World S K 
   went_by (Some Show) goes reply due out = absurd cc
   went_by (Some Verify) goes reply due out = absurd cc
   went_by (Some (Gen number count)) goes reply due out = absurd cc
+  went_by (Some (Bulk number count)) goes reply due out = absurd cc
   went_by None goes reply due out = absurd cc

@@ -6,18 +6,20 @@ use Rattle.std.proofs.lemmas.List.Elements.{All-contains}
 use Rattle.std.proofs.lemmas.Bool.Decides.{eqb_tells}
 use Rattle.std.proofs.lemmas.List.Folds.{list_any-append}
 use Rattle.std.proofs.lemmas.List.Sums.{fold-append}
+use Rattle.process_tree.specs.Entries.{access_of}
+use Rattle.process_tree.specs.Conflicts.{Access}
 use Rattle.process_tree.specs.declared.entry.Entry.{Entry}
 use Rattle.process_tree.specs.declared.plan.Plan.{Plan}
 use Rattle.schedule_model.specs.declared.event.Event.{Event}
 use Rattle.schedule_model.specs.declared.event.Event.TheVariants.{Start, Act, End}
 use Rattle.schedule_model.specs.Conflict.{ConflictRelation}
-use Rattle.schedule_model.specs.Course.{Course, op_of}
+use Rattle.schedule_model.specs.Course.{Course, op_of, access_at}
 use Rattle.schedule_model.specs.Histories.{acts, net, net_of, same_step}
 use Rattle.schedule_model.specs.Legal.{is_clear, is_legal, may_come}
 use Rattle.schedule_model.specs.OwnOrder.{keeps_order}
 use Rattle.schedule_model.proofs.Acting.{act_in_order}
 use Rattle.schedule_model.proofs.Appends.{acts-append}
-use Rattle.schedule_model.proofs.Entries.{HasPlansOperation, All-net_acts, acts-of_plans}
+use Rattle.schedule_model.proofs.Entries.{HasPlansAccess, All-net_acts, acts-of_plans}
 use Rattle.schedule_model.proofs.Induction.{by_legal}
 use Rattle.schedule_model.proofs.Members.{Among, among-append, among-filter, among_there, contains-from_among}
 use Rattle.schedule_model.proofs.Snoc.{net-do, net-end, net-start, net-undo}
@@ -148,7 +150,7 @@ module _ (ops : List Op) (plans : List Plan) (q : ℕ) (kind : Kind) where
     where
       -- whether an entry of this step can be undone
       at : ℕ → ℕ → ℕ → Bool
-      at p s o = can_be_of (effect_for (record { process = p; step = s; op = o; undo = true })) (undoables (acts h))
+      at p s o = can_be_of (effect_for (record { process = p; step = s; op = o; key = 0; undo = true })) (undoables (acts h))
 
       does : Undoes courses e h (h ++ Act e ∷ [])
       does = undoes table courses h e legal undo may
@@ -162,7 +164,10 @@ module _ (ops : List Op) (plans : List Plan) (q : ℕ) (kind : Kind) where
       keeps : IsTrue (keeps_order courses h (Act e))
       keeps = (and_parts (keeps_order courses h (Act e)) (is_clear table courses h (Act e)) may).0
 
+      access : access_of does.last ≡ access_of e
+      access =
+          All-contains (HasPlansAccess courses) (net h) does.last (All-net_acts (HasPlansAccess courses) (acts h) (acts-of_plans table courses h legal)) (contains-from_among does.last (net h) stands.0)
+          ∙ ap (λ p. access_at courses p does.last.step) stands.1 ∙ ap (access_at courses e.process) same ∙ sym (act_in_order courses h e keeps).1
+
       op : does.last.op ≡ e.op
-      op =
-          All-contains (HasPlansOperation courses) (net h) does.last (All-net_acts (HasPlansOperation courses) (acts h) (acts-of_plans table courses h legal)) (contains-from_among does.last (net h) stands.0)
-          ∙ ap (λ p. op_of courses p does.last.step) stands.1 ∙ ap (op_of courses e.process) same ∙ sym (act_in_order courses h e keeps).1
+      op = ap (λ (a : Access). a.op) access

@@ -13,7 +13,7 @@ abbrev ops : List Op
 ops = record { name = []; subsystem = 0; verb = Add } ∷ record { name = []; subsystem = 4; verb = Put } ∷ []
 
 abbrev act : ℕ → ℕ → ℕ → Bool → Entry
-act process step op undo = record { process = process; step = step; op = op; undo = undo }
+act process step op undo = record { process = process; step = step; op = op; key = 0; undo = undo }
 
 abbrev schedule : List Entry
 schedule = act 1 0 0 false ∷ act 2 0 1 false ∷ act 1 0 0 true ∷ []

@@ -5,13 +5,14 @@ use Rattle.std.specs.List.{list_all}
 use Rattle.std.proofs.Math.Bool.{and-true}
 use Rattle.std.proofs.lemmas.Bool.{and_parts, and_from, eqb-true, false≢true, le-leb, leb-true, lt-ltb, ltb-true}
 use Rattle.std.proofs.lemmas.List.Folds.{list_all-append}
+use Rattle.process_tree.specs.Entries.{access_of}
 use Rattle.process_tree.specs.declared.entry.Entry.{Entry}
 use Rattle.process_tree.specs.declared.plan.Plan.{Plan}
 use Rattle.process_tree.specs.Shape.{goes_on_to}
 use Rattle.schedule_model.specs.declared.event.Event.{Event}
 use Rattle.schedule_model.specs.declared.event.Event.TheVariants.{Act}
 use Rattle.schedule_model.specs.Conflict.{ConflictRelation}
-use Rattle.schedule_model.specs.Course.{Course, course, courses_of, op_of, shape}
+use Rattle.schedule_model.specs.Course.{Course, course, courses_of, shape, access_at}
 use Rattle.schedule_model.specs.Histories.{active, done_steps, is_active, net, net_steps, of_process, starts}
 use Rattle.schedule_model.specs.Laws.{AreGood}
 use Rattle.schedule_model.specs.Legal.{is_legal, may_come}
@@ -64,7 +65,7 @@ module _ (table : ConflictRelation) (plans : List Plan) (good : AreGood plans) (
   goes : IsTrue (is_active h i)
   goes = act_active table cs h e may
 
-  op : e.op ≡ op_of cs i e.step
+  op : access_of e ≡ access_at cs i e.step
   op = (act_in_order cs h e (order_of table cs h (Act e) may)).1
 
   bounds : (0 < i) × (i ≤ length t.processes)

@@ -3,6 +3,7 @@ use Rattle.std.proofs.Common.{◌≡◌, ◌⊎◌, inl, inr, ℕ, Bool, true, f
 use Rattle.std.specs.Bool.{IsTrue}
 use Rattle.std.specs.List.{list_any}
 use Rattle.std.proofs.lemmas.Bool.{and_from, and_parts, eq-eqb, eqb-true, false≢true, not-true, or_cases, or_left, or_right}
+use Rattle.process_tree.specs.Entries.{access_of}
 use Rattle.process_tree.specs.declared.entry.Entry.{Entry}
 use Rattle.schedule_model.specs.Conflict.{ConflictRelation, conflict}
 use Rattle.schedule_model.specs.Graph.{Arrow, Walk, one_arrow, and_then}
@@ -87,7 +88,7 @@ module _ (table : ConflictRelation) (es : List Entry) where
         marked-leads x.process (λ here. apart (eq-eqb b.process x.process (same ∙ sym here))) ∙ ap (λ n. leads_among table es n x.process) (sym same)
       where
         apart : eqb b.process x.process ≡ true → ⊥
-        apart here = false≢true (sym (ap (λ t. not t && table b.op x.op) here) ∙ is)
+        apart here = false≢true (sym (ap (λ t. not t && table (access_of b) (access_of x)) here) ∙ is)
 
     -- a step conflicts with an entry of a marked process exactly where it closes a circle
     pub marked-circle : (b : Entry) → b.process ≡ i → list_any (λ x. conflict table b x && marked x.process) es ≡ closes_circle table es b

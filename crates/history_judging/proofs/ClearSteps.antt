@@ -52,7 +52,7 @@ module _ (table : ConflictRelation) (courses : List Course) (h : List Event) (t 
     class-other is =
         ap (λ r. if r then reserved else class_by_kind (kind_of (shape courses i) b)) (sym (owed-class table courses h t legal kept e goes) ∙ is)
 
-    same_rest : owed_by (course courses i).ops i (forward (shape courses i) (net_steps h i ++ b ∷ [])) ≡ owed_after courses h i b
+    same_rest : owed_by (course courses i) i (forward (shape courses i) (net_steps h i ++ b ∷ [])) ≡ owed_after courses h i b
     same_rest = refl
 
     module _ (is_step : e.undo ≡ false) where
@@ -110,6 +110,6 @@ module _ (table : ConflictRelation) (courses : List Course) (h : List Event) (t 
       step-clear =
           ap (λ w. if list_any (same_step e) t.owed then not (conflicts_with_any table e t.owed)
           else (if commits (kind_of (shape courses i) b)
-          then (not (any_conflicts table (e ∷ owed_by (course courses i).ops i (forward (shape courses i) (w ++ b ∷ []))) (t.net ++ t.owed)) && not (conflicts_in_front table i t.net))
+          then (not (any_conflicts table (e ∷ owed_by (course courses i) i (forward (shape courses i) (w ++ b ∷ []))) (t.net ++ t.owed)) && not (conflicts_in_front table i t.net))
           else undoable_is_clear table t e)) (own-steps table courses h t legal kept i goes)
           ∙ by_owed (list_any (same_step e) t.owed) refl

@@ -5,14 +5,14 @@ use Rattle.std.specs.List.{list_all}
 use Rattle.std.proofs.lemmas.Bool.{and_parts}
 use Rattle.process_tree.specs.declared.entry.Entry.{Entry}
 use Rattle.process_tree.specs.declared.plan.Plan.{Plan}
-use Rattle.process_tree.specs.Conflicts.{Table, do_conflict, operations_in}
+use Rattle.process_tree.specs.Conflicts.{Table, do_conflict, operations_in, Access}
 use Rattle.process_tree.specs.Order.{Each}
 use Rattle.process_tree.specs.Shape.{goes_on_to}
 use Rattle.process_tree.proofs.Every.{Each-append}
 use Rattle.process_tree.proofs.Tables.{do_conflict-symmetric}
 use Rattle.schedule_model.specs.declared.event.Event.{Event}
 use Rattle.schedule_model.specs.declared.event.Event.TheVariants.{Start, Act, End}
-use Rattle.schedule_model.specs.Conflict.{IsSymmetric, no_conflict}
+use Rattle.schedule_model.specs.Conflict.{ConflictRelation, IsSymmetric, no_conflict}
 use Rattle.schedule_model.specs.Course.{Course, course, courses_of, shape}
 use Rattle.schedule_model.specs.Histories.{done_steps, is_active, net, net_steps, same_step, starts}
 use Rattle.schedule_model.specs.Legal.{is_legal, may_come}
@@ -81,7 +81,7 @@ module _ (table : Table) (plans : List Plan) (h : List Event) (t : Tables) (judg
   abbrev cs : List Course
   cs = courses_of plans
 
-  abbrev rel : ℕ → ℕ → Bool
+  abbrev rel : ConflictRelation
   rel = do_conflict table
 
   abbrev n : ℕ
@@ -140,7 +140,7 @@ module _ (table : Table) (plans : List Plan) (h : List Event) (t : Tables) (judg
   known_step e is_step may =
       let on = step_goes_on rel cs h e is_step may in
       step_known plans n judged.known.known judged.known.good e.process (net_steps h e.process) e.op e.step
-      (act_in_order cs h e (order_of rel cs h (Act e) may)).1
+      (ap (λ (a : Access). a.op) (act_in_order cs h e (order_of rel cs h (Act e) may)).1)
       (and_parts (goes_on_to (shape cs e.process) (net_steps h e.process) e.step) (list_all (λ d. ltb d e.step) (done_steps h e.process)) on).0
 
   net_then : (event : Event) → IsTrue (may_come rel cs h event) → AreKnown table (kept_after cs t event).net

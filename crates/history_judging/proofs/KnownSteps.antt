@@ -40,7 +40,7 @@ module _ (plans : List Plan) (n : ℕ) (known : (p : Plan) → Contains plans p 
       (λ found. subst (λ (c : Course). get_or c.ops b 0 < n) (sym found.2) (ltb-true (get_or found.0.ops b 0) n (all_or (λ a. ltb a n) found.0.ops b 0 (known found.0 found.1) (lt-ltb 0 n some))))
       (plan_or_none plans i)
 
-  owed_by-known : (i k : ℕ) (bs : List ℕ) → 0 < n → Each (λ (e : Entry). e.op < n) (owed_by (course (courses_of plans) i).ops k bs)
+  owed_by-known : (i k : ℕ) (bs : List ℕ) → 0 < n → Each (λ (e : Entry). e.op < n) (owed_by (course (courses_of plans) i) k bs)
   owed_by-known i k [] some = tt
   owed_by-known i k (b ∷ bs) some = (read_known i b some, owed_by-known i k bs some)
 
@@ -50,7 +50,7 @@ module _ (plans : List Plan) (n : ℕ) (known : (p : Plan) → Contains plans p 
   owed_with-known i es owed e each some = by_owed more (list_any (same_step e) owed) (commits (kind_of (shape (courses_of plans) i) e.step)) more_known
     where
       more : List Entry
-      more = owed_by (course (courses_of plans) i).ops e.process (forward (shape (courses_of plans) i) (steps_of (of_process e.process es) ++ e.step ∷ []))
+      more = owed_by (course (courses_of plans) i) e.process (forward (shape (courses_of plans) i) (steps_of (of_process e.process es) ++ e.step ∷ []))
 
       more_known : Each (λ (x : Entry). x.op < n) more
       more_known = owed_by-known i e.process (forward (shape (courses_of plans) i) (steps_of (of_process e.process es) ++ e.step ∷ [])) some

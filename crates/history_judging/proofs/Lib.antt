@@ -1,4 +1,5 @@
-pub mod ByOperation
+pub mod ByAccess
+pub mod OperationsOf
 pub mod Pairs
 pub mod Marks
 pub mod Spreading

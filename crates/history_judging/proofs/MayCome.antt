@@ -2,7 +2,10 @@
 use Rattle.std.proofs.Common.{◌≡◌, ℕ, ◌+◌, Bool, true, false, not, eqb, leb, ◌&&◌, if◌then◌else◌, List, length, sym, refl, ap, ◌∙◌}
 use Rattle.std.specs.Bool.{IsTrue}
 use Rattle.std.proofs.Math.Bool.{and-true}
-use Rattle.std.proofs.lemmas.Bool.{eqb-true, not-true}
+use Rattle.std.proofs.lemmas.Bool.{not-true}
+use Rattle.process_tree.proofs.Entries.{same_access-true}
+use Rattle.process_tree.specs.Entries.{access_of}
+use Rattle.process_tree.specs.Conflicts.{same_access}
 use Rattle.process_tree.specs.declared.entry.Entry.{Entry}
 use Rattle.process_tree.specs.declared.plan.Plan.{Plan}
 use Rattle.process_tree.specs.Shape.{goes_on_to, is_end}
@@ -10,7 +13,7 @@ use Rattle.schedule_model.specs.declared.event.Event.{Event}
 use Rattle.schedule_model.specs.declared.event.Event.TheVariants.{Start, Act, End}
 use Rattle.schedule_model.specs.Blocking.{Clashes, against}
 use Rattle.schedule_model.specs.Conflict.{ConflictRelation, IsSymmetric, conflict}
-use Rattle.schedule_model.specs.Course.{Course, course, courses_of, op_of, shape}
+use Rattle.schedule_model.specs.Course.{Course, course, courses_of, shape, access_at}
 use Rattle.schedule_model.specs.Histories.{is_active, net, net_steps, starts}
 use Rattle.schedule_model.specs.Holdings.{active_net, at_rest, behind}
 use Rattle.schedule_model.specs.Laws.{AreGood}
@@ -49,7 +52,7 @@ module _ (table : ConflictRelation) (symmetric : IsSymmetric table) (plans : Lis
     b = e.step
 
     -- nothing stands against an undo, either, where nothing behind it does among the active
-    module _ (undo : e.undo ≡ true) (op : e.op ≡ op_of cs i b) where
+    module _ (undo : e.undo ≡ true) (op : access_of e ≡ access_at cs i b) where
       aside : against table e (behind e (active_net (at_rest cs h))) ≡ against table e (behind e (net h))
       aside = ap (λ (c : Clashes). c.a5) (aside_undo table plans h symmetric good legal e goes op)
 
@@ -78,15 +81,15 @@ module _ (table : ConflictRelation) (symmetric : IsSymmetric table) (plans : Lis
         ∙ ap (λ t'. goes_on_to (shape cs i) (net_steps h i) b && t') ((kept.rows i bounds.0 bounds.1).bound b)
 
     -- an entry of an active process with the plan's operation
-    entry_by : (u : Bool) → e.undo ≡ u → e.op ≡ op_of cs i b
+    entry_by : (u : Bool) → e.undo ≡ u → access_of e ≡ access_at cs i b
         → (if u then undo_comes table (course cs i) t e else (step_goes_on (course cs i) t e && step_is_clear table (course cs i) t e))
         ≡ ((if u then is_of_last (backward_entries cs h i) e else goes_on cs h i b) && is_clear table cs h (Act e))
     entry_by true undo op = undo-comes undo op
     entry_by false is_step op = behind_test (step_goes_on (course cs i) t e) (goes_on cs h i b) (step_is_clear table (course cs i) t e) (is_clear table cs h (Act e)) step-goes (λ on. step-clear table cs h t legal kept e goes is_step)
 
     entry-comes : entry_comes table (course cs i) t e
-        ≡ (eqb e.op (op_of cs i b) && ((if e.undo then is_of_last (backward_entries cs h i) e else goes_on cs h i b) && is_clear table cs h (Act e)))
-    entry-comes = behind_test (eqb e.op (op_of cs i b)) (eqb e.op (op_of cs i b)) _ _ refl (λ same. entry_by e.undo refl (eqb-true e.op (op_of cs i b) same))
+        ≡ (same_access (access_of e) (access_at cs i b) && ((if e.undo then is_of_last (backward_entries cs h i) e else goes_on cs h i b) && is_clear table cs h (Act e)))
+    entry-comes = behind_test (same_access (access_of e) (access_at cs i b)) (same_access (access_of e) (access_at cs i b)) _ _ refl (λ same. entry_by e.undo refl (same_access-true (access_of e) (access_at cs i b) same))
 
   and_twice : (a o w c : Bool) → (a && (o && (w && c))) ≡ (((a && o) && w) && c)
   and_twice true true w c = refl
@@ -106,7 +109,7 @@ module _ (table : ConflictRelation) (symmetric : IsSymmetric table) (plans : Lis
   comes-is (Start k) = ap (λ n. eqb k (n + 1)) kept.started ∙ sym (and-true (eqb k (length (starts h) + 1)))
   comes-is (Act e) =
       behind_test (is_active_in t.processes e.process) (is_active h e.process) _ _ (active-is table cs h t legal kept e.process) (λ goes. entry-comes e goes)
-      ∙ and_twice (is_active h e.process) (eqb e.op (op_of cs e.process e.step)) (if e.undo then is_of_last (backward_entries cs h e.process) e else goes_on cs h e.process e.step) (is_clear table cs h (Act e))
+      ∙ and_twice (is_active h e.process) (same_access (access_of e) (access_at cs e.process e.step)) (if e.undo then is_of_last (backward_entries cs h e.process) e else goes_on cs h e.process e.step) (is_clear table cs h (Act e))
   comes-is (End k) =
       behind_test (is_active_in t.processes k) (is_active h k) (end_comes table (course cs k) t k) (is_at_end cs h k && is_clear table cs h (End k)) (active-is table cs h t legal kept k) (λ goes. end-is k goes)
       ∙ and_assoc (is_active h k) (is_at_end cs h k) (is_clear table cs h (End k))

@@ -56,7 +56,7 @@ module _ (table : Table) (plans more : List Plan) (h : List Event) (t : Tables) 
 
   owed_alike : (i : ℕ) (a : Bool) → is_active h i ≡ a → (if a then owed cs h i else []) ≡ (if a then owed ds h i else [])
   owed_alike i true goes =
-      ap (λ (c : Course). map (λ b. record { process = i; step = b; op = slice_index_or c.ops b 0; undo = false }) (forward c.shape (net_steps h i))) (same_active i goes)
+      ap (λ (c : Course). map (λ b. record { process = i; step = b; op = slice_index_or c.ops b 0; key = slice_index_or c.keys b 0; undo = false }) (forward c.shape (net_steps h i))) (same_active i goes)
   owed_alike i false stopped = refl
 
   kept_alike : IsKept ds h t

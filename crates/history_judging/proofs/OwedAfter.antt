@@ -4,6 +4,7 @@ use Rattle.std.specs.Bool.{IsTrue}
 use Rattle.std.specs.List.{list_all, list_any}
 use Rattle.std.proofs.Math.Bool.{and_comm}
 use Rattle.std.proofs.lemmas.Bool.{and_left, and_parts, eq-eqb, eqb-true}
+use Rattle.process_tree.specs.Entries.{access_of}
 use Rattle.process_tree.specs.declared.entry.Entry.{Entry}
 use Rattle.process_tree.specs.declared.plan.Plan.{Plan}
 use Rattle.process_tree.specs.Recovery.{class_by_kind, forward, reserved}
@@ -11,7 +12,7 @@ use Rattle.process_tree.specs.Shape.{commits, goes_on_to, kind_of}
 use Rattle.schedule_model.specs.declared.event.Event.{Event}
 use Rattle.schedule_model.specs.declared.event.Event.TheVariants.{Act}
 use Rattle.schedule_model.specs.Conflict.{ConflictRelation}
-use Rattle.schedule_model.specs.Course.{Course, course, courses_of, op_of, shape}
+use Rattle.schedule_model.specs.Course.{Course, course, courses_of, shape, access_at}
 use Rattle.schedule_model.specs.Histories.{doing, done_steps, is_active, net_steps, of_process, same_step}
 use Rattle.schedule_model.specs.Laws.{AreGood}
 use Rattle.schedule_model.specs.Legal.{class_in, is_legal}
@@ -45,7 +46,7 @@ of_process-doing_other courses k i (b ∷ bs) other =
     ∙ of_process-doing_other courses k i bs other
 
 module _ (table : ConflictRelation) (plans : List Plan) (good : AreGood plans) (h : List Event) (t : Tables) (legal : IsTrue (is_legal table (courses_of plans) h))
-    (kept : IsKept (courses_of plans) h t) (e : Entry) (is_step : e.undo ≡ false) (goes : IsTrue (is_active h e.process)) (op : e.op ≡ op_of (courses_of plans) e.process e.step)
+    (kept : IsKept (courses_of plans) h t) (e : Entry) (is_step : e.undo ≡ false) (goes : IsTrue (is_active h e.process)) (op : access_of e ≡ access_at (courses_of plans) e.process e.step)
     (on : IsTrue (goes_on (courses_of plans) h e.process e.step)) where
   abbrev cs : List Course
   cs = courses_of plans
@@ -134,7 +135,7 @@ module _ (table : ConflictRelation) (plans : List Plan) (good : AreGood plans) (
   new_is : owed_with (course cs i) t.net t.owed e ≡ new_owed (list_any (same_step e) t.owed) (commits (kind_of (shape cs i) b))
   new_is =
       ap (λ w. if list_any (same_step e) t.owed then filter (λ s. not (same_step s e)) t.owed
-      else (if commits (kind_of (shape cs i) b) then of_others i t.owed ++ owed_by (course cs i).ops i (forward (shape cs i) (w ++ b ∷ [])) else t.owed))
+      else (if commits (kind_of (shape cs i) b) then of_others i t.owed ++ owed_by (course cs i) i (forward (shape cs i) (w ++ b ∷ [])) else t.owed))
       (own-steps table cs h t legal kept i goes)
 
   -- what each active process owes after the step

@@ -2,6 +2,9 @@
 use Rattle.std.specs.Prelude.{◌≡◌, ◌<◌, ◌≤◌, ℕ, Bool, true, false, not, ◌&&◌, ◌||◌, List, [], ◌∷◌, filter, length, map, nat_eq, slice_index_or}
 use Rattle.std.specs.List.{list_any}
 use Rattle.process_tree.specs.declared.entry.Entry.{Entry}
+use Rattle.process_tree.specs.declared.conflicts.Mode.{Mode}
+use Rattle.process_tree.specs.declared.conflicts.Mode.TheVariants.{Never, Key, Always}
+use Rattle.process_tree.specs.Conflicts.{Access}
 use Rattle.schedule_model.specs.Conflict.{ConflictRelation, conflict}
 use Rattle.schedule_model.specs.Graph.{Arrow, leads}
 
@@ -34,9 +37,24 @@ leads_among table es k i = leads (arrow_among table es) (map (λ e. e.process) e
 abbrev pub closes_circle : ConflictRelation → List Entry → Entry → Bool
 closes_circle table es b = list_any (λ x. conflict table b x && leads_among table es b.process x.process) es
 
--- one of these operations conflicts with o
-abbrev pub op_conflicts : ConflictRelation → List ℕ → ℕ → Bool
-op_conflicts table ops o = list_any (λ a. table a o) ops
+-- one of these accesses conflicts with a
+abbrev pub access_conflicts : ConflictRelation → List Access → Access → Bool
+access_conflicts table accesses a = list_any (λ x. table x a) accesses
+
+-- whether a pair of operations conflicts on all keys, or on none
+abbrev pub is_always : Mode → Bool
+is_always Never = false
+is_always Key = false
+is_always Always = true
+
+abbrev pub is_never : Mode → Bool
+is_never Never = true
+is_never Key = false
+is_never Always = false
+
+-- these are the operations of these accesses
+abbrev pub AreOperationsOf : List ℕ → List Access → Type 0
+AreOperationsOf ops accesses = (p : ℕ → Bool) → list_any p ops ≡ list_any (λ a. p a.op) accesses
 
 -- Sets of processes, by marks.
 

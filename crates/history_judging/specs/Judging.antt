@@ -3,7 +3,8 @@ use Rattle.std.specs.Prelude.{◌≡◌, ◌≤◌, ℕ, ◌+◌, Bool, true, no
 use Rattle.std.specs.List.{list_all, list_any, starts_with}
 use Rattle.process_tree.specs.declared.entry.Entry.{Entry}
 use Rattle.process_tree.specs.declared.plan.Plan.{Plan}
-use Rattle.process_tree.specs.Conflicts.{Table, operations_in}
+use Rattle.process_tree.specs.Conflicts.{Access, Table, operations_in, same_access}
+use Rattle.process_tree.specs.Entries.{access_of}
 use Rattle.process_tree.specs.Order.{Each}
 use Rattle.process_tree.specs.Recovery.{forward}
 use Rattle.process_tree.specs.Shape.{commits, first_of, goes_on_to, is_end, kind_of, shape_of}
@@ -35,7 +36,7 @@ step_goes_on c t e = goes_on_to c.shape (steps_among t.net e.process) e.step && 
 -- nothing stands against a step that would be a commit point
 abbrev pub commit_is_clear : ConflictRelation → Course → Tables → Entry → Bool
 commit_is_clear table c t e =
-    not (any_conflicts table (e ∷ owed_by c.ops e.process (forward c.shape (steps_among t.net e.process ++ e.step ∷ []))) (t.net ++ t.owed))
+    not (any_conflicts table (e ∷ owed_by c e.process (forward c.shape (steps_among t.net e.process ++ e.step ∷ []))) (t.net ++ t.owed))
     && not (conflicts_in_front table e.process t.net)
 
 -- nothing stands against one that can be undone
@@ -49,10 +50,14 @@ step_is_clear table c t e =
     else if commits (kind_of c.shape e.step) then commit_is_clear table c t e
     else undoable_is_clear table t e
 
--- an entry has the operation of its plan, and may come
+-- what step b of a process of this course does
+abbrev pub step_access : Course → ℕ → Access
+step_access c b = record { op = slice_index_or c.ops b 0; key = slice_index_or c.keys b 0 }
+
+-- an entry does what its plan says, and may come
 abbrev pub entry_comes : ConflictRelation → Course → Tables → Entry → Bool
 entry_comes table c t e =
-    nat_eq e.op (slice_index_or c.ops e.step 0) && (if e.undo then undo_comes table c t e else (step_goes_on c t e && step_is_clear table c t e))
+    same_access (access_of e) (step_access c e.step) && (if e.undo then undo_comes table c t e else (step_goes_on c t e && step_is_clear table c t e))
 
 -- a process of this course is at an end, and nothing stands against that
 abbrev pub end_comes : ConflictRelation → Course → Tables → ℕ → Bool

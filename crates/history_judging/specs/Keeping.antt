@@ -133,7 +133,7 @@ undone e t = record {
 abbrev pub owed_with : Course → List Entry → List Entry → Entry → List Entry
 owed_with c es owed e =
     if list_any (same_step e) owed then filter (λ s. not (same_step s e)) owed
-    else if commits (kind_of c.shape e.step) then of_others e.process owed ++ owed_by c.ops e.process (forward c.shape (steps_of (of_process e.process es) ++ e.step ∷ []))
+    else if commits (kind_of c.shape e.step) then of_others e.process owed ++ owed_by c e.process (forward c.shape (steps_of (of_process e.process es) ++ e.step ∷ []))
     else owed
 
 -- a step of a process of this course takes effect

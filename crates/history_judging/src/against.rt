@@ -1,14 +1,16 @@
 // Whether what stands or is owed conflicts with an event.
-ghost use Rattle.std.specs.Prelude.{◌≡◌, ◌<◌, ◌&&◌, ◌||◌, not, ℕ, ◌++◌, length, nat_eq, IfOk, OnOk};
+ghost use Rattle.std.specs.Prelude.{◌≡◌, ◌<◌, ◌&&◌, not, ◌++◌, length, nat_eq, IfOk};
 ghost use Rattle.std.specs.List.{list_any};
 ghost use Rattle.process_tree.specs.declared.entry.Entry.{Entry};
-ghost use Rattle.process_tree.specs.Conflicts.{Table, do_conflict, operations_in};
+ghost use Rattle.process_tree.specs.Conflicts.{do_conflict, operations_in};
+ghost use Rattle.process_tree.specs.Entries.{access_of};
 ghost use Rattle.process_tree.specs.Order.{Each};
 ghost use Rattle.schedule_model.specs.Conflict.{conflict};
 ghost use Rattle.schedule_model.specs.Holdings.{behind};
 ghost use Rattle.schedule_rules.specs.Applying.{AreKnown};
-ghost use Rattle.history_judging.specs.Conflicting.{conflicts_with_any, any_conflicts, conflicts_in_front, op_conflicts};
+ghost use Rattle.history_judging.specs.Conflicting.{conflicts_with_any, any_conflicts, conflicts_in_front, access_conflicts};
 
+use crate::access::{Accesses, accesses_of};
 use process_tree::{Conflicts, Entry};
 use schedule_rules::{conflict, is_same_step};
 use std::alloc::{AllocError, Global};
@@ -45,69 +47,15 @@ pub fn conflicts_behind(c: &Conflicts, entry: &Entry, others: &[Entry]) -> bool
     false
 }
 
-fn is_listed(ops: &[u16], op: u16) -> bool
-    ensures { result ≡ list_any (nat_eq op) ops.now }
-{
-    let mut rest = ops;
-    while let [other, after @ ..] = rest {
-        if op == *other {
-            return true;
-        }
-        rest = after;
-    }
-    false
-}
-
-/// Adds an operation to those that are listed, each once.
-pub fn add_op(ops: &mut Vec<u16>, op: u16) -> Result<(), AllocError>
-    ensures conflicts { OnOk result ((table : Table) (o : ℕ) → op_conflicts (do_conflict table) ops.new.items o ≡ (do_conflict table op o || op_conflicts (do_conflict table) ops.old.items o)) }
-    ensures known { (n : ℕ) → op < n → Each (λ a. a < n) ops.old.items → Each (λ a. a < n) ops.new.items }
-{
-    if !is_listed(ops, op) {
-        ops.push(op)?;
-    }
-    Ok(())
-}
-
-/// Whether one of these operations conflicts with another.
-pub fn op_conflicts(c: &Conflicts, ops: &[u16], op: u16) -> bool
-    requires op { op < operations_in c.now }
-    requires known { Each (λ a. a < operations_in c.now) ops.now }
-    ensures { result ≡ op_conflicts (do_conflict c.now) ops.now op }
-{
-    let mut rest = ops;
-    while let [other, after @ ..] = rest {
-        if c.holds(*other, op) {
-            return true;
-        }
-        rest = after;
-    }
-    false
-}
-
-/// The operations of these entries, each once.
-fn ops_of(alloc: Global, entries: &[Entry]) -> Result<Vec<u16>, AllocError>
-    ensures conflicts { IfOk result (λ ops. (table : Table) (o : ℕ) → op_conflicts (do_conflict table) ops.items o ≡ list_any (λ e. do_conflict table e.op o) entries.now) }
-    ensures known { IfOk result (λ ops. (n : ℕ) → Each (λ e. e.op < n) entries.now → Each (λ a. a < n) ops.items) }
-{
-    let mut ops = Vec::new(alloc);
-    let mut rest = entries;
-    while let [entry, after @ ..] = rest {
-        add_op(&mut ops, entry.op)?;
-        rest = after;
-    }
-    Ok(ops)
-}
-
-/// Whether an entry of another process conflicts with one of these operations.
-fn conflicts_among(c: &Conflicts, process: u32, ops: &[u16], others: &[Entry]) -> bool
-    requires known { Each (λ a. a < operations_in c.now) ops.now }
+/// Whether an entry of another process conflicts with one of these accesses.
+fn conflicts_among(c: &Conflicts, process: u32, accesses: &Accesses, others: &[Entry]) -> bool
+    requires known { Each (λ a. a.op < operations_in c.now) accesses.now }
     requires others { AreKnown c.now others.now }
-    ensures { result ≡ list_any (λ x. not (nat_eq process x.process) && op_conflicts (do_conflict c.now) ops.now x.op) others.now }
+    ensures { result ≡ list_any (λ x. not (nat_eq process x.process) && access_conflicts (do_conflict c.now) accesses.now (access_of x)) others.now }
 {
     let mut rest = others;
     while let [other, after @ ..] = rest {
-        if process != other.process && op_conflicts(c, ops, other.op) {
+        if process != other.process && accesses.conflict(c, other) {
             return true;
         }
         rest = after;
@@ -130,11 +78,11 @@ pub fn any_conflicts(
     requires owed { AreKnown c.now owed.now }
     ensures { IfOk result (λ met. met ≡ any_conflicts (do_conflict c.now) steps.now (net.now ++ owed.now)) }
 {
-    let ops = ops_of(alloc, steps)?;
-    if conflicts_among(c, process, &ops, net) {
+    let accesses = accesses_of(alloc, steps)?;
+    if conflicts_among(c, process, &accesses, net) {
         return Ok(true);
     }
-    Ok(conflicts_among(c, process, &ops, owed))
+    Ok(conflicts_among(c, process, &accesses, owed))
 }
 
 /// Whether an entry of a process conflicts with one in front of it.
@@ -147,12 +95,12 @@ pub fn conflicts_in_front(
     requires known { AreKnown c.now entries.now }
     ensures { IfOk result (λ met. met ≡ conflicts_in_front (do_conflict c.now) process entries.now) }
 {
-    let mut ops = Vec::new(alloc);
+    let mut accesses = Accesses::new(alloc);
     let mut rest = entries;
     while let [before @ .., entry] = rest {
         if entry.process == process {
-            add_op(&mut ops, entry.op)?;
-        } else if op_conflicts(c, &ops, entry.op) {
+            accesses.add(entry)?;
+        } else if accesses.conflict(c, entry) {
             return Ok(true);
         }
         rest = before;

@@ -8,7 +8,8 @@ ghost use Rattle.schedule_model.specs.Conflict.{conflict};
 ghost use Rattle.schedule_rules.specs.Applying.{AreKnown};
 ghost use Rattle.history_judging.specs.Conflicting.{closes_circle, is_marked, is_closed, unmarked, Spreads};
 
-use crate::against::{add_op, conflicts_with_any, op_conflicts};
+use crate::access::Accesses;
+use crate::against::conflicts_with_any;
 use process_tree::{Conflicts, Entry};
 use schedule_rules::conflict;
 use std::alloc::{AllocError, Global};
@@ -72,15 +73,15 @@ fn spread(
     ensures len { length marks.new ≡ length marks.old }
     ensures spread { IfOk result (λ grew. Spreads (do_conflict c.now) entries.now marks.old marks.new grew) }
 {
-    let mut ops = Vec::new(alloc);
+    let mut accesses = Accesses::new(alloc);
     let mut grew = false;
     let mut rest = entries;
     while let [entry, after @ ..] = rest {
         let place = entry.process as usize;
         if marks[place] {
-            add_op(&mut ops, entry.op)?;
-        } else if op_conflicts(c, &ops, entry.op) {
-            add_op(&mut ops, entry.op)?;
+            accesses.add(entry)?;
+        } else if accesses.conflict(c, entry) {
+            accesses.add(entry)?;
             marks[place] = true;
             grew = true;
         }

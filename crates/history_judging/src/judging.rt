@@ -21,9 +21,9 @@ use crate::against::{any_conflicts, conflicts_behind, conflicts_in_front, confli
 use crate::circle::closes_circle;
 use crate::legality::{Legality, ProcessRow};
 use crate::order::{goes_on_to, is_end, is_of_last};
-use process_tree::{Conflicts, Entry, Plan, kind_of, op_of};
+use process_tree::{Conflicts, Entry, Plan, kind_of};
 use schedule_model::Event;
-use schedule_rules::{backward, has_same_step, of_process, owed, steps_of};
+use schedule_rules::{backward, entry_of, has_same_step, of_process, owed, steps_of};
 use std::alloc::{AllocError, Global};
 
 /// Whether an event may come after the history of which these are the tables.
@@ -97,7 +97,8 @@ fn entry_comes(
     requires ready { IsReady c.now plan.now t.now e.now.process }
     ensures { IfOk result (λ may. may ≡ entry_comes (do_conflict c.now) (course_of plan.now) t.now e.now) }
 {
-    if e.op != op_of(plan.ops.as_slice(), e.step) {
+    let planned = entry_of(plan, e.process, e.step);
+    if e.op != planned.op || e.key != planned.key {
         return Ok(false);
     }
     if e.undo {
@@ -224,26 +225,21 @@ pub fn add_owed(
 ) -> Result<(), AllocError>
     requires good { IsGoodPlan plan.now }
     requires goes { goes_on_to (shape_of plan.now.tree) steps.now e.now.step ≡ true }
-    ensures { OnOk result (added.new.items ≡ added.old.items ++ owed_by plan.now.ops e.now.process (forward (shape_of plan.now.tree) (steps.now ++ e.now.step ∷ []))) }
+    ensures { OnOk result (added.new.items ≡ added.old.items ++ owed_by (course_of plan.now) e.now.process (forward (shape_of plan.now.tree) (steps.now ++ e.now.step ∷ []))) }
 {
     let mut done = steps.to_vec(alloc)?;
     done.push(e.step)?;
     let places = owed(alloc, plan, &done)?;
-    add_entries(plan.ops.as_slice(), &places, e.process, added)
+    add_entries(plan, &places, e.process, added)
 }
 
 /// Adds these steps of a process.
-fn add_entries(ops: &[u16], steps: &[u16], i: u32, added: &mut Vec<Entry>) -> Result<(), AllocError>
-    ensures { OnOk result (added.new.items ≡ added.old.items ++ owed_by ops.now i steps.now) }
+fn add_entries(plan: &Plan, steps: &[u16], i: u32, added: &mut Vec<Entry>) -> Result<(), AllocError>
+    ensures { OnOk result (added.new.items ≡ added.old.items ++ owed_by (course_of plan.now) i steps.now) }
 {
     let mut rest = steps;
     while let [step, after @ ..] = rest {
-        added.push(Entry {
-            process: i,
-            step: *step,
-            op: op_of(ops, *step),
-            undo: false,
-        })?;
+        added.push(entry_of(plan, i, *step))?;
         rest = after;
     }
     Ok(())

@@ -95,7 +95,7 @@ fn owe_after(
 ) -> Result<(), AllocError>
     requires good { IsGoodPlan plan.now }
     requires goes { goes_on_to (shape_of plan.now.tree) (steps_among net.now e.now.process) e.now.step ≡ true }
-    ensures { OnOk result (owed.new.items ≡ of_others e.now.process owed.old.items ++ owed_by plan.now.ops e.now.process (forward (shape_of plan.now.tree) (steps_among net.now e.now.process ++ e.now.step ∷ []))) }
+    ensures { OnOk result (owed.new.items ≡ of_others e.now.process owed.old.items ++ owed_by (course_of plan.now) e.now.process (forward (shape_of plan.now.tree) (steps_among net.now e.now.process ++ e.now.step ∷ []))) }
 {
     let steps = steps_among(alloc, net, e.process)?;
     leave(owed, e.process);

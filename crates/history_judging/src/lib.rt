@@ -6,6 +6,7 @@
 //! none, and nothing else.
 #![tactic(auto)]
 
+mod access;
 mod against;
 mod circle;
 mod judging;

@@ -4,7 +4,7 @@ use process_journal::JournalError;
 
 // Places of the file, from one on and below another; the least, a middle and the greatest of the values of the byte there that have
 // one answer; and how many events the history has then, or why there is no journal.
-pub const DAMAGES: [(usize, usize, u8, u8, u8, Result<usize, JournalError>); 89] = [
+pub const DAMAGES: [(usize, usize, u8, u8, u8, Result<usize, JournalError>); 93] = [
     (0, 8, 0, 128, 255, Err(JournalError::BadHeader)),
     (8, 9, 0, 0, 0, Err(JournalError::BadRecord(1))),
     (8, 9, 2, 129, 255, Ok(3)),
@@ -24,7 +24,11 @@ pub const DAMAGES: [(usize, usize, u8, u8, u8, Result<usize, JournalError>); 89]
     (9, 10, 58, 61, 64, Err(JournalError::BadRecord(1))),
     (9, 10, 65, 65, 65, Err(JournalError::BadRecord(2))),
     (9, 10, 66, 161, 255, Err(JournalError::BadRecord(1))),
-    (10, 16, 0, 128, 255, Err(JournalError::BadRecord(1))),
+    (10, 12, 0, 128, 255, Err(JournalError::BadRecord(1))),
+    (12, 13, 0, 0, 0, Err(JournalError::BadRecord(1))),
+    (12, 13, 2, 2, 2, Ok(3)),
+    (12, 13, 3, 129, 255, Err(JournalError::BadRecord(1))),
+    (13, 16, 0, 128, 255, Err(JournalError::BadRecord(1))),
     (16, 17, 0, 48, 96, Err(JournalError::BadRecord(1))),
     (16, 17, 98, 110, 122, Err(JournalError::BadRecord(2))),
     (16, 17, 123, 189, 255, Err(JournalError::BadRecord(1))),

@@ -8,6 +8,7 @@ const X: Entry = Entry {
     process: 1,
     step: 0,
     op: 0,
+    key: 0,
     undo: false,
 };
 
@@ -15,6 +16,7 @@ const U: Entry = Entry {
     process: 2,
     step: 0,
     op: 0,
+    key: 0,
     undo: false,
 };
 
@@ -27,6 +29,7 @@ const EVENTS: [Event; 6] = [
         process: 1,
         step: 0,
         op: 0,
+        key: 0,
         undo: true,
     }),
     Event::End(1),

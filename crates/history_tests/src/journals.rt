@@ -71,6 +71,17 @@ fn each_damage_has_its_answer(rt: HostRuntime) -> Result<(), Fail> {
 }
 
 #[test]
+fn a_journal_of_version_2_is_opened(rt: HostRuntime) -> Result<(), Fail> {
+    let alloc = rt.alloc();
+    let mut file = whole_file(alloc)?;
+    assert!(rt; file.len() == FILE.len());
+    file[12] = 2;
+    file[21] = 2;
+    assert_eq!(rt; events(alloc, &file)?, Ok(3));
+    Ok(())
+}
+
+#[test]
 fn each_cut_has_its_answer(rt: HostRuntime) -> Result<(), Fail> {
     let alloc = rt.alloc();
     for (from, to, want) in CUTS {
@@ -122,6 +133,7 @@ const STEP: Entry = Entry {
     process: 1,
     step: 0,
     op: 0,
+    key: 1,
     undo: false,
 };
 

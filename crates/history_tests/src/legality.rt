@@ -13,7 +13,7 @@ ghost use Rattle.schedule_model.specs.Laws.{IsGoodPlan, IsPlanned};
 
 use history_judging::{LegalError, legal};
 use process_tree::{
-    Block, Conflicts, Entry, Name, Operations, Plan, Step, StepKind, Steps, Tail, Tree,
+    Block, Conflicts, Entry, Mode, Name, Operations, Plan, Step, StepKind, Steps, Tail, Tree,
 };
 use schedule_model::{Event, Events, History, Plans};
 use schedule_rules::{completed, started};
@@ -30,14 +30,14 @@ const NOTE: u16 = 3;
 
 const BOOK: u16 = 4;
 
-fn step(alloc: Global, kind: StepKind, name: &[u8]) -> Result<Step, Fail>
+fn step(alloc: Global, kind: StepKind, name: &[u8], key: u32) -> Result<Step, Fail>
     ensures { IfOk result (λ step. step.kind ≡ kind) }
 {
     Ok(Step {
         kind,
         name: Name::new(alloc, name)?,
         op: Name::new(alloc, b"op")?,
-        key: 1,
+        key,
         amount: 5,
         tries: 3,
         undo_tries: 3,
@@ -46,12 +46,12 @@ fn step(alloc: Global, kind: StepKind, name: &[u8]) -> Result<Step, Fail>
     })
 }
 
-/// A compensatable step and a pivot.
-fn steps(alloc: Global) -> Result<Steps, Fail>
+/// A compensatable step and a pivot on one key.
+fn steps(alloc: Global, key: u32) -> Result<Steps, Fail>
     ensures { IfOk result (λ steps. map (λ s. s.kind) steps ≡ C ∷ P ∷ []) }
 {
-    let first = step(alloc, StepKind::C, b"x")?;
-    let second = step(alloc, StepKind::P, b"y")?;
+    let first = step(alloc, StepKind::C, b"x", key)?;
+    let second = step(alloc, StepKind::P, b"y", key)?;
     let mut steps = Vec::new(alloc);
     steps.push(first)?;
     steps.push(second)?;
@@ -59,11 +59,11 @@ fn steps(alloc: Global) -> Result<Steps, Fail>
 }
 
 /// The process of these steps.
-fn tree(alloc: Global) -> Result<Tree, Fail>
+fn tree(alloc: Global, key: u32) -> Result<Tree, Fail>
     ensures good { IfOk result (λ tree. IsWellFormed (shape_of tree) × (tree_fault tree ≡ None)) }
     ensures count { IfOk result (λ tree. length (outline tree).steps ≡ 2) }
 {
-    let steps = steps(alloc)?;
+    let steps = steps(alloc, key)?;
     let root = Block {
         steps,
         tail: Tail::End,
@@ -72,12 +72,12 @@ fn tree(alloc: Global) -> Result<Tree, Fail>
 }
 
 /// Its plan with this operation and that of paying.
-fn plan(alloc: Global, op: u16) -> Result<Plan, Fail>
+fn plan(alloc: Global, op: u16, key: u32) -> Result<Plan, Fail>
     requires { op < 5 }
     ensures good { IfOk result IsGoodPlan }
     ensures known { IfOk result (λ p. IsTrue (list_all (λ a. nat_lt a 5) p.ops)) }
 {
-    let tree = tree(alloc)?;
+    let tree = tree(alloc, key)?;
     let mut ops = Vec::new(alloc);
     ops.push(op)?;
     ops.push(PAY)?;
@@ -88,38 +88,43 @@ fn plan(alloc: Global, op: u16) -> Result<Plan, Fail>
     })
 }
 
-fn conflicts(alloc: Global) -> Result<Conflicts, Fail>
+/// The pairs that conflict do so by this mode.
+fn conflicts(alloc: Global, mode: Mode) -> Result<Conflicts, Fail>
     ensures { IfOk result (λ c. operations_in c ≡ 5) }
 {
     let mut c = Conflicts::new(alloc, 5)?;
-    c.set(ADD, TAKE);
-    c.set(TAKE, TAKE);
-    c.set(NOTE, NOTE);
-    c.set(BOOK, BOOK);
+    c.set(ADD, TAKE, mode);
+    c.set(TAKE, TAKE, mode);
+    c.set(NOTE, NOTE, mode);
+    c.set(BOOK, BOOK, mode);
     Ok(c)
 }
 
-/// The plan of a purchase, and of sales, so many together.
-fn plans(alloc: Global, count: usize) -> Result<Vec<Plan>, Fail>
+/// The plan of a purchase on key 1, and of sales on this key, so many together.
+fn plans(alloc: Global, count: usize, key: u32) -> Result<Vec<Plan>, Fail>
     ensures count { IfOk result (λ plans. length plans.items ≡ count) }
     ensures good { IfOk result (λ plans. Each IsGoodPlan plans.items) }
     ensures known { IfOk result (λ plans. Each (λ (p : Plan). IsTrue (list_all (λ a. nat_lt a 5) p.ops)) plans.items) }
 {
     let mut plans = Vec::new(alloc);
     for place in 0..count {
-        plans.push(plan(alloc, if place == 0 { ADD } else { TAKE })?)?;
+        plans.push(if place == 0 {
+            plan(alloc, ADD, 1)?
+        } else {
+            plan(alloc, TAKE, key)?
+        })?;
     }
     Ok(plans)
 }
 
-/// Both start, and then these events come.
-fn history(alloc: Global, events: &[Event]) -> Result<History, Fail>
+/// Both start, the sale on this key, and then these events come.
+fn history(alloc: Global, events: &[Event], key: u32) -> Result<History, Fail>
     ensures { IfOk result (λ h. IsPlanned 5 h.plans h.events) }
 {
     let mut all = vec![in alloc; Event::Start(1), Event::Start(2)]?;
     all.extend_from_slice(events)?;
     let started = started(alloc, &all)?;
-    let plans = plans(alloc, started.len())?;
+    let plans = plans(alloc, started.len(), key)?;
     Ok(History {
         plans: Plans::new(plans)?,
         events: Events::new(all)?,
@@ -131,6 +136,7 @@ const X: Event = Event::Act(Entry {
     process: 1,
     step: 0,
     op: ADD,
+    key: 1,
     undo: false,
 });
 
@@ -138,6 +144,7 @@ const UNDO_X: Event = Event::Act(Entry {
     process: 1,
     step: 0,
     op: ADD,
+    key: 1,
     undo: true,
 });
 
@@ -145,6 +152,7 @@ const Y: Event = Event::Act(Entry {
     process: 1,
     step: 1,
     op: PAY,
+    key: 1,
     undo: false,
 });
 
@@ -152,6 +160,7 @@ const U: Event = Event::Act(Entry {
     process: 2,
     step: 0,
     op: TAKE,
+    key: 1,
     undo: false,
 });
 
@@ -159,6 +168,7 @@ const UNDO_U: Event = Event::Act(Entry {
     process: 2,
     step: 0,
     op: TAKE,
+    key: 1,
     undo: true,
 });
 
@@ -166,6 +176,24 @@ const V: Event = Event::Act(Entry {
     process: 2,
     step: 1,
     op: PAY,
+    key: 1,
+    undo: false,
+});
+
+// The same of a sale on key 2.
+const OTHER_U: Event = Event::Act(Entry {
+    process: 2,
+    step: 0,
+    op: TAKE,
+    key: 2,
+    undo: false,
+});
+
+const OTHER_V: Event = Event::Act(Entry {
+    process: 2,
+    step: 1,
+    op: PAY,
+    key: 2,
     undo: false,
 });
 
@@ -190,6 +218,15 @@ const ROWS: [(&[Event], Result<(), LegalError>); 14] = [
     (&[Event::Start(3), Event::Start(3)], Err(LegalError::At(4))),
 ];
 
+// The same where the sale is on key 2 and the operations conflict by key.
+const APART: [(&[Event], Result<(), LegalError>); 5] = [
+    (&[X, OTHER_U, OTHER_V], Ok(())),
+    (&[X, OTHER_U, UNDO_X], Ok(())),
+    (&[OTHER_U, X, Y], Ok(())),
+    (&[OTHER_U, OTHER_V, X, Y], Ok(())),
+    (&[X, U], Err(LegalError::At(4))),
+];
+
 /// What completes a history, if that is legal.
 fn completion(alloc: Global, h: &History, c: &Conflicts) -> Result<Vec<Event>, Fail>
     requires { IsPlanned (operations_in c.now) h.now.plans h.now.events }
@@ -203,19 +240,35 @@ fn completion(alloc: Global, h: &History, c: &Conflicts) -> Result<Vec<Event>, F
 #[test]
 fn a_sale_is_paid_once_the_purchase_before_it_has_ended(rt: HostRuntime) -> Result<(), Fail> {
     let alloc = rt.alloc();
-    let c = conflicts(alloc)?;
-    for (events, answer) in ROWS {
-        let h = history(alloc, events)?;
-        assert_eq!(rt; legal(alloc, &h, &c), answer);
+    for mode in [Mode::Always, Mode::Key] {
+        let c = conflicts(alloc, mode)?;
+        for (events, answer) in ROWS {
+            let h = history(alloc, events, 1)?;
+            assert_eq!(rt; legal(alloc, &h, &c), answer);
+        }
     }
+    Ok(())
+}
+
+#[test]
+fn a_sale_of_other_goods_waits_for_no_purchase(rt: HostRuntime) -> Result<(), Fail> {
+    let alloc = rt.alloc();
+    let by_key = conflicts(alloc, Mode::Key)?;
+    for (events, answer) in APART {
+        let h = history(alloc, events, 2)?;
+        assert_eq!(rt; legal(alloc, &h, &by_key), answer);
+    }
+    let always = conflicts(alloc, Mode::Always)?;
+    let h = history(alloc, &[X, OTHER_U, OTHER_V], 2)?;
+    assert_eq!(rt; legal(alloc, &h, &always), Err(LegalError::At(5)));
     Ok(())
 }
 
 #[test]
 fn what_a_purchase_has_done_is_undone(rt: HostRuntime) -> Result<(), Fail> {
     let alloc = rt.alloc();
-    let h = history(alloc, &[X])?;
-    let added = completion(alloc, &h, &conflicts(alloc)?)?;
+    let h = history(alloc, &[X], 1)?;
+    let added = completion(alloc, &h, &conflicts(alloc, Mode::Always)?)?;
     assert!(rt; added.as_slice() == [UNDO_X, Event::End(1), Event::End(2)].as_slice());
     Ok(())
 }

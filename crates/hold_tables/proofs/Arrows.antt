@@ -44,7 +44,7 @@ arrows_append table x ys zs i k =
 nothing : (rows : List OpenProcess) (added : Arrow) (marks : List (List Bool)) → ((i k : ℕ) → added i k ≡ false) → IsExtended rows added marks marks
 nothing rows added marks none = extended_none rows added marks (λ i k here there arrow. absurd (false≢true (sym (none i k) ∙ arrow)))
 
-none_first : (s : Bool) → (s && false) ≡ false
+pub none_first : (s : Bool) → (s && false) ≡ false
 none_first true = refl
 none_first false = refl
 

@@ -3,10 +3,10 @@ use Rattle.std.proofs.Common.{ℕ, zero, suc, ◌≤◌, List, [], ◌∷◌, le
 use Rattle.process_tree.specs.Conflicts.{Table}
 use Rattle.hold_tables.specs.Kept.{AreKnown}
 
-pub known_first : (table : Table) (n : ℕ) (pairs : List (ℕ × ℕ)) → AreKnown table pairs → AreKnown table (take n pairs)
-known_first table zero pairs known = tt
+pub known_first : (table : Table) (n : ℕ) (planned : List (ℕ × ℕ × ℕ)) → AreKnown table planned → AreKnown table (take n planned)
+known_first table zero planned known = tt
 known_first table (suc n) [] known = tt
-known_first table (suc n) (p ∷ pairs) known = (known.0, known_first table n pairs known.1)
+known_first table (suc n) (step ∷ planned) known = (known.0, known_first table n planned known.1)
 
-pub few_first : (n most : ℕ) (pairs : List (ℕ × ℕ)) → length pairs ≤ most → length (take n pairs) ≤ most
-few_first n most pairs few = let taken = length-take n pairs in omega arith
+pub few_first : (n most : ℕ) (planned : List (ℕ × ℕ × ℕ)) → length planned ≤ most → length (take n planned) ≤ most
+few_first n most planned few = let taken = length-take n planned in omega arith

@@ -7,7 +7,7 @@ use Rattle.hold_tables.specs.Tables.{Tables, OpenProcess, hold_in, holdings_of, 
 use Rattle.hold_tables.specs.Changes.{can_come}
 use Rattle.hold_tables.specs.Kept.{IsKnown, IsKnownRunning, AreKnown, IsTidy}
 use Rattle.hold_tables.proofs.Tidy.{each_entry}
-use Rattle.process_tree.specs.Conflicts.{Table}
+use Rattle.process_tree.specs.Conflicts.{Access, Table}
 use Rattle.schedule_model.specs.Histories.{of_process}
 use Rattle.schedule_model.specs.Holdings.{Hold, all_running, all_reserved}
 use Rattle.std.specs.Option.{option_to_list}
@@ -43,13 +43,13 @@ module _ (p : Entry → Bool) where
   pub least_push : (other : Option (ℕ × ℕ)) (es : List Entry) (e : Entry) → least other (es ++ e ∷ []) ≡ least (with_one other e) es
   least_push other es e = least_append other es (e ∷ []) ∙ ap (λ o. least o es) (least_head other e [])
 
-  -- the same of pairs
-  map_more : (f : ℕ × ℕ → Entry) (xs : List (ℕ × ℕ)) (x : ℕ × ℕ) → map f (xs ++ x ∷ []) ≡ map f xs ++ f x ∷ []
+  -- the same of reserved steps
+  map_more : (f : ℕ × ℕ × ℕ → Entry) (xs : List (ℕ × ℕ × ℕ)) (x : ℕ × ℕ × ℕ) → map f (xs ++ x ∷ []) ≡ map f xs ++ f x ∷ []
   map_more f [] x = refl
   map_more f (y ∷ xs) x = ap (f y ∷◌) (map_more f xs x)
 
-  pub pairs_push : (i : ℕ) (other : Option (ℕ × ℕ)) (xs : List (ℕ × ℕ)) (x : ℕ × ℕ) → least other (map (reserved_entry i) (xs ++ x ∷ [])) ≡ least (with_one other (reserved_entry i x)) (map (reserved_entry i) xs)
-  pairs_push i other xs x = ap (least other) (map_more (reserved_entry i) xs x) ∙ least_push other (map (reserved_entry i) xs) (reserved_entry i x)
+  pub steps_push : (i : ℕ) (other : Option (ℕ × ℕ)) (xs : List (ℕ × ℕ × ℕ)) (x : ℕ × ℕ × ℕ) → least other (map (reserved_entry i) (xs ++ x ∷ [])) ≡ least (with_one other (reserved_entry i x)) (map (reserved_entry i) xs)
+  steps_push i other xs x = ap (least other) (map_more (reserved_entry i) xs x) ∙ least_push other (map (reserved_entry i) xs) (reserved_entry i x)
 
   append_none : (es : List Entry) → es ++ [] ≡ es
   append_none [] = refl
@@ -77,10 +77,10 @@ all_reserved-is net [] = refl
 all_reserved-is net (r ∷ rows) = ap (reserved_of r ++◌) (all_reserved-is net rows)
 
 -- the least holder is the least of the net, of what is under way, and of the reserved steps
-pub holder-is : (t : Tables) (i op : ℕ) → holder_against t i op
-    ≡ least (is_against t.conflicts i op) (least (is_against t.conflicts i op) (least (is_against t.conflicts i op) None (flat_map reserved_of t.processes)) (flat_map running_of t.processes)) t.net
-holder-is t i op =
-    let p = is_against t.conflicts i op in
+pub holder-is : (t : Tables) (i : ℕ) (access : Access) → holder_against t i access
+    ≡ least (is_against t.conflicts i access) (least (is_against t.conflicts i access) (least (is_against t.conflicts i access) None (flat_map reserved_of t.processes)) (flat_map running_of t.processes)) t.net
+holder-is t i access =
+    let p = is_against t.conflicts i access in
     least_append p None (t.net ++ all_running (holdings_of t)) (all_reserved (holdings_of t))
     ∙ least_append p (least p None (all_reserved (holdings_of t))) t.net (all_running (holdings_of t))
     ∙ ap (λ o. least p o t.net) (ap (λ es. least p (least p None es) (all_running (holdings_of t))) (all_reserved-is t.net t.processes)

@@ -14,3 +14,7 @@ pub mod Extended
 pub mod Arrows
 pub mod WalksStay
 pub mod Numbers
+pub mod SameGraph
+pub mod WalkEnds
+pub mod OpenedWalks
+pub mod DroppedWalks

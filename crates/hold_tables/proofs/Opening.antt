@@ -17,7 +17,7 @@ use Rattle.hold_tables.proofs.Entries.{each_more}
 use Rattle.hold_tables.proofs.LastAway.{none_own}
 
 -- with one process more, there is its number too
-number_more : (k : ℕ) (rows : List OpenProcess) (r : OpenProcess) → has_number k (rows ++ r ∷ []) ≡ (has_number k rows || nat_eq r.process k)
+pub number_more : (k : ℕ) (rows : List OpenProcess) (r : OpenProcess) → has_number k (rows ++ r ∷ []) ≡ (has_number k rows || nat_eq r.process k)
 number_more k [] r = by (nat_eq r.process k)
   where
     by : (b : Bool) → (b || false) ≡ (false || b)
@@ -119,7 +119,7 @@ each_other P p (x ∷ xs) each = by (p x) refl (each_other P p xs each.1)
     by true is rest = rw is (each.0, rest)
     by false is rest = rw is rest
 
-number_of_others : (i k : ℕ) (rows : List OpenProcess) → nat_eq k i ≡ false → has_number k (other_processes i rows) ≡ has_number k rows
+pub number_of_others : (i k : ℕ) (rows : List OpenProcess) → nat_eq k i ≡ false → has_number k (other_processes i rows) ≡ has_number k rows
 number_of_others i k [] other = refl
 number_of_others i k (r ∷ rows) other = by (nat_eq r.process i) (nat_eq r.process k) refl refl (number_of_others i k rows other)
   where

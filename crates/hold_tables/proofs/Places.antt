@@ -21,7 +21,7 @@ last_place-push i (first ∷ es) e = ap (later_place i first) (last_place-push i
     by false = refl
 
 -- a place or none, by a test
-abbrev first_or_none : Bool → Option ℕ
+abbrev pub first_or_none : Bool → Option ℕ
 first_or_none b = if b then Some 0 else None
 
 -- where it has no place, there is no entry

@@ -73,7 +73,7 @@ walk_on : (arrow : Arrow) (all : List ℕ) {i j k : ℕ} → Walk arrow all i j 
 walk_on arrow all first (one_arrow among a) = and_then first among a
 walk_on arrow all first (and_then then among a) = and_then (walk_on arrow all first then) among a
 
-same_truth : (a b : Bool) → (a ≡ true → b ≡ true) → (b ≡ true → a ≡ true) → a ≡ b
+pub same_truth : (a b : Bool) → (a ≡ true → b ≡ true) → (b ≡ true → a ≡ true) → a ≡ b
 same_truth true b there back = sym (there refl)
 same_truth false true there back = back refl
 same_truth false false there back = refl

@@ -39,7 +39,7 @@ module _ (f : OpenProcess → OpenProcess) (keeps : KeepsRunning f) (i : ℕ) wh
       by false is rest = rw is (ap (running_of r ++◌) rest)
 
 -- where processes have the same numbers they have the same places
-same_places : (rows others : List OpenProcess) → map (λ (r : OpenProcess). r.process) rows ≡ map (λ (r : OpenProcess). r.process) others → (k : ℕ) → place_of k rows ≡ place_of k others
+pub same_places : (rows others : List OpenProcess) → map (λ (r : OpenProcess). r.process) rows ≡ map (λ (r : OpenProcess). r.process) others → (k : ℕ) → place_of k rows ≡ place_of k others
 same_places [] [] same k = refl
 same_places [] (r ∷ others) same k = absurd cc
 same_places (r ∷ rows) [] same k = absurd cc
@@ -48,7 +48,7 @@ same_places (r ∷ rows) (s ∷ others) same k =
     let tail : map (λ (r : OpenProcess). r.process) rows ≡ map (λ (r : OpenProcess). r.process) others = cc in
     rw (head, same_places rows others tail k) refl
 
-same_open : (rows others : List OpenProcess) → map (λ (r : OpenProcess). r.process) rows ≡ map (λ (r : OpenProcess). r.process) others → (k : ℕ) → has_number k rows ≡ has_number k others
+pub same_open : (rows others : List OpenProcess) → map (λ (r : OpenProcess). r.process) rows ≡ map (λ (r : OpenProcess). r.process) others → (k : ℕ) → has_number k rows ≡ has_number k others
 same_open [] [] same k = refl
 same_open [] (r ∷ others) same k = absurd cc
 same_open (r ∷ rows) [] same k = absurd cc
@@ -57,13 +57,13 @@ same_open (r ∷ rows) (s ∷ others) same k =
     let tail : map (λ (r : OpenProcess). r.process) rows ≡ map (λ (r : OpenProcess). r.process) others = cc in
     rw (head, same_open rows others tail k) refl
 
-same_count : (rows others : List OpenProcess) → map (λ (r : OpenProcess). r.process) rows ≡ map (λ (r : OpenProcess). r.process) others → length rows ≡ length others
+pub same_count : (rows others : List OpenProcess) → map (λ (r : OpenProcess). r.process) rows ≡ map (λ (r : OpenProcess). r.process) others → length rows ≡ length others
 same_count [] [] same = refl
 same_count [] (r ∷ others) same = absurd cc
 same_count (r ∷ rows) [] same = absurd cc
 same_count (r ∷ rows) (s ∷ others) same = ap suc (same_count rows others cc)
 
-holders-are : (net : List Entry) (rows : List OpenProcess) → map (λ o. o.process) (map (hold_in net) rows) ≡ map (λ (r : OpenProcess). r.process) rows
+pub holders-are : (net : List Entry) (rows : List OpenProcess) → map (λ o. o.process) (map (hold_in net) rows) ≡ map (λ (r : OpenProcess). r.process) rows
 holders-are net [] = refl
 holders-are net (r ∷ rows) = ap (r.process ∷◌) (holders-are net rows)
 

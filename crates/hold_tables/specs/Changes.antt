@@ -32,8 +32,8 @@ abbrev pub with_fixed : ℕ → OpenProcess → OpenProcess
 with_fixed n r = record { process = r.process; steps = r.steps; running = r.running; reserved = r.reserved; fixed = n; pending = r.pending }
 
 -- these are the reserved steps
-abbrev pub with_reserved : List (ℕ × ℕ) → OpenProcess → OpenProcess
-with_reserved pairs r = record { process = r.process; steps = r.steps; running = r.running; reserved = pairs; fixed = r.fixed; pending = r.pending }
+abbrev pub with_reserved : List (ℕ × ℕ × ℕ) → OpenProcess → OpenProcess
+with_reserved planned r = record { process = r.process; steps = r.steps; running = r.running; reserved = planned; fixed = r.fixed; pending = r.pending }
 
 -- only the first so many steps stay reserved
 abbrev pub with_first_reserved : ℕ → OpenProcess → OpenProcess

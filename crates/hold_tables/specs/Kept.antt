@@ -13,8 +13,8 @@ abbrev pub IsKnown : Table → Entry → Type 0
 IsKnown table e = e.op < operations_in table
 
 -- the table has each of these reserved steps' operations
-abbrev pub AreKnown : Table → List (ℕ × ℕ) → Type 0
-AreKnown table pairs = Each (λ pair. pair.1 < operations_in table) pairs
+abbrev pub AreKnown : Table → List (ℕ × ℕ × ℕ) → Type 0
+AreKnown table planned = Each (λ step. step.1 < operations_in table) planned
 
 -- the table has the operation of what is under way
 abbrev pub IsKnownRunning : Table → Option Entry → Type 0

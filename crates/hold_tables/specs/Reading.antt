@@ -1,9 +1,11 @@
 -- Reading: what is looked up in the tables.
-use Rattle.std.specs.Prelude.{ℕ, Bool, not, ◌&&◌, ◌||◌, List, [], ◌∷◌, ◌++◌, filter, map, nat_eq, nat_le, nat_lt, if◌then◌else◌, Option, Some, None}
+use Rattle.std.specs.Prelude.{ℕ, Bool, not, ◌&&◌, ◌||◌, List, [], ◌∷◌, ◌++◌, filter, is_some, length, map, nat_eq, nat_le, nat_lt, if◌then◌else◌, Option, Some, None}
 use Rattle.process_tree.specs.declared.entry.Entry.{Entry}
-use Rattle.process_tree.specs.Conflicts.{Table, do_conflict}
+use Rattle.process_tree.specs.Conflicts.{Access, Table, do_conflict}
+use Rattle.process_tree.specs.Entries.{access_of}
 use Rattle.schedule_model.specs.Holdings.{all_running, all_reserved}
-use Rattle.hold_tables.specs.Tables.{Tables, holdings_of}
+use Rattle.hold_tables.specs.declared.against.Sought.{Sought}
+use Rattle.hold_tables.specs.Tables.{OpenProcess, Tables, holdings_of}
 
 -- the lesser of two numbers, if there is another
 abbrev pub lesser_number : ℕ → Option ℕ → Option ℕ
@@ -23,6 +25,14 @@ least_from from ns = least_or None from ns
 abbrev pub next_open : Tables → ℕ → Option ℕ
 next_open t from = least_from from (map (λ r. r.process) t.processes)
 
+-- whether a process holds anything beside its net entries: something is under way, to be undone or reserved
+abbrev pub is_busy : OpenProcess → Bool
+is_busy r = is_some r.running || (not (nat_eq r.pending 0) || not (nat_eq (length r.reserved) 0))
+
+-- the number of a process that does
+abbrev pub busy : OpenProcess → Option ℕ
+busy r = if is_busy r then Some r.process else None
+
 -- the order of steps: by process, then by step
 abbrev pub is_before : ℕ × ℕ → ℕ × ℕ → Bool
 is_before a b = nat_lt a.0 b.0 || (nat_eq a.0 b.0 && nat_lt a.1 b.1)
@@ -37,14 +47,18 @@ abbrev pub least_step : Option (ℕ × ℕ) → List Entry → Option (ℕ × �
 least_step other [] = other
 least_step other (e ∷ es) = lesser (e.process, e.step) (least_step other es)
 
--- an entry of another process than i whose operation conflicts with this one
-abbrev pub is_against : Table → ℕ → ℕ → Entry → Bool
-is_against table i op e = not (nat_eq e.process i) && do_conflict table op e.op
+-- the access that is sought
+abbrev pub access_sought : Sought → Access
+access_sought s = record { op = s.op; key = s.key }
+
+-- an entry of another process than i whose access conflicts with this one
+abbrev pub is_against : Table → ℕ → Access → Entry → Bool
+is_against table i access e = not (nat_eq e.process i) && do_conflict table access (access_of e)
 
 -- all net entries, all that is under way, and all reserved steps
 abbrev pub all_held : Tables → List Entry
 all_held t = let g = holdings_of t in t.net ++ all_running g ++ all_reserved g
 
--- the least other process and step that holds a net entry, has one under way, or reserves one against the operation
-abbrev pub holder_against : Tables → ℕ → ℕ → Option (ℕ × ℕ)
-holder_against t i op = least_step None (filter (is_against t.conflicts i op) (all_held t))
+-- the least other process and step that holds a net entry, has one under way, or reserves one against the access
+abbrev pub holder_against : Tables → ℕ → Access → Option (ℕ × ℕ)
+holder_against t i access = least_step None (filter (is_against t.conflicts i access) (all_held t))

@@ -14,8 +14,8 @@ pub record OpenProcess : Type 0 where
   pub steps : ℕ
   -- the step or undo that is under way
   pub running : Option Entry
-  -- the steps that are reserved, each with its operation
-  pub reserved : List (ℕ × ℕ)
+  -- the steps that are reserved, each with its operation and its key
+  pub reserved : List (ℕ × ℕ × ℕ)
   -- how many of its net entries, from the first on, are never undone
   pub fixed : ℕ
   -- how many of its net entries, from the last on, are to be undone
@@ -54,8 +54,8 @@ abbrev pub lasts : {A : Type 0} → ℕ → List A → List A
 lasts n xs = drop (length xs - n) xs
 
 -- a reserved step as an entry of its process
-abbrev pub reserved_entry : ℕ → ℕ × ℕ → Entry
-reserved_entry i pair = record { process = i; step = pair.0; op = pair.1; undo = false }
+abbrev pub reserved_entry : ℕ → ℕ × ℕ × ℕ → Entry
+reserved_entry i step = record { process = i; step = step.0; op = step.1; key = step.2; undo = false }
 
 -- the reserved steps of a process
 abbrev pub reserved_of : OpenProcess → List Entry

@@ -1,29 +1,30 @@
-// Who holds something against an operation.
+// Who holds something against an access.
 ghost use Rattle.std.specs.Prelude.{◌≡◌, ◌<◌, ℕ, None, List, filter, map, flat_map, if◌then◌else◌};
 ghost use Rattle.std.specs.Option.{option_to_list};
 ghost use Rattle.process_tree.specs.Conflicts.{operations_in};
 ghost use Rattle.process_tree.specs.Order.{Each};
 ghost use Rattle.hold_tables.specs.Tables.{reserved_entry, reserved_of, running_of};
 ghost use Rattle.hold_tables.specs.Kept.{IsKnown, IsKnownRunning, AreKnown};
-ghost use Rattle.hold_tables.specs.Reading.{is_against, lesser, least_step};
+ghost use Rattle.hold_tables.specs.Reading.{access_sought, is_against, lesser, least_step};
 
 use crate::row::Row;
 use process_tree::{Conflicts, Entry};
 
-/// An operation, and the process that asks who else holds something against it.
+/// An operation on a key, and the process that asks who else holds something against it.
 #[derive(Clone, Copy)]
 pub struct Sought {
     pub process: u32,
     pub op: u16,
+    pub key: u32,
 }
 
-/// Whether an entry is of another process and against the operation.
+/// Whether an entry is of another process and against what is sought.
 fn is_against(c: &Conflicts, sought: Sought, e: Entry) -> bool
     requires op { sought.op < operations_in c.now }
     requires known { IsKnown c.now e }
-    ensures { result ≡ is_against c.now sought.process sought.op e }
+    ensures { result ≡ is_against c.now sought.process (access_sought sought) e }
 {
-    e.process != sought.process && c.holds(sought.op, e.op)
+    e.process != sought.process && c.holds(sought.op, sought.key, e.op, e.key)
 }
 
 /// The lesser of a step and of another, if there is one.
@@ -36,7 +37,7 @@ fn lesser(a: (u32, u16), other: Option<(u32, u16)>) -> Option<(u32, u16)>
     }
 }
 
-/// The least of an entry, where it is against the operation, and of another.
+/// The least of an entry, where it is against what is sought, and of another.
 fn least_with(
     c: &Conflicts,
     sought: Sought,
@@ -45,7 +46,7 @@ fn least_with(
 ) -> Option<(u32, u16)>
     requires op { sought.op < operations_in c.now }
     requires known { IsKnown c.now e }
-    ensures { result ≡ (if is_against c.now sought.process sought.op e then lesser (e.process, e.step) other else other) }
+    ensures { result ≡ (if is_against c.now sought.process (access_sought sought) e then lesser (e.process, e.step) other else other) }
 {
     if is_against(c, sought, e) {
         lesser((e.process, e.step), other)
@@ -54,7 +55,7 @@ fn least_with(
     }
 }
 
-/// The least of these that are against the operation, and of another.
+/// The least of these that are against what is sought, and of another.
 pub fn least_of(
     c: &Conflicts,
     sought: Sought,
@@ -63,7 +64,7 @@ pub fn least_of(
 ) -> Option<(u32, u16)>
     requires op { sought.op < operations_in c.now }
     requires known { Each (IsKnown c.now) entries.now }
-    ensures { result ≡ least_step other (filter (is_against c.now sought.process sought.op) entries.now) }
+    ensures { result ≡ least_step other (filter (is_against c.now sought.process (access_sought sought)) entries.now) }
 {
     let mut rest = entries;
     let mut least = other;
@@ -75,24 +76,25 @@ pub fn least_of(
 }
 
 /// The same of the reserved steps of one process.
-fn least_of_pairs(
+fn least_of_steps(
     c: &Conflicts,
     sought: Sought,
     process: u32,
-    pairs: &[(u16, u16)],
+    steps: &[(u16, u16, u32)],
     other: Option<(u32, u16)>,
 ) -> Option<(u32, u16)>
     requires op { sought.op < operations_in c.now }
-    requires known { AreKnown c.now pairs.now }
-    ensures { result ≡ least_step other (filter (is_against c.now sought.process sought.op) (map (reserved_entry process) pairs.now)) }
+    requires known { AreKnown c.now steps.now }
+    ensures { result ≡ least_step other (filter (is_against c.now sought.process (access_sought sought)) (map (reserved_entry process) steps.now)) }
 {
-    let mut rest = pairs;
+    let mut rest = steps;
     let mut least = other;
-    'pairs: while let Some((last, front)) = rest.split_last() {
+    'steps: while let Some((last, front)) = rest.split_last() {
         let e = Entry {
             process,
             step: last.0,
             op: last.1,
+            key: last.2,
             undo: false,
         };
         least = least_with(c, sought, e, least);
@@ -101,22 +103,22 @@ fn least_of_pairs(
     least
 }
 
-/// The least reserved step of these processes that is against the operation.
+/// The least reserved step of these processes that is against what is sought.
 pub fn least_reserved(c: &Conflicts, sought: Sought, rows: &[Row]) -> Option<(u32, u16)>
     requires op { sought.op < operations_in c.now }
     requires known { Each (λ r. AreKnown c.now r.reserved) rows.now }
-    ensures { result ≡ least_step None (filter (is_against c.now sought.process sought.op) (flat_map reserved_of rows.now)) }
+    ensures { result ≡ least_step None (filter (is_against c.now sought.process (access_sought sought)) (flat_map reserved_of rows.now)) }
 {
     let mut rest = rows;
     let mut least = None;
     'rows: while let Some((last, front)) = rest.split_last() {
-        least = least_of_pairs(c, sought, last.process(), last.reserved(), least);
+        least = least_of_steps(c, sought, last.process(), last.reserved(), least);
         rest = front;
     }
     least
 }
 
-/// The least of what is under way in a process, where it is against the operation, and of another.
+/// The least of what is under way in a process, where it is against what is sought, and of another.
 fn least_with_running(
     c: &Conflicts,
     sought: Sought,
@@ -125,7 +127,7 @@ fn least_with_running(
 ) -> Option<(u32, u16)>
     requires op { sought.op < operations_in c.now }
     requires known { IsKnownRunning c.now running }
-    ensures { result ≡ least_step other (filter (is_against c.now sought.process sought.op) (option_to_list running)) }
+    ensures { result ≡ least_step other (filter (is_against c.now sought.process (access_sought sought)) (option_to_list running)) }
 {
     match running {
         Some(e) => least_with(c, sought, e, other),
@@ -133,7 +135,7 @@ fn least_with_running(
     }
 }
 
-/// The least of what is under way in these processes and is against the operation, and of another.
+/// The least of what is under way in these processes and is against what is sought, and of another.
 pub fn least_running(
     c: &Conflicts,
     sought: Sought,
@@ -142,7 +144,7 @@ pub fn least_running(
 ) -> Option<(u32, u16)>
     requires op { sought.op < operations_in c.now }
     requires known { Each (λ r. IsKnownRunning c.now r.running) rows.now }
-    ensures { result ≡ least_step other (filter (is_against c.now sought.process sought.op) (flat_map running_of rows.now)) }
+    ensures { result ≡ least_step other (filter (is_against c.now sought.process (access_sought sought)) (flat_map running_of rows.now)) }
 {
     let mut rest = rows;
     let mut least = other;

@@ -6,16 +6,18 @@ ghost use Rattle.process_tree.specs.Order.{Each};
 ghost use Rattle.process_tree.specs.declared.entry.Entry.{Entry};
 ghost use Rattle.schedule_model.specs.Histories.{of_process};
 ghost use Rattle.schedule_model.specs.Holdings.{reaches};
-ghost use Rattle.hold_tables.specs.Tables.{is_open, kept_of, holdings_of};
+ghost use Rattle.hold_tables.specs.Tables.{OpenProcess, is_open, kept_of, holdings_of};
 ghost use Rattle.hold_tables.specs.Changes.{none_open, opened, changed, with_running, with_pending, with_first_reserved, with_reserved, run, stopped, took_effect, all_fixed, dropped, can_run, undoes};
-ghost use Rattle.hold_tables.specs.Reading.{next_open, holder_against};
+ghost use Rattle.hold_tables.specs.Reading.{busy, next_open, holder_against};
 ghost use Rattle.hold_tables.specs.Kept.{IsKnown, AreKnown, AreTidy};
 ghost use Rattle.hold_tables.specs.Places.{all_steps};
 ghost use Rattle.hold_tables.specs.Spare.{IsRoomIn};
 
 use crate::against::{Sought, least_of, least_reserved, least_running};
 use crate::looking::{all_steps, count_of, least_from, place_of, settle};
-use crate::reach::{MOST, Marks, renew};
+use crate::reach::{
+    MOST, Marks, add_place, effect_has_arrows, has_walks, renew_if, step_has_arrows, take_place,
+};
 use crate::row::Row;
 use crate::spare::Spare;
 use process_tree::{Conflicts, Entry, Plan};
@@ -96,8 +98,7 @@ impl Holds {
         spare.rows.give_to(&mut self.rows);
         spare.walks.give_to(&mut self.walks);
         self.rows.push_reserved(row);
-        self.walks.push_reserved([false; MOST]);
-        renew(&mut self.walks, &self.conflicts, &self.rows, &self.net);
+        add_place(&mut self.walks);
     }
 
     /// The entry comes under way in its process.
@@ -110,7 +111,14 @@ impl Holds {
     {
         let at = place_of(&self.rows, e.process);
         self.rows[at].run(Some(e));
-        renew(&mut self.walks, &self.conflicts, &self.rows, &self.net);
+        let changed = step_has_arrows(&self.conflicts, &self.net, Some(e));
+        renew_if(
+            changed,
+            &mut self.walks,
+            &self.conflicts,
+            &self.rows,
+            &self.net,
+        );
     }
 
     /// Nothing is under way in the process.
@@ -119,8 +127,15 @@ impl Holds {
         ensures { self.new ≡ stopped process self.old }
     {
         let at = place_of(&self.rows, process);
+        let changed = step_has_arrows(&self.conflicts, &self.net, self.rows[at].running());
         self.rows[at].run(None);
-        renew(&mut self.walks, &self.conflicts, &self.rows, &self.net);
+        renew_if(
+            changed,
+            &mut self.walks,
+            &self.conflicts,
+            &self.rows,
+            &self.net,
+        );
     }
 
     /// What is under way in the process took effect.
@@ -133,9 +148,16 @@ impl Holds {
         let Some(e) = self.rows[at].running() else {
             unreachable!();
         };
+        let changed = effect_has_arrows(&self.conflicts, &self.rows, &self.net, process, e);
         settle(&mut self.net, process, e);
         self.rows[at].run(None);
-        renew(&mut self.walks, &self.conflicts, &self.rows, &self.net);
+        renew_if(
+            changed,
+            &mut self.walks,
+            &self.conflicts,
+            &self.rows,
+            &self.net,
+        );
     }
 
     /// All net entries that the process has are fixed.
@@ -150,15 +172,15 @@ impl Holds {
         self.rows[at].fix(fixed as u16);
     }
 
-    /// These, each a step with its operation, are the reserved steps of the process.
-    pub fn reserve(&mut self, process: u32, ops: &[(u16, u16)])
+    /// These, each a step with its operation and its key, are the reserved steps of the process.
+    pub fn reserve(&mut self, process: u32, steps: &[(u16, u16, u32)])
         requires open { is_open self.old process ≡ true }
-        requires room { length ops.now ≤ (kept_of self.old process).steps }
-        requires known { AreKnown self.old.conflicts ops.now }
-        ensures { self.new ≡ changed (with_reserved ops.now) process self.old }
+        requires room { length steps.now ≤ (kept_of self.old process).steps }
+        requires known { AreKnown self.old.conflicts steps.now }
+        ensures { self.new ≡ changed (with_reserved steps.now) process self.old }
     {
         let at = place_of(&self.rows, process);
-        self.rows[at].reserve(ops);
+        self.rows[at].reserve(steps);
     }
 
     /// Only the first so many of the reserved steps of the process stay reserved.
@@ -184,10 +206,18 @@ impl Holds {
         requires open { is_open self.old process ≡ true }
         ensures { self.new ≡ dropped process self.old }
     {
+        let at = place_of(&self.rows, process);
+        let linked = has_walks(&self.walks, at);
         self.net.retain(|e| e.process != process);
         self.rows.retain(|row| row.process() != process);
-        self.walks.truncate(self.rows.len());
-        renew(&mut self.walks, &self.conflicts, &self.rows, &self.net);
+        take_place(&mut self.walks, at);
+        renew_if(
+            linked,
+            &mut self.walks,
+            &self.conflicts,
+            &self.rows,
+            &self.net,
+        );
     }
 }
 
@@ -216,6 +246,27 @@ impl Holds {
         ensures tidy { AreTidy self.now }
     {
         least_from(&self.rows, from)
+    }
+
+    /// How many processes are open.
+    pub fn open_len(&self) -> usize
+        ensures len { result ≡ length self.now.processes }
+        ensures tidy { AreTidy self.now }
+    {
+        self.rows.len()
+    }
+
+    /// The open process at a place, counted from 0 in the order in which they were opened, if it holds anything beside its net.
+    pub fn busy_at(&self, place: usize) -> Option<u32>
+        requires { place < length self.now.processes }
+        ensures busy { (d : OpenProcess) → result ≡ busy (slice_index_or self.now.processes place d) }
+    {
+        let row = &self.rows[place];
+        if row.is_busy() {
+            Some(row.process())
+        } else {
+            None
+        }
     }
 
     /// How many net entries the open processes have.
@@ -267,11 +318,11 @@ impl Holds {
         self.row(process).reserved_len()
     }
 
-    /// A reserved step of the process and its operation, places from 0.
-    pub fn reserved_at(&self, process: u32, place: u16) -> (u16, u16)
+    /// A reserved step of the process, its operation and its key, places from 0.
+    pub fn reserved_at(&self, process: u32, place: u16) -> (u16, u16, u32)
         requires open { is_open self.now process ≡ true }
         requires within { place < length (kept_of self.now process).reserved }
-        ensures { (d : ℕ × ℕ) → result ≡ slice_index_or (kept_of self.now process).reserved place d }
+        ensures { (d : ℕ × ℕ × ℕ) → result ≡ slice_index_or (kept_of self.now process).reserved place d }
     {
         self.row(process).reserved()[usize::from(place)]
     }
@@ -287,12 +338,13 @@ impl Holds {
         self.walks[place_of(&self.rows, from)][place_of(&self.rows, to)]
     }
 
-    /// The least other process, and its step, that holds a net entry, has one under way, or reserves one against the operation.
-    pub fn holder_against(&self, process: u32, op: u16) -> Option<(u32, u16)>
+    /// The least other process, and its step, that holds a net entry, has one under way, or reserves one against the operation on
+    /// the key.
+    pub fn holder_against(&self, process: u32, op: u16, key: u32) -> Option<(u32, u16)>
         requires known { op < operations_in self.now.conflicts }
-        ensures { result ≡ holder_against self.now process op }
+        ensures { result ≡ holder_against self.now process (record { op = op; key = key }) }
     {
-        let sought = Sought { process, op };
+        let sought = Sought { process, op, key };
         let reserved = least_reserved(&self.conflicts, sought, &self.rows);
         let running = least_running(&self.conflicts, sought, &self.rows, reserved);
         least_of(&self.conflicts, sought, &self.net, running)

@@ -1,13 +1,14 @@
 // Where walks of the conflict graph lead, by the places of the processes.
-ghost use Rattle.std.specs.Prelude.{◌≡◌, ◌<◌, ◌≤◌, ◌||◌, ◌∷◌, [], ℕ, length, false, not, filter, slice_index_or};
+ghost use Rattle.std.specs.Prelude.{◌≡◌, ◌<◌, ◌≤◌, ◌+◌, ◌||◌, ◌&&◌, ◌∷◌, [], ℕ, length, false, nat_eq, not, filter, slice_index_or, vec_capacity, vec_len};
+ghost use Rattle.std.specs.List.{list_any};
 ghost use Rattle.std.specs.Option.{option_to_list};
 ghost use Rattle.process_tree.specs.Conflicts.{do_conflict};
 ghost use Rattle.process_tree.specs.Order.{Each};
 ghost use Rattle.hold_tables.specs.Places.{place_of};
-ghost use Rattle.hold_tables.specs.Kept.{AreTidy};
-ghost use Rattle.hold_tables.specs.Walks.{AreDistinctRows, AreRows, IsExtended, IsJoined, IsPlaced, IsPlacedIf, TellWalks, arrows_by, arrows_from, cell, steps_under_way};
+ghost use Rattle.hold_tables.specs.Kept.{AreTidy, IsKnown, IsKnownRunning};
+ghost use Rattle.hold_tables.specs.Walks.{AreDistinctRows, AreRows, IsExtended, IsJoined, IsPlaced, IsPlaceTaken, IsPlacedIf, IsTakenOut, IsUnmarked, TellWalks, arrows_by, arrows_from, cell, conflicts_with, entry_settled, has_arrows, has_walks, one_has_arrows, place_before, step_has_arrows, step_of, steps_under_way};
 
-use crate::looking::place_of;
+use crate::looking::{entry_settled, place_of};
 use crate::row::Row;
 use process_tree::{Conflicts, Entry};
 
@@ -152,10 +153,231 @@ fn mark(marks: &mut [Marks], conflicts: &Conflicts, rows: &[Row], net: &[Entry])
 }
 
 /// The same of the marks that are kept.
-pub fn renew(walks: &mut Vec<Marks>, conflicts: &Conflicts, rows: &[Row], net: &[Entry])
+fn renew(walks: &mut Vec<Marks>, conflicts: &Conflicts, rows: &[Row], net: &[Entry])
     requires rows { AreRows rows.now walks.old.items }
     requires tidy { AreTidy (record { conflicts = conflicts.now; net = net.now; processes = rows.now }) }
     ensures tell { TellWalks (record { conflicts = conflicts.now; net = net.now; processes = rows.now }) walks.new.items }
 {
     mark(walks, conflicts, rows, net);
+}
+
+/// The same where they may have changed: else the marks stay.
+pub fn renew_if(
+    changed: bool,
+    walks: &mut Vec<Marks>,
+    conflicts: &Conflicts,
+    rows: &[Row],
+    net: &[Entry],
+)
+    requires rows { AreRows rows.now walks.old.items }
+    requires tidy { AreTidy (record { conflicts = conflicts.now; net = net.now; processes = rows.now }) }
+    requires same { changed ≡ false → TellWalks (record { conflicts = conflicts.now; net = net.now; processes = rows.now }) walks.old.items }
+    ensures tell { TellWalks (record { conflicts = conflicts.now; net = net.now; processes = rows.now }) walks.new.items }
+{
+    if changed {
+        renew(walks, conflicts, rows, net);
+    }
+}
+
+/// Whether the entry conflicts with one of these.
+fn conflicts_with(conflicts: &Conflicts, entries: &[Entry], e: Entry) -> bool
+    requires known { IsKnown conflicts.now e }
+    requires each { Each (IsKnown conflicts.now) entries.now }
+    ensures { result ≡ conflicts_with (do_conflict conflicts.now) entries.now e }
+{
+    let mut rest = entries;
+    while let [other, after @ ..] = rest {
+        if conflicts.between(e, *other) {
+            return true;
+        }
+        rest = after;
+    }
+    false
+}
+
+/// Whether what is under way is a step that conflicts with a net entry: while it is under way it makes an arrow.
+pub fn step_has_arrows(conflicts: &Conflicts, net: &[Entry], running: Option<Entry>) -> bool
+    requires known { IsKnownRunning conflicts.now running }
+    requires net { Each (IsKnown conflicts.now) net.now }
+    ensures { result ≡ step_has_arrows (do_conflict conflicts.now) net.now running }
+{
+    match running {
+        Some(e) if !e.undo => conflicts_with(conflicts, net, e),
+        _ => false,
+    }
+}
+
+/// Whether the entry conflicts with one of the steps that are under way.
+fn conflicts_with_running(conflicts: &Conflicts, rows: &[Row], e: Entry) -> bool
+    requires known { IsKnown conflicts.now e }
+    requires running { Each (λ r. IsKnownRunning conflicts.now r.running) rows.now }
+    ensures { result ≡ conflicts_with (do_conflict conflicts.now) (steps_under_way rows.now) e }
+{
+    let mut rest = rows;
+    while let [row, after @ ..] = rest {
+        if conflicts_with_step(conflicts, row.running(), e) {
+            return true;
+        }
+        rest = after;
+    }
+    false
+}
+
+/// Whether the entry conflicts with what is under way in a process, if it is a step.
+fn conflicts_with_step(conflicts: &Conflicts, running: Option<Entry>, e: Entry) -> bool
+    requires known { IsKnown conflicts.now e }
+    requires running { IsKnownRunning conflicts.now running }
+    ensures { result ≡ conflicts_with (do_conflict conflicts.now) (step_of running) e }
+{
+    match running {
+        Some(other) if !other.undo => conflicts.between(e, other),
+        _ => false,
+    }
+}
+
+/// Whether the entry conflicts with a net entry or with a step that is under way: in the net it makes an arrow.
+fn has_arrows(conflicts: &Conflicts, rows: &[Row], net: &[Entry], e: Entry) -> bool
+    requires known { IsKnown conflicts.now e }
+    requires net { Each (IsKnown conflicts.now) net.now }
+    requires running { Each (λ r. IsKnownRunning conflicts.now r.running) rows.now }
+    ensures { result ≡ has_arrows (do_conflict conflicts.now) (steps_under_way rows.now) net.now e }
+{
+    conflicts_with(conflicts, net, e) || conflicts_with_running(conflicts, rows, e)
+}
+
+/// Whether arrows come or go as this takes effect in the process: those of a step, or of the last entry, which an undo takes away.
+pub fn effect_has_arrows(
+    conflicts: &Conflicts,
+    rows: &[Row],
+    net: &[Entry],
+    process: u32,
+    e: Entry,
+) -> bool
+    requires known { IsKnown conflicts.now e }
+    requires net { Each (IsKnown conflicts.now) net.now }
+    requires running { Each (λ r. IsKnownRunning conflicts.now r.running) rows.now }
+    ensures { result ≡ one_has_arrows (do_conflict conflicts.now) (steps_under_way rows.now) net.now (entry_settled process e net.now) }
+{
+    match entry_settled(net, process, e) {
+        Some(settled) => has_arrows(conflicts, rows, net, settled),
+        None => false,
+    }
+}
+
+/// Takes the mark of a place away.
+fn unmark(row: &mut Marks, place: usize)
+    requires { place < 256 }
+    ensures { (b : ℕ) → slice_index_or row.new b false ≡ (not (nat_eq b place) && slice_index_or row.old b false) }
+{
+    row[place] = false;
+}
+
+/// Takes the marks of a place away in all rows.
+fn unmark_all(marks: &mut [Marks], place: usize)
+    requires { place < 256 }
+    ensures { IsUnmarked place marks.old marks.new }
+{
+    for row in marks.iter_mut() {
+        unmark(row, place);
+    }
+}
+
+/// The same of the marks that are kept.
+fn unmark_place(walks: &mut Vec<Marks>, place: usize)
+    requires { place < 256 }
+    ensures marks { IsUnmarked place walks.old.items walks.new.items }
+    ensures count { length walks.new.items ≡ length walks.old.items }
+    ensures capacity { vec_capacity walks.new ≡ vec_capacity walks.old }
+{
+    unmark_all(walks, place);
+}
+
+/// Adds a place to which no walk leads, and none from it.
+pub fn add_place(walks: &mut Vec<Marks>)
+    requires few { length walks.old.items < 256 }
+    requires room { vec_len walks.old < vec_capacity walks.old }
+    ensures marks { IsUnmarked (length walks.old.items) walks.old.items walks.new.items }
+    ensures count { length walks.new.items ≡ length walks.old.items + 1 }
+{
+    unmark_place(walks, walks.len());
+    walks.push_reserved([false; MOST]);
+}
+
+/// Whether one of these is marked.
+fn is_some_marked(marks: &[bool]) -> bool
+    ensures { result ≡ list_any (λ mark. mark) marks.now }
+{
+    let mut rest = marks;
+    while let [mark, after @ ..] = rest {
+        if *mark {
+            return true;
+        }
+        rest = after;
+    }
+    false
+}
+
+/// Whether a place is marked in one of the rows.
+fn is_marked_in_some(marks: &[Marks], place: usize) -> bool
+    requires { place < 256 }
+    ensures { result ≡ list_any (λ row. slice_index_or row place false) marks.now }
+{
+    let mut rest = marks;
+    while let [row, after @ ..] = rest {
+        if row[place] {
+            return true;
+        }
+        rest = after;
+    }
+    false
+}
+
+/// Whether a walk leads from the place or to it.
+pub fn has_walks(marks: &[Marks], place: usize) -> bool
+    requires within { place < length marks.now }
+    requires few { length marks.now ≤ 256 }
+    ensures { result ≡ has_walks marks.now place }
+{
+    is_some_marked(&marks[place]) || is_marked_in_some(marks, place)
+}
+
+/// Takes the mark of a place out, and moves up those behind it.
+fn take_out(row: &mut Marks, place: usize)
+    requires { place < 256 }
+    ensures { (b : ℕ) → slice_index_or row.new b false ≡ slice_index_or row.old (place_before place b) false }
+{
+    for to in place..MOST - 1 {
+        row[to] = row[to + 1];
+    }
+    row[MOST - 1] = false;
+}
+
+/// The same in all rows.
+fn take_out_all(marks: &mut [Marks], place: usize)
+    requires { place < 256 }
+    ensures { IsTakenOut place marks.old marks.new }
+{
+    for row in marks.iter_mut() {
+        take_out(row, place);
+    }
+}
+
+/// The same of the marks that are kept.
+fn take_out_place(walks: &mut Vec<Marks>, place: usize)
+    requires { place < 256 }
+    ensures marks { IsTakenOut place walks.old.items walks.new.items }
+    ensures count { length walks.new.items ≡ length walks.old.items }
+{
+    take_out_all(walks, place);
+}
+
+/// Takes a place out: its row, and its mark in each other row.
+pub fn take_place(walks: &mut Vec<Marks>, place: usize)
+    requires within { place < length walks.old.items }
+    requires few { length walks.old.items ≤ 256 }
+    ensures marks { IsPlaceTaken place walks.old.items walks.new.items }
+    ensures count { length walks.new.items + 1 ≡ length walks.old.items }
+{
+    walks.remove(place);
+    take_out_place(walks, place);
 }

@@ -1,6 +1,7 @@
 // What is kept of one open process.
 ghost use Rattle.std.specs.Prelude.{◌≡◌, ◌≤◌, length, vec_capacity};
 ghost use Rattle.hold_tables.specs.Tables.{holds_nothing};
+ghost use Rattle.hold_tables.specs.Reading.{is_busy};
 ghost use Rattle.hold_tables.specs.Changes.{with_running, with_fixed, with_first_reserved, with_reserved, with_pending};
 
 use crate::spare::SpareCapacity;
@@ -13,7 +14,7 @@ pub struct Row {
     process: u32,
     steps: u16,
     running: Option<Entry>,
-    reserved: Vec<(u16, u16)>,
+    reserved: Vec<(u16, u16, u32)>,
     fixed: u16,
     pending: u16,
 }
@@ -31,7 +32,7 @@ impl Model for Row {
 
 impl Row {
     /// A process that holds nothing, with this room for reserved steps.
-    pub fn new(process: u32, steps: u16, reserved: SpareCapacity<(u16, u16)>) -> Row
+    pub fn new(process: u32, steps: u16, reserved: SpareCapacity<(u16, u16, u32)>) -> Row
         requires { steps ≤ reserved }
         ensures { result ≡ holds_nothing process steps }
     {
@@ -75,7 +76,7 @@ impl Row {
         self.pending
     }
 
-    pub fn reserved(&self) -> &[(u16, u16)]
+    pub fn reserved(&self) -> &[(u16, u16, u32)]
         ensures { result.now ≡ self.now.reserved }
     {
         &self.reserved
@@ -86,6 +87,13 @@ impl Row {
     {
         let len = self.reserved.len().min(usize::from(self.steps));
         len as u16
+    }
+
+    /// Whether it holds anything beside its net entries.
+    pub fn is_busy(&self) -> bool
+        ensures { result ≡ is_busy self.now }
+    {
+        self.running.is_some() || self.pending != 0 || !self.reserved.is_empty()
     }
 
     pub fn run(&mut self, running: Option<Entry>)
@@ -106,7 +114,7 @@ impl Row {
         self.pending = pending;
     }
 
-    pub fn reserve(&mut self, steps: &[(u16, u16)])
+    pub fn reserve(&mut self, steps: &[(u16, u16, u32)])
         requires { length steps.now ≤ self.old.steps }
         ensures { self.new ≡ with_reserved steps.now self.old }
     {
@@ -121,7 +129,7 @@ impl Row {
 }
 
 // Puts these in place of what is there.
-fn replace(list: &mut Vec<(u16, u16)>, items: &[(u16, u16)])
+fn replace(list: &mut Vec<(u16, u16, u32)>, items: &[(u16, u16, u32)])
     requires { length items.now ≤ vec_capacity list.old }
     ensures items { list.new.items ≡ items.now }
     ensures capacity { vec_capacity list.new ≡ vec_capacity list.old }

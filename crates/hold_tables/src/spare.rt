@@ -56,7 +56,7 @@ impl<T: Drop> SpareCapacity<T> {
 #[derive(Drop)]
 pub struct Spare {
     pub(crate) steps: u16,
-    pub(crate) reserved: SpareCapacity<(u16, u16)>,
+    pub(crate) reserved: SpareCapacity<(u16, u16, u32)>,
     pub(crate) net: SpareCapacity<Entry>,
     pub(crate) rows: SpareCapacity<Row>,
     pub(crate) walks: SpareCapacity<Marks>,

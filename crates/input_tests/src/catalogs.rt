@@ -84,6 +84,26 @@ const ONE: &[u8] = b"version = 1\n[[op]]\nname = \"add\"\nsubsystem = 0\nverb = 
 // The bytes of its catalog.
 const ONE_BYTES: [u8; 10] = [1, 1, 0, 3, b'a', b'd', b'd', 0, 0, 0];
 
+// A document with a conflict by key, which is said twice.
+const BY_KEY: &[u8] = br#"version = 2
+conflicts = [["add", "take", "key"], ["take", "add", "key"], ["take", "take", "always"]]
+[[op]]
+name = "add"
+subsystem = 0
+verb = "add"
+[[op]]
+name = "take"
+subsystem = 0
+verb = "take"
+"#;
+
+// The bytes of its catalog.
+const BY_KEY_BYTES: [u8; 19] = [
+    2, 2, 0, 3, b'a', b'd', b'd', 0, 0, // add
+    4, b't', b'a', b'k', b'e', 0, 1, // take
+    0, 2, 1,
+];
+
 // The bytes of a document's catalog.
 fn written(alloc: Global, document: &[u8]) -> Result<Vec<u8>, Fail> {
     let scenario = read_scenario(alloc, document)?;
@@ -99,28 +119,32 @@ fn processes_of(alloc: Global, document: &[u8]) -> Result<Vec<u8>, Fail> {
 // A catalog's bytes, read and written again with a copy of its conflicts.
 fn rewritten(alloc: Global, bytes: &[u8]) -> Result<Vec<u8>, Fail> {
     let catalog = read_catalog(alloc, bytes)?;
-    let conflicts = catalog.conflicts.copy(alloc)?;
-    let ops = catalog.ops;
-    Ok(catalog_bytes(alloc, &Catalog { ops, conflicts })?)
+    let copy = Catalog {
+        version: catalog.version,
+        conflicts: catalog.conflicts.copy(alloc)?,
+        ops: catalog.ops,
+    };
+    Ok(catalog_bytes(alloc, &copy)?)
 }
 
-// Whether two operations of a catalog conflict.
-fn conflict(alloc: Global, bytes: &[u8], a: u16, b: u16) -> Result<bool, Fail> {
+// Whether two operations of a catalog conflict, the first on key 7 and the second on this one.
+fn conflict(alloc: Global, bytes: &[u8], a: u16, b: u16, key: u32) -> Result<bool, Fail> {
     let catalog = read_catalog(alloc, bytes)?;
-    Ok(is_conflict(&catalog, a, b))
+    Ok(is_conflict(&catalog, a, b, key))
 }
 
-fn is_conflict(c: &Catalog, a: u16, b: u16) -> bool
+fn is_conflict(c: &Catalog, a: u16, b: u16, key: u32) -> bool
     requires { IsCatalog c.now }
 {
     let count = c.ops.as_slice().len();
-    usize::from(a) < count && usize::from(b) < count && c.conflicts.holds(a, b)
+    usize::from(a) < count && usize::from(b) < count && c.conflicts.holds(a, 7, b, key)
 }
 
 // Documents, the bytes of their catalogs, and their texts of processes.
-const WRITTEN: [(&[u8], &[u8], &[u8]); 2] = [
+const WRITTEN: [(&[u8], &[u8], &[u8]); 3] = [
     (ONE, &ONE_BYTES, b""),
     (NINE, &NINE_BYTES, b"process a c x add 1 5 end\n"),
+    (BY_KEY, &BY_KEY_BYTES, b""),
 ];
 
 #[test]
@@ -138,8 +162,14 @@ fn a_catalog_is_written_read_and_written_again(rt: HostRuntime) -> Result<(), Fa
 fn a_conflict_holds_both_ways(rt: HostRuntime) -> Result<(), Fail> {
     let alloc = rt.alloc();
     for (a, b, want) in [(0, 1, true), (1, 0, true), (5, 5, true), (0, 0, false)] {
-        assert_eq!(rt; conflict(alloc, &NINE_BYTES, a, b)?, want, "{a} and {b}");
+        assert_eq!(rt; conflict(alloc, &NINE_BYTES, a, b, 8)?, want, "{a} and {b}");
     }
+    for (a, b) in [(0, 1), (1, 0)] {
+        assert!(rt; conflict(alloc, &BY_KEY_BYTES, a, b, 7)?, "{a} and {b}");
+        assert!(rt; !conflict(alloc, &BY_KEY_BYTES, a, b, 8)?, "{a} and {b}");
+    }
+    assert!(rt; conflict(alloc, &BY_KEY_BYTES, 1, 1, 8)?);
+    assert!(rt; !conflict(alloc, &BY_KEY_BYTES, 0, 0, 7)?);
     Ok(())
 }
 
@@ -173,8 +203,9 @@ fn letters(alloc: Global) -> Result<Vec<u8>, Fail> {
 }
 
 // Another byte at a place of the bytes of one operation.
-const DAMAGES: [(usize, u8); 8] = [
-    (0, 2),
+const DAMAGES: [(usize, u8); 9] = [
+    (0, 0),
+    (0, 3),
     (2, 1),
     (3, 0),
     (3, 33),
@@ -195,6 +226,9 @@ fn bytes_are_refused_at_the_first_that_no_catalog_has(rt: HostRuntime) -> Result
         assert_eq!(rt; place_of(alloc, &ONE_BYTES[..count]), Some(count));
     }
     assert_eq!(rt; place_of(alloc, &[1, 0, 0, 0]), Some(3));
+    // A cell that is no mode of version 2.
+    assert_eq!(rt; place_of(alloc, &[2, 1, 0, 1, b'a', 0, 0, 2]), None);
+    assert_eq!(rt; place_of(alloc, &[2, 1, 0, 1, b'a', 0, 0, 3]), Some(7));
     // A name that can only be a repeated one is refused early.
     let bytes = letters(alloc)?;
     assert_eq!(rt; place_of(alloc, &bytes), Some(107));

@@ -18,6 +18,10 @@ fn generated(number: u64, count: u32) -> Command {
     Command::Gen { number, count }
 }
 
+fn run_anew(number: u64, count: u32) -> Command {
+    Command::Bulk { number, count }
+}
+
 #[test]
 fn words_are_read_as_commands(rt: HostRuntime) -> Result<(), Fail> {
     let alloc = rt.alloc();
@@ -51,6 +55,10 @@ fn words_are_read_as_commands(rt: HostRuntime) -> Result<(), Fail> {
         ("gen 0 0", Err(WordsError::BadWords)),
         ("gen 1 257", Err(WordsError::BadWords)),
         ("gen 1 1 1", Err(WordsError::BadWords)),
+        ("bulk 1 1", Ok(run_anew(1, 1))),
+        ("bulk 0 256", Ok(run_anew(0, 256))),
+        ("bulk", Err(WordsError::BadWords)),
+        ("bulk 1 257", Err(WordsError::BadWords)),
         ("help", Err(WordsError::BadWords)),
         ("--help", Err(WordsError::BadWords)),
         ("-- check", Err(WordsError::BadWords)),

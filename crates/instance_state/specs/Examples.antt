@@ -8,10 +8,10 @@ use Rattle.machine_model.specs.ProcessState.{effected, opening_state, todo}
 use Rattle.instance_state.specs.OwnActs.{are_in_own_order}
 
 abbrev pub three_ways_course : Course
-three_ways_course = record { shape = three_ways; ops = 0 ∷ 0 ∷ 0 ∷ 0 ∷ 0 ∷ []; allowances = [] }
+three_ways_course = record { shape = three_ways; ops = 0 ∷ 0 ∷ 0 ∷ 0 ∷ 0 ∷ []; keys = []; allowances = [] }
 
 abbrev pub act : ℕ → Bool → Entry
-act step undo = record { process = 1; step = step; op = 0; undo = undo }
+act step undo = record { process = 1; step = step; op = 0; key = 0; undo = undo }
 
 -- 2 was done and undone, so its way is behind: 1 is undone next, and then comes 3
 abbrev pub half_undone : List Entry

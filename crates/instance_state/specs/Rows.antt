@@ -41,7 +41,7 @@ row_in c b =
 
 -- what is kept of step b of a process with this root
 abbrev pub row_of : Block → ℕ → Row
-row_of root b = row_in (record { shape = shape_of root; ops = []; allowances = map allowance_of (outline root).steps }) b
+row_of root b = row_in (record { shape = shape_of root; ops = []; keys = []; allowances = map allowance_of (outline root).steps }) b
 
 -- the same of the first n steps
 abbrev pub rows_to : Block → ℕ → List Row

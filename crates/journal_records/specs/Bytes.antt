@@ -28,9 +28,9 @@ bytes_of (Start i text) = start_bytes i text
 bytes_of (Act e) = act_bytes e
 bytes_of (End i) = end_bytes i
 
--- the entry of a process and a step; its operation isn't told
+-- the entry of a process and a step; its operation and its key aren't told
 abbrev pub entry_told : ℕ → ℕ → Bool → Entry
-entry_told i b undo = record { process = i; step = b; op = 0; undo = undo }
+entry_told i b undo = record { process = i; step = b; op = 0; key = 0; undo = undo }
 
 -- what stands behind a 1: four bytes of a number, and a text
 abbrev pub start_in : List ℕ → Option Record
@@ -52,7 +52,7 @@ abbrev pub end_in : List ℕ → Option Record
 end_in (p0 ∷ p1 ∷ p2 ∷ p3 ∷ []) = Some (End (from_le_bytes w32 (p0 ∷ p1 ∷ p2 ∷ p3 ∷ [])))
 end_in rest = None
 
--- the record that bytes are, if they are one; the operation of a step isn't told by them
+-- the record that bytes are, if they are one; the operation and the key of a step aren't told by them
 abbrev pub record_of : List ℕ → Option Record
 record_of [] = None
 record_of (first ∷ rest) =

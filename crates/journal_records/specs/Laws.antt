@@ -11,7 +11,7 @@ FitsItsBytes (Start i text) = i < 2 ^ 32
 FitsItsBytes (Act e) = (e.process < 2 ^ 32) × (e.step < 2 ^ 16)
 FitsItsBytes (End i) = i < 2 ^ 32
 
--- what its bytes tell of a record: all but the operation of a step
+-- what its bytes tell of a record: all but the operation and the key of a step
 abbrev pub told : Record → Record
 told (Setup catalog) = Setup catalog
 told (Start i text) = Start i text

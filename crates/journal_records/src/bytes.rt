@@ -104,11 +104,12 @@ fn entry_by(process: u32, step: u16, last: u8) -> Option<Record>
         process,
         step,
         op: 0,
+        key: 0,
         undo,
     }))
 }
 
-/// The record that bytes are, if they are one. The operation of a step is 0: its bytes don't tell it.
+/// The record that bytes are, if they are one. The operation and the key of a step are 0: its bytes don't tell them.
 pub fn read(alloc: Global, body: &[u8]) -> Result<Option<Record>, AllocError>
     ensures found { IfOk result (λ found. found ≡ record_of body.now) }
     // Its bytes are these.

@@ -12,7 +12,7 @@ pub enum Record {
     Setup(Body),
     /// This process started, with its canonical text.
     Start(u32, Body),
-    /// A step took effect, or its undo did. Its operation is not among the bytes: it is the plan's.
+    /// A step took effect, or its undo did. Its operation and its key are not among the bytes: they are the plan's.
     Act(Entry),
     /// This process ended.
     End(u32),

@@ -3,13 +3,14 @@ use Rattle.std.proofs.Common.{◌≡◌, ℕ, Bool, true, false, not, cond, eqb,
 use Rattle.std.specs.List.{list_any}
 use Rattle.std.proofs.lemmas.Option.{none-some, same_Some}
 use Rattle.std.proofs.lemmas.Bool.{and_parts, or_parts, eqb-true, eq-eqb, false≢true}
+use Rattle.process_tree.specs.Conflicts.{same_access}
 use Rattle.process_tree.specs.Order.{Each}
 use Rattle.process_tree.specs.declared.entry.Entry.{Entry}
 use Rattle.process_tree.specs.declared.plan.Plan.{Plan}
 use Rattle.process_tree.specs.Recovery.{StepClass, reserved, committing, undoable}
 use Rattle.schedule_model.specs.declared.event.Event.{Event}
 use Rattle.schedule_model.specs.declared.event.Event.TheVariants.{Act}
-use Rattle.schedule_model.specs.Course.{Course, courses_of, op_of}
+use Rattle.schedule_model.specs.Course.{Course, courses_of, op_of, access_at}
 use Rattle.schedule_model.specs.Conflict.{ConflictRelation, no_conflict}
 use Rattle.schedule_model.specs.Histories.{active, doing, is_active, net_of, undoing}
 use Rattle.schedule_model.specs.Laws.{AreGood}
@@ -164,7 +165,7 @@ module _ (table : ConflictRelation) (plans : List Plan) (good : AreGood plans) w
       let p : Piece = record { number = number; process = i; step = b; work = Forward } in
       let tidy = own.order.tidy in
       let keeps = keeps_at m n p own is found in
-      let facts = class-facts plans m.events i b good (and_parts (is_active m.events i && eqb (op_of cs i b) (op_of cs i b)) (goes_on cs m.events i b) keeps).1 in
+      let facts = class-facts plans m.events i b good (and_parts (is_active m.events i && same_access (access_at cs i b) (access_at cs i b)) (goes_on cs m.events i b) keeps).1 in
       let owes = effect_reserved table cs m n p tidy is found in
       let owed_before = was_reserved table cs m n p tidy is found in
       let undo_after = ap (λ h. backward_entries cs h i) (effect_events table cs m n p tidy is found) in

@@ -18,7 +18,7 @@ use Rattle.schedule_model.specs.Blocking.{against_undo, all_clashes}
 use Rattle.schedule_model.proofs.Apart.{Apart, Apart-filter, Apart-last, net-apart}
 use Rattle.schedule_model.proofs.Behind.{behind-filter, behind-split, has_step, same_step-itself, same_step-symmetric}
 use Rattle.schedule_model.proofs.Clear.{against-none, clear-from_nothing}
-use Rattle.schedule_model.proofs.Entries.{HasPlansOperation, acts-of_plans, All-net_acts, net_acts-forward, doing-is}
+use Rattle.schedule_model.proofs.Entries.{HasPlansAccess, acts-of_plans, All-net_acts, net_acts-forward, doing-is}
 use Rattle.schedule_model.proofs.Members.{Among, all-among, among-filter, among-right, contains-from_among, in_filter, not_any}
 use Rattle.schedule_model.proofs.Snoc.{filter_same, filter_twice}
 use Rattle.machine_model.specs.declared.kept.Work.TheVariants.{Undo}
@@ -144,8 +144,8 @@ module _ (table : ConflictRelation) (plans : List Plan) (s : Machine) (session :
       step : x ≡ doing cs x.process x.step
       step =
           doing-is cs x
-          (All-contains (HasPlansOperation cs) (net m.events) x
-          (All-net_acts (HasPlansOperation cs) (acts m.events) (subst (λ xs. All (HasPlansOperation xs) (acts m.events)) session.courses (run-of_plans table s session.run (acts-of_plans table s.courses s.opening session.legal)))) x_in)
+          (All-contains (HasPlansAccess cs) (net m.events) x
+          (All-net_acts (HasPlansAccess cs) (acts m.events) (subst (λ xs. All (HasPlansAccess xs) (acts m.events)) session.courses (run-of_plans table s session.run (acts-of_plans table s.courses s.opening session.legal)))) x_in)
           (All-contains (λ (e : Entry). e.undo ≡ false) (net m.events) x (net_acts-forward (acts m.events)) x_in)
 
       its_pending : Among x (pending_of cs m x.process)

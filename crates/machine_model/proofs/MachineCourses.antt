@@ -71,7 +71,7 @@ module _ (cs ds : List Course) (m : Moment) where
 
   soon-courses : (i b : ℕ) (w : Work) → SameCourse cs ds i → owed_by_work cs m.events i b w ≡ owed_by_work ds m.events i b w
   soon-courses i b Forward same = ap (λ (c : Course). owed_by_class (class_of c.shape (net_steps m.events i) b)
-      (map (λ d. record { process = i; step = d; op = slice_index_or c.ops d 0; undo = false }) (forward c.shape (net_steps m.events i ++ b ∷ [])))) same
+      (map (λ d. record { process = i; step = d; op = slice_index_or c.ops d 0; key = slice_index_or c.keys d 0; undo = false }) (forward c.shape (net_steps m.events i ++ b ∷ [])))) same
   soon-courses i b Undo same = refl
   soon-courses i b End same = refl
 
@@ -96,8 +96,8 @@ module _ (cs ds : List Course) (m : Moment) where
       ∙ ap (λ es. by_parts i (entry_of ds (running_of m i)) (owed ds m.events i ++ owed_soon ds m.events (running_of m i)) es (backward_entries ds m.events i)) (pending-courses i same)))
 
   work-courses : (table : ConflictRelation) (g : Holdings) (i b : ℕ) (w : Work) → SameCourse cs ds i → against_work table cs g m.events i b w ≡ against_work table ds g m.events i b w
-  work-courses table g i b Forward same = ap (λ (c : Course). against_step table g (class_of c.shape (net_steps m.events i) b) (record { process = i; step = b; op = slice_index_or c.ops b 0; undo = false })
-      (map (λ d. record { process = i; step = d; op = slice_index_or c.ops d 0; undo = false }) (forward c.shape (net_steps m.events i ++ b ∷ [])))) same
+  work-courses table g i b Forward same = ap (λ (c : Course). against_step table g (class_of c.shape (net_steps m.events i) b) (record { process = i; step = b; op = slice_index_or c.ops b 0; key = slice_index_or c.keys b 0; undo = false })
+      (map (λ d. record { process = i; step = d; op = slice_index_or c.ops d 0; key = slice_index_or c.keys d 0; undo = false }) (forward c.shape (net_steps m.events i ++ b ∷ [])))) same
   work-courses table g i b Undo same = ap (against_undo table g) (doing-courses cs ds i b same)
   work-courses table g i b End same = refl
 

@@ -6,13 +6,15 @@ use Rattle.std.proofs.lemmas.Option.{none-some}
 use Rattle.std.proofs.lemmas.Bool.{and_parts, and_from, or_left, eq-eqb, le-leb, false≢true}
 use Rattle.std.proofs.lemmas.List.{length-take}
 use Rattle.std.proofs.lemmas.List.Folds.{list_all-append}
+use Rattle.process_tree.proofs.Entries.{access-same}
+use Rattle.process_tree.specs.Conflicts.{same_access}
 use Rattle.process_tree.specs.Blocks.{numbers_from}
 use Rattle.process_tree.specs.Shape.{Shape, first_of, fixed_len, goes_on_to, is_end, is_whole, last_of, least, next_steps}
 use Rattle.process_tree.specs.Play.{kept_prefixes, kept_for}
 use Rattle.process_tree.specs.Recovery.{forward}
 use Rattle.process_tree.proofs.Numbers.{least_some}
 use Rattle.process_tree.specs.declared.plan.Plan.{Plan}
-use Rattle.schedule_model.specs.Course.{Course, courses_of, op_of, shape}
+use Rattle.schedule_model.specs.Course.{Course, courses_of, op_of, shape, access_at}
 use Rattle.schedule_model.specs.Conflict.{no_conflict}
 use Rattle.schedule_model.specs.Histories.{doing, done_steps, is_active, is_in, net, net_of, net_steps, undoing}
 use Rattle.schedule_model.specs.Laws.{AreGood}
@@ -83,15 +85,15 @@ module _ (plans : List Plan) (good : AreGood plans) (m : Moment) (legal : IsTrue
   abbrev Keeps : Task → Type 0
   Keeps x = keeps_order cs m.events (event_by cs i x.step x.work) ≡ true
 
-  active_op : is_active m.events i ≡ true → (b : ℕ) → (is_active m.events i && eqb (op_of cs i b) (op_of cs i b)) ≡ true
-  active_op active' b = and_from (is_active m.events i) (eqb (op_of cs i b) (op_of cs i b)) active' (eq-eqb (op_of cs i b) (op_of cs i b) refl)
+  active_op : is_active m.events i ≡ true → (b : ℕ) → (is_active m.events i && same_access (access_at cs i b) (access_at cs i b)) ≡ true
+  active_op active' b = and_from (is_active m.events i) (same_access (access_at cs i b) (access_at cs i b)) active' (access-same (access_at cs i b) (access_at cs i b) refl)
 
   undo_keeps : is_active m.events i ≡ true → (b : ℕ) → last_of (pending_steps s) ≡ Some b → Keeps (record { work = Undo; step = b })
-  undo_keeps active' b last = and_from (is_active m.events i && eqb (op_of cs i b) (op_of cs i b)) (is_of_last (backward_entries cs m.events i) (undoing (doing cs i b))) (active_op active' b)
+  undo_keeps active' b last = and_from (is_active m.events i && same_access (access_at cs i b) (access_at cs i b)) (is_of_last (backward_entries cs m.events i) (undoing (doing cs i b))) (active_op active' b)
       (undo_of_last cs i b (staying s) (fixed_len t w) (net_of m.events i) (all_pass (λ e. eqb e.process i) (net m.events)) (staying-least s) last)
 
   step_keeps : is_active m.events i ≡ true → (d : ℕ) → goes_on_to t w d ≡ true → list_all (λ x. ltb x d) (done_steps m.events i) ≡ true → Keeps (record { work = Forward; step = d })
-  step_keeps active' d on above = and_from (is_active m.events i && eqb (op_of cs i d) (op_of cs i d)) (goes_on cs m.events i d) (active_op active' d) (and_from (goes_on_to t w d) (list_all (λ x. ltb x d) (done_steps m.events i)) on above)
+  step_keeps active' d on above = and_from (is_active m.events i && same_access (access_at cs i d) (access_at cs i d)) (goes_on cs m.events i d) (active_op active' d) (and_from (goes_on_to t w d) (list_all (λ x. ltb x d) (done_steps m.events i)) on above)
 
   end_keeps : is_active m.events i ≡ true → is_end t w ≡ true → Keeps (record { work = End; step = 0 })
   end_keeps active' at = and_from (is_active m.events i) (is_at_end cs m.events i) active' at

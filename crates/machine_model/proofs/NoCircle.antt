@@ -5,11 +5,12 @@ use Rattle.std.specs.Option.{option_to_list}
 use Rattle.std.specs.List.{list_any}
 use Rattle.std.proofs.lemmas.Option.{none-some}
 use Rattle.std.proofs.lemmas.Bool.{and_parts, and_from, eqb-true, eq-eqb, false≢true}
+use Rattle.process_tree.specs.Conflicts.{same_access}
 use Rattle.process_tree.specs.declared.entry.Entry.{Entry}
 use Rattle.process_tree.specs.declared.plan.Plan.{Plan}
 use Rattle.process_tree.specs.Recovery.{StepClass, reserved, committing, undoable}
 use Rattle.schedule_model.specs.declared.event.Event.{Event}
-use Rattle.schedule_model.specs.Course.{Course, courses_of, op_of}
+use Rattle.schedule_model.specs.Course.{Course, courses_of, op_of, access_at}
 use Rattle.schedule_model.specs.Conflict.{ConflictRelation, IsSymmetric, conflict, no_conflict}
 use Rattle.schedule_model.specs.Graph.{Walk, one_arrow, and_then}
 use Rattle.schedule_model.specs.Histories.{active, doing, is_active, is_in, net, net_of}
@@ -202,7 +203,7 @@ module _ (table : ConflictRelation) (symmetric : IsSymmetric table) (plans : Lis
           let task = and_parts (same_work Forward t.work) (eqb s t.step) (hand_parts table cs m (record { number = n; process = c; step = s; work = Forward }) may').task in
           let keeps = ap (λ b. keeps_order cs m.events (event_by cs c b Forward)) (eqb-true s t.step task.1)
           ∙ (ap (λ w. keeps_order cs m.events (event_by cs c t.step w)) (same_work-is Forward t.work task.0) ∙ next_keeps plans good m own.legal c (own.ahead c) goes) in
-          let on = (and_parts (is_active m.events c && eqb (op_of cs c s) (op_of cs c s)) (goes_on cs m.events c s) keeps).1 in
+          let on = (and_parts (is_active m.events c && same_access (access_at cs c s) (access_at cs c s)) (goes_on cs m.events c s) keeps).1 in
           among-left (doing cs c s) (owed cs m.events c) _ (subst (Among (doing cs c s)) (sym ((class-facts plans m.events c s good on).reserved_owes class)) (inl refl))
 
       by_class : (class : StepClass) → class_in cs m.events c s ≡ class → Nothing (against_step table (holdings cs m) class (doing cs c s) (owed_after cs m.events c s)) → NewArrow m k a c

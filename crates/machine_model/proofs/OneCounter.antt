@@ -10,7 +10,7 @@ use Rattle.process_tree.specs.declared.entry.Entry.{Entry}
 use Rattle.process_tree.specs.declared.plan.Plan.{Plan}
 use Rattle.schedule_model.specs.declared.event.Event.{Event}
 use Rattle.schedule_model.specs.declared.event.Event.TheVariants.{Act, End as Ended}
-use Rattle.schedule_model.specs.Course.{Course, courses_of, op_of, shape}
+use Rattle.schedule_model.specs.Course.{Course, courses_of, op_of, shape, access_at}
 use Rattle.schedule_model.specs.Conflict.{ConflictRelation, no_conflict}
 use Rattle.schedule_model.specs.Histories.{doing, done_steps, ends, is_active, is_in, net_steps, steps_of, undoing, net_of}
 use Rattle.schedule_model.specs.Laws.{AreGood}
@@ -24,6 +24,7 @@ use Rattle.schedule_model.proofs.Rising.{Rising, net_steps-rising}
 use Rattle.schedule_model.proofs.Snoc.{done_steps-do, done_steps-undo}
 use Rattle.schedule_model.proofs.Undoing.{undoes}
 use Rattle.std.proofs.lemmas.List.{map-append}
+use Rattle.process_tree.specs.Conflicts.{same_access}
 use Rattle.machine_model.specs.declared.kept.Kept.{Kept}
 use Rattle.machine_model.specs.declared.kept.Kept.TheVariants.{Start, Hand, Effect, Refuse, Abort, Victim, Restart}
 use Rattle.machine_model.specs.declared.kept.Work.{Work}
@@ -136,7 +137,7 @@ module _ (table : ConflictRelation) (plans : List Plan) (good : AreGood plans) w
       let plan = good_if_goes_on plans i (net_steps m.events i) b good on in
       let same = step-effected cs m n number i b in
       let above' = (and_parts (goes_on_to (shape cs i) (net_steps m.events i) b) (list_all (λ x. ltb x b) (done_steps m.events i))
-      (and_parts (is_active m.events i && eqb (op_of cs i b) (op_of cs i b)) (goes_on cs m.events i b) keeps).1).1 in
+      (and_parts (is_active m.events i && same_access (access_at cs i b) (access_at cs i b)) (goes_on cs m.events i b) keeps).1).1 in
       let done = done_steps-do m.events (doing cs i b) refl in
       let step = (next_step s b next).1 in (
         record {

@@ -3,10 +3,12 @@ use Rattle.std.proofs.Common.{◌≡◌, ◌⊎◌, inl, inr, ℕ, true, false, 
 use Rattle.std.specs.Option.{option_to_list}
 use Rattle.std.proofs.lemmas.Bool.{and_parts, eqb-true}
 use Rattle.std.proofs.lemmas.List.{take-append-drop}
+use Rattle.process_tree.specs.Conflicts.{same_access}
+use Rattle.process_tree.specs.Entries.{access_of}
 use Rattle.process_tree.specs.declared.entry.Entry.{Entry}
 use Rattle.process_tree.specs.declared.plan.Plan.{Plan}
 use Rattle.process_tree.specs.Recovery.{reserved}
-use Rattle.schedule_model.specs.Course.{Course, courses_of, op_of}
+use Rattle.schedule_model.specs.Course.{Course, courses_of, op_of, access_at}
 use Rattle.schedule_model.specs.Conflict.{ConflictRelation, IsSymmetric, conflict}
 use Rattle.schedule_model.specs.Histories.{active, doing, is_active, net_of, net_steps}
 use Rattle.schedule_model.specs.Holdings.{Hold, Holdings, all_pending, all_reserved, all_running}
@@ -63,8 +65,8 @@ module _ (table : ConflictRelation) (symmetric : IsSymmetric table) (plans : Lis
         let own = among_net_of m.events p.process y.0 y.1 in
         let op = net-of_plans plans good m.events facts.own.legal y.0 own.0 in
         let free = facts.free i k r y.0 goes other owes (inl (inl (subst (λ j. Among y.0 (net_of m.events j)) its y.1))) in
-        ap (λ (j : ℕ). not (eqb r.process j) && table r.op (op_of cs k p.step)) (sym (own.1 ∙ its))
-        ∙ (ap (λ o. not (eqb r.process y.0.process) && table r.op o) (ap (λ j. op_of cs j p.step) (sym (own.1 ∙ its)) ∙ (ap (op_of cs y.0.process) (sym y.2) ∙ sym op)) ∙ free)
+        ap (λ (j : ℕ). not (eqb r.process j) && table (access_of r) (access_at cs k p.step)) (sym (own.1 ∙ its))
+        ∙ (ap (λ o. not (eqb r.process y.0.process) && table (access_of r) o) (ap (λ j. access_at cs j p.step) (sym (own.1 ∙ its)) ∙ (ap (access_at cs y.0.process) (sym y.2) ∙ sym op)) ∙ free)
 
     running_apart : ApartFrom table r (all_running g)
     running_apart x is =
@@ -106,7 +108,7 @@ module _ (table : ConflictRelation) (symmetric : IsSymmetric table) (plans : Lis
       let t = next_of cs m i in
       let b = t.step in
       let keeps = ap (λ w. keeps_order cs m.events (event_by cs i b w)) (sym work) ∙ next_keeps plans good m facts.own.legal i (facts.own.ahead i) goes in
-      let on = (and_parts (is_active m.events i && eqb (op_of cs i b) (op_of cs i b)) (goes_on cs m.events i b) keeps).1 in
+      let on = (and_parts (is_active m.events i && same_access (access_at cs i b) (access_at cs i b)) (goes_on cs m.events i b) keeps).1 in
       let first = (class-facts plans m.events i b good on).reserved_owes class in
       let owes : Among (doing cs i b) (hold_of cs m i).reserved = among-left (doing cs i b) (owed cs m.events i) _ (subst (Among (doing cs i b)) (sym first) (inl refl)) in
       let clear = clear-from_nothing (against_step table g reserved (doing cs i b) (owed_after cs m.events i b)) (record {

@@ -4,6 +4,7 @@ use Rattle.std.specs.Bool.{IsTrue}
 use Rattle.std.specs.List.{list_all}
 use Rattle.std.proofs.lemmas.Option.{none-some, same_Some}
 use Rattle.std.proofs.lemmas.Bool.{and_parts, and_from, or_left, or_from, not-true, eqb-true, ltb-true, false≢true}
+use Rattle.process_tree.specs.Conflicts.{same_access}
 use Rattle.process_tree.specs.Order.{Each}
 use Rattle.process_tree.proofs.Every.{Each-weaker, Each-append, Each-both}
 use Rattle.process_tree.specs.Recovery.{forward}
@@ -11,7 +12,7 @@ use Rattle.process_tree.specs.Shape.{first_of, goes_on_to, last_of}
 use Rattle.process_tree.specs.declared.plan.Plan.{Plan}
 use Rattle.schedule_model.specs.declared.event.Event.{Event}
 use Rattle.schedule_model.specs.declared.event.Event.TheVariants.{Start as Started, Act, End as Ended}
-use Rattle.schedule_model.specs.Course.{Course, course, courses_of, op_of, shape}
+use Rattle.schedule_model.specs.Course.{Course, course, courses_of, op_of, shape, access_at}
 use Rattle.schedule_model.specs.Conflict.{ConflictRelation, no_conflict}
 use Rattle.schedule_model.specs.Histories.{doing, done_steps, ends, is_active, is_in, net_steps, starts, steps_of, undoing}
 use Rattle.schedule_model.specs.Laws.{AreGood}
@@ -217,7 +218,7 @@ module _ (table : ConflictRelation) (plans : List Plan) (good : AreGood plans) w
   -- a step that is next goes on
   pub on_from : (m : Moment) (i d : ℕ) → keeps_order cs m.events (event_by cs i d Forward) ≡ true → goes_on_to (shape cs i) (net_steps m.events i) d ≡ true
   on_from m i d keeps = (and_parts (goes_on_to (shape cs i) (net_steps m.events i) d) (list_all (λ x. ltb x d) (done_steps m.events i))
-      (and_parts (is_active m.events i && eqb (op_of cs i d) (op_of cs i d)) (goes_on cs m.events i d) keeps).1).0
+      (and_parts (is_active m.events i && same_access (access_at cs i d) (access_at cs i d)) (goes_on cs m.events i d) keeps).1).0
 
   done_by_piece : (m : Moment) (n number i b : ℕ) (w : Work) → InOwnOrder m → (let p : Piece = record { number = number; process = i; step = b; work = w } in
       IsNextPiece cs m p × (keeps_order cs m.events (event_of cs p) ≡ true))

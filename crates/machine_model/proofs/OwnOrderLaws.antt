@@ -6,12 +6,14 @@ use Rattle.std.proofs.lemmas.Option.{same_Some}
 use Rattle.std.proofs.lemmas.Bool.{and_parts, or_left, or_right, or_cases, not-true, eqb-true, eq-eqb, false≢true}
 use Rattle.std.proofs.lemmas.List.{map-append}
 use Rattle.std.proofs.Math.Seq.{take-append_seam}
+use Rattle.process_tree.specs.Entries.{access_of}
+use Rattle.process_tree.specs.Conflicts.{same_access}
 use Rattle.process_tree.specs.Shape.{is_end}
 use Rattle.process_tree.specs.declared.entry.Entry.{Entry}
 use Rattle.process_tree.specs.declared.plan.Plan.{Plan}
 use Rattle.schedule_model.specs.declared.event.Event.{Event}
 use Rattle.schedule_model.specs.declared.event.Event.TheVariants.{Start as Started, Act, End as Ended}
-use Rattle.schedule_model.specs.Course.{Course, courses_of, op_of, shape}
+use Rattle.schedule_model.specs.Course.{Course, courses_of, op_of, shape, access_at}
 use Rattle.schedule_model.specs.Conflict.{ConflictRelation, no_conflict}
 use Rattle.schedule_model.specs.Histories.{doing, ends, is_active, is_in, net_of, net_steps, starts, steps_of, undoing}
 use Rattle.schedule_model.specs.Legal.{is_legal, may_come, is_clear}
@@ -71,7 +73,7 @@ module _ (courses : List Course) where
   at_ends_more h (Act e) legal may at i is =
       let ended = ends_still h (Act e) i refl is in
       let keeps = (and_parts (keeps_order courses h (Act e)) (is_clear no_conflict courses h (Act e)) may).0 in
-      act_by h e i (eqb e.process i) refl (first_of_three (is_active h e.process) (eqb e.op (op_of courses e.process e.step)) _ keeps) ended (at i ended)
+      act_by h e i (eqb e.process i) refl (first_of_three (is_active h e.process) (same_access (access_of e) (access_at courses e.process e.step)) _ keeps) ended (at i ended)
     where
       first_of_three : (a b c : Bool) → ((a && b) && c) ≡ true → a ≡ true
       first_of_three a b c is = (and_parts a b (and_parts (a && b) c is).0).0

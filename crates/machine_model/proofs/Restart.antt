@@ -19,7 +19,7 @@ use Rattle.schedule_model.specs.Recovery.{owed_steps, backward_entries}
 use Rattle.schedule_model.specs.Completion.{all_backward_entries, closing, completion, is_to_undo}
 use Rattle.schedule_model.proofs.Active.{is_active-is_in}
 use Rattle.schedule_model.proofs.Appends.{acts-append}
-use Rattle.schedule_model.proofs.Entries.{HasPlansOperation, acts-of_plans, All-net_acts, net_acts-forward, doing-is}
+use Rattle.schedule_model.proofs.Entries.{HasPlansAccess, acts-of_plans, All-net_acts, net_acts-forward, doing-is}
 use Rattle.schedule_model.proofs.Snoc.{filter_same, filter_twice}
 use Rattle.machine_model.specs.declared.kept.Kept.{Kept}
 use Rattle.machine_model.specs.declared.kept.Kept.TheVariants.{Start, Hand, Effect, Refuse, Abort, Victim, Restart}
@@ -50,22 +50,22 @@ and_swap false false = refl
 -- The acts of a run have the operations of the plans.
 module _ (table : ConflictRelation) (courses : List Course) where
   abbrev OfPlans : Moment → Type 0
-  OfPlans m = All (HasPlansOperation courses) (acts m.events)
+  OfPlans m = All (HasPlansAccess courses) (acts m.events)
 
-  event_of_plans : (h : List Event) (p : Piece) → All (HasPlansOperation courses) (acts h) → All (HasPlansOperation courses) (acts (h ++ event_of courses p ∷ []))
-  event_of_plans h p all = subst (All (HasPlansOperation courses)) (sym (acts-append h (event_of courses p ∷ []))) (All-append (HasPlansOperation courses) (acts h) (acts (event_of courses p ∷ [])) all (by_work p.work))
+  event_of_plans : (h : List Event) (p : Piece) → All (HasPlansAccess courses) (acts h) → All (HasPlansAccess courses) (acts (h ++ event_of courses p ∷ []))
+  event_of_plans h p all = subst (All (HasPlansAccess courses)) (sym (acts-append h (event_of courses p ∷ []))) (All-append (HasPlansAccess courses) (acts h) (acts (event_of courses p ∷ [])) all (by_work p.work))
     where
-      by_work : (w : Work) → All (HasPlansOperation courses) (acts (event_by courses p.process p.step w ∷ []))
-      by_work Forward = All-cons (HasPlansOperation courses) (doing courses p.process p.step) [] refl (All-nil (HasPlansOperation courses))
-      by_work Undo = All-cons (HasPlansOperation courses) (undoing (doing courses p.process p.step)) [] refl (All-nil (HasPlansOperation courses))
-      by_work End = All-nil (HasPlansOperation courses)
+      by_work : (w : Work) → All (HasPlansAccess courses) (acts (event_by courses p.process p.step w ∷ []))
+      by_work Forward = All-cons (HasPlansAccess courses) (doing courses p.process p.step) [] refl (All-nil (HasPlansAccess courses))
+      by_work Undo = All-cons (HasPlansAccess courses) (undoing (doing courses p.process p.step)) [] refl (All-nil (HasPlansAccess courses))
+      by_work End = All-nil (HasPlansAccess courses)
 
   perhaps : (m : Moment) (o : Option Piece) → OfPlans m → OfPlans (with_piece (λ p. happened m (event_of courses p)) m o)
   perhaps m None all = all
   perhaps m (Some p) all = event_of_plans m.events p all
 
   entered_of_plans : (m : Moment) (k : Kept) → OfPlans m → OfPlans (entered courses m k)
-  entered_of_plans m (Start i) all = subst (All (HasPlansOperation courses)) (sym (acts-append m.events (Started i ∷ []) ∙ append-nil (acts m.events))) all
+  entered_of_plans m (Start i) all = subst (All (HasPlansAccess courses)) (sym (acts-append m.events (Started i ∷ []) ∙ append-nil (acts m.events))) all
   entered_of_plans m (Hand a b c d) all = all
   entered_of_plans m (Effect n) all = perhaps (noted m (Effect n)) (piece_of (noted m (Effect n)).kept n) all
   entered_of_plans m (Refuse n) all = all
@@ -77,7 +77,7 @@ module _ (table : ConflictRelation) (courses : List Course) where
   advance_of_plans m k all = advance-keeps OfPlans (λ cause n i never is. is) table courses m k (entered_of_plans m k all)
 
 -- where its opening is of its plans, a run is
-pub run-of_plans : (table : ConflictRelation) (s : Machine) → IsTrue (is_run table s) → All (HasPlansOperation s.courses) (acts s.opening) → All (HasPlansOperation s.courses) (acts (now table s).events)
+pub run-of_plans : (table : ConflictRelation) (s : Machine) → IsTrue (is_run table s) → All (HasPlansAccess s.courses) (acts s.opening) → All (HasPlansAccess s.courses) (acts (now table s).events)
 run-of_plans table s run all = run-keeps table s (OfPlans table s.courses) (λ m k is may. advance_of_plans table s.courses m k is) run all
 
 -- whoever has begun has its whole backward recovery pending
@@ -184,7 +184,7 @@ module _ (courses : List Course) (m : Moment) (all : AllHaveBegun m) where
       right = swapped ∙ (ap (filter marked) parts ∙ (filter-append marked (take k its ++ us) (z ∷ []) ∙ ap (λ t. filter marked (take k its ++ us) ++ cond t (z ∷ []) []) (last_to_undo x.process us z active' ends own_z)))
 
   -- something is pending: the process of the last pending entry undoes it
-  pub something_pending : (front : List Entry) (x : Entry) → All (HasPlansOperation courses) (acts m.events) → all_backward_entries courses m.events ≡ front ++ x ∷ [] → let t = next_of courses m x.process in
+  pub something_pending : (front : List Entry) (x : Entry) → All (HasPlansAccess courses) (acts m.events) → all_backward_entries courses m.events ≡ front ++ x ∷ [] → let t = next_of courses m x.process in
       (rest : List Event) × (completion courses m.events ≡ event_by courses x.process t.step t.work ∷ rest)
   something_pending front x plans is = by_end (has_end (backward_entries courses m.events x.process))
     where
@@ -199,7 +199,7 @@ module _ (courses : List Course) (m : Moment) (all : AllHaveBegun m) where
 
       step : x ≡ doing courses x.process x.step
       step = doing-is courses x
-          (All-contains (HasPlansOperation courses) (all_backward_entries courses m.events) x (All-filter (is_to_undo courses m.events) (HasPlansOperation courses) (net m.events) (All-net_acts (HasPlansOperation courses) (acts m.events) plans)) among)
+          (All-contains (HasPlansAccess courses) (all_backward_entries courses m.events) x (All-filter (is_to_undo courses m.events) (HasPlansAccess courses) (net m.events) (All-net_acts (HasPlansAccess courses) (acts m.events) plans)) among)
           (All-contains (λ (e : Entry). e.undo ≡ false) (all_backward_entries courses m.events) x (All-filter (is_to_undo courses m.events) (λ (e : Entry). e.undo ≡ false) (net m.events) (net_acts-forward (acts m.events))) among)
 
       others : List Event

@@ -3,10 +3,11 @@ use Rattle.std.proofs.Common.{◌≡◌, ◌⊎◌, inl, inr, ℕ, zero, suc, Bo
 use Rattle.std.specs.Bool.{IsTrue}
 use Rattle.std.proofs.lemmas.Option.{none-some}
 use Rattle.std.proofs.lemmas.Bool.{and_parts, eqb-true, eq-eqb}
+use Rattle.process_tree.specs.Entries.{access_of}
 use Rattle.process_tree.specs.declared.entry.Entry.{Entry}
 use Rattle.process_tree.specs.declared.plan.Plan.{Plan}
 use Rattle.schedule_model.specs.declared.event.Event.{Event}
-use Rattle.schedule_model.specs.Course.{Course, courses_of, op_of}
+use Rattle.schedule_model.specs.Course.{Course, courses_of, op_of, access_at}
 use Rattle.schedule_model.specs.Conflict.{ConflictRelation, IsSymmetric, conflict}
 use Rattle.schedule_model.specs.Histories.{doing, is_active, net, net_of, same_step}
 use Rattle.schedule_model.specs.Holdings.{behind}
@@ -56,7 +57,7 @@ module _ (table : ConflictRelation) (symmetric : IsSymmetric table) (plans : Lis
     pub pending : Among entry (pending_of (courses_of plans) m i)
     pub process : entry.process ≡ i
     pub step : entry.step ≡ b
-    pub op : entry.op ≡ op_of (courses_of plans) i b
+    pub op : access_of entry ≡ access_at (courses_of plans) i b
 
   -- where the undo of step b comes next, its entry is pending
   pub undone_next : (m : Moment) (i b : ℕ) → InOwnOrder table plans good m → same_task (record { work = Undo; step = b }) (next_task (progress cs m i)) ≡ true → Undone m i b
@@ -70,7 +71,7 @@ module _ (table : ConflictRelation) (symmetric : IsSymmetric table) (plans : Lis
         pending = y.1;
         process = there.1;
         step = y.2;
-        op = net-of_plans plans good m.events own.legal y.0 there.0 ∙ (ap (λ j. op_of cs j (y.0).step) there.1 ∙ ap (op_of cs i) y.2);
+        op = net-of_plans plans good m.events own.legal y.0 there.0 ∙ (ap (λ j. access_at cs j (y.0).step) there.1 ∙ ap (access_at cs i) y.2);
       }
 
   undone : (m : Moment) (i : ℕ) (p : Piece) → InOwnOrder table plans good m → running_of m i ≡ Some p → p.work ≡ Undo → Undone m i p.step
@@ -82,7 +83,7 @@ module _ (table : ConflictRelation) (symmetric : IsSymmetric table) (plans : Lis
   -- it conflicts as its step does
   pub undone_conflicts : (m : Moment) (i b : ℕ) (u : Undone m i b) (e : Entry) → conflict table (doing cs i b) e ≡ conflict table u.entry e
   undone_conflicts m i b u e =
-      ap (λ j. not (eqb j e.process) && table (op_of cs i b) e.op) (sym u.process) ∙ ap (λ o. not (eqb (u.entry).process e.process) && table o e.op) (sym u.op)
+      ap (λ j. not (eqb j e.process) && table (access_at cs i b) (access_of e)) (sym u.process) ∙ ap (λ o. not (eqb (u.entry).process e.process) && table o (access_of e)) (sym u.op)
 
   -- nothing stands against an undo that is handed out
   handed_undo : (m : Moment) (n i b : ℕ) → may_be_kept table cs m (Hand n i b Undo) ≡ true → (e : Entry) → Among e (behind (doing cs i b) (net m.events)) → conflict table (doing cs i b) e ≡ false

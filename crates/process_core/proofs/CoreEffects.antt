@@ -31,7 +31,7 @@ use Rattle.hold_tables.specs.Tables.{OpenProcess, Tables, is_open, kept_of}
 use Rattle.process_core.specs.Answers.{after_call}
 use Rattle.core_state.specs.Cores.{CoreState, IsCore, courses_in, history_of, machine_of, moment_of, relation}
 use Rattle.core_state.specs.Effects.{HoldsWork, tables_effected}
-use Rattle.core_state.specs.OpenTables.{pairs_behind, row_of}
+use Rattle.core_state.specs.OpenTables.{planned_behind, row_of}
 use Rattle.core_state.specs.Seats.{SeatState, Stands}
 use Rattle.core_state.proofs.EffectRows.{its_row, listed, runs_it}
 use Rattle.core_state.proofs.EffectSteps.{goes}
@@ -46,7 +46,7 @@ use Rattle.core_state.proofs.SeatFacts.{handed_has_plan}
 pub same_conflicts : (p : Plan) (i b : ℕ) (w : Work) (n : ℕ) (t : Tables) → (tables_effected p i b w n t).conflicts ≡ t.conflicts
 same_conflicts p i b Forward n t = by_kind (commits (kind_of (shape_of p.tree) b))
   where
-    by_kind : (k : Bool) → (changed (with_pending n) i (if k then changed (with_reserved (pairs_behind p b)) i (all_fixed i (took_effect i t)) else took_effect i t)).conflicts ≡ t.conflicts
+    by_kind : (k : Bool) → (changed (with_pending n) i (if k then changed (with_reserved (planned_behind p b)) i (all_fixed i (took_effect i t)) else took_effect i t)).conflicts ≡ t.conflicts
     by_kind true = refl
     by_kind false = refl
 same_conflicts p i b Undo n t = refl
@@ -125,7 +125,7 @@ module _ (c : CoreState) (d : Piece) (found : piece_of c.kept d.number ≡ Some 
       running = λ no_end. ap (λ (r : OpenProcess). is_some r.running) row_is ∙ (ap (λ o. is_some (entry_of cs o)) (runs_it c stands.core d found out) ∙ some_entry d.work no_end);
       steps = ap (λ (r : OpenProcess). r.steps) row_is ∙ its_steps;
       step = λ is.
-          let less = step_is_one c.plans stands.core.session.good (net m.events) (doing cs i d.step) (record { goes = goes c stands.core d found out is p plan_is; forward = refl; op = refl }) in
+          let less = step_is_one c.plans stands.core.session.good (net m.events) (doing cs i d.step) (record { goes = goes c stands.core d found out is p plan_is; forward = refl; access = refl }) in
           let same = its_steps in
           omega arith;
       good = its_plan.0.tree;

@@ -5,7 +5,7 @@ use Rattle.process_tree.specs.declared.plan.Plan.{Plan}
 use Rattle.process_tree.specs.Form.{AreEqualPlans}
 use Rattle.schedule_model.specs.declared.event.Event.TheVariants.{Start, Act, End}
 use Rattle.schedule_model.specs.declared.history.History.{History}
-use Rattle.schedule_model.specs.Course.{courses_of, op_of}
+use Rattle.schedule_model.specs.Course.{courses_of, op_of, key_of}
 use Rattle.schedule_model.specs.Legal.{is_legal}
 use Rattle.schedule_model.specs.Limits.{is_within_limits}
 use Rattle.commute_table.specs.declared.catalog.Catalog.{Catalog}
@@ -47,7 +47,7 @@ made_too c (records.Start i text) h k one same (p, own, is) =
     }
 made_too c (records.Act e) h k one same is =
     let courses = same_courses h.plans k.plans same.plans in
-    let entry : planned h e ≡ planned k e = ap (λ cs. record { process = e.process; step = e.step; op = op_of cs e.process e.step; undo = e.undo }) courses in
+    let entry : planned h e ≡ planned k e = ap (λ cs. record { process = e.process; step = e.step; op = op_of cs e.process e.step; key = key_of cs e.process e.step; undo = e.undo }) courses in
     record {
       after = with_event k (Act (planned k e));
       made = refl;

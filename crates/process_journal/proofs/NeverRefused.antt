@@ -2,12 +2,12 @@
 use Rattle.std.proofs.Common.{◌≡◌, ◌≤◌, ◌⊎◌, ℕ, suc, List, [], ◌∷◌, ◌++◌, length, take, Some, Result, Ok, Err, inl, inr, refl, sym, ap, ◌∙◌, subst, arith, append_assoc, length-append, append-nil}
 use Rattle.std.proofs.lemmas.Bool.{false≢true}
 use Rattle.process_tree.specs.Order.{Each}
-use Rattle.process_tree.specs.Conflicts.{do_conflict}
+use Rattle.process_tree.specs.Conflicts.{do_conflict, Access}
 use Rattle.process_tree.specs.declared.plan.Plan.{Plan}
 use Rattle.schedule_model.specs.declared.event.Event.{Event}
 use Rattle.schedule_model.specs.declared.event.Event.TheVariants.{Start, Act, End}
 use Rattle.schedule_model.specs.declared.history.History.{History}
-use Rattle.schedule_model.specs.Course.{courses_of, op_of}
+use Rattle.schedule_model.specs.Course.{courses_of, access_at}
 use Rattle.schedule_model.specs.Histories.{starts}
 use Rattle.schedule_model.specs.Laws.{plans_in}
 use Rattle.schedule_model.specs.Legal.{is_legal}
@@ -30,7 +30,7 @@ use Rattle.process_journal.specs.Bodies.{event_bodies, journal_bodies}
 use Rattle.process_journal.specs.Journals.{FitsItsBytes, IsHistoryUnder, IsMadeBy}
 use Rattle.process_journal.specs.Reading.{planned_record, HasNoForm, IsOutOfPlace, StopsAt, IsBadRecord, IsBadHistory, IsDue}
 use Rattle.process_journal.specs.Laws.{beginning, JournalsAreOpened}
-use Rattle.process_journal.proofs.EventsBack.{record_for, event_back, HasOwnOp, legal_ops}
+use Rattle.process_journal.proofs.EventsBack.{record_for, event_back, DoesAsPlanned, all_as_planned}
 use Rattle.process_journal.proofs.OneHistory.{same_history}
 use Rattle.process_journal.proofs.Taking.{one_record}
 use Rattle.process_journal.proofs.Beginnings.{each_back, beginning_is_good, plans_after, find, bodies_of_own, plans_split}
@@ -77,10 +77,10 @@ next_made c h g (Act x) k good is =
     let longer = beginning_is_good c h (g ++ Act x ∷ []) k good (is ∙ sym (append_assoc g (Act x ∷ []) k)) in
     let courses = courses_of (plans_in h.plans (g ++ Act x ∷ [])) in
     let legal = both-left (is_legal (do_conflict c.conflicts) courses (g ++ Act x ∷ [])) (is_within_limits courses (g ++ Act x ∷ [])) longer.allowed in
-    let own = (each_back (HasOwnOp courses) g (Act x ∷ []) (legal_ops (do_conflict c.conflicts) courses [] (g ++ Act x ∷ []) legal)).0 in
-    let op = own ∙ ap (λ ps. op_of (courses_of ps) x.process x.step) plans in
+    let own = (each_back (DoesAsPlanned courses) g (Act x ∷ []) (all_as_planned (do_conflict c.conflicts) courses [] (g ++ Act x ∷ []) legal)).0 in
+    let access = own ∙ ap (λ ps. access_at (courses_of ps) x.process x.step) plans in
     ap (λ ps. record { plans = ps; events = g ++ Act x ∷ [] }) plans
-    ∙ ap (λ o. record { plans = plans_in h.plans g; events = g ++ Act (record { process = x.process; step = x.step; op = o; undo = x.undo }) ∷ [] }) op
+    ∙ ap (λ (a : Access). record { plans = plans_in h.plans g; events = g ++ Act (record { process = x.process; step = x.step; op = a.op; key = a.key; undo = x.undo }) ∷ [] }) access
 next_made c h g (End i) k good is = ap (λ ps. record { plans = ps; events = g ++ End i ∷ [] }) (plans_kept h.plans g (End i) refl)
 
 -- What is found where a journal is said to stop at a record: that record goes on with the history, as the journal does.

@@ -24,7 +24,7 @@ use Rattle.process_journal.specs.Bodies.{event_body, event_bodies, plans_behind,
 use Rattle.process_journal.specs.Journals.{FitsItsBytes, IsHistoryUnder}
 use Rattle.process_journal.specs.Laws.{AreEqualInTurn, IsSameHistory, OneHistoryAtMost}
 use Rattle.process_journal.proofs.PlansAlike.{plans_alike, same_courses}
-use Rattle.process_journal.proofs.EventsBack.{record_for, event_back, told_event, legal_ops, same_events}
+use Rattle.process_journal.proofs.EventsBack.{record_for, event_back, told_event, all_as_planned, same_events}
 
 -- events of one body tell the same
 same_told : (ps qs : List Plan) (e f : Event) → FitsItsBytes e → FitsItsBytes f → event_body ps e ≡ event_body qs f → told (record_for ps e) ≡ told (record_for qs f)
@@ -86,8 +86,8 @@ pub same_history : (c : Catalog) (h k : History) → IsHistoryUnder c h → IsHi
 same_history c h k one two same =
     let (events, plans) = same_bodies c h.events k.events one.fits two.fits h.plans k.plans one.plans two.plans one.one_each two.one_each same in
     let courses = same_courses h.plans k.plans plans in
-    let own = legal_ops (do_conflict c.conflicts) (courses_of h.plans) [] h.events (legal_of c h one) in
-    let others = legal_ops (do_conflict c.conflicts) (courses_of h.plans) [] k.events
+    let own = all_as_planned (do_conflict c.conflicts) (courses_of h.plans) [] h.events (legal_of c h one) in
+    let others = all_as_planned (do_conflict c.conflicts) (courses_of h.plans) [] k.events
     (subst (λ cs. IsTrue (is_legal (do_conflict c.conflicts) cs k.events)) (sym courses) (legal_of c k two)) in
     record { events = same_events (courses_of h.plans) h.events k.events own others events; plans = plans }
 

@@ -39,6 +39,7 @@ abbrev pub course_by : Outline → List ℕ → Course
 course_by o ops = record {
   shape = record { kinds = map (λ s. s.kind) o.steps; paths = o.paths };
   ops = ops;
+  keys = map (λ s. s.key) o.steps;
   allowances = map allowance_of o.steps;
 }
 

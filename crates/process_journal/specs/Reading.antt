@@ -2,7 +2,7 @@
 use Rattle.std.specs.Prelude.{◌≡◌, ◌⊎◌, ⊤, ℕ, ◌+◌, false, List, ◌∷◌, ◌++◌, length, Some, Result, Ok, Err}
 use Rattle.process_tree.specs.declared.entry.Entry.{Entry}
 use Rattle.schedule_model.specs.declared.history.History.{History}
-use Rattle.schedule_model.specs.Course.{courses_of, op_of}
+use Rattle.schedule_model.specs.Course.{courses_of, op_of, key_of}
 use Rattle.commute_table.specs.declared.catalog.Catalog.{Catalog}
 use Rattle.commute_table.specs.Operations.{IsCatalog}
 use Rattle.commute_table.specs.Bytes.{bytes_of}
@@ -17,9 +17,15 @@ use Rattle.process_journal.specs.declared.errors.JournalError.TheVariants.{DiskF
 use Rattle.process_journal.specs.Bodies.{journal_bodies}
 use Rattle.process_journal.specs.Journals.{is_allowed, IsHistoryUnder, IsMadeBy}
 
--- the entry with the operation that the plan of its process gives its step
+-- the entry with the operation and the key that the plan of its process gives its step
 abbrev pub planned : History → Entry → Entry
-planned h e = record { process = e.process; step = e.step; op = op_of (courses_of h.plans) e.process e.step; undo = e.undo }
+planned h e = record {
+  process = e.process;
+  step = e.step;
+  op = op_of (courses_of h.plans) e.process e.step;
+  key = key_of (courses_of h.plans) e.process e.step;
+  undo = e.undo;
+}
 
 -- the same of a record
 abbrev pub planned_record : History → Record → Record

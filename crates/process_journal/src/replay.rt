@@ -10,6 +10,7 @@ ghost use Rattle.commute_table.specs.declared.catalog.Catalog.{Catalog};
 ghost use Rattle.process_journal.specs.Plans.{IsPlanOfText};
 ghost use Rattle.process_journal.specs.Bodies.{journal_bodies, no_history, with_event, with_start};
 ghost use Rattle.process_journal.specs.Journals.{FitsItsBytes, is_allowed};
+ghost use Rattle.process_journal.specs.Reading.{planned};
 ghost use Rattle.process_journal.specs.Replays.{IsReplayed, IsFaultOf};
 ghost use Rattle.process_journal.specs.declared.errors.JournalError.TheVariants.{NoMemory, BadHistory, BadRecord};
 
@@ -20,7 +21,7 @@ use history_judging::{EventError, Legality};
 use journal_records::read;
 use process_tree::{Entry, Plan};
 use schedule_model::{Event, Events, History, Plans};
-use schedule_rules::planned_op;
+use schedule_rules::{planned_key, planned_op};
 use std::alloc::{AllocError, Global};
 
 /// A history, as far as it was read, and what its next event is judged by.
@@ -34,6 +35,18 @@ pub struct Replay {
 fn fits_its_bytes(event: Event)
     ensures { FitsItsBytes event }
 {}
+
+// The entry with the operation and the key that the plan of its process gives its step.
+fn planned(history: &History, entry: Entry) -> Entry
+    ensures { result ≡ planned history.now entry }
+{
+    let plans = history.plans.as_slice();
+    Entry {
+        op: planned_op(plans, entry.process, entry.step),
+        key: planned_key(plans, entry.process, entry.step),
+        ..entry
+    }
+}
 
 impl Replay {
     /// No record is read yet.
@@ -155,8 +168,8 @@ impl Replay {
                 self.start(alloc, catalog, number, process, text.bytes())
             }
             Some(Record::Act(entry)) => {
-                let op = planned_op(self.history.plans.as_slice(), entry.process, entry.step);
-                self.go_on(alloc, catalog, number, Event::Act(Entry { op, ..entry }))
+                let act = planned(&self.history, entry);
+                self.go_on(alloc, catalog, number, Event::Act(act))
             }
             Some(Record::End(process)) => self.go_on(alloc, catalog, number, Event::End(process)),
             Some(Record::Setup(_)) | None => Err(JournalError::BadRecord(number)),

@@ -3,6 +3,7 @@ use Rattle.std.proofs.Common.{◌≡◌, ℕ, ◌<◌, Bool, true, false, not, �
 use Rattle.std.specs.Bool.{IsTrue}
 use Rattle.std.proofs.lemmas.Bool.{and_parts, and_from, eqb-true, eq-eqb}
 use Rattle.process_tree.specs.Conflicts.{do_conflict}
+use Rattle.process_tree.specs.Entries.{access_of}
 use Rattle.process_tree.specs.Order.{Each}
 use Rattle.process_tree.specs.declared.entry.Entry.{Entry}
 use Rattle.process_tree.specs.declared.plan.Plan.{Plan}
@@ -18,6 +19,7 @@ use Rattle.schedule_model.specs.Reduction.{can_change, is_pair, applied_all, is_
 use Rattle.schedule_model.proofs.Chains.{applied-steps_reduce}
 use Rattle.schedule_model.proofs.Members.{Among}
 use Rattle.machine_model.specs.declared.began.Cause.{Cause}
+use Rattle.trace_verify.specs.declared.form.Form.{Form}
 use Rattle.trace_verify.specs.declared.verdict.Verified.TheVariants.{Accepted}
 use Rattle.trace_verify.specs.Forms.{NamedAct}
 use Rattle.trace_verify.specs.Names.{is_among, with_name, with_names, number_among, step_names, op_names, entry_of, schedule, conflicts}
@@ -27,25 +29,25 @@ use Rattle.trace_verify.proofs.Meaning.{acceptance_is_exact}
 use Rattle.trace_verify.proofs.NumbersKept.{among-added, among-all}
 use Rattle.trace_verify.proofs.PrintedEntries.{named-read, named-number}
 use Rattle.process_report.specs.Names.{step_name, op_name}
-use Rattle.process_report.specs.Report.{report_of}
-use Rattle.process_report.proofs.LineForms.{named}
+use Rattle.process_report.specs.Report.{form_of, report_of}
+use Rattle.process_report.proofs.LineForms.{read_key, named}
 use Rattle.process_report.proofs.SectionsRead.{named_pair}
 use Rattle.process_report.proofs.ReportRead.{pairs_of, CanBeRead, read_of, report-read}
 use Rattle.process_report.proofs.Renamed.{all-renamed, serial-renamed}
-use Rattle.process_report.proofs.SameConflicts.{report-free}
+use Rattle.process_report.proofs.SameConflicts.{IsGoodPair, report-free}
 
-module _ (plans : List Plan) (ops : List Op) where
-  step-there : (names all : List (List ℕ)) (es : List Entry) → all ≡ with_names names (map (λ a. a.step) (map (named plans ops) es)) → Each (λ e. is_among all (step_name plans e.process e.step) ≡ true) es
+module _ (form : Form) (plans : List Plan) (ops : List Op) where
+  step-there : (names all : List (List ℕ)) (es : List Entry) → all ≡ with_names names (map (λ a. a.step) (map (named form plans ops) es)) → Each (λ e. is_among all (step_name plans e.process e.step) ≡ true) es
   step-there names all [] is = tt
   step-there names all (e ∷ es) is =
       let name = step_name plans e.process e.step in
-      (ap (λ ns. is_among ns name) is ∙ among-all (with_name names name) (map (λ a. a.step) (map (named plans ops) es)) name (among-added names name), step-there (with_name names name) all es is)
+      (ap (λ ns. is_among ns name) is ∙ among-all (with_name names name) (map (λ a. a.step) (map (named form plans ops) es)) name (among-added names name), step-there (with_name names name) all es is)
 
-  op-there : (names all : List (List ℕ)) (es : List Entry) → all ≡ with_names names (map (λ a. a.op) (map (named plans ops) es)) → Each (λ e. is_among all (op_name ops e.op) ≡ true) es
+  op-there : (names all : List (List ℕ)) (es : List Entry) → all ≡ with_names names (map (λ a. a.op) (map (named form plans ops) es)) → Each (λ e. is_among all (op_name ops e.op) ≡ true) es
   op-there names all [] is = tt
   op-there names all (e ∷ es) is =
       let name = op_name ops e.op in
-      (ap (λ ns. is_among ns name) is ∙ among-all (with_name names name) (map (λ a. a.op) (map (named plans ops) es)) name (among-added names name), op-there (with_name names name) all es is)
+      (ap (λ ns. is_among ns name) is ∙ among-all (with_name names name) (map (λ a. a.op) (map (named form plans ops) es)) name (among-added names name), op-there (with_name names name) all es is)
 
 three : (P Q R : Entry → Type 0) (es : List Entry) → Each P es → Each Q es → Each R es → Each (λ e. P e × Q e × R e) es
 three P Q R [] p q r = tt
@@ -59,15 +61,18 @@ module _ (c : Catalog) (h : History) (causes : List (ℕ × Cause)) (added : Lis
   abbrev es : List Entry
   es = acts (h.events ++ added)
 
+  abbrev told_as : Entry → NamedAct
+  told_as = named (form_of c) h.plans c.ops
+
   abbrev told : List NamedAct
-  told = map (named h.plans c.ops) es
+  told = map told_as es
 
   -- an entry by the numbers of its names
   abbrev renamed : Entry → Entry
-  renamed e = entry_of (step_names told) (op_names told) (named h.plans c.ops e)
+  renamed e = entry_of (step_names told) (op_names told) (told_as e)
 
   abbrev table : ConflictRelation
-  table = conflicts (map (named_pair c.ops) (pairs_of c)) (op_names told)
+  table = conflicts (map (named_pair c) (pairs_of c)) (op_names told)
 
   -- its names are among those of the acts
   abbrev IsThere : Entry → Type 0
@@ -86,14 +91,14 @@ module _ (c : Catalog) (h : History) (causes : List (ℕ × Cause)) (added : Lis
       (and_from b.undo (nat_eq a.process b.process && nat_eq (renamed a).step (renamed b).step) inner.0
       (and_from (nat_eq a.process b.process) (nat_eq (renamed a).step (renamed b).step) same.0 (eq-eqb (renamed a).step (renamed b).step number)))
 
-  module _ (differ : differ_from [] c.ops ≡ true) (symmetric : (a b : ℕ) → do_conflict c.conflicts a b ≡ do_conflict c.conflicts b a)
-      (good : (p : ℕ × ℕ) → Among p (pairs_of c) → (p.0 < length c.ops) × (p.1 < length c.ops) × (do_conflict c.conflicts p.0 p.1 ≡ true)) where
+  module _ (differ : differ_from [] c.ops ≡ true) (good : (p : ℕ × ℕ) → Among p (pairs_of c) → IsGoodPair c p) where
     change-kept : (a b : Entry) → IsThere a → IsThere b → can_change (do_conflict c.conflicts) a b ≡ true → can_change table (renamed a) (renamed b) ≡ true
     change-kept a b one other is =
-        let outer = and_parts (not (nat_eq a.process b.process)) (not (not (nat_eq a.process b.process) && do_conflict c.conflicts a.op b.op)) is in
-        let free : do_conflict c.conflicts a.op b.op ≡ false = unconflicting (nat_eq a.process b.process) (do_conflict c.conflicts a.op b.op) outer.0 outer.1 in
-        and_from (not (nat_eq a.process b.process)) (not (not (nat_eq a.process b.process) && table (renamed a).op (renamed b).op)) outer.0
-        (ap (λ x. not (not (nat_eq a.process b.process) && x)) (report-free c differ symmetric (pairs_of c) (op_names told) good a.op b.op one.0 other.0 one.2 other.2 free) ∙ none (nat_eq a.process b.process))
+        let outer = and_parts (not (nat_eq a.process b.process)) (not (not (nat_eq a.process b.process) && do_conflict c.conflicts (access_of a) (access_of b))) is in
+        let free : do_conflict c.conflicts (access_of a) (access_of b) ≡ false =
+        unconflicting (nat_eq a.process b.process) (do_conflict c.conflicts (access_of a) (access_of b)) outer.0 outer.1 in
+        and_from (not (nat_eq a.process b.process)) (not (not (nat_eq a.process b.process) && table (access_of (renamed a)) (access_of (renamed b)))) outer.0
+        (ap (λ x. not (not (nat_eq a.process b.process) && x)) (report-free c differ (pairs_of c) (op_names told) good (access_of a) (access_of b) one.0 other.0 one.2 other.2 free) ∙ none (nat_eq a.process b.process))
       where
         unconflicting : (same holds : Bool) → not same ≡ true → not (not same && holds) ≡ true → holds ≡ false
         unconflicting true holds apart free = absurd (cc)
@@ -105,7 +110,7 @@ module _ (c : Catalog) (h : History) (causes : List (ℕ × Cause)) (added : Lis
         none false = refl
 
     -- what is printed of the entries of a list whose names are there
-    printed-again : (xs : List Entry) → Each IsThere xs → map (printed_by (step_names told) (op_names told)) (map renamed xs) ≡ map (named h.plans c.ops) xs
+    printed-again : (xs : List Entry) → Each IsThere xs → map (printed_by (step_names told) (op_names told)) (map renamed xs) ≡ map told_as xs
     printed-again [] are = refl
     printed-again (e ∷ xs) are =
         let step = step_name h.plans e.process e.step in
@@ -113,18 +118,18 @@ module _ (c : Catalog) (h : History) (causes : List (ℕ × Cause)) (added : Lis
         let one = named-read (step_names told) (number_among (step_names told) step) step (named-number (step_names told) step are.0.1) in
         let two = named-read (op_names told) (number_among (op_names told) op) op (named-number (op_names told) op are.0.2) in
         ap (λ zs. printed_by (step_names told) (op_names told) (renamed e) ∷ zs) (printed-again xs are.1)
-        ∙ (ap (λ s. record { process = e.process; step = s; op = get_or (op_names told) (number_among (op_names told) op) []; undo = e.undo } ∷ map (named h.plans c.ops) xs) one
-        ∙ ap (λ o. record { process = e.process; step = step; op = o; undo = e.undo } ∷ map (named h.plans c.ops) xs) two)
+        ∙ (ap (λ s. record { process = e.process; step = s; op = get_or (op_names told) (number_among (op_names told) op) []; key = read_key (form_of c) e.key; undo = e.undo } ∷ map told_as xs) one
+        ∙ ap (λ o. record { process = e.process; step = step; op = o; key = read_key (form_of c) e.key; undo = e.undo } ∷ map told_as xs) two)
 
     pub accepted : Each (λ e. e.op < length c.ops) es → applied_all (do_conflict c.conflicts) t.steps es ≡ Some t.list → IsTrue (is_serial t.list)
         → verdict (report_of c h causes added t) ≡ Accepted
     accepted known applies serial =
         let there : Each IsThere es =
         three (λ e. e.op < length c.ops) (λ e. is_among (step_names told) (step_name h.plans e.process e.step) ≡ true) (λ e. is_among (op_names told) (op_name c.ops e.op) ≡ true) es known
-        (step-there h.plans c.ops [] (step_names told) es refl) (op-there h.plans c.ops [] (op_names told) es refl) in
+        (step-there (form_of c) h.plans c.ops [] (step_names told) es refl) (op-there (form_of c) h.plans c.ops [] (op_names told) es refl) in
         let renaming = all-renamed (do_conflict c.conflicts) table renamed IsThere change-kept pair-kept t.steps es t.list there applies in
         let applied : applied_all table t.steps (schedule told) ≡ Some (map renamed t.list) =
-        ap (λ xs. applied_all table t.steps xs) (map-twice (entry_of (step_names told) (op_names told)) (named h.plans c.ops) es) ∙ renaming.0 in
+        ap (λ xs. applied_all table t.steps xs) (map-twice (entry_of (step_names told) (op_names told)) told_as es) ∙ renaming.0 in
         acceptance_is_exact (report_of c h causes added t) (record {
           report = read_of c h added t;
           is_report = report-read c h causes added t can;

@@ -1,10 +1,11 @@
 -- What is printed of a legal history has names: its entries are of steps of its processes.
-use Rattle.std.proofs.Common.{◌≡◌, inl, inr, ⊎_elim, ℕ, zero, suc, ◌-◌, ◌<◌, ◌≤◌, Bool, true, false, cond, ltb, ◌||◌, nat_eq, List, [], ◌∷◌, ◌++◌, length, map, get_or, sym, refl, ap, ◌∙◌, subst, arith, append-nil}
+use Rattle.std.proofs.Common.{◌≡◌, inl, inr, ⊎_elim, ℕ, zero, suc, ◌-◌, ◌<◌, ◌≤◌, Bool, true, false, cond, ltb, ◌||◌, nat_eq, nat_le, List, [], ◌∷◌, ◌++◌, length, map, get_or, sym, refl, ap, ◌∙◌, subst, arith, append-nil}
 use Rattle.std.specs.Bool.{IsTrue}
 use Rattle.std.specs.List.{list_all, list_any, Contains}
-use Rattle.std.proofs.lemmas.Bool.{and_parts, eqb-true, ltb-true}
+use Rattle.std.proofs.lemmas.Bool.{and_parts, eqb-true, leb-true, ltb-true}
 use Rattle.std.proofs.lemmas.List.{length-map}
 use Rattle.process_tree.specs.Blocks.{outline}
+use Rattle.process_tree.specs.Entries.{access_of, keys_of}
 use Rattle.process_tree.specs.Name.{is_name}
 use Rattle.process_tree.specs.declared.entry.Entry.{Entry}
 use Rattle.process_tree.specs.declared.plan.Plan.{Plan}
@@ -16,7 +17,7 @@ use Rattle.commute_table.specs.Operations.{takes, is_good_op}
 use Rattle.schedule_model.specs.declared.event.Event.{Event}
 use Rattle.schedule_model.specs.declared.event.Event.TheVariants.{Start, Act, End}
 use Rattle.schedule_model.specs.Conflict.{ConflictRelation}
-use Rattle.schedule_model.specs.Course.{Course, course, course_of, courses_of, no_course, op_of, shape}
+use Rattle.schedule_model.specs.Course.{Course, course, course_of, courses_of, no_course, op_of, key_of, access_at, shape}
 use Rattle.schedule_model.specs.Histories.{acts, net_acts, net_of, net_steps, done_steps, takes_back}
 use Rattle.schedule_model.specs.Laws.{AreGood}
 use Rattle.schedule_model.specs.Legal.{is_legal, may_come}
@@ -28,8 +29,11 @@ use Rattle.schedule_model.proofs.Members.{Among, among-append, among-right, cont
 use Rattle.schedule_model.proofs.Rising.{step_goes_on}
 use Rattle.schedule_model.proofs.Started.{among_net_of}
 use Rattle.schedule_model.proofs.Undoing.{undoes}
+use Rattle.trace_verify.specs.declared.form.Form.{Form}
+use Rattle.trace_verify.specs.declared.form.Form.TheVariants.{Plain, Keyed}
+use Rattle.process_report.specs.Laws.{HaveKeys}
 use Rattle.process_report.specs.Names.{process_name, names_in, step_name, op_name}
-use Rattle.process_report.proofs.LineForms.{IsPrintable}
+use Rattle.process_report.proofs.LineForms.{IsKey, IsPrintable}
 
 -- a net entry took effect
 pub among-net : (e : Entry) (es : List Entry) → Among e (net_acts es) → Among e es
@@ -143,9 +147,32 @@ module _ (plans : List Plan) (ops : List Op) (good : AreGood plans) (known : (p 
       let within = ltb-true (get_or at.plan.ops b 0) (length ops) (all-at (λ a. ltb a (length ops)) at.plan.ops b 0 (known at.plan (contains-from_among at.plan plans at.there)) (omega (arith, less, count))) in
       subst (λ n. n < length ops) (sym is) within
 
+  -- and its key
+  pub key-printable : (form : Form) → HaveKeys form plans → (i b : ℕ) → 1 ≤ i → i ≤ length plans → b < length (course (courses_of plans) i).ops
+      → IsKey form (key_of (courses_of plans) i b)
+  key-printable Plain have i b low high less = tt
+  key-printable Keyed have i b low high less =
+      let at = plan-at plans (i - 1) (omega (arith, low, high)) in
+      let there = contains-from_among at.plan plans at.there in
+      let is = ap (λ (c : Course). get_or c.keys b 0) at.course in
+      let count : length (course (courses_of plans) i).ops ≡ length at.plan.ops = ap (λ (c : Course). length c.ops) at.course in
+      let many : length (keys_of at.plan.tree) ≡ length at.plan.ops = length-map (outline at.plan.tree).steps (λ s. s.key) ∙ sym (good at.plan there).operations in
+      let within = leb-true (get_or (keys_of at.plan.tree) b 0) 4294967295 (all-at (λ k. nat_le k 4294967295) (keys_of at.plan.tree) b 0 (have at.plan there) (omega (arith, less, count, many))) in
+      subst (λ n. n ≤ 4294967295) (sym is) within
+
   -- an entry of a step that there is
-  pub entry-named : (e : Entry) → 1 ≤ e.process → e.process ≤ length plans → length plans ≤ 4096 → e.step < length (course (courses_of plans) e.process).ops
-      → e.op ≡ op_of (courses_of plans) e.process e.step → IsPrintable plans ops e × (e.op < length ops)
-  entry-named e low high few less is =
-      let op_less = subst (λ n. n < length ops) (sym is) (op-known e.process e.step low high less) in
-      (record { process = omega (arith, high, few); step = step-named e.process e.step low high less; op = op-named ops e.op catalog op_less }, op_less)
+  pub entry-named : (form : Form) → HaveKeys form plans → (e : Entry) → 1 ≤ e.process → e.process ≤ length plans → length plans ≤ 4096
+      → e.step < length (course (courses_of plans) e.process).ops → access_of e ≡ access_at (courses_of plans) e.process e.step
+      → IsPrintable form plans ops e × (e.op < length ops)
+  entry-named form have e low high few less is =
+      let op_is = ap (λ a. a.op) is in
+      let key_is = ap (λ a. a.key) is in
+      let op_less = subst (λ n. n < length ops) (sym op_is) (op-known e.process e.step low high less) in (
+        record {
+          process = omega (arith, high, few);
+          step = step-named e.process e.step low high less;
+          op = op-named ops e.op catalog op_less;
+          key = subst (IsKey form) (sym key_is) (key-printable form have e.process e.step low high less);
+        },
+        op_less,
+      )

@@ -1,9 +1,11 @@
 -- Printed lines have the forms of a report, and are read as what they print.
 use Rattle.std.proofs.Common.{◌≡◌, ℕ, ◌≤◌, Bool, true, false, cond, not, ◌&&◌, ◌||◌, List, [], ◌∷◌, ◌++◌, append-nil, nat_eq, decimal, Option, Some, None, sym, refl, ap, ◌∙◌, arith}
-use Rattle.std.specs.Prelude.{codes}
+use Rattle.std.specs.Prelude.{option_and_then, codes}
 use Rattle.std.specs.List.{list_all}
 use Rattle.std.specs.Option.{option_map}
 use Rattle.std.proofs.lemmas.Bool.{and_parts, and_from, false≢true}
+use Rattle.process_tree.specs.declared.conflicts.Mode.{Mode}
+use Rattle.process_tree.specs.declared.conflicts.Mode.TheVariants.{Never, Key, Always}
 use Rattle.process_tree.specs.Name.{is_name_byte, is_name}
 use Rattle.process_tree.specs.Making.{same_text}
 use Rattle.process_tree.specs.declared.entry.Entry.{Entry}
@@ -11,22 +13,36 @@ use Rattle.process_tree.specs.declared.plan.Plan.{Plan}
 use Rattle.process_text.specs.Canonical.{spaced}
 use Rattle.commute_table.specs.declared.op.Op.{Op}
 use Rattle.schedule_model.specs.declared.trace_step.TraceStep.TheVariants.{Move, Cancel}
+use Rattle.trace_verify.specs.declared.form.Form.{Form}
+use Rattle.trace_verify.specs.declared.form.Form.TheVariants.{Plain, Keyed}
 use Rattle.trace_verify.specs.declared.section.Section.{Section}
 use Rattle.trace_verify.specs.declared.section.Section.TheVariants.{Opening, Conflicts, History, Completion, Ends, Causes, Trace, Serial}
 use Rattle.trace_verify.specs.Lines.{cut, parts, of_both, both_pass, onto_front}
-use Rattle.trace_verify.specs.Forms.{NamedAct, Pair, pair_of, named_act, act_of, is_start, without_act, is_number, number_of, is_named_end, is_end, is_path, is_end_line, is_longer_cause, is_cause, is_cause_line, moved, step_of, move_of, cancel_of}
+use Rattle.trace_verify.specs.Forms.{NamedAct, Pair, pair_of, mode_of_word, pair_from, named_act, placed_act, act_from, act_of, is_start, without_act, is_number, number_of, is_named_end, is_end, is_path, is_end_line, is_longer_cause, is_cause, is_cause_line, moved, step_of, move_of, cancel_of}
 use Rattle.trace_verify.specs.Forms as forms
 use Rattle.trace_verify.specs.Reports.{Report, opened, with_line, title_or, after_line}
 use Rattle.trace_verify.proofs.Cuts.{parts-none, parts-some}
 use Rattle.trace_verify.proofs.Naming.{same}
 use Rattle.process_report.specs.Names.{step_name, op_name}
-use Rattle.process_report.specs.Lines.{Line, entry_line}
+use Rattle.process_report.specs.Lines.{Line, key_words, entry_line}
 use Rattle.process_report.specs.Blocks.{joined}
+use Rattle.process_report.specs.Report.{may_conflict, mode_word, mode_words}
 use Rattle.process_report.proofs.Plain.{lacks, lacks-append, cut-at, name-lacks, number-lacks, number-is, number-read}
 
+-- the key that is read of an entry
+abbrev pub read_key : Form → ℕ → ℕ
+read_key Plain k = 0
+read_key Keyed k = k
+
+-- the mode that is read of two operations
+abbrev pub read_mode : Form → Mode → Mode
+read_mode Plain mode = Always
+read_mode Keyed mode = mode
+
 -- an entry as it is printed
-abbrev pub named : List Plan → List Op → Entry → NamedAct
-named plans ops e = record { process = e.process; step = step_name plans e.process e.step; op = op_name ops e.op; undo = e.undo }
+abbrev pub named : Form → List Plan → List Op → Entry → NamedAct
+named form plans ops e =
+    record { process = e.process; step = step_name plans e.process e.step; op = op_name ops e.op; key = read_key form e.key; undo = e.undo }
 
 -- A line of two words or more is no title.
 
@@ -46,7 +62,7 @@ no-title title w rest free = by (same_text (w ++ 32 ∷ rest) title) refl
     by false is = refl
 
 opens-none : (s : Section) (w rest : List ℕ) → opened s (w ++ 32 ∷ rest) ≡ None
-opens-none Opening w rest = ap (λ b. cond b (Some Conflicts) None) (no-title (codes "conflicts") w rest refl)
+opens-none Opening w rest = refl
 opens-none Conflicts w rest = ap (λ b. cond b (Some History) None) (no-title (codes "history") w rest refl)
 opens-none History w rest = ap (λ b. cond b (Some Completion) None) (no-title (codes "completion") w rest refl)
 opens-none Completion w rest = ap (λ b. cond b (Some Ends) None) (no-title (codes "ends") w rest refl)
@@ -96,36 +112,71 @@ words-lack (w ∷ ws) free =
 
 -- Pairs.
 
-pub pair-read : (a b : List ℕ) → is_name a ≡ true → is_name b ≡ true → forms.pair_line (joined (a ∷ b ∷ [])) ≡ Some (record { first = a; second = b })
-pair-read a b one other =
-    ap (of_both pair_of) (cut-first a b [] (name-lacks 32 a refl one))
-    ∙ (ap (pair_of a) (append-nil b) ∙ ap (λ t. cond t (Some (record { first = a; second = b })) None) (and_from (is_name a) (is_name b) one other))
+mode-read : (mode : Mode) → may_conflict mode ≡ true → mode_of_word (mode_word mode) ≡ Some mode
+mode-read Never may = absurd (cc)
+mode-read Key may = refl
+mode-read Always may = refl
+
+pub pair-read : (form : Form) (a b : List ℕ) (mode : Mode) → is_name a ≡ true → is_name b ≡ true → may_conflict mode ≡ true
+    → forms.pair_line form (joined (a ∷ b ∷ mode_words form mode)) ≡ Some (record { first = a; second = b; mode = read_mode form mode })
+pair-read Plain a b mode one other may =
+    ap (of_both (pair_from Plain)) (cut-first a b [] (name-lacks 32 a refl one))
+    ∙ (ap (λ v. pair_of a v Always) (append-nil b) ∙ ap (λ t. cond t (Some (record { first = a; second = b; mode = Always })) None) (and_from (is_name a) (is_name b) one other))
+pair-read Keyed a b mode one other may =
+    let word = mode_word mode in
+    ap (of_both (pair_from Keyed)) (cut-first a b (word ∷ []) (name-lacks 32 a refl one))
+    ∙ (ap (of_both (λ v w. option_and_then (pair_of a v) (mode_of_word w))) (cut-first b word [] (name-lacks 32 b refl other))
+    ∙ (ap (λ w. option_and_then (pair_of a b) (mode_of_word w)) (append-nil word)
+    ∙ (ap (option_and_then (pair_of a b)) (mode-read mode may)
+    ∙ ap (λ t. cond t (Some (record { first = a; second = b; mode = mode })) None) (and_from (is_name a) (is_name b) one other))))
 
 -- Events.
 
 place-lacks : (b i : ℕ) (step : List ℕ) → lacks b (decimal i) ≡ true → (not (nat_eq 46 b)) ≡ true → lacks b step ≡ true → lacks b (decimal i ++ 46 ∷ step) ≡ true
 place-lacks b i step number dot free = lacks-append b (decimal i) (46 ∷ step) number (and_from (not (nat_eq 46 b)) (lacks b step) dot free)
 
-act-read : (undo : Bool) (i : ℕ) (step op : List ℕ) → i ≤ 4294967295 → is_name step ≡ true → is_name op ≡ true
-    → act_of undo (joined ((decimal i ++ 46 ∷ step) ∷ op ∷ [])) ≡ Some (record { process = i; step = step; op = op; undo = undo })
-act-read undo i step op small one other =
-    let place = decimal i ++ 46 ∷ step in
-    let f : List ℕ → List ℕ → Option NamedAct = λ place op. of_both (named_act undo op) (cut 46 place) in
-    let g : ℕ → NamedAct = λ n. record { process = n; step = step; op = op; undo = undo } in
-    ap (of_both f) (cut-first place op [] (place-lacks 32 i step (number-lacks 32 i (omega arith) small) refl (name-lacks 32 step refl one)))
-    ∙ (ap (f place) (append-nil op)
-    ∙ (ap (of_both (named_act undo op)) (cut-at 46 (decimal i) step (number-lacks 46 i (omega arith) small))
+-- what is wanted of a key that is printed
+abbrev pub IsKey : Form → ℕ → Type 0
+IsKey Plain k = Unit
+IsKey Keyed k = k ≤ 4294967295
+
+placed-read : (undo : Bool) (i : ℕ) (step op : List ℕ) (key : ℕ) → i ≤ 4294967295 → is_name step ≡ true → is_name op ≡ true
+    → placed_act undo (decimal i ++ 46 ∷ step) op key ≡ Some (record { process = i; step = step; op = op; key = key; undo = undo })
+placed-read undo i step op key small one other =
+    let g : ℕ → NamedAct = λ n. record { process = n; step = step; op = op; key = key; undo = undo } in
+    ap (of_both (named_act undo op key)) (cut-at 46 (decimal i) step (number-lacks 46 i (omega arith) small))
     ∙ (ap (λ t. cond t (option_map g (number_of (decimal i))) None) (and_from (is_name step) (is_name op) one other)
-    ∙ ap (option_map g) (number-read i small))))
+    ∙ ap (option_map g) (number-read i small))
+
+place-first : (i : ℕ) (step op : List ℕ) (ws : Line) → i ≤ 4294967295 → is_name step ≡ true
+    → cut 32 (joined ((decimal i ++ 46 ∷ step) ∷ op ∷ ws)) ≡ Some (decimal i ++ 46 ∷ step, joined (op ∷ ws))
+place-first i step op ws small good =
+    cut-first (decimal i ++ 46 ∷ step) op ws (place-lacks 32 i step (number-lacks 32 i (omega arith) small) refl (name-lacks 32 step refl good))
+
+act-read : (form : Form) (undo : Bool) (i : ℕ) (step op : List ℕ) (key : ℕ) → i ≤ 4294967295 → is_name step ≡ true → is_name op ≡ true → IsKey form key
+    → act_of form undo (joined ((decimal i ++ 46 ∷ step) ∷ op ∷ key_words form key)) ≡ Some (record { process = i; step = step; op = op; key = read_key form key; undo = undo })
+act-read Plain undo i step op key small one other fits =
+    let place = decimal i ++ 46 ∷ step in
+    ap (of_both (act_from Plain undo)) (place-first i step op [] small one)
+    ∙ (ap (λ w. placed_act undo place w 0) (append-nil op) ∙ placed-read undo i step op 0 small one other)
+act-read Keyed undo i step op key small one other fits =
+    let place = decimal i ++ 46 ∷ step in
+    ap (of_both (act_from Keyed undo)) (place-first i step op (decimal key ∷ []) small one)
+    ∙ (ap (of_both (λ op key. option_and_then (placed_act undo place op) (number_of key))) (cut-first op (decimal key) [] (name-lacks 32 op refl other))
+    ∙ (ap (λ w. option_and_then (placed_act undo place op) (number_of w)) (append-nil (decimal key))
+    ∙ (ap (option_and_then (placed_act undo place op)) (number-read key fits)
+    ∙ placed-read undo i step op key small one other)))
 
 -- what is wanted of an entry that is printed
-pub record IsPrintable (plans : List Plan) (ops : List Op) (e : Entry) : Type 0 where
+pub record IsPrintable (form : Form) (plans : List Plan) (ops : List Op) (e : Entry) : Type 0 where
   pub process : e.process ≤ 4294967295
   pub step : is_name (step_name plans e.process e.step) ≡ true
   pub op : is_name (op_name ops e.op) ≡ true
+  pub key : IsKey form e.key
 
-pub entry-read : (plans : List Plan) (ops : List Op) (e : Entry) → IsPrintable plans ops e → forms.event_line (joined (entry_line plans ops e)) ≡ Some (Some (named plans ops e))
-entry-read plans ops e good = by e.undo
+pub entry-read : (form : Form) (plans : List Plan) (ops : List Op) (e : Entry) → IsPrintable form plans ops e
+    → forms.event_line form (joined (entry_line form plans ops e)) ≡ Some (Some (named form plans ops e))
+entry-read form plans ops e good = by e.undo
   where
     step : List ℕ
     step = step_name plans e.process e.step
@@ -133,26 +184,27 @@ entry-read plans ops e good = by e.undo
     op : List ℕ
     op = op_name ops e.op
 
-    by : (undo : Bool) → forms.event_line (joined (cond undo (codes "undo") (codes "do") ∷ (decimal e.process ++ 46 ∷ step) ∷ op ∷ []))
-        ≡ Some (Some (record { process = e.process; step = step; op = op; undo = undo }))
-    by true = ap (option_map Some) (act-read true e.process step op good.process good.step good.op)
-    by false = ap (option_map Some) (act-read false e.process step op good.process good.step good.op)
+    by : (undo : Bool) → forms.event_line form (joined (cond undo (codes "undo") (codes "do") ∷ (decimal e.process ++ 46 ∷ step) ∷ op ∷ key_words form e.key))
+        ≡ Some (Some (record { process = e.process; step = step; op = op; key = read_key form e.key; undo = undo }))
+    by true = ap (option_map Some) (act-read form true e.process step op e.key good.process good.step good.op good.key)
+    by false = ap (option_map Some) (act-read form false e.process step op e.key good.process good.step good.op good.key)
 
-pub serial-read : (plans : List Plan) (ops : List Op) (e : Entry) → IsPrintable plans ops e → e.undo ≡ false → forms.serial_line (joined (entry_line plans ops e)) ≡ Some (named plans ops e)
-serial-read plans ops e good forward =
+pub serial-read : (form : Form) (plans : List Plan) (ops : List Op) (e : Entry) → IsPrintable form plans ops e → e.undo ≡ false
+    → forms.serial_line form (joined (entry_line form plans ops e)) ≡ Some (named form plans ops e)
+serial-read form plans ops e good forward =
     let step = step_name plans e.process e.step in
     let op = op_name ops e.op in
-    ap (λ u. forms.serial_line (joined (cond u (codes "undo") (codes "do") ∷ (decimal e.process ++ 46 ∷ step) ∷ op ∷ []))) forward
-    ∙ (act-read false e.process step op good.process good.step good.op
-    ∙ ap (λ u. Some (record { process = e.process; step = step; op = op; undo = u })) (sym forward))
+    ap (λ u. forms.serial_line form (joined (cond u (codes "undo") (codes "do") ∷ (decimal e.process ++ 46 ∷ step) ∷ op ∷ key_words form e.key))) forward
+    ∙ (act-read form false e.process step op e.key good.process good.step good.op good.key
+    ∙ ap (λ u. Some (record { process = e.process; step = step; op = op; key = read_key form e.key; undo = u })) (sym forward))
 
-pub start-read : (i : ℕ) (name : List ℕ) → i ≤ 4294967295 → is_name name ≡ true → forms.event_line (joined (codes "start" ∷ decimal i ∷ name ∷ [])) ≡ Some None
-start-read i name small good =
+pub start-read : (form : Form) (i : ℕ) (name : List ℕ) → i ≤ 4294967295 → is_name name ≡ true → forms.event_line form (joined (codes "start" ∷ decimal i ∷ name ∷ [])) ≡ Some None
+start-read form i name small good =
     ap without_act (ap (both_pass (λ i name. is_number i && is_name name)) (cut-first (decimal i) name [] (number-lacks 32 i (omega arith) small))
     ∙ (ap (λ v. is_number (decimal i) && is_name v) (append-nil name) ∙ and_from (is_number (decimal i)) (is_name name) (number-is i small) good))
 
-pub end-read : (i : ℕ) → i ≤ 4294967295 → forms.event_line (joined (codes "end" ∷ decimal i ∷ [])) ≡ Some None
-end-read i small = ap without_act (ap is_number (append-nil (decimal i)) ∙ number-is i small)
+pub end-read : (form : Form) (i : ℕ) → i ≤ 4294967295 → forms.event_line form (joined (codes "end" ∷ decimal i ∷ [])) ≡ Some None
+end-read form i small = ap without_act (ap is_number (append-nil (decimal i)) ∙ number-is i small)
 
 -- Ends.
 

@@ -15,11 +15,12 @@ use Rattle.schedule_model.specs.declared.trace_step.TraceStep.TheVariants.{Move,
 use Rattle.schedule_model.proofs.Members.{Among}
 use Rattle.machine_model.specs.declared.began.Cause.{Cause}
 use Rattle.machine_model.specs.declared.began.Cause.TheVariants.{Refused, Abort, Cascade, Victim, Restart}
+use Rattle.trace_verify.specs.declared.form.Form.{Form}
 use Rattle.trace_verify.specs.declared.section.Section.TheVariants.{Ends, Causes, Trace, Serial}
 use Rattle.trace_verify.specs.Forms.{NamedAct, Pair, is_end, is_cause}
 use Rattle.trace_verify.specs.Reports.{Report, with_new_step, with_serial, with_step}
 use Rattle.process_report.specs.Names.{step_name, op_name}
-use Rattle.process_report.specs.Lines.{Line, text_of, entry_line, cause_words, step_line}
+use Rattle.process_report.specs.Lines.{Line, text_of, key_words, entry_line, cause_words, step_line}
 use Rattle.process_report.specs.Blocks.{joined}
 use Rattle.process_report.specs.Report.{path_words}
 use Rattle.process_report.proofs.Plain.{lacks}
@@ -27,9 +28,22 @@ use Rattle.process_report.proofs.LinesRead.{Reads, reads-line, reads-each}
 use Rattle.process_report.proofs.LineForms.{named, IsPrintable, after-other, words-lack, names-lack, serial-read, ends-read, path-read, causes-read, refused-read, cascade-read, move-read, cancel-read}
 use Rattle.process_report.proofs.SectionsRead.{at-split, name-free, number-free, two-free, three-free, entry-free}
 
-module _ (pairs : List Pair) (acts : List NamedAct) where
+-- what is wanted of a cause that is printed
+abbrev pub IsPrintableCause : List Plan → ℕ → Cause → Type 0
+IsPrintableCause plans i (Refused b) = is_name (step_name plans i b) ≡ true
+IsPrintableCause plans i Abort = Unit
+IsPrintableCause plans i (Cascade k) = k ≤ 4294967295
+IsPrintableCause plans i Victim = Unit
+IsPrintableCause plans i Restart = Unit
+
+-- what is wanted of a step that is printed
+abbrev pub IsPrintableStep : TraceStep → Type 0
+IsPrintableStep (Move from to) = (from ≤ 4294967295) × (to ≤ 4294967295)
+IsPrintableStep (Cancel at) = at ≤ 4294967295
+
+module _ (form : Form) (pairs : List Pair) (acts : List NamedAct) where
   abbrev pub in_ends : Report
-  in_ends = record { section = Ends; pairs = pairs; acts = acts; steps = []; serial = [] }
+  in_ends = record { section = Ends; form = form; pairs = pairs; acts = acts; steps = []; serial = [] }
 
   module _ (i : ℕ) (name : List ℕ) (small : i ≤ 4294967295) (good : is_name name ≡ true) where
     with-words : (v : List ℕ) (vs : Line) → list_all (lacks 10) (v ∷ vs) ≡ true → is_end (joined (v ∷ vs)) ≡ true → Reads in_ends (line_of (decimal i ∷ name ∷ v ∷ vs)) in_ends
@@ -46,23 +60,15 @@ module _ (pairs : List Pair) (acts : List NamedAct) where
     end-reads false (s ∷ ss) names = with-words (codes "path") (s ∷ ss) (names-lack 10 (s ∷ ss) refl names) (path-read s ss names)
 
   abbrev pub in_causes : Report
-  in_causes = record { section = Causes; pairs = pairs; acts = acts; steps = []; serial = [] }
+  in_causes = record { section = Causes; form = form; pairs = pairs; acts = acts; steps = []; serial = [] }
 
   module _ (plans : List Plan) where
-    -- what is wanted of a cause that is printed
-    abbrev pub IsPrintableCause : ℕ → Cause → Type 0
-    IsPrintableCause i (Refused b) = is_name (step_name plans i b) ≡ true
-    IsPrintableCause i Abort = Unit
-    IsPrintableCause i (Cascade k) = k ≤ 4294967295
-    IsPrintableCause i Victim = Unit
-    IsPrintableCause i Restart = Unit
-
     of-words : (i : ℕ) (v : List ℕ) (vs : Line) → i ≤ 4294967295 → list_all (lacks 10) (v ∷ vs) ≡ true → is_cause (joined (v ∷ vs)) ≡ true → Reads in_causes (line_of (decimal i ∷ v ∷ vs)) in_causes
     of-words i v vs small free cause =
         reads-line in_causes in_causes (decimal i ∷ v ∷ vs) (words-lack (decimal i ∷ v ∷ vs) (and_from (lacks 10 (decimal i)) (list_all (lacks 10) (v ∷ vs)) (number-free i small) free))
         (after-other in_causes (decimal i) v vs ∙ ap (λ t. cond t (Some in_causes) None) (causes-read i v vs small cause))
 
-    pub cause-reads : (i : ℕ) (cause : Cause) → i ≤ 4294967295 → IsPrintableCause i cause → Reads in_causes (line_of (decimal i ∷ cause_words plans i cause)) in_causes
+    pub cause-reads : (i : ℕ) (cause : Cause) → i ≤ 4294967295 → IsPrintableCause plans i cause → Reads in_causes (line_of (decimal i ∷ cause_words plans i cause)) in_causes
     cause-reads i (Refused b) small good =
         let step = step_name plans i b in
         of-words i (codes "refused") (step ∷ []) small (and_from (lacks 10 step) true (name-free step good) refl) (refused-read step good)
@@ -71,13 +77,8 @@ module _ (pairs : List Pair) (acts : List NamedAct) where
     cause-reads i Victim small good = of-words i (codes "victim") [] small refl refl
     cause-reads i Restart small good = of-words i (codes "restart") [] small refl refl
 
-  -- what is wanted of a step that is printed
-  abbrev pub IsPrintableStep : TraceStep → Type 0
-  IsPrintableStep (Move from to) = (from ≤ 4294967295) × (to ≤ 4294967295)
-  IsPrintableStep (Cancel at) = at ≤ 4294967295
-
   abbrev pub in_trace : List TraceStep → Report
-  in_trace ss = record { section = Trace; pairs = pairs; acts = acts; steps = ss; serial = [] }
+  in_trace ss = record { section = Trace; form = form; pairs = pairs; acts = acts; steps = ss; serial = [] }
 
   one-step : (done : List TraceStep) (s : TraceStep) → length done < 65536 → IsPrintableStep s → Reads (in_trace done) (line_of (step_line s)) (in_trace (done ++ s ∷ []))
   one-step done (Move from to) less good =
@@ -100,15 +101,15 @@ module _ (pairs : List Pair) (acts : List NamedAct) where
 
   module _ (plans : List Plan) (ops : List Op) (steps : List TraceStep) where
     abbrev pub in_serial : List Entry → Report
-    in_serial es = record { section = Serial; pairs = pairs; acts = acts; steps = steps; serial = map (named plans ops) es }
+    in_serial es = record { section = Serial; form = form; pairs = pairs; acts = acts; steps = steps; serial = map (named form plans ops) es }
 
-    one-entry : (done : List Entry) (e : Entry) → IsPrintable plans ops e → e.undo ≡ false → Reads (in_serial done) (line_of (entry_line plans ops e)) (in_serial (done ++ e ∷ []))
+    one-entry : (done : List Entry) (e : Entry) → IsPrintable form plans ops e → e.undo ≡ false → Reads (in_serial done) (line_of (entry_line form plans ops e)) (in_serial (done ++ e ∷ []))
     one-entry done e good forward =
-        reads-line (in_serial done) (in_serial (done ++ e ∷ [])) (entry_line plans ops e) (entry-free plans ops e good)
-        (after-other (in_serial done) (cond e.undo (codes "undo") (codes "do")) (decimal e.process ++ 46 ∷ step_name plans e.process e.step) (op_name ops e.op ∷ [])
-        ∙ (ap (option_map (with_serial (in_serial done))) (serial-read plans ops e good forward)
-        ∙ ap (λ (xs : List NamedAct). Some (record { section = Serial; pairs = pairs; acts = acts; steps = steps; serial = xs })) (sym (map-append (named plans ops) done (e ∷ [])))))
+        reads-line (in_serial done) (in_serial (done ++ e ∷ [])) (entry_line form plans ops e) (entry-free form plans ops e good)
+        (after-other (in_serial done) (cond e.undo (codes "undo") (codes "do")) (decimal e.process ++ 46 ∷ step_name plans e.process e.step) (op_name ops e.op ∷ key_words form e.key)
+        ∙ (ap (option_map (with_serial (in_serial done))) (serial-read form plans ops e good forward)
+        ∙ ap (λ (xs : List NamedAct). Some (record { section = Serial; form = form; pairs = pairs; acts = acts; steps = steps; serial = xs })) (sym (map-append (named form plans ops) done (e ∷ [])))))
 
-    pub serial-reads : (es : List Entry) → ((e : Entry) → Among e es → IsPrintable plans ops e × (e.undo ≡ false)) → Reads (in_serial []) (text_of (map (entry_line plans ops) es)) (in_serial es)
+    pub serial-reads : (es : List Entry) → ((e : Entry) → Among e es → IsPrintable form plans ops e × (e.undo ≡ false)) → Reads (in_serial []) (text_of (map (entry_line form plans ops) es)) (in_serial es)
     serial-reads es good =
-        reads-each (entry_line plans ops) in_serial es (λ done e after is. let that = good e (at-split es done e after is) in one-entry done e that.0 that.1) [] es refl
+        reads-each (entry_line form plans ops) in_serial es (λ done e after is. let that = good e (at-split es done e after is) in one-entry done e that.0 that.1) [] es refl

@@ -1,18 +1,25 @@
--- The pairs of a report say of the names of operations what the catalog says of their numbers.
-use Rattle.std.proofs.Common.{◌≡◌, ⊎_elim, ℕ, zero, suc, ◌<◌, Bool, true, false, not, ◌&&◌, ◌||◌, List, [], ◌∷◌, ◌++◌, length, map, sym, refl, ap, ◌∙◌, arith}
+-- The pairs of a report say of the names of operations, and of the keys that it prints, no more than the catalog says of their numbers.
+use Rattle.std.proofs.Common.{◌≡◌, ⊎_elim, ℕ, zero, suc, ◌-◌, ◌<◌, ◌==◌, min, max, get_or, Bool, true, false, cond, not, ◌&&◌, ◌||◌, List, [], ◌∷◌, ◌++◌, length, map, sym, refl, ap, ◌∙◌, subst, arith}
+use Rattle.std.specs.List.{list_all}
 use Rattle.std.proofs.lemmas.Bool.{and_parts, or_cases, false≢true}
-use Rattle.process_tree.specs.Conflicts.{do_conflict}
+use Rattle.process_tree.specs.declared.conflicts.Mode.{Mode}
+use Rattle.process_tree.specs.declared.conflicts.Mode.TheVariants.{Never, Key, Always}
+use Rattle.process_tree.specs.Conflicts.{Access, Table, mode_of, covers, do_conflict}
+use Rattle.process_tree.proofs.Tables.{mode_of-symmetric}
 use Rattle.process_tree.specs.Making.{same_text}
 use Rattle.process_text.proofs.NumberWords.{are_same-refl}
 use Rattle.commute_table.specs.declared.op.Op.{Op}
 use Rattle.commute_table.specs.declared.catalog.Catalog.{Catalog}
-use Rattle.commute_table.specs.Operations.{has_name, differ_from}
+use Rattle.commute_table.specs.Operations.{has_mode, has_modes, has_name, differ_from}
 use Rattle.schedule_model.proofs.Members.{Among, not_any, among-map}
+use Rattle.trace_verify.specs.declared.form.Form.TheVariants.{Plain, Keyed}
 use Rattle.trace_verify.specs.Forms.{Pair}
-use Rattle.trace_verify.specs.Names.{is_among, number_among, is_named, names_both, conflicts}
+use Rattle.trace_verify.specs.Names.{is_among, number_among, is_named, names_both, line_covers, conflicts}
 use Rattle.trace_verify.proofs.PrintedEntries.{named-read, named-number}
 use Rattle.process_report.specs.Names.{op_name}
-use Rattle.process_report.proofs.SectionsRead.{named_pair}
+use Rattle.process_report.specs.Report.{form_of, may_conflict}
+use Rattle.process_report.proofs.LineForms.{read_key, read_mode}
+use Rattle.process_report.proofs.SectionsRead.{mode_at, named_pair}
 
 -- Names of operations differ.
 
@@ -61,52 +68,79 @@ names-differ earlier (o ∷ ops) (suc i) (suc j) differ one other is =
 its-name : (names : List (List ℕ)) (v w : List ℕ) → is_among names w ≡ true → is_named names (number_among names w) v ≡ true → v ≡ w
 its-name names v w there is = sym (named-read names (number_among names w) v is) ∙ named-read names (number_among names w) w (named-number names w there)
 
-module _ (c : Catalog) (differ : differ_from [] c.ops ≡ true) (symmetric : (a b : ℕ) → do_conflict c.conflicts a b ≡ do_conflict c.conflicts b a)
-    (pairs : List (ℕ × ℕ)) (names : List (List ℕ))
-    (good : (p : ℕ × ℕ) → Among p pairs → (p.0 < length c.ops) × (p.1 < length c.ops) × (do_conflict c.conflicts p.0 p.1 ≡ true)) where
-  module _ (a b : ℕ) (a_is : a < length c.ops) (b_is : b < length c.ops) (a_there : is_among names (op_name c.ops a) ≡ true) (b_there : is_among names (op_name c.ops b) ≡ true)
-      (free : do_conflict c.conflicts a b ≡ false) where
-    pair-free : (p : ℕ × ℕ) → Among p pairs → names_both names (number_among names (op_name c.ops a)) (number_among names (op_name c.ops b)) (named_pair c.ops p) ≡ false
-    pair-free p is = by (names_both names x y q) refl
+-- what each of a list passes, an item passes, or what stands for none
+all-or : {X : Type 0} (q : X → Bool) (xs : List X) (k : ℕ) (d : X) → list_all q xs ≡ true → q d ≡ true → q (get_or xs k d) ≡ true
+all-or q [] k d all none = none
+all-or q (x ∷ xs) zero d all none = (and_parts (q x) (list_all q xs) all).0
+all-or q (x ∷ xs) (suc k) d all none = all-or q xs k d (and_parts (q x) (list_all q xs) all).1 none
+
+-- a version whose modes are all of a table's has that of each two operations
+pub mode-had : (version : ℕ) (t : Table) (a b : ℕ) → has_modes version t ≡ true → has_mode version (mode_of t a b) ≡ true
+mode-had version t a b all =
+    all-or (has_mode version) (get_or t (min a b) []) (max a b - min a b) Never (all-or (list_all (has_mode version)) t (min a b) [] all refl) refl
+
+-- what is read of two operations and of two keys covers no more than their mode
+read-covers : (version : ℕ) (mode : Mode) (k m : ℕ) → may_conflict mode ≡ true → has_mode version mode ≡ true
+    → covers (read_mode (cond (version == 2) Keyed Plain) mode) (read_key (cond (version == 2) Keyed Plain) k) (read_key (cond (version == 2) Keyed Plain) m) ≡ true
+    → covers mode k m ≡ true
+read-covers version Never k m may has holds = absurd (cc)
+read-covers version Always k m may has holds = refl
+read-covers version Key k m may has holds =
+    subst (λ t. covers (read_mode (cond t Keyed Plain) Key) (read_key (cond t Keyed Plain) k) (read_key (cond t Keyed Plain) m) ≡ true) has holds
+
+-- two operations that a report names, with a mode that its catalog may have
+abbrev pub IsGoodPair : Catalog → ℕ × ℕ → Type 0
+IsGoodPair c p = (p.0 < length c.ops) × (p.1 < length c.ops) × (may_conflict (mode_at c p) ≡ true) × (has_mode c.version (mode_at c p) ≡ true)
+
+-- an access as it is read of a report
+abbrev pub read_access : Catalog → List (List ℕ) → Access → Access
+read_access c names a = record { op = number_among names (op_name c.ops a.op); key = read_key (form_of c) a.key }
+
+module _ (c : Catalog) (differ : differ_from [] c.ops ≡ true) (pairs : List (ℕ × ℕ)) (names : List (List ℕ)) (good : (p : ℕ × ℕ) → Among p pairs → IsGoodPair c p) where
+  module _ (a b : Access) (a_is : a.op < length c.ops) (b_is : b.op < length c.ops)
+      (a_there : is_among names (op_name c.ops a.op) ≡ true) (b_there : is_among names (op_name c.ops b.op) ≡ true) (free : do_conflict c.conflicts a b ≡ false) where
+    abbrev x : Access
+    x = read_access c names a
+
+    abbrev y : Access
+    y = read_access c names b
+
+    pair-free : (p : ℕ × ℕ) → Among p pairs → line_covers names x y (named_pair c p) ≡ false
+    pair-free p is = by (names_both names x.op y.op q) refl (covers q.mode x.key y.key) refl
       where
-        x : ℕ
-        x = number_among names (op_name c.ops a)
-
-        y : ℕ
-        y = number_among names (op_name c.ops b)
-
         q : Pair
-        q = named_pair c.ops p
+        q = named_pair c p
 
         same-number : (i k : ℕ) → i < length c.ops → k < length c.ops → is_among names (op_name c.ops k) ≡ true → is_named names (number_among names (op_name c.ops k)) (op_name c.ops i) ≡ true → i ≡ k
         same-number i k less also there named = names-differ [] c.ops i k differ less also (its-name names (op_name c.ops i) (op_name c.ops k) there named)
 
-        conflicting : do_conflict c.conflicts a b ≡ true → names_both names x y q ≡ false
-        conflicting e = absurd (false≢true (sym free ∙ e))
-
-        ordered : (is_named names x q.first && is_named names y q.second) ≡ true → do_conflict c.conflicts a b ≡ true
+        ordered : (is_named names x.op q.first && is_named names y.op q.second) ≡ true → mode_at c p ≡ mode_of c.conflicts a.op b.op
         ordered both =
-            let parts = and_parts (is_named names x q.first) (is_named names y q.second) both in
-            let first = same-number p.0 a (good p is).0 a_is a_there parts.0 in
-            let second = same-number p.1 b (good p is).1 b_is b_there parts.1 in
-            sym (ap (λ i. do_conflict c.conflicts i p.1) first ∙ ap (λ k. do_conflict c.conflicts a k) second) ∙ (good p is).2
+            let parts = and_parts (is_named names x.op q.first) (is_named names y.op q.second) both in
+            let first = same-number p.0 a.op (good p is).0 a_is a_there parts.0 in
+            let second = same-number p.1 b.op (good p is).1 b_is b_there parts.1 in
+            ap (λ i. mode_of c.conflicts i p.1) first ∙ ap (λ k. mode_of c.conflicts a.op k) second
 
-        turned : (is_named names y q.first && is_named names x q.second) ≡ true → do_conflict c.conflicts a b ≡ true
+        turned : (is_named names y.op q.first && is_named names x.op q.second) ≡ true → mode_at c p ≡ mode_of c.conflicts a.op b.op
         turned both =
-            let parts = and_parts (is_named names y q.first) (is_named names x q.second) both in
-            let first = same-number p.0 b (good p is).0 b_is b_there parts.0 in
-            let second = same-number p.1 a (good p is).1 a_is a_there parts.1 in
-            symmetric a b ∙ (sym (ap (λ i. do_conflict c.conflicts i p.1) first ∙ ap (λ k. do_conflict c.conflicts b k) second) ∙ (good p is).2)
+            let parts = and_parts (is_named names y.op q.first) (is_named names x.op q.second) both in
+            let first = same-number p.0 b.op (good p is).0 b_is b_there parts.0 in
+            let second = same-number p.1 a.op (good p is).1 a_is a_there parts.1 in
+            ap (λ i. mode_of c.conflicts i p.1) first ∙ (ap (λ k. mode_of c.conflicts b.op k) second ∙ mode_of-symmetric c.conflicts b.op a.op)
 
-        by : (t : Bool) → names_both names x y q ≡ t → t ≡ false
-        by false e = refl
-        by true e =
-            ⊎_elim (λ one. absurd (false≢true (sym free ∙ ordered one))) (λ other. absurd (false≢true (sym free ∙ turned other)))
-            (or_cases (is_named names x q.first && is_named names y q.second) (is_named names y q.first && is_named names x q.second) e)
+        conflicting : mode_at c p ≡ mode_of c.conflicts a.op b.op → covers q.mode x.key y.key ≡ true → do_conflict c.conflicts a b ≡ true
+        conflicting same holds =
+            ap (λ m. covers m a.key b.key) (sym same) ∙ read-covers c.version (mode_at c p) a.key b.key (good p is).2 (good p is).3 holds
+
+        by : (s : Bool) → names_both names x.op y.op q ≡ s → (t : Bool) → covers q.mode x.key y.key ≡ t → (s && t) ≡ false
+        by false e t also = refl
+        by true e false also = refl
+        by true e true also =
+            ⊎_elim (λ one. absurd (false≢true (sym free ∙ conflicting (ordered one) also))) (λ other. absurd (false≢true (sym free ∙ conflicting (turned other) also)))
+            (or_cases (is_named names x.op q.first && is_named names y.op q.second) (is_named names y.op q.first && is_named names x.op q.second) e)
 
     -- what doesn't conflict by the catalog doesn't by the report
-    pub report-free : conflicts (map (named_pair c.ops) pairs) names (number_among names (op_name c.ops a)) (number_among names (op_name c.ops b)) ≡ false
+    pub report-free : conflicts (map (named_pair c) pairs) names x y ≡ false
     report-free =
-        not_any (names_both names (number_among names (op_name c.ops a)) (number_among names (op_name c.ops b))) (map (named_pair c.ops) pairs)
-        (λ q is. let from = among-map (named_pair c.ops) q pairs is in
-        ap (names_both names (number_among names (op_name c.ops a)) (number_among names (op_name c.ops b))) (sym from.2) ∙ pair-free from.0 from.1)
+        not_any (line_covers names x y) (map (named_pair c) pairs)
+        (λ q is. let from = among-map (named_pair c) q pairs is in ap (line_covers names x y) (sym from.2) ∙ pair-free from.0 from.1)

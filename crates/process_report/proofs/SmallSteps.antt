@@ -57,7 +57,7 @@ module _ (table : ConflictRelation) where
       by None is rest g = absurd (cc)
       by (Some zs) is rest g = both zs is (rest zs g)
 
-  one-small : (s : TraceStep) (xs ys : List Entry) → length xs ≤ 32768 → applied table s xs ≡ Some ys → IsPrintableStep [] [] s
+  one-small : (s : TraceStep) (xs ys : List Entry) → length xs ≤ 32768 → applied table s xs ≡ Some ys → IsPrintableStep s
   one-small (Cancel at) xs ys few e = let less = cancelled-within at xs ys e in omega (arith, less, few)
   one-small (Move from to) xs ys few e = by (nat_lt from to) refl e
     where
@@ -78,14 +78,14 @@ module _ (table : ConflictRelation) where
       by true is g = reach (ltb-true from to is) (on-within (to - from) from xs ys g)
       by false is g = back (nat_lt to from && nat_le from (length xs)) refl g
 
-  pub steps-small : (ss : List TraceStep) (xs ys : List Entry) → length xs ≤ 32768 → applied_all table ss xs ≡ Some ys → (s : TraceStep) → Among s ss → IsPrintableStep [] [] s
+  pub steps-small : (ss : List TraceStep) (xs ys : List Entry) → length xs ≤ 32768 → applied_all table ss xs ≡ Some ys → (s : TraceStep) → Among s ss → IsPrintableStep s
   steps-small [] xs ys few e s is = absurd is
   steps-small (x ∷ ss) xs ys few e s is = by (applied table x xs) refl (λ zs g. steps-small ss zs ys g) e is
     where
-      by : (o : Option (List Entry)) → applied table x xs ≡ o → ((zs : List Entry) → length zs ≤ 32768 → applied_all table ss zs ≡ Some ys → (s : TraceStep) → Among s ss → IsPrintableStep [] [] s)
-          → and_then o (applied_all table ss) ≡ Some ys → Among s (x ∷ ss) → IsPrintableStep [] [] s
+      by : (o : Option (List Entry)) → applied table x xs ≡ o → ((zs : List Entry) → length zs ≤ 32768 → applied_all table ss zs ≡ Some ys → (s : TraceStep) → Among s ss → IsPrintableStep s)
+          → and_then o (applied_all table ss) ≡ Some ys → Among s (x ∷ ss) → IsPrintableStep s
       by None one rest g there = absurd (cc)
-      by (Some zs) one rest g (inl here) = subst (IsPrintableStep [] []) here (one-small x xs zs few one)
+      by (Some zs) one rest g (inl here) = subst (IsPrintableStep) here (one-small x xs zs few one)
       by (Some zs) one rest g (inr later) = let short = length-applied table x xs zs one in rest zs (omega (arith, short, few)) g s later
 
 -- The printed trace has at most two steps for each undo and one for each entry.

@@ -4,7 +4,8 @@ use Rattle.std.specs.Fmt.{digits}
 use Rattle.process_tree.specs.declared.step.StepKind.TheVariants.{C, P, R}
 use Rattle.process_tree.specs.declared.block.Tail.{End as no_choice}
 use Rattle.process_tree.specs.declared.plan.Plan.{Plan}
-use Rattle.process_tree.specs.Conflicts.{no_conflicts, with_conflict}
+use Rattle.process_tree.specs.declared.conflicts.Mode.TheVariants.{Always}
+use Rattle.process_tree.specs.Conflicts.{no_conflicts, with_mode}
 use Rattle.commute_table.specs.declared.op.Op.{Op}
 use Rattle.commute_table.specs.declared.op.Verb.{Verb}
 use Rattle.commute_table.specs.declared.op.Verb.TheVariants.{Add, Take, Put, Hold}
@@ -23,27 +24,30 @@ op name subsystem verb = record { name = name; subsystem = subsystem; verb = ver
 
 -- one operation, and no conflict
 abbrev pub small : Catalog
-small = record { ops = op (codes "add") 0 Add ∷ []; conflicts = no_conflicts 1 }
+small = record { version = 1; ops = op (codes "add") 0 Add ∷ []; conflicts = no_conflicts 1 }
 
 -- what is taken depends on what was added and on what else was taken, notes depend on notes, and bookings on bookings
 abbrev pub stock : Catalog
 stock = record {
+  version = 1;
   ops = op (codes "add") 0 Add ∷ op (codes "take") 0 Take ∷ op (codes "pay") 1 Add ∷ op (codes "ship") 2 Add ∷ op (codes "note") 4 Put ∷ op (codes "book") 6 Hold ∷ [];
-  conflicts = with_conflict (with_conflict (with_conflict (with_conflict (no_conflicts 6) 0 1) 1 1) 4 4) 5 5;
+  conflicts = with_mode (with_mode (with_mode (with_mode (no_conflicts 6) 0 1 Always) 1 1 Always) 4 4 Always) 5 5 Always;
 }
 
 -- the same without bookings
 abbrev pub shop : Catalog
 shop = record {
+  version = 1;
   ops = op (codes "add") 0 Add ∷ op (codes "take") 0 Take ∷ op (codes "pay") 1 Add ∷ op (codes "ship") 2 Add ∷ op (codes "note") 4 Put ∷ [];
-  conflicts = with_conflict (with_conflict (with_conflict (no_conflicts 5) 0 1) 1 1) 4 4;
+  conflicts = with_mode (with_mode (with_mode (no_conflicts 5) 0 1 Always) 1 1 Always) 4 4 Always;
 }
 
+-- step b of process i took effect, with operation n on key 1, as plain steps have
 abbrev pub did : ℕ → ℕ → ℕ → Event
-did i b n = Act (record { process = i; step = b; op = n; undo = false })
+did i b n = Act (record { process = i; step = b; op = n; key = 1; undo = false })
 
 abbrev pub undid : ℕ → ℕ → ℕ → Event
-undid i b n = Act (record { process = i; step = b; op = n; undo = true })
+undid i b n = Act (record { process = i; step = b; op = n; key = 1; undo = true })
 
 -- an addition alone
 abbrev pub addition : Plan

@@ -6,3 +6,4 @@ pub mod Blocks
 pub mod Laws
 pub mod Examples
 pub mod RecoveryExamples
+pub mod KeyedExamples

@@ -1,4 +1,4 @@
--- The lines of a report, as their words.
+-- The lines of a report, as their words. In a keyed report the key stands at the end of the line of an entry.
 use Rattle.std.specs.Prelude.{ℕ, List, [], ◌∷◌, ◌++◌, flat_map, codes, decimal, if◌then◌else◌}
 use Rattle.process_tree.specs.declared.entry.Entry.{Entry}
 use Rattle.process_tree.specs.declared.plan.Plan.{Plan}
@@ -10,6 +10,8 @@ use Rattle.schedule_model.specs.declared.trace_step.TraceStep.{TraceStep}
 use Rattle.schedule_model.specs.declared.trace_step.TraceStep.TheVariants.{Move, Cancel}
 use Rattle.machine_model.specs.declared.began.Cause.{Cause}
 use Rattle.machine_model.specs.declared.began.Cause.TheVariants.{Refused, Abort, Cascade, Victim, Restart}
+use Rattle.trace_verify.specs.declared.form.Form.{Form}
+use Rattle.trace_verify.specs.declared.form.Form.TheVariants.{Plain, Keyed}
 use Rattle.process_report.specs.Names.{process_name, step_name, op_name}
 
 -- the words of a line
@@ -24,15 +26,21 @@ text_of lines = flat_map line_of lines
 abbrev pub place_word : List Plan → ℕ → ℕ → List ℕ
 place_word plans i b = decimal i ++ 46 ∷ step_name plans i b
 
--- `do I.STEP OP` or `undo I.STEP OP`
-abbrev pub entry_line : List Plan → List Op → Entry → Line
-entry_line plans ops e = (if e.undo then codes "undo" else codes "do") ∷ place_word plans e.process e.step ∷ op_name ops e.op ∷ []
+-- the key, where it is printed
+abbrev pub key_words : Form → ℕ → Line
+key_words Plain k = []
+key_words Keyed k = decimal k ∷ []
+
+-- `do I.STEP OP` or `undo I.STEP OP`, and the key
+abbrev pub entry_line : Form → List Plan → List Op → Entry → Line
+entry_line form plans ops e =
+    (if e.undo then codes "undo" else codes "do") ∷ place_word plans e.process e.step ∷ op_name ops e.op ∷ key_words form e.key
 
 -- `start I NAME`, an entry, or `end I`
-abbrev pub event_line : List Plan → List Op → Event → Line
-event_line plans ops (Start i) = codes "start" ∷ decimal i ∷ process_name plans i ∷ []
-event_line plans ops (Act e) = entry_line plans ops e
-event_line plans ops (End i) = codes "end" ∷ decimal i ∷ []
+abbrev pub event_line : Form → List Plan → List Op → Event → Line
+event_line form plans ops (Start i) = codes "start" ∷ decimal i ∷ process_name plans i ∷ []
+event_line form plans ops (Act e) = entry_line form plans ops e
+event_line form plans ops (End i) = codes "end" ∷ decimal i ∷ []
 
 -- why process i began to complete: `refused STEP`, `abort`, `cascade K`, `victim` or `restart`
 abbrev pub cause_words : List Plan → ℕ → Cause → Line

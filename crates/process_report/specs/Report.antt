@@ -1,8 +1,10 @@
--- The report: seven sections, each a line with its title and then its lines.
-use Rattle.std.specs.Prelude.{ℕ, ◌-◌, List, [], ◌∷◌, ◌++◌, length, map, filter, flat_map, codes, decimal, if◌then◌else◌}
+-- The report: seven sections, each a line with its title and then its lines. That of a catalog of version 2 is keyed: the key stands
+-- behind each entry, and the mode behind two operations that conflict.
+use Rattle.std.specs.Prelude.{ℕ, ◌-◌, Bool, true, false, ◌==◌, List, [], ◌∷◌, ◌++◌, length, map, filter, flat_map, codes, decimal, if◌then◌else◌}
 use Rattle.process_tree.specs.Blocks.{numbers_from}
-use Rattle.process_tree.specs.Conflicts.{do_conflict}
-use Rattle.commute_table.specs.declared.op.Op.{Op}
+use Rattle.process_tree.specs.declared.conflicts.Mode.{Mode}
+use Rattle.process_tree.specs.declared.conflicts.Mode.TheVariants.{Never, Key, Always}
+use Rattle.process_tree.specs.Conflicts.{mode_of}
 use Rattle.commute_table.specs.declared.catalog.Catalog.{Catalog}
 use Rattle.schedule_model.specs.declared.event.Event.{Event}
 use Rattle.schedule_model.specs.declared.history.History.{History}
@@ -11,28 +13,52 @@ use Rattle.schedule_model.specs.Course.{courses_of}
 use Rattle.schedule_model.specs.Histories.{is_active, net_steps}
 use Rattle.schedule_model.specs.PrintedTrace.{Trace, printed_trace}
 use Rattle.machine_model.specs.declared.began.Cause.{Cause}
+use Rattle.trace_verify.specs.declared.form.Form.{Form}
+use Rattle.trace_verify.specs.declared.form.Form.TheVariants.{Plain, Keyed}
+use Rattle.trace_verify.specs.Forms.{first_title}
 use Rattle.process_report.specs.Names.{process_name, step_name, op_name}
 use Rattle.process_report.specs.Lines.{Line, text_of, event_line, entry_line, cause_line, step_line}
 
--- `A B`, two operations by their numbers
-abbrev pub pair_line : List Op → ℕ → ℕ → Line
-pair_line ops a b = op_name ops a ∷ op_name ops b ∷ []
+-- the form of a catalog's reports
+abbrev pub form_of : Catalog → Form
+form_of c = if c.version == 2 then Keyed else Plain
 
--- the operations that conflict with operation a, from a itself on
+-- operations with this mode conflict on some keys at least
+abbrev pub may_conflict : Mode → Bool
+may_conflict Never = false
+may_conflict Key = true
+may_conflict Always = true
+
+-- how a mode is written; the first is never printed
+abbrev pub mode_word : Mode → List ℕ
+mode_word Never = codes "never"
+mode_word Key = codes "key"
+mode_word Always = codes "always"
+
+-- the mode, where it is printed
+abbrev pub mode_words : Form → Mode → Line
+mode_words Plain mode = []
+mode_words Keyed mode = mode_word mode ∷ []
+
+-- `A B`, two operations by their numbers, and their mode
+abbrev pub pair_line : Catalog → ℕ → ℕ → Line
+pair_line c a b = op_name c.ops a ∷ op_name c.ops b ∷ mode_words (form_of c) (mode_of c.conflicts a b)
+
+-- the operations that may conflict with operation a, from a itself on
 abbrev pub conflicting : Catalog → ℕ → List ℕ
-conflicting c a = filter (do_conflict c.conflicts a) (numbers_from a (length c.ops - a))
+conflicting c a = filter (λ b. may_conflict (mode_of c.conflicts a b)) (numbers_from a (length c.ops - a))
 
--- each pair of operations that conflict, by numbers, the lesser first
+-- each pair of operations that may conflict, by numbers, the lesser first
 abbrev pub conflicts_lines : Catalog → List Line
-conflicts_lines c = flat_map (λ a. map (pair_line c.ops a) (conflicting c a)) (numbers_from 0 (length c.ops))
+conflicts_lines c = flat_map (λ a. map (pair_line c a) (conflicting c a)) (numbers_from 0 (length c.ops))
 
 -- the events
 abbrev pub history_lines : Catalog → History → List Line
-history_lines c h = map (event_line h.plans c.ops) h.events
+history_lines c h = map (event_line (form_of c) h.plans c.ops) h.events
 
 -- the events that completion adds
 abbrev pub completion_lines : Catalog → History → List Event → List Line
-completion_lines c h added = map (event_line h.plans c.ops) added
+completion_lines c h added = map (event_line (form_of c) h.plans c.ops) added
 
 -- what became of a process that ended: `path` with these steps, or `nothing` where there is none
 abbrev pub path_words : Line → Line
@@ -61,7 +87,7 @@ trace_lines t = map step_line t.steps
 
 -- the entries of the list to which it leads
 abbrev pub serial_lines : Catalog → History → Trace → List Line
-serial_lines c h t = map (entry_line h.plans c.ops) t.list
+serial_lines c h t = map (entry_line (form_of c) h.plans c.ops) t.list
 
 -- a section: its title, and then its lines
 abbrev pub section : List ℕ → List Line → List ℕ
@@ -70,7 +96,7 @@ section title lines = text_of ((title ∷ []) ∷ lines)
 -- the report of a history, with what completion adds and with a trace
 abbrev pub report_of : Catalog → History → List (ℕ × Cause) → List Event → Trace → List ℕ
 report_of c h causes added t =
-    section (codes "conflicts") (conflicts_lines c)
+    section (first_title (form_of c)) (conflicts_lines c)
     ++ section (codes "history") (history_lines c h)
     ++ section (codes "completion") (completion_lines c h added)
     ++ section (codes "ends") (ends_lines h)

@@ -1,5 +1,5 @@
 // Lines of words.
-ghost use Rattle.std.specs.Prelude.{◌≡◌, ◌++◌, ◌∷◌, map, OnOk};
+ghost use Rattle.std.specs.Prelude.{◌≡◌, ◌++◌, ◌∷◌, [], map, OnOk};
 ghost use Rattle.process_text.specs.Canonical.{line_of, spaced};
 ghost use Rattle.process_report.specs.Blocks.{joined};
 
@@ -38,4 +38,29 @@ pub fn put_line(out: &mut Vec<u8>, words: &[&[u8]]) -> Result<(), AllocError>
     put_words(out, words)?;
     out.push(b'\n')?;
     Ok(())
+}
+
+/// Writes a line of three words.
+pub fn put_three<'a>(
+    out: &mut Vec<u8>,
+    first: &'a [u8],
+    second: &'a [u8],
+    third: &'a [u8],
+) -> Result<(), AllocError>
+    ensures { OnOk result (out.new.items ≡ out.old.items ++ line_of (first.now ∷ second.now ∷ third.now ∷ [])) }
+{
+    put_line(out, &[first, second, third])
+}
+
+/// Writes a line of four words.
+pub fn put_four<'a>(
+    out: &mut Vec<u8>,
+    first: &'a [u8],
+    second: &'a [u8],
+    third: &'a [u8],
+    fourth: &'a [u8],
+) -> Result<(), AllocError>
+    ensures { OnOk result (out.new.items ≡ out.old.items ++ line_of (first.now ∷ second.now ∷ third.now ∷ fourth.now ∷ [])) }
+{
+    put_line(out, &[first, second, third, fourth])
 }

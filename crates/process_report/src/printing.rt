@@ -6,12 +6,13 @@ ghost use Rattle.commute_table.specs.Operations.{IsCatalog};
 ghost use Rattle.schedule_model.specs.Course.{courses_of};
 ghost use Rattle.schedule_model.specs.Laws.{IsPlanned};
 ghost use Rattle.schedule_model.specs.Legal.{is_legal};
+ghost use Rattle.trace_verify.specs.Forms.{first_title};
 ghost use Rattle.process_report.specs.Lines.{event_line};
-ghost use Rattle.process_report.specs.Report.{conflicts_lines, history_lines, completion_lines, ends_lines, causes_lines, trace_lines, serial_lines, section, report_of, report_text};
+ghost use Rattle.process_report.specs.Report.{form_of, conflicts_lines, history_lines, completion_lines, ends_lines, causes_lines, trace_lines, serial_lines, section, report_of, report_text};
 ghost use Rattle.process_report.specs.Reduced.{trace_in};
 
 use crate::causes::put_causes;
-use crate::conflicts::put_conflicts;
+use crate::conflicts::{form_of, put_conflicts};
 use crate::ends::put_ends;
 use crate::events::{put_entries, put_events};
 use crate::lines::put_line;
@@ -21,13 +22,24 @@ use machine_model::Cause;
 use reduction_trace::{Reduction, trace};
 use schedule_model::{Event, History};
 use std::alloc::{AllocError, Global};
+use trace_verify::Form;
+
+// The title of the first section.
+fn first_title(form: Form) -> &'static [u8]
+    ensures { result.now ≡ first_title form }
+{
+    match form {
+        Form::Plain => b"conflicts",
+        Form::Keyed => b"conflicts 2",
+    }
+}
 
 // Writes the section of conflicts.
 fn put_conflicts_section(c: &Catalog, out: &mut Vec<u8>) -> Result<(), AllocError>
     requires catalog { IsCatalog c.now }
-    ensures { OnOk result (out.new.items ≡ out.old.items ++ section (codes "conflicts") (conflicts_lines c.now)) }
+    ensures { OnOk result (out.new.items ≡ out.old.items ++ section (first_title (form_of c.now)) (conflicts_lines c.now)) }
 {
-    put_line(out, &[b"conflicts"])?;
+    put_line(out, &[first_title(form_of(c))])?;
     put_conflicts(c, out)
 }
 
@@ -40,10 +52,17 @@ fn put_event_section(
     events: &[Event],
     out: &mut Vec<u8>,
 ) -> Result<(), AllocError>
-    ensures { OnOk result (out.new.items ≡ out.old.items ++ section title.now (map (event_line h.now.plans c.now.ops) events.now)) }
+    ensures { OnOk result (out.new.items ≡ out.old.items ++ section title.now (map (event_line (form_of c.now) h.now.plans c.now.ops) events.now)) }
 {
     put_line(out, &[title])?;
-    put_events(alloc, h.plans.as_slice(), c.ops.as_slice(), events, out)
+    put_events(
+        alloc,
+        form_of(c),
+        h.plans.as_slice(),
+        c.ops.as_slice(),
+        events,
+        out,
+    )
 }
 
 // Writes the section of the history.
@@ -115,6 +134,7 @@ fn put_reduction_sections(
     put_line(out, &[b"serial"])?;
     put_entries(
         alloc,
+        form_of(c),
         h.plans.as_slice(),
         c.ops.as_slice(),
         reduction.serial.as_slice(),
@@ -132,7 +152,7 @@ fn put_event_sections(
 ) -> Result<(), AllocError>
     requires catalog { IsCatalog c.now }
     ensures { OnOk result (out.new.items ≡ out.old.items
-        ++ (section (codes "conflicts") (conflicts_lines c.now) ++ section (codes "history") (history_lines c.now h.now) ++ section (codes "completion") (completion_lines c.now h.now reduction.now.completion))) }
+        ++ (section (first_title (form_of c.now)) (conflicts_lines c.now) ++ section (codes "history") (history_lines c.now h.now) ++ section (codes "completion") (completion_lines c.now h.now reduction.now.completion))) }
 {
     put_conflicts_section(c, out)?;
     put_history_section(alloc, c, h, out)?;

@@ -1,18 +1,14 @@
-//! Tests of processes on their way through the program: runs and sessions with their outputs and files, refusals in their order, and
-//! faults; and nine files with the program's own boxes, which are opened, settled or refused.
+//! Tests of processes on their way through the program, over racks in memory: a session that a fault ends; and nine files with the program's
+//! own boxes, which are opened, settled or refused. Runs and sessions over real files are rows (`tests/rows`).
 #![tactic(auto)]
 
+#[cfg(test)]
+mod bulks;
 #[cfg(test)]
 mod cases;
 #[cfg(test)]
 mod expected;
 #[cfg(test)]
+mod faults;
+#[cfg(test)]
 mod openings;
-#[cfg(test)]
-mod plays;
-#[cfg(test)]
-mod refusals;
-#[cfg(test)]
-mod runs;
-#[cfg(test)]
-mod sessions;

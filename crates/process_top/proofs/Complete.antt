@@ -6,7 +6,7 @@ use Rattle.process_flow.specs.Causes.{Rose}
 use Rattle.trace_verify.specs.declared.verdict.Verified.{Verified}
 use Rattle.trace_verify.specs.Verdicts.{verdict}
 use Rattle.program_words.specs.declared.reading.Command.{Command}
-use Rattle.program_words.specs.declared.reading.Command.TheVariants.{Check, Init, Run, Session, Serve, Restart, Show, Verify, Gen}
+use Rattle.program_words.specs.declared.reading.Command.TheVariants.{Check, Init, Run, Session, Serve, Restart, Show, Verify, Gen, Bulk}
 use Rattle.program_lines.specs.Statuses.{IsOneOf}
 use Rattle.program_lines.specs.declared.status.Status.{Status}
 use Rattle.program_lines.specs.declared.status.Status.TheVariants.{Done, Exhausted, NoMemory}
@@ -30,6 +30,7 @@ use Rattle.session_run.specs.Completeness.{AreAllAnswered}
 use Rattle.serve_run.specs.declared.command.Ending.TheVariants as endings
 use Rattle.process_top.specs.Run.{first_gate, IsRunComplete}
 use Rattle.process_top.specs.Restart.{IsRestartComplete}
+use Rattle.process_top.specs.Bulk.{IsBulkComplete}
 use Rattle.process_top.specs.Serve.{IsServeComplete}
 use Rattle.process_top.specs.Session.{IsSessionComplete}
 use Rattle.process_top.specs.Show.{IsShowDue, IsShowComplete}
@@ -113,6 +114,7 @@ Worked (Some Run) before after status = IsQuiet (Some Run) before after → IsRu
 Worked (Some Session) before after status = IsQuiet (Some Session) before after → IsSessionComplete before.input before.files status
 Worked (Some Serve) before after status = IsQuiet (Some Serve) before after → IsServeComplete before.input before.files status
 Worked (Some Restart) before after status = IsQuiet (Some Restart) before after → IsRestartComplete before.files status
+Worked (Some (Bulk number count)) before after status = IsQuiet (Some (Bulk number count)) before after → IsBulkComplete number count before.files status
 Worked o before after status = ⊤
 
 -- of what was still to be told, and then was
@@ -134,6 +136,8 @@ worked_due (Some Restart) before after found status has told later = λ quiet c 
 worked_due (Some Show) before after found status has told later = tt
 worked_due (Some Verify) before after found status has told later = tt
 worked_due (Some (Gen number count)) before after found status has told later = tt
+worked_due (Some (Bulk number count)) before after found status has told later = λ quiet c plans fits empty.
+    told_report found before.output after.output status (has c plans fits empty (quiet.files refl)) told quiet.output
 
 -- of a dialogue that was held, which no other command does
 pub worked_held : {S K R : Type 0} (o : Option Command) (before after : World S K R) (text : List ℕ) (at status : Status)
@@ -150,6 +154,7 @@ worked_held (Some Restart) before after text at status due has = absurd due
 worked_held (Some Show) before after text at status due has = tt
 worked_held (Some Verify) before after text at status due has = tt
 worked_held (Some (Gen number count)) before after text at status due has = tt
+worked_held (Some (Bulk number count)) before after text at status due has = absurd due
 
 -- a show
 show_done : (files files_after : Files) (reply : Reply) (status : Status) → IsShowDue files files_after reply → status ≡ status_of reply → ¬ Rose files.faults files_after.faults → IsShowComplete files.disk status
@@ -239,6 +244,7 @@ done_by (Some Restart) gate before after status reply due is worked quiet = work
 done_by (Some Show) gate before after status reply due is worked quiet = show_done before.files after.files reply status due.0 is (quiet.files refl)
 done_by (Some Verify) gate before after status reply due is worked quiet = verify_done before.input.left before.input.faults after.input reply status due.0 is (quiet.input refl)
 done_by (Some (Gen number count)) gate before after status reply due is worked quiet = gen_done number count reply status due.0 is
+done_by (Some (Bulk number count)) gate before after status reply due is worked quiet = worked quiet
 
 -- at want of memory each does what may be wanted of it
 given_memory : (left : Option (List ℕ)) (P : List ℕ → Type 0) → ((text : List ℕ) → P text) → IfSome left P
@@ -256,6 +262,7 @@ wanting (Some Restart) input files status is = λ c h told sound. inr (inr (inl 
 wanting (Some Show) input files status is = λ c h good told log. inr (inl is)
 wanting (Some Verify) input files status is = given_memory input.left _ (λ text within. inr (inl is))
 wanting (Some (Gen number count)) input files status is = inr (inl is)
+wanting (Some (Bulk number count)) input files status is = λ c plans fits empty. inr (inr (inl is))
 
 -- without a fault of the sink, the status is that of the reply, or memory was wanting
 status_told : (reply : Reply) (old new : Output) (status : Status) → IsReplyTold reply old new status → ¬ Rose old.faults new.faults → (status ≡ status_of reply) ⊎ (status ≡ NoMemory)

@@ -2,8 +2,9 @@
 use Rattle.std.proofs.Common.{Option, Some, None, refl, inl, inr}
 use Rattle.process_journal.specs.declared.errors.JournalError.TheVariants as journal
 use Rattle.history_opening.specs.declared.faults.OpenError.TheVariants as opening
+use Rattle.commute_table.specs.declared.errors.ScenarioError.TheVariants as scenarios
 use Rattle.program_words.specs.declared.reading.Command.{Command}
-use Rattle.program_words.specs.declared.reading.Command.TheVariants.{Check, Init, Run, Session, Serve, Restart, Show, Verify, Gen}
+use Rattle.program_words.specs.declared.reading.Command.TheVariants.{Check, Init, Run, Session, Serve, Restart, Show, Verify, Gen, Bulk}
 use Rattle.program_lines.specs.declared.refusal.Refusal.TheVariants.{NoMemory}
 use Rattle.command_input.specs.FilesLeft.{AreUntouched}
 use Rattle.engine_runs.specs.GateAnswers.{AskedGate}
@@ -23,3 +24,4 @@ no_words_due (Some Restart) gate before after files files_after untouched =
 no_words_due (Some Show) gate before after files files_after untouched = ((journal.NoMemory, refl, λ told. tt, λ is. absurd (cc)), untouched)
 no_words_due (Some Verify) gate before after files files_after untouched = (tt, untouched)
 no_words_due (Some (Gen number count)) gate before after files files_after untouched = (refl, untouched)
+no_words_due (Some (Bulk number count)) gate before after files files_after untouched = inl (inl (scenarios.NoMemory, refl, tt), untouched)

@@ -6,7 +6,7 @@ use Rattle.process_journal.specs.declared.errors.JournalError.{JournalError}
 use Rattle.process_journal.specs.declared.errors.JournalError.TheVariants as journal
 use Rattle.program_words.specs.Commands.{asked}
 use Rattle.program_words.specs.declared.reading.Command.{Command}
-use Rattle.program_words.specs.declared.reading.Command.TheVariants.{Check, Init, Run, Session, Serve, Restart, Show, Verify, Gen}
+use Rattle.program_words.specs.declared.reading.Command.TheVariants.{Check, Init, Run, Session, Serve, Restart, Show, Verify, Gen, Bulk}
 use Rattle.program_lines.specs.Statuses.{number_of}
 use Rattle.program_lines.specs.declared.status.Status.{Status}
 use Rattle.program_lines.specs.declared.status.Status.TheVariants as statuses
@@ -35,11 +35,13 @@ use Rattle.history_opening.specs.declared.faults.OpenError.TheVariants as openin
 use Rattle.restart_run.specs.Restart.{IsRestartFound}
 use Rattle.scenario_run.specs.Opening.{open_refusal}
 use Rattle.scenario_run.specs.Run.{IsRunDue as IsRunFound, SaysRun}
+use Rattle.scenario_gen.specs.Generated.{generated as scenario}
+use Rattle.bulk_run.specs.Bulk.{IsBulkDue as IsBulkFound, SaysBulk}
 use Rattle.command_input.specs.declared.said.Said.{Said}
 use Rattle.process_text.specs.declared.error.TextError.{TextError}
 use Rattle.process_text.specs.declared.error.TextError.TheVariants as texts
 use Rattle.driver_answers.specs.Serving.{DriverState}
-use Rattle.serve_run.specs.Dialogue.{EndsWith}
+use Rattle.serve_run.specs.Dialogue.{EndsWith, number_behind}
 use Rattle.serve_run.specs.Serve.{IsNotServed, IsServeTold, IsSpoken}
 use Rattle.schedule_model.specs.declared.history.History.{History}
 use Rattle.process_top.specs.Run.{first_gate}
@@ -119,11 +121,12 @@ is_early_in_dialogue statuses.IllFormed = true
 is_early_in_dialogue statuses.NotReduced = true
 is_early_in_dialogue status = false
 
--- those that do so at this one: `run`, `session` and `serve` read the catalog of the files too, and `run` how much they have
+-- those that do so at this one: `run`, `session` and `serve` read the catalog of the files too, and `run` and `bulk` how much they have
 abbrev pub is_early_for : Option Command → Status → Bool
 is_early_for (Some Run) s = is_always_early s
 is_early_for (Some Session) s = is_always_early s
 is_early_for (Some Serve) s = is_early_in_dialogue s
+is_early_for (Some (Bulk number count)) s = is_always_early s
 is_early_for o s = is_early_status s
 
 always_text : (e : TextError) → is_always_early (error_status e) ≡ true → ⊥
@@ -158,6 +161,17 @@ always_said gate before after files files_after said (inr run) is = by_report ru
     by_report (inl all) =
         let wrong : false ≡ true = ap is_always_early (sym all.0) ∙ is in absurd (cc)
     by_report (inr stuck) =
+        let wrong : false ≡ true = ap is_always_early (sym stuck.1) ∙ is in absurd (cc)
+
+-- so of what a run on new files has to say
+bulk_said : (gate : AskedGate) (text : List ℕ) (files files_after : Files) (said : Said) → IsBulkFound gate text files files_after (Ok said) → is_always_early said.status ≡ true → is_verdict said.status ≡ true
+bulk_said gate text files files_after said (inl none) is = subst (λ (s : Status). is_verdict s ≡ true) (sym none.0.0) refl
+bulk_said gate text files files_after said (inr (c, plans, bound, (now, run, says))) is = by_line says
+  where
+    by_line : SaysBulk now said → is_verdict said.status ≡ true
+    by_line (inl all) =
+        let wrong : false ≡ true = ap is_always_early (sym all.0) ∙ is in absurd (cc)
+    by_line (inr stuck) =
         let wrong : false ≡ true = ap is_always_early (sym stuck.1) ∙ is in absurd (cc)
 
 -- so of what a session has to say
@@ -200,25 +214,25 @@ dialogue_always statuses.Exhausted is = absurd (cc)
 dialogue_always statuses.NotReduced is = refl
 dialogue_always statuses.NoMemory is = absurd (cc)
 
-late_dialogue : (c : Catalog) (plans : List Plan) (last : DriverState) (n : ℕ) (tail : List ℕ) (now : CoreState) (s : Status) → EndsWith c plans last n tail now s → is_early_in_dialogue s ≡ true → ⊥
-late_dialogue c plans last n tail now statuses.Done ends is = absurd (cc)
-late_dialogue c plans last n tail now statuses.BadWords ends is = absurd ends
-late_dialogue c plans last n tail now statuses.BadInput ends is = absurd ends
-late_dialogue c plans last n tail now statuses.IllFormed ends is = absurd ends
-late_dialogue c plans last n tail now statuses.Limit ends is = absurd ends
-late_dialogue c plans last n tail now statuses.Unfinished ends is = absurd ends
-late_dialogue c plans last n tail now statuses.BadFile ends is = absurd ends
-late_dialogue c plans last n tail now statuses.BookDiffers ends is = absurd ends
-late_dialogue c plans last n tail now statuses.ReadFault ends is = absurd (cc)
-late_dialogue c plans last n tail now statuses.WriteFault ends is = absurd (cc)
-late_dialogue c plans last n tail now statuses.DiskFault ends is = absurd (cc)
-late_dialogue c plans last n tail now statuses.Exhausted ends is = absurd ends
-late_dialogue c plans last n tail now statuses.NotReduced ends is = absurd ends
-late_dialogue c plans last n tail now statuses.NoMemory ends is = absurd (cc)
+late_dialogue : (c : Catalog) (plans : List Plan) (last : DriverState) (n : ℕ) (u : Option (List ℕ)) (tail : List ℕ) (now : CoreState) (s : Status) → EndsWith c plans last n u tail now s → is_early_in_dialogue s ≡ true → ⊥
+late_dialogue c plans last n u tail now statuses.Done ends is = absurd (cc)
+late_dialogue c plans last n u tail now statuses.BadWords ends is = absurd ends
+late_dialogue c plans last n u tail now statuses.BadInput ends is = absurd ends
+late_dialogue c plans last n u tail now statuses.IllFormed ends is = absurd ends
+late_dialogue c plans last n u tail now statuses.Limit ends is = absurd ends
+late_dialogue c plans last n u tail now statuses.Unfinished ends is = absurd ends
+late_dialogue c plans last n u tail now statuses.BadFile ends is = absurd ends
+late_dialogue c plans last n u tail now statuses.BookDiffers ends is = absurd ends
+late_dialogue c plans last n u tail now statuses.ReadFault ends is = absurd (cc)
+late_dialogue c plans last n u tail now statuses.WriteFault ends is = absurd (cc)
+late_dialogue c plans last n u tail now statuses.DiskFault ends is = absurd (cc)
+late_dialogue c plans last n u tail now statuses.Exhausted ends is = absurd ends
+late_dialogue c plans last n u tail now statuses.NotReduced ends is = absurd ends
+late_dialogue c plans last n u tail now statuses.NoMemory ends is = absurd (cc)
 
 late_spoken : (c : Catalog) (plans : List Plan) (h : History) (first : ℕ) (now : CoreState) (taken : List ℕ) (left : Option (List ℕ)) (text : List ℕ) (s : Status)
     → IsSpoken c plans h first now taken left text s → is_early_in_dialogue s ≡ true → ⊥
-late_spoken c plans h first now taken left text s (inl held) is = late_dialogue c plans held.last held.reached held.tail now s held.ends is
+late_spoken c plans h first now taken left text s (inl held) is = late_dialogue c plans held.last (number_behind first held.exchanges) held.unanswered held.tail now s held.ends is
 late_spoken c plans h first now taken left text s (inr failed) is =
     let wrong : false ≡ true = ap is_early_in_dialogue (sym failed.1) ∙ is in absurd (cc)
 
@@ -290,6 +304,14 @@ module _ {S K R : Type 0} (before after : World S K R) where
   by_command (Some Restart) gate (shown c h) due untouched early is = absurd due
   by_command (Some Restart) gate accepted due untouched early is = absurd due
   by_command (Some Restart) gate (generated text) due untouched early is = absurd due
+  by_command (Some (Bulk number count)) gate (ended said) due untouched early is = early (bulk_said gate (scenario number count) before.files after.files said due is)
+  by_command (Some (Bulk number count)) gate (refused r) due untouched early is = early (always_refusal r is)
+  by_command (Some (Bulk number count)) gate (checked ps vs) due untouched early is = absurd due
+  by_command (Some (Bulk number count)) gate created due untouched early is = absurd due
+  by_command (Some (Bulk number count)) gate (served text at) due untouched early is = absurd due
+  by_command (Some (Bulk number count)) gate (shown c h) due untouched early is = absurd due
+  by_command (Some (Bulk number count)) gate accepted due untouched early is = absurd due
+  by_command (Some (Bulk number count)) gate (generated text) due untouched early is = absurd due
   by_command (Some Show) gate (served text at) due untouched early is = absurd due.0
   by_command (Some Show) gate (shown c h) due untouched early is = absurd (cc)
   by_command (Some Show) gate (refused r) due untouched early is =
@@ -312,6 +334,7 @@ module _ {S K R : Type 0} (before after : World S K R) where
   late_for (Some Show) = (refl, refl)
   late_for (Some Verify) = (refl, refl)
   late_for (Some (Gen number count)) = (refl, refl)
+  late_for (Some (Bulk number count)) = (refl, refl)
 
   by_told : (o : Option Command) (s status : Status) (text : List ℕ) (old new : Output) (at : Status) → IsTold status text old new at → at ≡ s → is_early_for o s ≡ true → is_early_for o status ≡ true
   by_told o s status text old new at (inl well) same is = ap (is_early_for o) (sym well.0 ∙ same) ∙ is

@@ -30,6 +30,9 @@ use Rattle.serve_run.specs.declared.command.Ending.TheVariants as endings
 use Rattle.serve_run.specs.Serve.{IsServeDue as IsServeFound}
 use Rattle.process_top.specs.Run.{IsRunDue}
 use Rattle.process_top.specs.Restart.{IsRestartDue}
+use Rattle.process_top.specs.Bulk.{IsBulkDue}
+use Rattle.bulk_run.specs.Bulk.{IsBulkDue as IsBulkFound}
+use Rattle.scenario_gen.specs.Generated.{generated as scenario}
 use Rattle.process_top.specs.Serve.{IsServeDue}
 use Rattle.process_top.specs.Session.{IsSessionDue}
 use Rattle.process_top.specs.Show.{IsNotOpened}
@@ -74,6 +77,12 @@ serve_says before after files files_after out out_after (endings.Due (Err r)) du
 pub restart_says : (gate : AskedGate) (files files_after : Files) (found : Result Said Refusal) → IsRestartFound gate files files_after found → Says (IsRestartDue gate files files_after) found
 restart_says gate files files_after (Ok said) due = (ended said, refl, due, refl, refl)
 restart_says gate files files_after (Err r) due = due
+
+-- what a run on new files found is said
+pub bulk_says : (gate : AskedGate) (number count : ℕ) (files files_after : Files) (found : Result Said Refusal) → IsBulkFound gate (scenario number count) files files_after found
+    → Says (IsBulkDue gate number count files files_after) found
+bulk_says gate number count files files_after (Ok said) due = (ended said, refl, due, refl, refl)
+bulk_says gate number count files files_after (Err r) due = due
 
 -- what `init` found is said
 pub init_says : (before after : Input) (files files_after : Files) (found : Result Said Refusal) → IsInitFound before after files files_after found → Says (IsInitDue before after files files_after) found

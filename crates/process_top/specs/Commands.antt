@@ -3,7 +3,7 @@ use Rattle.std.specs.Prelude.{◌≡◌, ◌⊎◌, ℕ, Bool, true, false, List
 use Rattle.std.specs.Str.{bytes_eq}
 use Rattle.program_words.specs.Commands.{asked}
 use Rattle.program_words.specs.declared.reading.Command.{Command}
-use Rattle.program_words.specs.declared.reading.Command.TheVariants.{Check, Init, Run, Session, Serve, Restart, Show, Verify, Gen}
+use Rattle.program_words.specs.declared.reading.Command.TheVariants.{Check, Init, Run, Session, Serve, Restart, Show, Verify, Gen, Bulk}
 use Rattle.process_flow.specs.Causes.{Rose}
 use Rattle.program_lines.specs.Statuses.{number_of}
 use Rattle.program_lines.specs.declared.status.Status.{Status}
@@ -27,6 +27,7 @@ use Rattle.process_top.specs.Restart.{IsRestartDue, IsRestartComplete}
 use Rattle.process_top.specs.Show.{IsShowDue, IsShowComplete}
 use Rattle.process_top.specs.Verify.{IsVerifyDue, IsVerifyComplete}
 use Rattle.process_top.specs.Gen.{IsGenDue, IsGenComplete}
+use Rattle.process_top.specs.Bulk.{IsBulkDue, IsBulkComplete}
 
 -- what may be due to a command, which may ask the first gate; to words that ask for none, that they are bad, or that memory was wanting for them
 abbrev pub IsDueTo : Option Command → AskedGate → Input → Input → Files → Files → Reply → Type 0
@@ -40,6 +41,7 @@ IsDueTo (Some Restart) gate before after files files_after reply = IsRestartDue 
 IsDueTo (Some Show) gate before after files files_after reply = IsShowDue files files_after reply × AreUntouched files files_after
 IsDueTo (Some Verify) gate before after files files_after reply = IsVerifyDue before after reply × AreUntouched files files_after
 IsDueTo (Some (Gen number count)) gate before after files files_after reply = IsGenDue number count reply × AreUntouched files files_after
+IsDueTo (Some (Bulk number count)) gate before after files files_after reply = IsBulkDue gate number count files files_after reply
 
 -- what a command does where nothing fails
 abbrev pub DoesItsWork : Option Command → Input → Files → Status → Type 0
@@ -53,6 +55,7 @@ DoesItsWork (Some Restart) input files status = IsRestartComplete files status
 DoesItsWork (Some Show) input files status = IsShowComplete files.disk status
 DoesItsWork (Some Verify) input files status = IsVerifyComplete input status
 DoesItsWork (Some (Gen number count)) input files status = IsGenComplete status
+DoesItsWork (Some (Bulk number count)) input files status = IsBulkComplete number count files status
 
 -- the command reads the input
 abbrev pub reads_input : Option Command → Bool
@@ -66,6 +69,7 @@ reads_input (Some Restart) = false
 reads_input (Some Show) = false
 reads_input (Some Verify) = true
 reads_input (Some (Gen number count)) = false
+reads_input (Some (Bulk number count)) = false
 
 -- the command calls the rack
 abbrev pub uses_files : Option Command → Bool
@@ -79,6 +83,7 @@ uses_files (Some Restart) = true
 uses_files (Some Show) = true
 uses_files (Some Verify) = false
 uses_files (Some (Gen number count)) = false
+uses_files (Some (Bulk number count)) = true
 
 -- the command uses the boxes
 abbrev pub uses_boxes : Option Command → Bool
@@ -92,6 +97,7 @@ uses_boxes (Some Restart) = true
 uses_boxes (Some Show) = false
 uses_boxes (Some Verify) = false
 uses_boxes (Some (Gen number count)) = false
+uses_boxes (Some (Bulk number count)) = true
 
 -- no call failed of the source, the rack and the sink, as far as the command uses them
 pub record IsQuiet {S K R : Type 0} (asked : Option Command) (before after : World S K R) : Type 0 where
@@ -111,6 +117,7 @@ asks_gate (Some Restart) = true
 asks_gate (Some Show) = false
 asks_gate (Some Verify) = false
 asks_gate (Some (Gen number count)) = false
+asks_gate (Some (Bulk number count)) = true
 
 -- all gates but the first are as they were
 pub record AreOthersAsBefore (before after : GatesState) : Type 0 where

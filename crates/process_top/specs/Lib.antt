@@ -10,5 +10,6 @@ pub mod Restart
 pub mod Show
 pub mod Verify
 pub mod Gen
+pub mod Bulk
 pub mod Commands
 pub mod Said

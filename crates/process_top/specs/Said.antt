@@ -3,13 +3,15 @@ use Rattle.std.specs.Prelude.{◌≡◌, ℕ, List, false, Option, Some, Result,
 use Rattle.program_lines.specs.declared.status.Status.{Status}
 use Rattle.program_lines.specs.declared.refusal.Refusal.{Refusal}
 use Rattle.program_words.specs.declared.reading.Command.{Command}
-use Rattle.program_words.specs.declared.reading.Command.TheVariants.{Run, Session, Serve, Restart}
+use Rattle.program_words.specs.declared.reading.Command.TheVariants.{Run, Session, Serve, Restart, Bulk}
 use Rattle.command_input.specs.declared.said.Said.{Said}
 use Rattle.command_input.specs.Inputs.{Input}
 use Rattle.command_input.specs.FilesLeft.{Files}
 use Rattle.scenario_run.specs.Completeness.{IsRunComplete}
 use Rattle.session_run.specs.Completeness.{IsSessionComplete}
 use Rattle.restart_run.specs.Restart.{IsRestartComplete}
+use Rattle.scenario_gen.specs.Generated.{generated as scenario}
+use Rattle.bulk_run.specs.Completeness.{IsBulkComplete}
 use Rattle.serve_run.specs.declared.command.Ending.{Ending}
 use Rattle.serve_run.specs.declared.command.Ending.TheVariants as endings
 use Rattle.serve_run.specs.Serve.{IsServeComplete, OnEnding}
@@ -38,4 +40,5 @@ HasWorked (Some Run) before after files files_after out out_after ending = OnEnd
 HasWorked (Some Session) before after files files_after out out_after ending = OnEnding (λ at. ⊤) (IsSessionComplete before after files files_after) ending
 HasWorked (Some Serve) before after files files_after out out_after ending = IsServeComplete before after files files_after out out_after ending
 HasWorked (Some Restart) before after files files_after out out_after ending = OnEnding (λ at. ⊤) (IsRestartComplete files files_after) ending
+HasWorked (Some (Bulk number count)) before after files files_after out out_after ending = OnEnding (λ at. ⊤) (IsBulkComplete (scenario number count) files files_after) ending
 HasWorked o before after files files_after out out_after ending = ⊤

@@ -20,6 +20,7 @@ use crate::generating::scenario;
 use crate::show::show;
 use crate::told::tell_ending;
 use crate::verify::verify;
+use bulk_run::bulk;
 use command_input::CommandEnd;
 use process_disk::Rack;
 use process_engine::{Gate, Parts};
@@ -117,6 +118,9 @@ fn done<S: Source, K: Sink, R: Rack + Drop, B: Resource, G: Gate>(
             parts,
             ending: Ending::Due(scenario(alloc, number, count)),
         },
+        Command::Bulk { number, count } => {
+            unsaid(bulk(alloc, number, count, parts, &mut gates[0]))
+        }
     }
 }
 

@@ -6,7 +6,7 @@ use Rattle.process_tree.specs.declared.step.StepKind.TheVariants.{C, R}
 use Rattle.process_tree.specs.declared.entry.Entry.{Entry}
 use Rattle.process_tree.specs.declared.plan.Plan.{Plan}
 use Rattle.process_tree.specs.Entries.{Test, IsSymmetric, conflict, entry_of, undo_of, IsOfStep}
-use Rattle.process_tree.specs.Conflicts.{Table, do_conflict}
+use Rattle.process_tree.specs.Conflicts.{Access, Table, do_conflict, mode_of}
 use Rattle.process_tree.specs.Making.{tree_fault}
 use Rattle.process_tree.specs.Order.{IsLaidOut, PartsBelow, has}
 use Rattle.process_tree.specs.Shape.{Shape, shape_of, kind_of, commits, is_whole, next_steps, goes_on_to, branch_to, fixed_len}
@@ -101,9 +101,13 @@ CommitPointsGrow =
     (t : Shape) (w : List ℕ) (d : ℕ) →
     fixed_len t (w ++ d ∷ []) ≡ (if commits (kind_of t d) then length w + 1 else fixed_len t w)
 
--- the table holds each pair both ways
+-- a pair of operations has one mode
+abbrev pub ModesAreSymmetric : Type 0
+ModesAreSymmetric = (t : Table) (a b : ℕ) → mode_of t a b ≡ mode_of t b a
+
+-- two accesses conflict in either order or in none
 abbrev pub ConflictIsSymmetric : Type 0
-ConflictIsSymmetric = (t : Table) (a b : ℕ) → do_conflict t a b ≡ do_conflict t b a
+ConflictIsSymmetric = (t : Table) (a b : Access) → do_conflict t a b ≡ do_conflict t b a
 
 -- two entries conflict in either order or in none
 abbrev pub EntriesConflictBothWays : Type 0

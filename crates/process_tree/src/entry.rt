@@ -9,5 +9,7 @@ pub struct Entry {
     pub step: u16,
     /// The number of the step's operation.
     pub op: u16,
+    /// The key of the step in its plan.
+    pub key: u32,
     pub undo: bool,
 }

@@ -1,6 +1,7 @@
-// The kinds and the operations of steps.
+// The kinds, the keys and the operations of steps.
 ghost use Rattle.std.specs.Prelude.{◌≡◌, ◌<◌, length, slice_index_or};
 ghost use Rattle.process_tree.specs.Blocks.{outline};
+ghost use Rattle.process_tree.specs.Entries.{key_of};
 ghost use Rattle.process_tree.specs.Order.{Each};
 ghost use Rattle.process_tree.specs.Shape.{shape_of, fixed_len, kind_of};
 
@@ -12,6 +13,14 @@ pub fn kind_of(tree: &Tree, n: u16) -> StepKind
     ensures { result ≡ kind_of (shape_of tree.now) n }
 {
     tree.step(n).kind
+}
+
+/// The key of a step.
+pub fn key_of(tree: &Tree, n: u16) -> u32
+    requires { n < length (outline tree.now).steps }
+    ensures { result ≡ key_of tree.now n }
+{
+    tree.step(n).key
 }
 
 /// How many of these steps stand up to the last commit point.

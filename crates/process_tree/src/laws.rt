@@ -1,6 +1,6 @@
 // The laws of trees: each function says one, and does nothing.
 ghost use Rattle.process_tree.specs.Alternatives.{AlternativesAreWays, AlternativesFallInTurn, LaterWaysAreLaterAlternatives};
-ghost use Rattle.process_tree.specs.Laws.{PathsLieInOrder, PathsPart, EachStepHasAPath, OneBranchToAStep, StepsGoUp, WholePathsEnd, EndsAreWhole, WaysAreIntervals, AlternativesAreIntervals, ConflictIsSymmetric, EntriesConflictBothWays, ConflictIsBetweenProcesses, UndoConflictsAsItsStep, EntryConflictsAsItsStep, NextStepsHaveAClass, OwedStepsAreRetriable, CommitPointsStay, CommitPointsGrow};
+ghost use Rattle.process_tree.specs.Laws.{PathsLieInOrder, PathsPart, EachStepHasAPath, OneBranchToAStep, StepsGoUp, WholePathsEnd, EndsAreWhole, WaysAreIntervals, AlternativesAreIntervals, ModesAreSymmetric, ConflictIsSymmetric, EntriesConflictBothWays, ConflictIsBetweenProcesses, UndoConflictsAsItsStep, EntryConflictsAsItsStep, NextStepsHaveAClass, OwedStepsAreRetriable, CommitPointsStay, CommitPointsGrow};
 
 /// The whole paths of a tree go upward, and lie in order.
 pub fn paths_lie_in_order()
@@ -52,9 +52,10 @@ pub fn alternatives_are_ways()
     ensures later { LaterWaysAreLaterAlternatives }
 {}
 
-/// Two operations conflict in either order or in none, and so do two entries.
+/// A pair of operations has one mode, and two accesses or entries conflict in either order or in none.
 pub fn conflict_is_symmetric()
-    ensures operations { ConflictIsSymmetric }
+    ensures modes { ModesAreSymmetric }
+    ensures accesses { ConflictIsSymmetric }
     ensures entries { EntriesConflictBothWays }
 {}
 

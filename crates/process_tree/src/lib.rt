@@ -26,9 +26,9 @@ mod walk;
 mod ways;
 
 pub use block::{Block, Tail};
-pub use conflicts::Conflicts;
+pub use conflicts::{Conflicts, Mode};
 pub use entry::Entry;
-pub use kinds::{fixed_len, kind_of, op_of};
+pub use kinds::{fixed_len, key_of, kind_of, op_of};
 pub use laws::{
     alternatives_are_intervals, alternatives_are_ways, commit_points_grow, commit_points_stay,
     conflict_is_between_processes, conflict_is_of_steps, conflict_is_symmetric,

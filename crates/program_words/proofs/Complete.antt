@@ -89,6 +89,8 @@ form_asked command.Show words is = ap asked is ∙ plain_written (codes "show") 
 form_asked command.Verify words is = ap asked is ∙ plain_written (codes "verify") command.Verify
 form_asked (command.Gen number count) words (rest, is, form) =
     ap asked is ∙ ap (option_map (λ ((n, k) : ℕ × ℕ). command.Gen n k)) (numbers_form_asked (codes "gen") number count rest form)
+form_asked (command.Bulk number count) words (rest, is, form) =
+    ap asked is ∙ ap (option_map (λ ((n, k) : ℕ × ℕ). command.Bulk n k)) (numbers_form_asked (codes "bulk") number count rest form)
 
 -- an answer to words that ask for something is that, or memory is wanting
 pub answered : {X : Type 0} (x : X) (o : Option X) (r : Result X WordsError) → Answers o r → o ≡ Some x

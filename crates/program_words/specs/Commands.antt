@@ -24,6 +24,7 @@ asked_after name.Restart rest = plain_asked (codes "restart") command.Restart re
 asked_after name.Show rest = plain_asked (codes "show") command.Show rest
 asked_after name.Verify rest = plain_asked (codes "verify") command.Verify rest
 asked_after name.Gen rest = option_map (λ (number, count). command.Gen number count) (numbers_asked (codes "gen") rest)
+asked_after name.Bulk rest = option_map (λ (number, count). command.Bulk number count) (numbers_asked (codes "bulk") rest)
 
 -- what words ask for, or nothing where the first names no command, or `clap` refuses the others
 abbrev pub asked : List Text → Option Command

@@ -16,4 +16,5 @@ named word = if bytes_eq word (codes "check") then Some name.Check
     else (if bytes_eq word (codes "show") then Some name.Show
     else (if bytes_eq word (codes "verify") then Some name.Verify
     else (if bytes_eq word (codes "gen") then Some name.Gen
-    else None))))))))
+    else (if bytes_eq word (codes "bulk") then Some name.Bulk
+    else None)))))))))

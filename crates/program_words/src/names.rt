@@ -14,6 +14,7 @@ pub(crate) enum Name {
     Show,
     Verify,
     Gen,
+    Bulk,
 }
 
 /// The command that the word names, if it names one.
@@ -30,6 +31,7 @@ pub(crate) fn name_of(word: &str) -> Option<Name>
         "show" => Some(Name::Show),
         "verify" => Some(Name::Verify),
         "gen" => Some(Name::Gen),
+        "bulk" => Some(Name::Bulk),
         _ => None,
     }
 }

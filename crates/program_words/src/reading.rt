@@ -22,6 +22,7 @@ pub enum Command {
     Show,
     Verify,
     Gen { number: u64, count: u32 },
+    Bulk { number: u64, count: u32 },
 }
 
 /// Reads the words after the program's name.
@@ -83,6 +84,10 @@ fn read_after(alloc: Global, name: Name, rest: &[String]) -> Result<Command, Wor
         Name::Gen => {
             let (number, count) = read_number_and_count(alloc, "gen", rest)?;
             Ok(Command::Gen { number, count })
+        }
+        Name::Bulk => {
+            let (number, count) = read_number_and_count(alloc, "bulk", rest)?;
+            Ok(Command::Bulk { number, count })
         }
     }
 }

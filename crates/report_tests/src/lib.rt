@@ -1,9 +1,11 @@
-//! Tests of reports: printed traces, what is printed of a history and of blocks, the verdicts on reports; the lines of sessions and of
-//! their answers.
+//! Tests of reports: printed traces, what is printed of a history and of blocks; the lines of sessions and of their answers. Verdicts on
+//! reports are rows (`tests/rows/verify`).
 //!
 //! They stand apart from the crates that they test, since a crate with tests is proved twice.
 #![tactic(auto)]
 
+#[cfg(test)]
+mod goods;
 #[cfg(test)]
 mod printing;
 #[cfg(test)]
@@ -12,5 +14,3 @@ mod sessions;
 mod shop;
 #[cfg(test)]
 mod traces;
-#[cfg(test)]
-mod verdicts;

@@ -1,7 +1,8 @@
-// A history of the shop: a purchase and a sale.
+// Entries and plans, and a history of the shop: a purchase and a sale.
 ghost use Rattle.std.specs.Prelude.{◌≡◌, [], ◌∷◌, false, true, IfOk};
-ghost use Rattle.schedule_model.specs.Examples.{both_undone};
 ghost use Rattle.schedule_model.specs.PlannedExample.{plain_step, purchase_plan, sale_plan, two_steps};
+ghost use Rattle.process_report.specs.Examples.{both_undone};
+ghost use Rattle.process_report.specs.KeyedExamples.{on_key};
 
 use process_tree::{Block, Entry, Name, Operations, Plan, Step, StepKind, Steps, Tail, Tree};
 use schedule_model::{Event, Events, History, Plans};
@@ -13,40 +14,58 @@ pub const ADD: u16 = 0;
 
 pub const TAKE: u16 = 1;
 
-const PAY: u16 = 2;
+pub const PAY: u16 = 2;
 
-/// A step that took effect.
-pub fn done(process: u32, step: u16, op: u16) -> Entry
-    ensures { result ≡ record { process = process; step = step; op = op; undo = false } }
+pub const SHIP: u16 = 3;
+
+/// A step that took effect, on this key.
+pub fn done_on(key: u32, process: u32, step: u16, op: u16) -> Entry
+    ensures { result ≡ record { process = process; step = step; op = op; key = key; undo = false } }
 {
     Entry {
         process,
         step,
         op,
+        key,
         undo: false,
     }
 }
 
-/// An undo that took effect.
+/// A step that took effect, on key 1, as the steps of the shop have.
+pub fn done(process: u32, step: u16, op: u16) -> Entry
+    ensures { result ≡ record { process = process; step = step; op = op; key = 1; undo = false } }
+{
+    done_on(1, process, step, op)
+}
+
+/// Its undo.
 pub fn undone(process: u32, step: u16, op: u16) -> Entry
-    ensures { result ≡ record { process = process; step = step; op = op; undo = true } }
+    ensures { result ≡ record { process = process; step = step; op = op; key = 1; undo = true } }
 {
     Entry {
         process,
         step,
         op,
+        key: 1,
         undo: true,
     }
 }
 
-fn step(alloc: Global, kind: StepKind, name: &[u8], op: &[u8]) -> Result<Step, Fail>
-    ensures { IfOk result (λ s. s ≡ plain_step kind name.now op.now) }
+/// A step of a plan, on this key.
+pub fn step_on(
+    alloc: Global,
+    key: u32,
+    kind: StepKind,
+    name: &[u8],
+    op: &[u8],
+) -> Result<Step, Fail>
+    ensures { IfOk result (λ s. s ≡ on_key key (plain_step kind name.now op.now)) }
 {
     Ok(Step {
         kind,
         name: Name::new(alloc, name)?,
         op: Name::new(alloc, op)?,
-        key: 1,
+        key,
         amount: 5,
         tries: 3,
         undo_tries: 3,
@@ -55,9 +74,22 @@ fn step(alloc: Global, kind: StepKind, name: &[u8], op: &[u8]) -> Result<Step, F
     })
 }
 
-// A process of two steps with these operations.
-fn plan(alloc: Global, name: &[u8], first: Step, second: Step, op: u16) -> Result<Plan, Fail>
-    ensures { IfOk result (λ p. p ≡ record { name = name.now; tree = two_steps first second; ops = op ∷ 2 ∷ [] }) }
+fn step(alloc: Global, kind: StepKind, name: &[u8], op: &[u8]) -> Result<Step, Fail>
+    ensures { IfOk result (λ s. s ≡ plain_step kind name.now op.now) }
+{
+    step_on(alloc, 1, kind, name, op)
+}
+
+/// A process of two steps with these operations.
+pub fn plan(
+    alloc: Global,
+    name: &[u8],
+    first: Step,
+    second: Step,
+    op: u16,
+    then: u16,
+) -> Result<Plan, Fail>
+    ensures { IfOk result (λ p. p ≡ record { name = name.now; tree = two_steps first second; ops = op ∷ then ∷ [] }) }
 {
     let root = Block {
         steps: Steps::new(vec![in alloc; first, second]?),
@@ -66,7 +98,7 @@ fn plan(alloc: Global, name: &[u8], first: Step, second: Step, op: u16) -> Resul
     Ok(Plan {
         name: Name::new(alloc, name)?,
         tree: Tree::build(alloc, root)?,
-        ops: Operations::new(vec![in alloc; op, PAY]?),
+        ops: Operations::new(vec![in alloc; op, then]?),
     })
 }
 
@@ -75,7 +107,7 @@ fn purchase(alloc: Global) -> Result<Plan, Fail>
 {
     let fetch = step(alloc, StepKind::C, b"fetch", b"add")?;
     let settle = step(alloc, StepKind::P, b"settle", b"pay")?;
-    plan(alloc, b"purchase", fetch, settle, ADD)
+    plan(alloc, b"purchase", fetch, settle, ADD, PAY)
 }
 
 fn sale(alloc: Global) -> Result<Plan, Fail>
@@ -83,12 +115,12 @@ fn sale(alloc: Global) -> Result<Plan, Fail>
 {
     let deliver = step(alloc, StepKind::C, b"deliver", b"take")?;
     let settle = step(alloc, StepKind::P, b"settle", b"pay")?;
-    plan(alloc, b"sale", deliver, settle, TAKE)
+    plan(alloc, b"sale", deliver, settle, TAKE, PAY)
 }
 
 /// A purchase and a sale that builds on it, of which both are undone.
 pub fn both_undone(alloc: Global) -> Result<History, Fail>
-    ensures { IfOk result (λ h. h ≡ record { plans = purchase_plan ∷ sale_plan ∷ []; events = both_undone }) }
+    ensures { IfOk result (λ h. h ≡ record { plans = purchase_plan ∷ sale_plan ∷ []; events = both_undone.events }) }
 {
     let plans = vec![in alloc; purchase(alloc)?, sale(alloc)?]?;
     let events = vec![in alloc;

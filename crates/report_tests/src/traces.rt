@@ -1,9 +1,9 @@
 // The printed traces of worked histories.
 ghost use Rattle.std.specs.Prelude.{◌≡◌, IfOk};
-ghost use Rattle.process_tree.specs.Conflicts.{no_conflicts, with_conflict};
+ghost use Rattle.process_tree.specs.Conflicts.{no_conflicts, with_mode};
 
 use crate::shop::{ADD, TAKE, both_undone, done, undone};
-use process_tree::Conflicts;
+use process_tree::{Conflicts, Mode};
 use reduction_trace::TraceStep::{Cancel, Move};
 use reduction_trace::{trace, trace_of};
 use std::alloc::Global;
@@ -11,11 +11,11 @@ use std::process::Abort;
 use std::test::Fail;
 
 fn stock_table(alloc: Global) -> Result<Conflicts, Fail>
-    ensures { IfOk result (λ c. c ≡ with_conflict (with_conflict (no_conflicts 5) 0 1) 1 1) }
+    ensures { IfOk result (λ c. c ≡ with_mode (with_mode (no_conflicts 5) 0 1 Mode.Always) 1 1 Mode.Always) }
 {
     let mut c = Conflicts::new(alloc, 5)?;
-    c.set(ADD, TAKE);
-    c.set(TAKE, TAKE);
+    c.set(ADD, TAKE, Mode::Always);
+    c.set(TAKE, TAKE, Mode::Always);
     Ok(c)
 }
 

@@ -1,15 +1,15 @@
 // What no clause of `admission` says: two processes of two steps each, over the operations add, take, pay and note, of which adding
-// conflicts with taking, and a note with a note.
+// conflicts with taking, and a note with a note; whatever their keys are, but for the last test.
 ghost use Rattle.std.specs.Prelude.{◌≡◌, ◌<◌, ◌∷◌, [], length, IfOk};
 ghost use Rattle.process_tree.specs.Blocks.{outline};
-ghost use Rattle.process_tree.specs.Conflicts.{no_conflicts, with_conflict};
+ghost use Rattle.process_tree.specs.Conflicts.{no_conflicts, with_mode};
 ghost use Rattle.process_tree.specs.Order.{Each};
 ghost use Rattle.hold_tables.specs.Changes.{none_open, opened};
 
 use crate::plans::{entry, plan};
 use admission::{Admitted, Blocked, Rule, Todo, admit, victim};
 use hold_tables::Holds;
-use process_tree::{Conflicts, Plan, StepKind};
+use process_tree::{Conflicts, Mode, Plan, StepKind};
 use std::alloc::Global;
 use std::test::Fail;
 
@@ -21,38 +21,57 @@ const PAY: u16 = 2;
 
 const NOTE: u16 = 3;
 
-/// A plan of two steps of these kinds, with these operations.
-fn two_steps(alloc: Global, kinds: [StepKind; 2], ops: [u16; 2]) -> Result<Plan, Fail>
+/// A plan of two steps of these kinds, with these operations on this key.
+fn two_steps_on(alloc: Global, key: u32, kinds: [StepKind; 2], ops: [u16; 2]) -> Result<Plan, Fail>
     ensures ops { IfOk result (λ plan. plan.ops ≡ ops) }
     ensures steps { IfOk result (λ plan. length (outline plan.tree).steps ≡ 2) }
 {
     let [first, second] = ops;
     let ops = vec![in alloc; first, second]?;
-    plan(alloc, &kinds, ops)
+    plan(alloc, &kinds, ops, key)
 }
 
-fn conflicts(alloc: Global) -> Result<Conflicts, Fail>
-    ensures { IfOk result (λ table. table ≡ with_conflict (with_conflict (no_conflicts 4) 0 1) 3 3) }
+/// The same on key 0.
+fn two_steps(alloc: Global, kinds: [StepKind; 2], ops: [u16; 2]) -> Result<Plan, Fail>
+    ensures ops { IfOk result (λ plan. plan.ops ≡ ops) }
+    ensures steps { IfOk result (λ plan. length (outline plan.tree).steps ≡ 2) }
+{
+    two_steps_on(alloc, 0, kinds, ops)
+}
+
+fn conflicts(alloc: Global, mode: Mode) -> Result<Conflicts, Fail>
+    ensures { IfOk result (λ table. table ≡ with_mode (with_mode (no_conflicts 4) 0 1 mode) 3 3 mode) }
 {
     let mut conflicts = Conflicts::new(alloc, 4)?;
-    conflicts.set(ADD, TAKE);
-    conflicts.set(NOTE, NOTE);
+    conflicts.set(ADD, TAKE, mode);
+    conflicts.set(NOTE, NOTE, mode);
     Ok(conflicts)
 }
 
-/// Processes 1 and 2 are open.
+/// Processes 1 and 2 are open, over conflicts in this mode.
+fn open_in(alloc: Global, mode: Mode, a: &Plan, b: &Plan) -> Result<Holds, Fail>
+    requires steps_a { length (outline a.now.tree).steps ≡ 2 }
+    requires steps_b { length (outline b.now.tree).steps ≡ 2 }
+    requires ops_a { Each (λ op. op < 4) a.now.ops }
+    requires ops_b { Each (λ op. op < 4) b.now.ops }
+    ensures { IfOk result (λ holds. holds ≡ opened 2 2 (opened 1 2 (none_open (with_mode (with_mode (no_conflicts 4) 0 1 mode) 3 3 mode)))) }
+{
+    let conflicts = conflicts(alloc, mode)?;
+    let mut holds = Holds::new(alloc, &conflicts)?;
+    holds.open(1, a)?;
+    holds.open(2, b)?;
+    Ok(holds)
+}
+
+/// They are open over conflicts whatever the keys are.
 fn both_open(alloc: Global, a: &Plan, b: &Plan) -> Result<Holds, Fail>
     requires steps_a { length (outline a.now.tree).steps ≡ 2 }
     requires steps_b { length (outline b.now.tree).steps ≡ 2 }
     requires ops_a { Each (λ op. op < 4) a.now.ops }
     requires ops_b { Each (λ op. op < 4) b.now.ops }
-    ensures { IfOk result (λ holds. holds ≡ opened 2 2 (opened 1 2 (none_open (with_conflict (with_conflict (no_conflicts 4) 0 1) 3 3)))) }
+    ensures { IfOk result (λ holds. holds ≡ opened 2 2 (opened 1 2 (none_open (with_mode (with_mode (no_conflicts 4) 0 1 Mode.Always) 3 3 Mode.Always)))) }
 {
-    let conflicts = conflicts(alloc)?;
-    let mut holds = Holds::new(alloc, &conflicts)?;
-    holds.open(1, a)?;
-    holds.open(2, b)?;
-    Ok(holds)
+    open_in(alloc, Mode::Always, a, b)
 }
 
 fn blocked(on: u32, other: u16, own: u16, rule: Rule) -> Admitted {
@@ -69,9 +88,9 @@ fn sale_behind_a_purchase(alloc: Global) -> Result<[Admitted; 4], Fail> {
     let purchase = two_steps(alloc, [StepKind::C, StepKind::P], [ADD, PAY])?;
     let sale = two_steps(alloc, [StepKind::C, StepKind::P], [TAKE, PAY])?;
     let mut holds = both_open(alloc, &purchase, &sale)?;
-    holds.run(entry(1, 0, ADD));
+    holds.run(entry(1, 0, ADD, 0));
     holds.take_effect(1);
-    holds.run(entry(2, 0, TAKE));
+    holds.run(entry(2, 0, TAKE, 0));
     holds.take_effect(2);
     Ok([
         admit(&holds, &purchase, 1, Todo::Forward(1)),
@@ -86,8 +105,8 @@ fn added_before_a_taking_is_owed(alloc: Global) -> Result<[Admitted; 2], Fail> {
     let prepaid = two_steps(alloc, [StepKind::P, StepKind::R], [PAY, TAKE])?;
     let addition = two_steps(alloc, [StepKind::C, StepKind::C], [ADD, PAY])?;
     let mut holds = both_open(alloc, &prepaid, &addition)?;
-    holds.run(entry(1, 0, PAY));
-    holds.reserve(1, &[(1, TAKE)]);
+    holds.run(entry(1, 0, PAY, 0));
+    holds.reserve(1, &[(1, TAKE, 0)]);
     let while_paid = admit(&holds, &addition, 2, Todo::Forward(0));
     holds.stop(1);
     holds.reserve(1, &[]);
@@ -99,9 +118,9 @@ fn each_waits_for_the_other(alloc: Global) -> Result<[Admitted; 2], Fail> {
     let purchase = two_steps(alloc, [StepKind::C, StepKind::P], [ADD, NOTE])?;
     let sale = two_steps(alloc, [StepKind::C, StepKind::P], [NOTE, TAKE])?;
     let mut holds = both_open(alloc, &purchase, &sale)?;
-    holds.run(entry(1, 0, ADD));
+    holds.run(entry(1, 0, ADD, 0));
     holds.take_effect(1);
-    holds.run(entry(2, 0, NOTE));
+    holds.run(entry(2, 0, NOTE, 0));
     holds.take_effect(2);
     Ok([
         admit(&holds, &purchase, 1, Todo::Forward(1)),
@@ -114,12 +133,12 @@ fn a_circle(alloc: Global) -> Result<[Admitted; 2], Fail> {
     let purchase = two_steps(alloc, [StepKind::C, StepKind::C], [ADD, NOTE])?;
     let sale = two_steps(alloc, [StepKind::C, StepKind::C], [NOTE, TAKE])?;
     let mut holds = both_open(alloc, &purchase, &sale)?;
-    holds.run(entry(1, 0, ADD));
+    holds.run(entry(1, 0, ADD, 0));
     holds.take_effect(1);
-    holds.run(entry(2, 0, NOTE));
+    holds.run(entry(2, 0, NOTE, 0));
     holds.take_effect(2);
     let before = admit(&holds, &purchase, 1, Todo::Forward(1));
-    holds.run(entry(2, 1, TAKE));
+    holds.run(entry(2, 1, TAKE, 0));
     Ok([before, admit(&holds, &purchase, 1, Todo::Forward(1))])
 }
 
@@ -128,7 +147,7 @@ fn taken_or_owed_behind_an_addition(alloc: Global) -> Result<[Admitted; 2], Fail
     let prepaid = two_steps(alloc, [StepKind::P, StepKind::R], [PAY, TAKE])?;
     let addition = two_steps(alloc, [StepKind::C, StepKind::C], [ADD, PAY])?;
     let mut holds = both_open(alloc, &prepaid, &addition)?;
-    holds.run(entry(2, 0, ADD));
+    holds.run(entry(2, 0, ADD, 0));
     let under_way = admit(&holds, &prepaid, 1, Todo::Forward(1));
     holds.take_effect(2);
     Ok([under_way, admit(&holds, &prepaid, 1, Todo::Forward(0))])
@@ -163,6 +182,42 @@ fn a_piece_waits_for_the_least_of_what_stands_against_it(rt: HostRuntime) -> Res
         ([(4, false), (7, false), (9, false)], None),
     ] {
         assert_eq!(rt; victim(&blocked), expected);
+    }
+    Ok(())
+}
+
+/// A taking on key 1 is reserved, and something would be added on this key; and in other tables something was added on key 1, and
+/// would be taken for good on this key.
+fn beside_key_1(alloc: Global, mode: Mode, key: u32) -> Result<[Admitted; 2], Fail> {
+    let prepaid = two_steps_on(alloc, 1, [StepKind::P, StepKind::R], [PAY, TAKE])?;
+    let addition = two_steps_on(alloc, key, [StepKind::C, StepKind::C], [ADD, PAY])?;
+    let mut reserved = open_in(alloc, mode, &prepaid, &addition)?;
+    reserved.reserve(1, &[(1, TAKE, 1)]);
+    let purchase = two_steps_on(alloc, 1, [StepKind::C, StepKind::P], [ADD, PAY])?;
+    let sale = two_steps_on(alloc, key, [StepKind::P, StepKind::R], [TAKE, PAY])?;
+    let mut added = open_in(alloc, mode, &purchase, &sale)?;
+    added.run(entry(1, 0, ADD, 1));
+    added.take_effect(1);
+    Ok([
+        admit(&reserved, &addition, 2, Todo::Forward(0)),
+        admit(&added, &sale, 2, Todo::Forward(0)),
+    ])
+}
+
+#[test]
+fn a_step_waits_for_those_on_its_key_where_it_conflicts_by_key(
+    rt: HostRuntime,
+) -> Result<(), Fail> {
+    let free = [Admitted::Free, Admitted::Free];
+    let waits = [blocked(1, 1, 0, Rule::A1), blocked(1, 0, 0, Rule::A3)];
+    for (mode, key, expected) in [
+        (Mode::Never, 1, free),
+        (Mode::Key, 1, waits),
+        (Mode::Key, 2, free),
+        (Mode::Always, 1, waits),
+        (Mode::Always, 2, waits),
+    ] {
+        assert_eq!(rt; beside_key_1(rt.alloc(), mode, key)?, expected);
     }
     Ok(())
 }

@@ -1,20 +1,21 @@
 // What no clause of `cascade` says: three processes of one step each, whose steps conflict; the first two did theirs, and the third has
 // it under way.
 ghost use Rattle.std.specs.Prelude.{◌≡◌, IfOk};
-ghost use Rattle.process_tree.specs.Conflicts.{no_conflicts, with_conflict};
+ghost use Rattle.process_tree.specs.Conflicts.{no_conflicts, with_mode};
 ghost use Rattle.hold_tables.specs.Changes.{none_open, opened};
 
 use crate::plans::{entry, one_conflict, one_step};
 use cascade::{Members, closure, undo_ready};
 use hold_tables::{Admitted, Blocked, Holds, Rule};
+use process_tree::Mode;
 use std::alloc::Global;
 use std::test::Fail;
 
 /// The three are open.
 fn all_open(alloc: Global) -> Result<Holds, Fail>
-    ensures { IfOk result (λ holds. holds ≡ opened 3 1 (opened 2 1 (opened 1 1 (none_open (with_conflict (no_conflicts 1) 0 0))))) }
+    ensures { IfOk result (λ holds. holds ≡ opened 3 1 (opened 2 1 (opened 1 1 (none_open (with_mode (no_conflicts 1) 0 0 Mode.Always))))) }
 {
-    let conflicts = one_conflict(alloc)?;
+    let conflicts = one_conflict(alloc, Mode::Always)?;
     let plan = one_step(alloc)?;
     let mut holds = Holds::new(alloc, &conflicts)?;
     holds.open(1, &plan)?;
@@ -26,11 +27,11 @@ fn all_open(alloc: Global) -> Result<Holds, Fail>
 #[test]
 fn whoever_has_built_on_it_goes_back(rt: HostRuntime) -> Result<(), Fail> {
     let mut holds = all_open(rt.alloc())?;
-    holds.run(entry(1, 0, 0));
+    holds.run(entry(1, 0, 0, 0));
     holds.take_effect(1);
-    holds.run(entry(2, 0, 0));
+    holds.run(entry(2, 0, 0, 0));
     holds.take_effect(2);
-    holds.run(entry(3, 0, 0));
+    holds.run(entry(3, 0, 0, 0));
     holds.pend(1, 1);
     holds.pend(2, 1);
     let mut members = Members::new(rt.alloc(), 3)?;

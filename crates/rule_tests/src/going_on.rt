@@ -8,7 +8,7 @@ use std::test::Fail;
 
 /// Steps of these kinds, named by letters from this one on, and a tail.
 fn block(alloc: Global, kinds: &[StepKind], first: u8, tail: Tail) -> Result<Block, Fail> {
-    let steps = steps(alloc, kinds, first)?;
+    let steps = steps(alloc, kinds, first, 0)?;
     Ok(Block { steps, tail })
 }
 

@@ -31,8 +31,8 @@ use Rattle.scenario_run.proofs.NothingWrong.{catalog_of, ill_formed, no_lack, on
 -- plans that are equal in turn have the same courses
 same_course : (p q : Plan) → AreEqualPlans p q → course_of p ≡ course_of q
 same_course p q is =
-    ap (λ (o : Outline). record { shape = record { kinds = map (λ s. s.kind) o.steps; paths = o.paths }; ops = p.ops; allowances = map allowance_of o.steps }) is.says
-    ∙ ap (λ ops. record { shape = (course_of q).shape; ops = ops; allowances = (course_of q).allowances }) is.ops
+    ap (λ (o : Outline). record { shape = record { kinds = map (λ s. s.kind) o.steps; paths = o.paths }; ops = p.ops; keys = map (λ s. s.key) o.steps; allowances = map allowance_of o.steps }) is.says
+    ∙ ap (λ ops. record { shape = (course_of q).shape; ops = ops; keys = (course_of q).keys; allowances = (course_of q).allowances }) is.ops
 
 same_courses : (ps qs : List Plan) → AreEqualInTurn ps qs → courses_of ps ≡ courses_of qs
 same_courses [] [] are = refl

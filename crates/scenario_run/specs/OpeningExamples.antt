@@ -1,6 +1,7 @@
 -- Worked refusals of openings, each of which holds by computing.
 use Rattle.std.specs.Prelude.{◌≡◌, refl, [], ◌∷◌, Some, None, true, false, codes}
 use Rattle.std.specs.Fmt.{digits}
+use Rattle.process_tree.specs.declared.conflicts.Mode.TheVariants.{Never, Always}
 use Rattle.commute_table.specs.declared.catalog.Catalog.{Catalog}
 use Rattle.commute_table.specs.declared.op.Verb.TheVariants.{Add, Take}
 use Rattle.commute_table.specs.Bytes.{bytes_of}
@@ -11,13 +12,14 @@ use Rattle.scenario_run.specs.Opening.{first_difference, open_refusal}
 
 -- one operation that conflicts with nothing
 abbrev pub add_only : Catalog
-add_only = record { ops = record { name = codes "add"; subsystem = 0; verb = Add } ∷ []; conflicts = (false ∷ []) ∷ [] }
+add_only = record { version = 1; ops = record { name = codes "add"; subsystem = 0; verb = Add } ∷ []; conflicts = (Never ∷ []) ∷ [] }
 
 -- two operations, both of which conflict with themselves and each other
 abbrev pub add_and_take : Catalog
 add_and_take = record {
+  version = 1;
   ops = record { name = codes "add"; subsystem = 0; verb = Add } ∷ record { name = codes "take"; subsystem = 0; verb = Take } ∷ [];
-  conflicts = (true ∷ true ∷ []) ∷ (true ∷ []) ∷ [];
+  conflicts = (Always ∷ Always ∷ []) ∷ (Always ∷ []) ∷ [];
 }
 
 -- the numbers of their operations differ, at byte 1

@@ -2,10 +2,13 @@
 use Rattle.std.proofs.Common.{◌≡◌, ℕ, eqb, ◌&&◌, if◌then◌else◌, List}
 use Rattle.std.specs.Bool.{IsTrue}
 use Rattle.std.proofs.lemmas.Bool.{and_parts, eqb-true}
+use Rattle.process_tree.proofs.Entries.{same_access-true}
+use Rattle.process_tree.specs.Entries.{access_of}
+use Rattle.process_tree.specs.Conflicts.{same_access}
 use Rattle.process_tree.specs.declared.entry.Entry.{Entry}
 use Rattle.schedule_model.specs.declared.event.Event.{Event}
 use Rattle.schedule_model.specs.declared.event.Event.TheVariants.{Act, End}
-use Rattle.schedule_model.specs.Course.{Course, op_of}
+use Rattle.schedule_model.specs.Course.{Course, op_of, access_at}
 use Rattle.schedule_model.specs.Conflict.{ConflictRelation}
 use Rattle.schedule_model.specs.Histories.{is_active}
 use Rattle.schedule_model.specs.Recovery.{backward_entries}
@@ -14,11 +17,11 @@ use Rattle.schedule_model.specs.Legal.{is_clear, may_come}
 
 module _ (courses : List Course) (h : List Event) where
   -- an entry in own order is of an active process, and has the plan's operation
-  pub act_in_order : (e : Entry) → IsTrue (keeps_order courses h (Act e)) → IsTrue (is_active h e.process) × (e.op ≡ op_of courses e.process e.step)
+  pub act_in_order : (e : Entry) → IsTrue (keeps_order courses h (Act e)) → IsTrue (is_active h e.process) × (access_of e ≡ access_at courses e.process e.step)
   act_in_order e keeps =
-      let first = and_parts (is_active h e.process && eqb e.op (op_of courses e.process e.step)) (if e.undo then is_of_last (backward_entries courses h e.process) e else goes_on courses h e.process e.step) keeps in
-      let parts = and_parts (is_active h e.process) (eqb e.op (op_of courses e.process e.step)) first.0 in
-      (parts.0, eqb-true e.op (op_of courses e.process e.step) parts.1)
+      let first = and_parts (is_active h e.process && same_access (access_of e) (access_at courses e.process e.step)) (if e.undo then is_of_last (backward_entries courses h e.process) e else goes_on courses h e.process e.step) keeps in
+      let parts = and_parts (is_active h e.process) (same_access (access_of e) (access_at courses e.process e.step)) first.0 in
+      (parts.0, same_access-true (access_of e) (access_at courses e.process e.step) parts.1)
 
   -- an end in own order is of an active process at an end
   pub end_in_order : (i : ℕ) → IsTrue (keeps_order courses h (End i)) → IsTrue (is_active h i) × IsTrue (is_at_end courses h i)

@@ -6,12 +6,13 @@ use Rattle.std.specs.Prelude.{unwrap_or}
 use Rattle.std.specs.List.{list_any}
 use Rattle.std.proofs.lemmas.Bool.{and_parts, and_from, eqb-true, eq-eqb, false≢true, or_parts}
 use Rattle.std.proofs.lemmas.List.Elements.{All-contains, filter-append}
+use Rattle.process_tree.specs.Entries.{access_of}
 use Rattle.process_tree.specs.declared.entry.Entry.{Entry}
 use Rattle.schedule_model.specs.declared.event.Event.{Event}
 use Rattle.schedule_model.specs.declared.event.Event.TheVariants.{Start, Act, End}
 use Rattle.schedule_model.specs.declared.trace_step.TraceStep.TheVariants.{Cancel}
 use Rattle.schedule_model.specs.declared.trace_step.TraceStep.{TraceStep}
-use Rattle.schedule_model.specs.Course.{Course, op_of}
+use Rattle.schedule_model.specs.Course.{Course, op_of, access_at}
 use Rattle.schedule_model.specs.Conflict.{ConflictRelation, conflict, no_conflict}
 use Rattle.schedule_model.specs.EachEvent.{each_passes}
 use Rattle.schedule_model.specs.Histories.{acts, net, net_of, of_process, same_step, takes_back}
@@ -27,7 +28,7 @@ use Rattle.schedule_model.proofs.Apart.{Apart, net-apart}
 use Rattle.schedule_model.proofs.Behind.{SplitAt, split_at, behind-at, has_step, same_step-symmetric, same_step-itself}
 use Rattle.schedule_model.proofs.Orders.{same_step-through, behind-same_step}
 use Rattle.schedule_model.proofs.Started.{among_net_of}
-use Rattle.schedule_model.proofs.Entries.{HasPlansOperation, acts-of_plans, All-net_acts, net_acts-forward}
+use Rattle.schedule_model.proofs.Entries.{HasPlansAccess, acts-of_plans, All-net_acts, net_acts-forward}
 use Rattle.schedule_model.proofs.Acting.{act_in_order}
 use Rattle.schedule_model.proofs.Clear.{undo-clear}
 use Rattle.schedule_model.proofs.NoConflict.{legal-from_reducible, reducible_keeps, may_come-no_conflict}
@@ -195,20 +196,20 @@ module _ (table : ConflictRelation) where
               absurd (false≢true (sym split.none_after ∙ has))
 
       -- nothing behind it conflicts with it
-      same_op : does.last.op ≡ u.op
-      same_op =
+      does_same : access_of does.last ≡ access_of u
+      does_same =
           let parts = and_parts (eqb does.last.process u.process) (eqb does.last.step u.step) does.same in
-          let plans = All-contains (HasPlansOperation courses) (net h) does.last (All-net_acts (HasPlansOperation courses) (acts h) (acts-of_plans no_conflict courses h legal))
+          let plans = All-contains (HasPlansAccess courses) (net h) does.last (All-net_acts (HasPlansAccess courses) (acts h) (acts-of_plans no_conflict courses h legal))
           (contains-from_among does.last (net h) last_stands.0) in
-          plans ∙ (ap (λ p. op_of courses p does.last.step) (eqb-true does.last.process u.process parts.0)
-          ∙ (ap (op_of courses u.process) (eqb-true does.last.step u.step parts.1) ∙ sym (act_in_order courses h u keeps).1))
+          plans ∙ (ap (λ p. access_at courses p does.last.step) (eqb-true does.last.process u.process parts.0)
+          ∙ (ap (access_at courses u.process) (eqb-true does.last.step u.step parts.1) ∙ sym (act_in_order courses h u keeps).1))
 
       can : (b : Entry) → Among b split.after → can_change table does.last b ≡ true
       can b is =
           let back : Among b (behind u (net h)) = subst (Among b) (sym (behind-same_step (net h) u does.last (same_step-symmetric u does.last ∙ does.same) ∙ behind-at does.last (net h) split)) is in
           let free : conflict table u b ≡ false = undo-clear table courses h u undo clear b back in
           let none : conflict table does.last b ≡ false =
-          ap (λ p. not (eqb p b.process) && table does.last.op b.op) last_stands.1 ∙ (ap (λ o. not (eqb u.process b.process) && table o b.op) same_op ∙ free) in
+          ap (λ p. not (eqb p b.process) && table (access_of does.last) (access_of b)) last_stands.1 ∙ (ap (λ o. not (eqb u.process b.process) && table o (access_of b)) does_same ∙ free) in
           and_from (not (eqb does.last.process b.process)) (not (conflict table does.last b))
           (ap not (by_process (eqb does.last.process b.process) refl)) (ap not none)
         where

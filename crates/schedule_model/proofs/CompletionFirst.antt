@@ -4,6 +4,9 @@ use Rattle.std.specs.Bool.{IsTrue}
 use Rattle.std.specs.List.{list_all}
 use Rattle.std.proofs.lemmas.Bool.{and_from, eq-eqb, or_left}
 use Rattle.std.proofs.lemmas.List.Elements.{All-contains}
+use Rattle.process_tree.proofs.Entries.{access-same}
+use Rattle.process_tree.specs.Entries.{access_of}
+use Rattle.process_tree.specs.Conflicts.{same_access}
 use Rattle.process_tree.specs.declared.entry.Entry.{Entry}
 use Rattle.process_tree.specs.declared.plan.Plan.{Plan}
 use Rattle.process_tree.specs.Shape.{fixed_len, goes_on_to, is_end}
@@ -11,7 +14,7 @@ use Rattle.process_tree.specs.Recovery.{forward, reserved}
 use Rattle.process_tree.proofs.TreeLaws.{paths_lie_in_order}
 use Rattle.schedule_model.specs.declared.event.Event.{Event}
 use Rattle.schedule_model.specs.declared.event.Event.TheVariants.{Act, End}
-use Rattle.schedule_model.specs.Course.{Course, courses_of, shape, op_of}
+use Rattle.schedule_model.specs.Course.{Course, courses_of, shape, op_of, access_at}
 use Rattle.schedule_model.specs.Conflict.{no_conflict}
 use Rattle.schedule_model.specs.Histories.{acts, active, is_active, is_in, doing, undoing, net, net_of, net_steps, done_steps, of_process, steps_of}
 use Rattle.schedule_model.specs.Recovery.{backward_entries, owed, owed_steps}
@@ -20,7 +23,7 @@ use Rattle.schedule_model.specs.OwnOrder.{keeps_order, goes_on, is_at_end, is_of
 use Rattle.schedule_model.specs.Legal.{is_legal, class_in}
 use Rattle.schedule_model.specs.Laws.{AreGood}
 use Rattle.schedule_model.proofs.Members.{Among, among-filter, contains-from_among, among_there}
-use Rattle.schedule_model.proofs.Entries.{HasPlansOperation, acts-of_plans, All-net_acts}
+use Rattle.schedule_model.proofs.Entries.{HasPlansAccess, acts-of_plans, All-net_acts}
 use Rattle.schedule_model.proofs.Active.{is_active-is_in, completion-none}
 use Rattle.schedule_model.proofs.Apart.{net-apart}
 use Rattle.schedule_model.proofs.Starts.{active-apart}
@@ -62,9 +65,9 @@ module _ (plans : List Plan) (good : AreGood plans) (h : List Event) (legal : Is
   cs = courses_of plans
 
   -- the net has the operations of the plans
-  pub net-of_plans : (x : Entry) → Among x (net h) → x.op ≡ op_of cs x.process x.step
+  pub net-of_plans : (x : Entry) → Among x (net h) → access_of x ≡ access_at cs x.process x.step
   net-of_plans x is =
-      All-contains (HasPlansOperation cs) (net h) x (All-net_acts (HasPlansOperation cs) (acts h) (acts-of_plans no_conflict cs h legal)) (contains-from_among x (net h) is)
+      All-contains (HasPlansAccess cs) (net h) x (All-net_acts (HasPlansAccess cs) (acts h) (acts-of_plans no_conflict cs h legal)) (contains-from_among x (net h) is)
 
   -- An undo comes first.
   first_undo : (front : List Entry) (x : Entry) → all_backward_entries cs h ≡ front ++ x ∷ [] → First cs h
@@ -74,8 +77,8 @@ module _ (plans : List Plan) (good : AreGood plans) (h : List Event) (legal : Is
         event = Act (undoing x);
         what = inl (front, x, refl, last);
         rest = completion-after_undo no_conflict cs h legal front x last;
-        keeps = and_from (is_active h x.process && eqb x.op (op_of cs x.process x.step)) (is_of_last (backward_entries cs h x.process) (undoing x))
-            (and_from (is_active h x.process) (eqb x.op (op_of cs x.process x.step)) (is_active_one no_conflict cs h legal front x last) (eq-eqb x.op (op_of cs x.process x.step) (net-of_plans x there)))
+        keeps = and_from (is_active h x.process && same_access (access_of x) (access_at cs x.process x.step)) (is_of_last (backward_entries cs h x.process) (undoing x))
+            (and_from (is_active h x.process) (same_access (access_of x) (access_at cs x.process x.step)) (is_active_one no_conflict cs h legal front x last) (access-same (access_of x) (access_at cs x.process x.step) (net-of_plans x there)))
             (undo_of_last no_conflict cs h legal front x last);
       }
 
@@ -133,8 +136,8 @@ module _ (plans : List Plan) (good : AreGood plans) (h : List Event) (legal : Is
             what = inr (inl (i, b, refl, goes, class, subst (Among (doing cs i b)) (sym (does.reserved_owes class)) (inl refl)));
             rest = completion-after_owed cs h i others first undone b (owed cs after i) (does.reserved_owes class) (reserved_commits cs h i b plan on class)
                 (sym (owed-do cs h (doing cs i b) refl)) apart;
-            keeps = and_from (is_active h i && eqb (op_of cs i b) (op_of cs i b)) (goes_on cs h i b)
-                (and_from (is_active h i) (eqb (op_of cs i b) (op_of cs i b)) goes (eq-eqb (op_of cs i b) (op_of cs i b) refl))
+            keeps = and_from (is_active h i && same_access (access_at cs i b) (access_at cs i b)) (goes_on cs h i b)
+                (and_from (is_active h i) (same_access (access_at cs i b) (access_at cs i b)) goes (access-same (access_at cs i b) (access_at cs i b) refl))
                 (and_from (goes_on_to t w b) (list_all (λ d. ltb d b) (done_steps h i)) on (done-below_owed plans good i h legal b rest owes));
           }
 

@@ -3,12 +3,14 @@ use Rattle.std.proofs.Common.{◌≡◌, ℕ, Bool, true, false, eqb, if◌then�
 use Rattle.std.specs.Bool.{IsTrue}
 use Rattle.std.specs.List.{list_all}
 use Rattle.std.proofs.lemmas.Bool.{or_left, or_right, eq-eqb}
+use Rattle.process_tree.specs.Entries.{access_of}
+use Rattle.process_tree.specs.Conflicts.{same_access}
 use Rattle.process_tree.specs.declared.entry.Entry.{Entry}
 use Rattle.process_tree.specs.Shape.{fixed_len, goes_on_to, is_end}
 use Rattle.process_tree.specs.Recovery.{forward, class_of}
 use Rattle.schedule_model.specs.declared.event.Event.{Event}
 use Rattle.schedule_model.specs.declared.event.Event.TheVariants.{Start, Act, End}
-use Rattle.schedule_model.specs.Course.{Course, course, op_of}
+use Rattle.schedule_model.specs.Course.{Course, course, op_of, access_at}
 use Rattle.schedule_model.specs.Conflict.{ConflictRelation}
 use Rattle.schedule_model.specs.Histories.{net, active, is_active, is_in, doing, net_of, net_steps, done_steps}
 use Rattle.schedule_model.specs.Recovery.{backward_entries, owed_after}
@@ -29,13 +31,13 @@ module _ (cs ds : List Course) where
   backward_entries-courses h i same = ap (λ (c : Course). drop (fixed_len c.shape (net_steps h i)) (net_of h i)) same
 
   pub doing-courses : (i b : ℕ) → SameCourse i → doing cs i b ≡ doing ds i b
-  doing-courses i b same = ap (λ (c : Course). record { process = i; step = b; op = slice_index_or c.ops b 0; undo = false }) same
+  doing-courses i b same = ap (λ (c : Course). record { process = i; step = b; op = slice_index_or c.ops b 0; key = slice_index_or c.keys b 0; undo = false }) same
 
   pub hold-courses : (h : List Event) (i : ℕ) → SameCourse i → hold_at_rest cs h i ≡ hold_at_rest ds h i
   hold-courses h i same = ap (λ (c : Course). record {
     process = i;
     running = None;
-    reserved = map (λ b. record { process = i; step = b; op = slice_index_or c.ops b 0; undo = false }) (forward c.shape (net_steps h i));
+    reserved = map (λ b. record { process = i; step = b; op = slice_index_or c.ops b 0; key = slice_index_or c.keys b 0; undo = false }) (forward c.shape (net_steps h i));
     pending = [];
     backward_entries = drop (fixed_len c.shape (net_steps h i)) (net_of h i);
   }) same
@@ -56,10 +58,10 @@ module _ (cs ds : List Course) where
   -- What is said of one event.
 
   entry_by : (h : List Event) (e : Entry) (a : Bool) → (a ≡ true → SameCourse e.process)
-      → (a && eqb e.op (op_of cs e.process e.step) && (if e.undo then is_of_last (backward_entries cs h e.process) e else goes_on cs h e.process e.step))
-      ≡ (a && eqb e.op (op_of ds e.process e.step) && (if e.undo then is_of_last (backward_entries ds h e.process) e else goes_on ds h e.process e.step))
+      → (a && same_access (access_of e) (access_at cs e.process e.step) && (if e.undo then is_of_last (backward_entries cs h e.process) e else goes_on cs h e.process e.step))
+      ≡ (a && same_access (access_of e) (access_at ds e.process e.step) && (if e.undo then is_of_last (backward_entries ds h e.process) e else goes_on ds h e.process e.step))
   entry_by h e false same = refl
-  entry_by h e true same = ap (λ (c : Course). eqb e.op (slice_index_or c.ops e.step 0)
+  entry_by h e true same = ap (λ (c : Course). same_access (access_of e) (record { op = slice_index_or c.ops e.step 0; key = slice_index_or c.keys e.step 0 })
       && (if e.undo then is_of_last (drop (fixed_len c.shape (net_steps h e.process)) (net_of h e.process)) e
       else (goes_on_to c.shape (net_steps h e.process) e.step && list_all (λ d. ltb d e.step) (done_steps h e.process)))) (same refl)
 
@@ -78,7 +80,7 @@ module _ (cs ds : List Course) where
         ap (λ g. if e.undo then against_undo table g e else against_step table g (class_in cs h e.process e.step) e (owed_after cs h e.process e.step)) (at_rest-courses h same)
         ∙ ap (λ (c : Course). if e.undo then against_undo table (at_rest ds h) e
         else against_step table (at_rest ds h) (class_of c.shape (net_steps h e.process) e.step) e
-        (map (λ b. record { process = e.process; step = b; op = slice_index_or c.ops b 0; undo = false }) (forward c.shape (net_steps h e.process ++ e.step ∷ [])))) own
+        (map (λ b. record { process = e.process; step = b; op = slice_index_or c.ops b 0; key = slice_index_or c.keys b 0; undo = false }) (forward c.shape (net_steps h e.process ++ e.step ∷ [])))) own
 
     -- an entry of a process that isn't active may not come either way
     act_by : (h : List Event) (e : Entry) → SameOfActive h → (a : Bool) → is_active h e.process ≡ a → may_come table cs h (Act e) ≡ may_come table ds h (Act e)
@@ -88,7 +90,7 @@ module _ (cs ds : List Course) where
     act_by h e same false is = out cs ∙ sym (out ds)
       where
         out : (es : List Course) → may_come table es h (Act e) ≡ false
-        out es = ap (λ a. a && eqb e.op (op_of es e.process e.step) && (if e.undo then is_of_last (backward_entries es h e.process) e else goes_on es h e.process e.step) && is_clear table es h (Act e)) is
+        out es = ap (λ a. a && same_access (access_of e) (access_at es e.process e.step) && (if e.undo then is_of_last (backward_entries es h e.process) e else goes_on es h e.process e.step) && is_clear table es h (Act e)) is
 
     pub may_come-courses : (h : List Event) (e : Event) → SameOfActive h → may_come table cs h e ≡ may_come table ds h e
     may_come-courses h (Start i) same = refl

@@ -3,10 +3,12 @@ use Rattle.std.proofs.Common.{◌≡◌, ℕ, Bool, true, false, not, cond, eqb,
 use Rattle.std.specs.Bool.{IsTrue}
 use Rattle.std.specs.List.{list_any, list_all}
 use Rattle.std.proofs.lemmas.Bool.{eqb-true, and_parts, and_from, cases_Bool}
+use Rattle.process_tree.specs.Entries.{access_of}
+use Rattle.process_tree.specs.Conflicts.{same_access}
 use Rattle.process_tree.specs.declared.entry.Entry.{Entry}
 use Rattle.schedule_model.specs.declared.event.Event.{Event}
 use Rattle.schedule_model.specs.declared.event.Event.TheVariants.{Start, Act, End}
-use Rattle.schedule_model.specs.Course.{Course, shape, op_of}
+use Rattle.schedule_model.specs.Course.{Course, shape, op_of, access_at}
 use Rattle.schedule_model.specs.Conflict.{ConflictRelation}
 use Rattle.schedule_model.specs.Histories.{acts, net_acts, net, net_of, net_steps, done_steps, same_step, steps_of, of_process, takes_back, is_active}
 use Rattle.schedule_model.specs.OwnOrder.{entry_keeps_order, goes_on, is_of_last}
@@ -40,14 +42,14 @@ Rising-push (x ∷ xs) b rising all =
 pub step_goes_on : (table : ConflictRelation) (courses : List Course) (h : List Event) (e : Entry) → e.undo ≡ false → IsTrue (may_come table courses h (Act e)) → IsTrue (goes_on courses h e.process e.step)
 step_goes_on table courses h e is_step may =
     subst (λ u. (if u then is_of_last (backward_entries courses h e.process) e else goes_on courses h e.process e.step) ≡ true) is_step
-    (and_parts (is_active h e.process && eqb e.op (op_of courses e.process e.step)) (if e.undo then is_of_last (backward_entries courses h e.process) e else goes_on courses h e.process e.step)
+    (and_parts (is_active h e.process && same_access (access_of e) (access_at courses e.process e.step)) (if e.undo then is_of_last (backward_entries courses h e.process) e else goes_on courses h e.process e.step)
     (and_parts (entry_keeps_order courses h e) (is_clear table courses h (Act e)) may).0).1
 
 -- an undo that may come is of the last entry that can be undone
 pub undo_is_of_last : (table : ConflictRelation) (courses : List Course) (h : List Event) (e : Entry) → e.undo ≡ true → IsTrue (may_come table courses h (Act e)) → IsTrue (is_of_last (backward_entries courses h e.process) e)
 undo_is_of_last table courses h e undo may =
     subst (λ u. (if u then is_of_last (backward_entries courses h e.process) e else goes_on courses h e.process e.step) ≡ true) undo
-    (and_parts (is_active h e.process && eqb e.op (op_of courses e.process e.step)) (if e.undo then is_of_last (backward_entries courses h e.process) e else goes_on courses h e.process e.step)
+    (and_parts (is_active h e.process && same_access (access_of e) (access_at courses e.process e.step)) (if e.undo then is_of_last (backward_entries courses h e.process) e else goes_on courses h e.process e.step)
     (and_parts (entry_keeps_order courses h e) (is_clear table courses h (Act e)) may).0).1
 
 module _ (table : ConflictRelation) (courses : List Course) where

@@ -2,10 +2,13 @@
 use Rattle.std.proofs.Common.{◌≡◌, ◌⊎◌, inl, inr, ⊎_elim, ℕ, Bool, true, false, not, eqb, ◌&&◌, ◌||◌, List, [], ◌∷◌, ◌++◌, length, sym, refl, ap, ◌∙◌, subst}
 use Rattle.std.specs.Bool.{IsTrue}
 use Rattle.std.proofs.lemmas.Bool.{and_parts, and_from, eqb-true, or_left, not-true, false≢true}
+use Rattle.process_tree.specs.Entries.{access_of}
 use Rattle.process_tree.specs.declared.entry.Entry.{Entry}
 use Rattle.process_tree.specs.declared.plan.Plan.{Plan}
+use Rattle.process_tree.specs.Recovery.{reserved}
+use Rattle.schedule_model.specs.declared.event.Event.TheVariants.{Act, End}
 use Rattle.schedule_model.specs.declared.event.Event.{Event}
-use Rattle.schedule_model.specs.Course.{Course, courses_of, op_of}
+use Rattle.schedule_model.specs.Course.{Course, courses_of, op_of, access_at}
 use Rattle.schedule_model.specs.Conflict.{ConflictRelation, IsSymmetric, conflict}
 use Rattle.schedule_model.specs.Histories.{active, after_number, doing, ends, is_active, is_in, net, net_of, outlives, same_step, starts, undoing}
 use Rattle.schedule_model.specs.Recovery.{owed, backward_entries}
@@ -13,7 +16,7 @@ use Rattle.schedule_model.specs.Completion.{all_backward_entries, completion, co
 use Rattle.schedule_model.specs.Holdings.{at_rest, behind, holders, of_active}
 use Rattle.schedule_model.specs.Blocking.{against_undo}
 use Rattle.schedule_model.specs.OwnOrder.{keeps_order}
-use Rattle.schedule_model.specs.Legal.{is_clear, is_legal, may_come}
+use Rattle.schedule_model.specs.Legal.{class_in, is_clear, is_legal, may_come}
 use Rattle.schedule_model.specs.Laws.{AreGood, StandingFacts, StandingFactsHold, CompletionLaw, EndedDontBlockUndos}
 use Rattle.schedule_model.proofs.Induction.{passes-push}
 use Rattle.schedule_model.proofs.Members.{Among, among-append, among-filter, in_filter, among-any, among-from_contains, among_there}
@@ -28,7 +31,7 @@ use Rattle.schedule_model.proofs.FixedFree.{FixedFree, fixed-free}
 use Rattle.schedule_model.proofs.EndedFree.{EndedFree, ended-free}
 use Rattle.schedule_model.proofs.Orders.{same_step-through, behind-same_step}
 use Rattle.schedule_model.proofs.Aside.{undo-aside}
-use Rattle.schedule_model.proofs.CompletionFirst.{First, net-of_plans}
+use Rattle.schedule_model.proofs.CompletionFirst.{First, WhatComes, net-of_plans}
 use Rattle.schedule_model.proofs.CompletionLaws.{along_completion, all-at_ends}
 use Rattle.schedule_model.proofs.Members.{not_any, all-among}
 
@@ -139,18 +142,30 @@ module _ (table : ConflictRelation) (plans : List Plan) (h : List Event) (symmet
       conflict-symmetric table symmetric y x
       ∙ fixed_facts x y there.0 there.1 (among_behind x y (net h) back_in) (ap (is_active h) own ∙ goes) (ap (λ k. has_step y (backward_entries cs h k)) own ∙ ap (has_step y) none) back_in
 
+  -- a step that an active process owes may come
+  owed_clear : (i b : ℕ) → IsTrue (is_active h i) → class_in cs h i b ≡ reserved → Among (doing cs i b) (owed cs h i) → IsTrue (is_clear table cs h (Act (doing cs i b)))
+  owed_clear i b goes class owes = clear-reserved table cs h (doing cs i b) refl class (reserved_apart i b goes owes)
+
+  undo_comes : (e : Event) (front : List Entry) (x : Entry) → e ≡ Act (undoing x) → all_backward_entries cs h ≡ front ++ x ∷ [] → IsTrue (is_clear table cs h e)
+  undo_comes e front x is last = subst (λ f. IsTrue (is_clear table cs h f)) (sym is) (clear-undo table cs h (undoing x) refl (undo_apart front x last))
+
+  owed_comes : (e : Event) (i b : ℕ) → e ≡ Act (doing cs i b) → IsTrue (is_clear table cs h (Act (doing cs i b))) → IsTrue (is_clear table cs h e)
+  owed_comes e i b is clear = subst (λ f. IsTrue (is_clear table cs h f)) (sym is) clear
+
+  end_comes : (e : Event) (i : ℕ) → e ≡ End i → IsTrue (is_active h i) → backward_entries cs h i ≡ [] → IsTrue (is_clear table cs h e)
+  end_comes e i is goes none = subst (λ f. IsTrue (is_clear table cs h f)) (sym is) (clear-end table cs h i (end_apart i goes none))
+
+  what_comes : (e : Event) → WhatComes cs h e → IsTrue (is_clear table cs h e)
+  what_comes e (inl undo) = undo_comes e undo.0 undo.1 undo.2 undo.3
+  what_comes e (inr (inl step)) = owed_comes e step.0 step.1 step.2 (owed_clear step.0 step.1 step.3 step.4 step.5)
+  what_comes e (inr (inr end)) = end_comes e end.0 end.1 end.2 end.3
+
   -- the first event of a completion may come
   first_clear : (f : First cs h) → IsTrue (is_clear table cs h f.event)
-  first_clear f =
-      ⊎_elim
-      (λ undo. subst (λ e. IsTrue (is_clear table cs h e)) (sym undo.2) (clear-undo table cs h (undoing undo.1) refl (undo_apart undo.0 undo.1 undo.3)))
-      (⊎_elim
-      (λ step. subst (λ e. IsTrue (is_clear table cs h e)) (sym step.2) (clear-reserved table cs h (doing cs step.0 step.1) refl step.4 (reserved_apart step.0 step.1 step.3 step.5)))
-      (λ end. subst (λ e. IsTrue (is_clear table cs h e)) (sym end.1) (clear-end table cs h end.0 (end_apart end.0 end.2 end.3))))
-      f.what
+  first_clear f = what_comes f.event f.what
 
   -- A later entry of an ended process doesn't stand against an undo.
-  module _ (x : Entry) (goes : IsTrue (is_active h x.process)) (op : x.op ≡ op_of cs x.process x.step) where
+  module _ (x : Entry) (goes : IsTrue (is_active h x.process)) (planned : access_of x ≡ access_at cs x.process x.step) where
     by_ended : (y : Entry) → Among y (behind x (net h)) → IsTrue (is_in y.process (ends h)) → conflict table x y ≡ false
     by_ended y back ended = by_there (has_step x (net h)) refl
       where
@@ -161,11 +176,11 @@ module _ (table : ConflictRelation) (plans : List Plan) (h : List Event) (symmet
             let z = found.0 in
             let own : x.process ≡ z.process = same_step-process x z found.2 in
             let step : x.step ≡ z.step = eqb-true x.step z.step (and_parts (eqb x.process z.process) (eqb x.step z.step) found.2).1 in
-            let same_op : x.op ≡ z.op = op ∙ (ap (λ p. op_of cs p x.step) own ∙ (ap (op_of cs z.process) step
+            let does_same : access_of x ≡ access_of z = planned ∙ (ap (λ p. access_at cs p x.step) own ∙ (ap (access_at cs z.process) step
             ∙ sym (net-of_plans plans good h (legal-from_own_order cs h (own_order-legal cs table h legal)) z found.1))) in
             let same_behind : behind x (net h) ≡ behind z (net h) = behind-same_step (net h) x z found.2 in
-            ap (λ p. not (eqb p y.process) && table x.op y.op) own
-            ∙ (ap (λ o. not (eqb z.process y.process) && table o y.op) same_op
+            ap (λ p. not (eqb p y.process) && table (access_of x) (access_of y)) own
+            ∙ (ap (λ o. not (eqb z.process y.process) && table o (access_of y)) does_same
             ∙ ended_facts z y ended (outlives-active z.process y.process (ap (is_active h) (sym own) ∙ goes)) found.1 (subst (Among y) same_behind back))
 
     pub aside_undo : against_undo table (of_active (at_rest cs h)) x ≡ against_undo table (at_rest cs h) x
@@ -182,7 +197,7 @@ pub standing-facts : StandingFactsHold
 standing-facts table plans h good = standing_facts table plans h good.symmetric good.good good.legal
 
 pub ended-dont_block_undos : EndedDontBlockUndos
-ended-dont_block_undos table plans h x good goes op = aside_undo table plans h good.symmetric good.good good.legal x goes op
+ended-dont_block_undos table plans h x good goes planned = aside_undo table plans h good.symmetric good.good good.legal x goes planned
 
 -- the first event of a completion may come, so the completed history is legal
 first-legal : (table : ConflictRelation) (plans : List Plan) (symmetric : IsSymmetric table) (good : AreGood plans) (h : List Event) (f : First (courses_of plans) h)

@@ -1,5 +1,5 @@
 -- Worked examples, computed: two processes that work on one stock.
-use Rattle.std.specs.Prelude.{◌≡◌, true, false, List, [], ◌∷◌, ◌++◌, Some, None, refl}
+use Rattle.std.specs.Prelude.{◌≡◌, ℕ, true, false, List, [], ◌∷◌, ◌++◌, Some, None, refl}
 use Rattle.process_tree.specs.declared.entry.Entry.{Entry}
 use Rattle.schedule_model.specs.declared.event.Event.{Event}
 use Rattle.schedule_model.specs.declared.event.Event.TheVariants.{Start, End}
@@ -13,7 +13,7 @@ use Rattle.schedule_model.specs.OwnOrder.{keeps_order}
 use Rattle.schedule_model.specs.Legal.{is_legal, is_reducible, first_illegal}
 use Rattle.schedule_model.specs.Reduction.{applied, applied_all, is_serial, not_serial}
 use Rattle.schedule_model.specs.PrintedTrace.{printed_trace}
-use Rattle.schedule_model.specs.Samples.{stock_table, purchase, sale, delivery, addition, order, nested, did, undid}
+use Rattle.schedule_model.specs.Samples.{stock_table, goods_table, of_goods, purchase, sale, delivery, addition, order, nested, did, undid}
 
 -- process 1 is a purchase, and process 2 a sale
 abbrev pub shop : List Course
@@ -26,6 +26,21 @@ paid_too_early = Start 1 ∷ Start 2 ∷ did shop 1 0 ∷ did shop 2 0 ∷ did s
 
 pub paid_too_early_is_illegal : first_illegal stock_table shop paid_too_early ≡ Some 5
 paid_too_early_is_illegal = refl
+
+-- a purchase of goods 1 and a sale of goods k, which was paid first
+abbrev pub goods_shop : ℕ → List Course
+goods_shop k = of_goods 1 purchase ∷ of_goods k sale ∷ []
+
+abbrev pub paid_first : ℕ → List Event
+paid_first k = Start 1 ∷ Start 2 ∷ did (goods_shop k) 1 0 ∷ did (goods_shop k) 2 0 ∷ did (goods_shop k) 2 1 ∷ []
+
+-- of other goods it may be
+pub other_goods_are_paid_first : first_illegal goods_table (goods_shop 2) (paid_first 2) ≡ None
+other_goods_are_paid_first = refl
+
+-- of the same goods it may not
+pub the_same_goods_are_not : first_illegal goods_table (goods_shop 1) (paid_first 1) ≡ Some 5
+the_same_goods_are_not = refl
 
 -- the same after the purchase has ended
 abbrev pub paid_in_time : List Event

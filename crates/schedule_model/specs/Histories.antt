@@ -4,7 +4,7 @@ use Rattle.std.specs.List.{list_any}
 use Rattle.process_tree.specs.declared.entry.Entry.{Entry}
 use Rattle.schedule_model.specs.declared.event.Event.{Event}
 use Rattle.schedule_model.specs.declared.event.Event.TheVariants.{Start, Act, End}
-use Rattle.schedule_model.specs.Course.{Course, op_of}
+use Rattle.schedule_model.specs.Course.{Course, op_of, key_of}
 
 -- whether a number is listed
 abbrev pub is_in : ℕ → List ℕ → Bool
@@ -50,11 +50,11 @@ outlives h k i = is_active h k || is_in k (after_number i (ends h))
 
 -- step b of process i taking effect
 abbrev pub doing : List Course → ℕ → ℕ → Entry
-doing courses i b = record { process = i; step = b; op = op_of courses i b; undo = false }
+doing courses i b = record { process = i; step = b; op = op_of courses i b; key = key_of courses i b; undo = false }
 
 -- its undo
 abbrev pub undoing : Entry → Entry
-undoing e = record { process = e.process; step = e.step; op = e.op; undo = true }
+undoing e = record { process = e.process; step = e.step; op = e.op; key = e.key; undo = true }
 
 -- entries of one step of one process
 abbrev pub same_step : Entry → Entry → Bool

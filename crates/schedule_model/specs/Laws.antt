@@ -1,6 +1,7 @@
 -- The laws of histories, as statements.
 use Rattle.std.specs.Prelude.{◌≡◌, ℕ, ◌+◌, ◌*◌, ◌≤◌, false, not, List, [], ◌∷◌, ◌++◌, length, take, flat_map, nat_lt, IsTrue, Some, None}
 use Rattle.std.specs.List.{Contains, list_any, list_all}
+use Rattle.process_tree.specs.Entries.{access_of}
 use Rattle.process_tree.specs.declared.entry.Entry.{Entry}
 use Rattle.process_tree.specs.declared.plan.Plan.{Plan}
 use Rattle.process_tree.specs.Blocks.{outline}
@@ -12,7 +13,7 @@ use Rattle.process_tree.specs.Recovery.{StepClass, reserved, committing, undoabl
 use Rattle.schedule_model.specs.declared.event.Event.{Event}
 use Rattle.schedule_model.specs.declared.event.Event.TheVariants.{Act}
 use Rattle.schedule_model.specs.declared.trace_step.TraceStep.{TraceStep}
-use Rattle.schedule_model.specs.Course.{Course, course, courses_of, op_of, shape}
+use Rattle.schedule_model.specs.Course.{Course, course, courses_of, op_of, shape, access_at}
 use Rattle.schedule_model.specs.Conflict.{ConflictRelation, IsSymmetric, conflict}
 use Rattle.schedule_model.specs.Histories.{acts, starts, ends, active, is_active, is_in, net, net_of, net_steps, of_process, outlives, same_step, doing}
 use Rattle.schedule_model.specs.Recovery.{backward_entries, owed, owed_after}
@@ -219,5 +220,5 @@ EndedDontBlockSteps = (table : ConflictRelation) (g : Holdings) → EndedAreAsid
 -- In a legal history so is what stands against an undo.
 abbrev pub EndedDontBlockUndos : Type 0
 EndedDontBlockUndos = (table : ConflictRelation) (plans : List Plan) (h : List Event) (x : Entry) → IsGood table plans h
-    → IsTrue (is_active h x.process) → x.op ≡ op_of (courses_of plans) x.process x.step
+    → IsTrue (is_active h x.process) → access_of x ≡ access_at (courses_of plans) x.process x.step
     → against_undo table (of_active (at_rest (courses_of plans) h)) x ≡ against_undo table (at_rest (courses_of plans) h) x

@@ -1,11 +1,13 @@
 -- Own order: which event may come next for the process that it is of, whatever the others do.
 use Rattle.std.specs.Prelude.{ℕ, ◌+◌, Bool, ◌&&◌, false, List, [], ◌∷◌, length, nat_eq, nat_lt, if◌then◌else◌}
 use Rattle.std.specs.List.{list_all}
+use Rattle.process_tree.specs.Entries.{access_of}
+use Rattle.process_tree.specs.Conflicts.{same_access}
 use Rattle.process_tree.specs.declared.entry.Entry.{Entry}
 use Rattle.process_tree.specs.Shape.{goes_on_to, is_end}
 use Rattle.schedule_model.specs.declared.event.Event.{Event}
 use Rattle.schedule_model.specs.declared.event.Event.TheVariants.{Start, Act, End}
-use Rattle.schedule_model.specs.Course.{Course, shape, op_of}
+use Rattle.schedule_model.specs.Course.{Course, shape, op_of, access_at}
 use Rattle.schedule_model.specs.EachEvent.{each_passes}
 use Rattle.schedule_model.specs.Histories.{is_active, starts, done_steps, net_steps, same_step}
 use Rattle.schedule_model.specs.Recovery.{backward_entries}
@@ -28,7 +30,7 @@ is_at_end courses h i = is_end (shape courses i) (net_steps h i)
 -- backward recovery
 abbrev pub entry_keeps_order : List Course → List Event → Entry → Bool
 entry_keeps_order courses h e =
-    is_active h e.process && nat_eq e.op (op_of courses e.process e.step)
+    is_active h e.process && same_access (access_of e) (access_at courses e.process e.step)
     && (if e.undo then is_of_last (backward_entries courses h e.process) e else goes_on courses h e.process e.step)
 
 -- a start takes the next number, and only an active process that is at an end may end

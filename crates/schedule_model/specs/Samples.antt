@@ -1,5 +1,5 @@
 -- The conflict table and the processes of the worked examples.
-use Rattle.std.specs.Prelude.{ℕ, ◌&&◌, ◌||◌, List, [], ◌∷◌, length, nat_eq}
+use Rattle.std.specs.Prelude.{ℕ, ◌&&◌, ◌||◌, List, [], ◌∷◌, length, map, nat_eq}
 use Rattle.process_tree.specs.declared.step.StepKind.{StepKind}
 use Rattle.process_tree.specs.declared.step.StepKind.TheVariants.{C, P, R}
 use Rattle.process_tree.specs.Blocks.{numbers_from}
@@ -32,12 +32,16 @@ note = 4
 -- what is taken depends on what was added and on what else was taken, and notes depend on notes
 abbrev pub stock_table : ConflictRelation
 stock_table a b =
-    (nat_eq a add && nat_eq b take) || (nat_eq a take && nat_eq b add) || (nat_eq a take && nat_eq b take)
-    || (nat_eq a note && nat_eq b note)
+    (nat_eq a.op add && nat_eq b.op take) || (nat_eq a.op take && nat_eq b.op add) || (nat_eq a.op take && nat_eq b.op take)
+    || (nat_eq a.op note && nat_eq b.op note)
+
+-- the same where the stock is of several goods: what is done to different goods doesn't conflict
+abbrev pub goods_table : ConflictRelation
+goods_table a b = stock_table a b && nat_eq a.key b.key
 
 -- steps one after another
 abbrev pub line : List StepKind → List ℕ → Course
-line kinds ops = record { shape = record { kinds = kinds; paths = numbers_from 0 (length kinds) ∷ [] }; ops = ops; allowances = [] }
+line kinds ops = record { shape = record { kinds = kinds; paths = numbers_from 0 (length kinds) ∷ [] }; ops = ops; keys = []; allowances = [] }
 
 -- a purchase adds to the stock, and pays
 abbrev pub purchase : Course
@@ -60,6 +64,7 @@ abbrev pub order : Course
 order = record {
   shape = record { kinds = P ∷ C ∷ C ∷ C ∷ R ∷ []; paths = (0 ∷ 1 ∷ 2 ∷ []) ∷ (0 ∷ 3 ∷ []) ∷ (0 ∷ 4 ∷ []) ∷ [] };
   ops = pay ∷ take ∷ ship ∷ ship ∷ ship ∷ [];
+  keys = [];
   allowances = [];
 }
 
@@ -92,8 +97,13 @@ abbrev pub nested : Course
 nested = record {
   shape = record { kinds = C ∷ C ∷ C ∷ []; paths = (0 ∷ []) ∷ (1 ∷ []) ∷ (2 ∷ []) ∷ [] };
   ops = pay ∷ pay ∷ pay ∷ [];
+  keys = [];
   allowances = [];
 }
+
+-- the same process, each step of which is of goods k
+abbrev pub of_goods : ℕ → Course → Course
+of_goods k c = record { shape = c.shape; ops = c.ops; keys = map (λ o. k) c.ops; allowances = c.allowances }
 
 -- step b of process i took effect
 abbrev pub did : List Course → ℕ → ℕ → Event

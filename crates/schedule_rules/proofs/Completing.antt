@@ -1,5 +1,5 @@
 -- The completion, said of the net and of who is active.
-use Rattle.std.proofs.Common.{◌≡◌, ⊎_elim, ℕ, ◌+◌, ◌<◌, ◌≤◌, true, false, eqb, List, [], ◌∷◌, ◌++◌, length, map, filter, reverse, sym, ap, ◌∙◌, subst, arith, append-nil, length-append}
+use Rattle.std.proofs.Common.{◌≡◌, ⊎_elim, ℕ, ◌+◌, ◌-◌, ◌<◌, ◌≤◌, true, false, eqb, List, [], ◌∷◌, ◌++◌, length, map, filter, reverse, sym, ap, ◌∙◌, subst, arith, append-nil, append_assoc, get_or, length-append}
 use Rattle.std.specs.Bool.{IsTrue}
 use Rattle.std.specs.List.{list_any, flat_map}
 use Rattle.std.proofs.lemmas.Bool.{and_parts, and_from, or_cases, eqb-true, false≢true}
@@ -10,7 +10,7 @@ use Rattle.schedule_model.specs.declared.event.Event.{Event}
 use Rattle.schedule_model.specs.declared.event.Event.TheVariants.{Start, Act, End}
 use Rattle.schedule_model.specs.Completion.{is_to_undo, completion}
 use Rattle.schedule_model.specs.Conflict.{no_conflict}
-use Rattle.schedule_model.specs.Course.{Course, courses_of, shape}
+use Rattle.schedule_model.specs.Course.{Course, course_of, courses_of, shape}
 use Rattle.schedule_model.specs.Histories.{active, is_active, is_in, net, net_of, net_steps, same_step, starts, undoing}
 use Rattle.schedule_model.specs.Laws.{IsPlanned}
 use Rattle.schedule_model.specs.Legal.{is_legal, may_come}
@@ -23,9 +23,10 @@ use Rattle.schedule_model.proofs.Induction.{by_legal}
 use Rattle.schedule_model.proofs.Members.{Among, among-any, any-among, among-flat_map, in_flat_map, among-filter, among-is_in, is_in-among, filter-agree}
 use Rattle.schedule_model.proofs.NetPaths.{net-branch}
 use Rattle.schedule_model.proofs.NoConflict.{legal-from_own_order}
+use Rattle.schedule_rules.proofs.Branches.{course_there}
 use Rattle.schedule_rules.proofs.Known.{dropped}
 use Rattle.schedule_rules.proofs.ListTests.{both_ways, each_from}
-use Rattle.schedule_rules.specs.Recovering.{StandsOnBranch, StandsOnBranches, all_backward, closed_by}
+use Rattle.schedule_rules.specs.Recovering.{StandsOnBranch, StandsOnBranches, all_backward, closed_by, closing_among}
 
 -- Who started.
 
@@ -108,6 +109,15 @@ module _ (courses : List Course) (h : List Event) where
   completion_is =
       ap (λ es. map (λ e. Act (undoing e)) (reverse es) ++ closed_by courses (net h) (active h))
       (sym (filter-agree (is_to_undo courses h) (λ e. list_any (same_step e) (all_backward courses (net h) (active h))) (net h) (λ e there. same_to_undo e)))
+
+-- what one more active process adds
+pub closing_more : (plans : List Plan) (p : Plan) (es : List Entry) (i : ℕ) (rest : List ℕ) (before now whole : List Event)
+    → i - 1 < length plans → p ≡ get_or plans (i - 1) p → now ≡ before ++ closing_among (course_of p) es i
+    → before ++ closed_by (courses_of plans) es (i ∷ rest) ≡ whole → now ++ closed_by (courses_of plans) es rest ≡ whole
+closing_more plans p es i rest before now whole less at is all =
+    ap (λ ns. ns ++ closed_by (courses_of plans) es rest) is
+    ∙ (append_assoc before (closing_among (course_of p) es i) (closed_by (courses_of plans) es rest)
+    ∙ (ap (λ c. before ++ (closing_among c es i ++ closed_by (courses_of plans) es rest)) (sym (course_there plans (i - 1) p less at)) ∙ all))
 
 -- The same of lists that are those.
 

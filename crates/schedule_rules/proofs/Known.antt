@@ -8,7 +8,7 @@ use Rattle.process_tree.specs.declared.plan.Plan.{Plan}
 use Rattle.process_tree.specs.Blocks.{outline}
 use Rattle.process_tree.specs.Order.{Each}
 use Rattle.process_tree.specs.Shape.{shape_of, fixed_len}
-use Rattle.schedule_model.specs.Course.{course_of}
+use Rattle.schedule_model.specs.Course.{Course, course_of}
 use Rattle.schedule_model.specs.Histories.{of_process, steps_of}
 use Rattle.schedule_model.specs.Laws.{IsGoodPlan}
 use Rattle.schedule_model.specs.OwnOrder.{is_of_last}
@@ -48,14 +48,14 @@ module _ (plan : Plan) (good : IsGoodPlan plan) (n : ℕ) (known : IsTrue (list_
   pub ops_known : (b : ℕ) → 0 < n → get_or plan.ops b 0 < n
   ops_known b some = ltb-true (get_or plan.ops b 0) n (all_or (λ a. ltb a n) plan.ops b 0 known (lt-ltb 0 n some))
 
-  pub owed_known : (i : ℕ) (bs : List ℕ) → 0 < n → Each (λ (e : Entry). e.op < n) (owed_by plan.ops i bs)
+  pub owed_known : (i : ℕ) (bs : List ℕ) → 0 < n → Each (λ (e : Entry). e.op < n) (owed_by (course_of plan) i bs)
   owed_known i [] some = tt
   owed_known i (b ∷ bs) some = (ops_known b some, owed_known i bs some)
 
 -- what a process owes is its own
-pub owed_own : (ops : List ℕ) (i : ℕ) (bs : List ℕ) → Each (λ (e : Entry). e.process ≡ i) (owed_by ops i bs)
-owed_own ops i [] = tt
-owed_own ops i (b ∷ bs) = (refl, owed_own ops i bs)
+pub owed_own : (c : Course) (i : ℕ) (bs : List ℕ) → Each (λ (e : Entry). e.process ≡ i) (owed_by c i bs)
+owed_own c i [] = tt
+owed_own c i (b ∷ bs) = (refl, owed_own c i bs)
 
 -- a step that may be undone is a step of the plan
 pub undo_within : (plan : Plan) → IsGoodPlan plan → (es : List Entry) (i : ℕ) (e : Entry) → IsBranch (shape_of plan.tree) (steps_of (of_process i es))

@@ -9,7 +9,7 @@ use Rattle.schedule_rules.proofs.Carries.{back-carried, back-refused, back-zero,
 
 -- what is read where there is no entry
 abbrev pub blank : Entry
-blank = record { process = 0; step = 0; op = 0; undo = false }
+blank = record { process = 0; step = 0; op = 0; key = 0; undo = false }
 
 module _ (table : ConflictRelation) where
   -- The same at the places of a list.

@@ -30,13 +30,17 @@ backward_among c es i = drop (fixed_len c.shape (steps_of (of_process i es))) (o
 abbrev pub all_backward : List Course → List Entry → List ℕ → List Entry
 all_backward courses es processes = flat_map (λ i. backward_among (course courses i) es i) processes
 
--- these steps of process i, with these operations
-abbrev pub owed_by : List ℕ → ℕ → List ℕ → List Entry
-owed_by ops i bs = map (λ b. record { process = i; step = b; op = slice_index_or ops b 0; undo = false }) bs
+-- step b of process i, of this course, taking effect
+abbrev pub step_entry : Course → ℕ → ℕ → Entry
+step_entry c i b = record { process = i; step = b; op = slice_index_or c.ops b 0; key = slice_index_or c.keys b 0; undo = false }
+
+-- these steps of process i, of this course
+abbrev pub owed_by : Course → ℕ → List ℕ → List Entry
+owed_by c i bs = map (step_entry c i) bs
 
 -- what a process of this course owes, and its end
 abbrev pub closing_among : Course → List Entry → ℕ → List Event
-closing_among c es i = map Act (owed_by c.ops i (forward c.shape (steps_of (of_process i es)))) ++ End i ∷ []
+closing_among c es i = map Act (owed_by c i (forward c.shape (steps_of (of_process i es)))) ++ End i ∷ []
 
 -- that of these processes, one after another
 abbrev pub closed_by : List Course → List Entry → List ℕ → List Event

@@ -31,13 +31,13 @@ pub fn apply(list: &mut Vec<Entry>, c: &Conflicts, step: TraceStep) -> Option<()
     }
 }
 
-/// Whether two entries conflict: they are of different processes, and their operations conflict.
+/// Whether two entries conflict: they are of different processes, and what they do conflicts.
 pub fn conflict(c: &Conflicts, a: &Entry, b: &Entry) -> bool
     requires a { a.now.op < operations_in c.now }
     requires b { b.now.op < operations_in c.now }
     ensures { result ≡ conflict (do_conflict c.now) a.now b.now }
 {
-    a.process != b.process && c.holds(a.op, b.op)
+    a.process != b.process && c.holds(a.op, a.key, b.op, b.key)
 }
 
 /// Whether two neighbours may change places.

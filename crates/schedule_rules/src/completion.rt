@@ -14,7 +14,8 @@ ghost use Rattle.schedule_model.specs.OwnOrder.{is_in_own_order};
 ghost use Rattle.schedule_rules.specs.Recovering.{StandsOnBranches, IsBranch, backward_among, all_backward, owed_by, closed_by, closing_among};
 
 use crate::events::{is_same_step, net};
-use process_tree::{Entry, Plan, fixed_len, op_of};
+use crate::planned::entry_of;
+use process_tree::{Entry, Plan, fixed_len};
 use schedule_model::{Event, History};
 use std::alloc::{AllocError, Global};
 
@@ -175,6 +176,7 @@ fn undo_of(entry: &Entry) -> Entry
         process: entry.process,
         step: entry.step,
         op: entry.op,
+        key: entry.key,
         undo: true,
     }
 }
@@ -241,23 +243,18 @@ fn add_closing(
     let own = of_process(alloc, entries, i)?;
     let steps = steps_of(alloc, &own)?;
     let places = owed(alloc, plan, &steps)?;
-    add_steps(plan.ops.as_slice(), &places, i, added)?;
+    add_steps(plan, &places, i, added)?;
     added.push(Event::End(i))?;
     Ok(())
 }
 
 /// Adds these steps of a process.
-fn add_steps(ops: &[u16], steps: &[u16], i: u32, added: &mut Vec<Event>) -> Result<(), AllocError>
-    ensures { OnOk result (added.new.items ≡ added.old.items ++ map Act (owed_by ops.now i steps.now)) }
+fn add_steps(plan: &Plan, steps: &[u16], i: u32, added: &mut Vec<Event>) -> Result<(), AllocError>
+    ensures { OnOk result (added.new.items ≡ added.old.items ++ map Act (owed_by (course_of plan.now) i steps.now)) }
 {
     let mut rest = steps;
     while let [step, after @ ..] = rest {
-        added.push(Event::Act(Entry {
-            process: i,
-            step: *step,
-            op: op_of(ops, *step),
-            undo: false,
-        }))?;
+        added.push(Event::Act(entry_of(plan, i, *step)))?;
         rest = after;
     }
     Ok(())

@@ -10,13 +10,13 @@ mod applying;
 mod completion;
 mod events;
 mod laws;
-mod operations;
+mod planned;
 mod serial;
 
 pub use applying::{apply, conflict};
 pub use completion::{backward, completed, has_same_step, of_process, owed, started, steps_of};
 pub use events::{active, is_same_step, net, take_effect};
 pub use laws::beginnings_are_good;
-pub use operations::planned_op;
+pub use planned::{entry_of, planned_key, planned_op, step_key};
 pub use schedule_model::{Event, Events, History, Plans, TraceStep};
 pub use serial::not_serial;

@@ -13,7 +13,7 @@ use Rattle.engine_runs.specs.Runs.{GoesOn}
 use Rattle.engine_runs.proofs.Goes.{goes_none, goes_then}
 use Rattle.line_reader.proofs.Cuts.{cut-whole}
 use Rattle.driver_answers.proofs.MoreStarts.{goes_wider}
-use Rattle.serve_run.specs.Dialogue.{AreAnswered, AreExchanged, DialogueState, Exchange, IsBetween, IsExchange, bytes_of, driver_state, printed_of}
+use Rattle.serve_run.specs.Dialogue.{AreAnswered, AreExchanged, DialogueState, Exchange, IsBetween, IsExchange, bytes_of, driver_state, number_behind, printed_of}
 use Rattle.serve_run.proofs.Starts.{among_amid, among_more}
 
 -- a line stands in front of the lines behind it
@@ -41,6 +41,11 @@ module _ {S K R B : Type 0} (s : Sources S) (k : Sinks K) (r : Racks R) (honest 
     subst (λ n. AreAnswered a.engine.catalog plans (driver_state m) n xs (driver_state b)) one.next
         (subst (λ c. AreAnswered c plans (driver_state m) m.number xs (driver_state b)) one.goes.catalog (are_answered m b xs more)),
   )
+
+  -- their numbers go up
+  pub numbered : (a b : DialogueState S K R B) (xs : List Exchange) → AreExchanged s k r plans a xs b → b.number ≡ number_behind a.number xs
+  numbered a b [] is = ap (λ (d : DialogueState S K R B). d.number) (sym is)
+  numbered a b (x ∷ xs) (m, one, more) = numbered m b xs more ∙ ap (λ n. number_behind n xs) one.next
 
   -- they stand in front of what was taken
   pub lines_taken : (a b : DialogueState S K R B) (xs : List Exchange) → AreExchanged s k r plans a xs b

@@ -29,7 +29,7 @@ use Rattle.session_text.specs.Sessions.{scenario_of}
 use Rattle.driver_input.specs.Preamble.{HasNoScenario, IsScenarioTaken}
 use Rattle.serve_run.specs.declared.command.Ending.{Ending}
 use Rattle.serve_run.specs.declared.command.Ending.TheVariants.{Told, Due}
-use Rattle.serve_run.specs.Dialogue.{EndsWith}
+use Rattle.serve_run.specs.Dialogue.{EndsWith, number_behind}
 use Rattle.serve_run.specs.Serve.{HasScene, IsEndedWell, IsNoServeRead, IsNotServed, IsNotServedOn, IsServeDue, IsServeRead, IsServeTold, IsSpoken, OnEnding}
 
 module _ (alloc : Global) (before after : Input) (files files_after : Files) (out out_after : Output) (bytes : List ℕ) (c : Catalog) (plans : List Plan) (h : History) (has : HasScene before bytes c plans)
@@ -85,22 +85,22 @@ module _ (alloc : Global) (before after : Input) (files files_after : Files) (ou
   wanting found (inr (d, ps, first, taken, read, why)) = not_served_on d found (same_catalog d ps first taken read) why
 
   -- or the dialogue ends by `stop` or with its input.
-  by_status : (s : Status) (ended : Status) (last : _) (n : ℕ) (tail : List ℕ) (now : _) (d : Catalog) (ps : List Plan) → ended ≡ s → EndsWith d ps last n tail now s → (s ≡ statuses.DiskFault → Rose files.faults files_after.faults)
+  by_status : (s : Status) (ended : Status) (last : _) (n : ℕ) (u : Option (List ℕ)) (tail : List ℕ) (now : _) (d : Catalog) (ps : List Plan) → ended ≡ s → EndsWith d ps last n u tail now s → (s ≡ statuses.DiskFault → Rose files.faults files_after.faults)
       → (s ≡ statuses.ReadFault → Rose before.faults after.faults) → (s ≡ statuses.WriteFault → ⊥) → IsEndedWell (Told ended)
-  by_status statuses.Done ended last n tail now d ps is ends disk read write = inl is
-  by_status statuses.NoMemory ended last n tail now d ps is ends disk read write = inr is
-  by_status statuses.ReadFault ended last n tail now d ps is ends disk read write = absurd (quiet.source (read refl))
-  by_status statuses.DiskFault ended last n tail now d ps is ends disk read write = absurd (quiet.rack (disk refl))
-  by_status statuses.WriteFault ended last n tail now d ps is ends disk read write = absurd (write refl)
-  by_status statuses.BadWords ended last n tail now d ps is ends disk read write = absurd ends
-  by_status statuses.BadInput ended last n tail now d ps is ends disk read write = absurd ends
-  by_status statuses.IllFormed ended last n tail now d ps is ends disk read write = absurd ends
-  by_status statuses.Limit ended last n tail now d ps is ends disk read write = absurd ends
-  by_status statuses.Unfinished ended last n tail now d ps is ends disk read write = absurd ends
-  by_status statuses.BadFile ended last n tail now d ps is ends disk read write = absurd ends
-  by_status statuses.BookDiffers ended last n tail now d ps is ends disk read write = absurd ends
-  by_status statuses.Exhausted ended last n tail now d ps is ends disk read write = absurd ends
-  by_status statuses.NotReduced ended last n tail now d ps is ends disk read write = absurd ends
+  by_status statuses.Done ended last n u tail now d ps is ends disk read write = inl is
+  by_status statuses.NoMemory ended last n u tail now d ps is ends disk read write = inr is
+  by_status statuses.ReadFault ended last n u tail now d ps is ends disk read write = absurd (quiet.source (read refl))
+  by_status statuses.DiskFault ended last n u tail now d ps is ends disk read write = absurd (quiet.rack (disk refl))
+  by_status statuses.WriteFault ended last n u tail now d ps is ends disk read write = absurd (write refl)
+  by_status statuses.BadWords ended last n u tail now d ps is ends disk read write = absurd ends
+  by_status statuses.BadInput ended last n u tail now d ps is ends disk read write = absurd ends
+  by_status statuses.IllFormed ended last n u tail now d ps is ends disk read write = absurd ends
+  by_status statuses.Limit ended last n u tail now d ps is ends disk read write = absurd ends
+  by_status statuses.Unfinished ended last n u tail now d ps is ends disk read write = absurd ends
+  by_status statuses.BadFile ended last n u tail now d ps is ends disk read write = absurd ends
+  by_status statuses.BookDiffers ended last n u tail now d ps is ends disk read write = absurd ends
+  by_status statuses.Exhausted ended last n u tail now d ps is ends disk read write = absurd ends
+  by_status statuses.NotReduced ended last n u tail now d ps is ends disk read write = absurd ends
 
   unwritten : (ended : Status) → (ended ≡ statuses.WriteFault → Rose out.faults out_after.faults) → ended ≡ statuses.WriteFault → ⊥
   unwritten ended written is = quiet_out (written is)
@@ -113,7 +113,7 @@ module _ (alloc : Global) (before after : Input) (files files_after : Files) (ou
       no_write is = unwritten ended written (told.0 ∙ is)
 
       by_spoken : IsSpoken d ps served.history first served.now taken after.left served.answers s → IsEndedWell (Told ended)
-      by_spoken (inl is) = by_status s ended is.last is.reached is.tail served.now d ps told.0 is.ends served.disk served.read no_write
+      by_spoken (inl is) = by_status s ended is.last (number_behind first is.exchanges) is.unanswered is.tail served.now d ps told.0 is.ends served.disk served.read no_write
       by_spoken (inr (none, fault, left)) = absurd (no_write fault)
 
   pub ended_well : (ending : Ending) → IsServeDue before after files files_after out out_after ending → OnEnding (λ ended. ended ≡ statuses.WriteFault → Rose out.faults out_after.faults) (λ found. ⊤) ending → IsEndedWell ending

@@ -24,7 +24,7 @@ use Rattle.driver_requests.specs.Readiness.{ready_text}
 use Rattle.serve_run.specs.Dialogue.{DialogueState, EndsWith, HasConversed, IsBetween, IsDialogue, bytes_of, driver_state, printed_of}
 use Rattle.serve_run.specs.Serve.{IsHeld, begun_on}
 use Rattle.serve_run.proofs.Turns.{write_isnt_disk, write_isnt_read}
-use Rattle.serve_run.proofs.Exchanges.{are_answered, answers_given, between, both_go, goes_on, lines_taken, no_read_fault, no_write_fault, same_catalog}
+use Rattle.serve_run.proofs.Exchanges.{are_answered, answers_given, between, both_go, goes_on, lines_taken, no_read_fault, no_write_fault, numbered, same_catalog}
 
 -- a text that is told behind another that went out is told with it
 pub told_behind : (x y z : Output) (status ended : Status) (front text : List ℕ) → Appends x.taken y.taken front → y.faults ≡ x.faults → IsTold status text y z ended → IsTold status (front ++ text) x z ended
@@ -82,8 +82,11 @@ module _ {S K R B : Type 0} (s : Sources S) (k : Sinks K) (r : Racks R) (honest 
       stops = is.over.stops;
       tail = is.over.cut.tail;
       printed = refl;
-      reached = mid.number;
-      ends = subst (λ c. EndsWith c plans (driver_state mid) mid.number is.over.cut.tail b.engine.core status) (same_catalog s k r honest plans a mid is.exchanges is.exchanged) is.over.cut.ends;
+      unanswered = is.over.unanswered;
+      line = is.over.line;
+      ends =
+          subst (λ n. EndsWith a.engine.catalog plans (driver_state mid) n is.over.unanswered is.over.cut.tail b.engine.core status) (numbered s k r honest plans a mid is.exchanges is.exchanged)
+          (subst (λ c. EndsWith c plans (driver_state mid) mid.number is.over.unanswered is.over.cut.tail b.engine.core status) (same_catalog s k r honest plans a mid is.exchanges is.exchanged) is.over.cut.ends);
     }
 
     told : IsTold status text (output k a.sink) (output k b.sink) ended

@@ -123,11 +123,13 @@ module _ {S K R B : Type 0} (s : Sources S) (k : Sinks K) (r : Racks R) (plans :
   answered_short None line short (text, answered, told, whole) = (text, inl (short, answered), told, whole)
 
   -- a line was taken, and the dialogue ended with it
-  pub over_amid : (result : Option Status) → s.faults source ≤ s.faults source' → IfSome result (IsCutAmid k r plans (driver_state a) n sink sink' e e') → IfSome result (IsOver s k r plans a (b n))
-  over_amid None later is = tt
-  over_amid (Some status) later is = record {
+  pub over_amid : (result : Option Status) (line : List ℕ) → cut 10 (ready ++ given) ≡ Some (line, rest) → s.faults source ≤ s.faults source' → IfSome result (IsCutAmid k r plans (driver_state a) n line sink sink' e e') → IfSome result (IsOver s k r plans a (b n))
+  over_amid None line front later is = tt
+  over_amid (Some status) line front later is = record {
     given = given;
     consumed = consumed;
+    unanswered = Some line;
+    line = (rest, front);
     cut = is.cut;
     stops = λ done. absurd (is.not_stopped done);
     read = λ unread. absurd (is.not_unread unread);
@@ -140,8 +142,8 @@ module _ {S K R B : Type 0} (s : Sources S) (k : Sinks K) (r : Racks R) (plans :
   own = goes_none r.disk r.faults (plans ++ []) e at.machine at.each
 
   -- the dialogue ended by a fault, or by want of memory
-  abbrev faulty : (fault : Fault) (ended : Status) → (fault ≢ faults.DiskFault) → IsTold (status_of fault) (fault_line fault) (output k sink) (output k sink') ended
-      → IsCutShort k r plans (record { core = e.core; unfinished = ps }) n sink sink' e e ended
+  abbrev faulty : {unanswered : Option (List ℕ)} (fault : Fault) (ended : Status) → (fault ≢ faults.DiskFault) → IsTold (status_of fault) (fault_line fault) (output k sink) (output k sink') ended
+      → IsCutShort k r plans (record { core = e.core; unfinished = ps }) n unanswered sink sink' e e ended
   faulty faults.ReadFault ended isnt told = record {
     tail = fault_line faults.ReadFault;
     status = ReadFault;
@@ -173,6 +175,8 @@ module _ {S K R B : Type 0} (s : Sources S) (k : Sinks K) (r : Racks R) (plans :
   over_by_fault fault ended given consumed later (inl (is, rose)) told = record {
     given = given;
     consumed = consumed;
+    unanswered = None;
+    line = tt;
     cut = faulty faults.ReadFault ended read_fault_isnt_disk_fault (subst (λ f. IsTold (status_of f) (fault_line f) (output k sink) (output k sink') ended) is told);
     stops = λ done. absurd (read_isnt_done done);
     read = λ unread. rose;
@@ -181,6 +185,8 @@ module _ {S K R B : Type 0} (s : Sources S) (k : Sinks K) (r : Racks R) (plans :
   over_by_fault fault ended given consumed later (inr is) told = record {
     given = given;
     consumed = consumed;
+    unanswered = None;
+    line = tt;
     cut = faulty faults.NoMemory ended want_isnt_disk_fault (subst (λ f. IsTold (status_of f) (fault_line f) (output k sink) (output k sink') ended) is told);
     stops = λ done. absurd (memory_isnt_done done);
     read = λ unread. absurd (memory_isnt_read unread);
@@ -191,13 +197,13 @@ module _ {S K R B : Type 0} (s : Sources S) (k : Sinks K) (r : Racks R) (plans :
   pub refused_amid : (result : Option Status) (line : List ℕ) → most_line < length line
       → IfSome result (λ ended. ((ended ≡ WriteFault) × IsTold WriteFault (line_of (bad_line_words n)) (output k sink) (output k sink') ended × Rose (k.faults sink) (k.faults sink'))
       ⊎ IsTold NoMemory (fault_line faults.NoMemory) (output k sink) (output k sink') ended)
-      → IfSome result (IsCutAmid k r plans (record { core = e.core; unfinished = ps }) n sink sink' e e)
+      → IfSome result (IsCutAmid k r plans (record { core = e.core; unfinished = ps }) n line sink sink' e e)
   refused_amid None line long is = tt
   refused_amid (Some ended) line long (inl (same, told, rose)) = record {
     cut = record {
       tail = line_of (bad_line_words n);
       status = WriteFault;
-      ends = (line, record { core = e.core; unfinished = ps }, inr (long, refl, refl), refl);
+      ends = (line, refl, record { core = e.core; unfinished = ps }, inr (long, refl, refl), refl);
       told = told;
       spelled = [];
       goes = own;
@@ -227,6 +233,8 @@ module _ {S K R B : Type 0} (s : Sources S) (k : Sinks K) (r : Racks R) (plans :
   over_by_stop given consumed later stop nothing = record {
     given = given;
     consumed = consumed;
+    unanswered = None;
+    line = tt;
     cut = record {
       tail = [];
       status = Done;
@@ -247,13 +255,13 @@ module _ {S K R B : Type 0} (s : Sources S) (k : Sinks K) (r : Racks R) (plans :
 module _ {K R B : Type 0} (k : Sinks K) (r : Racks R) (plans : List Plan) (d : DriverState) (n : ℕ) (sink sink' : K) (e e' : EngineState R B) (spelled : List Plan) (goes : GoesOn r.disk r.faults (plans ++ spelled) e e') where
   -- its answer was not given whole
   pub given_amid : (result : Option Status) (line text : List ℕ) (t : DriverState) → IsAnswered e.catalog plans d n line t text → e'.core ≡ t.core → e'.phase ≡ Settled
-      → IfSome result (λ ended. (ended ≡ WriteFault) × IsTold WriteFault text (output k sink) (output k sink') ended × Rose (k.faults sink) (k.faults sink')) → IfSome result (IsCutAmid k r plans d n sink sink' e e')
+      → IfSome result (λ ended. (ended ≡ WriteFault) × IsTold WriteFault text (output k sink) (output k sink') ended × Rose (k.faults sink) (k.faults sink')) → IfSome result (IsCutAmid k r plans d n line sink sink' e e')
   given_amid None line text t answered core settled is = tt
   given_amid (Some ended) line text t answered core settled (same, told, rose) = record {
     cut = record {
       tail = text;
       status = WriteFault;
-      ends = (line, t, answered, core);
+      ends = (line, refl, t, answered, core);
       told = told;
       spelled = spelled;
       goes = goes;
@@ -265,13 +273,13 @@ module _ {K R B : Type 0} (k : Sinks K) (r : Racks R) (plans : List Plan) (d : D
     not_unread = write_isnt_read;
   }
 
-  some_line : (line : List ℕ) (core : CoreState) → (core ≡ d.core) ⊎ LeadsTo e.catalog plans d line (request_of line) core → (core ≡ d.core) ⊎ ((l : List ℕ) × LeadsTo e.catalog plans d l (request_of l) core)
+  some_line : (line : List ℕ) (core : CoreState) → (core ≡ d.core) ⊎ LeadsTo e.catalog plans d line (request_of line) core → (core ≡ d.core) ⊎ ((l : List ℕ) × (Some line ≡ Some l) × LeadsTo e.catalog plans d l (request_of l) core)
   some_line line core (inl is) = inl is
-  some_line line core (inr leads) = inr (line, leads)
+  some_line line core (inr leads) = inr (line, refl, leads)
 
   -- it was not answered
   pub cut_amid : (cut : Cut) (ended : Status) (line : List ℕ) → IsLineCut e.catalog plans d line cut e'.core → IsTold (status_of (fault_of cut)) (fault_line (fault_of cut)) (output k sink) (output k sink') ended
-      → (cut ≡ cuts.DiskFault → (e'.phase ≡ Closed) × Rose (r.faults e.files.rack) (r.faults e'.files.rack)) → (cut ≢ cuts.DiskFault → e'.phase ≡ Settled) → IsCutAmid k r plans d n sink sink' e e' ended
+      → (cut ≡ cuts.DiskFault → (e'.phase ≡ Closed) × Rose (r.faults e.files.rack) (r.faults e'.files.rack)) → (cut ≢ cuts.DiskFault → e'.phase ≡ Settled) → IsCutAmid k r plans d n line sink sink' e e' ended
   cut_amid cuts.DiskFault ended line is told closed settled = record {
     cut = record {
       tail = fault_line faults.DiskFault;

@@ -1,5 +1,5 @@
 -- The lines of a driver one after another, each with its answer before the next is taken.
-use Rattle.std.specs.Prelude.{◌≡◌, ◌≢◌, ◌⊎◌, ◌≤◌, ◌<◌, ◌+◌, ◌-◌, ◌^◌, ℕ, List, [], ◌∷◌, ◌++◌, flat_map, length, min, codes, Option, Some, None}
+use Rattle.std.specs.Prelude.{⊤, ◌≡◌, ◌≢◌, ◌⊎◌, ◌≤◌, ◌<◌, ◌+◌, ◌-◌, ◌^◌, ℕ, List, [], ◌∷◌, ◌++◌, flat_map, length, min, codes, Option, Some, None}
 use Rattle.std.specs.Io.KnownBytes.{Appends, Consumes, IsAtEnd}
 use Rattle.process_flow.specs.Causes.{Rose}
 use Rattle.process_flow.specs.declared.source.Source.{Ghosts as Sources}
@@ -134,17 +134,29 @@ printed_of xs = flat_map (λ x. x.answer) xs
 abbrev pub bytes_of : List Exchange → List ℕ
 bytes_of xs = flat_map (λ x. x.line ++ 10 ∷ []) xs
 
+-- the number of the line behind these, of which the first has the number n
+abbrev pub number_behind : ℕ → List Exchange → ℕ
+number_behind n [] = n
+number_behind n (x ∷ xs) = number_behind (next_number n) xs
+
+-- the line that was taken last and whose answer was not given, if there is one, stands in front of these bytes
+abbrev pub IsInFront : Option (List ℕ) → List ℕ → Type 0
+IsInFront None bytes = ⊤
+IsInFront (Some line) bytes = (behind : List ℕ) × (cut 10 bytes ≡ Some (line, behind))
+
 -- How a dialogue ends behind the lines that were answered, with what is printed last: by `stop`, or with its input; by a fault, or for want of memory, which
--- has a line; or an answer was not taken whole. What the machine kept is what the answered lines make; or, where memory was wanting to print an
--- answer or it was not taken, that line too.
-abbrev pub EndsWith : Catalog → List Plan → DriverState → ℕ → List ℕ → CoreState → Status → Type 0
-EndsWith c plans last n tail now Done = (tail ≡ []) × (now ≡ last.core)
-EndsWith c plans last n tail now ReadFault = (tail ≡ refusal_line refusals.ReadFault) × (now ≡ last.core)
-EndsWith c plans last n tail now DiskFault = (tail ≡ refusal_line refusals.DiskFault) × (now ≡ last.core)
-EndsWith c plans last n tail now NoMemory =
-    (tail ≡ refusal_line refusals.NoMemory) × ((now ≡ last.core) ⊎ ((line : List ℕ) × LeadsTo c plans last line (request_of line) now))
-EndsWith c plans last n tail now WriteFault = (line : List ℕ) × (t : DriverState) × IsAnswered c plans last n line t tail × (now ≡ t.core)
-EndsWith c plans last n tail now status = ⊥
+-- has a line; or the answer to line n, which was taken last, was not given whole. What the machine kept is what the answered lines make; or, where
+-- memory was wanting to print that answer or it was not given whole, that line too.
+abbrev pub EndsWith : Catalog → List Plan → DriverState → ℕ → Option (List ℕ) → List ℕ → CoreState → Status → Type 0
+EndsWith c plans last n unanswered tail now Done = (tail ≡ []) × (now ≡ last.core)
+EndsWith c plans last n unanswered tail now ReadFault = (tail ≡ refusal_line refusals.ReadFault) × (now ≡ last.core)
+EndsWith c plans last n unanswered tail now DiskFault = (tail ≡ refusal_line refusals.DiskFault) × (now ≡ last.core)
+EndsWith c plans last n unanswered tail now NoMemory =
+    (tail ≡ refusal_line refusals.NoMemory)
+    × ((now ≡ last.core) ⊎ ((line : List ℕ) × (unanswered ≡ Some line) × LeadsTo c plans last line (request_of line) now))
+EndsWith c plans last n unanswered tail now WriteFault =
+    (line : List ℕ) × (unanswered ≡ Some line) × (t : DriverState) × IsAnswered c plans last n line t tail × (now ≡ t.core)
+EndsWith c plans last n unanswered tail now status = ⊥
 
 -- the line that comes next is `stop`, or no line comes
 abbrev pub IsStop : List ℕ → Option (List ℕ) → Type 0
@@ -159,11 +171,12 @@ IsNext ready rest before after LongLine =
     (given : List ℕ) × (line : List ℕ) × Consumes before after given × (cut 10 (ready ++ given) ≡ Some (line, rest)) × (most_line < length line)
 IsNext ready rest before after Stop = (given : List ℕ) × Consumes before after given × IsStop (ready ++ given) after
 
--- What is printed last, and at which status the dialogue ends with it: an engine and a sink went from one state to the last.
-pub record IsCutShort {K R B : Type 0} (k : Sinks K) (r : Racks R) (plans : List Plan) (s : DriverState) (n : ℕ) (sink sink_after : K) (engine engine_after : EngineState R B) (ended : Status) : Type 0 where
+-- What is printed last, and at which status the dialogue ends with it: an engine and a sink went from one state to the last. A line may have been
+-- taken meanwhile, whose answer was not given.
+pub record IsCutShort {K R B : Type 0} (k : Sinks K) (r : Racks R) (plans : List Plan) (s : DriverState) (n : ℕ) (unanswered : Option (List ℕ)) (sink sink_after : K) (engine engine_after : EngineState R B) (ended : Status) : Type 0 where
   pub tail : List ℕ
   pub status : Status
-  pub ends : EndsWith engine.catalog plans s n tail engine_after.core status
+  pub ends : EndsWith engine.catalog plans s n unanswered tail engine_after.core status
   pub told : IsTold status tail (output k sink) (output k sink_after) ended
   -- no start was under way but of a plan of the scenario, or of these
   pub spelled : List Plan
@@ -173,9 +186,9 @@ pub record IsCutShort {K R B : Type 0} (k : Sinks K) (r : Racks R) (plans : List
   pub disk : status ≡ DiskFault → Rose (r.faults engine.files.rack) (r.faults engine_after.files.rack)
   pub write : status ≡ WriteFault → Rose (k.faults sink) (k.faults sink_after)
 
--- the same where a line was taken
-pub record IsCutAmid {K R B : Type 0} (k : Sinks K) (r : Racks R) (plans : List Plan) (s : DriverState) (n : ℕ) (sink sink_after : K) (engine engine_after : EngineState R B) (ended : Status) : Type 0 where
-  pub cut : IsCutShort k r plans s n sink sink_after engine engine_after ended
+-- the same where this line was taken
+pub record IsCutAmid {K R B : Type 0} (k : Sinks K) (r : Racks R) (plans : List Plan) (s : DriverState) (n : ℕ) (line : List ℕ) (sink sink_after : K) (engine engine_after : EngineState R B) (ended : Status) : Type 0 where
+  pub cut : IsCutShort k r plans s n (Some line) sink sink_after engine engine_after ended
   pub not_stopped : cut.status ≢ Done
   pub not_unread : cut.status ≢ ReadFault
 
@@ -183,7 +196,10 @@ pub record IsCutAmid {K R B : Type 0} (k : Sinks K) (r : Racks R) (plans : List 
 pub record IsOver {S K R B : Type 0} (s : Sources S) (k : Sinks K) (r : Racks R) (plans : List Plan) (a b : DialogueState S K R B) (ended : Status) : Type 0 where
   pub given : List ℕ
   pub consumed : Consumes (s.left a.source) (s.left b.source) given
-  pub cut : IsCutShort k r plans (driver_state a) a.number a.sink b.sink a.engine b.engine ended
+  -- the line that was taken, if one was, is the first of the bytes that no line took
+  pub unanswered : Option (List ℕ)
+  pub line : IsInFront unanswered (a.ready ++ given)
+  pub cut : IsCutShort k r plans (driver_state a) a.number unanswered a.sink b.sink a.engine b.engine ended
   pub stops : cut.status ≡ Done → IsStop (a.ready ++ given) (s.left b.source)
   pub read : cut.status ≡ ReadFault → Rose (s.faults a.source) (s.faults b.source)
   pub later : s.faults a.source ≤ s.faults b.source
@@ -206,5 +222,7 @@ pub record HasConversed (c : Catalog) (plans : List Plan) (first : DriverState) 
   pub stops : status ≡ Done → IsStop rest left
   pub tail : List ℕ
   pub printed : text ≡ printed_of exchanges ++ tail
-  pub reached : ℕ
-  pub ends : EndsWith c plans last reached tail now status
+  -- a line that was taken and whose answer was not given is the next one
+  pub unanswered : Option (List ℕ)
+  pub line : IsInFront unanswered rest
+  pub ends : EndsWith c plans last (number_behind n exchanges) unanswered tail now status

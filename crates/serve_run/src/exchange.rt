@@ -78,7 +78,7 @@ fn respond<K: Sink, R: Rack + Drop, B: Resource>(
     requires line { length line.now ≤ most_line }
     ensures on { IfNone result ((text : List ℕ) × IsLineAnswered engine.old.catalog plans.now (record { core = engine.old.core; unfinished = pieces.old.items }) number line.now
         (record { core = engine.new.core; unfinished = pieces.new.items }) text × Appends (K.taken sink.old) (K.taken sink.new) text × (K.faults sink.new ≡ K.faults sink.old)) }
-    ensures over { IfSome result (IsCutAmid K.Sink R.Rack plans.now (record { core = engine.old.core; unfinished = pieces.old.items }) number sink.old sink.new engine.old engine.new) }
+    ensures over { IfSome result (IsCutAmid K.Sink R.Rack plans.now (record { core = engine.old.core; unfinished = pieces.old.items }) number line.now sink.old sink.new engine.old engine.new) }
     ensures goes { (spelled : List Plan') × GoesOn R.disk R.faults (plans.now ++ spelled) engine.old engine.new }
     ensures handed { IfNone result (AreHandedBy engine.new.core pieces.new.items) }
     ensures ready { IfNone result (IsReady B.meaning B.sort engine.new) }

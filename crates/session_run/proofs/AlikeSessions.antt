@@ -8,7 +8,7 @@ use Rattle.process_tree.specs.declared.plan.Plan.{Plan}
 use Rattle.process_tree.specs.declared.play.Outcome.{Outcome}
 use Rattle.process_text.specs.Canonical.{line_of}
 use Rattle.process_tree.specs.declared.entry.Entry.{Entry}
-use Rattle.schedule_model.specs.Course.{Course, course_of, courses_of, op_of}
+use Rattle.schedule_model.specs.Course.{Course, course_of, courses_of, op_of, key_of}
 use Rattle.schedule_model.specs.Histories.{acts, is_in, starts}
 use Rattle.commute_table.specs.declared.catalog.Catalog.{Catalog}
 use Rattle.machine_model.specs.declared.replies.StartWhy.{StartWhy}
@@ -92,7 +92,7 @@ module _ (c : CoreState) (qs : List Plan) (equal : AreEqualInTurn c.plans qs) wh
     where
       -- the same act, by the operation of its step
       act_by : List Course → Entry
-      act_by cs = record { process = p.process; step = p.step; op = op_of cs p.process p.step; undo = same_work p.work Undo }
+      act_by cs = record { process = p.process; step = p.step; op = op_of cs p.process p.step; key = key_of cs p.process p.step; undo = same_work p.work Undo }
 
       entry : act_of c.plans p ≡ act_of qs p
       entry = ap act_by pc

@@ -25,9 +25,11 @@ use Rattle.process_journal.specs.Laws.{AreEqualInTurn}
 use Rattle.process_journal.proofs.PlansAlike.{same_courses}
 use Rattle.history_files.specs.Effects.{effect_of, effects_from, subsystem_of, verb_of}
 use Rattle.process_report.specs.Names.{names_in, process_name, step_name, op_name}
-use Rattle.process_report.specs.Lines.{Line, cause_line, entry_line, event_line, place_word, step_line}
+use Rattle.trace_verify.specs.declared.form.Form.{Form}
+use Rattle.trace_verify.specs.Forms.{first_title}
+use Rattle.process_report.specs.Lines.{Line, cause_line, entry_line, event_line, key_words, place_word, step_line}
 use Rattle.process_report.specs.Blocks.{block_words, rule_word}
-use Rattle.process_report.specs.Report.{conflicts_lines, end_line, end_words, path_words, report_text, section}
+use Rattle.process_report.specs.Report.{conflicts_lines, end_line, form_of, end_words, path_words, report_text, section}
 use Rattle.scenario_run.proofs.OneOf.{equal_plan}
 use Rattle.session_text.specs.Answers.{admit_words, exhausted_words, finish_words, next_lines, next_words, numbered, piece_words, refusal_words, wait_words, work_words}
 
@@ -123,13 +125,13 @@ module _ (ps qs : List Plan) (equal : AreEqualInTurn ps qs) where
   finish_same p no_piece = refl
   finish_same p no_refusal = refl
 
-  entry_same : (ops : List Op) (e : Entry) → entry_line ps ops e ≡ entry_line qs ops e
-  entry_same ops e = ap (λ w. (if e.undo then codes "undo" else codes "do") ∷ w ∷ op_name ops e.op ∷ []) (place_same e.process e.step)
+  entry_same : (form : Form) (ops : List Op) (e : Entry) → entry_line form ps ops e ≡ entry_line form qs ops e
+  entry_same form ops e = ap (λ w. (if e.undo then codes "undo" else codes "do") ∷ w ∷ op_name ops e.op ∷ key_words form e.key) (place_same e.process e.step)
 
-  event_same : (ops : List Op) (e : Event) → event_line ps ops e ≡ event_line qs ops e
-  event_same ops (Start i) = ap (λ w. codes "start" ∷ decimal i ∷ w ∷ []) (process_name_same i)
-  event_same ops (Act e) = entry_same ops e
-  event_same ops (End i) = refl
+  event_same : (form : Form) (ops : List Op) (e : Event) → event_line form ps ops e ≡ event_line form qs ops e
+  event_same form ops (Start i) = ap (λ w. codes "start" ∷ decimal i ∷ w ∷ []) (process_name_same i)
+  event_same form ops (Act e) = entry_same form ops e
+  event_same form ops (End i) = refl
 
   cause_same : (b : ℕ × Cause) → cause_line ps b ≡ cause_line qs b
   cause_same (i, causes.Refused b) = ap (λ w. decimal i ∷ codes "refused" ∷ w ∷ []) (step_name_same i b)
@@ -146,7 +148,7 @@ module _ (ps qs : List Plan) (equal : AreEqualInTurn ps qs) where
   -- the report with these lines in its sections
   abbrev report_by : Catalog → List Line → List Line → List Line → List Line → List Line → List Line → List ℕ
   report_by c history completion ends began trace serial =
-      section (codes "conflicts") (conflicts_lines c)
+      section (first_title (form_of c)) (conflicts_lines c)
       ++ section (codes "history") history
       ++ section (codes "completion") completion
       ++ section (codes "ends") ends
@@ -157,22 +159,22 @@ module _ (ps qs : List Plan) (equal : AreEqualInTurn ps qs) where
   -- with the completion and the trace by these courses
   abbrev report_with : Catalog → List Plan → List Event → List (ℕ × Cause) → List Event → Trace → List ℕ
   report_with c plans es began added t =
-      report_by c (map (event_line plans c.ops) es) (map (event_line plans c.ops) added) (map (end_line (record { plans = plans; events = es })) (numbers_from 1 (length plans)))
-      (map (cause_line plans) began) (map step_line t.steps) (map (entry_line plans c.ops) t.list)
+      report_by c (map (event_line (form_of c) plans c.ops) es) (map (event_line (form_of c) plans c.ops) added) (map (end_line (record { plans = plans; events = es })) (numbers_from 1 (length plans)))
+      (map (cause_line plans) began) (map step_line t.steps) (map (entry_line (form_of c) plans c.ops) t.list)
 
   report_with_same : (c : Catalog) (es : List Event) (began : List (ℕ × Cause)) (added : List Event) (t : Trace) → report_with c ps es began added t ≡ report_with c qs es began added t
   report_with_same c es began added t =
-      let history = map_same (event_line ps c.ops) (event_line qs c.ops) (event_same c.ops) es in
-      let completed = map_same (event_line ps c.ops) (event_line qs c.ops) (event_same c.ops) added in
+      let history = map_same (event_line (form_of c) ps c.ops) (event_line (form_of c) qs c.ops) (event_same (form_of c) c.ops) es in
+      let completed = map_same (event_line (form_of c) ps c.ops) (event_line (form_of c) qs c.ops) (event_same (form_of c) c.ops) added in
       let ends = map_same (end_line (record { plans = ps; events = es })) (end_line (record { plans = qs; events = es })) (end_same es) (numbers_from 1 (length ps))
       ∙ ap (λ n. map (end_line (record { plans = qs; events = es })) (numbers_from 1 n)) (equal_count ps qs equal) in
       let causes = map_same (cause_line ps) (cause_line qs) cause_same began in
-      let serial = map_same (entry_line ps c.ops) (entry_line qs c.ops) (entry_same c.ops) t.list in
-      ap (λ x. report_by c x (map (event_line ps c.ops) added) (map (end_line (record { plans = ps; events = es })) (numbers_from 1 (length ps))) (map (cause_line ps) began) (map step_line t.steps) (map (entry_line ps c.ops) t.list)) history
-      ∙ ap (λ x. report_by c (map (event_line qs c.ops) es) x (map (end_line (record { plans = ps; events = es })) (numbers_from 1 (length ps))) (map (cause_line ps) began) (map step_line t.steps) (map (entry_line ps c.ops) t.list)) completed
-      ∙ ap (λ x. report_by c (map (event_line qs c.ops) es) (map (event_line qs c.ops) added) x (map (cause_line ps) began) (map step_line t.steps) (map (entry_line ps c.ops) t.list)) ends
-      ∙ ap (λ x. report_by c (map (event_line qs c.ops) es) (map (event_line qs c.ops) added) (map (end_line (record { plans = qs; events = es })) (numbers_from 1 (length qs))) x (map step_line t.steps) (map (entry_line ps c.ops) t.list)) causes
-      ∙ ap (λ x. report_by c (map (event_line qs c.ops) es) (map (event_line qs c.ops) added) (map (end_line (record { plans = qs; events = es })) (numbers_from 1 (length qs))) (map (cause_line qs) began) (map step_line t.steps) x) serial
+      let serial = map_same (entry_line (form_of c) ps c.ops) (entry_line (form_of c) qs c.ops) (entry_same (form_of c) c.ops) t.list in
+      ap (λ x. report_by c x (map (event_line (form_of c) ps c.ops) added) (map (end_line (record { plans = ps; events = es })) (numbers_from 1 (length ps))) (map (cause_line ps) began) (map step_line t.steps) (map (entry_line (form_of c) ps c.ops) t.list)) history
+      ∙ ap (λ x. report_by c (map (event_line (form_of c) qs c.ops) es) x (map (end_line (record { plans = ps; events = es })) (numbers_from 1 (length ps))) (map (cause_line ps) began) (map step_line t.steps) (map (entry_line (form_of c) ps c.ops) t.list)) completed
+      ∙ ap (λ x. report_by c (map (event_line (form_of c) qs c.ops) es) (map (event_line (form_of c) qs c.ops) added) x (map (cause_line ps) began) (map step_line t.steps) (map (entry_line (form_of c) ps c.ops) t.list)) ends
+      ∙ ap (λ x. report_by c (map (event_line (form_of c) qs c.ops) es) (map (event_line (form_of c) qs c.ops) added) (map (end_line (record { plans = qs; events = es })) (numbers_from 1 (length qs))) x (map step_line t.steps) (map (entry_line (form_of c) ps c.ops) t.list)) causes
+      ∙ ap (λ x. report_by c (map (event_line (form_of c) qs c.ops) es) (map (event_line (form_of c) qs c.ops) added) (map (end_line (record { plans = qs; events = es })) (numbers_from 1 (length qs))) (map (cause_line qs) began) (map step_line t.steps) x) serial
 
   pub report_same : (c : Catalog) (es : List Event) (began : List (ℕ × Cause)) → report_text c (record { plans = ps; events = es }) began ≡ report_text c (record { plans = qs; events = es }) began
   report_same c es began =

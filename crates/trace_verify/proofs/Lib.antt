@@ -2,6 +2,7 @@ pub mod Cuts
 pub mod Readings
 pub mod Naming
 pub mod NumbersKept
+pub mod MarkedPairs
 pub mod StepsApplied
 pub mod Tables
 pub mod FirstBadLine

@@ -4,10 +4,11 @@ use Rattle.std.proofs.lemmas.List.{take_all}
 use Rattle.std.proofs.Math.Dec.{eqb-zero-suc, eqb-suc-zero, eqb-suc-suc}
 use Rattle.std.specs.List.{list_any}
 use Rattle.process_tree.specs.declared.entry.Entry.{Entry}
+use Rattle.process_tree.specs.Conflicts.{Access}
 use Rattle.process_tree.specs.Making.{same_text}
 use Rattle.process_text.proofs.NumberWords.{are_same-refl}
 use Rattle.trace_verify.specs.Forms.{NamedAct, Pair}
-use Rattle.trace_verify.specs.Names.{is_among, with_name, with_names, number_among, is_named, StandOnce, entry_of, names_both}
+use Rattle.trace_verify.specs.Names.{is_among, with_name, with_names, number_among, is_named, StandOnce, entry_of, line_covers}
 use Rattle.trace_verify.proofs.Naming.{among-snoc, number-in_front, number-new, same}
 
 -- a list that isn't empty is its first and the others
@@ -58,8 +59,8 @@ number-kept names (v ∷ ws) w there = let one = kept names v w there in number-
 pub entry-kept : (steps ops ws vs : List (List ℕ)) (a : NamedAct) → is_among steps a.step ≡ true → is_among ops a.op ≡ true
     → entry_of steps ops a ≡ entry_of (with_names steps ws) (with_names ops vs) a
 entry-kept steps ops ws vs a step op =
-    ap (λ n. record { process = a.process; step = n; op = number_among ops a.op; undo = a.undo }) (sym (number-kept steps ws a.step step))
-    ∙ ap (λ n. record { process = a.process; step = number_among (with_names steps ws) a.step; op = n; undo = a.undo }) (sym (number-kept ops vs a.op op))
+    ap (λ n. record { process = a.process; step = n; op = number_among ops a.op; key = a.key; undo = a.undo }) (sym (number-kept steps ws a.step step))
+    ∙ ap (λ n. record { process = a.process; step = number_among (with_names steps ws) a.step; op = n; key = a.key; undo = a.undo }) (sym (number-kept ops vs a.op op))
 
 -- one entry more
 pub entries-next : (f : NamedAct → Entry) (rest after : List NamedAct) (a : NamedAct) (done new all : List Entry) (e : Entry) → rest ≡ a ∷ after
@@ -145,12 +146,12 @@ or_assoc true y z = refl
 or_assoc false y z = refl
 
 -- a pair of the rest comes into the table
-pub pairs-next : (ops : List (List ℕ)) (a b : ℕ) (rest after : List Pair) (p : Pair) (old new all : Bool) → rest ≡ p ∷ after
-    → (old || list_any (names_both ops a b) rest) ≡ all → new ≡ (old || names_both ops a b p) → (new || list_any (names_both ops a b) after) ≡ all
+pub pairs-next : (ops : List (List ℕ)) (a b : Access) (rest after : List Pair) (p : Pair) (old new all : Bool) → rest ≡ p ∷ after
+    → (old || list_any (line_covers ops a b) rest) ≡ all → new ≡ (old || line_covers ops a b p) → (new || list_any (line_covers ops a b) after) ≡ all
 pairs-next ops a b rest after p old new all is so_far marked =
-    ap (λ x. x || list_any (names_both ops a b) after) marked
-    ∙ (or_assoc old (names_both ops a b p) (list_any (names_both ops a b) after)
-    ∙ (ap (λ ps. old || list_any (names_both ops a b) ps) (sym is) ∙ so_far))
+    ap (λ x. x || list_any (line_covers ops a b) after) marked
+    ∙ (or_assoc old (line_covers ops a b p) (list_any (line_covers ops a b) after)
+    ∙ (ap (λ ps. old || list_any (line_covers ops a b) ps) (sym is) ∙ so_far))
 
 -- its first, as it is read
 pub first-of : {X : Type 0} (rest : List X) (d : X) → 1 ≤ length rest → get_or rest 0 d ≡ get_or rest 0 (get_or rest 0 d)

@@ -74,22 +74,25 @@ module _ (steps ops : List (List ℕ)) where
   -- an entry that is printed so is what is printed
   printed-same : (e : Entry) (a : NamedAct) → is_printed steps ops e a ≡ true → printed_by steps ops e ≡ a
   printed-same e a is =
-      let made : ℕ → List ℕ → List ℕ → Bool → NamedAct = λ p s o u. record { process = p; step = s; op = o; undo = u } in
-      let outer = and_parts (nat_eq e.process a.process && is_named steps e.step a.step && is_named ops e.op a.op) (same_way e.undo a.undo) is in
+      let made : ℕ → List ℕ → List ℕ → ℕ → Bool → NamedAct = λ p s o k u. record { process = p; step = s; op = o; key = k; undo = u } in
+      let keyed = and_parts (nat_eq e.process a.process && is_named steps e.step a.step && is_named ops e.op a.op && nat_eq e.key a.key) (same_way e.undo a.undo) is in
+      let outer = and_parts (nat_eq e.process a.process && is_named steps e.step a.step && is_named ops e.op a.op) (nat_eq e.key a.key) keyed.0 in
       let middle = and_parts (nat_eq e.process a.process && is_named steps e.step a.step) (is_named ops e.op a.op) outer.0 in
       let inner = and_parts (nat_eq e.process a.process) (is_named steps e.step a.step) middle.0 in
-      ap (λ p. made p (get_or steps e.step []) (get_or ops e.op []) e.undo) (eqb-true e.process a.process inner.0)
-      ∙ (ap (λ s. made a.process s (get_or ops e.op []) e.undo) (named-read steps e.step a.step inner.1)
-      ∙ (ap (λ o. made a.process a.step o e.undo) (named-read ops e.op a.op middle.1)
-      ∙ ap (λ u. made a.process a.step a.op u) (same_way-same e.undo a.undo outer.1)))
+      ap (λ p. made p (get_or steps e.step []) (get_or ops e.op []) e.key e.undo) (eqb-true e.process a.process inner.0)
+      ∙ (ap (λ s. made a.process s (get_or ops e.op []) e.key e.undo) (named-read steps e.step a.step inner.1)
+      ∙ (ap (λ o. made a.process a.step o e.key e.undo) (named-read ops e.op a.op middle.1)
+      ∙ (ap (λ k. made a.process a.step a.op k e.undo) (eqb-true e.key a.key outer.1)
+      ∙ ap (λ u. made a.process a.step a.op a.key u) (same_way-same e.undo a.undo keyed.1))))
 
   -- and what is printed of it is printed so, where it has numbers of these names
   printed-itself : (e : Entry) → (e.step < length steps) × (e.op < length ops) → is_printed steps ops e (printed_by steps ops e) ≡ true
   printed-itself e numbers =
-      and_from (nat_eq e.process e.process && is_named steps e.step (get_or steps e.step []) && is_named ops e.op (get_or ops e.op [])) (same_way e.undo e.undo)
+      and_from (nat_eq e.process e.process && is_named steps e.step (get_or steps e.step []) && is_named ops e.op (get_or ops e.op []) && nat_eq e.key e.key) (same_way e.undo e.undo)
+      (and_from (nat_eq e.process e.process && is_named steps e.step (get_or steps e.step []) && is_named ops e.op (get_or ops e.op [])) (nat_eq e.key e.key)
       (and_from (nat_eq e.process e.process && is_named steps e.step (get_or steps e.step [])) (is_named ops e.op (get_or ops e.op []))
       (and_from (nat_eq e.process e.process) (is_named steps e.step (get_or steps e.step [])) (eq-eqb e.process e.process refl) (named-itself steps e.step numbers.0))
-      (named-itself ops e.op numbers.1)) (same_way-refl e.undo)
+      (named-itself ops e.op numbers.1)) (eq-eqb e.key e.key refl)) (same_way-refl e.undo)
 
   -- where nothing differs, the list is printed so
   pub none-differs : (n : ℕ) (es : List Entry) (acts : List NamedAct) → differs_from steps ops n es acts ≡ None → map (printed_by steps ops) es ≡ acts

@@ -2,7 +2,7 @@
 use Rattle.std.proofs.Common.{◌≡◌, ℕ, ◌+◌, ◌<◌, ◌≤◌, true, List, [], ◌∷◌, length, map, sym, refl, ap, subst, arith}
 use Rattle.std.proofs.lemmas.List.{length-map}
 use Rattle.process_tree.specs.declared.entry.Entry.{Entry}
-use Rattle.process_tree.specs.Conflicts.{Table, operations_in}
+use Rattle.process_tree.specs.Conflicts.{Access, Table, operations_in}
 use Rattle.process_tree.specs.Order.{Each}
 use Rattle.schedule_model.specs.Conflict.{ConflictRelation}
 use Rattle.schedule_rules.specs.Applying.{AreKnown}
@@ -12,7 +12,7 @@ use Rattle.trace_verify.proofs.Naming.{number-below}
 use Rattle.trace_verify.proofs.NumbersKept.{among-added, among-all, few-added, stand-once}
 
 -- relations that answer the same are the same
-pub same-relation : (f g : ConflictRelation) → ((a b : ℕ) → f a b ≡ g a b) → f ≡ g
+pub same-relation : (f g : ConflictRelation) → ((a b : Access) → f a b ≡ g a b) → f ≡ g
 same-relation f g h = λ i a b. h a b i
 
 each-known : (names : List (List ℕ)) (steps ops : List (List ℕ)) (acts : List NamedAct)

@@ -15,7 +15,7 @@ use Rattle.trace_verify.specs.Verdicts.{verdict}
 -- an entry as it is printed, by these names of steps and operations
 abbrev pub printed_by : List (List ℕ) → List (List ℕ) → Entry → NamedAct
 printed_by steps ops e =
-    record { process = e.process; step = slice_index_or steps e.step []; op = slice_index_or ops e.op []; undo = e.undo }
+    record { process = e.process; step = slice_index_or steps e.step []; op = slice_index_or ops e.op []; key = e.key; undo = e.undo }
 
 -- entries as they are printed in this report
 abbrev pub printed : Report → List Entry → List NamedAct

@@ -2,6 +2,7 @@
 use Rattle.std.specs.Prelude.{◌≡◌, ℕ, zero, suc, ◌+◌, List, [], ◌∷◌, ◌++◌, Bool, false, ◌&&◌, ◌||◌, nat_eq, map, if◌then◌else◌, Option, Some, None}
 use Rattle.std.specs.List.{list_any}
 use Rattle.process_tree.specs.Making.{same_text}
+use Rattle.process_tree.specs.Conflicts.{Access, covers}
 use Rattle.process_tree.specs.declared.entry.Entry.{Entry}
 use Rattle.schedule_model.specs.Conflict.{ConflictRelation}
 use Rattle.trace_verify.specs.Forms.{NamedAct, Pair}
@@ -47,10 +48,10 @@ step_names acts = with_names [] (map (λ a. a.step) acts)
 abbrev pub op_names : List NamedAct → List (List ℕ)
 op_names acts = with_names [] (map (λ a. a.op) acts)
 
--- an act as an entry: its step and its operation by their numbers
+-- an act as an entry: its step and its operation by their numbers, and its key
 abbrev pub entry_of : List (List ℕ) → List (List ℕ) → NamedAct → Entry
 entry_of steps ops a =
-    record { process = a.process; step = number_among steps a.step; op = number_among ops a.op; undo = a.undo }
+    record { process = a.process; step = number_among steps a.step; op = number_among ops a.op; key = a.key; undo = a.undo }
 
 -- the list that a report says: the acts of history and completion
 abbrev pub schedule : List NamedAct → List Entry
@@ -60,9 +61,14 @@ schedule acts = map (entry_of (step_names acts) (op_names acts)) acts
 abbrev pub names_both : List (List ℕ) → ℕ → ℕ → Pair → Bool
 names_both ops a b p = (is_named ops a p.first && is_named ops b p.second) || (is_named ops b p.first && is_named ops a p.second)
 
--- two operations conflict where a line names both; so one that no line names conflicts with nothing
+-- a line makes these two conflict: it names both operations, and its mode covers the keys
+abbrev pub line_covers : List (List ℕ) → Access → Access → Pair → Bool
+line_covers ops a b p = names_both ops a.op b.op p && covers p.mode a.key b.key
+
+-- Two accesses conflict where a line says so. An operation that no line names conflicts with nothing, and where two lines name
+-- both operations with different modes, they conflict always.
 abbrev pub conflicts : List Pair → List (List ℕ) → ConflictRelation
-conflicts pairs ops a b = list_any (names_both ops a b) pairs
+conflicts pairs ops a b = list_any (line_covers ops a b) pairs
 
 -- the relation of a report
 abbrev pub conflicts_of : Report → ConflictRelation

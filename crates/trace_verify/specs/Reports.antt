@@ -1,16 +1,21 @@
 -- What a report is: seven sections in this order, each a line with its title and then its lines. Each line ends with a line feed.
+-- The first title says the form of the report.
 use Rattle.std.specs.Prelude.{◌≡◌, ℕ, ◌+◌, List, [], ◌∷◌, ◌++◌, Bool, true, false, length, nat_lt, if◌then◌else◌, Option, Some, None, codes}
 use Rattle.std.specs.Option.{option_map}
 use Rattle.process_tree.specs.Making.{same_text}
 use Rattle.schedule_model.specs.declared.trace_step.TraceStep.{TraceStep}
+use Rattle.trace_verify.specs.declared.form.Form.{Form}
+use Rattle.trace_verify.specs.declared.form.Form.TheVariants.{Plain}
 use Rattle.trace_verify.specs.declared.section.Section.{Section}
 use Rattle.trace_verify.specs.declared.section.Section.TheVariants.{Opening, Conflicts, History, Completion, Ends, Causes, Trace, Serial}
 use Rattle.trace_verify.specs.Lines.{parts}
-use Rattle.trace_verify.specs.Forms.{NamedAct, Pair, pair_line, event_line, is_end_line, is_cause_line, step_line, serial_line}
+use Rattle.trace_verify.specs.Forms.{NamedAct, Pair, form_of_title, pair_line, event_line, is_end_line, is_cause_line, step_line, serial_line}
 
 -- What is read of a report, up to some line, and the section in which the next line stands.
 pub record Report : Type 0 where
   pub section : Section
+  -- plain until the first title says which
+  pub form : Form
   -- the operations that conflict
   pub pairs : List Pair
   -- the acts of the history and of its completion
@@ -21,31 +26,35 @@ pub record Report : Type 0 where
 
 -- nothing is read
 abbrev pub unread : Report
-unread = record { section = Opening; pairs = []; acts = []; steps = []; serial = [] }
+unread = record { section = Opening; form = Plain; pairs = []; acts = []; steps = []; serial = [] }
+
+-- the first section begins, of a report of this form
+abbrev pub in_form : Report → Form → Report
+in_form r f = record { section = Conflicts; form = f; pairs = r.pairs; acts = r.acts; steps = r.steps; serial = r.serial }
 
 -- a section begins
 abbrev pub in_section : Report → Section → Report
-in_section r s = record { section = s; pairs = r.pairs; acts = r.acts; steps = r.steps; serial = r.serial }
+in_section r s = record { section = s; form = r.form; pairs = r.pairs; acts = r.acts; steps = r.steps; serial = r.serial }
 
 -- two operations that conflict are added
 abbrev pub with_pair : Report → Pair → Report
-with_pair r p = record { section = r.section; pairs = r.pairs ++ p ∷ []; acts = r.acts; steps = r.steps; serial = r.serial }
+with_pair r p = record { section = r.section; form = r.form; pairs = r.pairs ++ p ∷ []; acts = r.acts; steps = r.steps; serial = r.serial }
 
 -- an act is added
 abbrev pub with_act : Report → NamedAct → Report
-with_act r a = record { section = r.section; pairs = r.pairs; acts = r.acts ++ a ∷ []; steps = r.steps; serial = r.serial }
+with_act r a = record { section = r.section; form = r.form; pairs = r.pairs; acts = r.acts ++ a ∷ []; steps = r.steps; serial = r.serial }
 
 -- a step of the trace is added
 abbrev pub with_step : Report → TraceStep → Report
-with_step r s = record { section = r.section; pairs = r.pairs; acts = r.acts; steps = r.steps ++ s ∷ []; serial = r.serial }
+with_step r s = record { section = r.section; form = r.form; pairs = r.pairs; acts = r.acts; steps = r.steps ++ s ∷ []; serial = r.serial }
 
 -- an entry of the printed serial list is added
 abbrev pub with_serial : Report → NamedAct → Report
-with_serial r a = record { section = r.section; pairs = r.pairs; acts = r.acts; steps = r.steps; serial = r.serial ++ a ∷ [] }
+with_serial r a = record { section = r.section; form = r.form; pairs = r.pairs; acts = r.acts; steps = r.steps; serial = r.serial ++ a ∷ [] }
 
--- the section that a title opens behind another
+-- the section that a title opens behind another; the first title is the one line of the opening
 abbrev pub opened : Section → List ℕ → Option Section
-opened Opening line = if same_text line (codes "conflicts") then Some Conflicts else None
+opened Opening line = None
 opened Conflicts line = if same_text line (codes "history") then Some History else None
 opened History line = if same_text line (codes "completion") then Some Completion else None
 opened Completion line = if same_text line (codes "ends") then Some Ends else None
@@ -65,16 +74,16 @@ abbrev pub with_new_step : Report → Option TraceStep → Option Report
 with_new_step r None = None
 with_new_step r (Some s) = if nat_lt (length r.steps) 65536 then Some (with_step r s) else None
 
--- a line that is no title, in a section: what is read then, if the line has its form
+-- a line that opens no further section: what is read then, if the line has its form
 abbrev pub with_line : Section → Report → List ℕ → Option Report
-with_line Opening r line = None
-with_line Conflicts r line = option_map (with_pair r) (pair_line line)
-with_line History r line = with_event r (event_line line)
-with_line Completion r line = with_event r (event_line line)
+with_line Opening r line = option_map (in_form r) (form_of_title line)
+with_line Conflicts r line = option_map (with_pair r) (pair_line r.form line)
+with_line History r line = with_event r (event_line r.form line)
+with_line Completion r line = with_event r (event_line r.form line)
 with_line Ends r line = if is_end_line line then Some r else None
 with_line Causes r line = if is_cause_line line then Some r else None
 with_line Trace r line = with_new_step r (step_line line)
-with_line Serial r line = option_map (with_serial r) (serial_line line)
+with_line Serial r line = option_map (with_serial r) (serial_line r.form line)
 
 -- the title of the next section, or else a line of this one
 abbrev pub title_or : Report → List ℕ → Option Section → Option Report

@@ -34,10 +34,10 @@ abbrev pub same_way : Bool → Bool → Bool
 same_way true b = b
 same_way false b = not b
 
--- the entry is printed so: by its process, its step's name and its operation's name
+-- the entry is printed so: by its process, its step's name, its operation's name and its key
 abbrev pub is_printed : List (List ℕ) → List (List ℕ) → Entry → NamedAct → Bool
 is_printed steps ops e a =
-    nat_eq e.process a.process && is_named steps e.step a.step && is_named ops e.op a.op && same_way e.undo a.undo
+    nat_eq e.process a.process && is_named steps e.step a.step && is_named ops e.op a.op && nat_eq e.key a.key && same_way e.undo a.undo
 
 -- the first place at which a list isn't printed so, the first having place n; where one ends early, that is the place behind its end
 abbrev pub differs_from : List (List ℕ) → List (List ℕ) → ℕ → List Entry → List NamedAct → Option ℕ

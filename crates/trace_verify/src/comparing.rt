@@ -13,6 +13,7 @@ fn is_printed(steps: &Names<'_>, ops: &Names<'_>, entry: &Entry, act: &NamedAct<
     entry.process == act.process
         && steps.is_named(entry.step, act.step)
         && ops.is_named(entry.op, act.op)
+        && entry.key == act.key
         && entry.undo == act.undo
 }
 

@@ -1,12 +1,13 @@
 // Lines by their forms.
-ghost use Rattle.std.specs.Prelude.{◌≡◌, Some};
+ghost use Rattle.std.specs.Prelude.{◌≡◌, Some, option_and_then};
 ghost use Rattle.std.specs.Option.{option_map};
-ghost use Rattle.trace_verify.specs.Forms.{is_number, number_of, pair_line, named_act, act_of, is_start, without_act, event_of, event_line, is_path, is_end, is_named_end, is_end_line, is_longer_cause, is_cause, is_cause_line, move_of, cancel_of, step_line, serial_line};
+ghost use Rattle.trace_verify.specs.Forms.{form_of_title, is_number, number_of, pair_of, mode_of_word, pair_from, pair_line, named_act, placed_act, act_from, act_of, is_start, without_act, event_of, event_line, is_path, is_end, is_named_end, is_end_line, is_longer_cause, is_cause, is_cause_line, move_of, cancel_of, step_line, serial_line};
 
 use crate::cutting::{are_names, cut};
+use crate::form::Form;
 use crate::report::{NamedAct, Pair};
 use process_text::{is_word, number};
-use process_tree::is_name;
+use process_tree::{Mode, is_name};
 use schedule_model::TraceStep;
 
 const MOST: u64 = 4294967295;
@@ -28,25 +29,82 @@ fn is_number(word: &[u8]) -> bool
     number(word, MOST).is_some()
 }
 
-/// `A B`
-pub fn pair_line(line: &[u8]) -> Option<Pair<'_>>
-    ensures { result ≡ pair_line line.now }
+/// The form that a first title says.
+pub fn form_of_title(line: &[u8]) -> Option<Form>
+    ensures { result ≡ form_of_title line.now }
+{
+    if is_word(line, b"conflicts") {
+        Some(Form::Plain)
+    } else if is_word(line, b"conflicts 2") {
+        Some(Form::Keyed)
+    } else {
+        None
+    }
+}
+
+// The mode that a word says.
+fn mode_of_word(word: &[u8]) -> Option<Mode>
+    ensures { result ≡ mode_of_word word.now }
+{
+    if is_word(word, b"always") {
+        Some(Mode::Always)
+    } else if is_word(word, b"key") {
+        Some(Mode::Key)
+    } else {
+        None
+    }
+}
+
+// Two operations with a mode, if they are names.
+fn pair_of<'a>(first: &'a [u8], second: &'a [u8], mode: Mode) -> Option<Pair<'a>>
+    ensures { result ≡ pair_of first.now second.now mode }
+{
+    if is_name(first) && is_name(second) {
+        Some(Pair {
+            first,
+            second,
+            mode,
+        })
+    } else {
+        None
+    }
+}
+
+// A, and `B MODE`.
+fn keyed_pair<'a>(first: &'a [u8], rest: &'a [u8]) -> Option<Pair<'a>>
+    ensures { result ≡ pair_from Form.Keyed first.now rest.now }
+{
+    match cut(rest, b' ') {
+        Some((second, word)) => match mode_of_word(word) {
+            Some(mode) => pair_of(first, second, mode),
+            None => None,
+        },
+        None => None,
+    }
+}
+
+/// `A B`, or `A B MODE`
+pub fn pair_line(form: Form, line: &[u8]) -> Option<Pair<'_>>
+    ensures { result ≡ pair_line form line.now }
 {
     match cut(line, b' ') {
-        Some((first, second)) => {
-            if is_name(first) && is_name(second) {
-                Some(Pair { first, second })
-            } else {
-                None
-            }
-        }
+        Some((first, rest)) => match form {
+            Form::Plain => pair_of(first, rest, Mode::Always),
+            Form::Keyed => keyed_pair(first, rest),
+        },
         None => None,
     }
 }
 
 // The act of a step, both being named.
-fn named_act<'a>(i: &[u8], step: &'a [u8], op: &'a [u8], undo: bool) -> Option<NamedAct<'a>>
-    ensures { result ≡ named_act undo op.now i.now step.now }
+fn named_act<'a>(
+    i: &[u8],
+    step: &'a [u8],
+    op: &'a [u8],
+    key: u32,
+    undo: bool,
+) -> Option<NamedAct<'a>>
+    ensures { result ≡ named_act undo op.now key i.now step.now }
 {
     if !is_name(step) || !is_name(op) {
         return None;
@@ -56,20 +114,44 @@ fn named_act<'a>(i: &[u8], step: &'a [u8], op: &'a [u8], undo: bool) -> Option<N
             process,
             step,
             op,
+            key,
             undo,
         }),
         None => None,
     }
 }
 
-// `I.STEP OP`
-fn act_of(text: &[u8], undo: bool) -> Option<NamedAct<'_>>
-    ensures { result ≡ act_of undo text.now }
+// `I.STEP`, with an operation and a key.
+fn placed_act<'a>(place: &'a [u8], op: &'a [u8], key: u32, undo: bool) -> Option<NamedAct<'a>>
+    ensures { result ≡ placed_act undo place.now op.now key }
+{
+    match cut(place, b'.') {
+        Some((i, step)) => named_act(i, step, op, key, undo),
+        None => None,
+    }
+}
+
+// `I.STEP`, and `OP KEY`.
+fn keyed_act<'a>(place: &'a [u8], rest: &'a [u8], undo: bool) -> Option<NamedAct<'a>>
+    ensures { result ≡ act_from Form.Keyed undo place.now rest.now }
+{
+    match cut(rest, b' ') {
+        Some((op, word)) => match number_of(word) {
+            Some(key) => placed_act(place, op, key, undo),
+            None => None,
+        },
+        None => None,
+    }
+}
+
+// `I.STEP OP`, or `I.STEP OP KEY`
+fn act_of(form: Form, text: &[u8], undo: bool) -> Option<NamedAct<'_>>
+    ensures { result ≡ act_of form undo text.now }
 {
     match cut(text, b' ') {
-        Some((place, op)) => match cut(place, b'.') {
-            Some((i, step)) => named_act(i, step, op, undo),
-            None => None,
+        Some((place, rest)) => match form {
+            Form::Plain => placed_act(place, rest, 0, undo),
+            Form::Keyed => keyed_act(place, rest, undo),
         },
         None => None,
     }
@@ -93,23 +175,23 @@ fn without_act<'a>(good: bool) -> Option<Option<NamedAct<'a>>>
 }
 
 // A line that has an act, if it has its form.
-fn with_act(text: &[u8], undo: bool) -> Option<Option<NamedAct<'_>>>
-    ensures { result ≡ option_map Some (act_of undo text.now) }
+fn with_act(form: Form, text: &[u8], undo: bool) -> Option<Option<NamedAct<'_>>>
+    ensures { result ≡ option_map Some (act_of form undo text.now) }
 {
-    match act_of(text, undo) {
+    match act_of(form, text, undo) {
         Some(act) => Some(Some(act)),
         None => None,
     }
 }
 
 // What an event's word and the rest of its line say.
-fn event_of<'a>(word: &[u8], rest: &'a [u8]) -> Option<Option<NamedAct<'a>>>
-    ensures { result ≡ event_of word.now rest.now }
+fn event_of<'a>(form: Form, word: &[u8], rest: &'a [u8]) -> Option<Option<NamedAct<'a>>>
+    ensures { result ≡ event_of form word.now rest.now }
 {
     if is_word(word, b"do") {
-        with_act(rest, false)
+        with_act(form, rest, false)
     } else if is_word(word, b"undo") {
-        with_act(rest, true)
+        with_act(form, rest, true)
     } else if is_word(word, b"start") {
         without_act(is_start(rest))
     } else if is_word(word, b"end") {
@@ -120,11 +202,11 @@ fn event_of<'a>(word: &[u8], rest: &'a [u8]) -> Option<Option<NamedAct<'a>>>
 }
 
 /// An event: the act that it has, if it has one.
-pub fn event_line(line: &[u8]) -> Option<Option<NamedAct<'_>>>
-    ensures { result ≡ event_line line.now }
+pub fn event_line(form: Form, line: &[u8]) -> Option<Option<NamedAct<'_>>>
+    ensures { result ≡ event_line form line.now }
 {
     match cut(line, b' ') {
-        Some((word, rest)) => event_of(word, rest),
+        Some((word, rest)) => event_of(form, word, rest),
         None => None,
     }
 }
@@ -240,14 +322,14 @@ pub fn step_line(line: &[u8]) -> Option<TraceStep>
     }
 }
 
-/// `do I.STEP OP`
-pub fn serial_line(line: &[u8]) -> Option<NamedAct<'_>>
-    ensures { result ≡ serial_line line.now }
+/// `do` and an act
+pub fn serial_line(form: Form, line: &[u8]) -> Option<NamedAct<'_>>
+    ensures { result ≡ serial_line form line.now }
 {
     match cut(line, b' ') {
         Some((word, rest)) => {
             if is_word(word, b"do") {
-                act_of(rest, false)
+                act_of(form, rest, false)
             } else {
                 None
             }

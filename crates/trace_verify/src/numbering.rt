@@ -1,11 +1,11 @@
 // Acts as entries, and conflicts as a table.
 ghost use Rattle.std.specs.Prelude.{◌≡◌, ◌<◌, ◌≤◌, ◌||◌, ℕ, length, IfOk, OnOk};
-ghost use Rattle.process_tree.specs.Conflicts.{operations_in, do_conflict};
-ghost use Rattle.trace_verify.specs.Names.{with_name, entry_of, step_names, op_names, schedule, names_both, conflicts, StandOnce};
+ghost use Rattle.process_tree.specs.Conflicts.{Access, operations_in, covers, do_conflict};
+ghost use Rattle.trace_verify.specs.Names.{with_name, entry_of, step_names, op_names, schedule, line_covers, conflicts, StandOnce};
 
 use crate::names::Names;
 use crate::report::{NamedAct, Pair};
-use process_tree::{Conflicts, Entry};
+use process_tree::{Conflicts, Entry, Mode};
 use std::alloc::{AllocError, Global};
 
 /// Acts as entries, and the names by whose numbers they are entries.
@@ -32,6 +32,7 @@ fn entry_of<'a>(
         process: act.process,
         step: steps.number(act.step)?,
         op: ops.number(act.op)?,
+        key: act.key,
         undo: act.undo,
     })
 }
@@ -59,15 +60,27 @@ pub fn entries_of<'a>(alloc: Global, acts: &[NamedAct<'a>]) -> Result<Numbered<'
     })
 }
 
-// Makes two operations conflict, where both have numbers.
+// The mode that covers what either does.
+fn wider(a: Mode, b: Mode) -> Mode
+    ensures { (k m : ℕ) → covers result k m ≡ (covers a k m || covers b k m) }
+{
+    match (a, b) {
+        (Mode::Always, _) | (_, Mode::Always) => Mode::Always,
+        (Mode::Key, _) | (_, Mode::Key) => Mode::Key,
+        (Mode::Never, Mode::Never) => Mode::Never,
+    }
+}
+
+// Makes two operations conflict as a pair says, where both have numbers.
 fn mark<'a>(table: &mut Conflicts, ops: &Names<'a>, pair: &Pair<'a>)
     requires count { operations_in table.old ≡ length ops.now }
     requires once { StandOnce ops.now }
-    ensures pairs { (a b : ℕ) → do_conflict table.new a b ≡ (do_conflict table.old a b || names_both ops.now a b pair.now) }
+    ensures pairs { (a b : Access) → do_conflict table.new a b ≡ (do_conflict table.old a b || line_covers ops.now a b pair.now) }
     ensures count { operations_in table.new ≡ operations_in table.old }
 {
     if let (Some(a), Some(b)) = (ops.find(pair.first), ops.find(pair.second)) {
-        table.set(a, b);
+        let mode = wider(table.mode(a, b), pair.mode);
+        table.set(a, b, mode);
     }
 }
 
@@ -79,7 +92,7 @@ pub fn table_of<'a>(
 ) -> Result<Conflicts, AllocError>
     requires few { length ops.now < 65536 }
     requires once { StandOnce ops.now }
-    ensures pairs { IfOk result (λ t. (a b : ℕ) → do_conflict t a b ≡ conflicts pairs.now ops.now a b) }
+    ensures pairs { IfOk result (λ t. (a b : Access) → do_conflict t a b ≡ conflicts pairs.now ops.now a b) }
     ensures count { IfOk result (λ t. operations_in t ≡ length ops.now) }
 {
     let mut table = Conflicts::new(alloc, ops.count() as u16)?;

@@ -2,11 +2,13 @@
 ghost use Rattle.std.specs.Prelude.{◌≡◌, ℕ, IfOk, if◌then◌else◌};
 ghost use Rattle.std.specs.Option.{option_map};
 ghost use Rattle.trace_verify.specs.Lines.{parts};
-ghost use Rattle.trace_verify.specs.Forms.{pair_line, event_line, step_line, serial_line};
-ghost use Rattle.trace_verify.specs.Reports.{Report as Read, with_pair, with_event, with_new_step, with_serial, with_line, after_line, opened, reading_from, at_end, whole, bad_line, IsTaken, IsRead};
+ghost use Rattle.trace_verify.specs.Forms.{form_of_title, pair_line, event_line, step_line, serial_line};
+ghost use Rattle.trace_verify.specs.Reports.{Report as Read, in_form, with_pair, with_event, with_new_step, with_serial, with_line, after_line, opened, reading_from, at_end, whole, bad_line, IsTaken, IsRead};
 
 use crate::cutting::cut;
-use crate::forms::{event_line, is_cause_line, is_end_line, pair_line, serial_line, step_line};
+use crate::forms::{
+    event_line, form_of_title, is_cause_line, is_end_line, pair_line, serial_line, step_line,
+};
 use crate::report::Report;
 use crate::section::Section;
 use process_text::is_word;
@@ -21,14 +23,13 @@ fn opened(section: Section, line: &[u8]) -> Option<Section>
     ensures { result ≡ opened section line.now }
 {
     let (title, next): (&[u8], Section) = match section {
-        Section::Opening => (b"conflicts", Section::Conflicts),
         Section::Conflicts => (b"history", Section::History),
         Section::History => (b"completion", Section::Completion),
         Section::Completion => (b"ends", Section::Ends),
         Section::Ends => (b"causes", Section::Causes),
         Section::Causes => (b"trace", Section::Trace),
         Section::Trace => (b"serial", Section::Serial),
-        Section::Serial => return None,
+        Section::Opening | Section::Serial => return None,
     };
     if is_word(line, title) {
         Some(next)
@@ -54,10 +55,24 @@ fn may_end(section: Section, rest: &[u8]) -> bool
 }
 
 impl<'a> Report<'a> {
-    fn take_pair(&mut self, line: &'a [u8]) -> Result<bool, AllocError>
-        ensures { IfOk result (λ taken. IsTaken (option_map (with_pair self.old) (pair_line line.now)) taken self.new) }
+    // Takes the first title.
+    fn take_form(&mut self, line: &[u8]) -> bool
+        ensures { IsTaken (option_map (in_form self.old) (form_of_title line.now)) result self.new }
     {
-        match pair_line(line) {
+        match form_of_title(line) {
+            Some(form) => {
+                self.section = Section::Conflicts;
+                self.form = form;
+                true
+            }
+            None => false,
+        }
+    }
+
+    fn take_pair(&mut self, line: &'a [u8]) -> Result<bool, AllocError>
+        ensures { IfOk result (λ taken. IsTaken (option_map (with_pair self.old) (pair_line self.old.form line.now)) taken self.new) }
+    {
+        match pair_line(self.form, line) {
             Some(pair) => {
                 self.pairs.push(pair)?;
                 Ok(true)
@@ -67,9 +82,9 @@ impl<'a> Report<'a> {
     }
 
     fn take_event(&mut self, line: &'a [u8]) -> Result<bool, AllocError>
-        ensures { IfOk result (λ taken. IsTaken (with_event self.old (event_line line.now)) taken self.new) }
+        ensures { IfOk result (λ taken. IsTaken (with_event self.old (event_line self.old.form line.now)) taken self.new) }
     {
-        match event_line(line) {
+        match event_line(self.form, line) {
             Some(Some(act)) => {
                 if self.acts.len() >= MOST_ACTS {
                     return Ok(false);
@@ -98,9 +113,9 @@ impl<'a> Report<'a> {
     }
 
     fn take_serial(&mut self, line: &'a [u8]) -> Result<bool, AllocError>
-        ensures { IfOk result (λ taken. IsTaken (option_map (with_serial self.old) (serial_line line.now)) taken self.new) }
+        ensures { IfOk result (λ taken. IsTaken (option_map (with_serial self.old) (serial_line self.old.form line.now)) taken self.new) }
     {
-        match serial_line(line) {
+        match serial_line(self.form, line) {
             Some(act) => {
                 self.serial.push(act)?;
                 Ok(true)
@@ -109,12 +124,12 @@ impl<'a> Report<'a> {
         }
     }
 
-    // A line that is no title.
+    // A line that opens no further section.
     fn take_other(&mut self, line: &'a [u8]) -> Result<bool, AllocError>
         ensures { IfOk result (λ taken. IsTaken (with_line self.old.section self.old line.now) taken self.new) }
     {
         match self.section {
-            Section::Opening => Ok(false),
+            Section::Opening => Ok(self.take_form(line)),
             Section::Conflicts => self.take_pair(line),
             Section::History | Section::Completion => self.take_event(line),
             Section::Ends => Ok(is_end_line(line)),

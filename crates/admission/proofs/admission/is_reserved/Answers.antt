@@ -9,39 +9,39 @@ use Rattle.admission.proofs.admission.is_reserved.Goals as goal
 
 pub places-init : goal.places-init
 places-init c =
-    let pairs = (kept_of c.args.holds.now c.args.process).reserved in
+    let planned = (kept_of c.args.holds.now c.args.process).reserved in
     record {
       within = omega arith;
-      found = sym (ap (λ ps. is_in c.args.step (map (λ p. p.0) ps)) (ap (λ n. drop n pairs) c.reserved_len-place.ensures ∙ rest_none pairs));
+      found = sym (ap (λ ps. is_in c.args.step (map (λ p. p.0) ps)) (ap (λ n. drop n planned) c.reserved_len-place.ensures ∙ rest_none planned));
     }
 
 pub places-preserved : goal.places-preserved
 places-preserved c =
-    let pairs = (kept_of c.args.holds.now c.args.process).reserved in
-    let pair = c.reserved_at.result in
+    let planned = (kept_of c.args.holds.now c.args.process).reserved in
+    let found_step = c.reserved_at.result in
     let le = c.places.invariant.within in
     record {
       within = omega arith;
       found = c.places.invariant.found
-          ∙ ap (λ t. t || is_in c.args.step (map (λ p. p.0) (drop c.places.place pairs))) (sym (ne_eqb c.args.step pair.0 c.if-step-reserved_at.false))
-          ∙ step_more c.args.step pairs c.places.place pair c.places-test.true le c.reserved_at.ensures;
+          ∙ ap (λ t. t || is_in c.args.step (map (λ p. p.0) (drop c.places.place planned))) (sym (ne_eqb c.args.step found_step.0 c.if-step-reserved_at.false))
+          ∙ step_more c.args.step planned c.places.place found_step c.places-test.true le c.reserved_at.ensures;
     }
 
 pub places-preserved-then-step-reserved_at : goal.places-preserved-then-step-reserved_at
 places-preserved-then-step-reserved_at c =
-    let pairs = (kept_of c.args.holds.now c.args.process).reserved in
-    let pair = c.reserved_at.result in
+    let planned = (kept_of c.args.holds.now c.args.process).reserved in
+    let found_step = c.reserved_at.result in
     let le = c.places.invariant.within in
     record {
       within = omega arith;
-      found = eq-eqb c.args.step pair.0 c.if-step-reserved_at.true
-          ∙ ap (λ t. t || is_in c.args.step (map (λ p. p.0) (drop c.places.place pairs))) (sym (eq-eqb c.args.step pair.0 c.if-step-reserved_at.true))
-          ∙ step_more c.args.step pairs c.places.place pair c.places-test.true le c.reserved_at.ensures;
+      found = eq-eqb c.args.step found_step.0 c.if-step-reserved_at.true
+          ∙ ap (λ t. t || is_in c.args.step (map (λ p. p.0) (drop c.places.place planned))) (sym (eq-eqb c.args.step found_step.0 c.if-step-reserved_at.true))
+          ∙ step_more c.args.step planned c.places.place found_step c.places-test.true le c.reserved_at.ensures;
     }
 
 pub returns : goal.returns
 returns c =
-    let pairs = (kept_of c.args.holds.now c.args.process).reserved in
+    let planned = (kept_of c.args.holds.now c.args.process).reserved in
     let none = c.places-test.false in
     let front : c.places.place ≡ 0 = omega arith in
-    c.places.invariant.found ∙ ap (λ n. is_in c.args.step (map (λ p. p.0) (drop n pairs))) front
+    c.places.invariant.found ∙ ap (λ n. is_in c.args.step (map (λ p. p.0) (drop n planned))) front

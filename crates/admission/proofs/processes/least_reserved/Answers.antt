@@ -10,10 +10,10 @@ use Rattle.admission.proofs.processes.least_reserved.Goals as goal
 pub least_with-least-requires-clause-other : goal.least_with-least-requires-clause-other
 least_with-least-requires-clause-other c =
     let t = c.args.holds.now in
-    let pair = c.reserved_at-step.result in
-    let known = known_reserved t c.conflicts-c.ensures.tidy c.args.process c.requires.«open» (c.places.place - 1) pair (let le = c.places.invariant.within in let lt = c.places-test.true in omega arith) in
-    subst (λ (x : Table). pair.1 < operations_in x) (sym c.conflicts-c.ensures.table)
-    (subst (λ (p : ℕ × ℕ). p.1 < operations_in t.conflicts) (sym (c.reserved_at-step.ensures pair)) known)
+    let step = c.reserved_at-step.result in
+    let known = known_reserved t c.conflicts-c.ensures.tidy c.args.process c.requires.«open» (c.places.place - 1) step (let le = c.places.invariant.within in let lt = c.places-test.true in omega arith) in
+    subst (λ (x : Table). step.1 < operations_in x) (sym c.conflicts-c.ensures.table)
+    (subst (λ (p : ℕ × ℕ × ℕ). p.1 < operations_in t.conflicts) (sym (c.reserved_at-step.ensures step)) known)
 
 pub places-preserved : goal.places-preserved
 places-preserved c =

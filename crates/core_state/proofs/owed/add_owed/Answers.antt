@@ -1,11 +1,11 @@
-use Rattle.std.proofs.Common.{◌∙◌, ◌<◌, ◌++◌, ◌∷◌, [], length, map, slice_index_or, ap, sym, subst, append_assoc, length-append, arith}
+use Rattle.std.proofs.Common.{◌∙◌, ◌<◌, ◌++◌, ◌∷◌, [], length, map, ap, sym, subst, append_assoc, length-append, arith}
 use Rattle.process_tree.specs.Blocks.{outline}
 use Rattle.process_tree.specs.Stands.{left_from}
 use Rattle.process_tree.specs.declared.play.Place.TheVariants.{Step}
 use Rattle.admission.specs.Admission.{steps_owed_after}
 use Rattle.admission.specs.Parts.{steps_from}
 use Rattle.admission.proofs.LastWays.{IsOfTree, next_less, next_within, owed_from}
-use Rattle.core_state.specs.OpenTables.{pairs_behind, step_pair}
+use Rattle.core_state.specs.OpenTables.{planned_behind, planned_step}
 use Rattle.core_state.proofs.owed.add_owed.Goals as goal
 
 pub owed-init : goal.owed-init
@@ -14,17 +14,16 @@ owed-init c =
     let good = c.last_after-place.ensures.good in
     record {
       within = subst (IsOfTree p.tree) (sym c.last_after-place.ensures.place) (next_within p.tree c.args.step good);
-      pairs = ap (λ ps. c.args.pairs.now.items ++ map (step_pair p) ps) (ap (steps_from p) c.last_after-place.ensures.place ∙ sym (owed_from p c.args.step good));
-      ops = c.as_slice-ops.ensures;
+      planned = ap (λ ps. c.args.planned.now.items ++ map (planned_step p) ps) (ap (steps_from p) c.last_after-place.ensures.place ∙ sym (owed_from p c.args.step good));
     }
 
 pub push-requires : goal.push-requires
 push-requires c =
     let p = c.args.plan.now in
     let d = c.in-Step.owed in
-    let all = ap length (sym (ap (λ q. c.owed.pairs.items ++ map (step_pair p) (steps_from p q)) c.in-Step.is) ∙ c.owed.invariant.pairs) in
-    let a = length-append c.owed.pairs.items (step_pair p d ∷ map (step_pair p) (steps_owed_after p d)) in
-    let b = length-append c.args.pairs.now.items (pairs_behind p c.args.step) in
+    let all = ap length (sym (ap (λ q. c.owed.planned.items ++ map (planned_step p) (steps_from p q)) c.in-Step.is) ∙ c.owed.invariant.planned) in
+    let a = length-append c.owed.planned.items (planned_step p d ∷ map (planned_step p) (steps_owed_after p d)) in
+    let b = length-append c.args.planned.now.items (planned_behind p c.args.step) in
     let few = c.requires.few in
     (omega arith, omega arith)
 
@@ -44,10 +43,9 @@ owed-preserved c =
     let good = c.last_after-place.ensures.good in
     record {
       within = subst (IsOfTree p.tree) (sym c.last_after-place-in-Step.ensures.place) (next_within p.tree d good);
-      pairs =
-          ap (λ xs. xs ++ map (step_pair p) (steps_from p c.last_after-place-in-Step.result)) (c.push.ensures.items ∙ ap (λ op. c.owed.pairs.items ++ (d, op) ∷ []) (c.op_of.ensures ∙ ap (λ ops. slice_index_or ops d 0) c.as_slice-ops.ensures))
-          ∙ (append_assoc c.owed.pairs.items (step_pair p d ∷ []) (map (step_pair p) (steps_from p c.last_after-place-in-Step.result))
-          ∙ (ap (λ ds. c.owed.pairs.items ++ step_pair p d ∷ map (step_pair p) ds) (ap (steps_from p) c.last_after-place-in-Step.ensures.place ∙ sym (owed_from p d good))
-          ∙ (ap (λ q. c.owed.pairs.items ++ map (step_pair p) (steps_from p q)) (sym c.in-Step.is) ∙ c.owed.invariant.pairs)));
-      ops = c.owed.invariant.ops;
+      planned =
+          ap (λ xs. xs ++ map (planned_step p) (steps_from p c.last_after-place-in-Step.result)) (c.push.ensures.items ∙ ap (λ step. c.owed.planned.items ++ step ∷ []) c.planned_step.ensures)
+          ∙ (append_assoc c.owed.planned.items (planned_step p d ∷ []) (map (planned_step p) (steps_from p c.last_after-place-in-Step.result))
+          ∙ (ap (λ ds. c.owed.planned.items ++ planned_step p d ∷ map (planned_step p) ds) (ap (steps_from p) c.last_after-place-in-Step.ensures.place ∙ sym (owed_from p d good))
+          ∙ (ap (λ q. c.owed.planned.items ++ map (planned_step p) (steps_from p q)) (sym c.in-Step.is) ∙ c.owed.invariant.planned)));
     }

@@ -8,8 +8,8 @@ use Rattle.hold_tables.specs.Kept.{AreKnown}
 use Rattle.process_tree.specs.Shape.{commits, kind_of, shape_of}
 use Rattle.hold_tables.specs.Tables.{OpenProcess, Tables, is_open, kept_of}
 use Rattle.hold_tables.specs.Changes.{all_fixed, changed, run, took_effect, undoes, with_reserved}
-use Rattle.core_state.specs.OpenTables.{pairs_behind}
-use Rattle.core_state.proofs.LastSteps.{pairs_few, pairs_known}
+use Rattle.core_state.specs.OpenTables.{planned_behind}
+use Rattle.core_state.proofs.LastSteps.{planned_few, planned_known}
 use Rattle.core_state.proofs.RowChanges.{effect_open, effect_row, fixed_open, fixed_row, run_open, run_row}
 use Rattle.core_state.proofs.tables.stand.Goals as goal
 
@@ -51,8 +51,8 @@ reserve-requires-clause-room c =
     ∙ (ap (λ (r : OpenProcess). r.steps) (fixed_row e.process (took_effect e.process (run e old)) (effect_open e.process (run e old) (run_open e old c.requires.open)))
     ∙ (ap (λ (r : OpenProcess). r.steps) (effect_row e.process (run e old) (run_open e old c.requires.open))
     ∙ (ap (λ (r : OpenProcess). r.steps) (run_row e old c.requires.open) ∙ c.requires.steps))) in
-    let many = ap length (c.deref.ensures.value ∙ c.in_ok-pairs.ensures) in
-    let few = pairs_few c.args.plan.now e.step in
+    let many = ap length (c.deref.ensures.value ∙ c.in_ok-planned.ensures) in
+    let few = planned_few c.args.plan.now e.step in
     omega arith
 
 pub reserve-requires-clause-known : goal.reserve-requires-clause-known
@@ -62,11 +62,11 @@ reserve-requires-clause-known c =
     let p = c.args.plan.now in
     let is : c.take_effect.new.self ≡ took_effect e.process (run e old) = c.take_effect.ensures ∙ ap (took_effect e.process) c.run.ensures in
     let within = subst (λ n. Each (Each (λ b. b < n)) (shape_of p.tree).paths) (sym c.requires.operations) (tree_laid_out p.tree c.requires.good).within in
-    subst (λ ps. AreKnown c.fix.new.self.conflicts ps) (sym (c.deref.ensures.value ∙ c.in_ok-pairs.ensures))
-    (subst (λ (t : Tables). AreKnown t.conflicts (pairs_behind p e.step)) (sym (c.fix.ensures ∙ ap (all_fixed e.process) is)) (pairs_known p (operations_in old.conflicts) e.step within c.requires.known))
+    subst (λ ps. AreKnown c.fix.new.self.conflicts ps) (sym (c.deref.ensures.value ∙ c.in_ok-planned.ensures))
+    (subst (λ (t : Tables). AreKnown t.conflicts (planned_behind p e.step)) (sym (c.fix.ensures ∙ ap (all_fixed e.process) is)) (planned_known p (operations_in old.conflicts) e.step within c.requires.known))
 
-pub returns-in_ok-pairs : goal.returns-in_ok-pairs
-returns-in_ok-pairs c =
+pub returns-in_ok-planned : goal.returns-in_ok-planned
+returns-in_ok-planned c =
     let e = c.args.e in
     let old = c.args.holds.now in
     let p = c.args.plan.now in
@@ -74,9 +74,9 @@ returns-in_ok-pairs c =
     let is : c.take_effect.new.self ≡ after = c.take_effect.ensures ∙ ap (took_effect e.process) c.run.ensures in
     let fixes : commits (kind_of (shape_of p.tree) e.step) ≡ true = sym (c.commits.ensures ∙ ap commits c.kind_of.ensures) ∙ c.if-commits.true in
     c.reserve.ensures
-    ∙ (ap (λ ps. changed (with_reserved ps) e.process c.fix.new.self) (c.deref.ensures.value ∙ c.in_ok-pairs.ensures)
-    ∙ (ap (changed (with_reserved (pairs_behind p e.step)) e.process) (c.fix.ensures ∙ ap (all_fixed e.process) is)
-    ∙ sym (ap (λ t. if t then changed (with_reserved (pairs_behind p e.step)) e.process (all_fixed e.process after) else after) fixes)))
+    ∙ (ap (λ ps. changed (with_reserved ps) e.process c.fix.new.self) (c.deref.ensures.value ∙ c.in_ok-planned.ensures)
+    ∙ (ap (changed (with_reserved (planned_behind p e.step)) e.process) (c.fix.ensures ∙ ap (all_fixed e.process) is)
+    ∙ sym (ap (λ t. if t then changed (with_reserved (planned_behind p e.step)) e.process (all_fixed e.process after) else after) fixes)))
 
 pub returns-else-commits : goal.returns-else-commits
 returns-else-commits c =
@@ -86,4 +86,4 @@ returns-else-commits c =
     let after = took_effect e.process (run e old) in
     let is : c.take_effect.new.self ≡ after = c.take_effect.ensures ∙ ap (took_effect e.process) c.run.ensures in
     let fixes : commits (kind_of (shape_of p.tree) e.step) ≡ false = sym (c.commits.ensures ∙ ap commits c.kind_of.ensures) ∙ c.if-commits.false in
-    is ∙ sym (ap (λ t. if t then changed (with_reserved (pairs_behind p e.step)) e.process (all_fixed e.process after) else after) fixes)
+    is ∙ sym (ap (λ t. if t then changed (with_reserved (planned_behind p e.step)) e.process (all_fixed e.process after) else after) fixes)

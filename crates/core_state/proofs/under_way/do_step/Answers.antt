@@ -7,7 +7,7 @@ use Rattle.hold_tables.specs.Changes.{changed, run, with_reserved}
 use Rattle.hold_tables.specs.Tables.{OpenProcess, Tables, is_open, kept_of}
 use Rattle.admission.specs.Admission.{IsPlanFor, class_in_tables}
 use Rattle.core_state.specs.UnderWay.{FitsClass, step_under_way}
-use Rattle.core_state.specs.OpenTables.{pairs_behind}
+use Rattle.core_state.specs.OpenTables.{planned_behind}
 use Rattle.core_state.proofs.RowChanges.{run_open, run_row}
 use Rattle.core_state.proofs.ComingUnderWay.{committing_is}
 use Rattle.core_state.proofs.under_way.do_step.Goals as goal
@@ -37,7 +37,7 @@ reserve_owed-requires-clause-reserved c =
     let class = committing_is (class_in_tables t p c.args.process c.args.step) (sym c.is_committing-commits.ensures ∙ c.if-commits.true) in
     let fits = subst (FitsClass p c.args.process c.args.step t) class c.requires.may.2 in
     subst (λ (x : Tables). FitsClass p c.args.process c.args.step x committing) (sym (c.run.ensures ∙ ap (λ x. run x t) c.entry_of.ensures))
-    (subst (λ (r : OpenProcess). (length r.reserved + length (pairs_behind p c.args.step) ≤ length (outline p.tree).steps) × AreKnown t.conflicts r.reserved) (sym (run_row e t c.requires.open)) fits)
+    (subst (λ (r : OpenProcess). (length r.reserved + length (planned_behind p c.args.step) ≤ length (outline p.tree).steps) × AreKnown t.conflicts r.reserved) (sym (run_row e t c.requires.open)) fits)
 
 pub returns-then-commits : goal.returns-then-commits
 returns-then-commits c =
@@ -48,6 +48,6 @@ returns-then-commits c =
     let class = committing_is (class_in_tables t p i c.args.step) (sym c.is_committing-commits.ensures ∙ c.if-commits.true) in
     let ran = c.run.ensures ∙ ap (λ x. run x t) c.entry_of.ensures in
     c.reserve_owed.ensures
-    ∙ (ap (λ (x : Tables). changed (with_reserved ((kept_of x i).reserved ++ pairs_behind p c.args.step)) i x) ran
-    ∙ (ap (λ (r : OpenProcess). changed (with_reserved (r.reserved ++ pairs_behind p c.args.step)) i (run e t)) (run_row e t c.requires.open)
+    ∙ (ap (λ (x : Tables). changed (with_reserved ((kept_of x i).reserved ++ planned_behind p c.args.step)) i x) ran
+    ∙ (ap (λ (r : OpenProcess). changed (with_reserved (r.reserved ++ planned_behind p c.args.step)) i (run e t)) (run_row e t c.requires.open)
     ∙ sym (ap (step_under_way p i c.args.step t) class)))

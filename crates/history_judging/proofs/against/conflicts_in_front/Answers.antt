@@ -1,14 +1,15 @@
 use Rattle.std.proofs.Common.{◌<◌, ◌-◌, ◌∷◌, ◌++◌, ◌||◌, List, length, take, get_or, sym, ◌∙◌, ap, append_assoc, []}
+use Rattle.process_tree.specs.Entries.{access_of}
 use Rattle.process_tree.specs.declared.entry.Entry.{Entry}
 use Rattle.process_tree.specs.Conflicts.{do_conflict, operations_in}
-use Rattle.history_judging.specs.Conflicting.{op_conflicts, conflicts_in_front}
+use Rattle.history_judging.specs.Conflicting.{access_conflicts, conflicts_in_front}
 use Rattle.schedule_rules.proofs.Moves.{blank}
 use Rattle.schedule_rules.proofs.ListTests.{each_last, last_split}
-use Rattle.history_judging.proofs.ByOperation.{front-more, front-met, front-own, ops-own}
+use Rattle.history_judging.proofs.ByAccess.{front-more, front-met, front-own, accesses-own}
 use Rattle.history_judging.proofs.against.conflicts_in_front.Goals as goal
 
-pub returns-then-op_conflicts : goal.returns-then-op_conflicts
-returns-then-op_conflicts c =
+pub returns-then-conflict : goal.returns-then-conflict
+returns-then-conflict c =
     let table = do_conflict c.args.c.now in
     let i = c.args.process in
     let xs = c.loop-rest.rest.now in
@@ -18,10 +19,10 @@ returns-then-op_conflicts c =
     sym (ap (conflicts_in_front table i) (c.loop-rest.invariant.split ∙ (ap (λ es. es ++ seen) (last_split xs blank c.in-len1-up.len_at_least) ∙ append_assoc before (e ∷ []) seen))
     ∙ front-more table i before (e ∷ seen)
     (front-met table i e seen c.if-entry-process.false
-    (sym (c.loop-rest.invariant.conflicts e.op) ∙ (ap (λ ops. op_conflicts table ops e.op) (sym c.deref.ensures.value) ∙ (sym c.op_conflicts.ensures ∙ c.if-op_conflicts.true)))))
+    (sym (c.loop-rest.invariant.conflicts (access_of e)) ∙ (sym c.conflict.ensures ∙ c.if-conflict.true))))
 
-pub loop-rest-preserved-in_ok-add_op : goal.loop-rest-preserved-in_ok-add_op
-loop-rest-preserved-in_ok-add_op c =
+pub loop-rest-preserved-in_ok-add : goal.loop-rest-preserved-in_ok-add
+loop-rest-preserved-in_ok-add c =
     let table = do_conflict c.args.c.now in
     let i = c.args.process in
     let xs = c.loop-rest.rest.now in
@@ -33,7 +34,7 @@ loop-rest-preserved-in_ok-add_op c =
       seen = e ∷ seen;
       split = c.loop-rest.invariant.split ∙ (ap (λ es. es ++ seen) (last_split xs blank c.in-len1-up.len_at_least) ∙ append_assoc before (e ∷ []) seen);
       none = front-own table i e seen c.if-entry-process.true c.loop-rest.invariant.none;
-      conflicts = λ o. c.in_ok-add_op.ensures.conflicts c.args.c.now o ∙ (ap (λ t. table e.op o || t) (c.loop-rest.invariant.conflicts o) ∙ sym (ops-own table i e seen o c.if-entry-process.true));
-      known = c.in_ok-add_op.ensures.known (operations_in c.args.c.now) known.1 c.loop-rest.invariant.known;
+      conflicts = λ a. c.in_ok-add.ensures.conflicts c.args.c.now a ∙ (ap (λ t. table (access_of e) a || t) (c.loop-rest.invariant.conflicts a) ∙ sym (accesses-own table i e seen a c.if-entry-process.true));
+      known = c.in_ok-add.ensures.known (operations_in c.args.c.now) known.1 c.loop-rest.invariant.known;
       rest = known.0;
     }

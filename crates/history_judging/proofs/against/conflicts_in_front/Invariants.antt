@@ -1,11 +1,12 @@
-use Rattle.std.proofs.Common.{◌≡◌, ◌<◌, ◌++◌, ◌&&◌, ℕ, false, List, length}
+use Rattle.std.proofs.Common.{◌≡◌, ◌<◌, ◌++◌, ◌&&◌, false, List, length}
 use Rattle.std.specs.Prelude.{nat_eq}
 use Rattle.std.specs.List.{list_any}
+use Rattle.process_tree.specs.Entries.{access_of}
 use Rattle.process_tree.specs.declared.entry.Entry.{Entry}
-use Rattle.process_tree.specs.Conflicts.{do_conflict, operations_in}
+use Rattle.process_tree.specs.Conflicts.{do_conflict, operations_in, Access}
 use Rattle.process_tree.specs.Order.{Each}
 use Rattle.schedule_rules.specs.Applying.{AreKnown}
-use Rattle.history_judging.specs.Conflicting.{op_conflicts, conflicts_in_front}
+use Rattle.history_judging.specs.Conflicting.{access_conflicts, conflicts_in_front}
 use Rattle.history_judging.proofs.against.conflicts_in_front.Given as goal
 
 abbrev pub invariant-loop-rest : goal.invariant-loop-rest
@@ -13,8 +14,8 @@ invariant-loop-rest l = record {
   seen : List Entry;
   split : l.entries ≡ l.rest ++ seen;
   none : conflicts_in_front (do_conflict l.c) l.process seen ≡ false;
-  conflicts : (o : ℕ) → op_conflicts (do_conflict l.c) l.ops.items o ≡ list_any (λ y. nat_eq y.process l.process && do_conflict l.c y.op o) seen;
-  known : Each (λ a. a < operations_in l.c) l.ops.items;
+  conflicts : (a : Access) → access_conflicts (do_conflict l.c) l.accesses a ≡ list_any (λ y. nat_eq y.process l.process && do_conflict l.c (access_of y) a) seen;
+  known : Each (λ a. a.op < operations_in l.c) l.accesses;
   rest : AreKnown l.c l.rest;
 }
 

@@ -8,6 +8,7 @@ use Rattle.process_tree.proofs.InTurn.{step_within}
 use Rattle.schedule_model.specs.Histories.{same_step}
 use Rattle.history_judging.specs.Judging.{steps_among}
 use Rattle.history_judging.specs.Keeping.{of_others}
+use Rattle.schedule_model.specs.Course.{course_of}
 use Rattle.schedule_rules.specs.Recovering.{owed_by}
 use Rattle.history_judging.proofs.keeping.owe.Goals as goal
 
@@ -19,7 +20,7 @@ returns-then-has_same_step c =
     filter_same _ (λ (s : Entry). not (same_step s e)) _ (λ x b f' k. search rules) owed c.retain.new.self.items c.retain.ensures.filtered
     ∙ sym (ap (λ t. if t then filter (λ s. not (same_step s e)) owed
     else if commits (kind_of (shape_of plan.tree) e.step)
-    then of_others e.process owed ++ owed_by plan.ops e.process (forward (shape_of plan.tree) (steps_among c.args.net.now e.process ++ e.step ∷ []))
+    then of_others e.process owed ++ owed_by (course_of plan) e.process (forward (shape_of plan.tree) (steps_among c.args.net.now e.process ++ e.step ∷ []))
     else owed) (ap (list_any (same_step e)) (sym c.deref.ensures.value) ∙ (sym c.has_same_step.ensures ∙ c.if-has_same_step.true)))
 
 pub kind_of-requires : goal.kind_of-requires

@@ -3,13 +3,13 @@ use Rattle.std.specs.Prelude.{filter}
 use Rattle.process_tree.specs.declared.entry.Entry.{Entry}
 use Rattle.process_tree.specs.Order.{Each}
 use Rattle.hold_tables.specs.Kept.{IsKnown}
-use Rattle.hold_tables.specs.Reading.{is_against, least_step}
+use Rattle.hold_tables.specs.Reading.{access_sought, is_against, least_step}
 use Rattle.hold_tables.proofs.Least.{each_front, least_push}
 use Rattle.hold_tables.proofs.against.least_of.Goals as goal
 
 pub entries-preserved : goal.entries-preserved
 entries-preserved c =
-    let test = is_against c.args.c.now c.args.sought.process c.args.sought.op in
+    let test = is_against c.args.c.now c.args.sought.process (access_sought c.args.sought) in
     let front = c.in-Some.front.now in
     let last = c.in-Some.last.now in
     let split = c.in-Some.ensures.cases.0 in

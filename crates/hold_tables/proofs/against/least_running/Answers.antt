@@ -5,13 +5,13 @@ use Rattle.process_tree.specs.declared.entry.Entry.{Entry}
 use Rattle.process_tree.specs.Order.{Each}
 use Rattle.hold_tables.specs.Tables.{OpenProcess, running_of}
 use Rattle.hold_tables.specs.Kept.{IsKnownRunning}
-use Rattle.hold_tables.specs.Reading.{is_against, least_step}
+use Rattle.hold_tables.specs.Reading.{access_sought, is_against, least_step}
 use Rattle.hold_tables.proofs.Least.{each_front, rows_push}
 use Rattle.hold_tables.proofs.against.least_running.Goals as goal
 
 pub rows-preserved : goal.rows-preserved
 rows-preserved c =
-    let test = is_against c.args.c.now c.args.sought.process c.args.sought.op in
+    let test = is_against c.args.c.now c.args.sought.process (access_sought c.args.sought) in
     let front = c.in-Some.front.now in
     let last = c.in-Some.last.now in
     let split = c.in-Some.ensures.cases.0 in

@@ -5,7 +5,7 @@ use Rattle.instance_state.proofs.standing.replayed.Goals as goal
 use Rattle.instance_state.proofs.standing.replayed.Goals.{then-act, else-act}
 
 no_entry : Entry
-no_entry = record { process = 0; step = 0; op = 0; undo = false }
+no_entry = record { process = 0; step = 0; op = 0; key = 0; undo = false }
 
 pub done-at-requires-clause-later : goal.done-at-requires-clause-later
 done-at-requires-clause-later c _ =

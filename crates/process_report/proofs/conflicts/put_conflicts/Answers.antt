@@ -7,7 +7,7 @@ use Rattle.process_report.proofs.conflicts.put_conflicts.Goals as goal
 
 pub loop-a-preserved : goal.loop-a-preserved
 loop-a-preserved c =
-    let f : ℕ → List Line = λ a. map (pair_line c.args.c.now.ops a) (conflicting c.args.c.now a) in
+    let f : ℕ → List Line = λ a. map (pair_line c.args.c.now a) (conflicting c.args.c.now a) in
     let a = c.loop-a.a in
     let n = c.count_of-count.result in
     record {

@@ -7,7 +7,7 @@ use Rattle.process_report.proofs.conflicts.put_conflicts.Given as goal
 abbrev pub invariant-loop-a : goal.invariant-loop-a
 invariant-loop-a l = record {
   within : l.a ≤ l.count;
-  lines : l.out.items ++ text_of (flat_map (λ a. map (pair_line l.c.ops a) (conflicting l.c a)) (numbers_from l.a (l.count - l.a)))
+  lines : l.out.items ++ text_of (flat_map (λ a. map (pair_line l.c a) (conflicting l.c a)) (numbers_from l.a (l.count - l.a)))
       ≡ l.fn.out.items ++ text_of (conflicts_lines l.c);
 }
 

@@ -2,7 +2,7 @@ use Rattle.std.proofs.Common.{◌≡◌, ◌∙◌, slice_index_or, refl, subst,
 use Rattle.std.specs.Prelude.{Some}
 use Rattle.std.proofs.lemmas.Result.{IfOk-weaker}
 use Rattle.process_disk.specs.Disk.{Told}
-use Rattle.program_words.specs.declared.reading.Command.TheVariants.{Run, Restart}
+use Rattle.program_words.specs.declared.reading.Command.TheVariants.{Run, Restart, Bulk}
 use Rattle.program_lines.specs.declared.status.Status.TheVariants.{Done}
 use Rattle.restart_run.specs.Boxes.{HaveValuesOf}
 use Rattle.command_input.specs.Inputs.{input}
@@ -12,7 +12,7 @@ use Rattle.process_top.specs.Said.{Says}
 use Rattle.process_top.specs.Commands.{IsDueTo}
 use Rattle.process_top.specs.Worlds.{output}
 use Rattle.process_top.proofs.GatesAsked.{first_asked}
-use Rattle.process_top.proofs.Saying.{init_says, restart_says, run_says, says_so, serve_says, session_says}
+use Rattle.process_top.proofs.Saying.{bulk_says, init_says, restart_says, run_says, says_so, serve_says, session_says}
 use Rattle.process_setup.proofs.FilesMade.{untouched}
 use Rattle.process_top.proofs.door.done.Goals as goal
 
@@ -101,3 +101,24 @@ returns-in-Restart-clause-values g c =
     rw c.unsaid-in-Restart.ensures
     (λ asks. IfOk-weaker c.restart.result.found (λ s. s.status ≡ Done → Told (g.R.Rack.disk c.args.parts.rack) → have) (λ s. s.status ≡ Done → Told (g.R.Rack.disk parts.rack) → have)
     (λ s has done told. has done (sym c.restart.ensures.tells ∙ told)) c.restart.ensures.values)
+
+pub returns-in-Bulk-clause-due : goal.returns-in-Bulk-clause-due
+returns-in-Bulk-clause-due g c =
+    let gates = c.args.gates.now.items in
+    let gate = c.index_mut-in-Bulk.result.now in
+    let first : gate ≡ slice_index_or gates 0 gate = c.index_mut-in-Bulk.ensures.value in
+    let found = c.bulk.result.found in
+    let before = input g.S.Source c.args.source.now in
+    let left = files g.R.Rack c.bulk.result.parts.rack in
+    let number = c.in-Bulk.number in
+    let count = c.in-Bulk.count in
+    rw c.in-Bulk.is
+    (rw c.unsaid-in-Bulk.ensures (
+      subst (λ (asked : AskedGate). Says (IsDueTo (Some (Bulk number count)) asked before before (files g.R.Rack c.args.parts.rack) left) found)
+          (sym (first_asked g.G.Gate gates gate c.bulk.new.gate (omega (arith, c.requires.gates)) first))
+          (bulk_says _ number count (files g.R.Rack c.args.parts.rack) left found c.bulk.ensures.due),
+      refl,
+    ))
+
+pub returns-in-Bulk-clause-worked : goal.returns-in-Bulk-clause-worked
+returns-in-Bulk-clause-worked g c = rw c.in-Bulk.is (rw c.unsaid-in-Bulk.ensures c.bulk.ensures.complete)

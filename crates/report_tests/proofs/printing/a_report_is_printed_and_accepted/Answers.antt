@@ -6,7 +6,7 @@ use Rattle.report_tests.proofs.PlannedHistory.{both_undone-is_planned}
 use Rattle.report_tests.proofs.printing.a_report_is_printed_and_accepted.Goals as goal
 
 is_catalog : IsCatalog shop
-is_catalog = record { few = omega arith; good = refl; own_names = refl; table = refl; of_all = refl }
+is_catalog = record { version = refl; few = omega arith; good = refl; own_names = refl; table = refl; of_all = refl; modes = refl }
 
 pub report-requires-clause-catalog : goal.report-requires-clause-catalog
 report-requires-clause-catalog g c = subst IsCatalog (sym c.in_ok-catalog.ensures) is_catalog

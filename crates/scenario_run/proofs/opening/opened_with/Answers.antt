@@ -1,4 +1,5 @@
 use Rattle.std.proofs.Common.{inl, inr, subst, sym}
+use Rattle.commute_table.specs.Operations.{IsCatalog}
 use Rattle.engine_steps.specs.Engines.{full_history}
 use Rattle.command_input.specs.FilesLeft.{files}
 use Rattle.scenario_run.specs.Opening.{AreOpenedOn, IsOther}
@@ -19,3 +20,6 @@ returns-in-Err-same_catalog-clause-due g c =
           (record { sound = is.sound; becomes = is.any_moment; now = is.read; each = is.each }),
       subst (λ d. IsOther c.args.catalog.now d c.in-Err-same_catalog.why) c.catalog.ensures c.in-Err-same_catalog.ensures.refused,
     )
+
+pub same_catalog-requires-clause-other : goal.same_catalog-requires-clause-other
+same_catalog-requires-clause-other g c = subst IsCatalog (sym c.catalog.ensures) c.is_sound.ensures.under.history.catalog

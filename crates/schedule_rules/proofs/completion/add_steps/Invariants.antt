@@ -1,10 +1,11 @@
 use Rattle.std.proofs.Common.{◌≡◌, ◌++◌, length, map}
 use Rattle.schedule_model.specs.declared.event.Event.TheVariants.{Act}
+use Rattle.schedule_model.specs.Course.{course_of}
 use Rattle.schedule_rules.specs.Recovering.{owed_by}
 use Rattle.schedule_rules.proofs.completion.add_steps.Given as goal
 
 abbrev pub invariant-loop-rest : goal.invariant-loop-rest
-invariant-loop-rest l = l.added.items ++ map Act (owed_by l.ops l.i l.rest) ≡ l.fn.added.items ++ map Act (owed_by l.ops l.i l.steps)
+invariant-loop-rest l = l.added.items ++ map Act (owed_by (course_of l.plan) l.i l.rest) ≡ l.fn.added.items ++ map Act (owed_by (course_of l.plan) l.i l.steps)
 
 abbrev pub decreases-loop-rest : goal.decreases-loop-rest
 decreases-loop-rest l = length l.rest

@@ -1,9 +1,9 @@
-use Rattle.std.proofs.Common.{◌≡◌, ℕ, List, IfNone, subst}
+use Rattle.std.proofs.Common.{◌≡◌, ℕ, List, IfNone, IfSome, subst}
 use Rattle.std.specs.Io.KnownBytes.{Appends}
 use Rattle.std.proofs.KnownBytes.{Appends-nil}
 use Rattle.driver_answers.specs.Serving.{DriverState, IsLineAnswered}
 use Rattle.driver_answers.proofs.MoreStarts.{goes_at_rest}
-use Rattle.serve_run.specs.Dialogue.{IsBetween}
+use Rattle.serve_run.specs.Dialogue.{IsBetween, IsCutAmid}
 use Rattle.serve_run.proofs.Turns.{answered_short, between_still, exchanged, over_amid, over_by_fault, over_by_stop, refused, refused_amid}
 use Rattle.serve_run.proofs.exchange.exchange.Goals as goal
 
@@ -28,7 +28,8 @@ pub returns-in-Ok-Line-clause-over : goal.returns-in-Ok-Line-clause-over
 returns-in-Ok-Line-clause-over g c =
     let next = rw c.in-Ok-Line.field-0-is at c.in-Ok-Line.ensures.next in
     over_amid g.S.Source g.K.Sink g.R.Rack c.args.plans.now c.args.source.now c.next_line.new.source c.args.reader.now c.next_line.new.reader c.args.sink.now c.respond.new.sink c.args.engine.now c.respond.new.engine
-    c.args.pieces.now.items c.respond.new.pieces.items c.args.number next.0 next.1 c.respond.result c.next_line.ensures.later c.respond.ensures.over
+    c.args.pieces.now.items c.respond.new.pieces.items c.args.number next.0 next.1 c.respond.result c.in-Ok-Line.line.items next.2 c.next_line.ensures.later
+    (subst (λ l. IfSome c.respond.result (IsCutAmid g.K.Sink g.R.Rack c.args.plans.now (record { core = c.args.engine.now.core; unfinished = c.args.pieces.now.items }) c.args.number l c.args.sink.now c.respond.new.sink c.args.engine.now c.respond.new.engine)) c.deref.ensures.value c.respond.ensures.over)
 
 pub returns-in-Ok-LongLine-clause-on : goal.returns-in-Ok-LongLine-clause-on
 returns-in-Ok-LongLine-clause-on g c =
@@ -45,7 +46,7 @@ returns-in-Ok-LongLine-clause-over g c =
     let at : IsBetween g.R.Rack c.args.engine.now = record { machine = c.is_sound.ensures.run; settled = c.requires.ready.settled; read = c.is_sound.ensures.read c.requires.ready.settled; each = c.is_sound.ensures.each c.requires.ready.settled } in
     let next = rw c.in-Ok-LongLine.field-0-is at c.in-Ok-LongLine.ensures.next in
     over_amid g.S.Source g.K.Sink g.R.Rack c.args.plans.now c.args.source.now c.next_line.new.source c.args.reader.now c.next_line.new.reader c.args.sink.now c.refuse.new.sink c.args.engine.now c.args.engine.now
-    c.args.pieces.now.items c.args.pieces.now.items c.args.number next.0 next.2 c.refuse.result c.next_line.ensures.later
+    c.args.pieces.now.items c.args.pieces.now.items c.args.number next.0 next.2 c.refuse.result next.1 next.3 c.next_line.ensures.later
     (refused_amid g.S.Source g.K.Sink g.R.Rack c.args.plans.now c.args.source.now c.next_line.new.source c.args.reader.now c.next_line.new.reader c.args.sink.now c.refuse.new.sink c.args.engine.now c.args.pieces.now.items c.args.number at c.refuse.result next.1 next.4 c.refuse.ensures.part)
 
 pub returns-in-Ok-Stop-clause-over : goal.returns-in-Ok-Stop-clause-over

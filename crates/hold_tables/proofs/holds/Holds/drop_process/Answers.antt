@@ -1,20 +1,23 @@
-use Rattle.std.proofs.Common.{not, filter, rules, ap, ◌∙◌}
+use Rattle.std.proofs.Common.{List, Bool, not, filter, rules, sym, subst, ap, ◌∙◌}
 use Rattle.std.specs.Prelude.{nat_eq}
 use Rattle.std.proofs.lemmas.Fn.{filter_same}
 use Rattle.process_tree.specs.declared.entry.Entry.{Entry}
 use Rattle.hold_tables.specs.Tables.{OpenProcess}
 use Rattle.hold_tables.specs.Changes.{dropped}
-use Rattle.hold_tables.proofs.Tidy.{tables}
+use Rattle.hold_tables.proofs.Tidy.{is_among, tables}
+use Rattle.hold_tables.specs.Places.{place_of}
+use Rattle.hold_tables.specs.Walks.{IsPlaceTaken, has_walks}
+use Rattle.hold_tables.proofs.DroppedWalks.{dropped_tells, rows_left}
 use Rattle.hold_tables.proofs.Opening.{drop_stands}
 use Rattle.hold_tables.proofs.WalksStay.{tell_lent}
 use Rattle.hold_tables.proofs.holds.Holds.drop_process.Goals as goal
 
-pub renew-requires-clause-tidy : goal.renew-requires-clause-tidy
-renew-requires-clause-tidy c =
+pub renew_if-requires-clause-tidy : goal.renew_if-requires-clause-tidy
+renew_if-requires-clause-tidy c =
     let i = c.args.process in
     let net = filter_same _ (λ (e : Entry). not (nat_eq e.process i)) _ (λ x b f' k. search rules) c.self.inside.net.items c.retain.new.self.items c.retain.ensures.filtered in
     let rows = filter_same _ (λ (r : OpenProcess). not (nat_eq r.process i)) _ (λ x b f' k. search rules) c.self.inside.rows.items c.retain-2.new.self.items c.retain-2.ensures.filtered in
-    rw (c.deref.ensures.value, c.deref-2.ensures.value, net, rows) (drop_stands i c.self.inside.conflicts c.self.inside.net.items c.self.inside.rows.items _ c.self.invariant.0).0
+    rw (c.deref-3.ensures.value, c.deref-4.ensures.value, net, rows) (drop_stands i c.self.inside.conflicts c.self.inside.net.items c.self.inside.rows.items _ c.self.invariant.0).0
 
 pub invariant_of-self : goal.invariant_of-self
 invariant_of-self c =
@@ -22,8 +25,32 @@ invariant_of-self c =
     let net = filter_same _ (λ (e : Entry). not (nat_eq e.process i)) _ (λ x b f' k. search rules) c.self.inside.net.items c.retain.new.self.items c.retain.ensures.filtered in
     let rows = filter_same _ (λ (r : OpenProcess). not (nat_eq r.process i)) _ (λ x b f' k. search rules) c.self.inside.rows.items c.retain-2.new.self.items c.retain-2.ensures.filtered in (
       rw (net, rows, c.retain.ensures.capacity) (drop_stands i c.self.inside.conflicts c.self.inside.net.items c.self.inside.rows.items _ c.self.invariant.0),
-      tell_lent c.self.inside.conflicts _ _ _ _ c.renew.new.walks.items c.deref.ensures.value c.deref-2.ensures.value c.renew.ensures.tell,
+      tell_lent c.self.inside.conflicts _ _ _ _ c.renew_if.new.walks.items c.deref-3.ensures.value c.deref-4.ensures.value c.renew_if.ensures.tell,
     )
+
+pub renew_if-requires-clause-same : goal.renew_if-requires-clause-same
+renew_if-requires-clause-same c =
+    let i = c.args.process in
+    let was = c.self.inside.rows.items in
+    let walks = c.self.inside.walks.items in
+    let has = is_among i c.self.inside.conflicts c.self.inside.net.items was c.args.self.now c.self.view_is c.requires.open in
+    let net = filter_same _ (λ (e : Entry). not (nat_eq e.process i)) _ (λ x b f' k. search rules) c.self.inside.net.items c.retain.new.self.items c.retain.ensures.filtered in
+    let rows = filter_same _ (λ (r : OpenProcess). not (nat_eq r.process i)) _ (λ x b f' k. search rules) c.self.inside.rows.items c.retain-2.new.self.items c.retain-2.ensures.filtered in
+    let place = c.place_of-at.ensures.place ∙ ap (place_of i) c.deref.ensures.value in
+    let taken : IsPlaceTaken (place_of i was) walks c.take_place.new.walks.items = subst (λ p. IsPlaceTaken p walks c.take_place.new.walks.items) place c.take_place.ensures.marks in
+    rw (c.deref-3.ensures.value, c.deref-4.ensures.value, net, rows) (λ none.
+    dropped_tells i c.self.inside.conflicts c.self.inside.net.items was walks c.take_place.new.walks.items c.self.invariant.0.0
+    (drop_stands i c.self.inside.conflicts c.self.inside.net.items was _ c.self.invariant.0).0 has c.self.invariant.1 taken
+    (sym (ap (has_walks walks) place) ∙ sym (ap (λ (m : List (List Bool)). has_walks m c.place_of-at.result) c.deref-2.ensures.value) ∙ sym c.has_walks-linked.ensures ∙ none) c.take_place.ensures.count)
+
+pub renew_if-requires-clause-rows : goal.renew_if-requires-clause-rows
+renew_if-requires-clause-rows c =
+    let i = c.args.process in
+    let was = c.self.inside.rows.items in
+    let walks = c.self.inside.walks.items in
+    let has = is_among i c.self.inside.conflicts c.self.inside.net.items was c.args.self.now c.self.view_is c.requires.open in
+    let rows = filter_same _ (λ (r : OpenProcess). not (nat_eq r.process i)) _ (λ x b f' k. search rules) c.self.inside.rows.items c.retain-2.new.self.items c.retain-2.ensures.filtered in
+    rw (c.deref-3.ensures.value, rows) (rows_left i was walks c.take_place.new.walks.items c.self.invariant.0.0.numbered has c.self.invariant.1.rows c.take_place.ensures.count)
 
 pub returns : goal.returns
 returns c =

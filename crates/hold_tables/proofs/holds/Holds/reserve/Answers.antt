@@ -8,17 +8,17 @@ use Rattle.hold_tables.proofs.holds.Holds.reserve.Goals as goal
 
 pub invariant_of-self : goal.invariant_of-self
 invariant_of-self c = (
-  stood (with_reserved c.args.ops.now) c.args.process c.self.inside.conflicts c.self.inside.net.items c.self.inside.rows.items c.place_of-at.result c.index_mut.result.now c.reserve.new.self c.args.self.now _ c.self.view_is c.requires.open (c.place_of-at.ensures.place ∙ ap (place_of c.args.process) c.deref.ensures.value) c.index_mut.ensures.value c.reserve.ensures (λ r. (refl, refl))
+  stood (with_reserved c.args.steps.now) c.args.process c.self.inside.conflicts c.self.inside.net.items c.self.inside.rows.items c.place_of-at.result c.index_mut.result.now c.reserve.new.self c.args.self.now _ c.self.view_is c.requires.open (c.place_of-at.ensures.place ∙ ap (place_of c.args.process) c.deref.ensures.value) c.index_mut.ensures.value c.reserve.ensures (λ r. (refl, refl))
       (λ tidy own. record { within = tidy.within; once = tidy.once; fixed = tidy.fixed; running = tidy.running; reserved = c.requires.known; fits = c.requires.room }) c.self.invariant.0,
-  walks_stood (with_reserved c.args.ops.now) c.args.process c.self.inside.conflicts c.self.inside.net.items c.self.inside.rows.items c.self.inside.walks.items c.place_of-at.result c.index_mut.result.now c.reserve.new.self c.args.self.now c.self.view_is c.requires.open (c.place_of-at.ensures.place ∙ ap (place_of c.args.process) c.deref.ensures.value) c.index_mut.ensures.value c.reserve.ensures
+  walks_stood (with_reserved c.args.steps.now) c.args.process c.self.inside.conflicts c.self.inside.net.items c.self.inside.rows.items c.self.inside.walks.items c.place_of-at.result c.index_mut.result.now c.reserve.new.self c.args.self.now c.self.view_is c.requires.open (c.place_of-at.ensures.place ∙ ap (place_of c.args.process) c.deref.ensures.value) c.index_mut.ensures.value c.reserve.ensures
       (λ r. (refl, refl)) c.self.invariant.1,
 )
 
 pub returns : goal.returns
 returns c =
-    returned (with_reserved c.args.ops.now) c.args.process c.self.inside.conflicts c.self.inside.net.items c.self.inside.rows.items c.place_of-at.result c.index_mut.result.now c.reserve.new.self c.args.self.now c.self.view_is c.requires.open (c.place_of-at.ensures.place ∙ ap (place_of c.args.process) c.deref.ensures.value) c.index_mut.ensures.value c.reserve.ensures
+    returned (with_reserved c.args.steps.now) c.args.process c.self.inside.conflicts c.self.inside.net.items c.self.inside.rows.items c.place_of-at.result c.index_mut.result.now c.reserve.new.self c.args.self.now c.self.view_is c.requires.open (c.place_of-at.ensures.place ∙ ap (place_of c.args.process) c.deref.ensures.value) c.index_mut.ensures.value c.reserve.ensures
 
 pub reserve-requires : goal.reserve-requires
 reserve-requires c =
     let same = found c.args.process c.self.inside.conflicts c.self.inside.net.items c.self.inside.rows.items c.place_of-at.result c.index_mut.result.now c.args.self.now c.self.view_is c.requires.open (c.place_of-at.ensures.place ∙ ap (place_of c.args.process) c.deref.ensures.value) c.index_mut.ensures.value in
-    subst (λ (r : OpenProcess). length c.args.ops.now ≤ r.steps) (sym same) c.requires.room
+    subst (λ (r : OpenProcess). length c.args.steps.now ≤ r.steps) (sym same) c.requires.room

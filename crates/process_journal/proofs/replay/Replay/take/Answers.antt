@@ -1,8 +1,8 @@
 use Rattle.std.specs.Prelude.{IfOk, IfErr}
 use Rattle.std.proofs.Common.{◌≡◌, ◌⊎◌, false, Some, IfSome, refl, sym, ap, ◌∙◌, subst}
+use Rattle.process_tree.specs.declared.entry.Entry.{Entry}
 use Rattle.process_tree.specs.declared.plan.Plan.{Plan}
 use Rattle.schedule_model.specs.declared.event.Event.TheVariants as events
-use Rattle.schedule_model.specs.Course.{courses_of, op_of}
 use Rattle.journal_records.specs.declared.record.Record.TheVariants.{Start, Act, End}
 use Rattle.journal_records.specs.Bytes.{bytes_of}
 use Rattle.process_journal.specs.declared.errors.JournalError.TheVariants.{BadRecord, BadHistory, NoMemory}
@@ -39,19 +39,16 @@ returns-in-Some-Act-clause-bodies c =
     let e = c.in-Some-Act.entry in
     let is = c.in-Some-Act.is ∙ ap Some c.in-Some-Act.field-0-is in
     let bytes = subst (λ o. IfSome o (λ r. bytes_of r ≡ c.args.body.now)) is c.in_ok-process.ensures.bytes in
-    let op = c.planned_op-op.ensures ∙ ap (λ ps. op_of (courses_of ps) e.process e.step) c.as_slice.ensures in
     body_taken c.args.catalog.now h (Act e) c.args.body.now c.go_on.result c.requires.read.history bytes
-    (subst (λ o. IfOk c.go_on.result (λ after. after.history ≡ with_event h (events.Act (record { process = e.process; step = e.step; op = o; undo = e.undo })))) op c.go_on.ensures.history)
+    (subst (λ (x : Entry). IfOk c.go_on.result (λ after. after.history ≡ with_event h (events.Act x))) c.planned-act.ensures c.go_on.ensures.history)
 
 pub returns-in-Some-Act-clause-refused : goal.returns-in-Some-Act-clause-refused
 returns-in-Some-Act-clause-refused c =
     let h = c.args.self.history in
     let e = c.in-Some-Act.entry in
     let is = sym c.in_ok-process.ensures.found ∙ c.in-Some-Act.is ∙ ap Some c.in-Some-Act.field-0-is in
-    let op = c.planned_op-op.ensures ∙ ap (λ ps. op_of (courses_of ps) e.process e.step) c.as_slice.ensures in
-    let acted = events.Act (record { process = e.process; step = e.step; op = c.planned_op-op.result; undo = e.undo }) in
-    event_refused c.args.catalog.now h c.args.number c.args.body.now (Act e) acted c.go_on.result is
-    (ap (λ o. with_event h (events.Act (record { process = e.process; step = e.step; op = o; undo = e.undo }))) op) c.go_on.ensures.refused
+    event_refused c.args.catalog.now h c.args.number c.args.body.now (Act e) (events.Act c.planned-act.result) c.go_on.result is
+    (ap (λ (x : Entry). with_event h (events.Act x)) c.planned-act.ensures) c.go_on.ensures.refused
 
 pub returns-in-Some-End-clause-bodies : goal.returns-in-Some-End-clause-bodies
 returns-in-Some-End-clause-bodies c =

@@ -1,0 +1,3 @@
+pub mod Complete
+pub mod Counted
+pub mod MadeAnew

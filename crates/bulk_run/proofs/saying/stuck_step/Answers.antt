@@ -1,0 +1,10 @@
+use Rattle.std.proofs.Common.{◌∙◌}
+use Rattle.scenario_run.specs.Reports.{step_due}
+use Rattle.scenario_run.proofs.StuckProcess.{exhausted_is, stuck_admits}
+use Rattle.bulk_run.proofs.saying.stuck_step.Goals as goal
+
+pub unreachable-requires : goal.unreachable-requires
+unreachable-requires g c =
+    let core = c.args.engine.now.core in
+    c.in_default.not-Exhausted (step_due core c.args.i)
+    (exhausted_is c.admit.result (step_due core c.args.i) (c.admit.ensures.reply ∙ stuck_admits core c.is_sound.ensures.run c.args.i c.requires.replied c.requires.stuck))

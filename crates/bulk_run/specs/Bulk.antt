@@ -1,0 +1,92 @@
+-- The command `bulk`: nine empty files are made those of a generated scenario, its processes start in the order of its text, and then they
+-- are run.
+use Rattle.std.specs.Prelude.{◌≡◌, ◌⊎◌, ◌≤◌, ℕ, List, [], ◌++◌, Some, None, Result, Ok, Err}
+use Rattle.process_flow.specs.Causes.{Rose}
+use Rattle.process_disk.specs.Disk.{Disk, FileSet, Told}
+use Rattle.process_disk.specs.Images.{EachImage}
+use Rattle.process_tree.specs.declared.plan.Plan.{Plan}
+use Rattle.schedule_model.specs.declared.event.Event.{Event}
+use Rattle.schedule_model.specs.Histories.{active}
+use Rattle.machine_model.specs.Calls.{next, next_is}
+use Rattle.machine_model.specs.Replies.{stuck}
+use Rattle.commute_table.specs.declared.catalog.Catalog.{Catalog}
+use Rattle.process_core.specs.Answers.{answer_in}
+use Rattle.process_core.specs.Cores.{CoreState, history_of, opened_on}
+use Rattle.process_journal.specs.Bodies.{no_history}
+use Rattle.history_files.specs.Creating.{first_used}
+use Rattle.history_files.specs.Sound.{IsSound}
+use Rattle.process_engine.specs.Fitting.{limit_passed}
+use Rattle.process_engine.specs.declared.fitting.StartLimit.{StartLimit}
+use Rattle.engine_steps.specs.Engines.{full_history}
+use Rattle.engine_steps.specs.declared.engines.Phase.{Phase}
+use Rattle.engine_steps.specs.declared.engines.Phase.TheVariants.{Settled, Closed}
+use Rattle.engine_runs.specs.Acknowledged.{ComeInTurn, IsOneAhead, events_of}
+use Rattle.engine_runs.specs.GateAnswers.{AskedGate}
+use Rattle.program_lines.specs.declared.refusal.Refusal.{Refusal}
+use Rattle.program_lines.specs.declared.refusal.Refusal.TheVariants.{DiskFault, NoMemory}
+use Rattle.program_lines.specs.declared.status.Status.TheVariants as statuses
+use Rattle.command_input.specs.declared.said.Said.{Said}
+use Rattle.command_input.specs.FilesLeft.{Files, AreUntouched}
+use Rattle.command_input.specs.Scenarios.{IsBound, IsNotBound}
+use Rattle.process_setup.specs.Init.{AreMade, AreNotMade}
+use Rattle.scenario_run.specs.Reports.{exhausted_line}
+use Rattle.scenario_run.specs.Run.{HasGone, limit_refusal}
+use Rattle.scenario_run.specs.Scenario.{IsSaidOfNone}
+use Rattle.bulk_run.specs.Summary.{summary_line, summary_of}
+
+-- At some moment between an earlier disk and a later one the files were made; of that moment this holds.
+pub record SinceMade (holds : ℕ → Type 0) (old new : Disk) : Type 0 where
+  pub moment : ℕ
+  pub begun : old.moment ≤ moment
+  pub by_now : moment ≤ new.moment
+  pub since : holds moment
+
+-- The files, where they are told, were empty, and were made those of a history without events. Since then what came was kept in turn, or an
+-- image is ahead of it. Unless a call of the rack failed they are sound for the history now, and so is each image of them from now on.
+pub record AreMadeAndKept (c : Catalog) (now : CoreState) (IsAhead : FileSet → Type 0) (on : Phase) (old new : Disk) : Type 0 where
+  pub came : List (ℕ × Event)
+  pub events : history_of now ≡ events_of came
+  pub empty : Told old → first_used old.files ≡ None
+  pub in_turn : Told old → SinceMade (λ t. ComeInTurn c (full_history now) IsAhead new [] t came) old new
+  pub read : on ≡ Settled → Told old → IsSound c (full_history now) new.files
+  pub each : on ≡ Settled → Told old → EachImage new new.moment (IsSound c (full_history now))
+
+-- A run on files that were made for it, up to now. The machine opened on a history without events; processes of these plans started, in this
+-- order, and since then all were only run, by the gate.
+abbrev pub IsRunAnew : AskedGate → Catalog → List Plan → List Plan → CoreState → Phase → Files → Files → Type 0
+IsRunAnew gate c plans started now on before after = HasGone gate c no_history started now × AreMadeAndKept c now (IsOneAhead c plans now on) on before.disk after.disk
+
+-- The files were made, and the processes don't all fit within the limits: nothing was kept.
+abbrev pub IsPastLimitAnew : Catalog → List Plan → Files → Files → Refusal → Type 0
+IsPastLimitAnew c plans before after r =
+    (limit : StartLimit) × (r ≡ limit_refusal limit) × (limit_passed (opened_on c.conflicts [] []) plans ≡ Some limit) × AreMade c before after
+
+-- A run was cut off once the first of the processes had started, or all: memory was wanting, or a call of the rack failed.
+abbrev pub IsCutOffAnew : AskedGate → Catalog → List Plan → Files → Files → Refusal → Type 0
+IsCutOffAnew gate c plans before after r =
+    (started rest : List Plan) × (now : CoreState) × (plans ≡ started ++ rest)
+    × (((r ≡ NoMemory) × IsRunAnew gate c plans started now Settled before after) ⊎ ((r ≡ DiskFault) × IsRunAnew gate c plans started now Closed before after × Rose before.faults after.faults))
+
+-- the line of a core's history
+abbrev pub line_in : CoreState → List ℕ
+line_in core = summary_line (summary_of (full_history core))
+
+-- All have ended, and the line of the history is printed; or this process is stuck, since it has no try left, and behind the line stands
+-- one that says so.
+abbrev pub SaysBulk : CoreState → Said → Type 0
+SaysBulk now said =
+    ((said.status ≡ statuses.Done) × (active (history_of now) ≡ []) × (said.text.items ≡ line_in now))
+    ⊎ ((i : ℕ) × (said.status ≡ statuses.Exhausted) × ((answer_in now next).reply ≡ next_is (stuck i)) × (said.text.items ≡ line_in now ++ exhausted_line now i))
+
+-- What there is to say of a run of these processes on files that are made for them: its line. Else it is refused, in this order: the files,
+-- and what would pass a limit; or it was cut off.
+abbrev pub IsBulkOf : AskedGate → Catalog → List Plan → Files → Files → Result Said Refusal → Type 0
+IsBulkOf gate c plans before after (Ok said) = (now : CoreState) × IsRunAnew gate c plans plans now Settled before after × SaysBulk now said
+IsBulkOf gate c plans before after (Err r) = AreNotMade r before after ⊎ IsPastLimitAnew c plans before after r ⊎ IsCutOffAnew gate c plans before after r
+
+-- What there is to say of a run of the scenario that this text is. Where it is the text of no scenario with well-formed processes, or memory
+-- is wanting for it, that is told, and the files are left as they were.
+abbrev pub IsBulkDue : AskedGate → List ℕ → Files → Files → Result Said Refusal → Type 0
+IsBulkDue gate text before after found =
+    (IsSaidOfNone (IsNotBound text) found × AreUntouched before after)
+    ⊎ ((c : Catalog) × (plans : List Plan) × IsBound text c plans × IsBulkOf gate c plans before after found)

@@ -1,0 +1,4 @@
+pub mod Bulk
+pub mod Completeness
+pub mod Summary
+pub mod SummaryExamples

@@ -1,0 +1,202 @@
+// The command `bulk`.
+ghost use Rattle.std.specs.Prelude.{◌≡◌, ◌≢◌, ◌⊎◌, ◌≤◌, [], length, true, false, None, Some, IfOk, IfErr, OnOk};
+ghost use Rattle.process_flow.specs.Causes.{Rose};
+ghost use Rattle.process_tree.specs.Order.{Each};
+ghost use Rattle.schedule_model.specs.Histories.{active};
+ghost use Rattle.schedule_model.specs.Laws.{IsGoodPlan};
+ghost use Rattle.commute_table.specs.Operations.{IsCatalog};
+ghost use Rattle.process_core.specs.Cores.{history_of};
+ghost use Rattle.history_files.specs.Boxes.{AreBoxes};
+ghost use Rattle.history_files.specs.Standing.{EachFits};
+ghost use Rattle.engine_steps.specs.Beginning.{IsPlanFor};
+ghost use Rattle.engine_steps.specs.Engines.{full_history};
+ghost use Rattle.engine_steps.specs.Opening.{IsOpened};
+ghost use Rattle.engine_steps.specs.declared.engines.Phase.TheVariants as phase;
+ghost use Rattle.process_engine.specs.Fitting.{limit_passed};
+ghost use Rattle.process_engine.specs.declared.fitting.StartLimit.{StartLimit as Limit'};
+ghost use Rattle.engine_runs.specs.GateAnswers.{asked};
+ghost use Rattle.engine_runs.specs.Runs.{GoesOn, IsReady};
+ghost use Rattle.worker_gate.specs.Running.{NothingRuns, RanBy};
+ghost use Rattle.command_input.specs.Early.{comes_before_files};
+ghost use Rattle.command_input.specs.FilesLeft.{files};
+ghost use Rattle.command_input.specs.Scenarios.{IsBound, IsNotBound};
+ghost use Rattle.scenario_gen.specs.Generated.{generated};
+ghost use Rattle.scenario_run.specs.Run.{HasGone, limit_refusal};
+ghost use Rattle.scenario_run.specs.Stops.{IsStopped};
+ghost use Rattle.process_setup.specs.Init.{create_refusal};
+ghost use Rattle.bulk_run.specs.Bulk.{IsBulkDue, IsBulkOf, SaysBulk};
+ghost use Rattle.bulk_run.specs.Completeness.{IsBulkComplete};
+
+use crate::saying::said_of;
+use command_input::{Bound, CommandEnd, NoPlans, Said, scenario_of};
+use process_disk::Rack;
+use process_engine::{CreateError, Engine, Gate, Parts, StartLimit, fits};
+use process_tree::Plan;
+use program_lines::{FileFault, Quantity, Refusal, Status};
+use resource_box::Resource;
+use scenario_gen::generate;
+use scenario_run::{said_of_none, start_all};
+use std::alloc::Global;
+use worker_gate::run_alone;
+
+// What a generated scenario gives.
+fn generated_scenario(alloc: Global, number: u64, count: u32) -> Result<Bound, NoPlans>
+    requires range { (1 ≤ count) × (count ≤ 256) }
+    ensures bound { IfOk result (λ b. IsBound (generated number count) b.catalog b.plans.items) }
+    ensures valid { IfOk result (λ b. IsCatalog b.catalog) }
+    ensures refused { IfErr result (λ none. IsNotBound (generated number count) none) }
+{
+    let text = generate(alloc, number, count)?;
+    scenario_of(alloc, &text)
+}
+
+// What is told of files that were not made.
+fn create_refusal(why: CreateError) -> Refusal
+    ensures refusal { result ≡ create_refusal why }
+    ensures late { comes_before_files result ≡ false }
+{
+    match why {
+        CreateError::DiskFault => Refusal::DiskFault,
+        CreateError::NotEmpty(file) => Refusal::File(FileFault::NotEmpty(file)),
+        CreateError::NoMemory => Refusal::NoMemory,
+    }
+}
+
+// What is told of a limit that the processes would pass.
+fn limit_refusal(limit: StartLimit) -> Refusal
+    ensures refusal { result ≡ limit_refusal limit }
+    ensures late { comes_before_files result ≡ false }
+{
+    match limit {
+        StartLimit::Processes(n) => Refusal::Limit(Quantity::Processes, n),
+        StartLimit::Active(n) => Refusal::Limit(Quantity::Active, n),
+        StartLimit::Entries(n) => Refusal::Limit(Quantity::Entries, n),
+    }
+}
+
+// Refuses processes that don't all fit within the limits.
+fn all_fit<R: Rack + Drop, B: Resource>(
+    engine: &Engine<R, B>,
+    plans: &[Plan],
+) -> Result<(), Refusal>
+    requires few { length plans.now ≤ 256 }
+    ensures fit { OnOk result (limit_passed engine.now.core plans.now ≡ None) }
+    ensures passed { IfErr result (λ r. (limit : Limit') × (r ≡ limit_refusal limit) × (limit_passed engine.now.core plans.now ≡ Some limit)) }
+    ensures late { IfErr result (λ r. comes_before_files r ≡ false) }
+{
+    match fits(engine, plans) {
+        Ok(()) => Ok(()),
+        Err(limit) => Err(limit_refusal(limit)),
+    }
+}
+
+// Runs the processes of a settled engine of which no piece is out; what there is to say then.
+fn run_started<R: Rack + Drop, B: Resource, G: Gate>(
+    alloc: Global,
+    engine: &mut Engine<R, B>,
+    gate: &mut G,
+) -> Result<Said, Refusal>
+    requires ready { IsReady B.meaning B.sort engine.old }
+    requires alone { NothingRuns engine.old.core }
+    ensures ran { RanBy R.disk R.faults (asked G.Gate gate.old gate.new) engine.old engine.new }
+    ensures said { IfOk result (λ s. (engine.new.phase ≡ phase.Settled) × SaysBulk engine.new.core s) }
+    ensures refused { IfErr result (λ r. ((r ≡ Refusal.NoMemory) × (engine.new.phase ≡ phase.Settled)) ⊎ ((r ≡ Refusal.DiskFault) × (engine.new.phase ≡ phase.Closed) × Rose (R.faults engine.old.files.rack) (R.faults engine.new.files.rack))) }
+    ensures fits { EachFits B.meaning B.sort engine.new.files.stores }
+{
+    let outcome = run_alone(engine, gate);
+    said_of(alloc, engine, outcome)
+}
+
+// Starts processes on an engine that was opened, and runs them.
+fn run_on<R: Rack + Drop, B: Resource, G: Gate>(
+    alloc: Global,
+    engine: &mut Engine<R, B>,
+    plans: Vec<Plan>,
+    gate: &mut G,
+) -> Result<Said, Refusal>
+    requires opened { IsOpened engine.old }
+    requires idle { active (history_of engine.old.core) ≡ [] }
+    requires fits { EachFits B.meaning B.sort engine.old.files.stores }
+    requires plans { Each (λ p. IsPlanFor engine.old.catalog p × IsGoodPlan p) plans.items }
+    requires few { length plans.items ≤ 256 }
+    ensures goes { GoesOn R.disk R.faults plans.items engine.old engine.new }
+    ensures ran { IfOk result (λ s. HasGone (asked G.Gate gate.old gate.new) engine.old.catalog (full_history engine.old.core) plans.items engine.new.core × (engine.new.phase ≡ phase.Settled) × SaysBulk engine.new.core s) }
+    ensures refused { IfErr result (λ r. IsStopped (asked G.Gate gate.old gate.new) R.faults engine.old engine.new plans.items r) }
+    ensures fits { EachFits B.meaning B.sort engine.new.files.stores }
+{
+    engine.is_sound();
+    all_fit(engine, &plans)?;
+    if let Err(refusal) = start_all(alloc, engine, plans) {
+        engine.is_sound();
+        return Err(refusal);
+    }
+    engine.is_sound();
+    let found = run_started(alloc, engine, gate);
+    engine.is_sound();
+    found
+}
+
+// Makes the files of a scenario, and runs its processes on them.
+fn run_anew<R: Rack + Drop, B: Resource, G: Gate>(
+    alloc: Global,
+    bound: Bound,
+    parts: Parts<R, B>,
+    gate: &mut G,
+) -> CommandEnd<Parts<R, B>>
+    requires catalog { IsCatalog bound.catalog }
+    requires plans { Each (λ p. IsPlanFor bound.catalog p × IsGoodPlan p) bound.plans.items }
+    requires few { length bound.plans.items ≤ 256 }
+    requires boxes { AreBoxes B.sort parts.resources.items }
+    ensures due { IsBulkOf (asked G.Gate gate.old gate.new) bound.catalog bound.plans.items (files R.Rack parts.rack) (files R.Rack result.parts.rack) result.found }
+    ensures late { IfErr result.found (λ r. comes_before_files r ≡ false) }
+    ensures said { IfOk result.found (λ s. s.status ≢ Status.IllFormed) }
+    ensures back { AreBoxes B.sort result.parts.resources.items }
+    ensures tells { (R.disk result.parts.rack).tells ≡ (R.disk parts.rack).tells }
+    ensures later { R.faults parts.rack ≤ R.faults result.parts.rack }
+{
+    let Bound { catalog, plans } = bound;
+    match Engine::create(alloc, parts, catalog) {
+        Ok(engine) => {
+            let mut engine = engine;
+            engine.is_sound();
+            let found = run_on(alloc, &mut engine, plans, gate);
+            engine.is_sound();
+            CommandEnd {
+                parts: engine.into_parts(),
+                found,
+            }
+        }
+        Err(refused) => CommandEnd {
+            parts: refused.parts,
+            found: Err(create_refusal(refused.why)),
+        },
+    }
+}
+
+/// Makes nine empty files those of the scenario of two numbers, and runs each of its processes once, with a gate that works on one piece after
+/// another. The line of what came is written once all have ended or one is stuck.
+pub fn bulk<R: Rack + Drop, B: Resource, G: Gate>(
+    alloc: Global,
+    number: u64,
+    count: u32,
+    parts: Parts<R, B>,
+    gate: &mut G,
+) -> CommandEnd<Parts<R, B>>
+    requires range { (1 ≤ count) × (count ≤ 256) }
+    requires boxes { AreBoxes B.sort parts.resources.items }
+    ensures due { IsBulkDue (asked G.Gate gate.old gate.new) (generated number count) (files R.Rack parts.rack) (files R.Rack result.parts.rack) result.found }
+    ensures complete { IsBulkComplete (generated number count) (files R.Rack parts.rack) (files R.Rack result.parts.rack) result.found }
+    ensures early { IfErr result.found (λ r. comes_before_files r ≡ true → result.parts.rack ≡ parts.rack) }
+    ensures ill_formed { IfOk result.found (λ s. s.status ≡ Status.IllFormed → result.parts.rack ≡ parts.rack) }
+    ensures back { AreBoxes B.sort result.parts.resources.items }
+    ensures tells { (R.disk result.parts.rack).tells ≡ (R.disk parts.rack).tells }
+    ensures later { R.faults parts.rack ≤ R.faults result.parts.rack }
+{
+    match generated_scenario(alloc, number, count) {
+        Ok(bound) => run_anew(alloc, bound, parts, gate),
+        Err(none) => CommandEnd {
+            parts,
+            found: said_of_none(none),
+        },
+    }
+}

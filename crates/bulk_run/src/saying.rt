@@ -1,0 +1,97 @@
+// What there is to say of a run.
+ghost use Rattle.std.specs.Prelude.{◌≡◌, ◌≢◌, ◌⊎◌, ◌++◌, IfOk, IfErr};
+ghost use Rattle.machine_model.specs.Calls.{next, next_is};
+ghost use Rattle.machine_model.specs.Replies.{stuck};
+ghost use Rattle.machine_model.specs.CallLaws.{IsStuck};
+ghost use Rattle.process_core.specs.Answers.{answer_in};
+ghost use Rattle.process_core.specs.Cores.{courses_in, moment_of, relation};
+ghost use Rattle.engine_runs.specs.Runs.{IsReady};
+ghost use Rattle.worker_gate.specs.Running.{IsOutcome};
+ghost use Rattle.scenario_run.specs.Reports.{exhausted_line, step_due};
+ghost use Rattle.bulk_run.specs.Bulk.{line_in, SaysBulk};
+
+use crate::summing::{summary_line, summed_up};
+use command_input::Said;
+use process_core::Admit;
+use process_disk::Rack;
+use process_engine::Engine;
+use process_journal::journals_keep_histories;
+use program_lines::{Refusal, Status};
+use resource_box::Resource;
+use session_text::put_exhausted;
+use std::alloc::{AllocError, Global};
+use worker_gate::RunOutcome;
+
+// The line of an engine's history.
+fn line_now<R: Rack + Drop, B: Resource>(
+    alloc: Global,
+    engine: &Engine<R, B>,
+) -> Result<Vec<u8>, AllocError>
+    ensures { IfOk result (λ text. text.items ≡ line_in engine.now.core) }
+{
+    journals_keep_histories();
+    engine.is_sound();
+    let summary = summed_up(alloc, engine.history(), &engine.catalog().conflicts)?;
+    let line = summary_line(alloc, summary)?;
+    Ok(line)
+}
+
+// The step that has no try left, of a process that is stuck.
+fn stuck_step<R: Rack + Drop, B: Resource>(engine: &mut Engine<R, B>, i: u32) -> u16
+    requires ready { IsReady B.meaning B.sort engine.old }
+    requires replied { (answer_in engine.old.core next).reply ≡ next_is (stuck i) }
+    requires stuck { IsStuck (relation engine.old.core) (courses_in engine.old.core) (moment_of engine.old.core) i }
+    ensures step { result ≡ step_due engine.old.core i }
+    ensures left { engine.new ≡ engine.old }
+{
+    engine.is_sound();
+    match engine_runs::admit(engine, i) {
+        Admit::Exhausted(step) => step,
+        _ => unreachable!(),
+    }
+}
+
+// The line of a run in which this process is stuck, and a line that says so.
+fn stuck_line<R: Rack + Drop, B: Resource>(
+    alloc: Global,
+    engine: &mut Engine<R, B>,
+    i: u32,
+) -> Result<Vec<u8>, AllocError>
+    requires ready { IsReady B.meaning B.sort engine.old }
+    requires replied { (answer_in engine.old.core next).reply ≡ next_is (stuck i) }
+    requires stuck { IsStuck (relation engine.old.core) (courses_in engine.old.core) (moment_of engine.old.core) i }
+    ensures text { IfOk result (λ text. text.items ≡ line_in engine.old.core ++ exhausted_line engine.old.core i) }
+    ensures left { engine.new ≡ engine.old }
+{
+    let step = stuck_step(engine, i);
+    let mut text = line_now(alloc, engine)?;
+    put_exhausted(alloc, engine.history(), i, step, &mut text)?;
+    Ok(text)
+}
+
+/// What is said of a run that came to this outcome.
+pub fn said_of<R: Rack + Drop, B: Resource>(
+    alloc: Global,
+    engine: &mut Engine<R, B>,
+    outcome: RunOutcome,
+) -> Result<Said, Refusal>
+    requires outcome { IsOutcome engine.old outcome }
+    requires ready { outcome ≢ RunOutcome.DiskFault → IsReady B.meaning B.sort engine.old }
+    ensures said { IfOk result (SaysBulk engine.old.core) }
+    ensures settled { IfOk result (λ s. outcome ≢ RunOutcome.DiskFault) }
+    ensures refused { IfErr result (λ r. ((r ≡ Refusal.NoMemory) × (outcome ≢ RunOutcome.DiskFault)) ⊎ ((r ≡ Refusal.DiskFault) × (outcome ≡ RunOutcome.DiskFault))) }
+    ensures left { engine.new ≡ engine.old }
+{
+    match outcome {
+        RunOutcome::AllEnded => Ok(Said {
+            text: line_now(alloc, engine)?,
+            status: Status::Done,
+        }),
+        RunOutcome::Stuck(i) => Ok(Said {
+            text: stuck_line(alloc, engine, i)?,
+            status: Status::Exhausted,
+        }),
+        RunOutcome::DiskFault => Err(Refusal::DiskFault),
+        RunOutcome::NoMemory => Err(Refusal::NoMemory),
+    }
+}

@@ -1,0 +1,250 @@
+-- A process without arrows is dropped: the walks among the others stay.
+use Rattle.std.proofs.Common.{◌≡◌, ◌+◌, ℕ, suc, Bool, true, false, not, ◌&&◌, ◌||◌, List, [], ◌∷◌, ◌++◌, length, Option, Some, None, sym, refl, ap, ◌∙◌, subst, arith}
+use Rattle.std.specs.Prelude.{nat_eq, nat_lt, slice_index_or, IfSome, if◌then◌else◌}
+use Rattle.std.specs.List.{list_any}
+use Rattle.std.proofs.lemmas.Bool.{eqb-true, false≢true, ltb-false, ltb-true, ne_eqb, eqb-false, not-true}
+use Rattle.std.proofs.lemmas.List.Elements.{filter-append}
+use Rattle.process_tree.specs.declared.entry.Entry.{Entry}
+use Rattle.process_tree.specs.Conflicts.{Table, do_conflict}
+use Rattle.process_tree.specs.Order.{Each}
+use Rattle.schedule_model.specs.Conflict.{ConflictRelation, conflict}
+use Rattle.schedule_model.specs.Histories.{of_process}
+use Rattle.schedule_model.specs.Graph.{one_arrow}
+use Rattle.schedule_model.specs.Holdings.{holders, reaches}
+use Rattle.schedule_model.proofs.Legal.{both-left, both-right}
+use Rattle.schedule_model.proofs.Walks.{leads-from_walk}
+use Rattle.hold_tables.specs.Tables.{OpenProcess, Tables, has_number, holdings_of, is_open}
+use Rattle.hold_tables.specs.Changes.{can_come}
+use Rattle.hold_tables.specs.Kept.{AreTidy, IsKnown, are_numbered}
+use Rattle.hold_tables.specs.Places.{place_of}
+use Rattle.hold_tables.specs.Walks.{AreRows, IsPlaceTaken, TellWalks, arrows_by, arrows_from, cell, has_walks, place_before, step_of, steps_under_way, told}
+use Rattle.hold_tables.proofs.Arrows.{steps_first}
+use Rattle.hold_tables.proofs.Marks.{before_above, before_below, neither_of, none_at_place, none_in_rows}
+use Rattle.hold_tables.proofs.Opening.{number_of_others, other_processes, others}
+use Rattle.hold_tables.proofs.Reaching.{graph-is, holder-number}
+use Rattle.hold_tables.proofs.SameGraph.{arrows_in, graph_of, same_reach}
+use Rattle.hold_tables.proofs.Tidy.{each_entry, tables}
+use Rattle.hold_tables.proofs.WalkEnds.{open_ends}
+
+-- an entry of process i is dropped, and another stays
+drop_head : (i : ℕ) (e : Entry) (es : List Entry) → nat_eq e.process i ≡ true → others i (e ∷ es) ≡ others i es
+drop_head i e es is = ap (λ b. if not b then e ∷ others i es else others i es) is
+
+keep_head : (i : ℕ) (e : Entry) (es : List Entry) → nat_eq e.process i ≡ false → others i (e ∷ es) ≡ e ∷ others i es
+keep_head i e es is = ap (λ b. if not b then e ∷ others i es else others i es) is
+
+-- of one that is process i, nothing is another process
+apart : (n i k : ℕ) → nat_eq n i ≡ true → nat_eq k i ≡ false → nat_eq n k ≡ false
+apart n i k is other = ne_eqb n k (λ same. eqb-false k i other (sym same ∙ eqb-true n i is))
+
+module _ (table : ConflictRelation) (i : ℕ) where
+  -- the entries of process i make no difference to arrows to another
+  any_other : (x : Entry) (k : ℕ) (ys : List Entry) → nat_eq k i ≡ false → list_any (λ y. nat_eq y.process k && conflict table x y) (others i ys) ≡ list_any (λ y. nat_eq y.process k && conflict table x y) ys
+  any_other x k [] other = refl
+  any_other x k (y ∷ ys) other = by (nat_eq y.process i) refl (any_other x k ys other)
+    where
+      by : (b : Bool) → nat_eq y.process i ≡ b → list_any (λ y. nat_eq y.process k && conflict table x y) (others i ys) ≡ list_any (λ y. nat_eq y.process k && conflict table x y) ys
+          → list_any (λ y. nat_eq y.process k && conflict table x y) (others i (y ∷ ys)) ≡ list_any (λ y. nat_eq y.process k && conflict table x y) (y ∷ ys)
+      by true is rest =
+          ap (list_any (λ y. nat_eq y.process k && conflict table x y)) (drop_head i y ys is) ∙ rest
+          ∙ sym (ap (λ b. (b && conflict table x y) || list_any (λ y. nat_eq y.process k && conflict table x y) ys) (apart y.process i k is other))
+      by false is rest =
+          ap (list_any (λ y. nat_eq y.process k && conflict table x y)) (keep_head i y ys is) ∙ ap ((nat_eq y.process k && conflict table x y) ||◌) rest
+
+  arrows_by_others : (x : Entry) (es running : List Entry) (j k : ℕ) → nat_eq k i ≡ false → arrows_by table x (others i es ++ others i running) j k ≡ arrows_by table x (es ++ running) j k
+  arrows_by_others x es running j k other =
+      ap (λ ys. arrows_by table x ys j k) (sym (filter-append (λ (e : Entry). not (nat_eq e.process i)) es running)) ∙ ap (nat_eq x.process j &&◌) (any_other x k (es ++ running) other)
+
+  -- nor do they to arrows between others
+  arrows_others : (running es : List Entry) (j k : ℕ) → nat_eq j i ≡ false → nat_eq k i ≡ false → arrows_from table (others i running) (others i es) j k ≡ arrows_from table running es j k
+  arrows_others running [] j k from to = refl
+  arrows_others running (x ∷ es) j k from to = by (nat_eq x.process i) refl (arrows_others running es j k from to)
+    where
+      by : (b : Bool) → nat_eq x.process i ≡ b → arrows_from table (others i running) (others i es) j k ≡ arrows_from table running es j k
+          → arrows_from table (others i running) (others i (x ∷ es)) j k ≡ arrows_from table running (x ∷ es) j k
+      by true is rest =
+          ap (λ ys. arrows_from table (others i running) ys j k) (drop_head i x es is) ∙ rest
+          ∙ sym (ap (λ b. (b && list_any (λ y. nat_eq y.process k && conflict table x y) (es ++ running)) || arrows_from table running es j k) (apart x.process i j is from))
+      by false is rest =
+          ap (λ ys. arrows_from table (others i running) ys j k) (keep_head i x es is)
+          ∙ ap (λ b. b || arrows_from table (others i running) (others i es) j k) (arrows_by_others x es running j k to)
+          ∙ ap (arrows_by table x (es ++ running) j k ||◌) rest
+
+-- what is under way in a process is its own
+abbrev IsOwn : OpenProcess → Type 0
+IsOwn r = IfSome r.running (λ e. e.process ≡ r.process)
+
+own_step : (i : ℕ) (n : ℕ) (o : Option Entry) → IfSome o (λ e. e.process ≡ n) → nat_eq n i ≡ true → others i (step_of o) ≡ []
+own_step i n None own is = refl
+own_step i n (Some e) own is = by e.undo
+  where
+    by : (b : Bool) → others i (if not b then e ∷ [] else []) ≡ []
+    by true = refl
+    by false = drop_head i e [] (ap (λ m. nat_eq m i) own ∙ is)
+
+other_step : (i : ℕ) (n : ℕ) (o : Option Entry) → IfSome o (λ e. e.process ≡ n) → nat_eq n i ≡ false → others i (step_of o) ≡ step_of o
+other_step i n None own is = refl
+other_step i n (Some e) own is = by e.undo
+  where
+    by : (b : Bool) → others i (if not b then e ∷ [] else []) ≡ (if not b then e ∷ [] else [])
+    by true = refl
+    by false = keep_head i e [] (ap (λ m. nat_eq m i) own ∙ is)
+
+-- the steps that are under way in the others
+steps_others : (i : ℕ) (rows : List OpenProcess) → Each IsOwn rows → steps_under_way (other_processes i rows) ≡ others i (steps_under_way rows)
+steps_others i [] each = refl
+steps_others i (r ∷ rows) each = by (nat_eq r.process i) refl (steps_others i rows each.1)
+  where
+    whole : others i (steps_under_way (r ∷ rows)) ≡ others i (step_of r.running) ++ others i (steps_under_way rows)
+    whole = ap (others i) (steps_first r rows) ∙ filter-append (λ (e : Entry). not (nat_eq e.process i)) (step_of r.running) (steps_under_way rows)
+
+    by : (b : Bool) → nat_eq r.process i ≡ b → steps_under_way (other_processes i rows) ≡ others i (steps_under_way rows) → steps_under_way (other_processes i (r ∷ rows)) ≡ others i (steps_under_way (r ∷ rows))
+    by true is rest =
+        ap (λ b. steps_under_way (if not b then r ∷ other_processes i rows else other_processes i rows)) is ∙ rest
+        ∙ sym (whole ∙ ap (λ es. es ++ others i (steps_under_way rows)) (own_step i r.process r.running each.0 is))
+    by false is rest =
+        ap (λ b. steps_under_way (if not b then r ∷ other_processes i rows else other_processes i rows)) is
+        ∙ steps_first r (other_processes i rows) ∙ ap (step_of r.running ++◌) rest
+        ∙ sym (whole ∙ ap (λ es. es ++ others i (steps_under_way rows)) (other_step i r.process r.running each.0 is))
+
+own_running : (table : Table) (es : List Entry) (r : OpenProcess) (o : Option Entry) → IfSome o (λ e. (e.process ≡ r.process) × (can_come es r e ≡ true) × IsKnown table e) → IfSome o (λ e. e.process ≡ r.process)
+own_running table es r None is = tt
+own_running table es r (Some e) is = is.0
+
+all_own : (t : Tables) → AreTidy t → Each IsOwn t.processes
+all_own t tidy = each_entry t.processes (λ (r : OpenProcess) is. own_running t.conflicts (of_process r.process t.net) r r.running is.running) tidy.tidy
+
+-- a process that isn't there is not dropped
+none_dropped : (i : ℕ) (rows : List OpenProcess) → has_number i rows ≡ false → other_processes i rows ≡ rows
+none_dropped i [] none = refl
+none_dropped i (r ∷ rows) none =
+    let parts = neither_of (nat_eq r.process i) (has_number i rows) none in
+    ap (λ b. if not b then r ∷ other_processes i rows else other_processes i rows) parts.0 ∙ ap (r ∷◌) (none_dropped i rows parts.1)
+
+-- none of the others is the one
+not_among : (i : ℕ) (rows : List OpenProcess) → has_number i (other_processes i rows) ≡ false
+not_among i [] = refl
+not_among i (r ∷ rows) = by (nat_eq r.process i) refl (not_among i rows)
+  where
+    by : (b : Bool) → nat_eq r.process i ≡ b → has_number i (other_processes i rows) ≡ false → has_number i (other_processes i (r ∷ rows)) ≡ false
+    by true is rest = ap (λ b. has_number i (if not b then r ∷ other_processes i rows else other_processes i rows)) is ∙ rest
+    by false is rest = ap (λ b. has_number i (if not b then r ∷ other_processes i rows else other_processes i rows)) is ∙ ap (λ b. b || has_number i (other_processes i rows)) is ∙ rest
+
+none_behind : (i : ℕ) (r : OpenProcess) (rows : List OpenProcess) → are_numbered (r ∷ rows) ≡ true → nat_eq r.process i ≡ true → has_number i rows ≡ false
+none_behind i r rows once is =
+    subst (λ k. has_number k rows ≡ false) (eqb-true r.process i is) (not-true (has_number r.process rows) (both-left (not (has_number r.process rows)) (are_numbered rows) once))
+
+-- there is one process less
+one_less_row : (i : ℕ) (rows : List OpenProcess) → are_numbered rows ≡ true → has_number i rows ≡ true → length (other_processes i rows) + 1 ≡ length rows
+one_less_row i [] once has = absurd (false≢true has)
+one_less_row i (r ∷ rows) once has = by (nat_eq r.process i) refl (one_less_row i rows (both-right (not (has_number r.process rows)) (are_numbered rows) once))
+  where
+    by : (b : Bool) → nat_eq r.process i ≡ b → (has_number i rows ≡ true → length (other_processes i rows) + 1 ≡ length rows) → length (other_processes i (r ∷ rows)) + 1 ≡ length (r ∷ rows)
+    by true is rest =
+        let gone : length (other_processes i (r ∷ rows)) ≡ length rows = ap (λ b. length (if not b then r ∷ other_processes i rows else other_processes i rows)) is ∙ ap length (none_dropped i rows (none_behind i r rows once is)) in
+        omega (arith, gone)
+    by false is rest =
+        let kept : length (other_processes i (r ∷ rows)) ≡ length (r ∷ other_processes i rows) = ap (λ b. length (if not b then r ∷ other_processes i rows else other_processes i rows)) is in
+        let less = rest (subst (λ b. (b || has_number i rows) ≡ true) is has) in
+        omega (arith, kept, less)
+
+before_suc : (p b : ℕ) → place_before (suc p) (suc b) ≡ suc (place_before p b)
+before_suc p b = by (nat_lt b p) refl
+  where
+    by : (t : Bool) → nat_lt b p ≡ t → place_before (suc p) (suc b) ≡ suc (place_before p b)
+    by true is = let less = ltb-true b p is in before_below (suc p) (suc b) (omega (arith, less)) ∙ ap suc (sym (before_below p b less))
+    by false is = let past = ltb-false b p is in before_above (suc p) (suc b) (omega (arith, past)) ∙ (let same : suc b + 1 ≡ suc (b + 1) = omega arith in same) ∙ ap suc (sym (before_above p b past))
+
+-- where another stood before
+place_was : (i j : ℕ) (rows : List OpenProcess) → are_numbered rows ≡ true → has_number i rows ≡ true → nat_eq j i ≡ false
+    → place_before (place_of i rows) (place_of j (other_processes i rows)) ≡ place_of j rows
+place_was i j [] once has other = absurd (false≢true has)
+place_was i j (r ∷ rows) once has other = by (nat_eq r.process i) refl (place_was i j rows (both-right (not (has_number r.process rows)) (are_numbered rows) once))
+  where
+    kept : (t : Bool) → nat_eq r.process j ≡ t → (place_before (place_of i rows) (place_of j (other_processes i rows)) ≡ place_of j rows)
+        → place_before (suc (place_of i rows)) (place_of j (r ∷ other_processes i rows)) ≡ place_of j (r ∷ rows)
+    kept true is rest = rw is (before_below (suc (place_of i rows)) 0 (omega arith))
+    kept false is rest = rw is (before_suc (place_of i rows) (place_of j (other_processes i rows)) ∙ ap suc rest)
+
+    by : (b : Bool) → nat_eq r.process i ≡ b → (has_number i rows ≡ true → nat_eq j i ≡ false → place_before (place_of i rows) (place_of j (other_processes i rows)) ≡ place_of j rows)
+        → place_before (place_of i (r ∷ rows)) (place_of j (other_processes i (r ∷ rows))) ≡ place_of j (r ∷ rows)
+    by true is rest =
+        ap (λ b. place_before (if b then 0 else suc (place_of i rows)) (place_of j (if not b then r ∷ other_processes i rows else other_processes i rows))) is
+        ∙ ap (λ rs. place_before 0 (place_of j rs)) (none_dropped i rows (none_behind i r rows once is))
+        ∙ before_above 0 (place_of j rows) (omega arith) ∙ (let same : place_of j rows + 1 ≡ suc (place_of j rows) = omega arith in same)
+        ∙ sym (ap (λ b. if b then 0 else suc (place_of j rows)) (apart r.process i j is other))
+    by false is rest =
+        ap (λ b. place_before (if b then 0 else suc (place_of i rows)) (place_of j (if not b then r ∷ other_processes i rows else other_processes i rows))) is
+        ∙ kept (nat_eq r.process j) refl (rest (subst (λ b. (b || has_number i rows) ≡ true) is has) other)
+
+-- and a row of marks less for it
+pub rows_left : (i : ℕ) (rows : List OpenProcess) (old new : List (List Bool)) → are_numbered rows ≡ true → has_number i rows ≡ true → AreRows rows old → length new + 1 ≡ length old
+    → AreRows (other_processes i rows) new
+rows_left i rows old new once has were count =
+    let less = one_less_row i rows once has in
+    let same = were.0 in
+    let few = were.1 in
+    (omega (arith, less, same, count), omega (arith, less, few))
+
+module _ (i : ℕ) (table : Table) (net : List Entry) (rows : List OpenProcess) (old new : List (List Bool)) (tidy_was : AreTidy (tables table net rows))
+    (tidy_now : AreTidy (tables table (others i net) (other_processes i rows))) (has : has_number i rows ≡ true) (tells : TellWalks (tables table net rows) old)
+    (taken : IsPlaceTaken (place_of i rows) old new) (none : has_walks old (place_of i rows) ≡ false) where
+  abbrev was : Tables
+  was = tables table net rows
+
+  abbrev now : Tables
+  now = tables table (others i net) (other_processes i rows)
+
+  same_arrows : (j k : ℕ) → nat_eq j i ≡ false → nat_eq k i ≡ false → arrows_in now j k ≡ arrows_in was j k
+  same_arrows j k from to =
+      ap (λ es. arrows_from (do_conflict table) es (others i net) j k) (steps_others i rows (all_own was tidy_was)) ∙ arrows_others (do_conflict table) i (steps_under_way rows) net j k from to
+
+  -- an arrow is told of
+  arrow_told : (j k : ℕ) → arrows_in was j k ≡ true → told rows old j k ≡ true
+  arrow_told j k a =
+      let ends = open_ends was tidy_was j k a in
+      tells.tell j k ends.0 ends.1 ∙ leads-from_walk (graph_of was) (holders (holdings_of was)) (one_arrow (holder-number k net rows ends.1) (graph-is was tidy_was j k ∙ a))
+
+  -- so none leads from the process or to it
+  from_other : (j k : ℕ) → arrows_in was j k ≡ true → (b : Bool) → nat_eq j i ≡ b → nat_eq j i ≡ false
+  from_other j k a true is =
+      let quiet = none_at_place (slice_index_or old (place_of i rows) []) (place_of k rows) (neither_of (list_any (λ mark. mark) (slice_index_or old (place_of i rows) [])) (list_any (λ row. slice_index_or row (place_of i rows) false) old) none).0 in
+      absurd (false≢true (sym quiet ∙ ap (λ n. told rows old n k) (sym (eqb-true j i is)) ∙ arrow_told j k a))
+  from_other j k a false is = is
+
+  to_other : (j k : ℕ) → arrows_in was j k ≡ true → (b : Bool) → nat_eq k i ≡ b → nat_eq k i ≡ false
+  to_other j k a true is =
+      let quiet = none_in_rows old (place_of i rows) (place_of j rows) (neither_of (list_any (λ mark. mark) (slice_index_or old (place_of i rows) [])) (list_any (λ row. slice_index_or row (place_of i rows) false) old) none).1 in
+      absurd (false≢true (sym quiet ∙ ap (λ n. told rows old j n) (sym (eqb-true k i is)) ∙ arrow_told j k a))
+  to_other j k a false is = is
+
+  open_other : (k : ℕ) → is_open now k ≡ true → (b : Bool) → nat_eq k i ≡ b → nat_eq k i ≡ false
+  open_other k there true is = absurd (false≢true (sym (not_among i rows) ∙ ap (λ n. has_number n (other_processes i rows)) (sym (eqb-true k i is)) ∙ there))
+  open_other k there false is = is
+
+  reach_stays : (j k : ℕ) → reaches (do_conflict table) (holdings_of now) j k ≡ reaches (do_conflict table) (holdings_of was) j k
+  reach_stays = same_reach now was tidy_now tidy_was
+      (λ j k there a.
+      let ends = open_ends now tidy_now j k a in
+      let from = open_other j ends.0 (nat_eq j i) refl in
+      let to = open_other k there (nat_eq k i) refl in
+      (sym (number_of_others i k rows to) ∙ there, sym (same_arrows j k from to) ∙ a))
+      (λ j k there a.
+      let from = from_other j k a (nat_eq j i) refl in
+      let to = to_other j k a (nat_eq k i) refl in
+      (number_of_others i k rows to ∙ there, same_arrows j k from to ∙ a))
+
+  -- the marks tell where walks lead, with a process less
+  pub dropped_tells : length new + 1 ≡ length old → TellWalks now new
+  dropped_tells count =
+      record {
+        rows = rows_left i rows old new tidy_was.numbered has tells.rows count;
+        tell = λ j k here there.
+            let from = open_other j here (nat_eq j i) refl in
+            let to = open_other k there (nat_eq k i) refl in
+            taken (place_of j now.processes) (place_of k now.processes)
+            ∙ ap (λ a. cell old a (place_before (place_of i rows) (place_of k now.processes))) (place_was i j rows tidy_was.numbered has from)
+            ∙ ap (cell old (place_of j rows)) (place_was i k rows tidy_was.numbered has to)
+            ∙ tells.tell j k (sym (number_of_others i j rows from) ∙ here) (sym (number_of_others i k rows to) ∙ there)
+            ∙ sym (reach_stays j k);
+      }

@@ -1,0 +1,101 @@
+-- A process that opens has no arrow: the marks of the others stay, and it has none.
+use Rattle.std.proofs.Common.{◌≡◌, ◌<◌, ◌+◌, ℕ, suc, Bool, true, false, not, ◌&&◌, ◌||◌, List, [], ◌∷◌, ◌++◌, length, sym, refl, ap, ◌∙◌, subst, arith, length-append}
+use Rattle.std.specs.Prelude.{nat_eq}
+use Rattle.std.proofs.lemmas.Bool.{eq-eqb, false≢true, ne_eqb, or_left}
+use Rattle.process_tree.specs.declared.entry.Entry.{Entry}
+use Rattle.process_tree.specs.Conflicts.{Table, do_conflict}
+use Rattle.schedule_model.specs.Holdings.{reaches}
+use Rattle.hold_tables.specs.Tables.{OpenProcess, Tables, has_number, holdings_of, holds_nothing, is_open}
+use Rattle.hold_tables.specs.Kept.{AreTidy}
+use Rattle.hold_tables.specs.Places.{place_of}
+use Rattle.hold_tables.specs.Walks.{IsUnmarked, TellWalks, arrows_from, cell, step_of, steps_under_way, told}
+use Rattle.hold_tables.proofs.Arrows.{steps_first}
+use Rattle.hold_tables.proofs.Extended.{place_within}
+use Rattle.hold_tables.proofs.Marks.{past_unmarked}
+use Rattle.hold_tables.proofs.Opening.{number_more}
+use Rattle.hold_tables.proofs.SameGraph.{same_reach}
+use Rattle.hold_tables.proofs.Tidy.{tables}
+use Rattle.hold_tables.proofs.WalkEnds.{open_ends, reach_ends}
+
+-- where a process was open, it keeps its place
+place_stays : (k : ℕ) (rows others : List OpenProcess) → has_number k rows ≡ true → place_of k (rows ++ others) ≡ place_of k rows
+place_stays k [] others has = absurd (false≢true has)
+place_stays k (r ∷ rows) others has = by (nat_eq r.process k) refl (place_stays k rows others)
+  where
+    by : (b : Bool) → nat_eq r.process k ≡ b → (has_number k rows ≡ true → place_of k (rows ++ others) ≡ place_of k rows) → place_of k (r ∷ (rows ++ others)) ≡ place_of k (r ∷ rows)
+    by true is rest = rw is refl
+    by false is rest = rw is (ap suc (rest (subst (λ b. (b || has_number k rows) ≡ true) is has)))
+
+-- the place of one more
+place_more : (k : ℕ) (rows : List OpenProcess) (r : OpenProcess) → has_number k rows ≡ false → nat_eq r.process k ≡ true → place_of k (rows ++ r ∷ []) ≡ length rows
+place_more k [] r none is = rw is refl
+place_more k (x ∷ rows) r none is = by (nat_eq x.process k) refl (place_more k rows r)
+  where
+    by : (b : Bool) → nat_eq x.process k ≡ b → (has_number k rows ≡ false → nat_eq r.process k ≡ true → place_of k (rows ++ r ∷ []) ≡ length rows) → place_of k (x ∷ (rows ++ r ∷ [])) ≡ length (x ∷ rows)
+    by true test rest = absurd (false≢true (sym none ∙ or_left (nat_eq x.process k) (has_number k rows) test))
+    by false test rest = rw test (ap suc (rest (subst (λ b. (b || has_number k rows) ≡ false) test none) is))
+
+steps_of_more : (i steps : ℕ) (rows : List OpenProcess) → steps_under_way (rows ++ holds_nothing i steps ∷ []) ≡ steps_under_way rows
+steps_of_more i steps [] = refl
+steps_of_more i steps (r ∷ rows) = steps_first r (rows ++ holds_nothing i steps ∷ []) ∙ ap (step_of r.running ++◌) (steps_of_more i steps rows) ∙ sym (steps_first r rows)
+
+not_so : (b : Bool) → (b ≡ true → false ≡ true) → b ≡ false
+not_so true denied = absurd (false≢true (denied refl))
+not_so false denied = refl
+
+module _ (i steps : ℕ) (table : Table) (net : List Entry) (rows : List OpenProcess) (old new : List (List Bool)) (tidy_was : AreTidy (tables table net rows))
+    (tidy_now : AreTidy (tables table net (rows ++ holds_nothing i steps ∷ []))) (tells : TellWalks (tables table net rows) old) (unmarked : IsUnmarked (length rows) old new) where
+  abbrev was : Tables
+  was = tables table net rows
+
+  abbrev now : Tables
+  now = tables table net (rows ++ holds_nothing i steps ∷ [])
+
+  same_arrows : (j k : ℕ) → arrows_from (do_conflict table) (steps_under_way now.processes) net j k ≡ arrows_from (do_conflict table) (steps_under_way rows) net j k
+  same_arrows j k = ap (λ es. arrows_from (do_conflict table) es net j k) (steps_of_more i steps rows)
+
+  -- walks lead where they led
+  reach_stays : (j k : ℕ) → reaches (do_conflict table) (holdings_of now) j k ≡ reaches (do_conflict table) (holdings_of was) j k
+  reach_stays = same_reach now was tidy_now tidy_was
+      (λ j k is a. let arrow = sym (same_arrows j k) ∙ a in ((open_ends was tidy_was j k arrow).1, arrow))
+      (λ j k is a. (number_more k rows (holds_nothing i steps) ∙ or_left (has_number k rows) (nat_eq i k) is, same_arrows j k ∙ a))
+
+  place_new : (k : ℕ) → is_open now k ≡ true → has_number k rows ≡ false → place_of k now.processes ≡ length rows
+  place_new k there none = place_more k rows (holds_nothing i steps) none (sym (ap (λ b. b || nat_eq i k) none) ∙ sym (number_more k rows (holds_nothing i steps)) ∙ there)
+
+  told_open : (j k : ℕ) → has_number j rows ≡ true → has_number k rows ≡ true → told now.processes new j k ≡ reaches (do_conflict table) (holdings_of now) j k
+  told_open j k here there =
+      let within = place_within rows k there in
+      ap (λ a. cell new a (place_of k now.processes)) (place_stays j rows (holds_nothing i steps ∷ []) here)
+      ∙ ap (cell new (place_of j rows)) (place_stays k rows (holds_nothing i steps ∷ []) there)
+      ∙ unmarked (place_of j rows) (place_of k rows)
+      ∙ ap (λ b. not b && cell old (place_of j rows) (place_of k rows)) (ne_eqb (place_of k rows) (length rows) (λ same. omega (arith, within, same)))
+      ∙ tells.tell j k here there ∙ sym (reach_stays j k)
+
+  told_from : (j k : ℕ) → is_open now j ≡ true → has_number j rows ≡ false → told now.processes new j k ≡ reaches (do_conflict table) (holdings_of now) j k
+  told_from j k here none =
+      let count = tells.rows.0 in
+      ap (λ a. cell new a (place_of k now.processes)) (place_new j here none)
+      ∙ unmarked (length rows) (place_of k now.processes)
+      ∙ past_unmarked old (length rows) (length rows) (place_of k now.processes) (omega (arith, count))
+      ∙ sym (reach_stays j k ∙ not_so (reaches (do_conflict table) (holdings_of was) j k) (λ is. sym none ∙ (reach_ends was tidy_was j k is).0))
+
+  told_to : (j k : ℕ) → is_open now k ≡ true → has_number k rows ≡ false → told now.processes new j k ≡ reaches (do_conflict table) (holdings_of now) j k
+  told_to j k there none =
+      ap (cell new (place_of j now.processes)) (place_new k there none)
+      ∙ unmarked (place_of j now.processes) (length rows)
+      ∙ ap (λ b. not b && cell old (place_of j now.processes) (length rows)) (eq-eqb (length rows) (length rows) refl)
+      ∙ sym (reach_stays j k ∙ not_so (reaches (do_conflict table) (holdings_of was) j k) (λ is. sym none ∙ (reach_ends was tidy_was j k is).1))
+
+  -- the marks tell where walks lead, with a process more
+  pub opened_tells : length rows < 256 → length new ≡ length rows + 1 → TellWalks now new
+  opened_tells few count = record {
+    rows = (let longer = length-append rows (holds_nothing i steps ∷ []) in (omega (arith, longer, count), omega (arith, longer, few)));
+    tell = λ j k here there. by j k here there (has_number j rows) (has_number k rows) refl refl;
+  }
+    where
+      by : (j k : ℕ) → is_open now j ≡ true → is_open now k ≡ true → (s t : Bool) → has_number j rows ≡ s → has_number k rows ≡ t
+          → told now.processes new j k ≡ reaches (do_conflict table) (holdings_of now) j k
+      by j k here there true true first last = told_open j k first last
+      by j k here there true false first last = told_to j k there last
+      by j k here there false t first last = told_from j k here first

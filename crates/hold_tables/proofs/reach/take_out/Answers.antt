@@ -1,0 +1,24 @@
+use Rattle.std.proofs.Common.{◌≢◌, ◌+◌, ◌<◌, length, false, slice_index_or, refl, ap, ◌∙◌, sym, arith, get_or-set_other, length-set}
+use Rattle.hold_tables.proofs.Marks.{all_moved, before_below, one_moved}
+use Rattle.hold_tables.proofs.reach.take_out.Goals as goal
+
+pub loop-to-init : goal.loop-to-init
+loop-to-init c = ((λ b less. ap (λ k. slice_index_or c.args.row.now k false) (sym (before_below c.args.place b less))), (λ b past. refl), refl)
+
+pub loop-to-preserved : goal.loop-to-preserved
+loop-to-preserved c =
+    let to = c.loop-to.to in
+    let wide = c.told-row in
+    let same = c.loop-to.invariant.2 in
+    let test = c.loop-to-test.true in
+    let within : to < length c.loop-to.row = omega (arith, test, wide, same) in (
+      λ b less. one_moved c.args.row.now c.loop-to.row c.args.place to b c.loop-to.auto.to within (c.loop-to.invariant.1 (to + 1) (omega arith)) (c.loop-to.invariant.0 b) less,
+      (λ b past. let other : b ≢ to = omega (arith, past) in get_or-set_other c.loop-to.row to b (slice_index_or c.loop-to.row (to + 1) false) false other ∙ c.loop-to.invariant.1 b (omega (arith, past))),
+      length-set _ _ _ ∙ same,
+    )
+
+pub returns : goal.returns
+returns c b =
+    let past = c.loop-to-test.false in
+    let place = c.requires in
+    all_moved c.args.row.now c.loop-to.row c.args.place 255 b (omega (arith, place)) c.told-row (c.loop-to.invariant.2 ∙ c.told-row) (λ less. c.loop-to.invariant.0 b (omega (arith, less, past)))
