@@ -1,0 +1,5 @@
+pub mod EndedTurns
+pub mod HandedLater
+pub mod Leading
+pub mod MadeTurns
+pub mod NextTurns

@@ -1,0 +1,4 @@
+pub mod Entries
+pub mod Progress
+pub mod Seats
+pub mod Shared
