@@ -1,5 +1,5 @@
 // The command `bulk`.
-ghost use Rattle.std.specs.Prelude.{◌≡◌, ◌≢◌, ◌⊎◌, ◌≤◌, [], length, true, false, None, Some, IfOk, IfErr, OnOk};
+ghost use Rattle.std.specs.Prelude.{◌≡◌, ◌≢◌, ◌⊎◌, ◌≤◌, [], length, true, false, IfOk, IfErr};
 ghost use Rattle.process_flow.specs.Causes.{Rose};
 ghost use Rattle.process_tree.specs.Order.{Each};
 ghost use Rattle.schedule_model.specs.Histories.{active};
@@ -12,8 +12,6 @@ ghost use Rattle.engine_steps.specs.Beginning.{IsPlanFor};
 ghost use Rattle.engine_steps.specs.Engines.{full_history};
 ghost use Rattle.engine_steps.specs.Opening.{IsOpened};
 ghost use Rattle.engine_steps.specs.declared.engines.Phase.TheVariants as phase;
-ghost use Rattle.process_engine.specs.Fitting.{limit_passed};
-ghost use Rattle.process_engine.specs.declared.fitting.StartLimit.{StartLimit as Limit'};
 ghost use Rattle.engine_runs.specs.GateAnswers.{asked};
 ghost use Rattle.engine_runs.specs.Runs.{GoesOn, IsReady};
 ghost use Rattle.worker_gate.specs.Running.{NothingRuns, RanBy};
@@ -21,21 +19,21 @@ ghost use Rattle.command_input.specs.Early.{comes_before_files};
 ghost use Rattle.command_input.specs.FilesLeft.{files};
 ghost use Rattle.command_input.specs.Scenarios.{IsBound, IsNotBound};
 ghost use Rattle.scenario_gen.specs.Generated.{generated};
-ghost use Rattle.scenario_run.specs.Run.{HasGone, limit_refusal};
+ghost use Rattle.scenario_run.specs.Run.{HasGone};
 ghost use Rattle.scenario_run.specs.Stops.{IsStopped};
-ghost use Rattle.process_setup.specs.Init.{create_refusal};
 ghost use Rattle.bulk_run.specs.Bulk.{IsBulkDue, IsBulkOf, SaysBulk};
 ghost use Rattle.bulk_run.specs.Completeness.{IsBulkComplete};
 
 use crate::saying::said_of;
 use command_input::{Bound, CommandEnd, NoPlans, Said, scenario_of};
 use process_disk::Rack;
-use process_engine::{CreateError, Engine, Gate, Parts, StartLimit, fits};
+use process_engine::{Engine, Gate, Parts};
+use process_setup::create_refusal;
 use process_tree::Plan;
-use program_lines::{FileFault, Quantity, Refusal, Status};
+use program_lines::{Refusal, Status};
 use resource_box::Resource;
 use scenario_gen::generate;
-use scenario_run::{said_of_none, start_all};
+use scenario_run::{all_fit, said_of_none, start_all};
 use std::alloc::Global;
 use worker_gate::run_alone;
 
@@ -48,46 +46,6 @@ fn generated_scenario(alloc: Global, number: u64, count: u32) -> Result<Bound, N
 {
     let text = generate(alloc, number, count)?;
     scenario_of(alloc, &text)
-}
-
-// What is told of files that were not made.
-fn create_refusal(why: CreateError) -> Refusal
-    ensures refusal { result ≡ create_refusal why }
-    ensures late { comes_before_files result ≡ false }
-{
-    match why {
-        CreateError::DiskFault => Refusal::DiskFault,
-        CreateError::NotEmpty(file) => Refusal::File(FileFault::NotEmpty(file)),
-        CreateError::NoMemory => Refusal::NoMemory,
-    }
-}
-
-// What is told of a limit that the processes would pass.
-fn limit_refusal(limit: StartLimit) -> Refusal
-    ensures refusal { result ≡ limit_refusal limit }
-    ensures late { comes_before_files result ≡ false }
-{
-    match limit {
-        StartLimit::Processes(n) => Refusal::Limit(Quantity::Processes, n),
-        StartLimit::Active(n) => Refusal::Limit(Quantity::Active, n),
-        StartLimit::Entries(n) => Refusal::Limit(Quantity::Entries, n),
-    }
-}
-
-// Refuses processes that don't all fit within the limits.
-fn all_fit<R: Rack + Drop, B: Resource>(
-    engine: &Engine<R, B>,
-    plans: &[Plan],
-) -> Result<(), Refusal>
-    requires few { length plans.now ≤ 256 }
-    ensures fit { OnOk result (limit_passed engine.now.core plans.now ≡ None) }
-    ensures passed { IfErr result (λ r. (limit : Limit') × (r ≡ limit_refusal limit) × (limit_passed engine.now.core plans.now ≡ Some limit)) }
-    ensures late { IfErr result (λ r. comes_before_files r ≡ false) }
-{
-    match fits(engine, plans) {
-        Ok(()) => Ok(()),
-        Err(limit) => Err(limit_refusal(limit)),
-    }
 }
 
 // Runs the processes of a settled engine of which no piece is out; what there is to say then.

@@ -7,17 +7,17 @@ ghost use Rattle.process_core.specs.Answers.{answer_in};
 ghost use Rattle.process_core.specs.Cores.{courses_in, moment_of, relation};
 ghost use Rattle.engine_runs.specs.Runs.{IsReady};
 ghost use Rattle.worker_gate.specs.Running.{IsOutcome};
-ghost use Rattle.scenario_run.specs.Reports.{exhausted_line, step_due};
+ghost use Rattle.scenario_run.specs.Reports.{exhausted_line};
 ghost use Rattle.bulk_run.specs.Bulk.{line_in, SaysBulk};
 
 use crate::summing::{summary_line, summed_up};
 use command_input::Said;
-use process_core::Admit;
 use process_disk::Rack;
 use process_engine::Engine;
 use process_journal::journals_keep_histories;
 use program_lines::{Refusal, Status};
 use resource_box::Resource;
+use scenario_run::stuck_step;
 use session_text::put_exhausted;
 use std::alloc::{AllocError, Global};
 use worker_gate::RunOutcome;
@@ -34,21 +34,6 @@ fn line_now<R: Rack + Drop, B: Resource>(
     let summary = summed_up(alloc, engine.history(), &engine.catalog().conflicts)?;
     let line = summary_line(alloc, summary)?;
     Ok(line)
-}
-
-// The step that has no try left, of a process that is stuck.
-fn stuck_step<R: Rack + Drop, B: Resource>(engine: &mut Engine<R, B>, i: u32) -> u16
-    requires ready { IsReady B.meaning B.sort engine.old }
-    requires replied { (answer_in engine.old.core next).reply ≡ next_is (stuck i) }
-    requires stuck { IsStuck (relation engine.old.core) (courses_in engine.old.core) (moment_of engine.old.core) i }
-    ensures step { result ≡ step_due engine.old.core i }
-    ensures left { engine.new ≡ engine.old }
-{
-    engine.is_sound();
-    match engine_runs::admit(engine, i) {
-        Admit::Exhausted(step) => step,
-        _ => unreachable!(),
-    }
 }
 
 // The line of a run in which this process is stuck, and a line that says so.

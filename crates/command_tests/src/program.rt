@@ -1,7 +1,9 @@
 // The program over real files, and over a folder in memory.
+ghost use Rattle.std.specs.Prelude.{◌≡◌};
+
 use crate::calls::words_of;
 use crate::show::{SHOWN, TEXT, TWO_STEPS_KEPT};
-use file_rack::{FileRack, Folder, MemoryFolder, SystemFolder};
+use file_rack::{Access, FileRack, Folder, MemoryFolder, SystemFolder};
 use gate_log::Log;
 use process_disk::{MemoryRack, Rack};
 use process_flow::{MemorySink, MemorySource};
@@ -52,7 +54,9 @@ fn expect_on<H: Abort, D: Folder + Drop>(
     alloc: Global,
     call: Call<'_>,
     folder: D,
-) -> Result<FileRack<D>, Fail> {
+) -> Result<FileRack<D>, Fail>
+    requires { D.access folder ≡ Access.Unentered }
+{
     let args = words_of(alloc, &["tps", call.word])?.into_iter();
     let mut source = MemorySource::new(call.text.to_vec(alloc)?, Vec::new(alloc));
     let mut sink = MemorySink::new(alloc, Vec::new(alloc));
@@ -142,11 +146,11 @@ fn a_second_program_on_the_folder_changes_nothing(rt: HostRuntime) -> Result<(),
 fn expect_journal(rt: &impl Abort, alloc: Global, most: u8) -> Result<(), Fail> {
     let rack = MemoryRack::new(alloc, Vec::new(alloc))?;
     let made = expect_on(rt, alloc, MAKE_TEXT, MemoryFolder::new(rack, most))?;
-    let mut rack = expect_on(rt, alloc, RUN, made.folder)?;
+    let mut rack = expect_on(rt, alloc, RUN, MemoryFolder::new(made.folder.rack, most))?;
     let mut bytes = [0; 100];
     assert_eq!(rt; rack.read(0, 0, &mut bytes), Ok(99));
     assert_eq!(rt; &bytes[..99], TWO_STEPS_KEPT);
-    let shown = expect_on(rt, alloc, SHOW, rack.folder)?;
+    let shown = expect_on(rt, alloc, SHOW, MemoryFolder::new(rack.folder.rack, most))?;
     drop(shown);
     Ok(())
 }
@@ -176,7 +180,7 @@ fn run_over(
 ) -> Result<FileRack<MemoryFolder>, Fail> {
     let rack = MemoryRack::new(alloc, fails.to_vec(alloc)?)?;
     let made = expect_on(rt, alloc, MAKE_TEXT, MemoryFolder::new(rack, 255))?;
-    expect_on(rt, alloc, run, made.folder)
+    expect_on(rt, alloc, run, MemoryFolder::new(made.folder.rack, 255))
 }
 
 #[test]

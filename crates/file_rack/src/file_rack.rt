@@ -1,26 +1,27 @@
 // A rack over the files of a folder.
-ghost use Rattle.std.specs.Prelude.{◌≡◌, ◌⊎◌, ◌<◌, ◌≤◌, ◌+◌, ◌-◌, ◌^◌, min, length, take, drop, IfOk, OnOk, OnErr, IsErr, IsTrue, ℕ, true, false, slice_set, slice_index_or};
+ghost use Rattle.std.specs.Prelude.{◌≡◌, ◌≢◌, ◌⊎◌, ◌<◌, ◌≤◌, ◌+◌, ◌-◌, ◌^◌, min, length, take, drop, IfOk, OnOk, OnErr, IsErr, IsTrue, ℕ, true, false, slice_set, slice_index_or};
 ghost use Rattle.process_flow.specs.Causes.{Rose, HasCause, CountsFaults, CountsOne};
 ghost use Rattle.process_disk.specs.Disk.{Told, file_of, put, Only};
 ghost use Rattle.process_disk.specs.Calls.{OnlyLooks, OnlyWrites};
+ghost use Rattle.folder_files.specs.declared.folder.Access.TheVariants as access;
 ghost use Rattle.folder_files.specs.Folder.{AreKept, IsMarked, SomeMarked, NoneMarked, syncs_of, folder_place};
 ghost use Rattle.file_rack.specs.NewRack.{IsNew};
 
-use folder_files::{Folder, any_marked, read_whole, sync_marked, write_whole};
+use folder_files::{Access, Folder, any_marked, read_whole, sync_marked, write_whole};
 use process_disk::Rack;
 use process_flow::Failed;
 
 /// A rack over the nine files of a folder, of which it tells what the folder tells.
 ///
 /// Each file counts as unsynced from the making of the rack on, so that the first sync brings to the disk what earlier
-/// programs left. A rack that writes takes the folder before its first look. After a sync that failed it is broken: what the
+/// programs left. A rack that writes tries to take the folder before its first look, and one that doesn't never takes it. After a sync that failed it is broken: what the
 /// disk has then isn't known, and every write and sync fails until a rack is made anew.
 #[derive(Drop)]
 pub struct FileRack<D: Folder + Drop> {
     pub folder: D,
     /// Whether it may write.
     pub writes: bool,
-    /// Whether it has looked, and has tried to take the folder before.
+    /// Whether it may look: it has tried to take the folder, or it only reads.
     pub entered: bool,
     /// Whether it has taken the folder.
     pub taken: bool,
@@ -30,13 +31,18 @@ pub struct FileRack<D: Folder + Drop> {
     pub broken: bool,
     pub faults: u64,
     ghost has_taken: { IsTrue taken → IsTrue (D.taken folder) },
+    ghost has_tried: { IsTrue taken → IsTrue entered },
+    ghost has_entered: { IsTrue entered → D.access folder ≢ access.Unentered },
+    ghost takes_first: { IsTrue writes → D.access folder ≢ access.ReadOnly },
+    ghost never_takes: { writes ≡ false → D.access folder ≢ access.Tried },
     ghost broken_by: { IsTrue broken → ¬ NoneMarked unsynced },
     ghost kept: { AreKept unsynced (D.disk folder) },
 }
 
 impl<D: Folder + Drop> FileRack<D> {
-    /// A rack over a folder. One that doesn't write fails at each write.
+    /// A rack over a folder that nobody has entered. One that doesn't write fails at each write.
     pub fn over(folder: D, writes: bool) -> Self
+        requires new { D.access folder ≡ Access.Unentered }
         ensures folder { result.folder ≡ folder }
         ensures writes { result.writes ≡ writes }
         ensures new { IsNew result.unsynced result.broken result.faults }
@@ -67,9 +73,11 @@ impl<D: Folder + Drop> FileRack<D> {
         Err(Failed)
     }
 
-    // Takes the folder: before the first look, if it may write and file 0 is there; or, to write, with a file 0 that is made
-    // where it had none at the first look.
-    fn take(&mut self, make: bool) -> Result<(), Failed>
+    // Enters the folder before the first look: one that may write takes it, if file 0 is there. Or takes it, to write, with a
+    // file 0 that is made where it had none at the first look.
+    fn enter(&mut self, make: bool) -> Result<(), Failed>
+        requires { IsTrue make → IsTrue self.old.writes }
+        ensures entered { OnOk result (D.access self.new.folder ≢ Access.Unentered) }
         ensures taken { IsTrue make → OnOk result (IsTrue self.new.taken) }
         ensures looks { OnlyLooks (D.disk self.old.folder) (D.disk self.new.folder) }
         ensures syncs { D.syncs self.new.folder ≡ D.syncs self.old.folder }
@@ -79,15 +87,16 @@ impl<D: Folder + Drop> FileRack<D> {
         ensures writes { self.new.writes ≡ self.old.writes }
         ensures faults { self.new.faults ≡ self.old.faults }
     {
-        let done = if make {
-            self.taken
-        } else {
-            self.entered || !self.writes
-        };
-        if !done {
-            self.taken = self.folder.take(make)?;
-            self.entered = true;
+        let done = if make { self.taken } else { self.entered };
+        if done {
+            return Ok(());
         }
+        if self.writes {
+            self.taken = self.folder.take(make)?;
+        } else {
+            self.folder.read_only();
+        }
+        self.entered = true;
         Ok(())
     }
 
@@ -109,7 +118,7 @@ impl<D: Folder + Drop> FileRack<D> {
         if !any_marked(&self.unsynced) {
             return Ok(());
         }
-        self.take(false)?;
+        self.enter(false)?;
         self.folder.sync_names()?;
         sync_marked(&mut self.folder, &self.unsynced)?;
         self.unsynced = [false; 9];
@@ -134,7 +143,7 @@ impl<D: Folder + Drop> Rack for FileRack<D> {
         ensures failed { OnErr result (Rose (D.faults self.old.folder) (D.faults self.new.folder)) }
         ensures stays { (self.new.unsynced ≡ self.old.unsynced) × (self.new.broken ≡ self.old.broken) }
     {
-        if self.take(false).is_err() {
+        if self.enter(false).is_err() {
             return self.failed();
         }
         match self.folder.len(file) {
@@ -154,7 +163,7 @@ impl<D: Folder + Drop> Rack for FileRack<D> {
         ensures failed { OnErr result (Rose (D.faults self.old.folder) (D.faults self.new.folder) ⊎ (2 ^ 64 < at + length buf.old)) }
         ensures stays { (self.new.unsynced ≡ self.old.unsynced) × (self.new.broken ≡ self.old.broken) }
     {
-        if self.take(false).is_err() {
+        if self.enter(false).is_err() {
             return self.failed();
         }
         match read_whole(&mut self.folder, file, at, buf) {
@@ -181,7 +190,7 @@ impl<D: Folder + Drop> Rack for FileRack<D> {
         if self.broken || !self.writes {
             return self.failed();
         }
-        if self.take(false).is_err() || self.take(true).is_err() {
+        if self.enter(false).is_err() || self.enter(true).is_err() {
             return self.failed();
         }
         match write_whole(&mut self.folder, file, at, bytes) {

@@ -9,4 +9,4 @@ mod file_rack;
 mod system_rack;
 
 pub use file_rack::FileRack;
-pub use folder_files::{Folder, MemoryFolder, SystemFolder};
+pub use folder_files::{Access, Folder, MemoryFolder, SystemFolder};

@@ -1,5 +1,5 @@
 // The files of a folder as a system gives them.
-ghost use Rattle.std.specs.Prelude.{◌≡◌, ◌<◌, ◌≤◌, ℕ, List, Bool, length, take, drop, IfOk, OnOk, IsTrue};
+ghost use Rattle.std.specs.Prelude.{◌≡◌, ◌≢◌, ◌<◌, ◌≤◌, ℕ, List, Bool, length, take, drop, IfOk, OnOk, IsTrue};
 ghost use Rattle.process_flow.specs.Causes.{CountsFaults};
 ghost use Rattle.process_disk.specs.Disk.{FileSet, Disk, Told, file_of, put, IsHonest};
 ghost use Rattle.process_disk.specs.Calls.{OnlyLooks, OnlyWrites};
@@ -7,8 +7,21 @@ ghost use Rattle.folder_files.specs.Folder.{IsKept, IsPart, IsSynced, folder_pla
 
 use process_flow::Failed;
 
-/// Nine files of one folder, numbered from 0. A transfer may be short, and a sync is of one file.
+/// How far a folder was entered.
+#[derive(Clone, Copy, Debug, PartialEq, Eq)]
+pub enum Access {
+    /// Nobody has looked at its files.
+    Unentered,
+    /// Its files are only read: it is never taken.
+    ReadOnly,
+    /// It was tried to take it, before any look.
+    Tried,
+}
+
+/// Nine files of one folder, numbered from 0. It is entered before it is looked at: to read alone, or by a try to take it. A transfer may be short, and a sync is of one file.
 pub trait Folder {
+    ghost use Rattle.folder_files.specs.declared.folder.Access.{Access};
+
     /// What it tells of its files.
     ghost disk: { Self → Disk };
 
@@ -21,8 +34,21 @@ pub trait Folder {
     /// Whether the folder is taken: nobody else may write.
     ghost taken: { Self → Bool };
 
+    /// How far it was entered.
+    ghost access: { Self → Access };
+
+    /// From here on its files are only read.
+    fn read_only(&mut self)
+        requires { access self.old ≢ Access.Tried }
+        ensures entered { access self.new ≡ Access.ReadOnly }
+        ensures looks { OnlyLooks (disk self.old) (disk self.new) }
+        ensures stays { (taken self.new ≡ taken self.old) × (syncs self.new ≡ syncs self.old) }
+        ensures faults { faults self.new ≡ faults self.old };
+
     /// Takes the folder, and says whether it is taken now: not where file 0 is absent, unless it may be made.
     fn take(&mut self, make: bool) -> Result<bool, Failed>
+        requires { access self.old ≢ Access.ReadOnly }
+        ensures entered { access self.new ≡ Access.Tried }
         ensures taken { IfOk result (λ yes. taken self.new ≡ yes) }
         ensures stays { IsTrue (taken self.old) → IsTrue (taken self.new) }
         ensures made { IsTrue make → IfOk result (λ yes. IsTrue yes) }
@@ -32,19 +58,23 @@ pub trait Folder {
 
     /// How many bytes a file has, none where it is absent.
     fn len(&mut self, file: u8) -> Result<u64, Failed>
-        requires { file < 9 }
+        requires file { file < 9 }
+        requires entered { access self.old ≢ Access.Unentered }
         ensures len { Told (disk self.old) → IfOk result (λ n. n ≡ length (file_of (disk self.old).files file)) }
         ensures looks { OnlyLooks (disk self.old) (disk self.new) }
         ensures stays { (taken self.new ≡ taken self.old) × (syncs self.new ≡ syncs self.old) }
+        ensures access { access self.new ≡ access self.old }
         ensures faults { CountsFaults (faults self.old) (faults self.new) result };
 
     /// Reads bytes from a place on into the buffer's front and says how many; none only at the end, or without room.
     fn read(&mut self, file: u8, at: u64, buf: &mut [u8]) -> Result<usize, Failed>
-        requires { file < 9 }
+        requires file { file < 9 }
+        requires entered { access self.old ≢ Access.Unentered }
         ensures bound { IfOk result (λ n. n ≤ length buf.old) }
         ensures part { Told (disk self.old) → IfOk result (λ n. IsPart (drop at (file_of (disk self.old).files file)) buf.new n) }
         ensures looks { OnlyLooks (disk self.old) (disk self.new) }
         ensures stays { (taken self.new ≡ taken self.old) × (syncs self.new ≡ syncs self.old) }
+        ensures access { access self.new ≡ access self.old }
         ensures faults { CountsFaults (faults self.old) (faults self.new) result };
 
     /// Writes bytes from the front and says how many, at least one; a file that is absent is made. Nothing that a crash might
@@ -60,14 +90,17 @@ pub trait Folder {
         ensures writes { OnlyWrites file at (length bytes.now) (disk self.old) (disk self.new) }
         ensures grows { Told (disk self.old) → (c : FileSet) → (disk self.old).may_leave c → (disk self.new).may_leave c }
         ensures stays { (taken self.new ≡ taken self.old) × (syncs self.new ≡ syncs self.old) }
+        ensures access { access self.new ≡ access self.old }
         ensures faults { CountsFaults (faults self.old) (faults self.new) result };
 
     /// Brings a file to the disk, if it is there.
     fn sync(&mut self, file: u8) -> Result<(), Failed>
-        requires { file < 9 }
+        requires file { file < 9 }
+        requires entered { access self.old ≢ Access.Unentered }
         ensures kept { Told (disk self.old) → OnOk result (IsKept file (disk self.new)) }
         ensures looks { OnlyLooks (disk self.old) (disk self.new) }
         ensures taken { taken self.new ≡ taken self.old }
+        ensures access { access self.new ≡ access self.old }
         ensures synced { OnOk result (IsSynced file (syncs self.old) (syncs self.new)) }
         ensures faults { CountsFaults (faults self.old) (faults self.new) result };
 
@@ -75,6 +108,7 @@ pub trait Folder {
     fn sync_names(&mut self) -> Result<(), Failed>
         ensures looks { OnlyLooks (disk self.old) (disk self.new) }
         ensures taken { taken self.new ≡ taken self.old }
+        ensures access { access self.new ≡ access self.old }
         ensures synced { OnOk result (IsSynced folder_place (syncs self.old) (syncs self.new)) }
         ensures faults { CountsFaults (faults self.old) (faults self.new) result };
 

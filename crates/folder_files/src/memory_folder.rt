@@ -7,8 +7,8 @@ ghost use Rattle.folder_files.specs.Folder.{IsKept, IsPart, IsSynced, folder_pla
 ghost use Rattle.process_disk.specs.Memory.{disk_of, fresh, nine_empty};
 ghost use Rattle.process_disk.specs.MemoryView.{memory};
 
-use crate::Folder;
 use crate::counts::{FOLDER, count};
+use crate::{Access, Folder};
 use process_disk::{MemoryRack, Rack};
 use process_flow::Failed;
 
@@ -19,6 +19,7 @@ pub struct MemoryFolder {
     pub rack: MemoryRack,
     pub most: u8,
     pub taken: bool,
+    pub access: Access,
     pub syncs: [u64; 10],
 }
 
@@ -26,11 +27,13 @@ impl MemoryFolder {
     pub fn new(rack: MemoryRack, most: u8) -> Self
         ensures rack { result.rack ≡ rack }
         ensures most { result.most ≡ most }
+        ensures new { result.access ≡ Access.Unentered }
     {
         MemoryFolder {
             rack,
             most,
             taken: false,
+            access: Access::Unentered,
             syncs: [0; 10],
         }
     }
@@ -57,9 +60,16 @@ impl Folder for MemoryFolder {
 
     ghost taken = { λ folder. folder.taken };
 
+    ghost access = { λ folder. folder.access };
+
     ghost honest = { λ folder told. memory_is_honest (memory folder.rack) folder.rack.sound.nine folder.rack.sound.placed };
 
+    fn read_only(&mut self) {
+        self.access = Access::ReadOnly;
+    }
+
     fn take(&mut self, make: bool) -> Result<bool, Failed> {
+        self.access = Access::Tried;
         self.taken = true;
         Ok(true)
     }

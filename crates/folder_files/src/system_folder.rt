@@ -1,10 +1,10 @@
 // The files of the current folder, by the calls of the system.
-ghost use Rattle.std.specs.Prelude.{◌≡◌, ◌<◌, ◌≤◌, ◌+◌, ◌-◌, ◌^◌, ℕ, min, length, IfOk, OnOk, OnErr, IsErr, IsTrue, true, false};
+ghost use Rattle.std.specs.Prelude.{◌≡◌, ◌≢◌, ◌<◌, ◌≤◌, ◌+◌, ◌-◌, ◌^◌, ℕ, min, length, IfOk, OnOk, OnErr, IsErr, IsTrue, true, false};
 ghost use Rattle.process_flow.specs.Causes.{CountsFaults};
 ghost use Rattle.folder_files.specs.Folder.{IsSynced, folder_place};
 
-use crate::Folder;
 use crate::counts::{FOLDER, count};
+use crate::{Access, Folder};
 use process_flow::Failed;
 use std::fs::{File, OpenFile, OpenOptions};
 use std::io;
@@ -74,6 +74,7 @@ pub struct SystemFolder<F: Files<File = File> + Drop> {
     files: [Option<Opened>; 9],
     names_synced: bool,
     pub taken: bool,
+    pub access: Access,
     /// How many syncs were finished: of each file, and of the names.
     pub syncs: [u64; 10],
     pub faults: u64,
@@ -84,6 +85,7 @@ impl<F: Files<File = File> + Drop> SystemFolder<F> {
     pub fn new(rt: F) -> Self
         ensures runtime { result.rt ≡ rt }
         ensures taken { result.taken ≡ false }
+        ensures new { result.access ≡ Access.Unentered }
         ensures faults { result.faults ≡ 0 }
     {
         let streams = [held(&rt), held(&rt), held(&rt)];
@@ -92,6 +94,7 @@ impl<F: Files<File = File> + Drop> SystemFolder<F> {
             files: [None, None, None, None, None, None, None, None, None],
             names_synced: false,
             taken: false,
+            access: Access::Unentered,
             syncs: [0; 10],
             faults: 0,
             streams,
@@ -103,6 +106,7 @@ impl<F: Files<File = File> + Drop> SystemFolder<F> {
         ensures ok { IfOk result (λ value. found ≡ Ok value) }
         ensures faults { CountsFaults self.old.faults self.new.faults result }
         ensures stays { (self.new.taken ≡ self.old.taken) × (self.new.syncs ≡ self.old.syncs) }
+        ensures access { self.new.access ≡ self.old.access }
     {
         match found {
             Ok(value) => Ok(value),
@@ -126,15 +130,27 @@ impl<F: Files<File = File> + Drop> Folder for SystemFolder<F> {
 
     ghost taken = { λ folder. folder.taken };
 
+    ghost access = { λ folder. folder.access };
+
     ghost honest = { λ folder told. Prim.search rules };
 
+    fn read_only(&mut self)
+        ensures entered { self.new.access ≡ Access.ReadOnly }
+        ensures stays { (self.new.taken ≡ self.old.taken) × (self.new.syncs ≡ self.old.syncs) }
+        ensures faults { self.new.faults ≡ self.old.faults }
+    {
+        self.access = Access::ReadOnly;
+    }
+
     fn take(&mut self, make: bool) -> Result<bool, Failed>
+        ensures entered { self.new.access ≡ Access.Tried }
         ensures taken { IfOk result (λ yes. self.new.taken ≡ yes) }
         ensures stays { IsTrue self.old.taken → IsTrue self.new.taken }
         ensures made { IsTrue make → IfOk result (λ yes. IsTrue yes) }
         ensures syncs { self.new.syncs ≡ self.old.syncs }
         ensures faults { CountsFaults self.old.faults self.new.faults result }
     {
+        self.access = Access::Tried;
         if self.taken {
             return Ok(true);
         }
@@ -151,6 +167,7 @@ impl<F: Files<File = File> + Drop> Folder for SystemFolder<F> {
     fn len(&mut self, file: u8) -> Result<u64, Failed>
         requires { file < 9 }
         ensures stays { (self.new.taken ≡ self.old.taken) × (self.new.syncs ≡ self.old.syncs) }
+        ensures access { self.new.access ≡ self.old.access }
         ensures faults { CountsFaults self.old.faults self.new.faults result }
     {
         let found = match to_read(&self.rt, &mut self.files, file) {
@@ -168,6 +185,7 @@ impl<F: Files<File = File> + Drop> Folder for SystemFolder<F> {
         requires { file < 9 }
         ensures bound { IfOk result (λ n. n ≤ length buf.old) }
         ensures stays { (self.new.taken ≡ self.old.taken) × (self.new.syncs ≡ self.old.syncs) }
+        ensures access { self.new.access ≡ self.old.access }
         ensures faults { CountsFaults self.old.faults self.new.faults result }
     {
         let found = match to_read(&self.rt, &mut self.files, file) {
@@ -185,6 +203,7 @@ impl<F: Files<File = File> + Drop> Folder for SystemFolder<F> {
         ensures some { IfOk result (λ n. 0 < n) }
         ensures bound { IfOk result (λ n. n ≤ length bytes.now) }
         ensures stays { (self.new.taken ≡ self.old.taken) × (self.new.syncs ≡ self.old.syncs) }
+        ensures access { self.new.access ≡ self.old.access }
         ensures faults { CountsFaults self.old.faults self.new.faults result }
     {
         let made = to_write(&self.rt, &mut self.files, file, &mut self.names_synced);
@@ -198,6 +217,7 @@ impl<F: Files<File = File> + Drop> Folder for SystemFolder<F> {
     fn sync(&mut self, file: u8) -> Result<(), Failed>
         requires { file < 9 }
         ensures taken { self.new.taken ≡ self.old.taken }
+        ensures access { self.new.access ≡ self.old.access }
         ensures synced { OnOk result (IsSynced file self.old.syncs self.new.syncs) }
         ensures faults { CountsFaults self.old.faults self.new.faults result }
     {
@@ -213,6 +233,7 @@ impl<F: Files<File = File> + Drop> Folder for SystemFolder<F> {
 
     fn sync_names(&mut self) -> Result<(), Failed>
         ensures taken { self.new.taken ≡ self.old.taken }
+        ensures access { self.new.access ≡ self.old.access }
         ensures synced { OnOk result (IsSynced folder_place self.old.syncs self.new.syncs) }
         ensures faults { CountsFaults self.old.faults self.new.faults result }
     {

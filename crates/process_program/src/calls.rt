@@ -9,7 +9,7 @@ ghost use Rattle.process_program.specs.Own.{boxes_of, empty_boxes};
 ghost use Rattle.process_program.specs.Words.{words_behind};
 
 use crate::own::{OwnBox, new_boxes, new_gates};
-use file_rack::{FileRack, Folder};
+use file_rack::{Access, FileRack, Folder};
 use process_disk::Rack;
 use process_flow::{Sink, Source, StdSink, StdSource};
 use process_top::{Finished, only_reads, top};
@@ -84,6 +84,7 @@ pub fn program<H, S: Source, K: Sink, D: Folder + Drop>(
     sink: &mut K,
     folder: D,
 ) -> Ended<D>
+    requires new { D.access folder ≡ Access.Unentered }
     // On these words, from this source, sink and folder to those, the call ends with this number.
     ensures ends { EndsSo S.Source K.Sink ⟦<FileRack<D> as Rack>⟧ (record { folder = λ r. r.folder; writes = λ r. r.writes; is_new = λ r. IsNew r.unsynced r.broken r.faults })
         (words_behind args) source.old sink.old folder source.new sink.new result.rack (exit_status result.code) }
@@ -125,6 +126,7 @@ pub fn program_of_system<H, R: Read + Drop, W: Write + Drop, D: Folder + Drop>(
     output: W,
     folder: D,
 ) -> ExitCode
+    requires new { D.access folder ≡ Access.Unentered }
     ensures ends { (source : _) × (sink : _) × (rack : _) × EndsSo ⟦<StdSource<R> as Source>⟧ ⟦<StdSink<W> as Sink>⟧ ⟦<FileRack<D> as Rack>⟧
         (record { folder = λ r. r.folder; writes = λ r. r.writes; is_new = λ r. IsNew r.unsynced r.broken r.faults })
         (words_behind args) (record { inner = input; faults = 0 }) (record { inner = output; faults = 0 }) folder source sink rack (exit_status result) }

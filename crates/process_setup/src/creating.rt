@@ -16,7 +16,8 @@ use program_lines::{FileFault, Refusal, Status};
 use resource_box::Resource;
 use std::alloc::{AllocError, Global};
 
-fn create_refusal(why: CreateError) -> Refusal
+/// What is told of files that were not made.
+pub fn create_refusal(why: CreateError) -> Refusal
     ensures refusal { result ≡ create_refusal why }
     ensures late { comes_before_files result ≡ false }
 {

@@ -1,9 +1,11 @@
 //! The command `run`: the processes of a scenario are started and run on files that are opened for it, and the history is printed.
 //!
 //! `specs/Run` says what there is to say and what the files are then, and `specs/Completeness` when the report is there. The parts of `run`
-//! are of use to other commands: `scenario_from` reads a scenario, and `said_of_none` says why there is none (`specs/Scenario`); `opened_with` gives an engine on files of its catalog and `opened` one for it, or they say which refusal
-//! is due (`specs/Opening`); `start_all` starts its processes (`specs/Starting`); `report_now` prints the history of an engine, and
-//! `stuck_report` adds the line of a process that has no try left (`specs/Reports`). Who runs the processes is `worker_gate`'s `run_alone`.
+//! are of use to other commands: `scenario_from` reads a scenario, and `said_of_none` says why there is none (`specs/Scenario`);
+//! `opened_with` gives an engine on files of its catalog and `opened` one for it, or they say which refusal is due (`specs/Opening`);
+//! `all_fit` refuses its processes where they would pass a limit, and `start_all` starts them (`specs/Starting`); `report_now` prints the
+//! history of an engine, `stuck_step` tells of a stuck process which step has no try left, and `stuck_report` adds the line that says so
+//! (`specs/Reports`). Who runs the processes is `worker_gate`'s `run_alone`.
 #![tactic(auto)]
 
 mod opening;
@@ -13,7 +15,7 @@ mod scenario;
 mod starting;
 
 pub use opening::{NotOpened, open_refusal, opened, opened_with};
-pub use reporting::{report_now, stuck_report};
-pub use running::run;
+pub use reporting::{report_now, stuck_report, stuck_step};
+pub use running::{all_fit, run};
 pub use scenario::{said_of_none, scenario_from};
 pub use starting::start_all;

@@ -51,8 +51,8 @@ pub fn report_now<R: Rack + Drop, B: Resource>(
     report(alloc, engine.catalog(), engine.history(), &causes)
 }
 
-// The step that has no try left, of a process that is stuck.
-fn stuck_step<R: Rack + Drop, B: Resource>(engine: &mut Engine<R, B>, i: u32) -> u16
+/// The step that has no try left, of a process that is stuck.
+pub fn stuck_step<R: Rack + Drop, B: Resource>(engine: &mut Engine<R, B>, i: u32) -> u16
     requires ready { IsReady B.meaning B.sort engine.old }
     requires replied { (answer_in engine.old.core next).reply ≡ next_is (stuck i) }
     requires stuck { IsStuck (relation engine.old.core) (courses_in engine.old.core) (moment_of engine.old.core) i }

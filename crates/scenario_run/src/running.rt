@@ -77,8 +77,8 @@ fn said_of<R: Rack + Drop, B: Resource>(
     }
 }
 
-// Refuses processes that don't all fit within the limits.
-fn all_fit<R: Rack + Drop, B: Resource>(
+/// Refuses processes that don't all fit within the limits.
+pub fn all_fit<R: Rack + Drop, B: Resource>(
     engine: &Engine<R, B>,
     plans: &[Plan],
 ) -> Result<(), Refusal>

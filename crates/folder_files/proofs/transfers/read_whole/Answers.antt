@@ -24,5 +24,6 @@ loop-count-preserved g c =
         tells = step.looks.tells ∙ so.looks.tells;
       };
       stays = (step.stays.0 ∙ so.stays.0, step.stays.1 ∙ so.stays.1);
+      access = step.access ∙ so.access;
       quiet = step.faults.quiet ∙ so.quiet;
     }

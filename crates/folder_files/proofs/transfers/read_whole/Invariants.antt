@@ -10,6 +10,7 @@ invariant-loop-count g l = record {
   read : Told (g.D.Folder.disk l.fn.folder) → IsReadTo (file_of (g.D.Folder.disk l.fn.folder).files l.file) l.buf l.at l.count;
   looks : OnlyLooks (g.D.Folder.disk l.fn.folder) (g.D.Folder.disk l.folder);
   stays : (g.D.Folder.taken l.folder ≡ g.D.Folder.taken l.fn.folder) × (g.D.Folder.syncs l.folder ≡ g.D.Folder.syncs l.fn.folder);
+  access : g.D.Folder.access l.folder ≡ g.D.Folder.access l.fn.folder;
   quiet : g.D.Folder.faults l.folder ≡ g.D.Folder.faults l.fn.folder;
 }
 

@@ -30,6 +30,7 @@ loop-file-preserved g c = elim c.if-marks-from.branch [
           tells = step.looks.tells ∙ so.looks.tells;
         };
         taken = step.taken ∙ so.taken;
+        access = step.access ∙ so.access;
         quiet = step.faults.quiet ∙ so.quiet;
       }
   | else-marks-from w ↦
@@ -48,6 +49,7 @@ loop-file-preserved g c = elim c.if-marks-from.branch [
         never_fell = so.never_fell;
         looks = so.looks;
         taken = so.taken;
+        access = so.access;
         quiet = so.quiet;
       }
 ]

@@ -12,5 +12,6 @@ invariant-loop-file g l = record {
   never_fell : (k : ℕ) → syncs_of (g.D.Folder.syncs l.fn.folder) k ≤ syncs_of (g.D.Folder.syncs l.folder) k;
   looks : OnlyLooks (g.D.Folder.disk l.fn.folder) (g.D.Folder.disk l.folder);
   taken : g.D.Folder.taken l.folder ≡ g.D.Folder.taken l.fn.folder;
+  access : g.D.Folder.access l.folder ≡ g.D.Folder.access l.fn.folder;
   quiet : g.D.Folder.faults l.folder ≡ g.D.Folder.faults l.fn.folder;
 }

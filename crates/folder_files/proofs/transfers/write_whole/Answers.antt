@@ -15,6 +15,7 @@ loop-sent-init g c =
         tells = refl;
       };
       stays = (refl, refl);
+      access = refl;
       quiet = refl;
     }
 
@@ -52,6 +53,7 @@ loop-sent-preserved g c =
         tells = step.writes.tells ∙ so.writes.tells;
       };
       stays = (step.stays.0 ∙ so.stays.0, step.stays.1 ∙ so.stays.1);
+      access = step.access ∙ so.access;
       quiet = step.faults.quiet ∙ so.quiet;
     }
 

@@ -13,26 +13,31 @@ returns-then-not-any_marked-clause-kept g c told =
 pub invariant_of-self-2 : goal.invariant_of-self-2
 invariant_of-self-2 g c =
     let D = g.D.Folder in
-    let entered = c.take.new.self in
+    let entered = c.enter.new.self in
     let one = D.disk entered.folder in
     let two = D.disk c.sync_names.new.self in
     let new = D.disk c.sync_marked.new.folder in
     let marks = kept_by_looks entered.unsynced one two c.sync_names.ensures.looks.tells c.sync_names.ensures.looks.looks entered.kept in
+    let same = sym (c.sync_marked.ensures.access ∙ c.sync_names.ensures.access) in
     record {
       has_taken = λ taken. c.sync_marked.ensures.taken ∙ c.sync_names.ensures.taken ∙ entered.has_taken taken;
-      broken_by = λ broken. absurd (false≢true (sym (c.take.ensures.broken ∙ c.requires) ∙ broken));
+      has_tried = entered.has_tried;
+      has_entered = λ yes is. entered.has_entered yes (same ∙ is);
+      takes_first = λ yes is. entered.takes_first yes (same ∙ is);
+      never_takes = λ no is. entered.never_takes no (same ∙ is);
+      broken_by = λ broken. absurd (false≢true (sym (c.enter.ensures.broken ∙ c.requires) ∙ broken));
       kept = λ told k below unmarked. c.in_ok-sync_marked.ensures.kept marks (told_before two new c.sync_marked.ensures.looks.tells told) k below;
     }
 
 pub returns-clause-kept : goal.returns-clause-kept
 returns-clause-kept g c told =
     let D = g.D.Folder in
-    let entered = c.take.new.self in
+    let entered = c.enter.new.self in
     let one = D.disk entered.folder in
     let two = D.disk c.sync_names.new.self in
     let new = D.disk c.sync_marked.new.folder in
     let marks = kept_by_looks entered.unsynced one two c.sync_names.ensures.looks.tells c.sync_names.ensures.looks.looks entered.kept in
-    let told_two = still_told one two c.sync_names.ensures.looks.tells (still_told (D.disk c.args.self.now.folder) one c.take.ensures.looks.tells told) in
+    let told_two = still_told one two c.sync_names.ensures.looks.tells (still_told (D.disk c.args.self.now.folder) one c.enter.ensures.looks.tells told) in
     let told_new = still_told two new c.sync_marked.ensures.looks.tells told_two in
     only_by_kept new (g.met.D.Folder.honest c.sync_marked.new.folder told_new) (c.in_ok-sync_marked.ensures.kept marks told_two)
 
@@ -40,10 +45,10 @@ pub returns-clause-looks : goal.returns-clause-looks
 returns-clause-looks g c =
     let D = g.D.Folder in
     let old = D.disk c.args.self.now.folder in
-    let one = D.disk c.take.new.self.folder in
+    let one = D.disk c.enter.new.self.folder in
     let two = D.disk c.sync_names.new.self in
     let new = D.disk c.sync_marked.new.folder in
-    let first = c.in_ok-take.ensures.looks in
+    let first = c.in_ok-enter.ensures.looks in
     let second = c.in_ok-sync_names.ensures.looks in
     let third = c.in_ok-sync_marked.ensures.looks in
     record {
