@@ -2,7 +2,8 @@ pub mod Order
 pub mod Over
 pub mod Places
 pub mod Greatest
-pub mod Busy
+pub mod Clear
+pub mod Holders
 pub mod Known
 pub mod Looking
 pub mod Fronts

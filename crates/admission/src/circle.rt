@@ -35,6 +35,9 @@ pub fn least_in_circle(holds: &Holds, own: Entry) -> Option<Blocked>
     ensures { result ≡ least_block (by_rule A2 (in_a_circle (do_conflict holds.now.conflicts) (holdings_of holds.now) own)) }
 {
     let mut place = holds.net_len();
+    if holds.is_clear_of_net(own.op) {
+        return None;
+    }
     let mut least = None;
     'places: while 0 < place {
         place -= 1;

@@ -2,6 +2,7 @@
 ghost use Rattle.std.specs.Prelude.{◌≡◌, ◌<◌, ◌≤◌, [], IfSome, drop, length, slice_index_or, take};
 ghost use Rattle.process_tree.specs.Conflicts.{do_conflict};
 ghost use Rattle.process_tree.specs.declared.entry.Entry.{Entry};
+ghost use Rattle.machine_model.specs.declared.blocked.Rule.TheVariants.{A3};
 ghost use Rattle.hold_tables.specs.Kept.{AreTidy, IsKnown};
 ghost use Rattle.admission.specs.Admission.{is_of_step};
 ghost use Rattle.admission.specs.Least.{least_on};
@@ -39,7 +40,22 @@ pub fn least_in_net(holds: &Holds, rule: Rule, own: Entry) -> Option<Blocked>
     requires own { IsKnown holds.now.conflicts own }
     ensures { result ≡ least_on (do_conflict holds.now.conflicts) rule own holds.now.net }
 {
+    if holds.is_clear_of_net(own.op) {
+        return None;
+    }
     least_between(holds, rule, own, 0, holds.net_len())
+}
+
+/// The least block of an entry on the net entries before a place.
+fn least_before(holds: &Holds, y: Entry, place: usize) -> Option<Blocked>
+    requires y { IsKnown holds.now.conflicts y }
+    requires place { place ≤ length holds.now.net }
+    ensures { result ≡ least_on (do_conflict holds.now.conflicts) A3 y (take place holds.now.net) }
+{
+    if holds.is_clear_of_net(y.op) {
+        return None;
+    }
+    least_between(holds, Rule::A3, y, 0, place)
 }
 
 /// The least block of the entry at a place, if it is of the process, on what stands in front of it.
@@ -49,7 +65,7 @@ fn least_at(holds: &Holds, process: u32, place: usize) -> Option<Blocked>
 {
     let y = holds.net_at(place);
     if y.process == process {
-        least_between(holds, Rule::A3, y, 0, place)
+        least_before(holds, y, place)
     } else {
         None
     }

@@ -94,19 +94,19 @@ fn least_of_process(holds: &Holds, sought: Sought, own: Entry, process: u32) -> 
     }
 }
 
-/// The least block on what a process holds beside its net, if there is one that does, and of what was found.
+/// The least block on what a process holds beside its net, if there is one that may hold something, and of what was found.
 fn with_process(
     holds: &Holds,
     sought: Sought,
     own: Entry,
-    busy: Option<u32>,
+    holder: Option<u32>,
     least: Option<Blocked>,
 ) -> Option<Blocked>
-    requires open { IfSome busy (λ i. is_open holds.now i ≡ true) }
+    requires open { IfSome holder (λ i. is_open holds.now i ≡ true) }
     requires own { IsKnown holds.now.conflicts own }
-    ensures { result ≡ with_process holds.now sought own busy least }
+    ensures { result ≡ with_process holds.now sought own holder least }
 {
-    match busy {
+    match holder {
         Some(process) => lesser_of(least_of_process(holds, sought, own, process), least),
         None => least,
     }
@@ -119,10 +119,14 @@ pub fn least_of_all(holds: &Holds, sought: Sought, own: Entry) -> Option<Blocked
     ensures tidy { AreTidy holds.now }
 {
     let mut place = holds.open_len();
+    if holds.is_clear_beside(own.op) {
+        return None;
+    }
     let mut least = None;
     'places: while 0 < place {
         place -= 1;
-        least = with_process(holds, sought, own, holds.busy_at(place), least);
+        let holder = holds.may_hold_at(place, own.op);
+        least = with_process(holds, sought, own, holder, least);
     }
     least
 }

@@ -9,7 +9,7 @@ use Rattle.schedule_model.specs.Graph.{Arrow}
 use Rattle.hold_tables.specs.Tables.{OpenProcess, running_of}
 use Rattle.process_tree.specs.declared.entry.Entry.{Entry}
 use Rattle.schedule_model.specs.Conflict.{ConflictRelation, conflict}
-use Rattle.hold_tables.specs.Walks.{arrows_by, arrows_from, steps_under_way, IsExtended}
+use Rattle.hold_tables.specs.Walks.{arrows_by, arrows_from, arrows_to, steps_under_way, IsExtended}
 use Rattle.hold_tables.proofs.Extended.{extended_none, one}
 
 -- two entries that conflict make one arrow
@@ -31,7 +31,7 @@ no_arrow rows table x y marks none = extended_none rows (arrows_by table x (y �
     alone true false is = is
     alone false t is = absurd (false≢true is)
 
-any_later : (s a b : Bool) → (s && (a || b)) ≡ ((s && a) || (s && b))
+pub any_later : (s a b : Bool) → (s && (a || b)) ≡ ((s && a) || (s && b))
 any_later true a b = refl
 any_later false a b = refl
 
@@ -62,6 +62,11 @@ no_steps rows table x (r ∷ rs) marks none = absurd (omega (arith, none))
 pub no_net : (rows : List OpenProcess) (table : ConflictRelation) (running es : List Entry) (marks : List (List Bool)) → length es ≡ 0 → IsExtended rows (arrows_from table running es) marks marks
 no_net rows table running [] marks none = nothing rows (arrows_from table running []) marks (λ i k. refl)
 no_net rows table running (e ∷ es) marks none = absurd (omega (arith, none))
+
+-- nor do no entries make any to a later one
+pub none_to : (rows : List OpenProcess) (table : ConflictRelation) (es : List Entry) (e : Entry) (marks : List (List Bool)) → length es ≡ 0 → IsExtended rows (arrows_to table es e) marks marks
+none_to rows table [] e marks none = nothing rows (arrows_to table [] e) marks (λ i k. refl)
+none_to rows table (x ∷ es) e marks none = absurd (omega (arith, none))
 
 -- what is under way in the first process, and in the others
 pub steps_first : (r : OpenProcess) (rows : List OpenProcess) → steps_under_way (r ∷ rows) ≡ filter (λ e. not e.undo) (running_of r) ++ steps_under_way rows

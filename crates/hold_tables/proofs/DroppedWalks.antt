@@ -1,6 +1,6 @@
--- A process without arrows is dropped: the walks among the others stay.
+-- A process that no walk leads through is dropped: the walks among the others stay.
 use Rattle.std.proofs.Common.{◌≡◌, ◌+◌, ℕ, suc, Bool, true, false, not, ◌&&◌, ◌||◌, List, [], ◌∷◌, ◌++◌, length, Option, Some, None, sym, refl, ap, ◌∙◌, subst, arith}
-use Rattle.std.specs.Prelude.{nat_eq, nat_lt, slice_index_or, IfSome, if◌then◌else◌}
+use Rattle.std.specs.Prelude.{IsTrue, nat_eq, nat_lt, slice_index_or, IfSome, if◌then◌else◌}
 use Rattle.std.specs.List.{list_any}
 use Rattle.std.proofs.lemmas.Bool.{eqb-true, false≢true, ltb-false, ltb-true, ne_eqb, eqb-false, not-true}
 use Rattle.std.proofs.lemmas.List.Elements.{filter-append}
@@ -8,23 +8,23 @@ use Rattle.process_tree.specs.declared.entry.Entry.{Entry}
 use Rattle.process_tree.specs.Conflicts.{Table, do_conflict}
 use Rattle.process_tree.specs.Order.{Each}
 use Rattle.schedule_model.specs.Conflict.{ConflictRelation, conflict}
-use Rattle.schedule_model.specs.Histories.{of_process}
-use Rattle.schedule_model.specs.Graph.{one_arrow}
+use Rattle.schedule_model.specs.Histories.{is_in, of_process}
+use Rattle.schedule_model.specs.Graph.{Walk, and_then, one_arrow}
 use Rattle.schedule_model.specs.Holdings.{holders, reaches}
 use Rattle.schedule_model.proofs.Legal.{both-left, both-right}
-use Rattle.schedule_model.proofs.Walks.{leads-from_walk}
+use Rattle.schedule_model.proofs.Walks.{leads-from_walk, walk-from_leads}
 use Rattle.hold_tables.specs.Tables.{OpenProcess, Tables, has_number, holdings_of, is_open}
 use Rattle.hold_tables.specs.Changes.{can_come}
 use Rattle.hold_tables.specs.Kept.{AreTidy, IsKnown, are_numbered}
 use Rattle.hold_tables.specs.Places.{place_of}
-use Rattle.hold_tables.specs.Walks.{AreRows, IsPlaceTaken, TellWalks, arrows_by, arrows_from, cell, has_walks, place_before, step_of, steps_under_way, told}
+use Rattle.hold_tables.specs.Walks.{AreRows, IsPlaceTaken, TellWalks, arrows_by, arrows_from, cell, leads_through, place_before, step_of, steps_under_way, told}
 use Rattle.hold_tables.proofs.Arrows.{steps_first}
 use Rattle.hold_tables.proofs.Marks.{before_above, before_below, neither_of, none_at_place, none_in_rows}
 use Rattle.hold_tables.proofs.Opening.{number_of_others, other_processes, others}
-use Rattle.hold_tables.proofs.Reaching.{graph-is, holder-number}
-use Rattle.hold_tables.proofs.SameGraph.{arrows_in, graph_of, same_reach}
+use Rattle.hold_tables.proofs.Reaching.{graph-is, holder-number, number-holder, same_truth}
+use Rattle.hold_tables.proofs.SameGraph.{arrows_in, graph_of, reach_over}
 use Rattle.hold_tables.proofs.Tidy.{each_entry, tables}
-use Rattle.hold_tables.proofs.WalkEnds.{open_ends}
+use Rattle.hold_tables.proofs.WalkEnds.{open_ends, walk_ends}
 
 -- an entry of process i is dropped, and another stays
 drop_head : (i : ℕ) (e : Entry) (es : List Entry) → nat_eq e.process i ≡ true → others i (e ∷ es) ≡ others i es
@@ -188,7 +188,7 @@ rows_left i rows old new once has were count =
 
 module _ (i : ℕ) (table : Table) (net : List Entry) (rows : List OpenProcess) (old new : List (List Bool)) (tidy_was : AreTidy (tables table net rows))
     (tidy_now : AreTidy (tables table (others i net) (other_processes i rows))) (has : has_number i rows ≡ true) (tells : TellWalks (tables table net rows) old)
-    (taken : IsPlaceTaken (place_of i rows) old new) (none : has_walks old (place_of i rows) ≡ false) where
+    (taken : IsPlaceTaken (place_of i rows) old new) (none : leads_through old (place_of i rows) ≡ false) where
   abbrev was : Tables
   was = tables table net rows
 
@@ -205,34 +205,49 @@ module _ (i : ℕ) (table : Table) (net : List Entry) (rows : List OpenProcess) 
       let ends = open_ends was tidy_was j k a in
       tells.tell j k ends.0 ends.1 ∙ leads-from_walk (graph_of was) (holders (holdings_of was)) (one_arrow (holder-number k net rows ends.1) (graph-is was tidy_was j k ∙ a))
 
-  -- so none leads from the process or to it
-  from_other : (j k : ℕ) → arrows_in was j k ≡ true → (b : Bool) → nat_eq j i ≡ b → nat_eq j i ≡ false
-  from_other j k a true is =
-      let quiet = none_at_place (slice_index_or old (place_of i rows) []) (place_of k rows) (neither_of (list_any (λ mark. mark) (slice_index_or old (place_of i rows) [])) (list_any (λ row. slice_index_or row (place_of i rows) false) old) none).0 in
-      absurd (false≢true (sym quiet ∙ ap (λ n. told rows old n k) (sym (eqb-true j i is)) ∙ arrow_told j k a))
-  from_other j k a false is = is
+  -- so a walk has no process between its ends that none leads from or none leads to
+  between : (j m k : ℕ) → Walk (graph_of was) (holders (holdings_of was)) j m → arrows_in was m k ≡ true → (b : Bool) → nat_eq m i ≡ b → nat_eq m i ≡ false
+  between j m k walk a false is = is
+  between j m k walk a true is = by (list_any (λ mark. mark) (slice_index_or old (place_of i rows) [])) refl
+    where
+      same : m ≡ i
+      same = eqb-true m i is
 
-  to_other : (j k : ℕ) → arrows_in was j k ≡ true → (b : Bool) → nat_eq k i ≡ b → nat_eq k i ≡ false
-  to_other j k a true is =
-      let quiet = none_in_rows old (place_of i rows) (place_of j rows) (neither_of (list_any (λ mark. mark) (slice_index_or old (place_of i rows) [])) (list_any (λ row. slice_index_or row (place_of i rows) false) old) none).1 in
-      absurd (false≢true (sym quiet ∙ ap (λ n. told rows old j n) (sym (eqb-true k i is)) ∙ arrow_told j k a))
-  to_other j k a false is = is
+      by : (s : Bool) → list_any (λ mark. mark) (slice_index_or old (place_of i rows) []) ≡ s → nat_eq m i ≡ false
+      by false from = absurd (false≢true (sym (none_at_place (slice_index_or old (place_of i rows) []) (place_of k rows) from) ∙ ap (λ n. told rows old n k) (sym same) ∙ arrow_told m k a))
+      by true from =
+          let to : list_any (λ row. slice_index_or row (place_of i rows) false) old ≡ false = sym (ap (λ t. t && list_any (λ row. slice_index_or row (place_of i rows) false) old) from) ∙ none in
+          let ends = walk_ends was tidy_was walk in
+          let led = tells.tell j m ends.0 ends.1 ∙ leads-from_walk (graph_of was) (holders (holdings_of was)) walk in
+          absurd (false≢true (sym (none_in_rows old (place_of i rows) (place_of j rows) to) ∙ ap (λ n. told rows old j n) (sym same) ∙ led))
 
   open_other : (k : ℕ) → is_open now k ≡ true → (b : Bool) → nat_eq k i ≡ b → nat_eq k i ≡ false
   open_other k there true is = absurd (false≢true (sym (not_among i rows) ∙ ap (λ n. has_number n (other_processes i rows)) (sym (eqb-true k i is)) ∙ there))
   open_other k there false is = is
 
-  reach_stays : (j k : ℕ) → reaches (do_conflict table) (holdings_of now) j k ≡ reaches (do_conflict table) (holdings_of was) j k
-  reach_stays = same_reach now was tidy_now tidy_was
-      (λ j k there a.
+  arrow_left : (j k : ℕ) → nat_eq j i ≡ false → nat_eq k i ≡ false → IsTrue (is_in k (holders (holdings_of was))) → IsTrue (graph_of was j k)
+      → IsTrue (is_in k (holders (holdings_of now))) × IsTrue (graph_of now j k)
+  arrow_left j k from to among a = (
+    holder-number k (others i net) (other_processes i rows) (number_of_others i k rows to ∙ number-holder k net rows among),
+    graph-is now tidy_now j k ∙ same_arrows j k from to ∙ sym (graph-is was tidy_was j k) ∙ a,
+  )
+
+  walk_left : {j k : ℕ} → nat_eq j i ≡ false → nat_eq k i ≡ false → Walk (graph_of was) (holders (holdings_of was)) j k → Walk (graph_of now) (holders (holdings_of now)) j k
+  walk_left {j} {k} from to (one_arrow among a) = let found = arrow_left j k from to among a in one_arrow found.0 found.1
+  walk_left {j} {k} from to (and_then {j = m} walk among a) =
+      let mid = between j m k walk (sym (graph-is was tidy_was m k) ∙ a) (nat_eq m i) refl in
+      let found = arrow_left m k mid to among a in
+      and_then (walk_left from mid walk) found.0 found.1
+
+  reach_stays : (j k : ℕ) → nat_eq j i ≡ false → nat_eq k i ≡ false → reaches (do_conflict table) (holdings_of now) j k ≡ reaches (do_conflict table) (holdings_of was) j k
+  reach_stays j k from to =
+      same_truth (reaches (do_conflict table) (holdings_of now) j k) (reaches (do_conflict table) (holdings_of was) j k)
+      (reach_over now was tidy_now tidy_was (λ j k there a.
       let ends = open_ends now tidy_now j k a in
       let from = open_other j ends.0 (nat_eq j i) refl in
       let to = open_other k there (nat_eq k i) refl in
-      (sym (number_of_others i k rows to) ∙ there, sym (same_arrows j k from to) ∙ a))
-      (λ j k there a.
-      let from = from_other j k a (nat_eq j i) refl in
-      let to = to_other j k a (nat_eq k i) refl in
-      (number_of_others i k rows to ∙ there, same_arrows j k from to ∙ a))
+      (sym (number_of_others i k rows to) ∙ there, sym (same_arrows j k from to) ∙ a)) j k)
+      (λ is. leads-from_walk (graph_of now) (holders (holdings_of now)) (walk_left from to (walk-from_leads (graph_of was) (holders (holdings_of was)) j k is)))
 
   -- the marks tell where walks lead, with a process less
   pub dropped_tells : length new + 1 ≡ length old → TellWalks now new
@@ -246,5 +261,5 @@ module _ (i : ℕ) (table : Table) (net : List Entry) (rows : List OpenProcess) 
             ∙ ap (λ a. cell old a (place_before (place_of i rows) (place_of k now.processes))) (place_was i j rows tidy_was.numbered has from)
             ∙ ap (cell old (place_of j rows)) (place_was i k rows tidy_was.numbered has to)
             ∙ tells.tell j k (sym (number_of_others i j rows from) ∙ here) (sym (number_of_others i k rows to) ∙ there)
-            ∙ sym (reach_stays j k);
+            ∙ sym (reach_stays j k from to);
       }

@@ -10,11 +10,13 @@ pub mod Least
 pub mod Standing
 pub mod Reaching
 pub mod Marks
+pub mod HeldOps
 pub mod Extended
 pub mod Arrows
 pub mod WalksStay
 pub mod Numbers
 pub mod SameGraph
+pub mod MoreWalks
 pub mod WalkEnds
 pub mod OpenedWalks
 pub mod DroppedWalks

@@ -69,7 +69,7 @@ graph-is t tidy i k =
     ∙ arrows-are table (steps_under_way t.processes) t.net i k [] t.net refl (net_apart t tidy)
 
 -- a walk after another is a walk
-walk_on : (arrow : Arrow) (all : List ℕ) {i j k : ℕ} → Walk arrow all i j → Walk arrow all j k → Walk arrow all i k
+pub walk_on : (arrow : Arrow) (all : List ℕ) {i j k : ℕ} → Walk arrow all i j → Walk arrow all j k → Walk arrow all i k
 walk_on arrow all first (one_arrow among a) = and_then first among a
 walk_on arrow all first (and_then then among a) = and_then (walk_on arrow all first then) among a
 

@@ -37,10 +37,10 @@ none_append : (p : Entry → Bool) (xs ys : List Entry) → list_any p (xs ++ ys
 none_append p xs ys none = neither_of (list_any p xs) (list_any p ys) (sym (list_any-append p xs ys) ∙ none)
 
 -- an undo is no step, and what isn't an undo is
-undo_no_step : (e : Entry) → e.undo ≡ true → step_of (Some e) ≡ []
+pub undo_no_step : (e : Entry) → e.undo ≡ true → step_of (Some e) ≡ []
 undo_no_step e is = ap (λ b. if not b then e ∷ [] else []) is
 
-step_is : (e : Entry) → e.undo ≡ false → step_of (Some e) ≡ e ∷ []
+pub step_is : (e : Entry) → e.undo ≡ false → step_of (Some e) ≡ e ∷ []
 step_is e is = ap (λ b. if not b then e ∷ [] else []) is
 
 module _ (table : ConflictRelation) (both : IsSymmetric table) where
@@ -130,11 +130,11 @@ no_last i (e ∷ es) none = by (nat_eq e.process i && not (has_entry i es)) refl
     by false test later = rw test (ap (e ∷◌) (later (rw test at none)))
 
 -- the steps under way before and behind that of process i
-record IsStepSplit (i : ℕ) (rows : List OpenProcess) : Type 0 where
-  front : List Entry
-  back : List Entry
-  was : steps_under_way rows ≡ front ++ (step_of (numbered i rows).running ++ back)
-  now : (o : Option Entry) → steps_under_way (change_numbered (with_running o) i rows) ≡ front ++ (step_of o ++ back)
+pub record IsStepSplit (i : ℕ) (rows : List OpenProcess) : Type 0 where
+  pub front : List Entry
+  pub back : List Entry
+  pub was : steps_under_way rows ≡ front ++ (step_of (numbered i rows).running ++ back)
+  pub now : (o : Option Entry) → steps_under_way (change_numbered (with_running o) i rows) ≡ front ++ (step_of o ++ back)
 
 split_later : (i : ℕ) (r : OpenProcess) (rows : List OpenProcess) → nat_eq r.process i ≡ false → IsStepSplit i rows → IsStepSplit i (r ∷ rows)
 split_later i r rows is found = record {
@@ -144,7 +144,7 @@ split_later i r rows is found = record {
   now = λ o. rw is (steps_first r (change_numbered (with_running o) i rows) ∙ ap (step_of r.running ++◌) (found.now o) ∙ sym (append_assoc (step_of r.running) found.front (step_of o ++ found.back)));
 }
 
-split_steps : (i : ℕ) (rows : List OpenProcess) → has_number i rows ≡ true → IsStepSplit i rows
+pub split_steps : (i : ℕ) (rows : List OpenProcess) → has_number i rows ≡ true → IsStepSplit i rows
 split_steps i [] has = absurd (false≢true has)
 split_steps i (r ∷ rows) has = by (nat_eq r.process i) refl (split_steps i rows)
   where
@@ -189,7 +189,7 @@ same_reach t u tidy_t tidy_u there back i k =
     same_truth (reaches (do_conflict t.conflicts) (holdings_of t) i k) (reaches (do_conflict u.conflicts) (holdings_of u) i k) (reach_over t u tidy_t tidy_u there i k) (reach_over u t tidy_u tidy_t back i k)
 
 -- the numbers of the processes
-abbrev numbers_of : List OpenProcess → List ℕ
+abbrev pub numbers_of : List OpenProcess → List ℕ
 numbers_of rows = map (λ (r : OpenProcess). r.process) rows
 
 -- tables of the same processes and the same arrows have the same walks
@@ -206,7 +206,7 @@ same_walks t u marks tidy_t tidy_u same arrows tells =
           ∙ same_reach t u tidy_t tidy_u (λ i k is a. (same_number k ∙ is, arrows i k ∙ a)) (λ i k is a. (sym (same_number k) ∙ is, sym (arrows i k) ∙ a)) j k;
     }
 
-same_numbers : (o : Option Entry) (i : ℕ) (rows : List OpenProcess) → numbers_of (change_numbered (with_running o) i rows) ≡ numbers_of rows
+pub same_numbers : (o : Option Entry) (i : ℕ) (rows : List OpenProcess) → numbers_of (change_numbered (with_running o) i rows) ≡ numbers_of rows
 same_numbers o i [] = refl
 same_numbers o i (r ∷ rows) = by (nat_eq r.process i) refl (same_numbers o i rows)
   where

@@ -69,7 +69,7 @@ open_ends t tidy j k a =
     arrow_ends (do_conflict t.conflicts) (λ n. is_open t n ≡ true) (steps_under_way t.processes) t.net j k
     (each_step (λ e. is_open t e.process ≡ true) t.processes (each_entry t.processes (λ (r : OpenProcess) is. placed_open t.conflicts t.processes r.running is) (placed_running t tidy))) tidy.of_open a
 
-walk_ends : (t : Tables) → AreTidy t → {j k : ℕ} → Walk (graph_of t) (holders (holdings_of t)) j k → (is_open t j ≡ true) × (is_open t k ≡ true)
+pub walk_ends : (t : Tables) → AreTidy t → {j k : ℕ} → Walk (graph_of t) (holders (holdings_of t)) j k → (is_open t j ≡ true) × (is_open t k ≡ true)
 walk_ends t tidy {j} {k} (one_arrow among a) = open_ends t tidy j k (sym (graph-is t tidy j k) ∙ a)
 walk_ends t tidy {j} {k} (and_then {j = mid} walk among a) = ((walk_ends t tidy walk).0, (open_ends t tidy mid k (sym (graph-is t tidy mid k) ∙ a)).1)
 

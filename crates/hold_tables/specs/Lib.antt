@@ -4,4 +4,5 @@ pub mod Reading
 pub mod Kept
 pub mod Places
 pub mod Walks
+pub mod Operations
 pub mod Spare

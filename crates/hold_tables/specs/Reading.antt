@@ -1,11 +1,11 @@
 -- Reading: what is looked up in the tables.
-use Rattle.std.specs.Prelude.{ℕ, Bool, not, ◌&&◌, ◌||◌, List, [], ◌∷◌, ◌++◌, filter, is_some, length, map, nat_eq, nat_le, nat_lt, if◌then◌else◌, Option, Some, None}
+use Rattle.std.specs.Prelude.{ℕ, Bool, not, ◌&&◌, ◌||◌, List, [], ◌∷◌, ◌++◌, filter, map, nat_eq, nat_le, nat_lt, if◌then◌else◌, Option, Some, None}
 use Rattle.process_tree.specs.declared.entry.Entry.{Entry}
 use Rattle.process_tree.specs.Conflicts.{Access, Table, do_conflict}
 use Rattle.process_tree.specs.Entries.{access_of}
 use Rattle.schedule_model.specs.Holdings.{all_running, all_reserved}
 use Rattle.hold_tables.specs.declared.against.Sought.{Sought}
-use Rattle.hold_tables.specs.Tables.{OpenProcess, Tables, holdings_of}
+use Rattle.hold_tables.specs.Tables.{Tables, holdings_of}
 
 -- the lesser of two numbers, if there is another
 abbrev pub lesser_number : ℕ → Option ℕ → Option ℕ
@@ -24,14 +24,6 @@ least_from from ns = least_or None from ns
 -- the least open process whose number is at least so much
 abbrev pub next_open : Tables → ℕ → Option ℕ
 next_open t from = least_from from (map (λ r. r.process) t.processes)
-
--- whether a process holds anything beside its net entries: something is under way, to be undone or reserved
-abbrev pub is_busy : OpenProcess → Bool
-is_busy r = is_some r.running || (not (nat_eq r.pending 0) || not (nat_eq (length r.reserved) 0))
-
--- the number of a process that does
-abbrev pub busy : OpenProcess → Option ℕ
-busy r = if is_busy r then Some r.process else None
 
 -- the order of steps: by process, then by step
 abbrev pub is_before : ℕ × ℕ → ℕ × ℕ → Bool

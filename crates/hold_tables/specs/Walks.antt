@@ -42,9 +42,9 @@ IsTakenOut p old new = (a b : ℕ) → cell new a b ≡ cell old a (place_before
 abbrev pub IsPlaceTaken : ℕ → List (List Bool) → List (List Bool) → Type 0
 IsPlaceTaken p old new = (a b : ℕ) → cell new a b ≡ cell old (place_before p a) (place_before p b)
 
--- whether the marks tell of a walk from place p or to it
-abbrev pub has_walks : List (List Bool) → ℕ → Bool
-has_walks marks p = list_any (λ mark. mark) (slice_index_or marks p []) || list_any (λ row. slice_index_or row p false) marks
+-- whether the marks tell of a walk from place p and of one to it
+abbrev pub leads_through : List (List Bool) → ℕ → Bool
+leads_through marks p = list_any (λ mark. mark) (slice_index_or marks p []) && list_any (λ row. slice_index_or row p false) marks
 
 -- whether the marks say that a walk leads from one open process to another
 abbrev pub told : List OpenProcess → List (List Bool) → Arrow
@@ -69,6 +69,10 @@ pub record IsExtended (rows : List OpenProcess) (added : Arrow) (old new : List 
 -- the arrows that an entry makes, with these behind it
 abbrev pub arrows_by : ConflictRelation → Entry → List Entry → Arrow
 arrows_by table x ys i k = nat_eq x.process i && list_any (λ y. nat_eq y.process k && conflict table x y) ys
+
+-- the arrows that these entries make to one behind them
+abbrev pub arrows_to : ConflictRelation → List Entry → Entry → Arrow
+arrows_to table es e i k = list_any (λ x. arrows_by table x (e ∷ []) i k) es
 
 -- the arrows that entries in joint order make, with these under way
 abbrev pub arrows_from : ConflictRelation → List Entry → List Entry → Arrow
@@ -129,3 +133,7 @@ AreDistinctRows rows marks = (length marks ≡ length rows) × (length rows ≤ 
 pub record TellWalks (t : Tables) (marks : List (List Bool)) : Type 0 where
   pub rows : AreRows t.processes marks
   pub tell : (i k : ℕ) → is_open t i ≡ true → is_open t k ≡ true → told t.processes marks i k ≡ reaches (do_conflict t.conflicts) (holdings_of t) i k
+
+-- the marks tell where walks lead once these arrows are added to them
+abbrev pub TellWalksBut : Tables → Arrow → List (List Bool) → Type 0
+TellWalksBut t added marks = (new : List (List Bool)) → IsExtended t.processes added marks new → TellWalks t new

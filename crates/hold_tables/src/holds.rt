@@ -8,16 +8,20 @@ ghost use Rattle.schedule_model.specs.Histories.{of_process};
 ghost use Rattle.schedule_model.specs.Holdings.{reaches};
 ghost use Rattle.hold_tables.specs.Tables.{OpenProcess, is_open, kept_of, holdings_of};
 ghost use Rattle.hold_tables.specs.Changes.{none_open, opened, changed, with_running, with_pending, with_first_reserved, with_reserved, run, stopped, took_effect, all_fixed, dropped, can_run, undoes};
-ghost use Rattle.hold_tables.specs.Reading.{busy, next_open, holder_against};
+ghost use Rattle.hold_tables.specs.Operations.{may_conflict, may_hold, may_hold_number, ops_of};
+ghost use Rattle.hold_tables.specs.Reading.{next_open, holder_against};
+ghost use Rattle.std.specs.List.{list_any};
 ghost use Rattle.hold_tables.specs.Kept.{IsKnown, AreKnown, AreTidy};
 ghost use Rattle.hold_tables.specs.Places.{all_steps};
 ghost use Rattle.hold_tables.specs.Spare.{IsRoomIn};
 
 use crate::against::{Sought, least_of, least_reserved, least_running};
+use crate::extending::{tell_effect, tell_run, undo_has_arrows};
 use crate::looking::{all_steps, count_of, least_from, place_of, settle};
-use crate::reach::{
-    MOST, Marks, add_place, effect_has_arrows, has_walks, renew_if, step_has_arrows, take_place,
+use crate::operations::{
+    Beside, all_beside, is_clear_beside, is_clear_of, mark_effect, may_hold, ops_of,
 };
+use crate::reach::{MOST, Marks, add_place, leads_through, renew_if, step_has_arrows, take_place};
 use crate::row::Row;
 use crate::spare::Spare;
 use process_tree::{Conflicts, Entry, Plan};
@@ -32,6 +36,10 @@ pub struct Holds {
     net: Vec<Entry>,
     rows: Vec<Row>,
     walks: Vec<Marks>,
+    /// What is held beside the net.
+    beside: Beside,
+    /// The operations of the net entries, and of some that were.
+    in_net: Marks,
 }
 
 impl Model for Holds {
@@ -39,12 +47,13 @@ impl Model for Holds {
     ghost use Rattle.hold_tables.specs.Tables.{Tables};
     ghost use Rattle.hold_tables.specs.Kept.{Stands};
     ghost use Rattle.hold_tables.specs.Walks.{TellWalks};
+    ghost use Rattle.hold_tables.specs.Operations.{KeepOps, TellBeside, ops_of};
 
     ghost Value = { Tables };
 
     ghost view = { λ h. record { conflicts = h.conflicts; net = h.net.items; processes = h.rows.items } };
 
-    ghost invariant = { λ h. Stands h.conflicts h.net.items h.rows.items (vec_capacity h.net) × TellWalks (record { conflicts = h.conflicts; net = h.net.items; processes = h.rows.items }) h.walks.items };
+    ghost invariant = { λ h. Stands h.conflicts h.net.items h.rows.items (vec_capacity h.net) × TellWalks (record { conflicts = h.conflicts; net = h.net.items; processes = h.rows.items }) h.walks.items × TellBeside h.rows.items h.beside × KeepOps h.conflicts (ops_of h.net.items) h.in_net };
 }
 
 impl Holds {
@@ -58,6 +67,8 @@ impl Holds {
             net: Vec::new(alloc),
             rows: Vec::new(alloc),
             walks: Vec::new(alloc),
+            beside: all_beside(&[]),
+            in_net: ops_of(&[]),
         })
     }
 
@@ -99,6 +110,7 @@ impl Holds {
         spare.walks.give_to(&mut self.walks);
         self.rows.push_reserved(row);
         add_place(&mut self.walks);
+        self.beside = all_beside(&self.rows);
     }
 
     /// The entry comes under way in its process.
@@ -111,14 +123,8 @@ impl Holds {
     {
         let at = place_of(&self.rows, e.process);
         self.rows[at].run(Some(e));
-        let changed = step_has_arrows(&self.conflicts, &self.net, Some(e));
-        renew_if(
-            changed,
-            &mut self.walks,
-            &self.conflicts,
-            &self.rows,
-            &self.net,
-        );
+        tell_run(&mut self.walks, &self.conflicts, &self.rows, &self.net, e);
+        self.beside = all_beside(&self.rows);
     }
 
     /// Nothing is under way in the process.
@@ -136,6 +142,7 @@ impl Holds {
             &self.rows,
             &self.net,
         );
+        self.beside = all_beside(&self.rows);
     }
 
     /// What is under way in the process took effect.
@@ -148,16 +155,19 @@ impl Holds {
         let Some(e) = self.rows[at].running() else {
             unreachable!();
         };
-        let changed = effect_has_arrows(&self.conflicts, &self.rows, &self.net, process, e);
+        let changed = undo_has_arrows(&self.conflicts, &self.rows, &self.net, process, e);
         settle(&mut self.net, process, e);
         self.rows[at].run(None);
-        renew_if(
+        tell_effect(
             changed,
             &mut self.walks,
             &self.conflicts,
             &self.rows,
             &self.net,
+            e,
         );
+        self.beside = all_beside(&self.rows);
+        mark_effect(&mut self.in_net, e);
     }
 
     /// All net entries that the process has are fixed.
@@ -170,6 +180,7 @@ impl Holds {
         let most = usize::from(self.rows[at].steps());
         let fixed = count_of(&self.net, process).min(most);
         self.rows[at].fix(fixed as u16);
+        self.beside = all_beside(&self.rows);
     }
 
     /// These, each a step with its operation and its key, are the reserved steps of the process.
@@ -181,6 +192,7 @@ impl Holds {
     {
         let at = place_of(&self.rows, process);
         self.rows[at].reserve(steps);
+        self.beside = all_beside(&self.rows);
     }
 
     /// Only the first so many of the reserved steps of the process stay reserved.
@@ -190,6 +202,7 @@ impl Holds {
     {
         let at = place_of(&self.rows, process);
         self.rows[at].keep_reserved(count);
+        self.beside = all_beside(&self.rows);
     }
 
     /// So many of the last net entries of the process are to be undone.
@@ -199,6 +212,7 @@ impl Holds {
     {
         let at = place_of(&self.rows, process);
         self.rows[at].pend(count);
+        self.beside = all_beside(&self.rows);
     }
 
     /// The process holds nothing any more.
@@ -207,7 +221,7 @@ impl Holds {
         ensures { self.new ≡ dropped process self.old }
     {
         let at = place_of(&self.rows, process);
-        let linked = has_walks(&self.walks, at);
+        let linked = leads_through(&self.walks, at);
         self.net.retain(|e| e.process != process);
         self.rows.retain(|row| row.process() != process);
         take_place(&mut self.walks, at);
@@ -218,6 +232,8 @@ impl Holds {
             &self.rows,
             &self.net,
         );
+        self.beside = all_beside(&self.rows);
+        self.in_net = ops_of(&self.net);
     }
 }
 
@@ -256,13 +272,31 @@ impl Holds {
         self.rows.len()
     }
 
-    /// The open process at a place, counted from 0 in the order in which they were opened, if it holds anything beside its net.
-    pub fn busy_at(&self, place: usize) -> Option<u32>
-        requires { place < length self.now.processes }
-        ensures busy { (d : OpenProcess) → result ≡ busy (slice_index_or self.now.processes place d) }
+    /// Whether no process may hold something against the operation beside its net.
+    pub fn is_clear_beside(&self, op: u16) -> bool
+        requires op { op < operations_in self.now.conflicts }
+        ensures clear { result ≡ true → list_any (may_hold self.now.conflicts op) self.now.processes ≡ false }
+    {
+        is_clear_beside(&self.conflicts, &self.beside, op)
+    }
+
+    /// Whether no net entry may conflict with the operation.
+    pub fn is_clear_of_net(&self, op: u16) -> bool
+        requires op { op < operations_in self.now.conflicts }
+        ensures clear { result ≡ true → list_any (may_conflict self.now.conflicts op) (ops_of self.now.net) ≡ false }
+    {
+        is_clear_of(&self.conflicts, &self.in_net, op)
+    }
+
+    /// The open process at a place, counted from 0 in the order in which they were opened, if it may hold something against the
+    /// operation beside its net.
+    pub fn may_hold_at(&self, place: usize, op: u16) -> Option<u32>
+        requires place { place < length self.now.processes }
+        requires op { op < operations_in self.now.conflicts }
+        ensures number { (d : OpenProcess) → result ≡ may_hold_number self.now.conflicts op (slice_index_or self.now.processes place d) }
     {
         let row = &self.rows[place];
-        if row.is_busy() {
+        if may_hold(&self.conflicts, op, row) {
             Some(row.process())
         } else {
             None

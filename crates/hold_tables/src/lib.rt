@@ -8,8 +8,10 @@
 #![tactic(auto)]
 
 mod against;
+mod extending;
 mod holds;
 mod looking;
+mod operations;
 mod reach;
 mod row;
 mod spare;

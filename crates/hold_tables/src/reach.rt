@@ -6,7 +6,7 @@ ghost use Rattle.process_tree.specs.Conflicts.{do_conflict};
 ghost use Rattle.process_tree.specs.Order.{Each};
 ghost use Rattle.hold_tables.specs.Places.{place_of};
 ghost use Rattle.hold_tables.specs.Kept.{AreTidy, IsKnown, IsKnownRunning};
-ghost use Rattle.hold_tables.specs.Walks.{AreDistinctRows, AreRows, IsExtended, IsJoined, IsPlaced, IsPlaceTaken, IsPlacedIf, IsTakenOut, IsUnmarked, TellWalks, arrows_by, arrows_from, cell, conflicts_with, entry_settled, has_arrows, has_walks, one_has_arrows, place_before, step_has_arrows, step_of, steps_under_way};
+ghost use Rattle.hold_tables.specs.Walks.{AreDistinctRows, AreRows, IsExtended, IsJoined, IsPlaced, IsPlaceTaken, IsPlacedIf, IsTakenOut, IsUnmarked, TellWalks, arrows_by, arrows_from, cell, conflicts_with, entry_settled, has_arrows, leads_through, one_has_arrows, place_before, step_has_arrows, step_of, steps_under_way};
 
 use crate::looking::{entry_settled, place_of};
 use crate::row::Row;
@@ -49,7 +49,7 @@ fn join(marks: &mut [Marks], a: usize, b: usize)
 }
 
 /// Adds the arrow that an entry makes to the process of another that comes later, where they conflict.
-fn follow(marks: &mut [Marks], conflicts: &Conflicts, rows: &[Row], x: Entry, y: Entry)
+pub fn follow(marks: &mut [Marks], conflicts: &Conflicts, rows: &[Row], x: Entry, y: Entry)
     requires rows { AreDistinctRows rows.now marks.old }
     requires first { IsPlaced conflicts.now rows.now x }
     requires later { IsPlaced conflicts.now rows.now y }
@@ -98,7 +98,7 @@ fn follow_step(
 }
 
 /// The same of each step that is under way in these processes.
-fn follow_steps(marks: &mut [Marks], conflicts: &Conflicts, rows: &[Row], x: Entry)
+pub fn follow_steps(marks: &mut [Marks], conflicts: &Conflicts, rows: &[Row], x: Entry)
     requires rows { AreDistinctRows rows.now marks.old }
     requires first { IsPlaced conflicts.now rows.now x }
     requires later { Each (λ r. IsPlacedIf conflicts.now rows.now r.running) rows.now }
@@ -332,13 +332,13 @@ fn is_marked_in_some(marks: &[Marks], place: usize) -> bool
     false
 }
 
-/// Whether a walk leads from the place or to it.
-pub fn has_walks(marks: &[Marks], place: usize) -> bool
+/// Whether a walk leads from the place, and one to it.
+pub fn leads_through(marks: &[Marks], place: usize) -> bool
     requires within { place < length marks.now }
     requires few { length marks.now ≤ 256 }
-    ensures { result ≡ has_walks marks.now place }
+    ensures { result ≡ leads_through marks.now place }
 {
-    is_some_marked(&marks[place]) || is_marked_in_some(marks, place)
+    is_some_marked(&marks[place]) && is_marked_in_some(marks, place)
 }
 
 /// Takes the mark of a place out, and moves up those behind it.

@@ -1,7 +1,6 @@
 // What is kept of one open process.
 ghost use Rattle.std.specs.Prelude.{◌≡◌, ◌≤◌, length, vec_capacity};
 ghost use Rattle.hold_tables.specs.Tables.{holds_nothing};
-ghost use Rattle.hold_tables.specs.Reading.{is_busy};
 ghost use Rattle.hold_tables.specs.Changes.{with_running, with_fixed, with_first_reserved, with_reserved, with_pending};
 
 use crate::spare::SpareCapacity;
@@ -87,13 +86,6 @@ impl Row {
     {
         let len = self.reserved.len().min(usize::from(self.steps));
         len as u16
-    }
-
-    /// Whether it holds anything beside its net entries.
-    pub fn is_busy(&self) -> bool
-        ensures { result ≡ is_busy self.now }
-    {
-        self.running.is_some() || self.pending != 0 || !self.reserved.is_empty()
     }
 
     pub fn run(&mut self, running: Option<Entry>)

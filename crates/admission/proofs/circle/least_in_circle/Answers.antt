@@ -3,7 +3,13 @@ use Rattle.process_tree.specs.declared.entry.Entry.{Entry}
 use Rattle.machine_model.specs.declared.blocked.Rule.TheVariants.{A2}
 use Rattle.hold_tables.specs.Tables.{is_open}
 use Rattle.hold_tables.proofs.Places.{each_place}
+use Rattle.hold_tables.specs.Tables.{holdings_of}
+use Rattle.std.specs.Prelude.{Bool, List, filter}
+use Rattle.process_tree.specs.Conflicts.{do_conflict}
+use Rattle.schedule_model.specs.Blocking.{Clash}
+use Rattle.schedule_model.specs.Holdings.{reaches}
 use Rattle.admission.specs.Parts.{with_circle}
+use Rattle.admission.proofs.Clear.{none_against}
 use Rattle.admission.proofs.Assembled.{least_by}
 use Rattle.admission.proofs.WalksBack.{circle, circle-is, circle_more}
 use Rattle.admission.proofs.Places.{rest_back, rest_none}
@@ -46,3 +52,11 @@ returns c =
     let none = c.places-test.false in
     let front : c.places.place ≡ 0 = omega arith in
     c.places.invariant.least ∙ ap (λ n. least_by A2 (circle t c.args.own (drop n t.net))) front ∙ sym (circle-is t c.args.own c.net_len-place.ensures.tidy)
+
+pub returns-then-is_clear_of_net : goal.returns-then-is_clear_of_net
+returns-then-is_clear_of_net c =
+    let t = c.args.holds.now in
+    let own = c.args.own in
+    let led : Clash → Bool = λ x. reaches (do_conflict t.conflicts) (holdings_of t) own.process x.other.process in
+    sym (circle-is t own c.net_len-place.ensures.tidy
+    ∙ ap (λ (cs : List Clash). least_by A2 (filter led cs)) (none_against t.conflicts own t.net (c.is_clear_of_net.ensures.clear c.if-is_clear_of_net.true)))

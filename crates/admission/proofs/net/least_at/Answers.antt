@@ -13,6 +13,6 @@ returns-then-y-process c = λ d.
     let t = c.args.holds.now in
     let y = c.net_at-y.result in
     let found : Option Blocked = least_on (do_conflict t.conflicts) A3 y (take c.args.place t.net) in
-    c.least_between.ensures
+    c.least_before.ensures
     ∙ ap (λ b. if b then found else None) (sym (eq-eqb y.process c.args.process c.if-y-process.true))
     ∙ ap (least_front (do_conflict t.conflicts) c.args.process (take c.args.place t.net)) (c.net_at-y.ensures.entry d)

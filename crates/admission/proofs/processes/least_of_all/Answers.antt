@@ -1,7 +1,7 @@
-use Rattle.std.proofs.Common.{drop, ◌≡◌, ◌<◌, ◌-◌, ap, sym, ◌∙◌, arith}
+use Rattle.std.proofs.Common.{drop, ◌≡◌, ◌-◌, ap, sym, ◌∙◌, arith}
 use Rattle.admission.specs.Least.{least_over}
 use Rattle.admission.specs.Parts.{least_of_process, with_process}
-use Rattle.admission.proofs.Busy.{busy_open, busy_more}
+use Rattle.admission.proofs.Holders.{all_idle, holder_open, holder_more}
 use Rattle.admission.proofs.Places.{rest_none}
 use Rattle.admission.proofs.processes.least_of_all.Goals as goal
 
@@ -19,7 +19,7 @@ pub with_process-least-requires-clause-open : goal.with_process-least-requires-c
 with_process-least-requires-clause-open c =
     let le = c.places.invariant.within in
     let lt = c.places-test.true in
-    busy_open c.args.holds.now (c.places.place - 1) (omega arith) c.busy_at.result c.busy_at.ensures.busy
+    holder_open c.args.holds.now c.args.own.op (c.places.place - 1) (omega arith) c.may_hold_at-holder.result c.may_hold_at-holder.ensures.number
 
 pub places-preserved : goal.places-preserved
 places-preserved c =
@@ -30,8 +30,8 @@ places-preserved c =
       within = omega arith;
       least =
           c.with_process-least.ensures
-          ∙ ap (with_process t c.args.sought c.args.own c.busy_at.result) c.places.invariant.least
-          ∙ busy_more t c.args.sought c.args.own c.open_len-place.ensures.tidy.numbered c.places.place lt le c.busy_at.result c.busy_at.ensures.busy;
+          ∙ ap (with_process t c.args.sought c.args.own c.may_hold_at-holder.result) c.places.invariant.least
+          ∙ holder_more t c.args.sought c.args.own c.open_len-place.ensures.tidy.numbered c.places.place lt le c.may_hold_at-holder.result c.may_hold_at-holder.ensures.number;
     }
 
 pub returns-clause-least : goal.returns-clause-least
@@ -40,3 +40,8 @@ returns-clause-least c =
     let none = c.places-test.false in
     let front : c.places.place ≡ 0 = omega arith in
     c.places.invariant.least ∙ ap (λ n. least_over (least_of_process t c.args.sought c.args.own) (drop n t.processes)) front
+
+pub returns-then-is_clear_beside-clause-least : goal.returns-then-is_clear_beside-clause-least
+returns-then-is_clear_beside-clause-least c =
+    let t = c.args.holds.now in
+    sym (all_idle t c.args.sought c.args.own t.processes (c.is_clear_beside.ensures.clear c.if-is_clear_beside.true))

@@ -1,4 +1,4 @@
-use Rattle.std.proofs.Common.{List, Bool, not, filter, rules, sym, subst, ap, ◌∙◌}
+use Rattle.std.proofs.Common.{◌<◌, List, Bool, not, filter, rules, sym, subst, ap, ◌∙◌}
 use Rattle.std.specs.Prelude.{nat_eq}
 use Rattle.std.proofs.lemmas.Fn.{filter_same}
 use Rattle.process_tree.specs.declared.entry.Entry.{Entry}
@@ -6,10 +6,14 @@ use Rattle.hold_tables.specs.Tables.{OpenProcess}
 use Rattle.hold_tables.specs.Changes.{dropped}
 use Rattle.hold_tables.proofs.Tidy.{is_among, tables}
 use Rattle.hold_tables.specs.Places.{place_of}
-use Rattle.hold_tables.specs.Walks.{IsPlaceTaken, has_walks}
+use Rattle.hold_tables.specs.Walks.{IsPlaceTaken, leads_through}
 use Rattle.hold_tables.proofs.DroppedWalks.{dropped_tells, rows_left}
 use Rattle.hold_tables.proofs.Opening.{drop_stands}
 use Rattle.hold_tables.proofs.WalksStay.{tell_lent}
+use Rattle.hold_tables.specs.Operations.{TellBeside, TellOps, ops_of}
+use Rattle.process_tree.specs.Conflicts.{operations_in}
+use Rattle.process_tree.specs.Order.{Each}
+use Rattle.hold_tables.proofs.HeldOps.{known_in_net, known_ops, tell_covers}
 use Rattle.hold_tables.proofs.holds.Holds.drop_process.Goals as goal
 
 pub renew_if-requires-clause-tidy : goal.renew_if-requires-clause-tidy
@@ -23,9 +27,16 @@ pub invariant_of-self : goal.invariant_of-self
 invariant_of-self c =
     let i = c.args.process in
     let net = filter_same _ (λ (e : Entry). not (nat_eq e.process i)) _ (λ x b f' k. search rules) c.self.inside.net.items c.retain.new.self.items c.retain.ensures.filtered in
-    let rows = filter_same _ (λ (r : OpenProcess). not (nat_eq r.process i)) _ (λ x b f' k. search rules) c.self.inside.rows.items c.retain-2.new.self.items c.retain-2.ensures.filtered in (
+    let rows = filter_same _ (λ (r : OpenProcess). not (nat_eq r.process i)) _ (λ x b f' k. search rules) c.self.inside.rows.items c.retain-2.new.self.items c.retain-2.ensures.filtered in
+    let told : TellOps (ops_of c.retain.new.self.items) c.ops_of-self-inside.result = subst (λ (es : List Entry). TellOps (ops_of es) c.ops_of-self-inside.result) c.deref-6.ensures.value c.ops_of-self-inside.ensures in (
       rw (net, rows, c.retain.ensures.capacity) (drop_stands i c.self.inside.conflicts c.self.inside.net.items c.self.inside.rows.items _ c.self.invariant.0),
       tell_lent c.self.inside.conflicts _ _ _ _ c.renew_if.new.walks.items c.deref-3.ensures.value c.deref-4.ensures.value c.renew_if.ensures.tell,
+      subst (λ (rs : List OpenProcess). TellBeside rs c.all_beside-self-inside.result) c.deref-5.ensures.value c.all_beside-self-inside.ensures,
+      record {
+        covers = tell_covers (ops_of c.retain.new.self.items) c.ops_of-self-inside.result told;
+        known = known_ops c.self.inside.conflicts (ops_of c.retain.new.self.items) c.ops_of-self-inside.result (subst (λ (es : List Entry). Each (λ op. op < operations_in c.self.inside.conflicts) (ops_of es)) (sym net)
+            (known_in_net (tables c.self.inside.conflicts (filter (λ (e : Entry). not (nat_eq e.process i)) c.self.inside.net.items) (filter (λ (r : OpenProcess). not (nat_eq r.process i)) c.self.inside.rows.items)) (drop_stands i c.self.inside.conflicts c.self.inside.net.items c.self.inside.rows.items _ c.self.invariant.0).0)) told;
+      },
     )
 
 pub renew_if-requires-clause-same : goal.renew_if-requires-clause-same
@@ -41,7 +52,7 @@ renew_if-requires-clause-same c =
     rw (c.deref-3.ensures.value, c.deref-4.ensures.value, net, rows) (λ none.
     dropped_tells i c.self.inside.conflicts c.self.inside.net.items was walks c.take_place.new.walks.items c.self.invariant.0.0
     (drop_stands i c.self.inside.conflicts c.self.inside.net.items was _ c.self.invariant.0).0 has c.self.invariant.1 taken
-    (sym (ap (has_walks walks) place) ∙ sym (ap (λ (m : List (List Bool)). has_walks m c.place_of-at.result) c.deref-2.ensures.value) ∙ sym c.has_walks-linked.ensures ∙ none) c.take_place.ensures.count)
+    (sym (ap (leads_through walks) place) ∙ sym (ap (λ (m : List (List Bool)). leads_through m c.place_of-at.result) c.deref-2.ensures.value) ∙ sym c.leads_through-linked.ensures ∙ none) c.take_place.ensures.count)
 
 pub renew_if-requires-clause-rows : goal.renew_if-requires-clause-rows
 renew_if-requires-clause-rows c =

@@ -1,4 +1,4 @@
-use Rattle.std.proofs.Common.{◌≡◌, ◌≤◌, ◌+◌, ◌++◌, ◌∷◌, [], ◌&&◌, not, length, false, vec_capacity, sym, ap, ◌∙◌, subst, arith}
+use Rattle.std.proofs.Common.{◌≡◌, ◌≤◌, ◌+◌, ◌++◌, ◌∷◌, [], ◌&&◌, not, length, false, vec_capacity, sym, ap, ◌∙◌, subst, arith, List}
 use Rattle.hold_tables.specs.Tables.{Tables, holds_nothing, has_number, is_open}
 use Rattle.hold_tables.specs.Places.{all_steps}
 use Rattle.std.specs.Prelude.{nat_eq}
@@ -6,6 +6,9 @@ use Rattle.hold_tables.specs.Walks.{IsUnmarked, cell}
 use Rattle.hold_tables.specs.Spare.{IsRoomIn, SpareRoom}
 use Rattle.hold_tables.proofs.OpenedWalks.{opened_tells}
 use Rattle.hold_tables.proofs.Opening.{open_stands}
+use Rattle.process_tree.specs.declared.entry.Entry.{Entry}
+use Rattle.hold_tables.specs.Tables.{OpenProcess}
+use Rattle.hold_tables.specs.Operations.{KeepOps, TellBeside, ops_of}
 use Rattle.hold_tables.proofs.holds.Holds.open_with.Goals as goal
 
 pub invariant_of-self : goal.invariant_of-self
@@ -26,4 +29,6 @@ invariant_of-self c =
     let stands = open_stands i steps c.self.inside.conflicts net rows _ _ closed room c.self.invariant.0 in (
       rw (c.give_to.ensures.items, more) stands,
       rw (c.give_to.ensures.items, more) (opened_tells i steps c.self.inside.conflicts net rows walks c.add_place.new.walks.items c.self.invariant.0.0 stands.0 c.self.invariant.1 unmarked fits.few count),
+      subst (λ (rs : List OpenProcess). TellBeside rs c.all_beside-self-inside.result) c.deref.ensures.value c.all_beside-self-inside.ensures,
+      subst (λ (es : List Entry). KeepOps c.self.inside.conflicts (ops_of es) c.self.inside.in_net) (sym c.give_to.ensures.items) c.self.invariant.3,
     )

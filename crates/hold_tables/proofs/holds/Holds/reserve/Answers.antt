@@ -1,9 +1,10 @@
-use Rattle.std.proofs.Common.{◌≤◌, length, refl, sym, ◌∙◌, ap, subst}
+use Rattle.std.proofs.Common.{◌≤◌, length, refl, sym, ◌∙◌, ap, subst, List}
 use Rattle.hold_tables.specs.Tables.{OpenProcess}
 use Rattle.hold_tables.specs.Changes.{with_reserved}
 use Rattle.hold_tables.specs.Places.{place_of}
 use Rattle.hold_tables.proofs.WalksStay.{walks_stood}
 use Rattle.hold_tables.proofs.Tidy.{found, returned, stood}
+use Rattle.hold_tables.specs.Operations.{TellBeside}
 use Rattle.hold_tables.proofs.holds.Holds.reserve.Goals as goal
 
 pub invariant_of-self : goal.invariant_of-self
@@ -12,6 +13,8 @@ invariant_of-self c = (
       (λ tidy own. record { within = tidy.within; once = tidy.once; fixed = tidy.fixed; running = tidy.running; reserved = c.requires.known; fits = c.requires.room }) c.self.invariant.0,
   walks_stood (with_reserved c.args.steps.now) c.args.process c.self.inside.conflicts c.self.inside.net.items c.self.inside.rows.items c.self.inside.walks.items c.place_of-at.result c.index_mut.result.now c.reserve.new.self c.args.self.now c.self.view_is c.requires.open (c.place_of-at.ensures.place ∙ ap (place_of c.args.process) c.deref.ensures.value) c.index_mut.ensures.value c.reserve.ensures
       (λ r. (refl, refl)) c.self.invariant.1,
+  subst (λ (rs : List OpenProcess). TellBeside rs c.all_beside-self-inside.result) c.deref-2.ensures.value c.all_beside-self-inside.ensures,
+  c.self.invariant.3,
 )
 
 pub returns : goal.returns

@@ -1,4 +1,4 @@
-use Rattle.std.proofs.Common.{sym, refl, ◌∙◌, ap, None}
+use Rattle.std.proofs.Common.{sym, refl, ◌∙◌, ap, None, subst}
 use Rattle.std.specs.Prelude.{List, slice_set}
 use Rattle.process_tree.specs.declared.entry.Entry.{Entry}
 use Rattle.process_tree.specs.Conflicts.{do_conflict}
@@ -10,6 +10,7 @@ use Rattle.hold_tables.specs.Places.{place_of}
 use Rattle.hold_tables.proofs.Tidy.{found_row, is_among, returned, stood, tables}
 use Rattle.hold_tables.proofs.SameGraph.{run_stood}
 use Rattle.hold_tables.proofs.WalksStay.{tell_lent}
+use Rattle.hold_tables.specs.Operations.{TellBeside}
 use Rattle.hold_tables.proofs.holds.Holds.stop.Goals as goal
 
 pub invariant_of-self : goal.invariant_of-self
@@ -17,6 +18,8 @@ invariant_of-self c = (
   stood (with_running None) c.args.process c.self.inside.conflicts c.self.inside.net.items c.self.inside.rows.items c.place_of-at.result c.index_mut.result.now c.run.new.self c.args.self.now _ c.self.view_is c.requires.open (c.place_of-at.ensures.place ∙ ap (place_of c.args.process) c.deref.ensures.value) c.index_mut.ensures.value c.run.ensures (λ r. (refl, refl))
       (λ tidy own. record { within = tidy.within; once = tidy.once; fixed = tidy.fixed; running = tt; reserved = tidy.reserved; fits = tidy.fits }) c.self.invariant.0,
   tell_lent c.self.inside.conflicts _ _ _ _ c.renew_if.new.walks.items c.deref-3.ensures.value c.deref-4.ensures.value c.renew_if.ensures.tell,
+  subst (λ (rs : List OpenProcess). TellBeside rs c.all_beside-self-inside.result) c.deref-5.ensures.value c.all_beside-self-inside.ensures,
+  c.self.invariant.3,
 )
 
 pub renew_if-requires-clause-tidy : goal.renew_if-requires-clause-tidy
