@@ -1,0 +1,6 @@
+pub mod Jobs
+pub mod Knowledge
+pub mod Lists
+pub mod Reported
+pub mod StillTrue
+pub mod WholeRun

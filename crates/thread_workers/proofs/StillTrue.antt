@@ -1,0 +1,182 @@
+-- What a worker was told when it stopped is so of every later engine.
+use Rattle.std.proofs.Common.{◌≡◌, ◌⊎◌, inl, inr, ◌∙◌, ℕ, true, false, eqb, ltb, leb, List, [], ◌∷◌, ◌++◌, length, filter, find, IsTrue, refl, ap, sym, subst, ⊎_elim}
+use Rattle.std.specs.Bool.{⊤}
+use Rattle.std.specs.List.{Contains}
+use Rattle.std.proofs.lemmas.Bool.{false≢true}
+use Rattle.process_tree.specs.declared.plan.Plan.{Plan}
+use Rattle.process_tree.specs.declared.play.Outcome.TheVariants as outcome
+use Rattle.process_tree.specs.Order.{Each}
+use Rattle.schedule_model.specs.declared.event.Event.{Event}
+use Rattle.schedule_model.specs.Conflict.{ConflictRelation}
+use Rattle.schedule_model.specs.Course.{Course}
+use Rattle.schedule_model.specs.Histories.{active, is_active, is_in}
+use Rattle.schedule_model.specs.Laws.{IsGoodPlan}
+use Rattle.schedule_model.specs.Legal.{is_legal}
+use Rattle.schedule_model.proofs.Active.{is_active-is_in}
+use Rattle.machine_model.specs.Advance.{advance_all}
+use Rattle.machine_model.specs.CallLaws.{IsStuck}
+use Rattle.machine_model.specs.Calls.{Call, IsNoStart, finish, next, next_is}
+use Rattle.machine_model.specs.Groups.{Subsystems}
+use Rattle.machine_model.specs.Moment.{Moment, Piece}
+use Rattle.machine_model.specs.Replies.{all_ended, all_victims, next_reply, none_free_by_active, piece_of_free, stuck, victims}
+use Rattle.machine_model.specs.Runs.{is_run}
+use Rattle.machine_model.specs.State.{is_free}
+use Rattle.machine_model.proofs.CallsKept.{call-makes_run}
+use Rattle.machine_model.proofs.OwnOrder.{run-own_order}
+use Rattle.process_core.specs.Answers.{after_call, answer_in}
+use Rattle.process_core.specs.Cores.{CoreState, IsCore, courses_in, history_of, machine_of, moment_of, relation}
+use Rattle.engine_steps.specs.Engines.{EngineState}
+use Rattle.engine_steps.specs.declared.engines.Phase.TheVariants.{Closed}
+use Rattle.worker_gate.specs.declared.alone.RunOutcome.{RunOutcome}
+use Rattle.worker_gate.specs.declared.alone.RunOutcome.TheVariants.{AllEnded, Stuck, DiskFault, NoMemory}
+use Rattle.worker_gate.specs.Running.{IsOutcome}
+use Rattle.worker_gate.proofs.AloneReplies.{all_have_ended, stuck_again, stuck_stays}
+use Rattle.shared_engine.specs.declared.entries.NextSaid.{NextSaid}
+use Rattle.shared_engine.specs.declared.entries.NextSaid.TheVariants as asked
+use Rattle.shared_engine.specs.declared.entries.FinishSaid.{FinishSaid}
+use Rattle.shared_engine.specs.declared.entries.FinishSaid.TheVariants as ended
+use Rattle.shared_engine.specs.declared.entries.TurnEntry.{TurnEntry}
+use Rattle.shared_engine.specs.declared.entries.TurnEntry.TheVariants.{Next, Finish}
+use Rattle.shared_engine.specs.Progress.{AreTold, IsTold, Progress, after, after_finish, after_next, progress}
+use Rattle.thread_workers.specs.Workers.{Has, Stops}
+use Rattle.thread_workers.proofs.Reported.{moves, none_moves, reported, reported_closed}
+
+-- The machine of a core: its plans are good, it opened on a legal history, and it is a run.
+pub record IsRunning (c : CoreState) : Type 0 where
+  pub good : (p : Plan) → Contains c.plans p → IsGoodPlan p
+  pub legal : IsTrue (is_legal (relation c) (courses_in c) c.opening)
+  pub run : IsTrue (is_run (relation c) (machine_of c))
+
+pub running_core : (c : CoreState) → IsCore c → IsRunning c
+running_core c core = record { good = core.session.good; legal = core.session.legal; run = core.session.run }
+
+running_call : (c : CoreState) (call : Call) → IsNoStart call → IsRunning c → IsRunning (after_call c call)
+running_call c call no_start is = record { good = is.good; legal = is.legal; run = call-makes_run (relation c) (machine_of c) call no_start is.run }
+
+-- whatever a request is answered, it is a call, or the engine is closed and stays as it is
+next_core : (c : CoreState) (said : NextSaid) → (after_next c said ≡ after_call c next) ⊎ (after_next c said ≡ c)
+next_core c (asked.Piece n) = inl refl
+next_core c (asked.Wait w) = inl refl
+next_core c asked.AllEnded = inl refl
+next_core c (asked.Stuck i) = inl refl
+next_core c (asked.Closed k) = inr refl
+
+-- what holds of a core and after a request holds after the answer to one
+by_request : (P : CoreState → Type 0) (c : CoreState) (said : NextSaid) → P c → P (after_call c next) → P (after_next c said)
+by_request P c said here there = ⊎_elim (λ is. subst P (sym is) there) (λ is. subst P (sym is) here) (next_core c said)
+
+running_finish : (p : Progress) (n : ℕ) (s : FinishSaid) → IsRunning p.core → IsRunning (after_finish p n s).core
+running_finish p n (ended.Effected k) is = running_call p.core (finish n outcome.Done) tt is
+running_finish p n (ended.Retry k) is = running_call p.core (finish n outcome.Refused) tt is
+running_finish p n ended.Failed is = running_call p.core (finish n outcome.Refused) tt is
+running_finish p n ended.Exhausted is = running_call p.core (finish n outcome.Refused) tt is
+running_finish p n ended.Over is = is
+running_finish p n (ended.Dropped k) is = is
+running_finish p n ended.DiskFault is = is
+running_finish p n (ended.NoMemory k) is = is
+running_finish p n (ended.Closed k) is = is
+
+running_after : (p : Progress) (e : TurnEntry) → IsRunning p.core → IsRunning (after p e).core
+running_after p (Next said) is = by_request IsRunning p.core said is (running_call p.core next tt is)
+running_after p (Finish n a s) is = running_finish p n s is
+
+none_out : (es : List Event) (ps : List Piece) → Each (λ (p : Piece). is_active es p.process ≡ true) ps → active es ≡ [] → ps ≡ []
+none_out es [] each none = refl
+none_out es (p ∷ ps) each none = absurd (false≢true (ap (is_in p.process) (sym none) ∙ (is_active-is_in es p.process ∙ each.0)))
+
+-- where no process is active, no piece is out
+idle_ended : (c : CoreState) → IsRunning c → active (history_of c) ≡ [] → (moment_of c).out ≡ []
+idle_ended c is none = none_out (history_of c) (moment_of c).out (run-own_order (relation c) c.plans is.good (machine_of c) refl is.legal is.run).active none
+
+module _ (table : ConflictRelation) (courses : List Course) (m : Moment) (served : ℕ) (none : active m.events ≡ []) where
+  no_victims : all_victims table courses m ≡ []
+  no_victims = ap (λ xs. victims (length xs) table courses m) none
+
+  says_ended : next_reply table courses m served ≡ all_ended
+  says_ended =
+      ap (λ xs. piece_of_free courses m (none_free_by_active table courses m served (eqb (length xs) 0)) (find (is_free table courses m) (filter (λ i. ltb served i) xs ++ filter (λ i. leb i served) xs))) none
+
+  ended_reply : next_is (next_reply table courses (advance_all table courses m (all_victims table courses m)) served) ≡ next_is all_ended
+  ended_reply = ap (λ vs. next_is (next_reply table courses (advance_all table courses m vs) served)) no_victims ∙ ap next_is says_ended
+
+-- where all have ended a request leaves it so
+ended_again : (c : CoreState) → active (history_of c) ≡ [] → active (history_of (after_call c next)) ≡ []
+ended_again c none = all_have_ended c (after_call c next) refl (sym (ended_reply (relation c) (courses_in c) (moment_of c) c.served none))
+
+abbrev IsStuckAt : ℕ → CoreState → Type 0
+IsStuckAt i c = ((answer_in c next).reply ≡ next_is (stuck i)) × IsStuck (relation c) (courses_in c) (moment_of c) i
+
+-- and who is stuck stays so
+stuck_after : (c : CoreState) (i : ℕ) → next_is (stuck i) ≡ (answer_in c next).reply → IsStuckAt i (after_call c next)
+stuck_after c i replied = (stuck_again c (after_call c next) refl i replied, stuck_stays c (after_call c next) refl i replied)
+
+-- what a worker that stops so was told, of a core and of what goes on in its engine
+abbrev pub IsOver : RunOutcome → Progress → Type 0
+IsOver AllEnded p = active (history_of p.core) ≡ []
+IsOver (Stuck i) p = IsStuckAt i p.core
+IsOver DiskFault p = p.phase ≡ Closed
+IsOver NoMemory p = ⊤
+
+pub outcome_is : {R B : Type 0} (o : RunOutcome) (e : EngineState R B) → IsOver o (progress e) → IsOutcome e o
+outcome_is AllEnded e over = over
+outcome_is (Stuck i) e over = over
+outcome_is DiskFault e over = over
+outcome_is NoMemory e over = tt
+
+-- the end of a piece that moves nothing
+still : (p : Progress) (n : ℕ) (s : FinishSaid) → moves s ≡ false → after_finish p n s ≡ p
+still p n (ended.Effected k) is = absurd (false≢true (sym is))
+still p n (ended.Retry k) is = absurd (false≢true (sym is))
+still p n ended.Failed is = absurd (false≢true (sym is))
+still p n ended.Exhausted is = absurd (false≢true (sym is))
+still p n ended.DiskFault is = absurd (false≢true (sym is))
+still p n ended.Over is = refl
+still p n (ended.Dropped k) is = refl
+still p n (ended.NoMemory k) is = refl
+still p n (ended.Closed k) is = refl
+
+closed_finish : (p : Progress) (n : ℕ) (s : FinishSaid) → p.phase ≡ Closed → (after_finish p n s).phase ≡ Closed
+closed_finish p n (ended.Effected k) is = is
+closed_finish p n (ended.Retry k) is = is
+closed_finish p n ended.Failed is = is
+closed_finish p n ended.Exhausted is = is
+closed_finish p n ended.Over is = is
+closed_finish p n (ended.Dropped k) is = is
+closed_finish p n ended.DiskFault is = refl
+closed_finish p n (ended.NoMemory k) is = is
+closed_finish p n (ended.Closed k) is = is
+
+module _ (subsystems : Subsystems) where
+  -- it is so after another entry,
+  over_after : (o : RunOutcome) (p : Progress) (e : TurnEntry) → IsRunning p.core → IsOver o p → IsTold subsystems p e → IsOver o (after p e)
+  over_after AllEnded p (Next said) is over told = by_request (λ c. active (history_of c) ≡ []) p.core said over (ended_again p.core over)
+  over_after AllEnded p (Finish n a s) is over told = subst (IsOver AllEnded) (sym (still p n s (none_moves subsystems p.core (idle_ended p.core is over) p.phase n a s told))) over
+  over_after (Stuck i) p (Next said) is over told = by_request (IsStuckAt i) p.core said over (stuck_after p.core i (sym over.0))
+  over_after (Stuck i) p (Finish n a s) is over told = subst (IsOver (Stuck i)) (sym (still p n s (none_moves subsystems p.core over.1.nothing_runs p.phase n a s told))) over
+  over_after DiskFault p (Next said) is over told = over
+  over_after DiskFault p (Finish n a s) is over told = closed_finish p n s over
+  over_after NoMemory p e is over told = tt
+
+  -- after all that come,
+  over_all : (o : RunOutcome) (p x : Progress) (es : List TurnEntry) → IsRunning p.core → IsOver o p → AreTold subsystems p es x → IsOver o x
+  over_all o p x [] is over are = subst (IsOver o) (sym are) over
+  over_all o p x (e ∷ es) is over are = over_all o (after p e) x es (running_after p e is) (over_after o p e is over are.0) are.1
+
+  -- and after the entry by which the worker stopped.
+  stops_over : (o : RunOutcome) (p : Progress) (e : TurnEntry) → Stops o e → IsTold subsystems p e → IsOver o (after p e)
+  stops_over AllEnded p e is told =
+      subst (λ (f : TurnEntry). IsOver AllEnded (after p f)) (sym is) (all_have_ended p.core (after_call p.core next) refl (reported subsystems p.core p.phase asked.AllEnded (subst (IsTold subsystems p) is told)))
+  stops_over (Stuck i) p e is told =
+      subst (λ (f : TurnEntry). IsOver (Stuck i) (after p f)) (sym is) (stuck_after p.core i (reported subsystems p.core p.phase (asked.Stuck i) (subst (IsTold subsystems p) is told)))
+  stops_over DiskFault p (Next said) is told = reported subsystems p.core p.phase (asked.Closed is.0) (subst (λ (s : NextSaid). IsTold subsystems p (Next s)) is.1 told)
+  stops_over DiskFault p (Finish n a s) (inl is) told = subst (λ (r : FinishSaid). (after_finish p n r).phase ≡ Closed) (sym is) refl
+  stops_over DiskFault p (Finish n a s) (inr is) told =
+      subst (λ (r : FinishSaid). (after_finish p n r).phase ≡ Closed) (sym is.1) (reported_closed subsystems p.core p.phase n a is.0 (subst (λ (r : FinishSaid). IsTold subsystems p (Finish n a r)) is.1 told))
+  stops_over NoMemory p e is told = tt
+
+  stopped_in : (o : RunOutcome) (p x : Progress) (e : TurnEntry) (before rest : List TurnEntry) → Stops o e → IsRunning p.core → AreTold subsystems p (before ++ e ∷ rest) x → IsOver o x
+  stopped_in o p x e [] rest stops is are = over_all o (after p e) x rest (running_after p e is) (stops_over o p e stops are.0) are.1
+  stopped_in o p x e (f ∷ fs) rest stops is are = stopped_in o (after p f) x e fs rest stops (running_after p f is) are.1
+
+  pub stays_over : (o : RunOutcome) (p x : Progress) (es : List TurnEntry) (e : TurnEntry) → Has e es → Stops o e → IsRunning p.core → AreTold subsystems p es x → IsOver o x
+  stays_over o p x es e has stops is are = stopped_in o p x e has.0 has.1 stops is (subst (λ (l : List TurnEntry). AreTold subsystems p l x) has.2 are)

@@ -1,0 +1,10 @@
+use Rattle.std.proofs.Common.{◌≡◌}
+use Rattle.thread_workers.specs.Workers.{WorkerKnows}
+use Rattle.thread_workers.proofs.rounds.rounds.Given as goal
+
+abbrev pub invariant-loop : goal.invariant-loop
+invariant-loop g l =
+    (l.seat.place.table_id ≡ l.initial.seat.place.table_id)
+    × (l.seat.place.me.0.opening ≡ l.initial.seat.place.me.0.opening)
+    × (l.seat.place.me.0.share ≡ l.initial.seat.place.me.0.share)
+    × WorkerKnows g.R.Rack.disk g.B.Resource.meaning g.B.Resource.sort g.G.Gate.answers l.seat.place.me.0

@@ -1,0 +1,13 @@
+use Rattle.std.proofs.Common.{◌∙◌, refl}
+use Rattle.thread_workers.proofs.Knowledge.{knows_new, opened_still}
+use Rattle.thread_workers.proofs.seats.give_job.Goals as goal
+
+pub returns-clause-job : goal.returns-clause-job
+returns-clause-job g c =
+    let disk = g.R.Rack.disk in
+    let meaning = g.B.Resource.meaning in
+    let sort = g.B.Resource.sort in
+    let e = c.split-seat.ensures in
+    let theirs = c.split-seat.result.1.place.me.0 in
+    let opened = opened_still disk meaning sort c.args.seat.place.me.0 theirs e.opening.1 c.requires.opened in
+    (_, c.in-Ok.ensures.items, (c.split-seat.result.1, refl, e.desk.1 ∙ c.requires.desk, knows_new disk meaning sort g.G.Gate.answers theirs opened e.places.1), e.share.1, e.opening.1)

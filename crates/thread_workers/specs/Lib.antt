@@ -1,0 +1,4 @@
+pub mod History
+pub mod Jobs
+pub mod Meeting
+pub mod Workers
