@@ -1,3 +1,4 @@
+pub mod Sent
 pub mod Jobs
 pub mod Knowledge
 pub mod Lists

@@ -120,3 +120,10 @@ outcome_at_end {R} {B} disk faults meaning sort outcome o x first seen places wh
     let led = subst (λ (m : Maybe (SharedEngine R B)). IfSome m (λ z. StandsFor disk faults meaning sort z.engine history x.engine)) known whole.1 sound in
     outcome_is outcome x.engine (stays_over (subsystem_of o.engine.catalog.ops) outcome (progress o.engine) (progress x.engine) history stopped.0.1 (has_entry history places stopped.0 whole.2 stopped.1) stopped.2
     (running_core o.engine.core sound.core) led.told)
+
+-- The entries that led from the opening engine to the one that comes back.
+pub led_at_end : {R B : Type 0} (disk : R → Disk) (faults : R → ℕ) (meaning : B → Pairs) (sort : B → Kind) (o x : SharedEngine R B) (first : Maybe (SharedEngine R B)) (seen : List TurnEntry) (places : List (ℕ × TurnEntry))
+    → IsWhole (λ (w : SharedEngine R B) (es : List TurnEntry) (z : SharedEngine R B). StandsFor disk faults meaning sort w.engine es z.engine) first seen places x → first ≡ Some o → IsOpening disk meaning sort o.engine
+    → (es : List TurnEntry) × AreOf disk faults meaning sort o.engine es x.engine
+led_at_end {R} {B} disk faults meaning sort o x first seen places whole known sound =
+    (seen ++ whole.0, subst (λ (m : Maybe (SharedEngine R B)). IfSome m (λ z. StandsFor disk faults meaning sort z.engine (seen ++ whole.0) x.engine)) known whole.1 sound)

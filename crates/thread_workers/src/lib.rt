@@ -1,18 +1,18 @@
-//! Workers: who runs the processes of one engine beside others, each with a gate of its own.
+//! Workers: threads that run the processes of one engine, each with a gate of its own.
 //!
-//! The engine lies in a desk of `history_lock` (`shared_engine`). `give_jobs` gives each gate a seat at it, which is a worker's job;
-//! `run_job` has the worker make its rounds, and `take_all_in` joins the seats when all have stopped. A worker asks for any piece in a turn, lets
-//! its gate work outside of any turn, and ends the piece in another turn; while nothing is free it sleeps until a piece has ended. What a
-//! worker knows from round to round, and why it stops, is `specs/Workers`; what all of them leave is one history, of which each entry is
-//! the call of one worker (`specs/History`). The threads themselves are still to come: nothing here starts one. `MeetingGate` is for tests of them.
+//! `run_workers` opens a desk of `history_lock` on the engine (`shared_engine`), gives each gate a thread and a seat, and closes
+//! the desk when all have stopped. A worker asks for any piece in a turn, lets its gate work outside of any turn, and ends the
+//! piece in another turn; while nothing is free it sleeps until a piece has ended. What they all did is one history, of which each
+//! entry is the call of one worker (`specs/History`). No clause says that two of them ran at once; `MeetingGate` is for tests of
+//! that.
 #![tactic(auto)]
 
 mod crew;
 mod meeting;
 mod rounds;
+mod run;
 mod seats;
 mod working;
 
-pub use crew::{Job, run_job};
 pub use meeting::MeetingGate;
-pub use seats::{give_jobs, take_all_in};
+pub use run::{Ran, run_workers};
