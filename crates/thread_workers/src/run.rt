@@ -43,7 +43,7 @@ fn outcome_of<R: Rack + Drop, B: Resource>(
 }
 
 /// Runs the processes of a settled engine by as many workers as there are gates, until all processes have ended or one is stuck, or
-/// a call fails. It may wait. The gates come back in their order.
+/// a call fails. It may wait. As many gates come back.
 pub fn run_workers<
     H: Threads + Wait + Sync,
     R: Rack + Drop + Send,

@@ -107,7 +107,7 @@ fn take_in<R: Rack + Drop, B: Resource, G: Gate>(
     }
 }
 
-/// Takes in all workers' seats, and hands their gates back in their order. Says why the first of the workers stopped.
+/// Takes in all workers' seats, and hands their gates back. Says why the first of the workers stopped.
 pub fn take_all_in<R: Rack + Drop, B: Resource, G: Gate>(
     desk: &Desk<SharedEngine<R, B>>,
     seat: Seat<SharedEngine<R, B>>,
