@@ -16,7 +16,7 @@ def parse(text):
     def block():
         nonlocal at
         steps, choice = [], []
-        while at < len(text) and text[at] in "cpr":
+        while at < len(text) and text[at] in "cprb":
             steps.append(len(kinds))
             kinds.append(text[at])
             at += 1
@@ -60,8 +60,23 @@ def verdict(text):
     def goes_on(done):
         return [path[len(done)] for path in paths if path[: len(done)] == done and len(path) > len(done)]
 
+    def owed(done):
+        """The steps behind these through last alternatives."""
+        steps = []
+        while goes_on(done + steps):
+            steps.append(max(goes_on(done + steps)))
+        return steps
+
+    def fixed_len(done):
+        """How many of these stand up to the last commit point. A step of both kinds is one where it is owed behind another."""
+        fixed = 0
+        for place, step in enumerate(done):
+            if kinds[step] in "pr" or (kinds[step] == "b" and fixed and step in owed(done[:fixed])):
+                fixed = place + 1
+        return fixed
+
     def fallback(done, refused):
-        fixed = max((place + 1 for place, step in enumerate(done) if kinds[step] in "pr"), default=0)
+        fixed = fixed_len(done)
         ways = [(step, kept) for kept in range(fixed, len(done) + 1) for step in goes_on(done[:kept]) if step > refused]
         return (fixed, *min(ways)) if ways else (fixed, None, None)
 
@@ -98,7 +113,7 @@ def main():
         return
     table = os.path.join(os.path.dirname(os.path.abspath(__file__)), "src", "table.rt")
     with open(table) as lines:
-        rows = [line.rstrip('";\n').split(" ", 1) for line in lines if set(line.split(" ")[0]) <= set("cpr(|)")]
+        rows = [line.rstrip('";\n').split(" ", 1) for line in lines if set(line.split(" ")[0]) <= set("cprb(|)")]
     wrong = 0
     for text, told in rows:
         found = verdict(text)

@@ -1,39 +1,23 @@
 -- Where no operation that is held may conflict with that of an entry, nothing stands against it.
-use Rattle.std.proofs.Common.{◌≡◌, ℕ, zero, suc, Bool, true, false, not, ◌||◌, ◌&&◌, List, [], ◌∷◌, map, take, None, refl, ap, ◌∙◌, sym}
-use Rattle.std.specs.Prelude.{nat_eq}
+use Rattle.std.proofs.Common.{◌≡◌, ℕ, zero, suc, false, ◌||◌, List, [], ◌∷◌, map, take, None, refl, ap, ◌∙◌}
 use Rattle.std.specs.List.{list_any}
-use Rattle.std.proofs.lemmas.Bool.{false≢true}
-use Rattle.process_tree.specs.declared.conflicts.Mode.{Mode}
-use Rattle.process_tree.specs.declared.conflicts.Mode.TheVariants.{Never, Key, Always}
 use Rattle.process_tree.specs.declared.entry.Entry.{Entry}
-use Rattle.process_tree.specs.Conflicts.{Table, covers, do_conflict, mode_of}
+use Rattle.process_tree.specs.Conflicts.{Table, do_conflict}
 use Rattle.schedule_model.specs.Blocking.{Clash, against}
-use Rattle.schedule_model.specs.Conflict.{conflict}
 use Rattle.machine_model.specs.declared.blocked.Rule.{Rule}
 use Rattle.machine_model.specs.Blocks.{by_rule, least_block}
 use Rattle.hold_tables.specs.Tables.{reserved_entry}
-use Rattle.hold_tables.specs.Operations.{is_conflict, may_conflict, ops_of}
+use Rattle.hold_tables.specs.Operations.{may_conflict, ops_of}
+use Rattle.hold_tables.proofs.HeldOps.{no_conflict}
 use Rattle.hold_tables.proofs.Marks.{neither_of}
 use Rattle.admission.specs.Least.{least_on}
 
-covers_none : (m : Mode) (k l : ℕ) → is_conflict m ≡ false → covers m k l ≡ false
-covers_none Never k l none = refl
-covers_none Key k l none = absurd (false≢true (sym none))
-covers_none Always k l none = absurd (false≢true (sym none))
-
-none_behind : (b : Bool) → (b && false) ≡ false
-none_behind true = refl
-none_behind false = refl
-
 module _ (table : Table) (b : Entry) where
-  no_conflict : (e : Entry) → may_conflict table b.op e.op ≡ false → conflict (do_conflict table) b e ≡ false
-  no_conflict e none = ap (not (nat_eq b.process e.process) &&◌) (covers_none (mode_of table b.op e.op) b.key e.key none) ∙ none_behind (not (nat_eq b.process e.process))
-
   pub none_against : (es : List Entry) → list_any (may_conflict table b.op) (ops_of es) ≡ false → against (do_conflict table) b es ≡ []
   none_against [] none = refl
   none_against (e ∷ es) none =
       let parts = neither_of (may_conflict table b.op e.op) (list_any (may_conflict table b.op) (ops_of es)) none in
-      rw (no_conflict e parts.0) (none_against es parts.1)
+      rw (no_conflict table b e parts.0) (none_against es parts.1)
 
   pub none_on : (rule : Rule) (es : List Entry) → list_any (may_conflict table b.op) (ops_of es) ≡ false → least_on (do_conflict table) rule b es ≡ None
   none_on rule es none = ap (λ (cs : List Clash). least_block (by_rule rule cs)) (none_against es none)

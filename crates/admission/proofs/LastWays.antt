@@ -6,8 +6,8 @@ use Rattle.process_tree.specs.declared.play.Place.{Place}
 use Rattle.process_tree.specs.declared.play.Place.TheVariants.{Step, End}
 use Rattle.process_tree.specs.Blocks.{outline}
 use Rattle.process_tree.specs.Making.{tree_fault}
-use Rattle.process_tree.specs.Recovery.{last_after, last_place_after, place_of}
-use Rattle.process_tree.specs.Shape.{branch_to, greatest, next_steps, shape_of}
+use Rattle.process_tree.specs.Recovery.{last_place_after, place_of}
+use Rattle.process_tree.specs.Shape.{branch_to, greatest, next_steps, shape_of, last_after}
 use Rattle.process_tree.specs.Stands.{left_from}
 use Rattle.process_tree.proofs.InTurn.{goes_up, greatest_is, last_after_none, last_on, step_within}
 use Rattle.process_tree.proofs.Onward.{branch_from}

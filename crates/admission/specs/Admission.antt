@@ -1,13 +1,14 @@
 -- Admission: what stands against a piece, by the tables of what the open processes hold.
-use Rattle.std.specs.Prelude.{◌≡◌, ◌<◌, ℕ, Bool, ◌&&◌, length, List, [], ◌∷◌, ◌++◌, filter, find, map, nat_eq, if◌then◌else◌, Option, Some, None}
+use Rattle.std.specs.Prelude.{◌≡◌, ◌<◌, ℕ, Bool, ◌&&◌, length, List, [], ◌∷◌, ◌++◌, filter, find, map, nat_eq, if◌then◌else◌}
+use Rattle.std.specs.Prelude.{Option, Some, None}
 use Rattle.process_tree.specs.declared.entry.Entry.{Entry}
 use Rattle.process_tree.specs.declared.plan.Plan.{Plan}
 use Rattle.process_tree.specs.Blocks.{outline}
 use Rattle.process_tree.specs.Conflicts.{do_conflict, operations_in}
 use Rattle.process_tree.specs.Entries.{entry_of}
 use Rattle.process_tree.specs.Order.{Each}
-use Rattle.process_tree.specs.Recovery.{StepClass, reserved, class_by_kind, last_after}
-use Rattle.process_tree.specs.Shape.{branch_to, greatest, kind_of, shape_of}
+use Rattle.process_tree.specs.Recovery.{StepClass, reserved, class_by_kind}
+use Rattle.process_tree.specs.Shape.{branch_to, greatest, kind_of, shape_of, last_after}
 use Rattle.schedule_model.specs.Blocking.{Clashes, against_end, against_step, against_undo}
 use Rattle.schedule_model.specs.Histories.{is_in}
 use Rattle.machine_model.specs.declared.blocked.Admitted.{Admitted}

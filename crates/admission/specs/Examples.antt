@@ -80,7 +80,8 @@ pub taken_on_another_key : admission (under_way_on 2 1 0 add (open_in Key)) sale
 taken_on_another_key = refl
 
 -- a payment that will owe a taking is under way, and nothing is added
-pub added_before_owed : admission (changed (with_reserved ((1, take, 1) ∷ [])) 1 (under_way 1 0 pay both_open)) (plan_of C add C pay) 2 (Forward 0) ≡ blocked 1 1 0 A1
+pub added_before_owed : admission (changed (with_reserved ((1, take, 1) ∷ [])) 1 (under_way 1 0 pay both_open))
+    (plan_of C add C pay) 2 (Forward 0) ≡ blocked 1 1 0 A1
 added_before_owed = refl
 
 -- such a payment isn't begun while what was added may be taken back
@@ -88,7 +89,8 @@ pub owed_after_added : admission (first_done 2 add both_open) (plan_of P pay R t
 owed_after_added = refl
 
 -- the taking that is owed then isn't held back by its class
-pub owed_goes_on : admission (changed (with_reserved ((1, take, 1) ∷ [])) 1 (first_done 1 pay both_open)) (plan_of P pay R take) 1 (Forward 1) ≡ Free
+pub owed_goes_on : admission (changed (with_reserved ((1, take, 1) ∷ [])) 1 (first_done 1 pay both_open)) (plan_of P pay R take) 1
+    (Forward 1) ≡ Free
 owed_goes_on = refl
 
 -- one has added, and would end with a note; the other began with a note, and is taking

@@ -21,13 +21,15 @@ use Rattle.admission.specs.Least.{least_on, least_over, least_with, lesser_of}
 abbrev pub pending_of : List Entry → OpenProcess → List Entry
 pending_of net r = lasts r.pending (of_process r.process net)
 
--- what one process has against an entry: against the next step what is under way, reserved or to be undone; against a step that would
--- be owed what is under way or reserved
+-- what one process has against an entry: against the next step what is under way, reserved or to be undone; against a step that
+-- would be owed what is under way or reserved
 abbrev pub least_of_process : Tables → Sought → Entry → OpenProcess → Option Blocked
 least_of_process t Next b r =
     let table = do_conflict t.conflicts in
-    lesser_of (least_on table A0 b (running_of r)) (lesser_of (least_on table A1 b (reserved_of r)) (least_on table A1 b (pending_of t.net r)))
-least_of_process t Owed s r = let table = do_conflict t.conflicts in lesser_of (least_on table A4 s (running_of r)) (least_on table A4 s (reserved_of r))
+    lesser_of (least_on table A0 b (running_of r))
+    (lesser_of (least_on table A1 b (reserved_of r)) (least_on table A1 b (pending_of t.net r)))
+least_of_process t Owed s r =
+    let table = do_conflict t.conflicts in lesser_of (least_on table A4 s (running_of r)) (least_on table A4 s (reserved_of r))
 
 -- what the process of this number has against an entry, if there is one, or else another block, the lesser of the two
 abbrev pub with_process : Tables → Sought → Entry → Option ℕ → Option Blocked → Option Blocked
@@ -62,7 +64,8 @@ least_against_steps t plan i steps = least_over (λ s. least_against_owed t (ent
 
 -- the least of an entry that a walk of the conflict graph leads to, where it conflicts with b, and of another block
 abbrev pub with_circle : Tables → Entry → Entry → Option Blocked → Option Blocked
-with_circle t b e least = let table = do_conflict t.conflicts in if reaches table (holdings_of t) b.process e.process then least_with table A2 b e least else least
+with_circle t b e least = let table = do_conflict t.conflicts in
+    if reaches table (holdings_of t) b.process e.process then least_with table A2 b e least else least
 
 -- so many further on
 abbrev pub further : ℕ → Option ℕ → Option ℕ

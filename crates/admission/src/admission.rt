@@ -39,7 +39,8 @@ pub fn is_reserved(holds: &Holds, process: u32, step: u16) -> bool
 fn least_committing(holds: &Holds, plan: &Plan, process: u32, step: u16) -> Option<Blocked>
     requires step { step < length (outline plan.now.tree).steps }
     requires plan { IsPlanFor holds.now plan.now }
-    ensures { result ≡ least_block (by_rule A3 (with_active (do_conflict holds.now.conflicts) (holdings_of holds.now) (entry_of plan.now process step))
+    ensures { result ≡ least_block
+        (by_rule A3 (with_active (do_conflict holds.now.conflicts) (holdings_of holds.now) (entry_of plan.now process step))
         ++ by_rule A4 (with_owed (do_conflict holds.now.conflicts) (holdings_of holds.now) (owed_behind plan.now process step))) }
 {
     let own = entry_of(plan, process, step);
@@ -61,7 +62,7 @@ fn least_of_step(holds: &Holds, plan: &Plan, process: u32, step: u16) -> Option<
         return held;
     }
     match plan.tree.step(step).kind {
-        StepKind::C => lesser_of(held, least_in_circle(holds, own)),
+        StepKind::C | StepKind::Cr => lesser_of(held, least_in_circle(holds, own)),
         StepKind::P | StepKind::R => {
             lesser_of(held, least_committing(holds, plan, process, step))
         }

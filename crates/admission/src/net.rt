@@ -61,7 +61,8 @@ fn least_before(holds: &Holds, y: Entry, place: usize) -> Option<Blocked>
 /// The least block of the entry at a place, if it is of the process, on what stands in front of it.
 fn least_at(holds: &Holds, process: u32, place: usize) -> Option<Blocked>
     requires { place < length holds.now.net }
-    ensures { (d : Entry) → result ≡ least_front (do_conflict holds.now.conflicts) process (take place holds.now.net) (slice_index_or holds.now.net place d) }
+    ensures { (d : Entry) → result ≡ least_front (do_conflict holds.now.conflicts) process (take place holds.now.net)
+        (slice_index_or holds.now.net place d) }
 {
     let y = holds.net_at(place);
     if y.process == process {

@@ -1,5 +1,5 @@
--- The command `bulk`: nine empty files are made those of a generated scenario, its processes start in the order of its text, and then they
--- are run.
+-- The command `bulk`: nine empty files are made those of a generated scenario, its processes start in the order of its text, and
+-- then they are run.
 use Rattle.std.specs.Prelude.{◌≡◌, ◌⊎◌, ◌≤◌, ℕ, List, [], ◌++◌, Some, None, Result, Ok, Err}
 use Rattle.process_flow.specs.Causes.{Rose}
 use Rattle.process_disk.specs.Disk.{Disk, FileSet, Told}
@@ -41,8 +41,9 @@ pub record SinceMade (holds : ℕ → Type 0) (old new : Disk) : Type 0 where
   pub by_now : moment ≤ new.moment
   pub since : holds moment
 
--- The files, where they are told, were empty, and were made those of a history without events. Since then what came was kept in turn, or an
--- image is ahead of it. Unless a call of the rack failed they are sound for the history now, and so is each image of them from now on.
+-- The files, where they are told, were empty, and were made those of a history without events. Since then what came was kept in
+-- turn, or an image is ahead of it. Unless a call of the rack failed they are sound for the history now, and so is each image of
+-- them from now on.
 pub record AreMadeAndKept (c : Catalog) (now : CoreState) (IsAhead : FileSet → Type 0) (on : Phase) (old new : Disk) : Type 0 where
   pub came : List (ℕ × Event)
   pub events : history_of now ≡ events_of came
@@ -51,41 +52,47 @@ pub record AreMadeAndKept (c : Catalog) (now : CoreState) (IsAhead : FileSet →
   pub read : on ≡ Settled → Told old → IsSound c (full_history now) new.files
   pub each : on ≡ Settled → Told old → EachImage new new.moment (IsSound c (full_history now))
 
--- A run on files that were made for it, up to now. The machine opened on a history without events; processes of these plans started, in this
--- order, and since then all were only run, by the gate.
+-- A run on files that were made for it, up to now. The machine opened on a history without events; processes of these plans
+-- started, in this order, and since then all were only run, by the gate.
 abbrev pub IsRunAnew : AskedGate → Catalog → List Plan → List Plan → CoreState → Phase → Files → Files → Type 0
-IsRunAnew gate c plans started now on before after = HasGone gate c no_history started now × AreMadeAndKept c now (IsOneAhead c plans now on) on before.disk after.disk
+IsRunAnew gate c plans started now on before after =
+    HasGone gate c no_history started now × AreMadeAndKept c now (IsOneAhead c plans now on) on before.disk after.disk
 
 -- The files were made, and the processes don't all fit within the limits: nothing was kept.
 abbrev pub IsPastLimitAnew : Catalog → List Plan → Files → Files → Refusal → Type 0
 IsPastLimitAnew c plans before after r =
-    (limit : StartLimit) × (r ≡ limit_refusal limit) × (limit_passed (opened_on c.conflicts [] []) plans ≡ Some limit) × AreMade c before after
+    (limit : StartLimit) × (r ≡ limit_refusal limit) × (limit_passed (opened_on c.conflicts [] []) plans ≡ Some limit)
+    × AreMade c before after
 
 -- A run was cut off once the first of the processes had started, or all: memory was wanting, or a call of the rack failed.
 abbrev pub IsCutOffAnew : AskedGate → Catalog → List Plan → Files → Files → Refusal → Type 0
 IsCutOffAnew gate c plans before after r =
     (started rest : List Plan) × (now : CoreState) × (plans ≡ started ++ rest)
-    × (((r ≡ NoMemory) × IsRunAnew gate c plans started now Settled before after) ⊎ ((r ≡ DiskFault) × IsRunAnew gate c plans started now Closed before after × Rose before.faults after.faults))
+    × (((r ≡ NoMemory) × IsRunAnew gate c plans started now Settled before after)
+    ⊎ ((r ≡ DiskFault) × IsRunAnew gate c plans started now Closed before after × Rose before.faults after.faults))
 
 -- the line of a core's history
 abbrev pub line_in : CoreState → List ℕ
 line_in core = summary_line (summary_of (full_history core))
 
--- All have ended, and the line of the history is printed; or this process is stuck, since it has no try left, and behind the line stands
--- one that says so.
+-- All have ended, and the line of the history is printed; or this process is stuck, since it has no try left, and behind the line
+-- stands one that says so.
 abbrev pub SaysBulk : CoreState → Said → Type 0
 SaysBulk now said =
     ((said.status ≡ statuses.Done) × (active (history_of now) ≡ []) × (said.text.items ≡ line_in now))
-    ⊎ ((i : ℕ) × (said.status ≡ statuses.Exhausted) × ((answer_in now next).reply ≡ next_is (stuck i)) × (said.text.items ≡ line_in now ++ exhausted_line now i))
+    ⊎ ((i : ℕ) × (said.status ≡ statuses.Exhausted) × ((answer_in now next).reply ≡ next_is (stuck i))
+    × (said.text.items ≡ line_in now ++ exhausted_line now i))
 
--- What there is to say of a run of these processes on files that are made for them: its line. Else it is refused, in this order: the files,
--- and what would pass a limit; or it was cut off.
+-- What there is to say of a run of these processes on files that are made for them: its line. Else it is refused, in this order:
+-- the files, and what would pass a limit; or it was cut off.
 abbrev pub IsBulkOf : AskedGate → Catalog → List Plan → Files → Files → Result Said Refusal → Type 0
-IsBulkOf gate c plans before after (Ok said) = (now : CoreState) × IsRunAnew gate c plans plans now Settled before after × SaysBulk now said
-IsBulkOf gate c plans before after (Err r) = AreNotMade r before after ⊎ IsPastLimitAnew c plans before after r ⊎ IsCutOffAnew gate c plans before after r
+IsBulkOf gate c plans before after (Ok said) =
+    (now : CoreState) × IsRunAnew gate c plans plans now Settled before after × SaysBulk now said
+IsBulkOf gate c plans before after (Err r) =
+    AreNotMade r before after ⊎ IsPastLimitAnew c plans before after r ⊎ IsCutOffAnew gate c plans before after r
 
--- What there is to say of a run of the scenario that this text is. Where it is the text of no scenario with well-formed processes, or memory
--- is wanting for it, that is told, and the files are left as they were.
+-- What there is to say of a run of the scenario that this text is. Where it is the text of no scenario with well-formed processes,
+-- or memory is wanting for it, that is told, and the files are left as they were.
 abbrev pub IsBulkDue : AskedGate → List ℕ → Files → Files → Result Said Refusal → Type 0
 IsBulkDue gate text before after found =
     (IsSaidOfNone (IsNotBound text) found × AreUntouched before after)

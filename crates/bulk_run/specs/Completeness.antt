@@ -23,8 +23,9 @@ pub record AreEmptyFiles (files : Files) : Type 0 where
   pub told : Told files.disk
   pub empty : first_used files.disk.files ≡ None
 
--- Where the text is such a scenario, the files are empty and the rack failed no call, the line is there: all processes have ended, or one is
--- stuck; or memory was wanting.
+-- Where the text is such a scenario, the files are empty and the rack failed no call, the line is there: all processes have ended,
+-- or one is stuck; or memory was wanting.
 abbrev pub IsBulkComplete : List ℕ → Files → Files → Result Said Refusal → Type 0
 IsBulkComplete text before after found =
-    (c : Catalog) (plans : List Plan) → IsScenarioThatFits text c plans → AreEmptyFiles before → ¬ Rose before.faults after.faults → IsReportThere found
+    (c : Catalog) (plans : List Plan) → IsScenarioThatFits text c plans → AreEmptyFiles before → ¬ Rose before.faults after.faults
+    → IsReportThere found

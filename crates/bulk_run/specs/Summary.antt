@@ -65,7 +65,8 @@ number_text words n = words ++ decimal n
 -- the numbers of events
 unfoldable pub event_numbers : Summary → List ℕ
 event_numbers s =
-    number_text (codes "processes ") s.processes ++ number_text (codes " acts ") s.acts ++ number_text (codes " undos ") s.undos ++ number_text (codes " ends ") s.ends
+    number_text (codes "processes ") s.processes ++ number_text (codes " acts ") s.acts ++ number_text (codes " undos ") s.undos
+    ++ number_text (codes " ends ") s.ends
 
 -- the numbers of a trace, and the end of the line
 unfoldable pub trace_numbers : Summary → List ℕ

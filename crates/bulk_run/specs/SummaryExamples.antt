@@ -11,10 +11,12 @@ abbrev entry : ℕ → ℕ → Bool → Entry
 entry process step undo = record { process = process; step = step; op = 0; key = 1; undo = undo }
 
 -- an undo is no act, and a move no cancel
-pub of_two : counted (Start 1 ∷ Start 2 ∷ Act (entry 1 0 false) ∷ Act (entry 2 0 false) ∷ Act (entry 1 0 true) ∷ End 1 ∷ []) (Move 1 2 ∷ Cancel 2 ∷ [])
+pub of_two : counted (Start 1 ∷ Start 2 ∷ Act (entry 1 0 false) ∷ Act (entry 2 0 false) ∷ Act (entry 1 0 true) ∷ End 1 ∷ [])
+    (Move 1 2 ∷ Cancel 2 ∷ [])
     ≡ record { processes = 2; acts = 2; undos = 1; ends = 1; moves = 1; cancels = 1 }
 of_two = refl
 
-pub a_line : summary_line (record { processes = 1; acts = 5; undos = 0; ends = 1; moves = 0; cancels = 0 }) ≡ codes "processes 1 acts 5 undos 0 ends 1 moves 0 cancels 0\n"
+pub a_line : summary_line (record { processes = 1; acts = 5; undos = 0; ends = 1; moves = 0; cancels = 0 })
+    ≡ codes "processes 1 acts 5 undos 0 ends 1 moves 0 cancels 0\n"
 unfolding digits event_numbers trace_numbers
 a_line = refl

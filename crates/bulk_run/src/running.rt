@@ -58,7 +58,10 @@ fn run_started<R: Rack + Drop, B: Resource, G: Gate>(
     requires alone { NothingRuns engine.old.core }
     ensures ran { RanBy R.disk R.faults (asked G.Gate gate.old gate.new) engine.old engine.new }
     ensures said { IfOk result (λ s. (engine.new.phase ≡ phase.Settled) × SaysBulk engine.new.core s) }
-    ensures refused { IfErr result (λ r. ((r ≡ Refusal.NoMemory) × (engine.new.phase ≡ phase.Settled)) ⊎ ((r ≡ Refusal.DiskFault) × (engine.new.phase ≡ phase.Closed) × Rose (R.faults engine.old.files.rack) (R.faults engine.new.files.rack))) }
+    ensures refused { IfErr result
+        (λ r. ((r ≡ Refusal.NoMemory) × (engine.new.phase ≡ phase.Settled))
+        ⊎ ((r ≡ Refusal.DiskFault) × (engine.new.phase ≡ phase.Closed)
+        × Rose (R.faults engine.old.files.rack) (R.faults engine.new.files.rack))) }
     ensures fits { EachFits B.meaning B.sort engine.new.files.stores }
 {
     let outcome = run_alone(engine, gate);
@@ -78,19 +81,21 @@ fn run_on<R: Rack + Drop, B: Resource, G: Gate>(
     requires plans { Each (λ p. IsPlanFor engine.old.catalog p × IsGoodPlan p) plans.items }
     requires few { length plans.items ≤ 256 }
     ensures goes { GoesOn R.disk R.faults plans.items engine.old engine.new }
-    ensures ran { IfOk result (λ s. HasGone (asked G.Gate gate.old gate.new) engine.old.catalog (full_history engine.old.core) plans.items engine.new.core × (engine.new.phase ≡ phase.Settled) × SaysBulk engine.new.core s) }
+    ensures ran { IfOk result
+        (λ s. HasGone (asked G.Gate gate.old gate.new) engine.old.catalog (full_history engine.old.core) plans.items engine.new.core
+        × (engine.new.phase ≡ phase.Settled) × SaysBulk engine.new.core s) }
     ensures refused { IfErr result (λ r. IsStopped (asked G.Gate gate.old gate.new) R.faults engine.old engine.new plans.items r) }
     ensures fits { EachFits B.meaning B.sort engine.new.files.stores }
 {
-    engine.is_sound();
+    engine.invariant_holds();
     all_fit(engine, &plans)?;
     if let Err(refusal) = start_all(alloc, engine, plans) {
-        engine.is_sound();
+        engine.invariant_holds();
         return Err(refusal);
     }
-    engine.is_sound();
+    engine.invariant_holds();
     let found = run_started(alloc, engine, gate);
-    engine.is_sound();
+    engine.invariant_holds();
     found
 }
 
@@ -105,7 +110,8 @@ fn run_anew<R: Rack + Drop, B: Resource, G: Gate>(
     requires plans { Each (λ p. IsPlanFor bound.catalog p × IsGoodPlan p) bound.plans.items }
     requires few { length bound.plans.items ≤ 256 }
     requires boxes { AreBoxes B.sort parts.resources.items }
-    ensures due { IsBulkOf (asked G.Gate gate.old gate.new) bound.catalog bound.plans.items (files R.Rack parts.rack) (files R.Rack result.parts.rack) result.found }
+    ensures due { IsBulkOf (asked G.Gate gate.old gate.new) bound.catalog bound.plans.items (files R.Rack parts.rack)
+        (files R.Rack result.parts.rack) result.found }
     ensures late { IfErr result.found (λ r. comes_before_files r ≡ false) }
     ensures said { IfOk result.found (λ s. s.status ≢ Status.IllFormed) }
     ensures back { AreBoxes B.sort result.parts.resources.items }
@@ -116,9 +122,9 @@ fn run_anew<R: Rack + Drop, B: Resource, G: Gate>(
     match Engine::create(alloc, parts, catalog) {
         Ok(engine) => {
             let mut engine = engine;
-            engine.is_sound();
+            engine.invariant_holds();
             let found = run_on(alloc, &mut engine, plans, gate);
-            engine.is_sound();
+            engine.invariant_holds();
             CommandEnd {
                 parts: engine.into_parts(),
                 found,
@@ -131,8 +137,8 @@ fn run_anew<R: Rack + Drop, B: Resource, G: Gate>(
     }
 }
 
-/// Makes nine empty files those of the scenario of two numbers, and runs each of its processes once, with a gate that works on one piece after
-/// another. The line of what came is written once all have ended or one is stuck.
+/// Makes nine empty files those of the scenario of two numbers, and runs each of its processes once, with a gate that works on one
+/// piece after another. The line of what came is written once all have ended or one is stuck.
 pub fn bulk<R: Rack + Drop, B: Resource, G: Gate>(
     alloc: Global,
     number: u64,
@@ -142,8 +148,10 @@ pub fn bulk<R: Rack + Drop, B: Resource, G: Gate>(
 ) -> CommandEnd<Parts<R, B>>
     requires range { (1 ≤ count) × (count ≤ 256) }
     requires boxes { AreBoxes B.sort parts.resources.items }
-    ensures due { IsBulkDue (asked G.Gate gate.old gate.new) (generated number count) (files R.Rack parts.rack) (files R.Rack result.parts.rack) result.found }
-    ensures complete { IsBulkComplete (generated number count) (files R.Rack parts.rack) (files R.Rack result.parts.rack) result.found }
+    ensures due { IsBulkDue (asked G.Gate gate.old gate.new) (generated number count) (files R.Rack parts.rack)
+        (files R.Rack result.parts.rack) result.found }
+    ensures complete { IsBulkComplete (generated number count) (files R.Rack parts.rack)
+        (files R.Rack result.parts.rack) result.found }
     ensures early { IfErr result.found (λ r. comes_before_files r ≡ true → result.parts.rack ≡ parts.rack) }
     ensures ill_formed { IfOk result.found (λ s. s.status ≡ Status.IllFormed → result.parts.rack ≡ parts.rack) }
     ensures back { AreBoxes B.sort result.parts.resources.items }

@@ -30,7 +30,7 @@ fn line_now<R: Rack + Drop, B: Resource>(
     ensures { IfOk result (λ text. text.items ≡ line_in engine.now.core) }
 {
     journals_keep_histories();
-    engine.is_sound();
+    engine.invariant_holds();
     let summary = summed_up(alloc, engine.history(), &engine.catalog().conflicts)?;
     let line = summary_line(alloc, summary)?;
     Ok(line)
@@ -64,7 +64,9 @@ pub fn said_of<R: Rack + Drop, B: Resource>(
     requires ready { outcome ≢ RunOutcome.DiskFault → IsReady B.meaning B.sort engine.old }
     ensures said { IfOk result (SaysBulk engine.old.core) }
     ensures settled { IfOk result (λ s. outcome ≢ RunOutcome.DiskFault) }
-    ensures refused { IfErr result (λ r. ((r ≡ Refusal.NoMemory) × (outcome ≢ RunOutcome.DiskFault)) ⊎ ((r ≡ Refusal.DiskFault) × (outcome ≡ RunOutcome.DiskFault))) }
+    ensures refused { IfErr result
+        (λ r. ((r ≡ Refusal.NoMemory) × (outcome ≢ RunOutcome.DiskFault))
+        ⊎ ((r ≡ Refusal.DiskFault) × (outcome ≡ RunOutcome.DiskFault))) }
     ensures left { engine.new ≡ engine.old }
 {
     match outcome {

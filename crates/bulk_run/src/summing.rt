@@ -4,7 +4,8 @@ ghost use Rattle.process_tree.specs.Conflicts.{operations_in, do_conflict};
 ghost use Rattle.schedule_model.specs.Course.{courses_of};
 ghost use Rattle.schedule_model.specs.Laws.{IsPlanned};
 ghost use Rattle.schedule_model.specs.Legal.{is_legal};
-ghost use Rattle.bulk_run.specs.Summary.{event_numbers, is_cancel, is_end, is_forward, is_move, is_start, is_undo, number_text, summary_line, summary_of, trace_numbers};
+ghost use Rattle.bulk_run.specs.Summary.{event_numbers, is_cancel, is_end, is_forward, is_move, is_start, is_undo, number_text};
+ghost use Rattle.bulk_run.specs.Summary.{summary_line, summary_of, trace_numbers};
 
 use process_tree::Conflicts;
 use reduction_trace::trace;

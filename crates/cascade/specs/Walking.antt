@@ -1,5 +1,6 @@
 -- Walking: who is dragged along, entry by entry in joint order.
-use Rattle.std.specs.Prelude.{◌≡◌, ◌<◌, true, ℕ, ◌-◌, Bool, false, not, ◌&&◌, ◌||◌, List, [], ◌∷◌, ◌++◌, filter, length, nat_eq, if◌then◌else◌, IsTrue, Option}
+use Rattle.std.specs.Prelude.{◌≡◌, ◌<◌, true, ℕ, ◌-◌, Bool, false, not, ◌&&◌, ◌||◌, List, [], ◌∷◌, ◌++◌, filter, length, nat_eq}
+use Rattle.std.specs.Prelude.{if◌then◌else◌, IsTrue, Option}
 use Rattle.std.specs.List.{list_any}
 use Rattle.std.specs.Option.{option_to_list}
 use Rattle.process_tree.specs.declared.entry.Entry.{Entry}
@@ -47,8 +48,10 @@ pub record IsOnTheWay (t : Tables) (root count : ℕ) (marks : List Mark) : Type
   pub begins : marked marks root ≡ true
   pub opened : (k : ℕ) → marked marks k ≡ true → is_open t k ≡ true
   -- whoever was looked at has dragged along all that it does
-  pub closed : (j k : ℕ) → done marks j ≡ true → is_open t k ≡ true → drags (do_conflict t.conflicts) (holdings_of t) root (last_entries t root count) j k ≡ true → marked marks k ≡ true
+  pub closed : (j k : ℕ) → done marks j ≡ true → is_open t k ≡ true
+      → drags (do_conflict t.conflicts) (holdings_of t) root (last_entries t root count) j k ≡ true → marked marks k ≡ true
   -- no closed set could do without one that is in
   pub least : (other : List ℕ) → IsTrue (is_in root other)
-      → ((j k : ℕ) → IsTrue (is_in j other) → IsTrue (is_in k (holders (holdings_of t))) → IsTrue (drags (do_conflict t.conflicts) (holdings_of t) root (last_entries t root count) j k) → IsTrue (is_in k other))
+      → ((j k : ℕ) → IsTrue (is_in j other) → IsTrue (is_in k (holders (holdings_of t)))
+      → IsTrue (drags (do_conflict t.conflicts) (holdings_of t) root (last_entries t root count) j k) → IsTrue (is_in k other))
       → (k : ℕ) → marked marks k ≡ true → IsTrue (is_in k other)

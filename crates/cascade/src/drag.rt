@@ -55,7 +55,9 @@ fn drag_at(holds: &Holds, running: &[Entry], place: usize, marks: &mut [Mark])
     requires place { place < length holds.now.net }
     requires net { Each (IsWithin holds.now.conflicts (length marks.old)) holds.now.net }
     requires running { Each (IsWithin holds.now.conflicts (length marks.old)) running.now }
-    ensures { (x : Entry) → x ≡ slice_index_or holds.now.net place x → IsMarked (has_hit (do_conflict holds.now.conflicts) x (drop (place + 1) holds.now.net ++ running.now)) marks.old marks.new }
+    ensures { (x : Entry) → x ≡ slice_index_or holds.now.net place x
+        → IsMarked (has_hit (do_conflict holds.now.conflicts) x
+        (drop (place + 1) holds.now.net ++ running.now)) marks.old marks.new }
 {
     let x = holds.net_at(place);
     drag_behind(holds, place, x, marks);

@@ -1,8 +1,8 @@
 //! Who has to go back together, and whether an undo may come, by the tables of what the open processes hold.
 //!
 //! `closure` writes the least cascade of `machine_model` (`Cascade.IsCascade`) into a set of processes, and `undo_ready` answers by
-//! rule A5 of `schedule_model` (`Blocking.against_undo`). Both are over the holdings for which the tables stand, and take no memory:
-//! the room of a set is taken before.
+//! rule A5 of `schedule_model` (`Blocking.against_undo`). Both are over the holdings for which the tables stand, and take no
+//! memory: the room of a set is taken before.
 #![tactic(auto)]
 
 mod drag;

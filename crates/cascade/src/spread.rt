@@ -135,8 +135,10 @@ pub fn closure(holds: &Holds, root: u32, count: u16, into: &mut Members)
     requires root { is_open holds.now root ≡ true }
     requires count { count + (kept_of holds.now root).fixed ≤ length (of_process root holds.now.net) }
     requires room { Each (λ r. r.process ≤ into.old.most) holds.now.processes }
-    ensures least { IsCascade (do_conflict holds.now.conflicts) (holdings_of holds.now) root (last_entries holds.now root count) into.new.members }
-    ensures computed { (k : ℕ) → is_in k into.new.members ≡ is_in k (cascade (do_conflict holds.now.conflicts) (holdings_of holds.now) root (last_entries holds.now root count)) }
+    ensures least { IsCascade (do_conflict holds.now.conflicts) (holdings_of holds.now) root
+        (last_entries holds.now root count) into.new.members }
+    ensures computed { (k : ℕ) → is_in k into.new.members
+        ≡ is_in k (cascade (do_conflict holds.now.conflicts) (holdings_of holds.now) root (last_entries holds.now root count)) }
     ensures room { into.new.most ≡ into.old.most }
 {
     gather(holds, into.most, &mut into.running);

@@ -16,7 +16,8 @@ files r rack = record { disk = r.disk rack; faults = r.faults rack }
 abbrev pub AreUntouched : Files → Files → Type 0
 AreUntouched before after = Told before.disk → AllAsBefore before.disk after.disk
 
--- those but file q, where they are told, read as before, and stand together in each crash image as a crash at the start may leave them
+-- those but file q, where they are told, read as before, and stand together in each crash image as a crash at the start may leave
+-- them
 abbrev pub AreOthersUntouched : ℕ → Files → Files → Type 0
 AreOthersUntouched q before after = Told before.disk → OthersAsBefore q before.disk after.disk
 

@@ -1,5 +1,6 @@
 -- The input of a command, and what is refused of it.
-use Rattle.std.specs.Prelude.{◌≡◌, ◌≤◌, ◌<◌, ◌⊎◌, ℕ, true, nat_lt, List, [], ◌∷◌, length, Option, Some, None, IfSome, ⊤, if◌then◌else◌}
+use Rattle.std.specs.Prelude.{◌≡◌, ◌≤◌, ◌<◌, ◌⊎◌, ℕ, true, nat_lt, List, [], ◌∷◌, length, Option, Some, None, IfSome, ⊤}
+use Rattle.std.specs.Prelude.{if◌then◌else◌}
 use Rattle.std.specs.Option.{option_map}
 use Rattle.std.specs.Io.KnownBytes.{IsAtEnd}
 use Rattle.process_flow.specs.Causes.{Rose}
@@ -71,7 +72,8 @@ IsRefused tests r before after = (comes_before_files r ≡ true) × IfSome befor
 -- no text came: there was more of it than may be, or the source failed, or memory was wanting
 abbrev pub HasNoText : Refusal → Input → Input → Type 0
 HasNoText r before after =
-    ((r ≡ Limit quantities.Input 1048577) × IfSome before.left (λ text. most_input < length text)) ⊎ ((r ≡ ReadFault) × Rose before.faults after.faults) ⊎ (r ≡ NoMemory)
+    ((r ≡ Limit quantities.Input 1048577) × IfSome before.left (λ text. most_input < length text))
+    ⊎ ((r ≡ ReadFault) × Rose before.faults after.faults) ⊎ (r ≡ NoMemory)
 
 -- what is told of a text that was not read
 abbrev pub text_refusal : TextError → Refusal

@@ -16,12 +16,13 @@ pub record Output : Type 0 where
 abbrev pub output : {K : Type 0} → Sinks K → K → Output
 output k sink = record { taken = k.taken sink; faults = k.faults sink }
 
--- the text went out, and the call ended at the status; or at that of a write fault, the sink's count rose, and a beginning of the text
--- went out
+-- the text went out, and the call ended at the status; or at that of a write fault, the sink's count rose, and a beginning of the
+-- text went out
 abbrev pub IsTold : Status → List ℕ → Output → Output → Status → Type 0
 IsTold status text before after ended =
     ((ended ≡ status) × Appends before.taken after.taken text)
-    ⊎ ((ended ≡ WriteFault) × Rose before.faults after.faults × ((sent : ℕ) × (sent < length text) × Appends before.taken after.taken (take sent text)))
+    ⊎ ((ended ≡ WriteFault) × Rose before.faults after.faults
+    × ((sent : ℕ) × (sent < length text) × Appends before.taken after.taken (take sent text)))
 
 -- the line of a refusal
 abbrev pub refusal_line : Refusal → List ℕ

@@ -21,7 +21,18 @@ add_alone = record { name = codes "add"; subsystem = 0; verb = Add } ∷ []
 
 -- a step of `add`
 abbrev pub adding : List ℕ → ℕ → Step
-adding name amount = record { kind = C; name = name; op = codes "add"; key = 1; amount = pos amount; tries = 3; undo_tries = 3; refuse = 0; undo_refuse = 0 }
+adding name amount =
+    record {
+      kind = C;
+      name = name;
+      op = codes "add";
+      key = 1;
+      amount = pos amount;
+      tries = 3;
+      undo_tries = 3;
+      refuse = 0;
+      undo_refuse = 0;
+    }
 
 -- process a c x add 1 5 c y add 1 6 end
 abbrev pub two_adds : Named
@@ -31,7 +42,22 @@ two_adds = record { name = codes "a"; tree = record { steps = adding (codes "x")
 abbrev pub flying : Named
 flying = record {
   name = codes "a";
-  tree = record { steps = record { kind = C; name = codes "x"; op = codes "fly"; key = 1; amount = pos 5; tries = 3; undo_tries = 3; refuse = 0; undo_refuse = 0 } ∷ []; tail = End };
+  tree =
+      record {
+        steps =
+            record {
+              kind = C;
+              name = codes "x";
+              op = codes "fly";
+              key = 1;
+              amount = pos 5;
+              tries = 3;
+              undo_tries = 3;
+              refuse = 0;
+              undo_refuse = 0;
+            } ∷ [];
+        tail = End;
+      };
 }
 
 -- both steps of the first have the operation 0

@@ -1,5 +1,5 @@
--- What a scenario gives a command: a catalog and the plans of its processes, or why there are none. It is looked at in this order: its
--- document, the text of its processes, their operations, and whether they are well-formed.
+-- What a scenario gives a command: a catalog and the plans of its processes, or why there are none. It is looked at in this order:
+-- its document, the text of its processes, their operations, and whether they are well-formed.
 use Rattle.std.specs.Prelude.{◌≡◌, ◌⊎◌, ℕ, List, [], ◌∷◌, Some, None, Ok, Err, ⊤}
 use Rattle.process_tree.specs.Blocks.{outline}
 use Rattle.process_tree.specs.declared.plan.Plan.{Plan}
@@ -57,7 +57,8 @@ IsUnknown ops p name = numbers_bound ops [] (outline p.tree).steps ≡ Err (bind
 
 -- what is told of that; or memory was wanting
 abbrev pub IsNoPlanOf : List Op → Named → Refusal → Type 0
-IsNoPlanOf ops p r = (r ≡ refusals.NoMemory) ⊎ ((name : List ℕ) × (r ≡ scenario_refusal (errors.UnknownOp name)) × IsUnknown ops p name)
+IsNoPlanOf ops p r =
+    (r ≡ refusals.NoMemory) ⊎ ((name : List ℕ) × (r ≡ scenario_refusal (errors.UnknownOp name)) × IsUnknown ops p name)
 
 -- so of the first of these processes that has no plan
 abbrev pub AreNoPlans : List Op → List Named → Refusal → Type 0
@@ -68,12 +69,13 @@ AreNoPlans ops (p ∷ ps) r = IsNoPlanOf ops p r ⊎ (((plan : Plan) × IsPlanOf
 abbrev pub AreGoodPlans : List Op → List ℕ → List Plan → Type 0
 AreGoodPlans ops text plans = (ps : List Named) × IsReading (words_of text) ps × ArePlansOf ops ps plans × IsFirstVerdict ps None
 
--- Why there are no such plans: the first fault of the text, or else the first unknown operation; or else the verdict line of the first
--- process that isn't well-formed.
+-- Why there are no such plans: the first fault of the text, or else the first unknown operation; or else the verdict line of the
+-- first process that isn't well-formed.
 abbrev pub AreNoGoodPlans : List Op → List ℕ → NoPlans → Type 0
 AreNoGoodPlans ops text (Refused r) = IsNoText text r ⊎ ((ps : List Named) × IsReading (words_of text) ps × AreNoPlans ops ps r)
 AreNoGoodPlans ops text (IllFormed line) =
-    (ps : List Named) × IsReading (words_of text) ps × ((plans : List Plan) × ArePlansOf ops ps plans) × IsFirstVerdict ps (Some line.items)
+    (ps : List Named) × IsReading (words_of text) ps × ((plans : List Plan) × ArePlansOf ops ps plans)
+    × IsFirstVerdict ps (Some line.items)
 
 -- the document says a scenario with this catalog, the processes of whose text have these plans
 abbrev pub IsBound : List ℕ → Catalog → List Plan → Type 0
@@ -81,5 +83,6 @@ IsBound bytes c plans = (text : List ℕ) × Says bytes (Ok (record { catalog = 
 
 -- Why there are none: what is refused of the document, or else of its processes.
 abbrev pub IsNotBound : List ℕ → NoPlans → Type 0
-IsNotBound bytes (Refused r) = IsNoScenario bytes r ⊎ ((s : Scenario) × Says bytes (Ok s) × AreNoGoodPlans s.catalog.ops s.processes (Refused r))
+IsNotBound bytes (Refused r) =
+    IsNoScenario bytes r ⊎ ((s : Scenario) × Says bytes (Ok s) × AreNoGoodPlans s.catalog.ops s.processes (Refused r))
 IsNotBound bytes (IllFormed line) = (s : Scenario) × Says bytes (Ok s) × AreNoGoodPlans s.catalog.ops s.processes (IllFormed line)

@@ -8,7 +8,8 @@ ghost use Rattle.process_text.specs.Grammar.{IsReading};
 ghost use Rattle.commute_table.specs.Operations.{IsCatalog};
 ghost use Rattle.commute_table.specs.Document.{Says};
 ghost use Rattle.command_input.specs.declared.scenario.NoPlans.TheVariants.{Refused};
-ghost use Rattle.command_input.specs.Scenarios.{scenario_refusal, ArePlansOf, AreGoodPlans, AreNoGoodPlans, AreNoPlans, IsBound, IsNoPlanOf, IsNoScenario, IsNoText, IsNotBound};
+ghost use Rattle.command_input.specs.Scenarios.{scenario_refusal, ArePlansOf, AreGoodPlans, AreNoGoodPlans, AreNoPlans, IsBound};
+ghost use Rattle.command_input.specs.Scenarios.{IsNoPlanOf, IsNoScenario, IsNoText, IsNotBound};
 
 use crate::input::text_refusal;
 use commute_table::{BindError, Catalog, Scenario, ScenarioError, bind, read_scenario};

@@ -98,8 +98,8 @@ fn a_stop_leaves_a_beginning_of_the_history(rt: HostRuntime) -> Result<(), Fail>
     let first = u32::try_from(made.calls())?;
     let whole = run_before(&rt, alloc)?;
     let last = u32::try_from(whole.calls())?;
-    // How many records stand where the call under way leaves nothing; they never get fewer, and another stop within it leaves one more
-    // at most.
+    // How many records stand where the call under way leaves nothing; they never get fewer, and another stop within it leaves one
+    // more at most.
     let mut kept = 0;
     for call in first..last {
         let none = shown_after(&rt, alloc, &whole, (call, 0, 0x00))?;

@@ -47,4 +47,5 @@ pub record IsFirstBad (bytes : List ℕ) (n : ℕ) : Type 0 where
 
 -- no catalog's bytes begin another's
 abbrev pub NoCatalogBeginsAnother : Type 0
-NoCatalogBeginsAnother = (c d : Catalog) (rest : List ℕ) → IsCatalog c → IsCatalog d → bytes_of d ≡ bytes_of c ++ rest → (rest ≡ []) × (d ≡ c)
+NoCatalogBeginsAnother = (c d : Catalog) (rest : List ℕ) → IsCatalog c → IsCatalog d → bytes_of d ≡ bytes_of c ++ rest
+    → (rest ≡ []) × (d ≡ c)

@@ -1,9 +1,12 @@
 -- What a scenario's document says, and what is refused of it first.
-use Rattle.std.specs.Prelude.{◌≡◌, ℕ, ◌+◌, ◌<◌, ℤ, pos, negsuc, Bool, true, false, not, ◌&&◌, ◌||◌, List, [], ◌∷◌, ◌++◌, length, Option, Some, None, option_and_then, is_some, Result, Ok, Err, nat_eq, nat_lt, ◌==◌, codes, IsUtf8, if◌then◌else◌}
+use Rattle.std.specs.Prelude.{◌≡◌, ℕ, ◌+◌, ◌<◌, ℤ, pos, negsuc, Bool, true, false, not, ◌&&◌, ◌||◌, List, [], ◌∷◌, ◌++◌, length}
+use Rattle.std.specs.Prelude.{Option, Some, None, option_and_then, is_some, Result, Ok, Err, nat_eq, nat_lt, ◌==◌, codes, IsUtf8}
+use Rattle.std.specs.Prelude.{if◌then◌else◌}
 use Rattle.std.specs.List.{list_any}
 use Rattle.std.specs.Ordering.{nat_cmp, is_lt}
 use Rattle.std.specs.Cmp.Lexicographic.{slice_cmp}
-use Rattle.toml.specs.Data.{Data, Items, no_items, item, Members, no_members, member, get_member, as_str, as_integer, as_array, as_table}
+use Rattle.toml.specs.Data.{Data, Items, no_items, item, Members, no_members, member, get_member, as_str, as_integer, as_array}
+use Rattle.toml.specs.Data.{as_table}
 use Rattle.toml.specs.Parse.{parse_document}
 use Rattle.process_tree.specs.Name.{is_name}
 use Rattle.process_tree.specs.Making.{same_text}
@@ -36,7 +39,8 @@ abbrev pub ◌>>=◌ : {A B : Type 0} → Said A → (A → Said B) → Said B
 
 -- the keys that a document and an operation have
 abbrev pub is_known : Keys → List ℕ → Bool
-is_known OfDocument k = same_text k (codes "version") || same_text k (codes "conflicts") || same_text k (codes "processes") || same_text k (codes "op")
+is_known OfDocument k =
+    same_text k (codes "version") || same_text k (codes "conflicts") || same_text k (codes "processes") || same_text k (codes "op")
 is_known OfOperation k = same_text k (codes "name") || same_text k (codes "subsystem") || same_text k (codes "verb")
 
 -- the lesser in byte order
@@ -272,7 +276,8 @@ table_of_items version ops ds = do
 -- the items have the form of pairs before any name is looked up
 abbrev pub pairs_or_bad : ℕ → List Op → Option Items → Said Table
 pairs_or_bad version ops None = Err (BadKey (codes "conflicts"))
-pairs_or_bad version ops (Some ds) = if are_pairs version ds then table_of_items version ops ds else Err (BadKey (codes "conflicts"))
+pairs_or_bad version ops (Some ds) =
+    if are_pairs version ds then table_of_items version ops ds else Err (BadKey (codes "conflicts"))
 
 -- no conflicts where the key is absent
 abbrev pub conflicts_by_key : ℕ → List Op → Option Data → Said Table

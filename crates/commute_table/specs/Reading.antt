@@ -1,6 +1,7 @@
 -- Reading a catalog's bytes from left to right. What is read is a value and the bytes after it, or else how many bytes are
 -- left at the first place that rules out every catalog.
-use Rattle.std.specs.Prelude.{◌≡◌, ℕ, zero, suc, ◌+◌, ◌*◌, Bool, true, not, ◌&&◌, List, [], ◌∷◌, ◌++◌, length, Result, Ok, Err, nat_lt, nat_le, ◌==◌, codes, if◌then◌else◌, slice_set}
+use Rattle.std.specs.Prelude.{◌≡◌, ℕ, zero, suc, ◌+◌, ◌*◌, Bool, true, not, ◌&&◌, List, [], ◌∷◌, ◌++◌, length, Result, Ok, Err}
+use Rattle.std.specs.Prelude.{nat_lt, nat_le, ◌==◌, codes, if◌then◌else◌, slice_set}
 use Rattle.std.specs.List.{list_any}
 use Rattle.process_tree.specs.Name.{is_name}
 use Rattle.process_tree.specs.declared.conflicts.Mode.{Mode}

@@ -3,7 +3,9 @@ ghost use Rattle.std.specs.Prelude.{◌≡◌, ◌<◌, ◌++◌, length, is_som
 ghost use Rattle.toml.specs.Data.{as_array, as_table};
 ghost use Rattle.toml.specs.View.{view, items_view, table_view};
 ghost use Rattle.commute_table.specs.Operations.{IsCatalog};
-ghost use Rattle.commute_table.specs.Document.{Gives, IsAnswer, name_said, subsystem_said, verb_named, verb_said, op_said, are_tables, ops_said, few_said, operations_said, number_of, processes_said, catalog_said, scenario_said};
+ghost use Rattle.commute_table.specs.Document.{Gives, IsAnswer, name_said, subsystem_said, verb_named, verb_said, op_said};
+ghost use Rattle.commute_table.specs.Document.{are_tables, ops_said, few_said, operations_said, number_of, processes_said};
+ghost use Rattle.commute_table.specs.Document.{catalog_said, scenario_said};
 
 use crate::document::{Keys, known_keys, member, number_at, refuse, text_at, version_of};
 use crate::pairs::conflicts_of;

@@ -1,13 +1,14 @@
 -- What the tables say against the next piece of a process is what the machine says.
 use Rattle.std.proofs.Common.{◌≡◌, ℕ, Bool, true, false, if◌then◌else◌, List, [], ◌∷◌, ◌++◌, map, slice_index_or, None, sym, refl, ap, ◌∙◌, append-nil}
+use Rattle.process_tree.specs.Order.{has}
 use Rattle.process_tree.specs.declared.entry.Entry.{Entry}
 use Rattle.process_tree.specs.declared.plan.Plan.{Plan}
 use Rattle.process_tree.specs.declared.step.StepKind.{StepKind}
-use Rattle.process_tree.specs.declared.step.StepKind.TheVariants.{C, P, R}
+use Rattle.process_tree.specs.declared.step.StepKind.TheVariants.{C, P, R, Cr}
 use Rattle.process_tree.specs.Conflicts.{Table, do_conflict}
 use Rattle.process_tree.specs.Entries.{entry_of}
-use Rattle.process_tree.specs.Recovery.{StepClass, class_by_kind, committing, last_after, reserved, undoable}
-use Rattle.process_tree.specs.Shape.{Shape, branch_to, commits, kind_of, shape_of}
+use Rattle.process_tree.specs.Recovery.{StepClass, class_by_kind, committing, reserved, undoable, forward}
+use Rattle.process_tree.specs.Shape.{Shape, branch_to, kind_of, shape_of, last_after, commits_after, commits_by_kind}
 use Rattle.schedule_model.specs.Blocking.{against_step}
 use Rattle.schedule_model.specs.Conflict.{ConflictRelation}
 use Rattle.schedule_model.specs.Course.{Course, course, course_of, shape}
@@ -36,14 +37,15 @@ against_class table g undoable b owed after same = refl
 against_class table g committing b owed after same = ap (against_step table g committing b) (same refl)
 
 -- a new commit point commits
-class_commits : (r : Bool) (t : Shape) (b : ℕ) → (if r then reserved else class_by_kind (kind_of t b)) ≡ committing → commits (kind_of t b) ≡ true
-class_commits true t b is = absurd (cc)
-class_commits false t b is = by_kind (kind_of t b) is
+class_commits : (r : Bool) (t : Shape) (w : List ℕ) (b : ℕ) → (if r then reserved else class_by_kind (kind_of t b)) ≡ committing → commits_after t w b ≡ true
+class_commits true t w b is = absurd (cc)
+class_commits false t w b is = by_kind (kind_of t b) is
   where
-    by_kind : (k : StepKind) → class_by_kind k ≡ committing → commits k ≡ true
+    by_kind : (k : StepKind) → class_by_kind k ≡ committing → commits_by_kind k (has b (forward t w)) ≡ true
     by_kind C is = absurd (cc)
     by_kind P is = refl
     by_kind R is = refl
+    by_kind Cr is = absurd (cc)
 
 module _ (conflicts : Table) (courses : List Course) (m : Moment) (i : ℕ) (p : Plan) (listed : is_in i (active m.events) ≡ true) (plan : course courses i ≡ course_of p) where
   abbrev ts : Tables
@@ -92,7 +94,7 @@ module _ (conflicts : Table) (courses : List Course) (m : Moment) (i : ℕ) (p :
         ap (λ (x : Shape). map (entry_of p i) (last_after x (branch_to x b ++ b ∷ []))) same_shape
         ∙ (entries_are (last_after t (branch_to t b ++ b ∷ []))
         ∙ ap (map (doing courses i)) (ap (λ v. last_after t (v ++ b ∷ [])) branch
-        ∙ sym (owes_behind t w b (class_commits (is_in b (owed_steps courses m.events i)) t b class))))
+        ∙ sym (owes_behind t w b (class_commits (is_in b (owed_steps courses m.events i)) t w b class))))
 
     -- against a step that goes on
     pub against_forward : (b : ℕ) → branch_to (shape courses i) b ≡ net_steps m.events i

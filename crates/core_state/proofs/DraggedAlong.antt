@@ -13,7 +13,6 @@ use Rattle.schedule_model.specs.Course.{Course, course_of, shape}
 use Rattle.schedule_model.specs.Histories.{active, ends, is_active, is_in, net, net_of, net_steps, of_process, starts, steps_of}
 use Rattle.schedule_model.specs.Holdings.{Hold, active_net}
 use Rattle.schedule_model.proofs.Active.{is_active-is_in, is_in-filter}
-use Rattle.schedule_model.proofs.Recoveries.{fixed_len-most}
 use Rattle.machine_model.specs.declared.began.Cause.{Cause}
 use Rattle.machine_model.specs.declared.began.Cause.TheVariants.{Cascade}
 use Rattle.machine_model.specs.declared.kept.Kept.{Kept}
@@ -39,6 +38,7 @@ use Rattle.hold_tables.specs.Changes.{changed}
 use Rattle.hold_tables.specs.Tables.{OpenProcess, Tables, holdings_of, is_open, kept_of, lasts}
 use Rattle.cascade.specs.Walking.{last_entries}
 use Rattle.process_tree.specs.Conflicts.{do_conflict}
+use Rattle.process_tree.proofs.Fixed.{fixed_le}
 use Rattle.core_state.specs.declared.beginnings.Beginners.TheVariants.{DraggedBy}
 use Rattle.core_state.specs.Beginnings.{AreOpen, can_begin, cause_if, cause_of, row_with, seat_with, seats_begun, tables_begun}
 use Rattle.core_state.specs.Cores.{CoreState, IsCore, courses_in, history_of, moment_of, relation}
@@ -185,7 +185,7 @@ module _ (c : CoreState) (core : IsCore c) (k : Kept) (may : may_be_kept (relati
         let s = staying (progress cs middle root) in
         let pending = ap (λ (r : OpenProcess). r.pending) root_row ∙ length-drop s (net_of middle.events root) in
         let fixed = ap (λ (r : OpenProcess). r.fixed) root_row ∙ ap (λ h. fixed_len (shape cs root) (net_steps h root)) is.events in
-        let most = fixed_len-most (shape cs root) (net_steps m.events root) in
+        let most = fixed_le (shape cs root) (net_steps m.events root) in
         let steps = ap (λ h. length (net_steps h root)) (sym is.events) ∙ length-map (net_of middle.events root) (λ (e : Entry). e.step) in
         let all = ap length root_net in
         let low = is.fixed in

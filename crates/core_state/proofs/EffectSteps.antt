@@ -1,16 +1,16 @@
 -- What the effect of a step makes of the tables.
-use Rattle.std.proofs.Common.{◌≡◌, ◌∙◌, ℕ, ◌+◌, Bool, true, false, eqb, if◌then◌else◌, List, [], ◌∷◌, ◌++◌, length, map, filter, slice_index_or, Some, None, sym, refl, ap, append-nil, length-append, arith}
-use Rattle.std.specs.List.{list_any}
+use Rattle.std.proofs.Common.{◌≡◌, ◌∙◌, ℕ, ◌+◌, Bool, true, false, if◌then◌else◌, List, [], ◌∷◌, ◌++◌, length, map, filter, slice_index_or, Some, None, sym, refl, ap, append-nil, length-append, arith}
 use Rattle.std.proofs.lemmas.Bool.{false≢true}
 use Rattle.std.proofs.lemmas.List.{length-map, map-append}
 use Rattle.std.proofs.lemmas.List.Elements.{filter-append}
+use Rattle.process_tree.specs.Order.{has}
 use Rattle.process_tree.specs.declared.entry.Entry.{Entry}
 use Rattle.process_tree.specs.declared.plan.Plan.{Plan}
 use Rattle.process_tree.specs.declared.step.StepKind.{StepKind}
-use Rattle.process_tree.specs.declared.step.StepKind.TheVariants.{C, P, R}
-use Rattle.process_tree.specs.Recovery.{class_by_kind, class_of, forward, last_after, reserved}
-use Rattle.process_tree.specs.Shape.{Shape, branch_to, commits, fixed_len, goes_on_to, kind_of, shape_of}
-use Rattle.process_tree.proofs.Fixed.{fixed_more}
+use Rattle.process_tree.specs.declared.step.StepKind.TheVariants.{C, P, R, Cr}
+use Rattle.process_tree.specs.Recovery.{class_by_kind, class_of, forward, reserved}
+use Rattle.process_tree.specs.Shape.{Shape, branch_to, commits, fixed_len, goes_on_to, kind_of, shape_of, last_after, commits_after, commits_by_kind}
+use Rattle.process_tree.proofs.Fixed.{fixed_more, commits_there}
 use Rattle.schedule_model.specs.declared.event.Event.TheVariants.{Act}
 use Rattle.schedule_model.specs.Course.{Course, course, course_of, shape}
 use Rattle.schedule_model.specs.Histories.{active, doing, is_in, net, net_of, net_steps, of_process, steps_of}
@@ -36,14 +36,19 @@ use Rattle.core_state.proofs.NetEntries.{branch_is_net}
 use Rattle.core_state.proofs.StoodRows.{changed_twice, owes_behind, owes_same}
 
 -- a step that doesn't commit makes nothing be owed anew
-owes_none : (t : Shape) (w : List ℕ) (b : ℕ) (es : List Entry) (k : StepKind) → kind_of t b ≡ k → commits k ≡ false → owed_by_class (class_of t w b) es ≡ []
-owes_none t w b es P is none = absurd (false≢true (sym none))
-owes_none t w b es R is none = absurd (false≢true (sym none))
-owes_none t w b es C is none = by_owed (list_any (λ x. eqb b x) (forward t w)) refl
+owes_none : (t : Shape) (w : List ℕ) (b : ℕ) (es : List Entry) (k : StepKind) → kind_of t b ≡ k → commits_by_kind k (has b (forward t w)) ≡ false → owed_by_class (class_of t w b) es ≡ []
+owes_none t w b es k is none = by_owed (has b (forward t w)) refl k is none
   where
-    by_owed : (a : Bool) → list_any (λ x. eqb b x) (forward t w) ≡ a → owed_by_class (class_of t w b) es ≡ []
-    by_owed true at = ap (λ x. owed_by_class (if x then reserved else class_by_kind (kind_of t b)) es) at
-    by_owed false at = ap (λ x. owed_by_class (if x then reserved else class_by_kind (kind_of t b)) es) at ∙ ap (λ x. owed_by_class (class_by_kind x) es) is
+    by_kind : (k : StepKind) (a : Bool) → commits_by_kind k a ≡ false → owed_by_class (class_by_kind k) es ≡ []
+    by_kind C a none = refl
+    by_kind P a none = absurd (false≢true (sym none))
+    by_kind R a none = absurd (false≢true (sym none))
+    by_kind Cr a none = refl
+
+    by_owed : (a : Bool) → has b (forward t w) ≡ a → (k : StepKind) → kind_of t b ≡ k → commits_by_kind k (has b (forward t w)) ≡ false → owed_by_class (class_of t w b) es ≡ []
+    by_owed true at k is none = ap (λ x. owed_by_class (if x then reserved else class_by_kind (kind_of t b)) es) at
+    by_owed false at k is none =
+        ap (λ x. owed_by_class (if x then reserved else class_by_kind (kind_of t b)) es) at ∙ (ap (λ x. owed_by_class (class_by_kind x) es) is ∙ by_kind k (has b (forward t w)) none)
 
 module _ (c : CoreState) (core : IsCore c) (d : Piece) (found : piece_of c.kept d.number ≡ Some d) (out : runs (moment_of c) d.number ≡ true) (is : d.work ≡ Forward)
     (p : Plan) (plan : course (courses_in c) d.process ≡ course_of p) where
@@ -149,9 +154,9 @@ module _ (c : CoreState) (core : IsCore c) (d : Piece) (found : piece_of c.kept 
     rows = map (row_of (courses_in c) (moment_of c)) (active (moment_of c).events)
 
     -- of another step
-    leaving : commits (kind_of (shape_of p.tree) b) ≡ false → changed (with_pending n) i (step_effected p i b T) ≡ tables_of c.conflicts cs after
+    leaving : commits (shape_of p.tree) b ≡ false → changed (with_pending n) i (step_effected p i b T) ≡ tables_of c.conflicts cs after
     leaving none =
-        let own' : commits (kind_of s b) ≡ false = ap (λ y. commits (kind_of y b)) same_shape ∙ none in
+        let own' : commits_after s w b ≡ false = commits_there s w b on ∙ (ap (λ y. commits y b) same_shape ∙ none) in
         let fixed = fixed_more s w b ∙ ap (λ t. if t then length w + 1 else fixed_len s w) own' in
         let soon : owed_soon cs m.events (running_of m i) ≡ [] =
         ap (owed_soon cs m.events) (runs_it c core d found out) ∙ (ap (owed_by_work cs m.events i b) is ∙ owes_none s w b (owed_after cs m.events i b) (kind_of s b) refl own') in
@@ -167,9 +172,9 @@ module _ (c : CoreState) (core : IsCore c) (d : Piece) (found : piece_of c.kept 
         ∙ rows_are c core d found out (λ r. with_pending n (with_running None r)) active_same row))
 
     -- of a commit point
-    fixing : commits (kind_of (shape_of p.tree) b) ≡ true → changed (with_pending n) i (step_effected p i b T) ≡ tables_of c.conflicts cs after
+    fixing : commits (shape_of p.tree) b ≡ true → changed (with_pending n) i (step_effected p i b T) ≡ tables_of c.conflicts cs after
     fixing fixes =
-        let own' : commits (kind_of s b) ≡ true = ap (λ y. commits (kind_of y b)) same_shape ∙ fixes in
+        let own' : commits_after s w b ≡ true = commits_there s w b on ∙ (ap (λ y. commits y b) same_shape ∙ fixes) in
         let len = length (of_process i (active_net (holdings cs after))) in
         let fixed : len ≡ fixed_len s (w ++ b ∷ []) = own_count ∙ sym (fixed_more s w b ∙ ap (λ t. if t then length w + 1 else fixed_len s w) own') in
         let planned : planned_behind p b ≡ planned_of (map (doing cs i) (forward s (w ++ b ∷ []))) =
@@ -188,8 +193,8 @@ module _ (c : CoreState) (core : IsCore c) (d : Piece) (found : piece_of c.kept 
 
     pub tables_step : changed (with_pending n) d.process (step_effected p d.process d.step (tables_of c.conflicts (courses_in c) (moment_of c)))
         ≡ tables_of c.conflicts (courses_in c) (advance (relation c) (courses_in c) (moment_of c) (Effect d.number))
-    tables_step = by_kind (commits (kind_of (shape_of p.tree) b)) refl
+    tables_step = by_kind (commits (shape_of p.tree) b) refl
       where
-        by_kind : (t : Bool) → commits (kind_of (shape_of p.tree) b) ≡ t → changed (with_pending n) i (step_effected p i b T) ≡ tables_of c.conflicts cs after
+        by_kind : (t : Bool) → commits (shape_of p.tree) b ≡ t → changed (with_pending n) i (step_effected p i b T) ≡ tables_of c.conflicts cs after
         by_kind true is' = fixing is'
         by_kind false is' = leaving is'

@@ -5,13 +5,13 @@ use Rattle.std.proofs.lemmas.List.Elements.{filter-append}
 use Rattle.process_tree.specs.declared.entry.Entry.{Entry}
 use Rattle.process_tree.specs.Order.{Each}
 use Rattle.process_tree.specs.Shape.{Shape, fixed_len}
+use Rattle.process_tree.proofs.Fixed.{fixed_le}
 use Rattle.schedule_model.specs.declared.event.Event.TheVariants.{Act}
 use Rattle.schedule_model.specs.Course.{Course, shape}
 use Rattle.schedule_model.specs.Histories.{active, doing, is_in, net, net_of, net_steps, of_process, same_step, undoing}
 use Rattle.schedule_model.specs.Holdings.{Hold, active_net}
 use Rattle.schedule_model.proofs.Active.{is_in-filter}
 use Rattle.schedule_model.proofs.Members.{filter-agree}
-use Rattle.schedule_model.proofs.Recoveries.{fixed_len-most}
 use Rattle.schedule_model.proofs.Snoc.{active-do, net-end, net-undo}
 use Rattle.machine_model.specs.declared.kept.Kept.TheVariants.{Effect}
 use Rattle.machine_model.specs.declared.kept.Work.TheVariants.{End, Undo}
@@ -110,8 +110,8 @@ module _ (c : CoreState) (core : IsCore c) (d : Piece) (found : piece_of c.kept 
         let b = length-drop (fixed_len s (net_steps after.events i)) (net_of after.events i) in
         let t = ap length effect.taken_back in
         let l = length-append g.backward_entries (effect.last ∷ []) in
-        let most = fixed_len-most s (net_steps after.events i) in
-        let less = fixed_len-most s w in
+        let most = fixed_le s (net_steps after.events i) in
+        let less = fixed_le s w in
         let many = own_many in
         let fewer = own_fewer in
         let steps = length-map (net_of after.events i) (λ (e : Entry). e.step) in

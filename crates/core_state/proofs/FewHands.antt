@@ -6,7 +6,7 @@ use Rattle.std.proofs.Math.Nat.{suc-mul}
 use Rattle.std.proofs.lemmas.List.Sums.{sum_by-cons}
 use Rattle.process_tree.specs.declared.step.Step.{Step}
 use Rattle.process_tree.specs.declared.step.StepKind.{StepKind}
-use Rattle.process_tree.specs.declared.step.StepKind.TheVariants.{C, P, R}
+use Rattle.process_tree.specs.declared.step.StepKind.TheVariants.{C, P, R, Cr}
 use Rattle.process_tree.specs.declared.plan.Plan.{Plan}
 use Rattle.process_tree.specs.Blocks.{numbers_from, outline}
 use Rattle.process_tree.specs.Making.{are_refusals, are_tries, first_bad_step, has_good_options, is_amount}
@@ -51,6 +51,13 @@ few_options R s good =
     let a = leb-true s.tries 64 (and_parts _ _ z.0).1 in
     let b = eqb-true s.undo_tries 3 z.1 in
     (omega arith, omega arith)
+few_options Cr s good =
+    let x = and_parts _ (are_refusals s.undo_refuse) good in
+    let y = and_parts _ (are_refusals s.refuse) x.0 in
+    let z = and_parts (are_tries s.tries) (are_tries s.undo_tries) y.0 in
+    let a = leb-true s.tries 64 (and_parts _ _ z.0).1 in
+    let b = leb-true s.undo_tries 64 (and_parts _ _ z.1).1 in
+    (omega arith, omega arith)
 
 few_of_steps : (n : ℕ) (ss : List Step) (b : ℕ) → first_bad_step n ss ≡ None → HasFewTries (slice_index_or (map allowance_of ss) b usual)
 few_of_steps n [] b none = (omega arith, omega arith)
@@ -74,10 +81,10 @@ module _ (plans : List Plan) (good : AreGood plans) (i : ℕ) where
       (λ found. subst (λ (c : Course). HasFewTries (slice_index_or c.allowances b usual)) (sym found.2) (few_of_steps 0 (outline found.0.tree).steps b (no_bad_step found.0.tree (good found.0 found.1).tree)))
       (plan_or_none plans i)
 
-  few_for_step : (b : ℕ) → pieces_for_step (courses_of plans) i b ≤ 65
+  few_for_step : (b : ℕ) → pieces_for_step (courses_of plans) i b ≤ 128
   few_for_step b = by_kind (kind_of (shape (courses_of plans) i) b) refl
     where
-      by_kind : (k : StepKind) → kind_of (shape (courses_of plans) i) b ≡ k → pieces_for_step (courses_of plans) i b ≤ 65
+      by_kind : (k : StepKind) → kind_of (shape (courses_of plans) i) b ≡ k → pieces_for_step (courses_of plans) i b ≤ 128
       by_kind C is =
           let room : pieces_for_step (courses_of plans) i b ≡ 1 + (allowance (courses_of plans) i b).undo_tries = rw is refl in
           let few = (few_tries b).1 in
@@ -88,6 +95,11 @@ module _ (plans : List Plan) (good : AreGood plans) (i : ℕ) where
       by_kind R is =
           let room : pieces_for_step (courses_of plans) i b ≡ (allowance (courses_of plans) i b).tries = rw is refl in
           let few = (few_tries b).0 in
+          omega arith
+      by_kind Cr is =
+          let room : pieces_for_step (courses_of plans) i b ≡ (allowance (courses_of plans) i b).tries + (allowance (courses_of plans) i b).undo_tries = rw is refl in
+          let few = (few_tries b).0 in
+          let undo = (few_tries b).1 in
           omega arith
 
   few_operations : length (course (courses_of plans) i).ops ≤ 256
@@ -101,10 +113,10 @@ module _ (plans : List Plan) (good : AreGood plans) (i : ℕ) where
       omega arith)
       (plan_or_none plans i)
 
-  pub few_for : pieces_for (courses_of plans) i ≤ 16642
+  pub few_for : pieces_for (courses_of plans) i ≤ 32770
   few_for =
       let n = length (course (courses_of plans) i).ops in
-      let sum = sums_within (pieces_for_step (courses_of plans) i) 65 (numbers_from 0 n) few_for_step in
+      let sum = sums_within (pieces_for_step (courses_of plans) i) 128 (numbers_from 0 n) few_for_step in
       let many = length-numbers 0 n in
       let few = few_operations in
       omega arith
@@ -112,6 +124,6 @@ module _ (plans : List Plan) (good : AreGood plans) (i : ℕ) where
 pub hands_few : (c : CoreState) → IsCore c → length (hands c.kept) < 4294967295
 hands_few c core =
     let most = bound_on_hands (relation c) c.plans (machine_of c) core.session in
-    let sum = sums_within (pieces_for (courses_in c)) 16642 (starts (history_of c)) (few_for c.plans core.session.good) in
+    let sum = sums_within (pieces_for (courses_in c)) 32770 (starts (history_of c)) (few_for c.plans core.session.good) in
     let few = few_start (courses_in c) (history_of c) (runs_are_legal (relation c) c.plans (machine_of c) core.session).1 in
     omega arith

@@ -9,8 +9,8 @@ use Rattle.process_tree.specs.Blocks.{outline}
 use Rattle.process_tree.specs.Conflicts.{operations_in}
 use Rattle.process_tree.specs.Entries.{entry_of, key_of, undo_of}
 use Rattle.process_tree.specs.Order.{Each, IsLaidOut}
-use Rattle.process_tree.specs.Recovery.{StepClass, class_by_kind, committing, last_after, reserved, undoable}
-use Rattle.process_tree.specs.Shape.{Shape, branch_to, fixed_len, kind_of, shape_of}
+use Rattle.process_tree.specs.Recovery.{StepClass, class_by_kind, committing, reserved, undoable}
+use Rattle.process_tree.specs.Shape.{Shape, branch_to, fixed_len, kind_of, shape_of, last_after}
 use Rattle.process_tree.proofs.TreeLaws.{paths_lie_in_order}
 use Rattle.schedule_model.specs.Course.{Course, shape}
 use Rattle.schedule_model.specs.Histories.{active, doing, is_active, is_in, net_of, net_steps, of_process}

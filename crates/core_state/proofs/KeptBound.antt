@@ -8,7 +8,7 @@ use Rattle.std.proofs.lemmas.List.Sums.{sum_by-cons}
 use Rattle.std.proofs.lemmas.Bool.{and_from, and_parts, eq-eqb, eqb-true, false≢true, not-true, or_left}
 use Rattle.process_tree.specs.declared.plan.Plan.{Plan}
 use Rattle.process_tree.specs.declared.step.StepKind.{StepKind}
-use Rattle.process_tree.specs.declared.step.StepKind.TheVariants.{C, P, R}
+use Rattle.process_tree.specs.declared.step.StepKind.TheVariants.{C, P, R, Cr}
 use Rattle.process_tree.specs.Blocks.{numbers_from}
 use Rattle.process_tree.specs.Order.{Each}
 use Rattle.process_tree.specs.Shape.{kind_of}
@@ -55,6 +55,7 @@ step_alone : (courses : List Course) (i b : ℕ) (k : StepKind) → kind_of (sha
 step_alone courses i b C is = rw is refl
 step_alone courses i b P is = rw is refl
 step_alone courses i b R is = rw is refl
+step_alone courses i b Cr is = rw is refl
 
 sum_same : (f g : ℕ → ℕ) (is : List ℕ) → ((i : ℕ) → f i ≡ g i) → sum_by f is ≡ sum_by g is
 sum_same f g [] same = refl

@@ -5,8 +5,7 @@ use Rattle.process_tree.specs.declared.plan.Plan.{Plan}
 use Rattle.process_tree.specs.declared.step.Step.{Step}
 use Rattle.process_tree.specs.Blocks.{outline}
 use Rattle.process_tree.specs.Order.{Each}
-use Rattle.process_tree.specs.Recovery.{last_after, last_path, with_rest}
-use Rattle.process_tree.specs.Shape.{Shape, branch_to, greatest, next_steps, shape_of}
+use Rattle.process_tree.specs.Shape.{Shape, branch_to, greatest, next_steps, shape_of, last_after, last_path, with_rest}
 use Rattle.process_tree.proofs.InTurn.{goes_within, greatest_is}
 use Rattle.core_state.specs.OpenTables.{planned_behind, planned_step}
 

@@ -9,7 +9,8 @@ use Rattle.process_tree.specs.Entries.{access_of}
 use Rattle.process_tree.specs.declared.entry.Entry.{Entry}
 use Rattle.process_tree.specs.declared.plan.Plan.{Plan}
 use Rattle.process_tree.specs.Order.{Each, IsRising}
-use Rattle.process_tree.specs.Shape.{Shape, branch_to, goes_on_to}
+use Rattle.process_tree.specs.Shape.{Shape, branch_to, goes_on_to, IsBranch}
+use Rattle.process_tree.proofs.Along.{goes_there}
 use Rattle.process_tree.proofs.InTurn.{goes_within}
 use Rattle.process_tree.proofs.Onward.{branch_from, goes_along, onward_above}
 use Rattle.process_tree.proofs.Branches.{Each-among}
@@ -26,7 +27,6 @@ use Rattle.schedule_model.proofs.GoodPlans.{HasGoodPlan, good_if_goes_on}
 use Rattle.schedule_model.proofs.Members.{Among, among_there, contains-from_among}
 use Rattle.schedule_model.proofs.NetPaths.{net-branch}
 use Rattle.schedule_model.proofs.Snoc.{of_process-append}
-use Rattle.schedule_rules.proofs.Branches.{prefix_goes}
 
 -- e comes behind these entries
 pub record ComesBehind (courses : List Course) (es : List Entry) (e : Entry) : Type 0 where
@@ -43,7 +43,8 @@ module _ (plans : List Plan) (good : AreGood plans) (h : List Event) (legal : Is
         ap (of_process i) is ∙ (of_process-append i front (e ∷ rest) ∙ ap (λ c. of_process i front ++ (if c then e ∷ of_process i rest else of_process i rest)) (eq-eqb i i refl)) in
         let steps : net_steps h i ≡ steps_of (of_process i front) ++ e.step ∷ steps_of (of_process i rest) =
         ap steps_of own ∙ map-append (λ (x : Entry). x.step) (of_process i front) (e ∷ of_process i rest) in
-        prefix_goes (shape (courses_of plans) i) (net_steps h i) (steps_of (of_process i front)) (steps_of (of_process i rest)) e.step (net-branch (courses_of plans) i h legal) steps;
+        goes_there (shape (courses_of plans) i) (steps_of (of_process i front)) e.step (steps_of (of_process i rest))
+        (subst (IsBranch (shape (courses_of plans) i)) steps (net-branch (courses_of plans) i h legal));
     forward = All-contains (λ (x : Entry). x.undo ≡ false) (net h) e (net_acts-forward (acts h)) (contains-from_among e (net h) (subst (Among e) (sym is) (among_there front e rest)));
     access = net-of_plans plans good h legal e (subst (Among e) (sym is) (among_there front e rest));
   }

@@ -5,8 +5,8 @@ use Rattle.std.proofs.lemmas.Bool.{both_ways, eq-eqb, eqb-true, false≢true, or
 use Rattle.std.proofs.lemmas.List.Folds.{list_any-append}
 use Rattle.std.proofs.lemmas.Map.Steps.{length-le_from_distinct_below}
 use Rattle.process_tree.specs.Order.{Each, IsLaidOut, IsRising, has}
-use Rattle.process_tree.specs.Recovery.{forward, last_after, last_path, with_rest}
-use Rattle.process_tree.specs.Shape.{Shape, fixed_len, greatest, next_steps}
+use Rattle.process_tree.specs.Recovery.{forward}
+use Rattle.process_tree.specs.Shape.{Shape, fixed_len, greatest, next_steps, last_after, last_path, with_rest}
 use Rattle.process_tree.proofs.Branches.{Each-among, Each-has}
 use Rattle.process_tree.proofs.LastPath.{on_last}
 use Rattle.process_tree.proofs.Every.{Each-append}

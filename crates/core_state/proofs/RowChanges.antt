@@ -3,7 +3,7 @@ use Rattle.std.proofs.Common.{◌≡◌, ℕ, Bool, true, false, eqb, if◌then�
 use Rattle.std.proofs.lemmas.Bool.{false≢true}
 use Rattle.process_tree.specs.declared.entry.Entry.{Entry}
 use Rattle.process_tree.specs.declared.plan.Plan.{Plan}
-use Rattle.process_tree.specs.Shape.{commits, kind_of, shape_of}
+use Rattle.process_tree.specs.Shape.{commits, shape_of}
 use Rattle.schedule_model.specs.Histories.{of_process}
 use Rattle.hold_tables.specs.Tables.{OpenProcess, Tables, has_number, is_open, kept_of, numbered}
 use Rattle.hold_tables.specs.Changes.{all_fixed, change_numbered, changed, run, took_effect, with_fixed, with_reserved, with_running}
@@ -60,7 +60,7 @@ reserved_open planned i t open' = open_changed (with_reserved planned) i i t.pro
 
 -- an effect of a step leaves its process open
 pub step_open : (p : Plan) (i b : ℕ) (t : Tables) → is_open t i ≡ true → is_open (step_effected p i b t) i ≡ true
-step_open p i b t open' = by_kind (commits (kind_of (shape_of p.tree) b))
+step_open p i b t open' = by_kind (commits (shape_of p.tree) b)
   where
     by_kind : (k : Bool) → is_open (if k then changed (with_reserved (planned_behind p b)) i (all_fixed i (took_effect i t)) else took_effect i t) i ≡ true
     by_kind true = reserved_open (planned_behind p b) i (all_fixed i (took_effect i t)) (fixed_open i (took_effect i t) (effect_open i t open'))

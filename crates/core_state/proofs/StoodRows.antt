@@ -6,12 +6,11 @@ use Rattle.std.proofs.lemmas.List.Elements.{filter-append}
 use Rattle.process_tree.specs.declared.entry.Entry.{Entry}
 use Rattle.process_tree.specs.declared.plan.Plan.{Plan}
 use Rattle.process_tree.specs.Conflicts.{Table}
-use Rattle.process_tree.specs.Recovery.{forward, last_after}
-use Rattle.process_tree.specs.Shape.{Shape, branch_to, commits, fixed_len, kind_of, shape_of}
-use Rattle.process_tree.proofs.Fixed.{fixed_more}
+use Rattle.process_tree.specs.Recovery.{forward}
+use Rattle.process_tree.specs.Shape.{Shape, branch_to, commits, fixed_len, shape_of, last_after, commits_after}
+use Rattle.process_tree.proofs.Fixed.{fixed_more, fixed_le, commits_there}
 use Rattle.schedule_model.specs.Course.{Course, course, course_of, shape}
 use Rattle.schedule_model.specs.Histories.{doing, is_in, of_process, steps_of}
-use Rattle.schedule_model.proofs.Recoveries.{fixed_len-most}
 use Rattle.schedule_model.proofs.Snoc.{of_process-append}
 use Rattle.instance_state.proofs.Lists.{take_all}
 use Rattle.machine_model.proofs.RunningNext.{flipped}
@@ -72,14 +71,14 @@ rows_changed f g h i (k ∷ is) apart named its others among = by_first (eqb k i
 -- Of the steps of one process.
 module _ (t : Shape) (w : List ℕ) (b : ℕ) where
   -- a step that doesn't commit makes nothing be owed
-  pub owes_same : commits (kind_of t b) ≡ false → forward t (w ++ b ∷ []) ≡ forward t w
+  pub owes_same : commits_after t w b ≡ false → forward t (w ++ b ∷ []) ≡ forward t w
   owes_same other =
       let fixed = fixed_more t w b ∙ ap (λ c. if c then length w + 1 else fixed_len t w) other in
       ap (λ n. if eqb n 0 then [] else last_after t (take n (w ++ b ∷ []))) fixed
-      ∙ ap (λ v. if eqb (fixed_len t w) 0 then [] else last_after t v) (take-append-le (fixed_len t w) w (b ∷ []) (fixed_len-most t w))
+      ∙ ap (λ v. if eqb (fixed_len t w) 0 then [] else last_after t v) (take-append-le (fixed_len t w) w (b ∷ []) (fixed_le t w))
 
   -- a commit point makes owe what follows it
-  pub owes_behind : commits (kind_of t b) ≡ true → forward t (w ++ b ∷ []) ≡ last_after t (w ++ b ∷ [])
+  pub owes_behind : commits_after t w b ≡ true → forward t (w ++ b ∷ []) ≡ last_after t (w ++ b ∷ [])
   owes_behind fixes =
       let fixed = fixed_more t w b ∙ ap (λ c. if c then length w + 1 else fixed_len t w) fixes in
       let whole = length-append w (b ∷ []) in
@@ -166,9 +165,9 @@ module _ (conflicts : Table) (courses : List Course) (is : List ℕ) (es : List 
   effect_row r = with_running None (with_running (Some e) r)
 
   -- with another step
-  leaving : commits (kind_of (shape_of p.tree) e.step) ≡ false → stood p e t ≡ tables_at conflicts courses is (es ++ e ∷ [])
+  leaving : commits (shape_of p.tree) e.step ≡ false → stood p e t ≡ tables_at conflicts courses is (es ++ e ∷ [])
   leaving none =
-      let own : commits (kind_of s e.step) ≡ false = ap (λ x. commits (kind_of x e.step)) same_shape ∙ none in
+      let own : commits_after s w e.step ≡ false = commits_there s w e.step on ∙ (ap (λ x. commits x e.step) same_shape ∙ none) in
       let fixed = fixed_more s w e.step ∙ ap (λ c. if c then length w + 1 else fixed_len s w) own in
       let row : row_at courses es i ≡ row_at courses (es ++ e ∷ []) i =
       sym (own_after ∙ (ap (λ bs. own_row (planned_of (map (doing courses i) bs)) (fixed_len s (w ++ e.step ∷ []))) (owes_same s w e.step own) ∙ ap (own_row (planned_of (map (doing courses i) (forward s w)))) fixed)) in
@@ -183,9 +182,9 @@ module _ (conflicts : Table) (courses : List Course) (is : List ℕ) (es : List 
   planned_same (b ∷ bs) = ap (λ (c : Course). (b, slice_index_or c.ops b 0, slice_index_or c.keys b 0) ∷ planned_of (map (doing courses i) bs)) plan ∙ ap (λ ps. planned_step p b ∷ ps) (planned_same bs)
 
   -- with a commit point
-  fixing : commits (kind_of (shape_of p.tree) e.step) ≡ true → stood p e t ≡ tables_at conflicts courses is (es ++ e ∷ [])
+  fixing : commits (shape_of p.tree) e.step ≡ true → stood p e t ≡ tables_at conflicts courses is (es ++ e ∷ [])
   fixing fixes =
-      let own : commits (kind_of s e.step) ≡ true = ap (λ x. commits (kind_of x e.step)) same_shape ∙ fixes in
+      let own : commits_after s w e.step ≡ true = commits_there s w e.step on ∙ (ap (λ x. commits x e.step) same_shape ∙ fixes) in
       let after = took_effect i (run e t) in
       let n = length (of_process i (filter (λ (x : Entry). is_in x.process is) (es ++ e ∷ []))) in
       let fixed : n ≡ fixed_len s (w ++ e.step ∷ []) = own_count ∙ sym (fixed_more s w e.step ∙ ap (λ c. if c then length w + 1 else fixed_len s w) own) in
@@ -204,8 +203,8 @@ module _ (conflicts : Table) (courses : List Course) (is : List ℕ) (es : List 
       ∙ rows_changed (λ r. with_reserved (planned_behind p e.step) (with_fixed n (effect_row r))) (row_at courses es) (row_at courses (es ++ e ∷ [])) i is apart (λ k. refl) row others_stay among))))
 
   pub stood_is : stood p e t ≡ tables_at conflicts courses is (es ++ e ∷ [])
-  stood_is = by_kind (commits (kind_of (shape_of p.tree) e.step)) refl
+  stood_is = by_kind (commits (shape_of p.tree) e.step) refl
     where
-      by_kind : (c : Bool) → commits (kind_of (shape_of p.tree) e.step) ≡ c → stood p e t ≡ tables_at conflicts courses is (es ++ e ∷ [])
+      by_kind : (c : Bool) → commits (shape_of p.tree) e.step ≡ c → stood p e t ≡ tables_at conflicts courses is (es ++ e ∷ [])
       by_kind true is' = fixing is'
       by_kind false is' = leaving is'

@@ -1,11 +1,13 @@
 -- Beginnings: what it makes of seats and tables that processes begin to complete.
-use Rattle.std.specs.Prelude.{◌≡◌, ◌⊎◌, ℕ, zero, suc, ◌+◌, Bool, true, false, not, ◌&&◌, List, [], ◌∷◌, length, nat_eq, slice_index_or, Option, Some, None, is_some, is_none, if◌then◌else◌}
+use Rattle.std.specs.Prelude.{◌≡◌, ◌⊎◌, ℕ, zero, suc, ◌+◌, Bool, true, false, not, ◌&&◌, List, [], ◌∷◌, length, nat_eq}
+use Rattle.std.specs.Prelude.{slice_index_or, Option, Some, None, is_some, is_none, if◌then◌else◌}
 use Rattle.std.specs.Option.{option_map}
 use Rattle.process_tree.specs.Recovery.{forward}
 use Rattle.schedule_model.specs.Histories.{is_in}
 use Rattle.machine_model.specs.declared.began.Began.{Began}
 use Rattle.machine_model.specs.declared.began.Cause.{Cause}
-use Rattle.machine_model.specs.declared.began.Cause.TheVariants.{Abort as WasAborted, Cascade, Refused, Restart, Victim as WasVictim}
+use Rattle.machine_model.specs.declared.began.Cause.TheVariants.{Abort as WasAborted, Cascade, Refused, Restart}
+use Rattle.machine_model.specs.declared.began.Cause.TheVariants.{Victim as WasVictim}
 use Rattle.machine_model.specs.declared.kept.Kept.{Kept}
 use Rattle.machine_model.specs.declared.kept.Kept.TheVariants.{Abort, Victim}
 use Rattle.machine_model.specs.declared.replies.Aborted.{Aborted}
@@ -23,12 +25,14 @@ use Rattle.core_state.specs.Seats.{SeatState, no_seat}
 
 -- the seat of a process that begins to complete: its piece that was out is lost
 abbrev pub begun_seat : Began → SeatState → SeatState
-begun_seat b s = record { instance = option_map (λ x. moved_to x (begun x.state)) s.instance; out = None; lost = s.out; began = Some b }
+begun_seat b s =
+    record { instance = option_map (λ x. moved_to x (begun x.state)) s.instance; out = None; lost = s.out; began = Some b }
 
 -- its row: nothing is under way, what it owes stays reserved, and all that it can undo is pending
 abbrev pub begun_row_of : Option InstanceState → OpenProcess → OpenProcess
 begun_row_of None r = r
-begun_row_of (Some x) r = with_pending (pending_count (begun x.state)) (with_first_reserved (length (forward x.state.progress.shape x.state.progress.net)) (with_running None r))
+begun_row_of (Some x) r = with_pending (pending_count (begun x.state))
+    (with_first_reserved (length (forward x.state.progress.shape x.state.progress.net)) (with_running None r))
 
 abbrev pub begun_row : SeatState → OpenProcess → OpenProcess
 begun_row s r = begun_row_of s.instance r
@@ -74,7 +78,8 @@ seats_begun why event n ss = first_changed (λ i s. seat_with event (cause_if s 
 -- and the tables, by the seats before
 abbrev pub tables_begun : (ℕ → Option Cause) → List SeatState → ℕ → Tables → Tables
 tables_begun why ss zero t = t
-tables_begun why ss (suc n) t = let s = slice_index_or ss n no_seat in tables_with (suc n) s (cause_if s (why (suc n))) (tables_begun why ss n t)
+tables_begun why ss (suc n) t =
+    let s = slice_index_or ss n no_seat in tables_with (suc n) s (cause_if s (why (suc n))) (tables_begun why ss n t)
 
 -- each active process is open
 abbrev pub AreOpen : List SeatState → Tables → Type 0
@@ -117,7 +122,8 @@ refused_seat event b s = record {
 -- its row: nothing is under way, what it owes stays reserved, and what it has to undo now is pending
 abbrev pub refused_row_of : Option InstanceState → OpenProcess → OpenProcess
 refused_row_of None r = r
-refused_row_of (Some x) r = with_pending (pending_count (was_refused x.state)) (with_first_reserved (length (forward x.state.progress.shape x.state.progress.net)) (with_running None r))
+refused_row_of (Some x) r = with_pending (pending_count (was_refused x.state))
+    (with_first_reserved (length (forward x.state.progress.shape x.state.progress.net)) (with_running None r))
 
 abbrev pub refused_row : SeatState → OpenProcess → OpenProcess
 refused_row s r = refused_row_of s.instance r

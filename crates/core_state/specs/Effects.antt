@@ -7,7 +7,7 @@ use Rattle.process_tree.specs.Blocks.{outline}
 use Rattle.process_tree.specs.Conflicts.{operations_in}
 use Rattle.process_tree.specs.Making.{tree_fault}
 use Rattle.process_tree.specs.Order.{Each}
-use Rattle.process_tree.specs.Shape.{commits, kind_of, shape_of}
+use Rattle.process_tree.specs.Shape.{commits, shape_of}
 use Rattle.schedule_model.specs.declared.event.Event.{Event}
 use Rattle.schedule_model.specs.declared.event.Event.TheVariants.{Act, End as End'}
 use Rattle.machine_model.specs.declared.kept.Work.{Work}
@@ -34,7 +34,7 @@ seat_effected w s = record { instance = instance_effected w s.instance; out = No
 abbrev pub step_effected : Plan → ℕ → ℕ → Tables → Tables
 step_effected p i b t =
     let after = took_effect i t in
-    if commits (kind_of (shape_of p.tree) b) then changed (with_reserved (planned_behind p b)) i (all_fixed i after) else after
+    if commits (shape_of p.tree) b then changed (with_reserved (planned_behind p b)) i (all_fixed i after) else after
 
 -- the tables, where n entries of the process are to be undone after it
 abbrev pub tables_effected : Plan → ℕ → ℕ → Work → ℕ → Tables → Tables

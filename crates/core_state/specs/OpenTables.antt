@@ -1,11 +1,12 @@
 -- What the tables of hold are at a moment of the machine.
-use Rattle.std.specs.Prelude.{◌≡◌, ℕ, not, List, [], ◌∷◌, ◌++◌, filter, length, map, nat_eq, nat_le, slice_index_or, Option, None, if◌then◌else◌}
+use Rattle.std.specs.Prelude.{◌≡◌, ℕ, not, List, [], ◌∷◌, ◌++◌, filter, length, map, nat_eq, nat_le, slice_index_or, Option, None}
+use Rattle.std.specs.Prelude.{if◌then◌else◌}
 use Rattle.process_tree.specs.declared.entry.Entry.{Entry}
 use Rattle.process_tree.specs.Conflicts.{Table}
 use Rattle.process_tree.specs.Entries.{key_of}
 use Rattle.process_tree.specs.declared.plan.Plan.{Plan}
-use Rattle.process_tree.specs.Recovery.{forward, last_after}
-use Rattle.process_tree.specs.Shape.{branch_to, commits, fixed_len, kind_of, last_of, shape_of}
+use Rattle.process_tree.specs.Recovery.{forward}
+use Rattle.process_tree.specs.Shape.{branch_to, commits, fixed_len, last_of, shape_of, last_after}
 use Rattle.schedule_model.specs.Course.{Course, shape}
 use Rattle.schedule_model.specs.Histories.{active, doing, is_in, net, net_steps, of_process, steps_of}
 use Rattle.schedule_model.specs.declared.event.Event.{Event}
@@ -53,7 +54,8 @@ planned_behind p b = let t = shape_of p.tree in map (planned_step p) (last_after
 abbrev pub stood : Plan → Entry → Tables → Tables
 stood p e t =
     let after = took_effect e.process (run e t) in
-    if commits (kind_of (shape_of p.tree) e.step) then changed (with_reserved (planned_behind p e.step)) e.process (all_fixed e.process after) else after
+    if commits (shape_of p.tree) e.step then changed (with_reserved (planned_behind p e.step)) e.process (all_fixed e.process after)
+    else after
 
 -- the row of process i where these entries stand
 abbrev pub row_at : List Course → List Entry → ℕ → OpenProcess
@@ -68,7 +70,8 @@ row_at courses es i = record {
 
 -- the tables of these processes where these entries stand
 abbrev pub tables_at : Table → List Course → List ℕ → List Entry → Tables
-tables_at conflicts courses is es = record { conflicts = conflicts; net = filter (λ e. is_in e.process is) es; processes = map (row_at courses es) is }
+tables_at conflicts courses is es =
+    record { conflicts = conflicts; net = filter (λ e. is_in e.process is) es; processes = map (row_at courses es) is }
 
 -- the row of process i at an opening: of the first n processes, with what it has to undo
 abbrev pub row_up_to : ℕ → List Course → List Event → ℕ → OpenProcess
@@ -84,7 +87,8 @@ tables_up_to n conflicts courses h = record {
 
 -- They stand for what the active processes hold.
 abbrev pub TablesStandForHoldings : Type 0
-TablesStandForHoldings = (conflicts : Table) (courses : List Course) (m : Moment) → holdings_of (tables_of conflicts courses m) ≡ open_only (holdings courses m)
+TablesStandForHoldings = (conflicts : Table) (courses : List Course) (m : Moment)
+    → holdings_of (tables_of conflicts courses m) ≡ open_only (holdings courses m)
 
 -- the process of the last of these entries whose process has something to undo, if there is one
 abbrev pub last_pending : Tables → List Entry → Option ℕ

@@ -22,7 +22,8 @@ is_committing committing = true
 abbrev pub step_under_way : Plan → ℕ → ℕ → Tables → StepClass → Tables
 step_under_way p i b t reserved = run (entry_of p i b) t
 step_under_way p i b t undoable = run (entry_of p i b) t
-step_under_way p i b t committing = changed (with_reserved ((kept_of t i).reserved ++ planned_behind p b)) i (run (entry_of p i b) t)
+step_under_way p i b t committing =
+    changed (with_reserved ((kept_of t i).reserved ++ planned_behind p b)) i (run (entry_of p i b) t)
 
 -- work on step b of process i comes under way
 abbrev pub under_way : Plan → ℕ → ℕ → Tables → Work → Tables
@@ -35,10 +36,12 @@ abbrev pub FitsClass : Plan → ℕ → ℕ → Tables → StepClass → Type 0
 FitsClass p i b t reserved = Unit
 FitsClass p i b t undoable = Unit
 FitsClass p i b t committing =
-    (length (kept_of t i).reserved + length (planned_behind p b) ≤ length (outline p.tree).steps) × AreKnown t.conflicts (kept_of t i).reserved
+    (length (kept_of t i).reserved + length (planned_behind p b) ≤ length (outline p.tree).steps)
+    × AreKnown t.conflicts (kept_of t i).reserved
 
 -- work on step b of process i may come under way
 abbrev pub MayComeUnderWay : Plan → ℕ → ℕ → Tables → Work → Type 0
-MayComeUnderWay p i b t Forward = (b < length (outline p.tree).steps) × (can_run t (entry_of p i b) ≡ true) × FitsClass p i b t (class_in_tables t p i b)
+MayComeUnderWay p i b t Forward =
+    (b < length (outline p.tree).steps) × (can_run t (entry_of p i b) ≡ true) × FitsClass p i b t (class_in_tables t p i b)
 MayComeUnderWay p i b t Undo = (b < length (outline p.tree).steps) × (can_run t (undo_of (entry_of p i b)) ≡ true)
 MayComeUnderWay p i b t End = Unit

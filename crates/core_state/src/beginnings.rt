@@ -8,7 +8,8 @@ ghost use Rattle.cascade.specs.Walking.{last_entries};
 ghost use Rattle.core_state.specs.declared.beginnings.Beginners.TheVariants.{DraggedBy};
 ghost use Rattle.hold_tables.specs.Tables.{holdings_of, is_open, kept_of};
 ghost use Rattle.hold_tables.specs.Changes.{changed, stopped};
-ghost use Rattle.core_state.specs.Beginnings.{AreOpen, begun_row, begun_seat, can_begin, cause_if, cause_of, seat_with, seats_begun, tables_begun, tables_with};
+ghost use Rattle.core_state.specs.Beginnings.{AreOpen, begun_row, begun_seat, can_begin, cause_if, cause_of, seat_with};
+ghost use Rattle.core_state.specs.Beginnings.{seats_begun, tables_begun, tables_with};
 
 use crate::members::Cascade;
 use crate::seats::Seat;
@@ -102,8 +103,8 @@ pub fn begin_each(
     }
 }
 
-/// Whoever goes back with process `root`, which takes back what it has pending, begins to complete at the kept event of this number.
-/// They are in `members` then.
+/// Whoever goes back with process `root`, which takes back what it has pending, begins to complete at the kept event of this
+/// number. They are in `members` then.
 pub fn drag_along(
     seats: &mut Vec<Seat>,
     holds: &mut Holds,
@@ -116,9 +117,13 @@ pub fn drag_along(
     requires numbers { Each (λ r. r.process ≤ 4096) holds.old.processes }
     requires open { AreOpen seats.old.items holds.old }
     requires few { length seats.old.items ≤ 4096 }
-    ensures cascade { (k : ℕ) → is_in k members.new ≡ is_in k (cascade (do_conflict holds.old.conflicts) (holdings_of holds.old) root (last_entries holds.old root (kept_of holds.old root).pending)) }
-    ensures seats { seats.new.items ≡ seats_begun (cause_of (DraggedBy root) members.new) event (length seats.old.items) seats.old.items }
-    ensures holds { holds.new ≡ tables_begun (cause_of (DraggedBy root) members.new) seats.old.items (length seats.old.items) holds.old }
+    ensures cascade { (k : ℕ) → is_in k members.new ≡ is_in k
+        (cascade (do_conflict holds.old.conflicts) (holdings_of holds.old) root
+        (last_entries holds.old root (kept_of holds.old root).pending)) }
+    ensures seats { seats.new.items ≡ seats_begun (cause_of (DraggedBy root) members.new) event
+        (length seats.old.items) seats.old.items }
+    ensures holds { holds.new ≡ tables_begun (cause_of (DraggedBy root) members.new) seats.old.items
+        (length seats.old.items) holds.old }
 {
     let count = holds.pending(root);
     members.form(holds, root, count);

@@ -13,7 +13,7 @@ ghost use Rattle.core_state.specs.OpenTables.{planned_behind};
 use crate::owed::{PlannedSteps, add_owed};
 use hold_tables::Holds;
 use machine_model::Work;
-use process_tree::{Plan, kind_of};
+use process_tree::{Plan, commits};
 use schedule_model::Event;
 
 /// The event that what a process has under way makes once it took effect; with nothing under way that is its end.
@@ -50,7 +50,7 @@ fn effect_step(holds: &mut Holds, plan: &Plan, process: u32, step: u16)
     ensures { holds.new ≡ step_effected plan.now process step holds.old }
 {
     holds.take_effect(process);
-    if kind_of(&plan.tree, step).commits() {
+    if commits(&plan.tree, step) {
         fix_and_reserve(holds, plan, process, step);
     }
 }

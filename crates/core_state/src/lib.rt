@@ -1,9 +1,10 @@
 //! What a core keeps of its processes, and what each event makes of that.
 //!
-//! A core is a machine of `machine_model` with the plans of its processes (`specs/Cores`). Of each process that started it keeps a seat,
-//! and of what the active ones hold the tables; what both are at a moment of the machine is said in `specs/Seats` and `OpenTables`. Here
-//! they are made at an opening on any legal history, and changed by what happens: work comes under way, takes effect or is refused, and
-//! processes begin to complete. `process_core` puts these together to the calls of the scheduler. Only the opening takes memory.
+//! A core is a machine of `machine_model` with the plans of its processes (`specs/Cores`). Of each process that started it keeps a
+//! seat, and of what the active ones hold the tables; what both are at a moment of the machine is said in `specs/Seats` and
+//! `OpenTables`. Here they are made at an opening on any legal history, and changed by what happens: work comes under way, takes
+//! effect or is refused, and processes begin to complete. `process_core` puts these together to the calls of the scheduler. Only
+//! the opening takes memory.
 #![tactic(auto)]
 
 mod beginnings;

@@ -52,7 +52,8 @@ impl Cascade {
         requires root { is_open holds.now root ≡ true }
         requires count { count + (kept_of holds.now root).fixed ≤ length (of_process root holds.now.net) }
         requires few { Each (λ r. r.process ≤ 4096) holds.now.processes }
-        ensures { (k : ℕ) → is_in k self.new ≡ is_in k (cascade (do_conflict holds.now.conflicts) (holdings_of holds.now) root (last_entries holds.now root count)) }
+        ensures { (k : ℕ) → is_in k self.new ≡ is_in k
+            (cascade (do_conflict holds.now.conflicts) (holdings_of holds.now) root (last_entries holds.now root count)) }
     {
         closure(holds, root, count, &mut self.members);
     }

@@ -19,13 +19,14 @@ use schedule_model::History;
 fn pieces_for_step(plan: &Plan, n: u16) -> usize
     requires { n < length (outline plan.now.tree).steps }
     ensures pieces { result ≡ pieces_for_step (course_of plan.now ∷ []) 1 n }
-    ensures few { result ≤ 256 }
+    ensures few { result ≤ 512 }
 {
     let step = plan.tree.step(n);
     match step.kind {
         StepKind::C => 1 + usize::from(step.undo_tries),
         StepKind::P => 1,
         StepKind::R => usize::from(step.tries),
+        StepKind::Cr => usize::from(step.tries) + usize::from(step.undo_tries),
     }
 }
 
@@ -33,7 +34,7 @@ fn pieces_for_step(plan: &Plan, n: u16) -> usize
 fn pieces_for(plan: &Plan) -> usize
     requires { length plan.now.ops ≡ length (outline plan.now.tree).steps }
     ensures pieces { result ≡ pieces_for (course_of plan.now ∷ []) 1 }
-    ensures few { result ≤ 16777218 }
+    ensures few { result ≤ 33554434 }
 {
     let mut pieces = 0;
     for n in 0..plan.tree.count() {
@@ -42,16 +43,18 @@ fn pieces_for(plan: &Plan) -> usize
     pieces + 2
 }
 
-/// How many kept events a process of this plan can take: its start, its beginning to complete, and of each piece the hand and the end.
+/// How many kept events a process of this plan can take: its start, its beginning to complete, and of each piece the hand and the
+/// end.
 pub fn kept_for(plan: &Plan) -> usize
     requires { length plan.now.ops ≡ length (outline plan.now.tree).steps }
     ensures kept { result ≡ kept_for (course_of plan.now) }
-    ensures few { result ≤ 33554438 }
+    ensures few { result ≤ 67108870 }
 {
     2 * pieces_for(plan) + 2
 }
 
-/// How many events are kept at most after an opening on this history, before another process starts. The seats are those at the opening.
+/// How many events are kept at most after an opening on this history, before another process starts. The seats are those at the
+/// opening.
 pub fn room_at_opening(h: &History, seats: &[Seat]) -> usize
     requires core { (conflicts : Table) × IsCore (opened_on conflicts h.now.plans h.now.events) }
     requires few { length h.now.plans ≤ 4096 }

@@ -17,7 +17,7 @@ ghost use Rattle.core_state.specs.Seats.{seats_of};
 use crate::owed::planned_step;
 use crate::seats::Seat;
 use hold_tables::Holds;
-use process_tree::{Conflicts, Entry, Plan, kind_of};
+use process_tree::{Conflicts, Entry, Plan, commits};
 use schedule_model::History;
 use schedule_rules::{active, net};
 use std::alloc::{AllocError, Global};
@@ -64,7 +64,7 @@ fn stand(alloc: Global, holds: &mut Holds, plan: &Plan, e: Entry) -> Result<(), 
 {
     holds.run(e);
     holds.take_effect(e.process);
-    if kind_of(&plan.tree, e.step).commits() {
+    if commits(&plan.tree, e.step) {
         let planned = planned_behind(alloc, plan, e.step)?;
         holds.fix(e.process);
         holds.reserve(e.process, &planned);

@@ -26,7 +26,7 @@ fn is_committing(holds: &Holds, plan: &Plan, process: u32, step: u16) -> bool
     if is_reserved(holds, process, step) {
         return false;
     }
-    kind_of(&plan.tree, step).commits()
+    kind_of(&plan.tree, step).commits(false)
 }
 
 /// What a process has reserved.
@@ -50,7 +50,8 @@ fn reserve_owed(holds: &mut Holds, plan: &Plan, process: u32, step: u16)
     requires steps { (kept_of holds.old process).steps ≡ length (outline plan.now.tree).steps }
     requires step { step < length (outline plan.now.tree).steps }
     requires reserved { FitsClass plan.now process step holds.old committing }
-    ensures { holds.new ≡ changed (with_reserved ((kept_of holds.old process).reserved ++ planned_behind plan.now step)) process holds.old }
+    ensures { holds.new ≡ changed
+        (with_reserved ((kept_of holds.old process).reserved ++ planned_behind plan.now step)) process holds.old }
 {
     let mut planned = reserved_steps(holds, process);
     add_owed(&mut planned, plan, step);

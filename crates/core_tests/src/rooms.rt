@@ -1,5 +1,5 @@
-// What no clause says: that each call which wants memory succeeds where there is enough. A core opens, and a process starts in room that
-// was made before.
+// What no clause says: that each call which wants memory succeeds where there is enough. A core opens, and a process starts in room
+// that was made before.
 ghost use Rattle.std.specs.Prelude.{◌≡◌, ◌<◌, IfOk};
 ghost use Rattle.process_tree.specs.Conflicts.{operations_in};
 ghost use Rattle.process_tree.specs.Order.{Each};

@@ -31,8 +31,8 @@ pub const PURCHASE: &[u8] = b"process a c x add 1 5 p y pay 1 5 end";
 
 pub const SALE: &[u8] = b"process b c u take 1 2 p v pay 2 2 end";
 
-// A table of nine operations: version and count, then each with its subsystem and verb, and then the pairs of each with itself and the
-// later ones. Adding conflicts with taking, taking with taking and noting with noting, always; booking with booking by key.
+// A table of nine operations: version and count, then each with its subsystem and verb, and then the pairs of each with itself and
+// the later ones. Adding conflicts with taking, taking with taking and noting with noting, always; booking with booking by key.
 const CATALOG: &[u8] = b"\x02\x09\x00\
 \x03add\x00\x00\
 \x04take\x00\x01\

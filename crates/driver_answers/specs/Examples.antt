@@ -64,16 +64,19 @@ nobody_line = refl
 
 -- a piece of step 0 that is handed out
 abbrev pub handed : ℕ → ℕ → Work → Handed
-handed number process work = record { piece = record { number = number; process = process; step = 0; work = work }; tried = 0; refuse = 0 }
+handed number process work =
+    record { piece = record { number = number; process = process; step = 0; work = work }; tried = 0; refuse = 0 }
 
 -- what it calls stands behind its line
-pub called_line : with_call (purchase ∷ sale ∷ []) (handed 1 2 Forward ∷ []) (codes "victim 1\npiece 1: do 2.u\n") ≡ codes "victim 1\npiece 1: do 2.u take 1 5\n"
+pub called_line : with_call (purchase ∷ sale ∷ []) (handed 1 2 Forward ∷ []) (codes "victim 1\npiece 1: do 2.u\n")
+    ≡ codes "victim 1\npiece 1: do 2.u take 1 5\n"
 unfolding digits
 called_line = refl
 
 pub no_piece_handed : with_call (purchase ∷ sale ∷ []) [] (codes "all ended\n") ≡ codes "all ended\n"
 no_piece_handed = refl
 
-pub listed_lines : listed (purchase ∷ sale ∷ []) (handed 3 1 Forward ∷ handed 4 2 AnEnd ∷ []) ≡ codes "piece 3: do 1.x add 1 5\npiece 4: end 2\n"
+pub listed_lines : listed (purchase ∷ sale ∷ []) (handed 3 1 Forward ∷ handed 4 2 AnEnd ∷ [])
+    ≡ codes "piece 3: do 1.x add 1 5\npiece 4: end 2\n"
 unfolding digits
 listed_lines = refl

@@ -1,5 +1,6 @@
 -- What a driver reads for each of its lines, and what the line makes of the machine.
-use Rattle.std.specs.Prelude.{◌≡◌, ◌≢◌, ◌⊎◌, ℕ, zero, suc, List, [], ◌∷◌, Bool, true, false, drop, flat_map, length, codes, Option, Some, None}
+use Rattle.std.specs.Prelude.{◌≡◌, ◌≢◌, ◌⊎◌, ℕ, zero, suc, List, [], ◌∷◌, Bool, true, false, drop, flat_map, length, codes, Option}
+use Rattle.std.specs.Prelude.{Some, None}
 use Rattle.std.specs.List.{slice_get}
 use Rattle.process_tree.specs.declared.plan.Plan.{Plan}
 use Rattle.process_text.specs.Canonical.{line_of}
@@ -24,7 +25,8 @@ use Rattle.session_lines.specs.declared.cut.Cut.{Cut}
 use Rattle.session_lines.specs.declared.cut.Cut.TheVariants as cuts
 use Rattle.driver_requests.specs.declared.request.Request.{Request}
 use Rattle.driver_requests.specs.declared.request.Request.TheVariants.{Session, StartSpelled, Pieces, Happened}
-use Rattle.driver_requests.specs.Answers.{bad_line_words, called_piece, framed, happening_words, no_step_words, numbered_lines, piece_call, with_words}
+use Rattle.driver_requests.specs.Answers.{bad_line_words, called_piece, framed, happening_words, no_step_words, numbered_lines}
+use Rattle.driver_requests.specs.Answers.{piece_call, with_words}
 use Rattle.driver_requests.specs.Requests.{request_of}
 use Rattle.driver_answers.specs.Happenings.{happening, step_named}
 
@@ -84,11 +86,12 @@ abbrev pub no_plans_text : NoPlans → List ℕ
 no_plans_text (Refused r) = refusal_line r
 no_plans_text (IllFormed line) = line.items
 
--- `start process NAME .. end`: the process that the text spells starts, or is refused as that of a scenario is; a text of none, or of more
--- than one, is no line
+-- `start process NAME .. end`: the process that the text spells starts, or is refused as that of a scenario is; a text of none, or
+-- of more than one, is no line
 abbrev pub IsSpelledAnswered : Catalog → DriverState → ℕ → List ℕ → DriverState → List ℕ → Type 0
 IsSpelledAnswered c s n spelled t text =
-    ((p : Plan) × AreGoodPlans c.ops spelled (p ∷ []) × IsAnswered (play_start (as_session s) p.name (Some p)) t.core t.unfinished text)
+    ((p : Plan) × AreGoodPlans c.ops spelled (p ∷ [])
+    × IsAnswered (play_start (as_session s) p.name (Some p)) t.core t.unfinished text)
     ⊎ ((none : NoPlans) × AreNoGoodPlans c.ops spelled none × (none ≢ Refused NoMemory) × (t ≡ s) × (text ≡ no_plans_text none))
     ⊎ ((plans : List Plan) × AreGoodPlans c.ops spelled plans × (length plans ≢ 1) × (t ≡ s) × (text ≡ line_of (bad_line_words n)))
 
@@ -96,13 +99,15 @@ IsSpelledAnswered c s n spelled t text =
 abbrev pub IsRequestAnswered : Catalog → List Plan → DriverState → ℕ → List ℕ → Option Request → DriverState → List ℕ → Type 0
 IsRequestAnswered c plans s n line None t text = (t ≡ s) × (text ≡ line_of (bad_line_words n))
 IsRequestAnswered c plans s n line (Some (Session l)) t text =
-    (copy : Option Plan) × (printed : List ℕ) × IsCopy (plan_for plans l) copy × IsAnswered (play c (as_session s) l copy) t.core t.unfinished printed × (text ≡ served s t l printed)
+    (copy : Option Plan) × (printed : List ℕ) × IsCopy (plan_for plans l) copy
+    × IsAnswered (play c (as_session s) l copy) t.core t.unfinished printed × (text ≡ served s t l printed)
 IsRequestAnswered c plans s n line (Some StartSpelled) t text = IsSpelledAnswered c s n (drop 6 line) t text
 IsRequestAnswered c plans s n line (Some Pieces) t text = (t ≡ s) × (text ≡ numbered_lines (listed s.core.plans s.unfinished))
-IsRequestAnswered c plans s n line (Some (Happened i name)) t text = (t ≡ s) × (text ≡ line_of (happened (full_history s.core) i name))
+IsRequestAnswered c plans s n line (Some (Happened i name)) t text =
+    (t ≡ s) × (text ≡ line_of (happened (full_history s.core) i name))
 
--- Line n of the input, under this catalog and with these plans of the scenario, led from one state of the dialogue to another, and this is
--- its answer. An empty line has none.
+-- Line n of the input, under this catalog and with these plans of the scenario, led from one state of the dialogue to another, and
+-- this is its answer. An empty line has none.
 abbrev pub IsLineAnswered : Catalog → List Plan → DriverState → ℕ → List ℕ → DriverState → List ℕ → Type 0
 IsLineAnswered c plans s n [] t text = (t ≡ s) × (text ≡ [])
 IsLineAnswered c plans s n (b ∷ bs) t text = IsRequestAnswered c plans s n (b ∷ bs) (request_of (b ∷ bs)) t text
@@ -110,7 +115,8 @@ IsLineAnswered c plans s n (b ∷ bs) t text = IsRequestAnswered c plans s n (b 
 -- a machine that a line may lead to
 abbrev pub LeadsTo : Catalog → List Plan → DriverState → List ℕ → Option Request → CoreState → Type 0
 LeadsTo c plans s line None core = core ≡ s.core
-LeadsTo c plans s line (Some (Session l)) core = (copy : Option Plan) × IsCopy (plan_for plans l) copy × (core ≡ (play c (as_session s) l copy).state.core)
+LeadsTo c plans s line (Some (Session l)) core =
+    (copy : Option Plan) × IsCopy (plan_for plans l) copy × (core ≡ (play c (as_session s) l copy).state.core)
 LeadsTo c plans s line (Some StartSpelled) core =
     (p : Plan) × AreGoodPlans c.ops (drop 6 line) (p ∷ []) × (core ≡ (play_start (as_session s) p.name (Some p)).state.core)
 LeadsTo c plans s line (Some Pieces) core = core ≡ s.core

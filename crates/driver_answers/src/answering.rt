@@ -56,12 +56,19 @@ fn answer_session<R: Rack + Drop, B: Resource>(
     requires plans { Each (IsPlanFor engine.old.catalog) plans.now }
     requires handed { AreHandedBy engine.old.core pieces.old.items }
     ensures answered { IfOk result (λ text. (copy : Option Plan') × (printed : List ℕ) × IsCopy (plan_for plans.now line.now) copy
-        × IsAnswered (play engine.old.catalog (session_of engine.old.core pieces.old.items) line.now copy) engine.new.core pieces.new.items printed
-        × (text.items ≡ served (record { core = engine.old.core; unfinished = pieces.old.items }) (record { core = engine.new.core; unfinished = pieces.new.items }) line.now printed)) }
+        × IsAnswered (play engine.old.catalog
+        (session_of engine.old.core pieces.old.items) line.now copy) engine.new.core pieces.new.items printed
+        × (text.items ≡ served (record { core = engine.old.core; unfinished = pieces.old.items })
+        (record { core = engine.new.core; unfinished = pieces.new.items }) line.now printed)) }
     ensures handed { OnOk result (AreHandedBy engine.new.core pieces.new.items) }
-    ensures cut { IfErr result (λ cut. ((cut ≡ DiskFault) × (engine.new.core ≡ engine.old.core)) ⊎ ((cut ≡ NoMemory) × ((engine.new.core ≡ engine.old.core)
-        ⊎ ((copy : Option Plan') × IsCopy (plan_for plans.now line.now) copy × (engine.new.core ≡ (play engine.old.catalog (session_of engine.old.core pieces.old.items) line.now copy).state.core))))) }
-    ensures fault { IfErr result (λ cut. cut ≡ DiskFault → (engine.new.phase ≡ phase.Closed) × Rose (R.faults engine.old.files.rack) (R.faults engine.new.files.rack)) }
+    ensures cut { IfErr result
+        (λ cut. ((cut ≡ DiskFault) × (engine.new.core ≡ engine.old.core)) ⊎ ((cut ≡ NoMemory) × ((engine.new.core ≡ engine.old.core)
+        ⊎ ((copy : Option Plan') × IsCopy (plan_for plans.now line.now) copy
+        × (engine.new.core ≡ (play engine.old.catalog
+        (session_of engine.old.core pieces.old.items) line.now copy).state.core))))) }
+    ensures fault { IfErr result
+        (λ cut. cut ≡ DiskFault → (engine.new.phase ≡ phase.Closed)
+        × Rose (R.faults engine.old.files.rack) (R.faults engine.new.files.rack)) }
     ensures goes { GoesOn R.disk R.faults plans.now engine.old engine.new }
     ensures fits { EachFits B.meaning B.sort engine.new.files.stores }
     ensures ready { result ≢ Err DiskFault → IsReady B.meaning B.sort engine.new }
@@ -84,17 +91,23 @@ pub fn answer_line<R: Rack + Drop, B: Resource>(
     requires ready { IsReady B.meaning B.sort engine.old }
     requires plans { Each (IsPlanFor engine.old.catalog) plans.now }
     requires handed { AreHandedBy engine.old.core pieces.old.items }
-    ensures answered { IfOk result (λ text. IsLineAnswered engine.old.catalog plans.now (record { core = engine.old.core; unfinished = pieces.old.items }) number line.now
+    ensures answered { IfOk result
+        (λ text. IsLineAnswered engine.old.catalog plans.now
+        (record { core = engine.old.core; unfinished = pieces.old.items }) number line.now
         (record { core = engine.new.core; unfinished = pieces.new.items }) text.items) }
     ensures handed { OnOk result (AreHandedBy engine.new.core pieces.new.items) }
-    ensures cut { IfErr result (λ cut. IsLineCut engine.old.catalog plans.now (record { core = engine.old.core; unfinished = pieces.old.items }) line.now cut engine.new.core) }
-    ensures fault { IfErr result (λ cut. cut ≡ DiskFault → (engine.new.phase ≡ phase.Closed) × Rose (R.faults engine.old.files.rack) (R.faults engine.new.files.rack)) }
+    ensures cut { IfErr result
+        (λ cut. IsLineCut engine.old.catalog plans.now
+        (record { core = engine.old.core; unfinished = pieces.old.items }) line.now cut engine.new.core) }
+    ensures fault { IfErr result
+        (λ cut. cut ≡ DiskFault → (engine.new.phase ≡ phase.Closed)
+        × Rose (R.faults engine.old.files.rack) (R.faults engine.new.files.rack)) }
     // No start was under way but of a plan of the scenario, or of one that the line spells.
     ensures goes { (spelled : List Plan') × GoesOn R.disk R.faults (plans.now ++ spelled) engine.old engine.new }
     ensures fits { EachFits B.meaning B.sort engine.new.files.stores }
     ensures ready { result ≢ Err DiskFault → IsReady B.meaning B.sort engine.new }
 {
-    engine.is_sound();
+    engine.invariant_holds();
     if line.is_empty() {
         return Ok(Vec::new(alloc));
     }

@@ -1,8 +1,9 @@
 //! The lines of a driver, one by one: each is answered over an engine.
 //!
-//! `specs/Serving` says what a driver reads for each line and what the line makes of the machine: a line of a session does what it does
-//! there, by `session_lines`. `specs/Happenings` says what became of a step. `answer_line` answers a line, or tells why the dialogue ends with it
-//! (`Cut`). What lines say and how answers read is `driver_requests`'; lines one after another, and the command, are `serve_run`'s.
+//! `specs/Serving` says what a driver reads for each line and what the line makes of the machine: a line of a session does what it
+//! does there, by `session_lines`. `specs/Happenings` says what became of a step. `answer_line` answers a line, or tells why the
+//! dialogue ends with it (`Cut`). What lines say and how answers read is `driver_requests`'; lines one after another, and the
+//! command, are `serve_run`'s.
 #![tactic(auto)]
 
 mod answering;

@@ -69,14 +69,20 @@ fn start_named<R: Rack + Drop, B: Resource>(
 ) -> Result<Vec<u8>, Cut>
     requires ready { IsReady B.meaning B.sort engine.old }
     requires plan { IsPlanFor engine.old.catalog plan }
-    ensures answered { IfOk result (λ text. (ps : List Handed) → IsAnswered (play_start (session_of engine.old.core ps) plan.name (Some plan)) engine.new.core ps text.items) }
-    ensures cut { IfErr result (λ cut. (ps : List Handed) → IsCut cut (play_start (session_of engine.old.core ps) plan.name (Some plan)) engine.old.core engine.new.core) }
-    ensures fault { IfErr result (λ cut. cut ≡ DiskFault → (engine.new.phase ≡ phase.Closed) × Rose (R.faults engine.old.files.rack) (R.faults engine.new.files.rack)) }
+    ensures answered { IfOk result
+        (λ text. (ps : List Handed) → IsAnswered
+        (play_start (session_of engine.old.core ps) plan.name (Some plan)) engine.new.core ps text.items) }
+    ensures cut { IfErr result
+        (λ cut. (ps : List Handed) → IsCut cut
+        (play_start (session_of engine.old.core ps) plan.name (Some plan)) engine.old.core engine.new.core) }
+    ensures fault { IfErr result
+        (λ cut. cut ≡ DiskFault → (engine.new.phase ≡ phase.Closed)
+        × Rose (R.faults engine.old.files.rack) (R.faults engine.new.files.rack)) }
     ensures goes { (may_start : List Plan') → IsOneOf may_start plan → GoesOn R.disk R.faults may_start engine.old engine.new }
     ensures fits { EachFits B.meaning B.sort engine.new.files.stores }
     ensures ready { result ≢ Err DiskFault → IsReady B.meaning B.sort engine.new }
 {
-    engine.is_sound();
+    engine.invariant_holds();
     let name = plan.name.bytes().to_vec(alloc)?;
     play_plan(alloc, engine, &name, plan)
 }
@@ -90,16 +96,24 @@ fn start_one<R: Rack + Drop, B: Resource>(
 ) -> Result<Vec<u8>, Cut>
     requires ready { IsReady B.meaning B.sort engine.old }
     requires plans { Each (IsPlanFor engine.old.catalog) plans.items }
-    ensures answered { IfOk result (λ text. ((p : Plan') × (plans.items ≡ p ∷ []) × ((ps : List Handed) → IsAnswered (play_start (session_of engine.old.core ps) p.name (Some p)) engine.new.core ps text.items))
+    ensures answered { IfOk result
+        (λ text. ((p : Plan') × (plans.items ≡ p ∷ [])
+        × ((ps : List Handed) → IsAnswered
+        (play_start (session_of engine.old.core ps) p.name (Some p)) engine.new.core ps text.items))
         ⊎ ((length plans.items ≢ 1) × (engine.new ≡ engine.old) × (text.items ≡ line_of (bad_line_words number)))) }
-    ensures cut { IfErr result (λ cut. ((cut ≡ DiskFault) × (engine.new.core ≡ engine.old.core)) ⊎ ((cut ≡ NoMemory) × ((engine.new.core ≡ engine.old.core)
-        ⊎ ((p : Plan') × (plans.items ≡ p ∷ []) × ((ps : List Handed) → engine.new.core ≡ (play_start (session_of engine.old.core ps) p.name (Some p)).state.core))))) }
-    ensures fault { IfErr result (λ cut. cut ≡ DiskFault → (engine.new.phase ≡ phase.Closed) × Rose (R.faults engine.old.files.rack) (R.faults engine.new.files.rack)) }
-    ensures goes { (may_start : List Plan') → ((p : Plan') → plans.items ≡ p ∷ [] → IsOneOf may_start p) → GoesOn R.disk R.faults may_start engine.old engine.new }
+    ensures cut { IfErr result
+        (λ cut. ((cut ≡ DiskFault) × (engine.new.core ≡ engine.old.core)) ⊎ ((cut ≡ NoMemory) × ((engine.new.core ≡ engine.old.core)
+        ⊎ ((p : Plan') × (plans.items ≡ p ∷ []) ×
+        ((ps : List Handed) → engine.new.core ≡ (play_start (session_of engine.old.core ps) p.name (Some p)).state.core))))) }
+    ensures fault { IfErr result
+        (λ cut. cut ≡ DiskFault → (engine.new.phase ≡ phase.Closed)
+        × Rose (R.faults engine.old.files.rack) (R.faults engine.new.files.rack)) }
+    ensures goes { (may_start : List Plan') → ((p : Plan') → plans.items ≡ p ∷ [] → IsOneOf may_start p)
+        → GoesOn R.disk R.faults may_start engine.old engine.new }
     ensures fits { EachFits B.meaning B.sort engine.new.files.stores }
     ensures ready { result ≢ Err DiskFault → IsReady B.meaning B.sort engine.new }
 {
-    engine.is_sound();
+    engine.invariant_holds();
     match only_one(plans) {
         Some(plan) => start_named(alloc, engine, plan),
         None => Ok(bad_line(alloc, number)?),
@@ -114,17 +128,25 @@ pub fn start_spelled<R: Rack + Drop, B: Resource>(
     number: u64,
 ) -> Result<Vec<u8>, Cut>
     requires ready { IsReady B.meaning B.sort engine.old }
-    ensures answered { IfOk result (λ text. (ps : List Handed) → IsSpelledAnswered engine.old.catalog (record { core = engine.old.core; unfinished = ps }) number spelled.now
+    ensures answered { IfOk result
+        (λ text. (ps : List Handed) → IsSpelledAnswered engine.old.catalog
+        (record { core = engine.old.core; unfinished = ps }) number spelled.now
         (record { core = engine.new.core; unfinished = ps }) text.items) }
-    ensures cut { IfErr result (λ cut. ((cut ≡ DiskFault) × (engine.new.core ≡ engine.old.core)) ⊎ ((cut ≡ NoMemory) × ((engine.new.core ≡ engine.old.core)
-        ⊎ ((p : Plan') × AreGoodPlans engine.old.catalog.ops spelled.now (p ∷ []) × ((ps : List Handed) → engine.new.core ≡ (play_start (session_of engine.old.core ps) p.name (Some p)).state.core))))) }
-    ensures fault { IfErr result (λ cut. cut ≡ DiskFault → (engine.new.phase ≡ phase.Closed) × Rose (R.faults engine.old.files.rack) (R.faults engine.new.files.rack)) }
+    ensures cut { IfErr result
+        (λ cut. ((cut ≡ DiskFault) × (engine.new.core ≡ engine.old.core)) ⊎ ((cut ≡ NoMemory) × ((engine.new.core ≡ engine.old.core)
+        ⊎ ((p : Plan') × AreGoodPlans engine.old.catalog.ops spelled.now (p ∷ [])
+        × ((ps : List Handed) → engine.new.core ≡ (play_start (session_of engine.old.core ps) p.name (Some p)).state.core))))) }
+    ensures fault { IfErr result
+        (λ cut. cut ≡ DiskFault → (engine.new.phase ≡ phase.Closed)
+        × Rose (R.faults engine.old.files.rack) (R.faults engine.new.files.rack)) }
     // No start was under way but of a plan that the text spells.
-    ensures goes { (spelled : List Plan') × ((may_start : List Plan') → ((p : Plan') → IsOneOf spelled p → IsOneOf may_start p) → GoesOn R.disk R.faults may_start engine.old engine.new) }
+    ensures goes { (spelled : List Plan') ×
+        ((may_start : List Plan') → ((p : Plan') → IsOneOf spelled p → IsOneOf may_start p)
+        → GoesOn R.disk R.faults may_start engine.old engine.new) }
     ensures fits { EachFits B.meaning B.sort engine.new.files.stores }
     ensures ready { result ≢ Err DiskFault → IsReady B.meaning B.sort engine.new }
 {
-    engine.is_sound();
+    engine.invariant_holds();
     match good_plans(alloc, spelled, engine.catalog()) {
         Ok(plans) => start_one(alloc, engine, plans, number),
         Err(none) => Ok(no_plans_text(alloc, none)?),

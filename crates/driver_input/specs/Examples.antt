@@ -20,7 +20,8 @@ pub a_last_mark : IsPartOf (codes "%%") [] (codes "a = 1\n") (codes "a = 1\n") E
 a_last_mark = (refl, refl, refl)
 
 -- what the source gave behind the mark stands ready
-pub a_preamble : IsScenarioTaken (Some (codes "a = 1\n%%\nnext\nstop\n")) (Some (codes "op\n")) (codes "a = 1\n") (codes "next\nst") 3
+pub a_preamble : IsScenarioTaken (Some (codes "a = 1\n%%\nnext\nstop\n")) (Some (codes "op\n")) (codes "a = 1\n")
+    (codes "next\nst") 3
 a_preamble = record {
   bytes = codes "a = 1\n%%\nnext\nst";
   taken = refl;

@@ -11,14 +11,18 @@ use Rattle.driver_input.specs.declared.parts.Part.TheVariants.{Line, Mark, End, 
 abbrev pub unless_mark : List ℕ → List ℕ
 unless_mark rest = if same_text rest (codes "%%") then [] else rest
 
--- These bytes, which stand where a line begins, are taken up to what is left, and this came to the scenario: a line with its line feed; or nothing, the
--- line being the mark; or what stands behind the last line feed. Or the line has more bytes than a scenario may have.
+-- These bytes, which stand where a line begins, are taken up to what is left, and this came to the scenario: a line with its line
+-- feed; or nothing, the line being the mark; or what stands behind the last line feed. Or the line has more bytes than a scenario
+-- may have.
 abbrev pub IsPartOf : List ℕ → List ℕ → List ℕ → List ℕ → Part → Type 0
 IsPartOf bytes left scenario longer Line =
-    (line : List ℕ) × (cut 10 bytes ≡ Some (line, left)) × (same_text line (codes "%%") ≡ false) × (longer ≡ scenario ++ (line ++ (10 ∷ [])))
-IsPartOf bytes left scenario longer Mark = (line : List ℕ) × (cut 10 bytes ≡ Some (line, left)) × (same_text line (codes "%%") ≡ true) × (longer ≡ scenario)
+    (line : List ℕ) × (cut 10 bytes ≡ Some (line, left)) × (same_text line (codes "%%") ≡ false)
+    × (longer ≡ scenario ++ (line ++ (10 ∷ [])))
+IsPartOf bytes left scenario longer Mark =
+    (line : List ℕ) × (cut 10 bytes ≡ Some (line, left)) × (same_text line (codes "%%") ≡ true) × (longer ≡ scenario)
 IsPartOf bytes left scenario longer End = (cut 10 bytes ≡ None) × (left ≡ []) × (longer ≡ scenario ++ unless_mark bytes)
-IsPartOf bytes left scenario longer Long = (front behind : List ℕ) × (bytes ≡ front ++ behind) × (cut 10 front ≡ None) × (most_input < length front)
+IsPartOf bytes left scenario longer Long =
+    (front behind : List ℕ) × (bytes ≡ front ++ behind) × (cut 10 front ≡ None) × (most_input < length front)
 
 -- at the end the source has nothing left, where it tells
 abbrev pub IsLastOf : Option (List ℕ) → Part → Type 0

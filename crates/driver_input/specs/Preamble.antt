@@ -9,15 +9,16 @@ use Rattle.program_lines.specs.declared.refusal.Refusal.TheVariants.{Limit, Read
 use Rattle.command_input.specs.Inputs.{Input, most_input}
 use Rattle.session_text.specs.Sessions.{mark_of, scenario_of}
 
--- The source gave these bytes, and in front of their mark stands this scenario, as in the text of a session. Behind the mark stand the bytes that are ready, of
--- which the first line has this number; or the source is at its end, and there are none.
+-- The source gave these bytes, and in front of their mark stands this scenario, as in the text of a session. Behind the mark stand
+-- the bytes that are ready, of which the first line has this number; or the source is at its end, and there are none.
 pub record IsScenarioTaken (before after : Option (List ℕ)) (scenario ready : List ℕ) (first : ℕ) : Type 0 where
   pub bytes : List ℕ
   pub taken : Consumes before after bytes
   pub scenario_is : scenario ≡ scenario_of bytes
   pub whole : IfSome before (λ text. scenario ≡ scenario_of text)
   pub within : length scenario ≤ most_input
-  pub behind : ((n : ℕ) × (mark_of bytes ≡ Some (record { size = length scenario; number = n; lines = parts 10 ready })) × (first ≡ n + 1)) ⊎ ((ready ≡ []) × IsAtEnd after)
+  pub behind : ((n : ℕ) × (mark_of bytes ≡ Some (record { size = length scenario; number = n; lines = parts 10 ready }))
+      × (first ≡ n + 1)) ⊎ ((ready ≡ []) × IsAtEnd after)
 
 -- no scenario came: there was more of it than may be, or the source failed, or memory was wanting
 abbrev pub HasNoScenario : Refusal → Input → Input → Type 0

@@ -50,7 +50,9 @@ fn add_line(text: &mut Vec<u8>, line: &[u8]) -> Result<(), AllocError>
 
 // Adds what was taken to a scenario.
 fn add(scenario: &mut Vec<u8>, taken: Taken) -> Result<Part, AllocError>
-    ensures part { IfOk result (λ part. (bytes left : List ℕ) → IsFirstOf most_input bytes left taken → IsPartOf bytes left scenario.old.items scenario.new.items part) }
+    ensures part { IfOk result
+        (λ part. (bytes left : List ℕ) → IsFirstOf most_input bytes left taken
+        → IsPartOf bytes left scenario.old.items scenario.new.items part) }
     ensures last { IfOk result (λ part. (after : Option (List ℕ)) → IsEndOf after taken → IsLastOf after part) }
 {
     match taken {
@@ -78,8 +80,10 @@ pub fn take_part<S: Source>(
     source: &mut S,
     scenario: &mut Vec<u8>,
 ) -> Result<Part, Refusal>
-    ensures part { IfOk result (IsPartTaken reader.old reader.new scenario.old.items scenario.new.items (S.left source.old) (S.left source.new)) }
-    ensures refused { IfErr result (λ r. ((r ≡ refusals.ReadFault) × Rose (S.faults source.old) (S.faults source.new)) ⊎ (r ≡ refusals.NoMemory)) }
+    ensures part { IfOk result
+        (IsPartTaken reader.old reader.new scenario.old.items scenario.new.items (S.left source.old) (S.left source.new)) }
+    ensures refused { IfErr result
+        (λ r. ((r ≡ refusals.ReadFault) × Rose (S.faults source.old) (S.faults source.new)) ⊎ (r ≡ refusals.NoMemory)) }
     ensures later { S.faults source.old ≤ S.faults source.new }
     ensures quiet { OnOk result (S.faults source.new ≡ S.faults source.old) }
 {

@@ -26,7 +26,8 @@ fn too_long() -> Refusal
 
 // Refuses a scenario that is too long.
 fn within(scenario: Vec<u8>, first: u64) -> Result<Preamble, Refusal>
-    ensures same { IfOk result (λ p. (p.scenario.items ≡ scenario.items) × (p.first ≡ first) × (length scenario.items ≤ most_input)) }
+    ensures same { IfOk result
+        (λ p. (p.scenario.items ≡ scenario.items) × (p.first ≡ first) × (length scenario.items ≤ most_input)) }
     ensures refused { IfErr result (λ r. (r ≡ refusals.Limit quantities.Input 1048577) × (most_input < length scenario.items)) }
 {
     if scenario.len() > MOST_INPUT as usize {

@@ -1,5 +1,6 @@
 -- The words of what a driver reads.
-use Rattle.std.specs.Prelude.{ℕ, ◌-◌, List, [], ◌∷◌, ◌++◌, Bool, true, false, map, filter, length, take, nat_eq, slice_index_or, if◌then◌else◌, Option, Some, None, codes, decimal}
+use Rattle.std.specs.Prelude.{ℕ, ◌-◌, List, [], ◌∷◌, ◌++◌, Bool, true, false, map, filter, length, take, nat_eq, slice_index_or}
+use Rattle.std.specs.Prelude.{if◌then◌else◌, Option, Some, None, codes, decimal}
 use Rattle.std.specs.Fmt.{signed_decimal}
 use Rattle.std.specs.List.{slice_get}
 use Rattle.process_tree.specs.Blocks.{outline}
@@ -53,7 +54,8 @@ lines_in text = length (filter (λ c. nat_eq c 10) text)
 abbrev pub numbered_lines : List ℕ → List ℕ
 numbered_lines text = line_of (numbered (codes "lines") (lines_in text)) ++ text
 
--- How a driver sees where an answer ends: it is one line, or `lines N` and N lines. What may have any number of lines has that number always.
+-- How a driver sees where an answer ends: it is one line, or `lines N` and N lines. What may have any number of lines has that
+-- number always.
 abbrev pub framed : Bool → List ℕ → List ℕ
 framed true text = numbered_lines text
 framed false text = if nat_eq (lines_in text) 1 then text else numbered_lines text

@@ -51,20 +51,24 @@ unfolding digits
 no_pieces = refl
 
 -- a piece is told with what it calls
-pub a_call : line_of (called_piece (purchase ∷ sale ∷ []) (record { number = 1; process = 1; step = 0; work = Forward })) ≡ codes "piece 1: do 1.x add 1 5\n"
+pub a_call : line_of (called_piece (purchase ∷ sale ∷ []) (record { number = 1; process = 1; step = 0; work = Forward }))
+    ≡ codes "piece 1: do 1.x add 1 5\n"
 unfolding digits
 a_call = refl
 
-pub a_call_of_an_undo : line_of (called_piece (purchase ∷ sale ∷ []) (record { number = 3; process = 2; step = 0; work = Undo })) ≡ codes "piece 3: undo 2.u take 1 5\n"
+pub a_call_of_an_undo : line_of (called_piece (purchase ∷ sale ∷ []) (record { number = 3; process = 2; step = 0; work = Undo }))
+    ≡ codes "piece 3: undo 2.u take 1 5\n"
 unfolding digits
 a_call_of_an_undo = refl
 
 -- there is no such step
-pub a_call_of_none : line_of (called_piece (purchase ∷ []) (record { number = 3; process = 1; step = 2; work = Forward })) ≡ codes "piece 3: do 1.\n"
+pub a_call_of_none : line_of (called_piece (purchase ∷ []) (record { number = 3; process = 1; step = 2; work = Forward }))
+    ≡ codes "piece 3: do 1.\n"
 unfolding digits
 a_call_of_none = refl
 
-pub an_end : line_of (called_piece (purchase ∷ []) (record { number = 4; process = 1; step = 0; work = End })) ≡ codes "piece 4: end 1\n"
+pub an_end : line_of (called_piece (purchase ∷ []) (record { number = 4; process = 1; step = 0; work = End }))
+    ≡ codes "piece 4: end 1\n"
 unfolding digits
 an_end = refl
 

@@ -105,7 +105,9 @@ pub fn put_called_piece(
     work: Work,
     out: &mut Vec<u8>,
 ) -> Result<(), AllocError>
-    ensures { OnOk result (out.new.items ≡ out.old.items ++ line_of (called_piece h.now.plans (record { number = n; process = i; step = step; work = work }))) }
+    ensures { OnOk result
+        (out.new.items ≡ out.old.items ++ line_of
+        (called_piece h.now.plans (record { number = n; process = i; step = step; work = work }))) }
 {
     let mut line = Vec::new(alloc);
     put_piece(alloc, h, n, i, step, work, &mut line)?;

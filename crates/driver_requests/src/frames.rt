@@ -30,8 +30,8 @@ fn numbered_lines(alloc: Global, count: usize, text: &[u8]) -> Result<Vec<u8>, A
     Ok(whole)
 }
 
-/// An answer as a driver reads it: a text of one line as it is, unless it is one that may have any number of lines; any other behind
-/// the number of its lines.
+/// An answer as a driver reads it: a text of one line as it is, unless it is one that may have any number of lines; any other
+/// behind the number of its lines.
 pub fn framed(alloc: Global, always: bool, text: Vec<u8>) -> Result<Vec<u8>, AllocError>
     ensures { IfOk result (λ whole. whole.items ≡ framed always text.items) }
 {

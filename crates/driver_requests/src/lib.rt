@@ -1,8 +1,8 @@
 //! The language of drivers: what their lines ask for beyond a session's, and the lines of the answers.
 //!
 //! `specs/Requests` has the form of each line, and `request_of` reads it. `specs/Answers` has the words of each answer, and how an
-//! answer of several lines is told from one line; `specs/Readiness` has what a driver reads first. The functions of `answers`, `calls`,
-//! `frames` and `readiness` write these. What a request does is no question of this crate.
+//! answer of several lines is told from one line; `specs/Readiness` has what a driver reads first. The functions of `answers`,
+//! `calls`, `frames` and `readiness` write these. What a request does is no question of this crate.
 #![tactic(auto)]
 
 mod answers;

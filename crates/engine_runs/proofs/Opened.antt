@@ -22,7 +22,7 @@ module _ {R B : Type 0} (may_start : List Plan) (r : Racks R) (honest : (rack : 
     (one_each : OneEach (full_history opening.core)) (tells : (r.disk opening.files.rack).tells ≡ (r.disk entry).tells)
     (was_sound : Told (r.disk entry) → IsSound opening.catalog (full_history opening.core) (r.disk entry).files)
     (became : Told (r.disk entry) → BecomesSound opening.catalog (full_history opening.core) (r.disk entry) (r.disk opening.files.rack))
-    (is_sound : Told (r.disk entry) → EachImage (r.disk opening.files.rack) (r.disk opening.files.rack).moment (IsSound opening.catalog (full_history opening.core)))
+    (invariant_holds : Told (r.disk entry) → EachImage (r.disk opening.files.rack) (r.disk opening.files.rack).moment (IsSound opening.catalog (full_history opening.core)))
     (goes : GoesOn r.disk r.faults may_start opening now) where
   abbrev before : Disk
   before = r.disk entry

@@ -1,5 +1,6 @@
 -- What the answers of gates have to do with what an engine keeps.
-use Rattle.std.specs.Prelude.{◌≡◌, ◌≢◌, ◌⊎◌, ◌≤◌, ◌<◌, ⊤, ℕ, zero, suc, ◌+◌, ◌-◌, ◌^◌, min, Bool, false, not, nat_eq, List, [], ◌∷◌, ◌++◌, drop, filter, length, if◌then◌else◌, Option, Some, None, IfSome, IsTrue, refl}
+use Rattle.std.specs.Prelude.{◌≡◌, ◌≢◌, ◌⊎◌, ◌≤◌, ◌<◌, ⊤, ℕ, zero, suc, ◌+◌, ◌-◌, ◌^◌, min, Bool, false, not, nat_eq, List, [], ◌∷◌}
+use Rattle.std.specs.Prelude.{◌++◌, drop, filter, length, if◌then◌else◌, Option, Some, None, IfSome, IsTrue, refl}
 use Rattle.commute_table.specs.declared.catalog.Catalog.{Catalog}
 use Rattle.machine_model.specs.declared.kept.Kept.{Kept}
 use Rattle.machine_model.specs.declared.kept.Kept.TheVariants.{Start, Hand, Effect, Refuse, Abort, Victim, Restart}
@@ -61,10 +62,11 @@ pub record IsHandedAs (c : CoreState) (d : Handed) : Type 0 where
 abbrev pub is_barred_in : Catalog → CoreState → Piece → Bool
 is_barred_in catalog c p = if same_work p.work End then false else bars_act catalog.ops (full_history c) (act_of c.plans p)
 
--- Where gates tell their answers to pieces, an effect is of a piece that the gate does, or the end of a process, and a refusal is of
--- one that the gate refuses or that is barred. The core had kept what stands before the event.
+-- Where gates tell their answers to pieces, an effect is of a piece that the gate does, or the end of a process, and a refusal is
+-- of one that the gate refuses or that is barred. The core had kept what stands before the event.
 abbrev pub IsAnswered : (Handed → Option Answer) → Catalog → CoreState → Kept → Type 0
-IsAnswered answers catalog c (Effect n) = IfSome (piece_of c.kept n) (λ p. p.work ≢ End → IfSome (answers (as_handed c p)) (λ a. a ≡ Done))
+IsAnswered answers catalog c (Effect n) =
+    IfSome (piece_of c.kept n) (λ p. p.work ≢ End → IfSome (answers (as_handed c p)) (λ a. a ≡ Done))
 IsAnswered answers catalog c (Refuse n) =
     IfSome (piece_of c.kept n) (λ p. IfSome (answers (as_handed c p)) (λ a. (a ≡ Refused) ⊎ IsTrue (is_barred_in catalog c p)))
 IsAnswered answers catalog c (Start i) = ⊤
@@ -96,7 +98,8 @@ refuses_unbarred catalog c Restart = false
 -- how many of these do, kept one after another
 abbrev pub unbarred_refusals : Catalog → CoreState → List Kept → ℕ
 unbarred_refusals catalog c [] = 0
-unbarred_refusals catalog c (k ∷ ks) = (if refuses_unbarred catalog c k then 1 else 0) + unbarred_refusals catalog (with_kept c k) ks
+unbarred_refusals catalog c (k ∷ ks) =
+    (if refuses_unbarred catalog c k then 1 else 0) + unbarred_refusals catalog (with_kept c k) ks
 
 -- what a core has kept since it was another one
 abbrev pub kept_since : CoreState → CoreState → List Kept
@@ -120,8 +123,8 @@ pub record AskedGate : Type 0 where
 abbrev pub asked : {G : Type 0} → Gates G → G → G → AskedGate
 asked g before after = record { answers = g.answers; before = counts_of g before; after = counts_of g after }
 
--- What was kept since is by a gate: each end of a piece is as the gate tells its answers; and while its count of refusals is not at its
--- last value, it rose at least as often as a piece was refused that is not barred.
+-- What was kept since is by a gate: each end of a piece is as the gate tells its answers; and while its count of refusals is not at
+-- its last value, it rose at least as often as a piece was refused that is not barred.
 pub record IsByGate (gate : AskedGate) (catalog : Catalog) (old new : CoreState) : Type 0 where
   pub answered : AreAnswered gate.answers catalog (with_served old 0) (kept_since old new)
   pub counted : gate.after.refusals < 2 ^ 64 - 1

@@ -21,9 +21,10 @@ pub record FromOpening (holds : ℕ → Type 0) (old new : Disk) : Type 0 where
   pub before : (files : FileSet) → new.left_since old.moment files → old.may_leave files ⊎ new.left_since moment files
   pub since : holds moment
 
--- The files, where they are told, were sound for the history before. Since the opening what came was kept in turn, or an image is ahead of
--- it. Unless a call of the rack failed they are sound for the history now, and so is each image of them from now on.
-pub record AreKept (c : Catalog) (h : History) (now : CoreState) (IsAhead : FileSet → Type 0) (on : Phase) (old new : Disk) : Type 0 where
+-- The files, where they are told, were sound for the history before. Since the opening what came was kept in turn, or an image is
+-- ahead of it. Unless a call of the rack failed they are sound for the history now, and so is each image of them from now on.
+pub record AreKept (c : Catalog) (h : History) (now : CoreState) (IsAhead : FileSet → Type 0) (on : Phase)
+    (old new : Disk) : Type 0 where
   pub came : List (ℕ × Event)
   pub events : history_of now ≡ h.events ++ events_of came
   pub started : List Plan

@@ -28,7 +28,8 @@ pub record EndsPiece {R B : Type 0} (disk : R → Disk) (old new : EngineState R
   pub finishes : Finishes disk old new p outcome result
 
 -- An engine went on from one state to another; no start was under way but of one of these plans.
-pub record GoesOn {R B : Type 0} (disk : R → Disk) (faults : R → ℕ) (may_start : List Plan) (old new : EngineState R B) : Type 0 where
+pub record GoesOn {R B : Type 0} (disk : R → Disk) (faults : R → ℕ) (may_start : List Plan)
+    (old new : EngineState R B) : Type 0 where
   pub catalog : new.catalog ≡ old.catalog
   pub conflicts : new.core.conflicts ≡ old.core.conflicts
   pub opening : new.core.opening ≡ old.core.opening
@@ -46,7 +47,8 @@ pub record GoesOn {R B : Type 0} (disk : R → Disk) (faults : R → ℕ) (may_s
   pub follow : Told (disk old.files.rack) → ImagesFollow (disk old.files.rack) (disk new.files.rack)
   -- whatever a crash meanwhile may have left
   pub images : Told (disk old.files.rack)
-      → ComeInTurn new.catalog (full_history new.core) (IsOneAhead new.catalog may_start new.core new.phase) (disk new.files.rack) (history_of old.core) (disk old.files.rack).moment came
+      → ComeInTurn new.catalog (full_history new.core) (IsOneAhead new.catalog may_start new.core new.phase) (disk new.files.rack)
+      (history_of old.core) (disk old.files.rack).moment came
 
 -- It went on and nobody asked for a start: so it did whichever plans may start.
 abbrev pub GoesOnAlone : {R B : Type 0} → (R → Disk) → (R → ℕ) → EngineState R B → EngineState R B → Type 0

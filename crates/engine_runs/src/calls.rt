@@ -35,10 +35,10 @@ pub fn next<R: Rack + Drop, B: Resource>(engine: &mut Engine<R, B>) -> Next
     ensures goes { GoesOnAlone R.disk R.faults engine.old engine.new }
     ensures ready { IsReady B.meaning B.sort engine.new }
 {
-    engine.is_sound();
+    engine.invariant_holds();
     match engine.next() {
         Ok(reply) => {
-            engine.is_sound();
+            engine.invariant_holds();
             reply
         }
         Err(Closed(_)) => unreachable!(),
@@ -54,10 +54,10 @@ pub fn admit<R: Rack + Drop, B: Resource>(engine: &mut Engine<R, B>, i: u32) -> 
     ensures goes { GoesOnAlone R.disk R.faults engine.old engine.new }
     ensures ready { IsReady B.meaning B.sort engine.new }
 {
-    engine.is_sound();
+    engine.invariant_holds();
     match engine.admit(i) {
         Ok(reply) => {
-            engine.is_sound();
+            engine.invariant_holds();
             reply
         }
         Err(Closed(_)) => unreachable!(),
@@ -72,7 +72,7 @@ pub fn abort<R: Rack + Drop, B: Resource>(engine: &mut Engine<R, B>, i: u32) -> 
     ensures goes { GoesOnAlone R.disk R.faults engine.old engine.new }
     ensures ready { IsReady B.meaning B.sort engine.new }
 {
-    engine.is_sound();
+    engine.invariant_holds();
     match engine.abort(i) {
         Ok(reply) => reply,
         Err(Closed(_)) => unreachable!(),
@@ -86,7 +86,7 @@ pub fn complete_all<R: Rack + Drop, B: Resource>(engine: &mut Engine<R, B>)
     ensures goes { GoesOnAlone R.disk R.faults engine.old engine.new }
     ensures ready { IsReady B.meaning B.sort engine.new }
 {
-    engine.is_sound();
+    engine.invariant_holds();
     match engine.complete_all() {
         Ok(()) => {}
         Err(Closed(_)) => unreachable!(),
@@ -112,18 +112,18 @@ pub fn start<R: Rack + Drop, B: Resource>(
     ensures ready { OnOk result (IsReady B.meaning B.sort engine.new) }
     ensures fits { EachFits B.meaning B.sort engine.new.files.stores }
 {
-    engine.is_sound();
+    engine.invariant_holds();
     match engine.start(alloc, plan) {
         Ok(i) => {
-            engine.is_sound();
+            engine.invariant_holds();
             Ok(i)
         }
         Err(refused) => Err(refused),
     }
 }
 
-/// Ends a piece that this engine handed out, by what came of its work; an end is answered that it is done. After a fault of the rack
-/// the engine is closed.
+/// Ends a piece that this engine handed out, by what came of its work; an end is answered that it is done. After a fault of the
+/// rack the engine is closed.
 pub fn finish<R: Rack + Drop, B: Resource>(
     engine: &mut Engine<R, B>,
     piece: Piece,
@@ -138,8 +138,8 @@ pub fn finish<R: Rack + Drop, B: Resource>(
     ensures ready { result ≢ Finish.DiskFault → IsReady B.meaning B.sort engine.new }
     ensures fits { EachFits B.meaning B.sort engine.new.files.stores }
 {
-    engine.is_sound();
+    engine.invariant_holds();
     let result = finish_piece(engine, piece, answer);
-    engine.is_sound();
+    engine.invariant_holds();
     result
 }

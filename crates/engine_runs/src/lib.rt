@@ -1,8 +1,8 @@
 //! A settled engine is called, and goes on: each call says what the machine does and what a crash within it may have left.
 //!
-//! `GoesOn` (`specs/Runs`) leads from one moment of an engine to any later one: what was kept and happened meanwhile, and that whatever
-//! a crash meanwhile may have left is sound for a beginning of the later history that has the earlier one. It holds of each call here, of
-//! none, and of one after another (`proofs/Goes`), so it is the whole invariant of a loop over an engine.
+//! `GoesOn` (`specs/Runs`) leads from one moment of an engine to any later one: what was kept and happened meanwhile, and that
+//! whatever a crash meanwhile may have left is sound for a beginning of the later history that has the earlier one. It holds of
+//! each call here, of none, and of one after another (`proofs/Goes`), so it is the whole invariant of a loop over an engine.
 #![tactic(auto)]
 
 mod calls;

@@ -29,8 +29,8 @@ fn answer_of<G: Gate>(gate: &mut G, piece: &Piece) -> Answer
     gate.work(piece)
 }
 
-/// A gate does the work of a piece, or refuses it, and the piece ends so. The end of a process asks no gate. After a fault of the rack
-/// the engine is closed.
+/// A gate does the work of a piece, or refuses it, and the piece ends so. The end of a process asks no gate. After a fault of the
+/// rack the engine is closed.
 pub fn work<R: Rack + Drop, B: Resource, G: Gate>(
     engine: &mut Engine<R, B>,
     gate: &mut G,

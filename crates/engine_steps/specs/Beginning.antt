@@ -41,7 +41,8 @@ of_start_why (core.TooMany n) = TooMany n
 of_start_why (core.NoRoom n) = NoRoom n
 of_start_why core.NoMemory = NoMemory
 
--- When a start is refused so: the first of these that holds. Want of memory and faults of the rack come where nothing else refuses it.
+-- When a start is refused so: the first of these that holds. Want of memory and faults of the rack come where nothing else refuses
+-- it.
 abbrev pub IsDueToStart : {R B : Type 0} → EngineState R B → Plan → EngineStartWhy → Type 0
 IsDueToStart e p (Closed n) = (e.phase ≡ phase.Closed) × (n ≡ length e.core.kept)
 IsDueToStart e p (TooMany n) = (e.phase ≢ phase.Closed) × refusal_in e.core p (core.TooMany n)

@@ -33,6 +33,7 @@ pub record WereSettled (old new : Disk) : Type 0 where
   pub now : IsSound catalog history new.files
   pub each : EachImage new new.moment (IsSound catalog history)
 
--- What a refused opening leaves: what the opening of the files does, or, where there was no memory once they were settled, such files.
+-- What a refused opening leaves: what the opening of the files does, or, where there was no memory once they were settled, such
+-- files.
 abbrev pub LeftByOpening : OpenError → Disk → Disk → Type 0
 LeftByOpening e old new = LeftByRefusal e old new ⊎ ((e ≡ NoMemory) × WereSettled old new)

@@ -17,7 +17,8 @@ use Rattle.commute_table.specs.declared.op.Op.{Op}
 use Rattle.process_journal.specs.Bodies.{with_event}
 use Rattle.process_journal.specs.Journals.{IsHistoryUnder}
 use Rattle.subsystem_store.specs.declared.errors.Prepare.{Prepare}
-use Rattle.subsystem_store.specs.declared.errors.Prepare.TheVariants.{Prepared as StorePrepared, Barred as StoreBarred, DiskFault as StoreFault, NoMemory as StoreMemory}
+use Rattle.subsystem_store.specs.declared.errors.Prepare.TheVariants.{Prepared as StorePrepared, Barred as StoreBarred}
+use Rattle.subsystem_store.specs.declared.errors.Prepare.TheVariants.{DiskFault as StoreFault, NoMemory as StoreMemory}
 use Rattle.subsystem_store.specs.Opened.{Opened}
 use Rattle.process_tree.specs.declared.play.Outcome.TheVariants.{Done}
 use Rattle.machine_model.specs.Calls.{finish, finished}
@@ -38,7 +39,14 @@ use Rattle.engine_steps.specs.declared.pieces.PreparePiece.TheVariants.{Ready, B
 
 -- the act that a piece makes once it takes effect: a step of its process, or the undo of one
 abbrev pub act_of : List Plan → Piece → Entry
-act_of plans p = record { process = p.process; step = p.step; op = op_of (courses_of plans) p.process p.step; key = key_of (courses_of plans) p.process p.step; undo = same_work p.work Undo }
+act_of plans p =
+    record {
+      process = p.process;
+      step = p.step;
+      op = op_of (courses_of plans) p.process p.step;
+      key = key_of (courses_of plans) p.process p.step;
+      undo = same_work p.work Undo;
+    }
 
 -- the history of a core with the event of a piece
 abbrev pub history_with : CoreState → Piece → History
@@ -97,13 +105,14 @@ phase_after StoreMemory = phase.Settled
 -- What the answer to a prepare says, where the values bar the act or not; where nothing is prepared, no file was touched.
 abbrev pub PreparesAs : {R B : Type 0} → Bool → Handed → EngineState R B → EngineState R B → Disk → PreparePiece → Type 0
 PreparesAs barred piece old new disk (Ready p) = (barred ≡ false) × (p.piece ≡ piece) × IsPrepared new disk p
-PreparesAs barred piece old new disk (Barred p) = (barred ≡ true) × (p ≡ piece) × (new.phase ≡ phase.Settled) × (new.files.rack ≡ old.files.rack)
+PreparesAs barred piece old new disk (Barred p) =
+    (barred ≡ true) × (p ≡ piece) × (new.phase ≡ phase.Settled) × (new.files.rack ≡ old.files.rack)
 PreparesAs barred piece old new disk DiskFault = (barred ≡ false) × (new.phase ≡ phase.Closed)
 PreparesAs barred piece old new disk (NoMemory p) =
     (barred ≡ false) × (p ≡ piece) × (piece.piece.work ≡ Forward) × (new.phase ≡ phase.Settled) × (new.files.rack ≡ old.files.rack)
 
--- What the settling of a recorded piece gives: the core has kept what the machine does of a piece that succeeds, with its reply, and
--- nothing is under way; or a call of the rack failed, the engine is closed, and its core is as it was.
+-- What the settling of a recorded piece gives: the core has kept what the machine does of a piece that succeeds, with its reply,
+-- and nothing is under way; or a call of the rack failed, the engine is closed, and its core is as it was.
 pub record SettlesPiece {R B : Type 0} (old new : EngineState R B) (p : Handed) (result : Result ℕ DiskFailed) : Type 0 where
   pub core : OnOk result (new.core ≡ after_call old.core (finish p.piece.number Done))
   pub reply : IfOk result (λ n. (answer_in old.core (finish p.piece.number Done)).reply ≡ finished (effected n))

@@ -64,8 +64,8 @@ impl<R: Rack + Drop, B: Drop> Engine<R, B> {
         Ok(())
     }
 
-    /// A piece is refused: its process tries it again, or goes another way or back. It is asked while nothing is under way, so a closed
-    /// engine keeps no refusal.
+    /// A piece is refused: its process tries it again, or goes another way or back. It is asked while nothing is under way, so a
+    /// closed engine keeps no refusal.
     pub fn refuse_piece(&mut self, piece: Piece) -> Refusal
         requires settled { self.old.phase ≡ phase.Settled }
         requires out { IsStepOut self.old.core piece.piece }

@@ -92,9 +92,11 @@ impl<R: Rack + Drop, B: Resource> Engine<R, B> {
         ensures closed { IfErr result (λ e. (self.new.phase ≡ phase.Closed) × (self.new.core ≡ self.old.core)) }
         ensures catalog { self.new.catalog ≡ self.old.catalog }
         ensures stores { self.new.files.stores ≡ self.old.files.stores }
-        ensures any_moment { Told (R.disk self.old.files.rack) → EachImage (R.disk self.new.files.rack) (R.disk self.old.files.rack).moment
+        ensures any_moment { Told (R.disk self.old.files.rack)
+            → EachImage (R.disk self.new.files.rack) (R.disk self.old.files.rack).moment
             (IsSoundForEither self.old.catalog (full_history self.old.core) (history_with self.old.core room.plan)) }
-        ensures follow { Told (R.disk self.old.files.rack) → ImagesFollow (R.disk self.old.files.rack) (R.disk self.new.files.rack) }
+        ensures follow { Told (R.disk self.old.files.rack)
+            → ImagesFollow (R.disk self.old.files.rack) (R.disk self.new.files.rack) }
         ensures tells { (R.disk self.new.files.rack).tells ≡ (R.disk self.old.files.rack).tells }
         ensures later { R.faults self.old.files.rack ≤ R.faults self.new.files.rack }
         ensures fault { IfErr result (λ e. Rose (R.faults self.old.files.rack) (R.faults self.new.files.rack)) }
@@ -121,8 +123,8 @@ impl<R: Rack + Drop, B: Resource> Engine<R, B> {
         self.core.history().plans.as_slice().len() as u32 + 1
     }
 
-    /// A process of this plan starts, once the journal has its record; the answer is its number. A crash within the call leaves files
-    /// that are sound for the history before the start or with it.
+    /// A process of this plan starts, once the journal has its record; the answer is its number. A crash within the call leaves
+    /// files that are sound for the history before the start or with it.
     pub fn start(&mut self, alloc: Global, plan: Plan) -> Result<u32, EngineStart>
         requires whole { self.old.phase ≢ phase.UnderWay }
         requires plan { IsPlanFor self.old.catalog plan }
@@ -135,9 +137,11 @@ impl<R: Rack + Drop, B: Resource> Engine<R, B> {
         ensures closed { IfErr result (λ e. e.why ≡ Fault → (self.new.phase ≡ phase.Closed) × (self.new.core ≡ self.old.core)) }
         ensures catalog { self.new.catalog ≡ self.old.catalog }
         ensures stores { self.new.files.stores ≡ self.old.files.stores }
-        ensures any_moment { self.old.phase ≡ phase.Settled → Told (R.disk self.old.files.rack) → EachImage (R.disk self.new.files.rack) (R.disk self.old.files.rack).moment
+        ensures any_moment { self.old.phase ≡ phase.Settled → Told (R.disk self.old.files.rack)
+            → EachImage (R.disk self.new.files.rack) (R.disk self.old.files.rack).moment
             (IsSoundForEither self.old.catalog (full_history self.old.core) (history_with self.old.core plan)) }
-        ensures follow { Told (R.disk self.old.files.rack) → ImagesFollow (R.disk self.old.files.rack) (R.disk self.new.files.rack) }
+        ensures follow { Told (R.disk self.old.files.rack)
+            → ImagesFollow (R.disk self.old.files.rack) (R.disk self.new.files.rack) }
         ensures tells { (R.disk self.new.files.rack).tells ≡ (R.disk self.old.files.rack).tells }
         ensures later { R.faults self.old.files.rack ≤ R.faults self.new.files.rack }
         ensures fault { IfErr result (λ e. e.why ≡ Fault → Rose (R.faults self.old.files.rack) (R.faults self.new.files.rack)) }
@@ -148,7 +152,7 @@ impl<R: Rack + Drop, B: Resource> Engine<R, B> {
                 why: EngineStartWhy::Closed(kept),
             });
         }
-        self.is_sound();
+        self.invariant_holds();
         let _ = plan.tree.root();
         let room = match self.core.make_room(plan) {
             Ok(room) => room,

@@ -27,8 +27,8 @@ fn fits_its_bytes(process: u32)
 {}
 
 impl<R: Rack + Drop, B: Resource> Engine<R, B> {
-    /// Adds the record of the end of a process to the journal, and keeps the end; the answer is how many events the history has then. A
-    /// crash leaves files that are sound for the history without it or with it.
+    /// Adds the record of the end of a process to the journal, and keeps the end; the answer is how many events the history has
+    /// then. A crash leaves files that are sound for the history without it or with it.
     pub fn end_piece(&mut self, piece: Piece) -> Result<u32, DiskFault>
         requires fits { EachFits B.meaning B.sort self.old.files.stores }
         requires settled { self.old.phase ≡ phase.Settled }
@@ -36,9 +36,11 @@ impl<R: Rack + Drop, B: Resource> Engine<R, B> {
         requires out { state_of (moment_of self.old.core) piece.piece.number ≡ Out }
         requires end { piece.piece.work ≡ End }
         ensures settles { SettlesPiece self.old self.new piece result }
-        ensures any_moment { Told (R.disk self.old.files.rack) → EachImage (R.disk self.new.files.rack) (R.disk self.old.files.rack).moment
+        ensures any_moment { Told (R.disk self.old.files.rack)
+            → EachImage (R.disk self.new.files.rack) (R.disk self.old.files.rack).moment
             (IsSoundForEither self.old.catalog (full_history self.old.core) (history_with self.old.core piece.piece)) }
-        ensures follow { Told (R.disk self.old.files.rack) → ImagesFollow (R.disk self.old.files.rack) (R.disk self.new.files.rack) }
+        ensures follow { Told (R.disk self.old.files.rack)
+            → ImagesFollow (R.disk self.old.files.rack) (R.disk self.new.files.rack) }
         ensures fits { EachFits B.meaning B.sort self.new.files.stores }
         ensures tells { (R.disk self.new.files.rack).tells ≡ (R.disk self.old.files.rack).tells }
         ensures cause { HasCause (R.faults self.old.files.rack) (R.faults self.new.files.rack) result }

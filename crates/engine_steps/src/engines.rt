@@ -57,17 +57,21 @@ impl<R: Rack + Drop, B: Drop> Model for Engine<R, B> {
 
     ghost view = { λ e. record { core = e.core; catalog = e.catalog; files = e.files; phase = e.phase } };
 
-    ghost invariant = { λ e. IsUnder e.catalog e.core × (e.phase ≡ Settled → AreAtRest e.catalog (full_history e.core) e.files (R.disk e.files.rack)) };
+    ghost invariant = { λ e. IsUnder e.catalog e.core ×
+        (e.phase ≡ Settled → AreAtRest e.catalog (full_history e.core) e.files (R.disk e.files.rack)) };
 }
 
 impl<R: Rack + Drop, B: Drop> Engine<R, B> {
-    /// Its core is a run of the machine under its catalog. While nothing is under way, its files are sound for the history, each image
-    /// of them from now on is, and each book is the effects of the history, on the files and in each image too.
-    pub fn is_sound(&self)
+    /// Does nothing. It says of its engine what the invariant promises: its core is a run of the machine under its catalog; while
+    /// nothing is under way, its files are sound for the history, each image of them from now on is, and each book is the effects
+    /// of the history, on the files and in each image too.
+    pub fn invariant_holds(&self)
         ensures run { IsCore self.now.core }
         ensures under { IsUnder self.now.catalog self.now.core }
-        ensures rest { self.now.phase ≡ phase.Settled → AreAtRest self.now.catalog (full_history self.now.core) self.now.files (R.disk self.now.files.rack) }
-        ensures read { self.now.phase ≡ phase.Settled → Told (R.disk self.now.files.rack) → IsSound self.now.catalog (full_history self.now.core) (R.disk self.now.files.rack).files }
+        ensures rest { self.now.phase ≡ phase.Settled
+            → AreAtRest self.now.catalog (full_history self.now.core) self.now.files (R.disk self.now.files.rack) }
+        ensures read { self.now.phase ≡ phase.Settled → Told (R.disk self.now.files.rack)
+            → IsSound self.now.catalog (full_history self.now.core) (R.disk self.now.files.rack).files }
         ensures each { self.now.phase ≡ phase.Settled → Told (R.disk self.now.files.rack) →
             EachImage (R.disk self.now.files.rack) (R.disk self.now.files.rack).moment (IsSound self.now.catalog (full_history self.now.core)) }
         ensures exactly { self.now.phase ≡ phase.Settled → Told (R.disk self.now.files.rack) →

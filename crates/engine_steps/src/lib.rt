@@ -1,9 +1,9 @@
 //! An engine, and the steps in which its history grows: the scheduler over the journal and the stores of eight subsystems.
 //!
-//! An engine is seen as a core, a catalog and files (`specs/Engines`). While nothing is under way and no call of the rack failed, its
-//! files stand for the history of its core, and each book is the effects of that history. It is made on nine empty files, or opened on the
-//! history that nine files have; it starts processes, and hands out their pieces. A piece takes effect in three steps (`specs/Pieces`), the
-//! end of a process in one, and a refusal touches no file; `process_engine` makes one call of these.
+//! An engine is seen as a core, a catalog and files (`specs/Engines`). While nothing is under way and no call of the rack failed,
+//! its files stand for the history of its core, and each book is the effects of that history. It is made on nine empty files, or
+//! opened on the history that nine files have; it starts processes, and hands out their pieces. A piece takes effect in three steps
+//! (`specs/Pieces`), the end of a process in one, and a refusal touches no file; `process_engine` makes one call of these.
 #![tactic(auto)]
 
 mod asking;

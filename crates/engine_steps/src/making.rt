@@ -61,14 +61,17 @@ impl<R: Rack + Drop, B: Resource> Engine<R, B> {
         ensures new { IfOk result (IsNew catalog) }
         ensures rest { IfOk result (λ e. AreAtRest catalog no_history e.files (R.disk e.files.rack)) }
         ensures read { Told (R.disk parts.rack) → IfOk result (λ e. IsSound catalog no_history (R.disk e.files.rack).files) }
-        ensures each { Told (R.disk parts.rack) → IfOk result (λ e. EachImage (R.disk e.files.rack) (R.disk e.files.rack).moment (IsSound catalog no_history)) }
+        ensures each { Told (R.disk parts.rack) → IfOk result
+            (λ e. EachImage (R.disk e.files.rack) (R.disk e.files.rack).moment (IsSound catalog no_history)) }
         ensures fits { IfOk result (λ e. EachFits B.meaning B.sort e.files.stores) }
         ensures empty { Told (R.disk parts.rack) → OnOk result (first_used (R.disk parts.rack).files ≡ None) }
         ensures due { Told (R.disk parts.rack) → IfErr result (λ r. IsDueToFiles (first_used (R.disk parts.rack).files) r.why) }
-        ensures left { Told (R.disk parts.rack) → IfErr result (λ r. AreLeftUnmade r.why (R.disk parts.rack) (R.disk r.parts.rack)) }
+        ensures left { Told (R.disk parts.rack) → IfErr result
+            (λ r. AreLeftUnmade r.why (R.disk parts.rack) (R.disk r.parts.rack)) }
         ensures back { IfErr result (λ r. AreBoxes B.sort r.parts.resources.items × AreEmpty B.meaning r.parts.resources.items) }
         ensures follow { Told (R.disk parts.rack) → IfOk result (λ e. ImagesFollow (R.disk parts.rack) (R.disk e.files.rack)) }
-        ensures follow_back { Told (R.disk parts.rack) → IfErr result (λ r. ImagesFollow (R.disk parts.rack) (R.disk r.parts.rack)) }
+        ensures follow_back { Told (R.disk parts.rack)
+            → IfErr result (λ r. ImagesFollow (R.disk parts.rack) (R.disk r.parts.rack)) }
         ensures tells { IfOk result (λ e. (R.disk e.files.rack).tells ≡ (R.disk parts.rack).tells) }
         ensures tells_back { IfErr result (λ r. (R.disk r.parts.rack).tells ≡ (R.disk parts.rack).tells) }
         ensures later { IfOk result (λ e. R.faults parts.rack ≤ R.faults e.files.rack) }

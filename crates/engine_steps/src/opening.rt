@@ -78,23 +78,29 @@ fn engine_on<R: Rack + Drop, B: Resource>(
 }
 
 impl<R: Rack + Drop, B: Resource> Engine<R, B> {
-    /// Opens on the history of nine files. All are read, file 0 first, and all books are compared with the history. Only then what is
-    /// in doubt is settled: the effects that the history has are committed, and the others taken back. What is refused is the first
-    /// fault in the order of the files; the parts are then handed back with their boxes empty.
+    /// Opens on the history of nine files. All are read, file 0 first, and all books are compared with the history. Only then what
+    /// is in doubt is settled: the effects that the history has are committed, and the others taken back. What is refused is the
+    /// first fault in the order of the files; the parts are then handed back with their boxes empty.
     pub fn open(alloc: Global, parts: Parts<R, B>) -> Result<Self, OpenRefused<R, B>>
         requires boxes { AreBoxes B.sort parts.resources.items }
         ensures opened { IfOk result IsOpened }
         ensures rest { IfOk result (λ e. AreAtRest e.catalog (full_history e.core) e.files (R.disk e.files.rack)) }
-        ensures sound { Told (R.disk parts.rack) → IfOk result (λ e. IsSound e.catalog (full_history e.core) (R.disk parts.rack).files) }
-        ensures any_moment { Told (R.disk parts.rack) → IfOk result (λ e. BecomesSound e.catalog (full_history e.core) (R.disk parts.rack) (R.disk e.files.rack)) }
-        ensures read { Told (R.disk parts.rack) → IfOk result (λ e. IsSound e.catalog (full_history e.core) (R.disk e.files.rack).files) }
-        ensures each { Told (R.disk parts.rack) → IfOk result (λ e. EachImage (R.disk e.files.rack) (R.disk e.files.rack).moment (IsSound e.catalog (full_history e.core))) }
+        ensures sound { Told (R.disk parts.rack) → IfOk result
+            (λ e. IsSound e.catalog (full_history e.core) (R.disk parts.rack).files) }
+        ensures any_moment { Told (R.disk parts.rack)
+            → IfOk result (λ e. BecomesSound e.catalog (full_history e.core) (R.disk parts.rack) (R.disk e.files.rack)) }
+        ensures read { Told (R.disk parts.rack) → IfOk result
+            (λ e. IsSound e.catalog (full_history e.core) (R.disk e.files.rack).files) }
+        ensures each { Told (R.disk parts.rack) → IfOk result
+            (λ e. EachImage (R.disk e.files.rack) (R.disk e.files.rack).moment (IsSound e.catalog (full_history e.core))) }
         ensures fits { IfOk result (λ e. EachFits B.meaning B.sort e.files.stores) }
         ensures due { Told (R.disk parts.rack) → IfErr result (λ r. IsDueToOpening (R.disk parts.rack).files r.why) }
-        ensures refused { Told (R.disk parts.rack) → IfErr result (λ r. LeftByOpening r.why (R.disk parts.rack) (R.disk r.parts.rack)) }
+        ensures refused { Told (R.disk parts.rack) → IfErr result
+            (λ r. LeftByOpening r.why (R.disk parts.rack) (R.disk r.parts.rack)) }
         ensures back { IfErr result (λ r. AreBoxes B.sort r.parts.resources.items × AreEmpty B.meaning r.parts.resources.items) }
         ensures follow { Told (R.disk parts.rack) → IfOk result (λ e. ImagesFollow (R.disk parts.rack) (R.disk e.files.rack)) }
-        ensures follow_back { Told (R.disk parts.rack) → IfErr result (λ r. ImagesFollow (R.disk parts.rack) (R.disk r.parts.rack)) }
+        ensures follow_back { Told (R.disk parts.rack)
+            → IfErr result (λ r. ImagesFollow (R.disk parts.rack) (R.disk r.parts.rack)) }
         ensures tells { IfOk result (λ e. (R.disk e.files.rack).tells ≡ (R.disk parts.rack).tells) }
         ensures tells_back { IfErr result (λ r. (R.disk r.parts.rack).tells ≡ (R.disk parts.rack).tells) }
         ensures later { IfOk result (λ e. R.faults parts.rack ≤ R.faults e.files.rack) }

@@ -18,7 +18,8 @@ ghost use Rattle.history_files.specs.Laws.{next_effect};
 ghost use Rattle.history_files.specs.Sound.{IsSound, IsSoundForEither};
 ghost use Rattle.history_files.specs.Standing.{AreGoodBooks, EachFits, Stand};
 ghost use Rattle.engine_steps.specs.Engines.{full_history};
-ghost use Rattle.engine_steps.specs.Pieces.{IsInDoubt, IsPrepared, IsRecorded, IsStepOut, PreparesAs, act_of, bars_act, history_with, phase_after, SettlesPiece};
+ghost use Rattle.engine_steps.specs.Pieces.{IsInDoubt, IsPrepared, IsRecorded, IsStepOut, PreparesAs, act_of, bars_act};
+ghost use Rattle.engine_steps.specs.Pieces.{history_with, phase_after, SettlesPiece};
 ghost use Rattle.engine_steps.specs.declared.engines.Phase.TheVariants as phase;
 
 use crate::{Engine, Phase};
@@ -162,14 +163,20 @@ impl<R: Rack + Drop, B: Resource> Engine<R, B> {
         ensures catalog { self.new.catalog ≡ self.old.catalog }
         ensures phase { self.new.phase ≡ phase_after result }
         ensures journal { self.new.files.journal ≡ self.old.files.journal }
-        ensures doubt { result ≡ Prepare.Prepared → IsInDoubt self.old.catalog.ops (full_history self.old.core) entry.now q self.new.files.stores }
+        ensures doubt { result ≡ Prepare.Prepared → IsInDoubt self.old.catalog.ops
+            (full_history self.old.core) entry.now q self.new.files.stores }
         ensures barred { (result ≡ Prepare.Barred) ↔ (bars_act self.old.catalog.ops (full_history self.old.core) entry.now ≡ true) }
         ensures undo { entry.now.undo ≡ true → (result ≡ Prepare.Prepared) ⊎ (result ≡ Prepare.DiskFault) }
         ensures untouched { ((result ≡ Prepare.Barred) ⊎ (result ≡ Prepare.NoMemory)) → self.new.files.rack ≡ self.old.files.rack }
         ensures good { AreGoodBooks self.new.files.stores }
-        ensures stand { Told (R.disk self.old.files.rack) → result ≢ Prepare.DiskFault → Stand self.old.catalog (full_history self.old.core) self.new.files.journal self.new.files.stores (R.disk self.new.files.rack) }
-        ensures any_moment { Told (R.disk self.old.files.rack) → EachImage (R.disk self.new.files.rack) (R.disk self.old.files.rack).moment (IsSound self.old.catalog (full_history self.old.core)) }
-        ensures follow { Told (R.disk self.old.files.rack) → ImagesFollow (R.disk self.old.files.rack) (R.disk self.new.files.rack) }
+        ensures stand { Told (R.disk self.old.files.rack) → result ≢ Prepare.DiskFault
+            → Stand self.old.catalog (full_history self.old.core) self.new.files.journal self.new.files.stores
+            (R.disk self.new.files.rack) }
+        ensures any_moment { Told (R.disk self.old.files.rack)
+            → EachImage (R.disk self.new.files.rack) (R.disk self.old.files.rack).moment
+            (IsSound self.old.catalog (full_history self.old.core)) }
+        ensures follow { Told (R.disk self.old.files.rack)
+            → ImagesFollow (R.disk self.old.files.rack) (R.disk self.new.files.rack) }
         ensures fits { EachFits B.meaning B.sort self.new.files.stores }
         ensures tells { (R.disk self.new.files.rack).tells ≡ (R.disk self.old.files.rack).tells }
         ensures later { R.faults self.old.files.rack ≤ R.faults self.new.files.rack }
@@ -193,9 +200,14 @@ impl<R: Rack + Drop, B: Resource> Engine<R, B> {
         requires out { IsStepOut self.old.core piece.piece }
         ensures core { self.new.core ≡ self.old.core }
         ensures catalog { self.new.catalog ≡ self.old.catalog }
-        ensures reply { PreparesAs (bars_act self.old.catalog.ops (full_history self.old.core) (act_of self.old.core.plans piece.piece)) piece self.old self.new (R.disk self.new.files.rack) result }
-        ensures any_moment { Told (R.disk self.old.files.rack) → EachImage (R.disk self.new.files.rack) (R.disk self.old.files.rack).moment (IsSound self.old.catalog (full_history self.old.core)) }
-        ensures follow { Told (R.disk self.old.files.rack) → ImagesFollow (R.disk self.old.files.rack) (R.disk self.new.files.rack) }
+        ensures reply { PreparesAs
+            (bars_act self.old.catalog.ops (full_history self.old.core)
+            (act_of self.old.core.plans piece.piece)) piece self.old self.new (R.disk self.new.files.rack) result }
+        ensures any_moment { Told (R.disk self.old.files.rack)
+            → EachImage (R.disk self.new.files.rack) (R.disk self.old.files.rack).moment
+            (IsSound self.old.catalog (full_history self.old.core)) }
+        ensures follow { Told (R.disk self.old.files.rack)
+            → ImagesFollow (R.disk self.old.files.rack) (R.disk self.new.files.rack) }
         ensures fits { EachFits B.meaning B.sort self.new.files.stores }
         ensures tells { (R.disk self.new.files.rack).tells ≡ (R.disk self.old.files.rack).tells }
         ensures later { R.faults self.old.files.rack ≤ R.faults self.new.files.rack }
@@ -218,7 +230,8 @@ impl<R: Rack + Drop, B: Resource> Engine<R, B> {
         }
     }
 
-    /// Adds the record of a prepared piece to the journal. A crash leaves files that are sound for the history without it or with it.
+    /// Adds the record of a prepared piece to the journal. A crash leaves files that are sound for the history without it or with
+    /// it.
     pub fn record_piece(&mut self, p: Prepared) -> Result<Recorded, DiskFault>
         requires fits { EachFits B.meaning B.sort self.old.files.stores }
         requires prepared { IsPrepared self.old (R.disk self.old.files.rack) p }
@@ -226,9 +239,11 @@ impl<R: Rack + Drop, B: Resource> Engine<R, B> {
         ensures catalog { self.new.catalog ≡ self.old.catalog }
         ensures recorded { IfOk result (λ r. (r ≡ p) × IsRecorded self.new (R.disk self.new.files.rack) r) }
         ensures closed { OnErr result (self.new.phase ≡ phase.Closed) }
-        ensures any_moment { Told (R.disk self.old.files.rack) → EachImage (R.disk self.new.files.rack) (R.disk self.old.files.rack).moment
+        ensures any_moment { Told (R.disk self.old.files.rack)
+            → EachImage (R.disk self.new.files.rack) (R.disk self.old.files.rack).moment
             (IsSoundForEither self.old.catalog (full_history self.old.core) (history_with self.old.core p.piece.piece)) }
-        ensures follow { Told (R.disk self.old.files.rack) → ImagesFollow (R.disk self.old.files.rack) (R.disk self.new.files.rack) }
+        ensures follow { Told (R.disk self.old.files.rack)
+            → ImagesFollow (R.disk self.old.files.rack) (R.disk self.new.files.rack) }
         ensures fits { EachFits B.meaning B.sort self.new.files.stores }
         ensures tells { (R.disk self.new.files.rack).tells ≡ (R.disk self.old.files.rack).tells }
         ensures cause { HasCause (R.faults self.old.files.rack) (R.faults self.new.files.rack) result }
@@ -259,9 +274,11 @@ impl<R: Rack + Drop, B: Resource> Engine<R, B> {
         requires fits { EachFits B.meaning B.sort self.old.files.stores }
         requires recorded { IsRecorded self.old (R.disk self.old.files.rack) r }
         ensures settles { SettlesPiece self.old self.new r.piece result }
-        ensures any_moment { Told (R.disk self.old.files.rack) → EachImage (R.disk self.new.files.rack) (R.disk self.old.files.rack).moment
+        ensures any_moment { Told (R.disk self.old.files.rack)
+            → EachImage (R.disk self.new.files.rack) (R.disk self.old.files.rack).moment
             (IsSound self.old.catalog (history_with self.old.core r.piece.piece)) }
-        ensures follow { Told (R.disk self.old.files.rack) → ImagesFollow (R.disk self.old.files.rack) (R.disk self.new.files.rack) }
+        ensures follow { Told (R.disk self.old.files.rack)
+            → ImagesFollow (R.disk self.old.files.rack) (R.disk self.new.files.rack) }
         ensures fits { EachFits B.meaning B.sort self.new.files.stores }
         ensures tells { (R.disk self.new.files.rack).tells ≡ (R.disk self.old.files.rack).tells }
         ensures cause { HasCause (R.faults self.old.files.rack) (R.faults self.new.files.rack) result }

@@ -16,8 +16,8 @@ use std::alloc::Global;
 use std::test::Fail;
 use well_formed::{Verdict, check};
 
-// A table of six operations: version and count, then each with its subsystem and verb, and then the pairs of each with itself and the
-// later ones. Adding conflicts with taking, taking with taking, noting with noting, and booking with booking.
+// A table of six operations: version and count, then each with its subsystem and verb, and then the pairs of each with itself and
+// the later ones. Adding conflicts with taking, taking with taking, noting with noting, and booking with booking.
 const CATALOG: &[u8] = b"\x01\x06\x00\
 \x03add\x00\x00\
 \x04take\x00\x01\
@@ -103,7 +103,7 @@ pub fn planned<R: Rack + Drop, B: Resource>(
 ) -> Result<Plan, Fail>
     ensures { IfOk result (IsPlanFor engine.now.catalog) }
 {
-    engine.is_sound();
+    engine.invariant_holds();
     let named = process(alloc, text)?;
     plan(alloc, named, engine.catalog())
 }

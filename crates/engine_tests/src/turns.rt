@@ -60,7 +60,7 @@ pub fn next_piece<R: Rack + Drop, B: Resource>(engine: &mut Engine<R, B>) -> Res
     ensures handed { IfOk result (λ piece. IsHandedBy engine.new.core piece.piece) }
 {
     let reply = engine.next();
-    engine.is_sound();
+    engine.invariant_holds();
     match reply {
         Ok(Next::Piece(piece)) => Ok(piece),
         Ok(Next::Wait(_)) => Err(Turn::Wait),

@@ -1,5 +1,6 @@
 // A rack over the files of a folder.
-ghost use Rattle.std.specs.Prelude.{◌≡◌, ◌≢◌, ◌⊎◌, ◌<◌, ◌≤◌, ◌+◌, ◌-◌, ◌^◌, min, length, take, drop, IfOk, OnOk, OnErr, IsErr, IsTrue, ℕ, true, false, slice_set, slice_index_or};
+ghost use Rattle.std.specs.Prelude.{◌≡◌, ◌≢◌, ◌⊎◌, ◌<◌, ◌≤◌, ◌+◌, ◌-◌, ◌^◌, min, length, take, drop, IfOk, OnOk, OnErr, IsErr};
+ghost use Rattle.std.specs.Prelude.{IsTrue, ℕ, true, false, slice_set, slice_index_or};
 ghost use Rattle.process_flow.specs.Causes.{Rose, HasCause, CountsFaults, CountsOne};
 ghost use Rattle.process_disk.specs.Disk.{Told, file_of, put, Only};
 ghost use Rattle.process_disk.specs.Calls.{OnlyLooks, OnlyWrites};
@@ -14,8 +15,8 @@ use process_flow::Failed;
 /// A rack over the nine files of a folder, of which it tells what the folder tells.
 ///
 /// Each file counts as unsynced from the making of the rack on, so that the first sync brings to the disk what earlier
-/// programs left. A rack that writes tries to take the folder before its first look, and one that doesn't never takes it. After a sync that failed it is broken: what the
-/// disk has then isn't known, and every write and sync fails until a rack is made anew.
+/// programs left. A rack that writes tries to take the folder before its first look, and one that doesn't never takes it. After a
+/// sync that failed it is broken: what the disk has then isn't known, and every write and sync fails until a rack is made anew.
 #[derive(Drop)]
 pub struct FileRack<D: Folder + Drop> {
     pub folder: D,
@@ -103,10 +104,15 @@ impl<D: Folder + Drop> FileRack<D> {
     // Brings all to the disk that may not be there.
     fn sync_all(&mut self) -> Result<(), Failed>
         requires { self.old.broken ≡ false }
-        ensures kept { Told (D.disk self.old.folder) → OnOk result (Only (D.disk self.new.folder).files (D.disk self.new.folder).may_leave) }
+        ensures kept { Told (D.disk self.old.folder) → OnOk result
+            (Only (D.disk self.new.folder).files (D.disk self.new.folder).may_leave) }
         ensures all_synced { OnOk result ((k : ℕ) → slice_index_or self.new.unsynced k false ≡ false) }
-        ensures synced { OnOk result ((k : ℕ) → IsMarked self.old.unsynced k → Rose (syncs_of (D.syncs self.old.folder) k) (syncs_of (D.syncs self.new.folder) k)) }
-        ensures names { OnOk result (SomeMarked self.old.unsynced → Rose (syncs_of (D.syncs self.old.folder) folder_place) (syncs_of (D.syncs self.new.folder) folder_place)) }
+        ensures synced { OnOk result
+            ((k : ℕ) → IsMarked self.old.unsynced k → Rose (syncs_of (D.syncs self.old.folder) k)
+            (syncs_of (D.syncs self.new.folder) k)) }
+        ensures names { OnOk result
+            (SomeMarked self.old.unsynced → Rose (syncs_of (D.syncs self.old.folder) folder_place)
+            (syncs_of (D.syncs self.new.folder) folder_place)) }
         ensures left { OnErr result (SomeMarked self.new.unsynced) }
         ensures unsynced { OnErr result (self.new.unsynced ≡ self.old.unsynced) }
         ensures looks { OnlyLooks (D.disk self.old.folder) (D.disk self.new.folder) }
@@ -154,13 +160,16 @@ impl<D: Folder + Drop> Rack for FileRack<D> {
 
     fn read(&mut self, file: u8, at: u64, buf: &mut [u8]) -> Result<usize, Failed>
         requires { file < 9 }
-        ensures count { Told (D.disk self.old.folder) → IfOk result (λ n. n ≡ min (length buf.old) (length (drop at (file_of (D.disk self.old.folder).files file)))) }
-        ensures bytes { Told (D.disk self.old.folder) → IfOk result (λ n. take n buf.new ≡ take n (drop at (file_of (D.disk self.old.folder).files file))) }
+        ensures count { Told (D.disk self.old.folder)
+            → IfOk result (λ n. n ≡ min (length buf.old) (length (drop at (file_of (D.disk self.old.folder).files file)))) }
+        ensures bytes { Told (D.disk self.old.folder)
+            → IfOk result (λ n. take n buf.new ≡ take n (drop at (file_of (D.disk self.old.folder).files file))) }
         ensures bound { IfOk result (λ n. n ≤ length buf.old) }
         ensures looks { OnlyLooks (D.disk self.old.folder) (D.disk self.new.folder) }
         ensures faults { CountsOne self.old.faults self.new.faults result }
         ensures told { OnOk result (D.faults self.new.folder ≡ D.faults self.old.folder) }
-        ensures failed { OnErr result (Rose (D.faults self.old.folder) (D.faults self.new.folder) ⊎ (2 ^ 64 < at + length buf.old)) }
+        ensures failed { OnErr result
+            (Rose (D.faults self.old.folder) (D.faults self.new.folder) ⊎ (2 ^ 64 < at + length buf.old)) }
         ensures stays { (self.new.unsynced ≡ self.old.unsynced) × (self.new.broken ≡ self.old.broken) }
     {
         if self.enter(false).is_err() {
@@ -175,11 +184,14 @@ impl<D: Folder + Drop> Rack for FileRack<D> {
     fn write_at(&mut self, file: u8, at: u64, bytes: &[u8]) -> Result<(), Failed>
         requires file { file < 9 }
         requires place { Told (D.disk self.old.folder) → at ≤ length (file_of (D.disk self.old.folder).files file) }
-        ensures written { Told (D.disk self.old.folder) → OnOk result ((D.disk self.new.folder).files ≡ put (D.disk self.old.folder).files file at bytes.now) }
+        ensures written { Told (D.disk self.old.folder)
+            → OnOk result ((D.disk self.new.folder).files ≡ put (D.disk self.old.folder).files file at bytes.now) }
         ensures writes { OnlyWrites file at (length bytes.now) (D.disk self.old.folder) (D.disk self.new.folder) }
         ensures faults { CountsOne self.old.faults self.new.faults result }
         ensures told { OnOk result (D.faults self.new.folder ≡ D.faults self.old.folder) }
-        ensures failed { OnErr result ((Rose (D.faults self.old.folder) (D.faults self.new.folder) ⊎ (2 ^ 64 < at + length bytes.now)) ⊎ (IsTrue self.old.broken ⊎ (self.old.writes ≡ false))) }
+        ensures failed { OnErr result
+            ((Rose (D.faults self.old.folder) (D.faults self.new.folder) ⊎ (2 ^ 64 < at + length bytes.now))
+            ⊎ (IsTrue self.old.broken ⊎ (self.old.writes ≡ false))) }
         ensures unsynced { self.new.unsynced ≡ slice_set self.old.unsynced file true }
         ensures broken { self.new.broken ≡ self.old.broken }
         // A rack that is broken, or that doesn't write, leaves the folder as it is.
@@ -200,18 +212,24 @@ impl<D: Folder + Drop> Rack for FileRack<D> {
     }
 
     fn sync(&mut self) -> Result<(), Failed>
-        ensures durable { Told (D.disk self.old.folder) → OnOk result (Only (D.disk self.new.folder).files (D.disk self.new.folder).may_leave) }
+        ensures durable { Told (D.disk self.old.folder)
+            → OnOk result (Only (D.disk self.new.folder).files (D.disk self.new.folder).may_leave) }
         ensures looks { OnlyLooks (D.disk self.old.folder) (D.disk self.new.folder) }
         ensures faults { CountsOne self.old.faults self.new.faults result }
         ensures told { OnOk result (D.faults self.new.folder ≡ D.faults self.old.folder) }
         ensures failed { OnErr result (Rose (D.faults self.old.folder) (D.faults self.new.folder) ⊎ IsTrue self.old.broken) }
         ensures all_synced { OnOk result ((k : ℕ) → slice_index_or self.new.unsynced k false ≡ false) }
         // Of each file that was unsynced a sync was finished, and one of the names.
-        ensures synced { OnOk result ((k : ℕ) → IsMarked self.old.unsynced k → Rose (syncs_of (D.syncs self.old.folder) k) (syncs_of (D.syncs self.new.folder) k)) }
-        ensures names { OnOk result (SomeMarked self.old.unsynced → Rose (syncs_of (D.syncs self.old.folder) folder_place) (syncs_of (D.syncs self.new.folder) folder_place)) }
+        ensures synced { OnOk result
+            ((k : ℕ) → IsMarked self.old.unsynced k → Rose (syncs_of (D.syncs self.old.folder) k)
+            (syncs_of (D.syncs self.new.folder) k)) }
+        ensures names { OnOk result
+            (SomeMarked self.old.unsynced → Rose (syncs_of (D.syncs self.old.folder) folder_place)
+            (syncs_of (D.syncs self.new.folder) folder_place)) }
         // After a failure some file has unsynced writes still.
         ensures left { OnErr result ((k : ℕ) × (slice_index_or self.new.unsynced k false ≡ true)) }
-        ensures none_written { (k : ℕ) → slice_index_or self.old.unsynced k false ≡ false → slice_index_or self.new.unsynced k false ≡ false }
+        ensures none_written { (k : ℕ) → slice_index_or self.old.unsynced k false ≡ false
+            → slice_index_or self.new.unsynced k false ≡ false }
         // It is broken by a failure, and then fails for good and leaves the folder as it is.
         ensures broken { OnErr result (self.new.broken ≡ true) }
         ensures whole { OnOk result (self.new.broken ≡ false) }

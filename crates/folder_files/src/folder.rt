@@ -18,7 +18,8 @@ pub enum Access {
     Tried,
 }
 
-/// Nine files of one folder, numbered from 0. It is entered before it is looked at: to read alone, or by a try to take it. A transfer may be short, and a sync is of one file.
+/// Nine files of one folder, numbered from 0. It is entered before it is looked at: to read alone, or by a try to take it. A
+/// transfer may be short, and a sync is of one file.
 pub trait Folder {
     ghost use Rattle.folder_files.specs.declared.folder.Access.{Access};
 
@@ -86,7 +87,8 @@ pub trait Folder {
         requires place { Told (disk self.old) → at ≤ length (file_of (disk self.old).files file) }
         ensures some { IfOk result (λ n. 0 < n) }
         ensures bound { IfOk result (λ n. n ≤ length bytes.now) }
-        ensures written { Told (disk self.old) → IfOk result (λ n. (disk self.new).files ≡ put (disk self.old).files file at (take n bytes.now)) }
+        ensures written { Told (disk self.old) → IfOk result
+            (λ n. (disk self.new).files ≡ put (disk self.old).files file at (take n bytes.now)) }
         ensures writes { OnlyWrites file at (length bytes.now) (disk self.old) (disk self.new) }
         ensures grows { Told (disk self.old) → (c : FileSet) → (disk self.old).may_leave c → (disk self.new).may_leave c }
         ensures stays { (taken self.new ≡ taken self.old) × (syncs self.new ≡ syncs self.old) }

@@ -1,5 +1,6 @@
 // Whole reads, whole writes and syncs of several files, by the calls of a folder.
-ghost use Rattle.std.specs.Prelude.{◌≡◌, ◌≢◌, ◌⊎◌, ◌<◌, ◌≤◌, ◌+◌, ◌^◌, ℕ, length, take, drop, min, IfOk, OnOk, OnErr, IsTrue, true, false};
+ghost use Rattle.std.specs.Prelude.{◌≡◌, ◌≢◌, ◌⊎◌, ◌<◌, ◌≤◌, ◌+◌, ◌^◌, ℕ, length, take, drop, min, IfOk, OnOk, OnErr, IsTrue, true};
+ghost use Rattle.std.specs.Prelude.{false};
 ghost use Rattle.process_flow.specs.Causes.{Rose, CountsFaults};
 ghost use Rattle.process_disk.specs.Disk.{Told, file_of, put};
 ghost use Rattle.process_disk.specs.Calls.{OnlyLooks, OnlyWrites};
@@ -18,8 +19,10 @@ pub fn read_whole<D: Folder>(
 ) -> Result<usize, Failed>
     requires file { file < 9 }
     requires entered { D.access folder.old ≢ Access.Unentered }
-    ensures count { Told (D.disk folder.old) → IfOk result (λ n. n ≡ min (length buf.old) (length (drop at (file_of (D.disk folder.old).files file)))) }
-    ensures bytes { Told (D.disk folder.old) → IfOk result (λ n. take n buf.new ≡ take n (drop at (file_of (D.disk folder.old).files file))) }
+    ensures count { Told (D.disk folder.old) → IfOk result
+        (λ n. n ≡ min (length buf.old) (length (drop at (file_of (D.disk folder.old).files file)))) }
+    ensures bytes { Told (D.disk folder.old) → IfOk result
+        (λ n. take n buf.new ≡ take n (drop at (file_of (D.disk folder.old).files file))) }
     ensures bound { IfOk result (λ n. n ≤ length buf.old) }
     ensures looks { OnlyLooks (D.disk folder.old) (D.disk folder.new) }
     ensures stays { (D.taken folder.new ≡ D.taken folder.old) × (D.syncs folder.new ≡ D.syncs folder.old) }
@@ -45,14 +48,15 @@ pub fn read_whole<D: Folder>(
     Ok(count)
 }
 
-/// Writes all bytes in order, from byte `at` of a file on. The folder is taken, and the file reaches to `at`. It fails as a read does,
-/// and may have written some of them then.
+/// Writes all bytes in order, from byte `at` of a file on. The folder is taken, and the file reaches to `at`. It fails as a read
+/// does, and may have written some of them then.
 pub fn write_whole<D: Folder>(folder: &mut D, file: u8, at: u64, bytes: &[u8]) -> Result<(), Failed>
     requires file { file < 9 }
     requires entered { D.access folder.old ≢ Access.Unentered }
     requires taken { IsTrue (D.taken folder.old) }
     requires place { Told (D.disk folder.old) → at ≤ length (file_of (D.disk folder.old).files file) }
-    ensures written { Told (D.disk folder.old) → OnOk result ((D.disk folder.new).files ≡ put (D.disk folder.old).files file at bytes.now) }
+    ensures written { Told (D.disk folder.old) → OnOk result
+        ((D.disk folder.new).files ≡ put (D.disk folder.old).files file at bytes.now) }
     ensures writes { OnlyWrites file at (length bytes.now) (D.disk folder.old) (D.disk folder.new) }
     ensures stays { (D.taken folder.new ≡ D.taken folder.old) × (D.syncs folder.new ≡ D.syncs folder.old) }
     ensures access { D.access folder.new ≡ D.access folder.old }
@@ -77,8 +81,10 @@ pub fn write_whole<D: Folder>(folder: &mut D, file: u8, at: u64, bytes: &[u8]) -
 pub fn sync_marked<D: Folder>(folder: &mut D, marks: &[bool]) -> Result<(), Failed>
     requires marks { length marks.now ≡ 9 }
     requires entered { D.access folder.old ≢ Access.Unentered }
-    ensures kept { AreKept marks.now (D.disk folder.old) → Told (D.disk folder.old) → OnOk result ((k : ℕ) → k < 9 → IsKept k (D.disk folder.new)) }
-    ensures synced { OnOk result ((k : ℕ) → IsMarked marks.now k → Rose (syncs_of (D.syncs folder.old) k) (syncs_of (D.syncs folder.new) k)) }
+    ensures kept { AreKept marks.now (D.disk folder.old) → Told (D.disk folder.old)
+        → OnOk result ((k : ℕ) → k < 9 → IsKept k (D.disk folder.new)) }
+    ensures synced { OnOk result
+        ((k : ℕ) → IsMarked marks.now k → Rose (syncs_of (D.syncs folder.old) k) (syncs_of (D.syncs folder.new) k)) }
     ensures looks { OnlyLooks (D.disk folder.old) (D.disk folder.new) }
     ensures taken { D.taken folder.new ≡ D.taken folder.old }
     ensures access { D.access folder.new ≡ D.access folder.old }

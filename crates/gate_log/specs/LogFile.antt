@@ -1,5 +1,6 @@
 -- What a file must hold to be the log of a list of bodies, and which list it is the log of.
-use Rattle.std.specs.Prelude.{◌≡◌, ℕ, ◌+◌, ◌*◌, ◌%◌, ◌/◌, ◌<◌, ◌≤◌, List, [], ◌∷◌, ◌++◌, length, take, drop, flat_map, Bool, false, nat_le, nat_eq, ◌==◌, if◌then◌else◌, Option, Some, None, Result, Ok, Err}
+use Rattle.std.specs.Prelude.{◌≡◌, ℕ, ◌+◌, ◌*◌, ◌%◌, ◌/◌, ◌<◌, ◌≤◌, List, [], ◌∷◌, ◌++◌, length, take, drop, flat_map, Bool, false}
+use Rattle.std.specs.Prelude.{nat_le, nat_eq, ◌==◌, if◌then◌else◌, Option, Some, None, Result, Ok, Err}
 use Rattle.std.proofs.Common.{zero, suc}
 use Rattle.std.specs.List.{starts_with}
 use Rattle.gate_log.specs.declared.errors.LogError.{LogError}
@@ -21,7 +22,8 @@ framed body = (length body % 256) ∷ (length body / 256) ∷ body
 abbrev pub AreRecords : List (List ℕ) → List ℕ → Type 0
 AreRecords [] bytes = bytes ≡ []
 AreRecords (body ∷ bodies) bytes =
-    (gate : ℕ) × (low : ℕ) × (high : ℕ) × (rest : List ℕ) × (0 < gate) × (low + 256 * high ≡ length body) × (bytes ≡ gate ∷ low ∷ high ∷ body ++ rest) × AreRecords bodies rest
+    (gate : ℕ) × (low : ℕ) × (high : ℕ) × (rest : List ℕ) × (0 < gate) × (low + 256 * high ≡ length body)
+    × (bytes ≡ gate ∷ low ∷ high ∷ body ++ rest) × AreRecords bodies rest
 
 -- the file is the log of these bodies: the header, their records, a closed gate, and then anything
 pub record IsLog (q : ℕ) (bodies : List (List ℕ)) (file : List ℕ) : Type 0 where
@@ -78,11 +80,13 @@ abbrev pub none_more : ℕ → List ℕ → Result (List (List ℕ)) LogError
 none_more n bytes = if is_closed bytes then Ok [] else Err (BadRecord n)
 
 -- the same with the first record taken, if there is one, and read on behind it
-abbrev pub bodies_on : (List ℕ → Result (List (List ℕ)) LogError) → ℕ → List ℕ → Option (List ℕ × List ℕ) → Result (List (List ℕ)) LogError
+abbrev pub bodies_on : (List ℕ → Result (List (List ℕ)) LogError) → ℕ → List ℕ → Option (List ℕ × List ℕ)
+    → Result (List (List ℕ)) LogError
 bodies_on read_on n bytes None = none_more n bytes
 bodies_on read_on n bytes (Some first) = with_body first.0 (read_on first.1)
 
--- the bodies up to the closed gate, of so many records at most; or the number of the first that isn't whole, where the next is number n
+-- the bodies up to the closed gate, of so many records at most; or the number of the first that isn't whole, where the next is
+-- number n
 abbrev pub bodies_in : ℕ → ℕ → List ℕ → Result (List (List ℕ)) LogError
 bodies_in zero n bytes = none_more n bytes
 bodies_in (suc room) n bytes = bodies_on (bodies_in room (n + 1)) n bytes (first_record bytes)

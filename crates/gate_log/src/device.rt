@@ -13,7 +13,8 @@ use std::alloc::Global;
 pub fn write_and_sync<R: Rack>(rack: &mut R, file: u8, at: u64, bytes: &[u8]) -> Result<(), Failed>
     requires file { file < 9 }
     requires place { Told (R.disk rack.old) → at ≤ length (file_of (R.disk rack.old).files file) }
-    ensures written { Told (R.disk rack.old) → OnOk result ((R.disk rack.new).files ≡ put (R.disk rack.old).files file at bytes.now) }
+    ensures written { Told (R.disk rack.old) → OnOk result
+        ((R.disk rack.new).files ≡ put (R.disk rack.old).files file at bytes.now) }
     ensures durable { Told (R.disk rack.old) → OnOk result (Only (R.disk rack.new).files (R.disk rack.new).may_leave) }
     ensures run { Told (R.disk rack.old) → RunBy (TornIn file at (length bytes.now)) (R.disk rack.old) (R.disk rack.new) }
     ensures tells { (R.disk rack.new).tells ≡ (R.disk rack.old).tells }

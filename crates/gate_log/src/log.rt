@@ -1,5 +1,6 @@
 // An open log.
-ghost use Rattle.std.specs.Prelude.{◌≡◌, ◌≢◌, ◌<◌, ◌≤◌, ◌+◌, ◌*◌, ◌^◌, ◌++◌, ◌∷◌, [], ℕ, List, length, None, IfOk, IfErr, OnOk, OnErr, IsErrOf, IsTrue, ◌↔◌};
+ghost use Rattle.std.specs.Prelude.{◌≡◌, ◌≢◌, ◌<◌, ◌≤◌, ◌+◌, ◌*◌, ◌^◌, ◌++◌, ◌∷◌, [], ℕ, List, length, None, IfOk, IfErr, OnOk};
+ghost use Rattle.std.specs.Prelude.{OnErr, IsErrOf, IsTrue, ◌↔◌};
 ghost use Rattle.process_flow.specs.Causes.{Rose, HasCause};
 ghost use Rattle.process_disk.specs.Disk.{Told, TornIn, file_of};
 ghost use Rattle.process_disk.specs.Images.{EachImage, RunBy, OthersAsBefore, AllAsBefore};
@@ -55,7 +56,8 @@ impl Log {
         ensures later { R.faults rack.old ≤ R.faults rack.new }
         // No failed call of the rack is passed over.
         ensures quiet { OnOk result (R.faults rack.new ≡ R.faults rack.old) }
-        ensures refused { IfErr result (λ e. e ≢ NoMemory → (e ≡ LogError.DiskFault) × Rose (R.faults rack.old) (R.faults rack.new)) }
+        ensures refused { IfErr result
+            (λ e. e ≢ NoMemory → (e ≡ LogError.DiskFault) × Rose (R.faults rack.old) (R.faults rack.new)) }
     {
         let buffer = Buffer::new(alloc)?;
         write_and_sync(rack, file, 0, &first_bytes(file))?;
@@ -151,12 +153,15 @@ impl Log {
     pub fn retract<R: Rack>(&mut self, rack: &mut R) -> Result<(), DiskFault>
         requires last { CanRetract self.old }
         requires open { Told (R.disk rack.old) → IsOpen self.old (R.disk rack.old) }
-        ensures acknowledged { Told (R.disk rack.old) → (bodies : List (List ℕ)) (body : List ℕ) → StandsFor self.old (bodies ++ body ∷ []) (R.disk rack.old) →
+        ensures acknowledged { Told (R.disk rack.old) → (bodies : List (List ℕ)) (body : List ℕ)
+            → StandsFor self.old (bodies ++ body ∷ []) (R.disk rack.old) →
             OnOk result (StandsFor self.new bodies (R.disk rack.new)) }
-        ensures any_moment { Told (R.disk rack.old) → (bodies : List (List ℕ)) (body : List ℕ) → StandsFor self.old (bodies ++ body ∷ []) (R.disk rack.old) →
+        ensures any_moment { Told (R.disk rack.old) → (bodies : List (List ℕ)) (body : List ℕ)
+            → StandsFor self.old (bodies ++ body ∷ []) (R.disk rack.old) →
             EachImage (R.disk rack.new) (R.disk rack.old).moment (LogsBeforeOrWith self.old.file bodies body) }
         ensures others { Told (R.disk rack.old) → OthersAsBefore self.old.file (R.disk rack.old) (R.disk rack.new) }
-        ensures ok { OnOk result ((self.new.file ≡ self.old.file) × (self.new.count + 1 ≡ self.old.count) × (self.new.last ≡ None)) }
+        ensures ok { OnOk result
+            ((self.new.file ≡ self.old.file) × (self.new.count + 1 ≡ self.old.count) × (self.new.last ≡ None)) }
         ensures err { OnErr result (self.new ≡ self.old) }
         ensures tells { (R.disk rack.new).tells ≡ (R.disk rack.old).tells }
         ensures cause { HasCause (R.faults rack.old) (R.faults rack.new) result }

@@ -1,6 +1,8 @@
 // The bytes of a log's file.
-ghost use Rattle.std.specs.Prelude.{◌≡◌, ◌≢◌, ◌<◌, ◌≤◌, ◌+◌, ◌*◌, ◌^◌, ◌++◌, ◌∷◌, [], length, take, None, Some, Ok, Err, IfOk, IfErr, IfSome, MatchOption, All};
-ghost use Rattle.gate_log.specs.LogFile.{header, after_header, first_record, is_closed, bodies_in, most_records, records_size, last_size};
+ghost use Rattle.std.specs.Prelude.{◌≡◌, ◌≢◌, ◌<◌, ◌≤◌, ◌+◌, ◌*◌, ◌^◌, ◌++◌, ◌∷◌, [], length, take, None, Some, Ok, Err, IfOk};
+ghost use Rattle.std.specs.Prelude.{IfErr, IfSome, MatchOption, All};
+ghost use Rattle.gate_log.specs.LogFile.{header, after_header, first_record, is_closed, bodies_in, most_records, records_size};
+ghost use Rattle.gate_log.specs.LogFile.{last_size};
 ghost use Rattle.gate_log.specs.declared.errors.LogError.TheVariants.{NoMemory};
 
 use crate::{Body, LogError};
@@ -30,7 +32,8 @@ pub fn after_header(bytes: &[u8], file: u8) -> Option<&[u8]>
 
 /// The body of a whole record behind an open gate, and what follows it.
 fn first_record(bytes: &[u8]) -> Option<(&[u8], &[u8])>
-    ensures first { MatchOption result (first_record bytes.now ≡ None) (λ first. first_record bytes.now ≡ Some (first.0.now, first.1.now)) }
+    ensures first { MatchOption result (first_record bytes.now ≡ None)
+        (λ first. first_record bytes.now ≡ Some (first.0.now, first.1.now)) }
     ensures short { IfSome result (λ first. length first.0.now < 2 ^ 16) }
     ensures size { IfSome result (λ first. 3 + length first.0.now + length first.1.now ≡ length bytes.now) }
 {

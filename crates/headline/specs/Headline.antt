@@ -1,25 +1,34 @@
 -- The sentence that this crate is named for:
 --
---     However admissions, outcomes and aborts interleave and wherever a stop falls in a device write, restart reads a prefix of the history
---     that holds every acknowledged activity, ends each started process on one whole path or with nothing left, makes the subsystems'
+--     However admissions, outcomes and aborts interleave and wherever a stop falls in a device write, restart reads a prefix of the
+-- history
+--     that holds every acknowledged activity, ends each started process on one whole path or with nothing left, makes the
+-- subsystems'
 --     books exactly the completed schedule of that prefix, and prints steps that swap nonconflicting neighbours and cancel adjacent
 --     compensated pairs until that schedule is serial.
 --
 -- What its parts are in the definitions:
 --
--- - 'However .. interleave': the call that stops is one of `run`, `session`, `serve` or `restart`, on any words, over any source, sink, rack,
+-- - 'However .. interleave': the call that stops is one of `run`, `session`, `serve` or `restart`, on any words, over any source,
+-- sink, rack,
 --   boxes and gates. The machine came to where it is by what its gate answered or its lines said, whatever that was (`CameBy`).
--- - 'Wherever a stop falls': a moment of the call, between two device calls or within one, and any files that the device may have kept since
+-- - 'Wherever a stop falls': a moment of the call, between two device calls or within one, and any files that the device may have
+-- kept since
 --   then (`WereLeft`). The next call finds them, and nobody else wrote them (`IsRestartOn`).
--- - 'A prefix of the history': the first events of the machine's history, or of that with the one event that was under way, with the plans of
+-- - 'A prefix of the history': the first events of the machine's history, or of that with the one event that was under way, with
+-- the plans of
 --   the processes that start in them (`IsBeginningOf`).
--- - 'Every acknowledged activity': each event of the call stands beside the moment from which on every image holds it. All with a moment no
+-- - 'Every acknowledged activity': each event of the call stands beside the moment from which on every image holds it. All with a
+-- moment no
 --   later than the stop are there, and so is all that was there at entry (`HoldsAcknowledged`).
--- - 'One whole path or nothing left', 'books exactly', 'prints steps .. until serial': the fields of `IsCompleted`. A process has ended with
---   the steps of one whole path as its net, or with none; each book is the effects of the completed history, and each box has its values;
---   the report has these steps, which apply one after another to the completed schedule, and the list that they come to is serial.
+-- - 'One whole path or nothing left', 'books exactly', 'prints steps .. until serial': the fields of `IsCompleted`. A process has
+-- ended with
+-- the steps of one whole path as its net, or with none; each book is the effects of the completed history, and each box has its
+-- values; the report has these steps, which apply one after another to the completed schedule, and the list that they come to is
+-- serial.
 --
--- Where a process uses up its tries, memory is wanting or a device fails, what `restart` read is still such a prefix (`IsRecovered`).
+-- Where a process uses up its tries, memory is wanting or a device fails, what `restart` read is still such a prefix
+-- (`IsRecovered`).
 use Rattle.std.specs.Prelude.{◌≡◌, ◌≢◌, ◌⊎◌, ◌≤◌, ℕ, Bool, true, false, List, [], ◌∷◌, ◌++◌, Option, Some, IsTrue}
 use Rattle.std.specs.Io.KnownBytes.{Appends}
 use Rattle.process_flow.specs.Causes.{Rose}
@@ -51,7 +60,9 @@ use Rattle.process_engine.specs.declared.gates.Gate.{Ghosts as Gates}
 use Rattle.resource_box.specs.declared.resource.Resource.{Ghosts as Resources}
 use Rattle.process_report.specs.Report.{report_of, report_text}
 use Rattle.program_lines.specs.declared.status.Status.{Status}
-use Rattle.program_lines.specs.declared.status.Status.TheVariants.{Done, BadWords, BadInput, IllFormed, Limit, Unfinished, BadFile, BookDiffers, ReadFault, WriteFault, DiskFault, Exhausted, NoMemory}
+use Rattle.program_lines.specs.declared.status.Status.TheVariants.{Done, BadWords, BadInput, IllFormed, Limit, Unfinished, BadFile}
+use Rattle.program_lines.specs.declared.status.Status.TheVariants.{BookDiffers, ReadFault, WriteFault, DiskFault, Exhausted}
+use Rattle.program_lines.specs.declared.status.Status.TheVariants.{NoMemory}
 use Rattle.program_lines.specs.Statuses.{IsOneOf, number_of}
 use Rattle.program_words.specs.Commands.{asked}
 use Rattle.program_words.specs.declared.reading.Command.{Command}
@@ -84,42 +95,49 @@ goes_on (Some Serve) = true
 goes_on (Some Restart) = true
 goes_on o = false
 
--- The machine that opened on this history came to this one as the command says: by processes of the scenario, which started in its order, and
--- what the gate answers; by lines of the session; by lines of a driver, once whoever was active had begun to complete; or by what completes the
--- history.
+-- The machine that opened on this history came to this one as the command says: by processes of the scenario, which started in its
+-- order, and what the gate answers; by lines of the session; by lines of a driver, once whoever was active had begun to complete;
+-- or by what completes the history.
 abbrev pub CameBy : Option Command → AskedGate → Input → Input → Catalog → History → CoreState → Type 0
 CameBy (Some Run) gate before after c h now =
-    (plans started rest : List Plan) × IsScenarioRead before after c plans × (plans ≡ started ++ rest) × HasGone gate c h started now
+    (plans started rest : List Plan) × IsScenarioRead before after c plans × (plans ≡ started ++ rest)
+    × HasGone gate c h started now
 CameBy (Some Session) gate before after c h now =
     (plans : List Plan) × (lines : List Line) × (text : List ℕ) × (status : Status)
-    × IsSessionRead before after c plans lines × (active h.events ≡ []) × HasPlayed c plans (opened_on c.conflicts h.plans h.events) now lines text status
+    × IsSessionRead before after c plans lines × (active h.events ≡ [])
+    × HasPlayed c plans (opened_on c.conflicts h.plans h.events) now lines text status
 CameBy (Some Serve) gate before after c h now =
     (plans : List Plan) × (first : ℕ) × (taken answers : List ℕ) × (status : Status)
     × IsServeRead before after c plans first taken × IsSpoken c plans h first now taken after.left answers status
 CameBy (Some Restart) gate before after c h now = IsCompleting gate c h now
 CameBy o gate before after c h now = ⊥
 
--- The history of the machine with the event that may have been under way: of a piece that is out, of a start of the scenario's, or the next
--- of the completion. In a dialogue it may be the start of another plan too, as a line may spell one out.
+-- The history of the machine with the event that may have been under way: of a piece that is out, of a start of the scenario's, or
+-- the next of the completion. In a dialogue it may be the start of another plan too, as a line may spell one out.
 abbrev pub IsAhead : Option Command → Input → Input → Catalog → History → CoreState → History → Type 0
 IsAhead (Some Run) before after c h now k = (plans : List Plan) × IsScenarioRead before after c plans × IsUnderWay plans now k
-IsAhead (Some Session) before after c h now k = (plans : List Plan) × (lines : List Line) × IsSessionRead before after c plans lines × IsUnderWay plans now k
+IsAhead (Some Session) before after c h now k =
+    (plans : List Plan) × (lines : List Line) × IsSessionRead before after c plans lines × IsUnderWay plans now k
 IsAhead (Some Serve) before after c h now k =
-    (plans : List Plan) × (first : ℕ) × (taken : List ℕ) × IsServeRead before after c plans first taken × (spelled : List Plan) × IsUnderWay (plans ++ spelled) now k
+    (plans : List Plan) × (first : ℕ) × (taken : List ℕ) × IsServeRead before after c plans first taken × (spelled : List Plan)
+    × IsUnderWay (plans ++ spelled) now k
 IsAhead (Some Restart) before after c h now k = IsNextHistory h now k
 IsAhead o before after c h now k = ⊥
 
--- A call on files of this history, from one world to another: the machine opened on the history, wherever its plans lie, and went on to where
--- it is now. What came is acknowledged event by event, and kept from then on.
-pub record WentOn {S K R : Type 0} (o : Option Command) (c : Catalog) (h : History) (before after : World S K R) (now : CoreState) (came : List (ℕ × Event)) : Type 0 where
+-- A call on files of this history, from one world to another: the machine opened on the history, wherever its plans lie, and went
+-- on to where it is now. What came is acknowledged event by event, and kept from then on.
+pub record WentOn {S K R : Type 0} (o : Option Command) (c : Catalog) (h : History) (before after : World S K R) (now : CoreState)
+    (came : List (ℕ × Event)) : Type 0 where
   pub opened : History
   pub same : IsSameHistory h opened
   pub machine : IsCore now
   pub begins : opened ≡ beginning (full_history now) opened.events
-  pub by : (now ≡ opened_on c.conflicts opened.plans opened.events) ⊎ CameBy o (first_gate before.gates after.gates) before.input after.input c opened now
+  pub by : (now ≡ opened_on c.conflicts opened.plans opened.events)
+      ⊎ CameBy o (first_gate before.gates after.gates) before.input after.input c opened now
   pub events : history_of now ≡ h.events ++ events_of came
   pub in_turn : FromOpening (λ t. ComeInTurn c (full_history now)
-      (λ files. (k : History) × IsAhead o before.input after.input c opened now k × IsSound c k files) after.files.disk h.events t came)
+      (λ files. (k : History) × IsAhead o before.input after.input c opened now k
+      × IsSound c k files) after.files.disk h.events t came)
       before.files.disk after.files.disk
 
 -- the statuses of what is refused beforehand: of words, of an input, and of files that can't be gone on with
@@ -149,21 +167,22 @@ pub record IsKnown (disk : Disk) : Type 0 where
   pub told : Told disk
   pub synced : Only disk.files disk.may_leave
 
--- The rack tells its bytes. The files were created for this catalog and are sound for this history, and so is whatever a crash at once would
--- leave: as where nothing is unsynced, and where the last call kept them.
+-- The rack tells its bytes. The files were created for this catalog and are sound for this history, and so is whatever a crash at
+-- once would leave: as where nothing is unsynced, and where the last call kept them.
 pub record IsAtEntry (c : Catalog) (h : History) (disk : Disk) : Type 0 where
   pub told : Told disk
   pub created : IsSound c h disk.files
   pub images : (files : FileSet) → disk.may_leave files → IsSound c h files
 
 -- What a call that ended leaves, of which this came.
-pub record LeavesFiles {S K R : Type 0} (o : Option Command) (c : Catalog) (before after : World S K R) (number : ℕ) (now : CoreState) (came : List (ℕ × Event)) : Type 0 where
+pub record LeavesFiles {S K R : Type 0} (o : Option Command) (c : Catalog) (before after : World S K R) (number : ℕ)
+    (now : CoreState) (came : List (ℕ × Event)) : Type 0 where
   pub status : Status
   pub numbered : number ≡ number_of status
   -- what was refused beforehand did nothing; but in a dialogue the source may fail at any line
   pub nothing : is_refused_beforehand status ≡ true → ¬ FailsInDialogue o status → came ≡ []
-  -- unless the rack failed, the files are sound for the history that the machine has come to, and so is whatever a crash leaves of them from
-  -- now on: the next call finds them so
+  -- unless the rack failed, the files are sound for the history that the machine has come to, and so is whatever a crash leaves of
+  -- them from now on: the next call finds them so
   pub kept : ¬ IsRackFault status before after → EachImage after.files.disk after.files.disk.moment (IsSound c (full_history now))
   pub next : ¬ IsRackFault status before after → IsAtEntry c (full_history now) after.files.disk
 
@@ -175,31 +194,35 @@ pub record WereLeft {S K R : Type 0} (before after : World S K R) (moment : ℕ)
   pub image : after.files.disk.left_since moment left
 
 -- The command `restart` was called on files that read so, and nobody else had written them.
-pub record IsRestartOn {S K R : Type 0} (left : FileSet) (words : List (List ℕ)) (again last : World S K R) (number : ℕ) : Type 0 where
+pub record IsRestartOn {S K R : Type 0} (left : FileSet) (words : List (List ℕ)) (again last : World S K R)
+    (number : ℕ) : Type 0 where
   pub asks : asked words ≡ Some Restart
   pub known : IsKnown again.files.disk
   pub found : again.files.disk.files ≡ left
   pub answered : Answers words again last number
 
--- No step of a completion and no undo of it is refused by this gate, or barred by the values, as often as its tries: in no restart on this
--- history, as far as it may go, is the process whose turn it is exhausted.
+-- No step of a completion and no undo of it is refused by this gate, or barred by the values, as often as its tries: in no restart
+-- on this history, as far as it may go, is the process whose turn it is exhausted.
 abbrev pub NothingIsExhausted : AskedGate → Catalog → History → Type 0
 NothingIsExhausted gate c h =
-    (now : CoreState) (i : ℕ) → IsCompleting gate c h now → next_in_restart (courses_in now) (moment_of now) ≡ Some i → is_exhausted (courses_in now) (moment_of now) i ≡ false
+    (now : CoreState) (i : ℕ) → IsCompleting gate c h now → next_in_restart (courses_in now) (moment_of now) ≡ Some i
+    → is_exhausted (courses_in now) (moment_of now) i ≡ false
 
 -- The conclusion.
 
 -- a history is a beginning of that of the machine, or of that with the event under way, wherever its plans lie
 abbrev pub IsBeginningOf : (History → Type 0) → CoreState → History → Type 0
 IsBeginningOf MayBeAhead now read =
-    (k : History) × ((k ≡ full_history now) ⊎ MayBeAhead k) × (rest : List Event) × (k.events ≡ read.events ++ rest) × IsSameHistory (beginning k read.events) read
+    (k : History) × ((k ≡ full_history now) ⊎ MayBeAhead k) × (rest : List Event) × (k.events ≡ read.events ++ rest)
+    × IsSameHistory (beginning k read.events) read
 
 -- it holds what was there at first, and every event that was acknowledged by a moment
 abbrev pub HoldsAcknowledged : History → List (ℕ × Event) → ℕ → History → Type 0
 HoldsAcknowledged h came moment read = (rest : List Event) × (read.events ≡ h.events ++ acknowledged moment came ++ rest)
 
 -- What `restart` reads of files that a stop left, whatever becomes of it: of a history of which this may be ahead, this is read.
-pub record IsRecovered {S K R : Type 0} (c : Catalog) (h : History) (MayBeAhead : History → Type 0) (now : CoreState) (came : List (ℕ × Event)) (moment : ℕ) (read : History)
+pub record IsRecovered {S K R : Type 0} (c : Catalog) (h : History) (MayBeAhead : History → Type 0) (now : CoreState)
+    (came : List (ℕ × Event)) (moment : ℕ) (read : History)
     (words : List (List ℕ)) (again last : World S K R) (number : ℕ) : Type 0 where
   pub reads : IsSound c read again.files.disk.files
   -- it is a beginning of the history, and holds every acknowledged event
@@ -211,7 +234,8 @@ pub record IsRecovered {S K R : Type 0} (c : Catalog) (h : History) (MayBeAhead 
   pub status : Status
   pub numbered : number ≡ number_of status
   pub one_of : IsOneOf status (Done ∷ WriteFault ∷ DiskFault ∷ Exhausted ∷ NoMemory ∷ [])
-  pub well : NothingIsExhausted (first_gate again.gates last.gates) c read → number ≢ number_of NoMemory → IsQuiet (asked words) again last → status ≡ Done
+  pub well : NothingIsExhausted (first_gate again.gates last.gates) c read → number ≢ number_of NoMemory
+      → IsQuiet (asked words) again last → status ≡ Done
 
 -- What `restart` makes of the history that it read, and what it prints of it.
 pub record IsCompleted {S K R : Type 0} (c : Catalog) (read : History) (again last : World S K R) : Type 0 where
@@ -228,15 +252,16 @@ pub record IsCompleted {S K R : Type 0} (c : Catalog) (read : History) (again la
   pub list : List Entry
   pub printed : Appends again.output.taken last.output.taken
       (report_of c (with_completion read) (restart_causes read) [] (record { steps = steps; list = list }))
-  -- the steps apply in turn to the completed schedule, each being swaps of neighbours that don't conflict or the removal of a step and its
-  -- undo behind it, and lead to the list
+  -- the steps apply in turn to the completed schedule, each being swaps of neighbours that don't conflict or the removal of a step
+  -- and its undo behind it, and lead to the list
   pub applies : applied_all (do_conflict c.conflicts) steps (acts (completed_history read)) ≡ Some list
   pub reduced : AreReduced (do_conflict c.conflicts) (acts (completed_history read)) list
   -- which is serial
   pub serial : IsTrue (is_serial list)
 
 -- The sentence: what `restart` makes of files that a stop left at a moment of a call, where nothing goes wrong.
-pub record IsRestored {S K R : Type 0} (c : Catalog) (h : History) (MayBeAhead : History → Type 0) (now : CoreState) (came : List (ℕ × Event)) (moment : ℕ) (left : FileSet)
+pub record IsRestored {S K R : Type 0} (c : Catalog) (h : History) (MayBeAhead : History → Type 0) (now : CoreState)
+    (came : List (ℕ × Event)) (moment : ℕ) (left : FileSet)
     (again last : World S K R) : Type 0 where
   -- it reads a beginning of the history
   pub read : History
@@ -244,12 +269,12 @@ pub record IsRestored {S K R : Type 0} (c : Catalog) (h : History) (MayBeAhead :
   pub begins : IsBeginningOf MayBeAhead now read
   -- that holds every acknowledged event
   pub holds : HoldsAcknowledged h came moment read
-  -- ends each process on one whole path or with nothing left, makes the books exactly the completed schedule, and prints the steps that lead
-  -- to a serial list
+  -- ends each process on one whole path or with nothing left, makes the books exactly the completed schedule, and prints the steps
+  -- that lead to a serial list
   pub completed : IsCompleted c read again last
 
--- What `restart` leaves where a process is exhausted: the history is on the way to the completed one, the books are exactly its schedule,
--- and the report of it is printed with a line that names the process whose turn it is.
+-- What `restart` leaves where a process is exhausted: the history is on the way to the completed one, the books are exactly its
+-- schedule, and the report of it is printed with a line that names the process whose turn it is.
 pub record IsHeldUp {S K R : Type 0} (c : Catalog) (read : History) (again last : World S K R) : Type 0 where
   pub now : CoreState
   pub completing : IsCompleting (first_gate again.gates last.gates) c read now
@@ -258,7 +283,8 @@ pub record IsHeldUp {S K R : Type 0} (c : Catalog) (read : History) (again last 
   pub exhausted : IsHeldUpBy now process step
   pub books : AreExactly c (full_history now) last.files.disk.files
   pub kept : EachImage last.files.disk last.files.disk.moment (AreExactly c (full_history now))
-  pub printed : Appends again.output.taken last.output.taken (report_text c (full_history now) (restart_causes read) ++ exhausted_line now process)
+  pub printed : Appends again.output.taken last.output.taken
+      (report_text c (full_history now) (restart_causes read) ++ exhausted_line now process)
 
 -- The laws, over sources, sinks, racks, boxes and gates of any types.
 
@@ -270,23 +296,26 @@ pub record Outside (S K R B G : Type 0) : Type 0 where
   pub boxes : List B
   pub gates : List G
 
-module _ {S K R B G : Type 0} (sources : Sources S) (sinks : Sinks K) (racks : Racks R) (resources : Resources B) (workers : Gates G) where
+module _ {S K R B G : Type 0} (sources : Sources S) (sinks : Sinks K) (racks : Racks R) (resources : Resources B)
+    (workers : Gates G) where
   abbrev pub seen : Outside S K R B G → World S K R
   seen x = world sources sinks racks resources workers x.source x.sink x.rack x.boxes x.gates
 
   -- What is said of a restart, of a stopped call that went on so, and of the files that it left.
-  abbrev pub OfEachRestart : List (List ℕ) → Catalog → History → Outside S K R B G → Outside S K R B G → CoreState → List (ℕ × Event) → History → Type 0
+  abbrev pub OfEachRestart : List (List ℕ) → Catalog → History → Outside S K R B G → Outside S K R B G → CoreState
+      → List (ℕ × Event) → History → Type 0
   OfEachRestart words c h before after now came opened =
       (moment : ℕ) (left : FileSet) (words' : List (List ℕ)) (again last : Outside S K R B G) (number : ℕ)
       → WereLeft (seen before) (seen after) moment left → IsRestartOn left words' (seen again) (seen last) number
       → (read : History)
-      × IsRecovered c h (IsAhead (asked words) (seen before).input (seen after).input c opened now) now came moment read words' (seen again) (seen last) number
+      × IsRecovered c h (IsAhead (asked words) (seen before).input (seen after).input c opened now) now came moment read words'
+      (seen again) (seen last) number
       × (asked words ≡ Some Restart → completed_history read ≡ completed_history h)
       × (number ≡ number_of Done → IsCompleted c read (seen again) (seen last))
       × (number ≡ number_of Exhausted → IsHeldUp c read (seen again) (seen last))
 
-  -- Whatever a call of `run`, of `session`, of `serve` or of `restart` did, and wherever a stop falls in it: what it left is restored. And where it ends,
-  -- the next call finds the files of its history.
+  -- Whatever a call of `run`, of `session`, of `serve` or of `restart` did, and wherever a stop falls in it: what it left is
+  -- restored. And where it ends, the next call finds the files of its history.
   abbrev pub StopsAreRestored : Type 0
   StopsAreRestored =
       (words : List (List ℕ)) (before after : Outside S K R B G) (number : ℕ) (c : Catalog) (h : History)
@@ -296,12 +325,14 @@ module _ {S K R B G : Type 0} (sources : Sources S) (sinks : Sinks K) (racks : R
       × OfEachRestart words c h before after now came went.opened
 
   -- The premises on a stop and on the restart after it.
-  pub record Premises (before after : Outside S K R B G) (c : Catalog) (moment : ℕ) (left : FileSet) (words : List (List ℕ)) (again last : Outside S K R B G) (number : ℕ) : Type 0 where
+  pub record Premises (before after : Outside S K R B G) (c : Catalog) (moment : ℕ) (left : FileSet) (words : List (List ℕ))
+      (again last : Outside S K R B G) (number : ℕ) : Type 0 where
     -- nobody but the stopped call wrote the files that `restart` finds
     pub stopped : WereLeft (seen before) (seen after) moment left
     pub restarted : IsRestartOn left words (seen again) (seen last) number
     -- no retriable and no undo is refused or barred as often as its tries
-    pub willing : (read : History) → IsSound c read left → NothingIsExhausted (first_gate (seen again).gates (seen last).gates) c read
+    pub willing : (read : History) → IsSound c read left
+        → NothingIsExhausted (first_gate (seen again).gates (seen last).gates) c read
     -- memory is found
     pub memory : number ≢ number_of NoMemory
     -- no device fails during the restart, and the sink takes the text
@@ -316,4 +347,5 @@ module _ {S K R B G : Type 0} (sources : Sources S) (sinks : Sinks K) (racks : R
       × ((moment : ℕ) (left : FileSet) (words' : List (List ℕ)) (again last : Outside S K R B G) (number' : ℕ)
       → Premises before after c moment left words' again last number'
       → (number' ≡ number_of Done)
-      × IsRestored c h (IsAhead (asked words) (seen before).input (seen after).input c went.opened now) now came moment left (seen again) (seen last))
+      × IsRestored c h (IsAhead (asked words) (seen before).input (seen after).input c went.opened now) now came moment left
+      (seen again) (seen last))

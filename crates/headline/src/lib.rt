@@ -14,9 +14,9 @@ use process_flow::{Sink, Source};
 use resource_box::Resource;
 use subsystem_store::books_are_read_back;
 
-/// Whatever a call of `run`, `session`, `serve` or `restart` did and wherever it is stopped, `restart` reads a beginning of its history
-/// with all that was acknowledged, completes it and prints it. Where it ends, and the rack failed no call, the next call finds the
-/// files of its history.
+/// Whatever a call of `run`, `session`, `serve` or `restart` did and wherever it is stopped, `restart` reads a beginning of its
+/// history with all that was acknowledged, completes it and prints it. Where it ends, and the rack failed no call, the next call
+/// finds the files of its history.
 pub fn stops_are_restored<S: Source, K: Sink, R: Rack + Drop, B: Resource, G: Gate>()
     ensures stops { StopsAreRestored S.Source K.Sink R.Rack B.Resource G.Gate }
     ensures headline { Headline S.Source K.Sink R.Rack B.Resource G.Gate }

@@ -18,7 +18,8 @@ use Rattle.process_top.specs.Commands.{Answers}
 use Rattle.process_top.specs.Worlds.{World}
 use Rattle.headline.specs.Headline.{IsAhead, IsAtEntry, IsCompleted, IsRecovered, IsRestartOn, Outside, WentOn, WereLeft, seen}
 
-module _ {S K R B G : Type 0} (sources : Sources S) (sinks : Sinks K) (racks : Racks R) (resources : Resources B) (workers : Gates G) where
+module _ {S K R B G : Type 0} (sources : Sources S) (sinks : Sinks K) (racks : Racks R) (resources : Resources B)
+    (workers : Gates G) where
   abbrev pub see : Outside S K R B G → World S K R
   see = seen sources sinks racks resources workers
 
@@ -32,8 +33,8 @@ module _ {S K R B G : Type 0} (sources : Sources S) (sinks : Sinks K) (racks : R
     pub leaves : after.rack ≡ left
     pub answered : Answers (word ∷ []) (see before) (see after) status
 
-  -- A session was answered on files that were made, a stop fell in it, and a restart was answered on what the stop left, at this status and
-  -- with this in its sink. So the law speaks of it: of the history that the restart read.
+  -- A session was answered on files that were made, a stop fell in it, and a restart was answered on what the stop left, at this
+  -- status and with this in its sink. So the law speaks of it: of the history that the restart read.
   pub record IsRestartedSession (status : ℕ) (sink : K) : Type 0 where
     pub before : Outside S K R B G
     pub after : Outside S K R B G
@@ -55,6 +56,7 @@ module _ {S K R B G : Type 0} (sources : Sources S) (sinks : Sinks K) (racks : R
     pub came : List (ℕ × Event)
     pub went : WentOn (Some Session) catalog no_history (see before) (see after) now came
     pub read : History
-    pub recovered : IsRecovered catalog no_history (IsAhead (Some Session) (see before).input (see after).input catalog went.opened now) now came moment read
+    pub recovered : IsRecovered catalog no_history
+        (IsAhead (Some Session) (see before).input (see after).input catalog went.opened now) now came moment read
         (codes "restart" ∷ []) (see again) (see last) status
     pub completed : status ≡ number_of Done → IsCompleted catalog read (see again) (see last)

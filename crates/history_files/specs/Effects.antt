@@ -32,7 +32,8 @@ subsystem_of ops op = slice_index_or (map (λ o. o.subsystem) ops) op 0
 
 -- what an entry asks of its subsystem
 abbrev pub call_of : List Op → List Plan → Entry → Call
-call_of ops plans e = record { verb = verb_of ops e.op; key = key_of plans e.process e.step; amount = amount_of plans e.process e.step }
+call_of ops plans e =
+    record { verb = verb_of ops e.op; key = key_of plans e.process e.step; amount = amount_of plans e.process e.step }
 
 -- the effect of an entry before which n others stand
 abbrev pub effect_of : List Op → List Plan → ℕ → Entry → Effect
@@ -42,7 +43,8 @@ effect_of ops plans n e = record { number = n; process = e.process; step = e.ste
 abbrev pub effects_from : List Op → List Plan → ℕ → ℕ → List Entry → List Effect
 effects_from ops plans q n [] = []
 effects_from ops plans q n (e ∷ es) =
-    if subsystem_of ops e.op == q then effect_of ops plans n e ∷ effects_from ops plans q (n + 1) es else effects_from ops plans q (n + 1) es
+    if subsystem_of ops e.op == q then effect_of ops plans n e ∷ effects_from ops plans q (n + 1) es
+    else effects_from ops plans q (n + 1) es
 
 -- the effects of a history on subsystem q, in order; the number of each is how many acts on any subsystem stand before it
 abbrev pub effects : List Op → History → ℕ → List Effect

@@ -20,7 +20,8 @@ schedule = act 1 0 0 false ∷ act 2 0 1 false ∷ act 1 0 0 true ∷ []
 
 -- of plans that aren't known the keys and amounts are 0
 abbrev effect : ℕ → ℕ → Bool → Verb → Effect
-effect number process undo verb = record { number = number; process = process; step = 0; undo = undo; call = record { verb = verb; key = 0; amount = pos 0 } }
+effect number process undo verb =
+    record { number = number; process = process; step = 0; undo = undo; call = record { verb = verb; key = 0; amount = pos 0 } }
 
 -- the numbers count the acts of all subsystems
 on_the_counters : effects_from ops [] 0 0 schedule ≡ effect 0 1 false Add ∷ effect 2 1 true Add ∷ []
@@ -30,8 +31,10 @@ on_the_cells : effects_from ops [] 4 0 schedule ≡ effect 1 2 false Put ∷ []
 on_the_cells = refl
 
 -- an effect in doubt counts where it stands among the effects, and only there
-in_doubt_and_recorded : counted (effect 0 1 false Add ∷ effect 2 1 true Add ∷ []) (effect 0 1 false Add ∷ []) (Some (effect 2 1 true Add)) ≡ effect 0 1 false Add ∷ effect 2 1 true Add ∷ []
+in_doubt_and_recorded : counted (effect 0 1 false Add ∷ effect 2 1 true Add ∷ []) (effect 0 1 false Add ∷ [])
+    (Some (effect 2 1 true Add)) ≡ effect 0 1 false Add ∷ effect 2 1 true Add ∷ []
 in_doubt_and_recorded = refl
 
-in_doubt_and_not_recorded : counted (effect 0 1 false Add ∷ []) (effect 0 1 false Add ∷ []) (Some (effect 2 1 true Add)) ≡ effect 0 1 false Add ∷ []
+in_doubt_and_not_recorded : counted (effect 0 1 false Add ∷ []) (effect 0 1 false Add ∷ []) (Some (effect 2 1 true Add))
+    ≡ effect 0 1 false Add ∷ []
 in_doubt_and_not_recorded = refl

@@ -36,7 +36,8 @@ EndsAddNone = (ops : List Op) (h : History) (i q : ℕ) → effects ops (with_ev
 
 -- and a start adds none to those of a history that a journal may have.
 abbrev pub StartsAddNone : Type 0
-StartsAddNone = (c : Catalog) (h : History) (i : ℕ) (p : Plan) (q : ℕ) → IsHistoryUnder c h → effects c.ops (with_start h i p) q ≡ effects c.ops h q
+StartsAddNone = (c : Catalog) (h : History) (i : ℕ) (p : Plan) (q : ℕ) → IsHistoryUnder c h
+    → effects c.ops (with_start h i p) q ≡ effects c.ops h q
 
 -- nothing is in doubt, and each book has the effects of the history
 abbrev pub AreSettled : {B : Type 0} → List Op → History → List (Opened B) → Type 0
@@ -44,17 +45,21 @@ AreSettled ops h stores = AtEach (λ q s. (s.doubt ≡ None) × (s.book ≡ effe
 
 -- Where the effect of an act is prepared behind settled stores, the books come to the effects of the history with the act too,
 abbrev pub PreparedComeTo : Type 0 → Type 0
-PreparedComeTo B = (ops : List Op) (h : History) (e : Entry) (q : ℕ) (old new : List (Opened B)) → subsystem_of ops e.op ≡ q → AreSettled ops h old
+PreparedComeTo B = (ops : List Op) (h : History) (e : Entry) (q : ℕ) (old new : List (Opened B)) → subsystem_of ops e.op ≡ q
+    → AreSettled ops h old
     → Changes q (Doubts (Some (next_effect ops h e))) old new → ComeTo ops (with_event h (Act e)) new
 
 -- and once it is committed, the stores are settled for that history.
 abbrev pub CommittedAreSettled : Type 0 → Type 0
-CommittedAreSettled B = (ops : List Op) (h : History) (e : Entry) (q : ℕ) (old new last : List (Opened B)) → subsystem_of ops e.op ≡ q → AreSettled ops h old
-    → Changes q (Doubts (Some (next_effect ops h e))) old new → Changes q Commits new last → AreSettled ops (with_event h (Act e)) last
+CommittedAreSettled B = (ops : List Op) (h : History) (e : Entry) (q : ℕ) (old new last : List (Opened B))
+    → subsystem_of ops e.op ≡ q → AreSettled ops h old
+    → Changes q (Doubts (Some (next_effect ops h e))) old new → Changes q Commits new last
+    → AreSettled ops (with_event h (Act e)) last
 
 -- Where nothing came to be in doubt they stay settled for the history.
 abbrev pub BarredAreSettled : Type 0 → Type 0
-BarredAreSettled B = (ops : List Op) (h : History) (q : ℕ) (old new : List (Opened B)) → AreSettled ops h old → Changes q (Doubts None) old new → AreSettled ops h new
+BarredAreSettled B = (ops : List Op) (h : History) (q : ℕ) (old new : List (Opened B)) → AreSettled ops h old
+    → Changes q (Doubts None) old new → AreSettled ops h new
 
 -- What a store is asked of an effect that is prepared.
 pub record MayBePrepared (c : Catalog) (h : History) (e : Entry) (q : ℕ) : Type 0 where
@@ -64,4 +69,5 @@ pub record MayBePrepared (c : Catalog) (h : History) (e : Entry) (q : ℕ) : Typ
 
 -- So it is with each act with which a history that a journal may have goes on to one that it may have.
 abbrev pub NextEffectsMayBePrepared : Type 0
-NextEffectsMayBePrepared = (c : Catalog) (h : History) (e : Entry) (q : ℕ) → subsystem_of c.ops e.op ≡ q → IsHistoryUnder c (with_event h (Act e)) → MayBePrepared c h e q
+NextEffectsMayBePrepared = (c : Catalog) (h : History) (e : Entry) (q : ℕ) → subsystem_of c.ops e.op ≡ q
+    → IsHistoryUnder c (with_event h (Act e)) → MayBePrepared c h e q

@@ -1,5 +1,6 @@
 -- What nine files are seen as, and for which history they stand.
-use Rattle.std.specs.Prelude.{◌≡◌, ℕ, ◌+◌, Bool, true, List, [], ◌∷◌, ◌++◌, length, Option, Some, None, IfSome, slice_set, if◌then◌else◌}
+use Rattle.std.specs.Prelude.{◌≡◌, ℕ, ◌+◌, Bool, true, List, [], ◌∷◌, ◌++◌, length, Option, Some, None, IfSome, slice_set}
+use Rattle.std.specs.Prelude.{if◌then◌else◌}
 use Rattle.std.specs.List.{slice_get}
 use Rattle.process_disk.specs.Disk.{Disk}
 use Rattle.gate_log.specs.Standing.{LogState}
@@ -45,7 +46,8 @@ ComeTo ops h stores = AtEach (λ q s. counted (effects ops h q) s.book s.doubt �
 
 -- whether the effect in doubt in the store of subsystem q stands among the effects of the history
 abbrev pub DoubtIs : {B : Type 0} → Bool → List Op → History → ℕ → List (Opened B) → Type 0
-DoubtIs {B} is ops h q stores = (s : Opened B) (e : Effect) → slice_get stores q ≡ Some s → s.doubt ≡ Some e → is_among e (effects ops h q) ≡ is
+DoubtIs {B} is ops h q stores = (s : Opened B) (e : Effect) → slice_get stores q ≡ Some s → s.doubt ≡ Some e
+    → is_among e (effects ops h q) ≡ is
 
 -- The store of subsystem q changes so, and the others stay.
 pub record Changes {B : Type 0} (q : ℕ) (step : Opened B → Opened B → Type 0) (old new : List (Opened B)) : Type 0 where

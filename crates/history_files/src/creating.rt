@@ -49,7 +49,8 @@ fn made<R: Rack, B: Resource>(
     requires catalog { IsCatalog catalog.now }
     requires boxes { AreBoxes B.sort boxes.old.items × AreEmpty B.meaning boxes.old.items }
     requires room { 8 ≤ vec_capacity boxes.old }
-    ensures stand { Told (R.disk rack.old) → IfOk result (λ made. Stand catalog.now no_history made.0 made.1.items (R.disk rack.new)) }
+    ensures stand { Told (R.disk rack.old) → IfOk result
+        (λ made. Stand catalog.now no_history made.0 made.1.items (R.disk rack.new)) }
     ensures journal { IfOk result (λ made. (made.0.file ≡ 0) × (made.0.count ≡ 1)) }
     ensures stores { IfOk result (λ made. AreStores made.1.items) }
     ensures unused { IfOk result (λ made. AtEach (λ q s. (s.book ≡ []) × (s.doubt ≡ None)) made.1.items) }
@@ -95,17 +96,20 @@ impl<R: Rack + Drop, B: Resource> Files<R, B> {
     ) -> Result<Self, CreateRefused<R, B>>
         requires catalog { IsCatalog catalog.now }
         requires boxes { AreBoxes B.sort parts.resources.items }
-        ensures stand { Told (R.disk parts.rack) → IfOk result (λ f. Stand catalog.now no_history f.journal f.stores (R.disk f.rack)) }
+        ensures stand { Told (R.disk parts.rack) → IfOk result
+            (λ f. Stand catalog.now no_history f.journal f.stores (R.disk f.rack)) }
         ensures unused { IfOk result (λ f. AtEach (λ q s. (s.book ≡ []) × (s.doubt ≡ None)) f.stores) }
         ensures fits { IfOk result (λ f. EachFits B.meaning B.sort f.stores) }
         ensures good { IfOk result (λ f. AreGoodBooks f.stores) }
         ensures count { IfOk result (λ f. f.journal.count ≡ 1) }
         ensures empty { Told (R.disk parts.rack) → OnOk result (first_used (R.disk parts.rack).files ≡ None) }
         ensures due { Told (R.disk parts.rack) → IfErr result (λ r. IsDueToFiles (first_used (R.disk parts.rack).files) r.why) }
-        ensures left { Told (R.disk parts.rack) → IfErr result (λ r. AreLeftUnmade r.why (R.disk parts.rack) (R.disk r.parts.rack)) }
+        ensures left { Told (R.disk parts.rack) → IfErr result
+            (λ r. AreLeftUnmade r.why (R.disk parts.rack) (R.disk r.parts.rack)) }
         ensures back { IfErr result (λ r. AreBoxes B.sort r.parts.resources.items × AreEmpty B.meaning r.parts.resources.items) }
         ensures follow { Told (R.disk parts.rack) → IfOk result (λ f. ImagesFollow (R.disk parts.rack) (R.disk f.rack)) }
-        ensures follow_back { Told (R.disk parts.rack) → IfErr result (λ r. ImagesFollow (R.disk parts.rack) (R.disk r.parts.rack)) }
+        ensures follow_back { Told (R.disk parts.rack)
+            → IfErr result (λ r. ImagesFollow (R.disk parts.rack) (R.disk r.parts.rack)) }
         ensures tells { IfOk result (λ f. (R.disk f.rack).tells ≡ (R.disk parts.rack).tells) }
         ensures tells_back { IfErr result (λ r. (R.disk r.parts.rack).tells ≡ (R.disk parts.rack).tells) }
         ensures later { IfOk result (λ f. R.faults parts.rack ≤ R.faults f.rack) }

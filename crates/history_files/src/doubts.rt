@@ -45,16 +45,19 @@ fn end_in_store<R: Rack, B: Resource>(
 }
 
 impl<R: Rack + Drop, B: Resource> Files<R, B> {
-    /// Commits the effect that is in doubt in the store of a subsystem where it is recorded, so that the history has it, and takes it back
-    /// where it is not.
+    /// Commits the effect that is in doubt in the store of a subsystem where it is recorded, so that the history has it, and takes
+    /// it back where it is not.
     pub fn end_doubt(&mut self, q: u8, recorded: bool) -> Result<(), DiskFault>
         requires subsystem { q < 8 }
         requires fits { EachFits B.meaning B.sort self.old.stores }
         requires doubt { (s : Opened B) → slice_get self.old.stores q ≡ Some s → IsSome s.doubt }
-        requires stand { Told (R.disk self.old.rack) → (c : Catalog) × (h : History) × Stand c h self.old.journal self.old.stores (R.disk self.old.rack) }
-        ensures acknowledged { Told (R.disk self.old.rack) → (c : Catalog) (h : History) → Stand c h self.old.journal self.old.stores (R.disk self.old.rack) →
+        requires stand { Told (R.disk self.old.rack) → (c : Catalog) × (h : History)
+            × Stand c h self.old.journal self.old.stores (R.disk self.old.rack) }
+        ensures acknowledged { Told (R.disk self.old.rack) → (c : Catalog) (h : History)
+            → Stand c h self.old.journal self.old.stores (R.disk self.old.rack) →
             DoubtIs recorded c.ops h q self.old.stores → OnOk result (Stand c h self.new.journal self.new.stores (R.disk self.new.rack)) }
-        ensures any_moment { Told (R.disk self.old.rack) → (c : Catalog) (h : History) → Stand c h self.old.journal self.old.stores (R.disk self.old.rack) →
+        ensures any_moment { Told (R.disk self.old.rack) → (c : Catalog) (h : History)
+            → Stand c h self.old.journal self.old.stores (R.disk self.old.rack) →
             DoubtIs recorded c.ops h q self.old.stores → EachImage (R.disk self.new.rack) (R.disk self.old.rack).moment (IsSound c h) }
         ensures follow { Told (R.disk self.old.rack) → ImagesFollow (R.disk self.old.rack) (R.disk self.new.rack) }
         ensures fits { EachFits B.meaning B.sort self.new.stores }

@@ -35,8 +35,8 @@ impl<R: Rack + Drop, B: Drop> Model for Files<R, B> {
 }
 
 impl<R: Rack + Drop, B: Drop> Files<R, B> {
-    /// The files of a rack with the journal of file 0 and the stores of the eight subsystems in order. `room` is empty and has room for
-    /// eight boxes, so that handing the boxes back takes no memory.
+    /// The files of a rack with the journal of file 0 and the stores of the eight subsystems in order. `room` is empty and has room
+    /// for eight boxes, so that handing the boxes back takes no memory.
     pub fn new(rack: R, journal: Journal, stores: Vec<Store<B>>, room: Vec<B>) -> Self
         requires stores { AreStores stores.items }
         requires journal { journal.file ≡ 0 }
@@ -56,8 +56,10 @@ impl<R: Rack + Drop, B: Drop> Files<R, B> {
     pub fn are_sound(&self)
         ensures stores { AreStores self.now.stores }
         ensures journal { self.now.journal.file ≡ 0 }
-        ensures read { Told (R.disk self.now.rack) → (c : Catalog) (h : History) → Stand c h self.now.journal self.now.stores (R.disk self.now.rack) → IsSound c h (R.disk self.now.rack).files }
-        ensures each { Told (R.disk self.now.rack) → (c : Catalog) (h : History) → Stand c h self.now.journal self.now.stores (R.disk self.now.rack) →
+        ensures read { Told (R.disk self.now.rack) → (c : Catalog) (h : History)
+            → Stand c h self.now.journal self.now.stores (R.disk self.now.rack) → IsSound c h (R.disk self.now.rack).files }
+        ensures each { Told (R.disk self.now.rack) → (c : Catalog) (h : History)
+            → Stand c h self.now.journal self.now.stores (R.disk self.now.rack) →
             EachImage (R.disk self.now.rack) (R.disk self.now.rack).moment (IsSound c h) }
     {
         let _ = &self.journal;

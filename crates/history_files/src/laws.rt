@@ -1,5 +1,6 @@
 // What is proved of the effects of histories: each function says it, and does nothing.
-ghost use Rattle.history_files.specs.Laws.{ActsAddTheirEffect, EndsAddNone, StartsAddNone, NextEffectsMayBePrepared, PreparedComeTo, CommittedAreSettled, BarredAreSettled};
+ghost use Rattle.history_files.specs.Laws.{ActsAddTheirEffect, EndsAddNone, StartsAddNone, NextEffectsMayBePrepared};
+ghost use Rattle.history_files.specs.Laws.{PreparedComeTo, CommittedAreSettled, BarredAreSettled};
 
 /// An act adds its effect to those of the history on its subsystem, and neither a start nor an end adds any.
 pub fn events_add_effects()

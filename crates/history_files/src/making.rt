@@ -35,7 +35,8 @@ pub fn make_stores<R: Rack, B: Resource>(
     ensures emptied { OnOk result (boxes.new.items ≡ []) }
     ensures back { OnErr result (AreBoxes B.sort boxes.new.items × AreEmpty B.meaning boxes.new.items) }
     ensures room { 8 ≤ vec_capacity boxes.new }
-    ensures journal { Told (R.disk rack.old) → (log : LogState) (bodies : List (List ℕ)) → log.file ≡ 0 → StandsFor log bodies (R.disk rack.old) → StandsFor log bodies (R.disk rack.new) }
+    ensures journal { Told (R.disk rack.old) → (log : LogState) (bodies : List (List ℕ)) → log.file ≡ 0
+        → StandsFor log bodies (R.disk rack.old) → StandsFor log bodies (R.disk rack.new) }
     ensures follow { Told (R.disk rack.old) → ImagesFollow (R.disk rack.old) (R.disk rack.new) }
     ensures tells { (R.disk rack.new).tells ≡ (R.disk rack.old).tells }
     ensures later { R.faults rack.old ≤ R.faults rack.new }

@@ -29,19 +29,24 @@ impl<R: Rack + Drop, B: Resource> Files<R, B> {
     pub fn prepare(&mut self, q: u8, effect: Effect) -> Prepare
         requires subsystem { q < 8 }
         requires fits { EachFits B.meaning B.sort self.old.stores }
-        requires may_come { (s : Opened B) → slice_get self.old.stores q ≡ Some s → (s.doubt ≡ None) × (length s.book < 16384) × (may_follow s.kind s.book effect ≡ true) }
+        requires may_come { (s : Opened B) → slice_get self.old.stores q ≡ Some s
+            → (s.doubt ≡ None) × (length s.book < 16384) × (may_follow s.kind s.book effect ≡ true) }
         requires amount { is_amount effect.call.amount ≡ true }
-        requires stand { Told (R.disk self.old.rack) → (c : Catalog) × (h : History) × Stand c h self.old.journal self.old.stores (R.disk self.old.rack) }
-        ensures acknowledged { Told (R.disk self.old.rack) → (c : Catalog) (h : History) → Stand c h self.old.journal self.old.stores (R.disk self.old.rack) →
+        requires stand { Told (R.disk self.old.rack) → (c : Catalog) × (h : History)
+            × Stand c h self.old.journal self.old.stores (R.disk self.old.rack) }
+        ensures acknowledged { Told (R.disk self.old.rack) → (c : Catalog) (h : History)
+            → Stand c h self.old.journal self.old.stores (R.disk self.old.rack) →
             is_among effect (effects c.ops h q) ≡ false → result ≢ Prepare.DiskFault → Stand c h self.new.journal self.new.stores (R.disk self.new.rack) }
-        ensures any_moment { Told (R.disk self.old.rack) → (c : Catalog) (h : History) → Stand c h self.old.journal self.old.stores (R.disk self.old.rack) →
+        ensures any_moment { Told (R.disk self.old.rack) → (c : Catalog) (h : History)
+            → Stand c h self.old.journal self.old.stores (R.disk self.old.rack) →
             is_among effect (effects c.ops h q) ≡ false → EachImage (R.disk self.new.rack) (R.disk self.old.rack).moment (IsSound c h) }
         ensures follow { Told (R.disk self.old.rack) → ImagesFollow (R.disk self.old.rack) (R.disk self.new.rack) }
         ensures fits { EachFits B.meaning B.sort self.new.stores }
         ensures good { AreGoodBooks self.old.stores → AreGoodBooks self.new.stores }
         ensures journal { self.new.journal ≡ self.old.journal }
         ensures changes { Changes q (Doubts (doubt_after result effect)) self.old.stores self.new.stores }
-        ensures barred { (s : Opened B) → slice_get self.old.stores q ≡ Some s → (result ≡ Prepare.Barred) ↔ (is_barred s.kind s.book effect ≡ true) }
+        ensures barred { (s : Opened B) → slice_get self.old.stores q ≡ Some s
+            → (result ≡ Prepare.Barred) ↔ (is_barred s.kind s.book effect ≡ true) }
         ensures undo { effect.undo ≡ true → (result ≡ Prepare.Prepared) ⊎ (result ≡ Prepare.DiskFault) }
         ensures untouched { ((result ≡ Prepare.Barred) ⊎ (result ≡ Prepare.NoMemory)) → self.new.rack ≡ self.old.rack }
         ensures tells { (R.disk self.new.rack).tells ≡ (R.disk self.old.rack).tells }
@@ -58,10 +63,12 @@ impl<R: Rack + Drop, B: Resource> Files<R, B> {
         requires size { length (bytes_of entry.now) < 2 ^ 16 }
         requires room { self.old.journal.count < 65536 }
         requires goes_on { Told (R.disk self.old.rack) → GoesOn self.old.journal entry.now (R.disk self.old.rack) }
-        ensures acknowledged { Told (R.disk self.old.rack) → (c : Catalog) (h after : History) → Stand c h self.old.journal self.old.stores (R.disk self.old.rack) →
+        ensures acknowledged { Told (R.disk self.old.rack) → (c : Catalog) (h after : History)
+            → Stand c h self.old.journal self.old.stores (R.disk self.old.rack) →
             IsMadeBy c entry.now h after → IsHistoryUnder c after → ComeTo c.ops after self.old.stores →
             OnOk result (Stand c after self.new.journal self.new.stores (R.disk self.new.rack)) }
-        ensures any_moment { Told (R.disk self.old.rack) → (c : Catalog) (h after : History) → Stand c h self.old.journal self.old.stores (R.disk self.old.rack) →
+        ensures any_moment { Told (R.disk self.old.rack) → (c : Catalog) (h after : History)
+            → Stand c h self.old.journal self.old.stores (R.disk self.old.rack) →
             IsMadeBy c entry.now h after → IsHistoryUnder c after → ComeTo c.ops after self.old.stores →
             EachImage (R.disk self.new.rack) (R.disk self.old.rack).moment (IsSoundForEither c h after) }
         ensures follow { Told (R.disk self.old.rack) → ImagesFollow (R.disk self.old.rack) (R.disk self.new.rack) }

@@ -1,11 +1,12 @@
 -- Nothing stands against a step of a legal history exactly where the tables say so.
-use Rattle.std.proofs.Common.{◌≡◌, inl, inr, ℕ, Bool, true, false, not, ◌&&◌, if◌then◌else◌, List, [], ◌∷◌, ◌++◌, sym, refl, ap, ◌∙◌, subst}
+use Rattle.std.proofs.Common.{◌≡◌, ◌⊎◌, inl, inr, ⊎_elim, ℕ, Bool, true, false, not, ◌&&◌, if◌then◌else◌, List, [], ◌∷◌, ◌++◌, sym, refl, ap, ◌∙◌, subst}
 use Rattle.std.specs.Bool.{IsTrue}
 use Rattle.std.specs.List.{list_any}
-use Rattle.std.proofs.lemmas.Bool.{and_from, and_parts, not-true}
+use Rattle.std.proofs.lemmas.Bool.{and_from, and_parts, false≢true, not-true}
 use Rattle.process_tree.specs.declared.entry.Entry.{Entry}
 use Rattle.process_tree.specs.declared.step.StepKind.{StepKind}
-use Rattle.process_tree.specs.declared.step.StepKind.TheVariants.{C, P, R}
+use Rattle.process_tree.specs.declared.step.StepKind.TheVariants.{C, P, R, Cr}
+use Rattle.process_tree.specs.Laws.{HasClass}
 use Rattle.process_tree.specs.Recovery.{reserved, committing, undoable, class_by_kind, forward}
 use Rattle.process_tree.specs.Shape.{commits, kind_of}
 use Rattle.schedule_model.specs.declared.event.Event.{Event}
@@ -25,15 +26,12 @@ use Rattle.history_judging.proofs.CircleApart.{apart-circle, circle-apart}
 use Rattle.history_judging.proofs.Tables.{own-steps, owed-class}
 use Rattle.schedule_rules.proofs.ListTests.{both_ways}
 
-commits_class : (k : StepKind) → commits k ≡ true → class_by_kind k ≡ committing
-commits_class C is = absurd (cc)
-commits_class P is = refl
-commits_class R is = refl
-
-undoable_class : (k : StepKind) → commits k ≡ false → class_by_kind k ≡ undoable
-undoable_class C is = refl
-undoable_class P is = absurd (cc)
-undoable_class R is = absurd (cc)
+-- a step that isn't owed is committing or can be undone
+class_if_free : (k : StepKind) → (class_by_kind k ≡ committing) ⊎ (class_by_kind k ≡ undoable)
+class_if_free C = inr refl
+class_if_free P = inl refl
+class_if_free R = inl refl
+class_if_free Cr = inr refl
 
 module _ (table : ConflictRelation) (courses : List Course) (h : List Event) (t : Tables) (legal : IsTrue (is_legal table courses h)) (kept : IsKept courses h t) where
   module _ (e : Entry) (goes : IsTrue (is_active h e.process)) where
@@ -55,7 +53,7 @@ module _ (table : ConflictRelation) (courses : List Course) (h : List Event) (t 
     same_rest : owed_by (course courses i) i (forward (shape courses i) (net_steps h i ++ b ∷ [])) ≡ owed_after courses h i b
     same_rest = refl
 
-    module _ (is_step : e.undo ≡ false) where
+    module _ (is_step : e.undo ≡ false) (facts : HasClass (shape courses i) (net_steps h i) b) where
       reserved-is : class_in courses h i b ≡ reserved → not (conflicts_with_any table e t.owed) ≡ is_clear table courses h (Act e)
       reserved-is class =
           both_ways (not (conflicts_with_any table e t.owed)) (is_clear table courses h (Act e))
@@ -94,22 +92,26 @@ module _ (table : ConflictRelation) (courses : List Course) (h : List Event) (t 
           all_of net' owed' rest' s (inl here) = subst (λ x. NetApart table courses h x × OwedApart table courses h x) here (net', owed')
           all_of net' owed' rest' s (inr there) = rest' s there
 
-      by_commit : (c : Bool) → commits (kind_of (shape courses i) b) ≡ c → list_any (same_step e) t.owed ≡ false
+      by_commit : (c : Bool) → commits (shape courses i) b ≡ c → list_any (same_step e) t.owed ≡ false
           → (if c then (not (any_conflicts table held (t.net ++ t.owed)) && not (conflicts_in_front table i t.net)) else undoable_is_clear table t e) ≡ is_clear table courses h (Act e)
-      by_commit true is other = commit-is (class-other other ∙ commits_class (kind_of (shape courses i) b) is)
-      by_commit false is other = undoable-is (class-other other ∙ undoable_class (kind_of (shape courses i) b) is)
+      by_commit true is other =
+          ⊎_elim
+          (λ class. commit-is (class-other other ∙ class))
+          (λ class. absurd (false≢true (sym (facts.undoable_stays (class-other other ∙ class)) ∙ is)))
+          (class_if_free (kind_of (shape courses i) b))
+      by_commit false is other = undoable-is (facts.undoable_if_stays is)
 
       by_owed : (r : Bool) → list_any (same_step e) t.owed ≡ r
-          → (if r then not (conflicts_with_any table e t.owed) else (if commits (kind_of (shape courses i) b) then (not (any_conflicts table held (t.net ++ t.owed)) && not (conflicts_in_front table i t.net)) else undoable_is_clear table t e))
+          → (if r then not (conflicts_with_any table e t.owed) else (if commits (shape courses i) b then (not (any_conflicts table held (t.net ++ t.owed)) && not (conflicts_in_front table i t.net)) else undoable_is_clear table t e))
           ≡ is_clear table courses h (Act e)
       by_owed true is = reserved-is (class-reserved is)
-      by_owed false is = by_commit (commits (kind_of (shape courses i) b)) refl is
+      by_owed false is = by_commit (commits (shape courses i) b) refl is
 
       -- nothing stands against the step exactly where the tables say so
       pub step-clear : step_is_clear table (course courses i) t e ≡ is_clear table courses h (Act e)
       step-clear =
           ap (λ w. if list_any (same_step e) t.owed then not (conflicts_with_any table e t.owed)
-          else (if commits (kind_of (shape courses i) b)
+          else (if commits (shape courses i) b
           then (not (any_conflicts table (e ∷ owed_by (course courses i) i (forward (shape courses i) (w ++ b ∷ []))) (t.net ++ t.owed)) && not (conflicts_in_front table i t.net))
           else undoable_is_clear table t e)) (own-steps table courses h t legal kept i goes)
           ∙ by_owed (list_any (same_step e) t.owed) refl

@@ -7,7 +7,7 @@ use Rattle.process_tree.specs.declared.entry.Entry.{Entry}
 use Rattle.process_tree.specs.declared.plan.Plan.{Plan}
 use Rattle.process_tree.specs.Conflicts.{Table, do_conflict, operations_in, Access}
 use Rattle.process_tree.specs.Order.{Each}
-use Rattle.process_tree.specs.Shape.{goes_on_to}
+use Rattle.process_tree.specs.Shape.{goes_on_to, IsBranch}
 use Rattle.process_tree.proofs.Every.{Each-append}
 use Rattle.process_tree.proofs.Tables.{do_conflict-symmetric}
 use Rattle.schedule_model.specs.declared.event.Event.{Event}
@@ -27,7 +27,7 @@ use Rattle.history_judging.specs.declared.legality.ProcessRow.{ProcessRow}
 use Rattle.schedule_rules.specs.Applying.{AreKnown}
 use Rattle.history_judging.specs.Judging.{AreReady, comes, kept_after}
 use Rattle.history_judging.specs.Keeping.{ArePlans, HasPlan, IsJudged, IsKept, Tables, is_active_in, no_tables, stepped, undone}
-use Rattle.schedule_rules.specs.Recovering.{IsBranch, StandsOnBranch}
+use Rattle.schedule_rules.specs.Recovering.{StandsOnBranch}
 use Rattle.schedule_rules.specs.Standing.{stands_after}
 use Rattle.history_judging.proofs.AfterAct.{kept-step, kept-undo}
 use Rattle.history_judging.proofs.AfterEnd.{kept-end}

@@ -7,7 +7,7 @@ use Rattle.process_tree.specs.declared.entry.Entry.{Entry}
 use Rattle.process_tree.specs.declared.plan.Plan.{Plan}
 use Rattle.process_tree.specs.Order.{Each}
 use Rattle.process_tree.specs.Recovery.{forward}
-use Rattle.process_tree.specs.Shape.{commits, goes_on_to, kind_of}
+use Rattle.process_tree.specs.Shape.{commits, goes_on_to}
 use Rattle.process_tree.proofs.Every.{Each-append}
 use Rattle.process_tree.proofs.InTurn.{step_within}
 use Rattle.schedule_model.specs.Course.{Course, course, courses_of, op_of, shape}
@@ -47,7 +47,7 @@ module _ (plans : List Plan) (n : ℕ) (known : (p : Plan) → Contains plans p 
   -- so is all that is owed after a step
   pub owed_with-known : (i : ℕ) (es owed : List Entry) (e : Entry) → Each (λ (x : Entry). x.op < n) owed → 0 < n
       → Each (λ (x : Entry). x.op < n) (owed_with (course (courses_of plans) i) es owed e)
-  owed_with-known i es owed e each some = by_owed more (list_any (same_step e) owed) (commits (kind_of (shape (courses_of plans) i) e.step)) more_known
+  owed_with-known i es owed e each some = by_owed more (list_any (same_step e) owed) (commits (shape (courses_of plans) i) e.step) more_known
     where
       more : List Entry
       more = owed_by (course (courses_of plans) i) e.process (forward (shape (courses_of plans) i) (steps_of (of_process e.process es) ++ e.step ∷ []))

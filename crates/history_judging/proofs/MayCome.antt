@@ -1,26 +1,30 @@
 -- An event may come after a legal history exactly where the tables say so.
-use Rattle.std.proofs.Common.{◌≡◌, ℕ, ◌+◌, Bool, true, false, not, eqb, leb, ◌&&◌, if◌then◌else◌, List, length, sym, refl, ap, ◌∙◌}
+use Rattle.std.proofs.Common.{◌≡◌, ℕ, ◌+◌, Bool, true, false, not, eqb, leb, ltb, ◌&&◌, if◌then◌else◌, List, length, sym, refl, ap, ◌∙◌}
 use Rattle.std.specs.Bool.{IsTrue}
+use Rattle.std.specs.List.{list_all}
 use Rattle.std.proofs.Math.Bool.{and-true}
-use Rattle.std.proofs.lemmas.Bool.{not-true}
+use Rattle.std.proofs.lemmas.Bool.{and_parts, not-true}
 use Rattle.process_tree.proofs.Entries.{same_access-true}
 use Rattle.process_tree.specs.Entries.{access_of}
 use Rattle.process_tree.specs.Conflicts.{same_access}
 use Rattle.process_tree.specs.declared.entry.Entry.{Entry}
 use Rattle.process_tree.specs.declared.plan.Plan.{Plan}
+use Rattle.process_tree.specs.Laws.{HasClass}
 use Rattle.process_tree.specs.Shape.{goes_on_to, is_end}
+use Rattle.process_tree.proofs.TreeLaws.{next_steps_have_a_class}
 use Rattle.schedule_model.specs.declared.event.Event.{Event}
 use Rattle.schedule_model.specs.declared.event.Event.TheVariants.{Start, Act, End}
 use Rattle.schedule_model.specs.Blocking.{Clashes, against}
 use Rattle.schedule_model.specs.Conflict.{ConflictRelation, IsSymmetric, conflict}
 use Rattle.schedule_model.specs.Course.{Course, course, courses_of, shape, access_at}
-use Rattle.schedule_model.specs.Histories.{is_active, net, net_steps, starts}
+use Rattle.schedule_model.specs.Histories.{done_steps, is_active, net, net_steps, starts}
 use Rattle.schedule_model.specs.Holdings.{active_net, at_rest, behind}
 use Rattle.schedule_model.specs.Laws.{AreGood}
 use Rattle.schedule_model.specs.Legal.{is_clear, is_legal, may_come}
 use Rattle.schedule_model.specs.OwnOrder.{goes_on, is_at_end, is_of_last}
 use Rattle.schedule_model.specs.Recovery.{backward_entries}
 use Rattle.schedule_model.proofs.Clear.{against-none, clear-end, clear-undo, end-clear, none_against, undo-clear}
+use Rattle.schedule_model.proofs.GoodPlans.{good_if_goes_on}
 use Rattle.schedule_model.proofs.Members.{not_any}
 use Rattle.schedule_model.proofs.StandingLaws.{aside_undo}
 use Rattle.history_judging.specs.Conflicting.{conflicts_with_any, conflicts_in_front}
@@ -80,12 +84,19 @@ module _ (table : ConflictRelation) (symmetric : IsSymmetric table) (plans : Lis
         ap (λ w. goes_on_to (shape cs i) w b && leb (row_of t.processes i).bound b) (own-steps table cs h t legal kept i goes)
         ∙ ap (λ t'. goes_on_to (shape cs i) (net_steps h i) b && t') ((kept.rows i bounds.0 bounds.1).bound b)
 
+    -- what the class of a step that goes on says
+    class_facts : goes_on cs h i b ≡ true → HasClass (shape cs i) (net_steps h i) b
+    class_facts on =
+        let along = (and_parts (goes_on_to (shape cs i) (net_steps h i) b) (list_all (λ d. ltb d b) (done_steps h i)) on).0 in
+        let plan = good_if_goes_on plans i (net_steps h i) b good along in
+        next_steps_have_a_class (shape cs i) plan.tree plan.well_formed (net_steps h i) b along
+
     -- an entry of an active process with the plan's operation
     entry_by : (u : Bool) → e.undo ≡ u → access_of e ≡ access_at cs i b
         → (if u then undo_comes table (course cs i) t e else (step_goes_on (course cs i) t e && step_is_clear table (course cs i) t e))
         ≡ ((if u then is_of_last (backward_entries cs h i) e else goes_on cs h i b) && is_clear table cs h (Act e))
     entry_by true undo op = undo-comes undo op
-    entry_by false is_step op = behind_test (step_goes_on (course cs i) t e) (goes_on cs h i b) (step_is_clear table (course cs i) t e) (is_clear table cs h (Act e)) step-goes (λ on. step-clear table cs h t legal kept e goes is_step)
+    entry_by false is_step op = behind_test (step_goes_on (course cs i) t e) (goes_on cs h i b) (step_is_clear table (course cs i) t e) (is_clear table cs h (Act e)) step-goes (λ on. step-clear table cs h t legal kept e goes is_step (class_facts on))
 
     entry-comes : entry_comes table (course cs i) t e
         ≡ (same_access (access_of e) (access_at cs i b) && ((if e.undo then is_of_last (backward_entries cs h i) e else goes_on cs h i b) && is_clear table cs h (Act e)))

@@ -8,7 +8,9 @@ use Rattle.process_tree.specs.Entries.{access_of}
 use Rattle.process_tree.specs.declared.entry.Entry.{Entry}
 use Rattle.process_tree.specs.declared.plan.Plan.{Plan}
 use Rattle.process_tree.specs.Recovery.{class_by_kind, forward, reserved}
-use Rattle.process_tree.specs.Shape.{commits, goes_on_to, kind_of}
+use Rattle.process_tree.specs.Shape.{commits, commits_after, goes_on_to, kind_of}
+use Rattle.process_tree.proofs.Fixed.{commits_there}
+use Rattle.process_tree.proofs.TreeLaws.{one_branch_to_a_step}
 use Rattle.schedule_model.specs.declared.event.Event.{Event}
 use Rattle.schedule_model.specs.declared.event.Event.TheVariants.{Act}
 use Rattle.schedule_model.specs.Conflict.{ConflictRelation}
@@ -66,6 +68,9 @@ module _ (table : ConflictRelation) (plans : List Plan) (good : AreGood plans) (
   plan : HasGoodPlan cs i
   plan = good_if_goes_on plans i (net_steps h i) b good along
 
+  there : commits_after (shape cs i) (net_steps h i) b ≡ commits (shape cs i) b
+  there = commits_there (shape cs i) (net_steps h i) b (one_branch_to_a_step (shape cs i) plan.tree (net_steps h i) b along)
+
   the_step : e ≡ doing cs i b
   the_step = doing-is cs e op is_step
 
@@ -122,30 +127,30 @@ module _ (table : ConflictRelation) (plans : List Plan) (good : AreGood plans) (
   abbrev new_owed : Bool → Bool → List Entry
   new_owed r c = if r then filter (λ s. not (same_step s e)) t.owed else (if c then of_others i t.owed ++ rest else t.owed)
 
-  own_by : (r c : Bool) → list_any (same_step e) t.owed ≡ r → commits (kind_of (shape cs i) b) ≡ c → of_process i (new_owed r c) ≡ owed cs after i
+  own_by : (r c : Bool) → list_any (same_step e) t.owed ≡ r → commits (shape cs i) b ≡ c → of_process i (new_owed r c) ≡ owed cs after i
   own_by true c owes is = own_left owes
   own_by false true owes is = own_rest
-  own_by false false owes is = own-owed table cs h t legal kept i goes ∙ sym (owed-stays cs h e is_step is)
+  own_by false false owes is = own-owed table cs h t legal kept i goes ∙ sym (owed-stays cs h e is_step (there ∙ is))
 
   other_by : (k : ℕ) → eqb i k ≡ false → (r c : Bool) → of_process k (new_owed r c) ≡ of_process k t.owed
   other_by k other true c = other_left k other
   other_by k other false true = other_rest k other
   other_by k other false false = refl
 
-  new_is : owed_with (course cs i) t.net t.owed e ≡ new_owed (list_any (same_step e) t.owed) (commits (kind_of (shape cs i) b))
+  new_is : owed_with (course cs i) t.net t.owed e ≡ new_owed (list_any (same_step e) t.owed) (commits (shape cs i) b)
   new_is =
       ap (λ w. if list_any (same_step e) t.owed then filter (λ s. not (same_step s e)) t.owed
-      else (if commits (kind_of (shape cs i) b) then of_others i t.owed ++ owed_by (course cs i) i (forward (shape cs i) (w ++ b ∷ [])) else t.owed))
+      else (if commits (shape cs i) b then of_others i t.owed ++ owed_by (course cs i) i (forward (shape cs i) (w ++ b ∷ [])) else t.owed))
       (own-steps table cs h t legal kept i goes)
 
   -- what each active process owes after the step
   pub owed-step : (k : ℕ) → of_process k (owed_with (course cs i) t.net t.owed e) ≡ (if is_active after k then owed cs after k else [])
   owed-step k = ap (of_process k) new_is ∙ by_process (eqb i k) refl
     where
-      by_process : (s : Bool) → eqb i k ≡ s → of_process k (new_owed (list_any (same_step e) t.owed) (commits (kind_of (shape cs i) b))) ≡ (if is_active after k then owed cs after k else [])
+      by_process : (s : Bool) → eqb i k ≡ s → of_process k (new_owed (list_any (same_step e) t.owed) (commits (shape cs i) b)) ≡ (if is_active after k then owed cs after k else [])
       by_process true same =
-          subst (λ n. of_process n (new_owed (list_any (same_step e) t.owed) (commits (kind_of (shape cs i) b))) ≡ (if is_active after n then owed cs after n else [])) (eqb-true i k same)
-          (own_by (list_any (same_step e) t.owed) (commits (kind_of (shape cs i) b)) refl refl
+          subst (λ n. of_process n (new_owed (list_any (same_step e) t.owed) (commits (shape cs i) b)) ≡ (if is_active after n then owed cs after n else [])) (eqb-true i k same)
+          (own_by (list_any (same_step e) t.owed) (commits (shape cs i) b) refl refl
           ∙ sym (ap (λ a. if a then owed cs after i else []) (is_active-do h e i ∙ goes)))
       by_process false other =
-          other_by k other (list_any (same_step e) t.owed) (commits (kind_of (shape cs i) b)) ∙ owed-other cs h (Act e) k (of_process k t.owed) other (kept.owed k)
+          other_by k other (list_any (same_step e) t.owed) (commits (shape cs i) b) ∙ owed-other cs h (Act e) k (of_process k t.owed) other (kept.owed k)

@@ -5,21 +5,21 @@ use Rattle.std.proofs.lemmas.List.{take_all}
 use Rattle.process_tree.specs.declared.entry.Entry.{Entry}
 use Rattle.process_tree.specs.Laws.{IsTreeShape}
 use Rattle.process_tree.specs.Order.{has}
-use Rattle.process_tree.specs.Recovery.{forward, last_after, last_path}
-use Rattle.process_tree.specs.Shape.{Shape, commits, fixed_len, kind_of, path_through, steps_before}
+use Rattle.process_tree.specs.Recovery.{forward}
+use Rattle.process_tree.specs.Shape.{Shape, commits_after, fixed_len, path_through, steps_before, last_after, last_path}
 use Rattle.process_tree.proofs.LastPath.{on_last}
 use Rattle.process_tree.proofs.TreeLaws.{one_branch_to_a_step, paths_lie_in_order}
+use Rattle.process_tree.proofs.Fixed.{fixed_more}
 use Rattle.schedule_model.specs.Course.{Course}
 use Rattle.schedule_model.specs.Histories.{doing, same_step}
 use Rattle.schedule_model.proofs.Conflicts.{same_either_way}
 use Rattle.schedule_model.proofs.Members.{Among, among-left, among-map, among_there, is_in-among}
-use Rattle.schedule_model.proofs.Recoveries.{fixed_len-push}
 use Rattle.schedule_rules.proofs.ListTests.{all_pass, not_passed}
 
 -- where all that is done is fixed, what is owed is the path that goes on behind all of it
-owed_behind : (t : Shape) (w : List ℕ) (b : ℕ) → commits (kind_of t b) ≡ true → forward t (w ++ b ∷ []) ≡ last_path (length t.kinds) t (w ++ b ∷ [])
+owed_behind : (t : Shape) (w : List ℕ) (b : ℕ) → commits_after t w b ≡ true → forward t (w ++ b ∷ []) ≡ last_path (length t.kinds) t (w ++ b ∷ [])
 owed_behind t w b is =
-    let fixed : fixed_len t (w ++ b ∷ []) ≡ length w + 1 = fixed_len-push t w b ∙ ap (λ c. cond c (length w + 1) (fixed_len t w)) is in
+    let fixed : fixed_len t (w ++ b ∷ []) ≡ length w + 1 = fixed_more t w b ∙ ap (λ c. cond c (length w + 1) (fixed_len t w)) is in
     ap (λ c. if c then [] else last_after t (take (fixed_len t (w ++ b ∷ [])) (w ++ b ∷ []))) (ne_eqb (fixed_len t (w ++ b ∷ [])) 0 (λ none. omega (arith, fixed, none)))
     ∙ ap (last_after t) (take_all (fixed_len t (w ++ b ∷ [])) (w ++ b ∷ []) (omega (arith, fixed, length-append w (b ∷ []))))
 
@@ -32,7 +32,7 @@ none_before b (x ∷ p) = by_first (eqb x b) refl (none_before b p)
     by_first true here rest = refl
     by_first false other rest = ap (λ t. t || has b (steps_before b p)) (same_either_way x b false other) ∙ rest
 
-pub not_owed_again : (t : Shape) → IsTreeShape t → (w : List ℕ) (b : ℕ) → commits (kind_of t b) ≡ true → has b (forward t (w ++ b ∷ [])) ≡ false
+pub not_owed_again : (t : Shape) → IsTreeShape t → (w : List ℕ) (b : ℕ) → commits_after t w b ≡ true → has b (forward t (w ++ b ∷ [])) ≡ false
 not_owed_again t tree w b is = not_passed (has b (forward t (w ++ b ∷ []))) again
   where
     again : has b (forward t (w ++ b ∷ [])) ≡ true → ⊥

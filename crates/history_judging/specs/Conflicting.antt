@@ -1,5 +1,6 @@
 -- Conflicts among entries that stand, by where they stand.
-use Rattle.std.specs.Prelude.{◌≡◌, ◌<◌, ◌≤◌, ℕ, Bool, true, false, not, ◌&&◌, ◌||◌, List, [], ◌∷◌, filter, length, map, nat_eq, slice_index_or}
+use Rattle.std.specs.Prelude.{◌≡◌, ◌<◌, ◌≤◌, ℕ, Bool, true, false, not, ◌&&◌, ◌||◌, List, [], ◌∷◌, filter, length, map, nat_eq}
+use Rattle.std.specs.Prelude.{slice_index_or}
 use Rattle.std.specs.List.{list_any}
 use Rattle.process_tree.specs.declared.entry.Entry.{Entry}
 use Rattle.process_tree.specs.declared.conflicts.Mode.{Mode}
@@ -74,7 +75,8 @@ unmarked marks = length (filter not marks)
 -- there is none, no arrow leads out of the set
 pub record Spreads (table : ConflictRelation) (es : List Entry) (old new : List Bool) (grew : Bool) : Type 0 where
   pub stay : (k : ℕ) → is_marked old k ≡ true → is_marked new k ≡ true
-  pub only : (p : ℕ → Bool) → ((k : ℕ) → is_marked old k ≡ true → p k ≡ true) → is_closed table p es ≡ true → (k : ℕ) → is_marked new k ≡ true → p k ≡ true
+  pub only : (p : ℕ → Bool) → ((k : ℕ) → is_marked old k ≡ true → p k ≡ true) → is_closed table p es ≡ true → (k : ℕ)
+      → is_marked new k ≡ true → p k ≡ true
   pub still : grew ≡ false → is_closed table (is_marked new) es ≡ true
   pub fewer : unmarked new ≤ unmarked old
   pub more : grew ≡ true → unmarked new < unmarked old

@@ -1,5 +1,6 @@
 -- Whether an event may come, said of the tables that are kept of the history before it.
-use Rattle.std.specs.Prelude.{◌≡◌, ◌≤◌, ℕ, ◌+◌, Bool, true, not, ◌&&◌, List, [], ◌∷◌, ◌++◌, drop, length, nat_eq, nat_le, nat_lt, slice_index_or, Option, None, if◌then◌else◌, IsTrue}
+use Rattle.std.specs.Prelude.{◌≡◌, ◌≤◌, ℕ, ◌+◌, Bool, true, not, ◌&&◌, List, [], ◌∷◌, ◌++◌, drop, length, nat_eq, nat_le, nat_lt}
+use Rattle.std.specs.Prelude.{slice_index_or, Option, None, if◌then◌else◌, IsTrue}
 use Rattle.std.specs.List.{list_all, list_any, starts_with}
 use Rattle.process_tree.specs.declared.entry.Entry.{Entry}
 use Rattle.process_tree.specs.declared.plan.Plan.{Plan}
@@ -7,7 +8,7 @@ use Rattle.process_tree.specs.Conflicts.{Access, Table, operations_in, same_acce
 use Rattle.process_tree.specs.Entries.{access_of}
 use Rattle.process_tree.specs.Order.{Each}
 use Rattle.process_tree.specs.Recovery.{forward}
-use Rattle.process_tree.specs.Shape.{commits, first_of, goes_on_to, is_end, kind_of, shape_of}
+use Rattle.process_tree.specs.Shape.{commits, first_of, goes_on_to, is_end, shape_of, IsBranch}
 use Rattle.schedule_model.specs.declared.event.Event.{Event}
 use Rattle.schedule_model.specs.declared.event.Event.TheVariants.{Start, Act, End}
 use Rattle.schedule_model.specs.Conflict.{ConflictRelation}
@@ -19,7 +20,7 @@ use Rattle.schedule_model.specs.OwnOrder.{is_of_last}
 use Rattle.schedule_rules.specs.Applying.{AreKnown}
 use Rattle.history_judging.specs.Conflicting.{conflicts_with_any, any_conflicts, conflicts_in_front, closes_circle}
 use Rattle.history_judging.specs.Keeping.{ArePlans, Tables, row_of, is_active_in, started, undone, stepped, ended}
-use Rattle.schedule_rules.specs.Recovering.{StandsOnBranch, backward_among, owed_by, IsBranch}
+use Rattle.schedule_rules.specs.Recovering.{StandsOnBranch, backward_among, owed_by}
 
 -- the steps that stand of process i
 abbrev pub steps_among : List Entry → ℕ → List ℕ
@@ -36,7 +37,8 @@ step_goes_on c t e = goes_on_to c.shape (steps_among t.net e.process) e.step && 
 -- nothing stands against a step that would be a commit point
 abbrev pub commit_is_clear : ConflictRelation → Course → Tables → Entry → Bool
 commit_is_clear table c t e =
-    not (any_conflicts table (e ∷ owed_by c e.process (forward c.shape (steps_among t.net e.process ++ e.step ∷ []))) (t.net ++ t.owed))
+    not (any_conflicts table (e ∷ owed_by c e.process (forward c.shape (steps_among t.net e.process ++ e.step ∷ [])))
+    (t.net ++ t.owed))
     && not (conflicts_in_front table e.process t.net)
 
 -- nothing stands against one that can be undone
@@ -47,7 +49,7 @@ undoable_is_clear table t e = not (conflicts_with_any table e t.owed) && not (cl
 abbrev pub step_is_clear : ConflictRelation → Course → Tables → Entry → Bool
 step_is_clear table c t e =
     if list_any (same_step e) t.owed then not (conflicts_with_any table e t.owed)
-    else if commits (kind_of c.shape e.step) then commit_is_clear table c t e
+    else if commits c.shape e.step then commit_is_clear table c t e
     else undoable_is_clear table t e
 
 -- what step b of a process of this course does
@@ -57,7 +59,8 @@ step_access c b = record { op = slice_index_or c.ops b 0; key = slice_index_or c
 -- an entry does what its plan says, and may come
 abbrev pub entry_comes : ConflictRelation → Course → Tables → Entry → Bool
 entry_comes table c t e =
-    same_access (access_of e) (step_access c e.step) && (if e.undo then undo_comes table c t e else (step_goes_on c t e && step_is_clear table c t e))
+    same_access (access_of e) (step_access c e.step) &&
+    (if e.undo then undo_comes table c t e else (step_goes_on c t e && step_is_clear table c t e))
 
 -- a process of this course is at an end, and nothing stands against that
 abbrev pub end_comes : ConflictRelation → Course → Tables → ℕ → Bool

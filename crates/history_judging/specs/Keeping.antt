@@ -1,11 +1,12 @@
 -- What is kept of a history while it is judged, event by event.
-use Rattle.std.specs.Prelude.{◌≡◌, ◌<◌, ◌≤◌, ℕ, ◌+◌, ◌-◌, Bool, true, false, ◌&&◌, List, [], ◌∷◌, ◌++◌, filter, length, nat_eq, nat_le, nat_lt, not, slice_index_or, slice_set, IsTrue, if◌then◌else◌}
+use Rattle.std.specs.Prelude.{◌≡◌, ◌<◌, ◌≤◌, ℕ, ◌+◌, ◌-◌, Bool, true, false, ◌&&◌, List, [], ◌∷◌, ◌++◌, filter, length, nat_eq}
+use Rattle.std.specs.Prelude.{nat_le, nat_lt, not, slice_index_or, slice_set, IsTrue, if◌then◌else◌}
 use Rattle.std.specs.List.{Contains, list_all, list_any}
 use Rattle.process_tree.specs.declared.entry.Entry.{Entry}
 use Rattle.process_tree.specs.declared.plan.Plan.{Plan}
 use Rattle.process_tree.specs.Conflicts.{Table, do_conflict, operations_in}
 use Rattle.process_tree.specs.Recovery.{forward}
-use Rattle.process_tree.specs.Shape.{commits, kind_of}
+use Rattle.process_tree.specs.Shape.{commits}
 use Rattle.schedule_model.specs.declared.event.Event.{Event}
 use Rattle.schedule_model.specs.declared.event.Event.TheVariants.{Start, Act, End}
 use Rattle.schedule_model.specs.Course.{Course, courses_of}
@@ -133,7 +134,8 @@ undone e t = record {
 abbrev pub owed_with : Course → List Entry → List Entry → Entry → List Entry
 owed_with c es owed e =
     if list_any (same_step e) owed then filter (λ s. not (same_step s e)) owed
-    else if commits (kind_of c.shape e.step) then of_others e.process owed ++ owed_by c e.process (forward c.shape (steps_of (of_process e.process es) ++ e.step ∷ []))
+    else if commits c.shape e.step then of_others e.process owed
+    ++ owed_by c e.process (forward c.shape (steps_of (of_process e.process es) ++ e.step ∷ []))
     else owed
 
 -- a step of a process of this course takes effect

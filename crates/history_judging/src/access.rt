@@ -70,7 +70,9 @@ impl Accesses {
 
     /// Adds what an entry does.
     pub fn add(&mut self, entry: &Entry) -> Result<(), AllocError>
-        ensures conflicts { OnOk result ((table : Table) (a : conflicts.Access) → access_conflicts (do_conflict table) self.new a ≡ (do_conflict table (access_of entry.now) a || access_conflicts (do_conflict table) self.old a)) }
+        ensures conflicts { OnOk result
+            ((table : Table) (a : conflicts.Access) → access_conflicts (do_conflict table) self.new a
+            ≡ (do_conflict table (access_of entry.now) a || access_conflicts (do_conflict table) self.old a)) }
         ensures known { (n : ℕ) → entry.now.op < n → Each (λ a. a.op < n) self.old → Each (λ a. a.op < n) self.new }
     {
         if !is_listed(&self.listed, entry) {
@@ -181,7 +183,9 @@ fn conflicts_on_key(c: &Conflicts, accesses: &[Access], entry: &Entry) -> bool
 
 /// What these entries do.
 pub fn accesses_of(alloc: Global, entries: &[Entry]) -> Result<Accesses, AllocError>
-    ensures conflicts { IfOk result (λ accesses. (table : Table) (a : conflicts.Access) → access_conflicts (do_conflict table) accesses a ≡ list_any (λ e. do_conflict table (access_of e) a) entries.now) }
+    ensures conflicts { IfOk result
+        (λ accesses. (table : Table) (a : conflicts.Access)
+        → access_conflicts (do_conflict table) accesses a ≡ list_any (λ e. do_conflict table (access_of e) a) entries.now) }
     ensures known { IfOk result (λ accesses. (n : ℕ) → Each (λ e. e.op < n) entries.now → Each (λ a. a.op < n) accesses) }
 {
     let mut accesses = Accesses::new(alloc);

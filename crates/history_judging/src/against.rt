@@ -51,7 +51,8 @@ pub fn conflicts_behind(c: &Conflicts, entry: &Entry, others: &[Entry]) -> bool
 fn conflicts_among(c: &Conflicts, process: u32, accesses: &Accesses, others: &[Entry]) -> bool
     requires known { Each (λ a. a.op < operations_in c.now) accesses.now }
     requires others { AreKnown c.now others.now }
-    ensures { result ≡ list_any (λ x. not (nat_eq process x.process) && access_conflicts (do_conflict c.now) accesses.now (access_of x)) others.now }
+    ensures { result ≡ list_any
+        (λ x. not (nat_eq process x.process) && access_conflicts (do_conflict c.now) accesses.now (access_of x)) others.now }
 {
     let mut rest = others;
     while let [other, after @ ..] = rest {

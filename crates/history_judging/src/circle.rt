@@ -50,7 +50,9 @@ fn reached(
     ensures len { IfOk result (λ marks. length marks.items ≡ processes) }
     ensures own { IfOk result (λ marks. is_marked marks.items process ≡ true) }
     ensures closed { IfOk result (λ marks. is_closed (do_conflict c.now) (is_marked marks.items) entries.now ≡ true) }
-    ensures only { IfOk result (λ marks. (p : ℕ → Bool) → p process ≡ true → is_closed (do_conflict c.now) p entries.now ≡ true → (k : ℕ) → is_marked marks.items k ≡ true → p k ≡ true) }
+    ensures only { IfOk result
+        (λ marks. (p : ℕ → Bool) → p process ≡ true → is_closed (do_conflict c.now) p entries.now ≡ true → (k : ℕ)
+        → is_marked marks.items k ≡ true → p k ≡ true) }
 {
     let mut marks = vec![in alloc; false; processes]?;
     marks[process as usize] = true;

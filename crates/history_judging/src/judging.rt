@@ -1,5 +1,6 @@
 // Whether an event may come.
-ghost use Rattle.std.specs.Prelude.{◌≡◌, ◌<◌, ◌≤◌, ◌+◌, ◌-◌, ◌∷◌, ◌++◌, [], ℕ, length, nat_lt, true, IfOk, IsTrue, OnOk, slice_index_or, nat_le, ◌&&◌};
+ghost use Rattle.std.specs.Prelude.{◌≡◌, ◌<◌, ◌≤◌, ◌+◌, ◌-◌, ◌∷◌, ◌++◌, [], ℕ, length, nat_lt, true, IfOk, IsTrue, OnOk};
+ghost use Rattle.std.specs.Prelude.{slice_index_or, nat_le, ◌&&◌};
 ghost use Rattle.std.specs.List.{list_all};
 ghost use Rattle.process_tree.specs.declared.entry.Entry.{Entry};
 ghost use Rattle.process_tree.specs.declared.plan.Plan.{Plan};
@@ -7,21 +8,22 @@ ghost use Rattle.process_tree.specs.Blocks.{outline};
 ghost use Rattle.process_tree.specs.Conflicts.{do_conflict, operations_in};
 ghost use Rattle.process_tree.specs.Order.{Each};
 ghost use Rattle.process_tree.specs.Recovery.{forward};
-ghost use Rattle.process_tree.specs.Shape.{shape_of, goes_on_to};
+ghost use Rattle.process_tree.specs.Shape.{shape_of, goes_on_to, IsBranch};
 ghost use Rattle.schedule_model.specs.declared.event.Event.{Event};
 ghost use Rattle.schedule_model.specs.Course.{course_of, courses_of};
 ghost use Rattle.schedule_model.specs.Histories.{steps_of, of_process};
 ghost use Rattle.schedule_model.specs.Laws.{IsGoodPlan};
 ghost use Rattle.schedule_rules.specs.Applying.{AreKnown};
-ghost use Rattle.history_judging.specs.Judging.{AreReady, IsReady, comes, entry_comes, end_comes, undo_comes, step_goes_on, step_is_clear, commit_is_clear, undoable_is_clear, steps_among};
+ghost use Rattle.history_judging.specs.Judging.{AreReady, IsReady, comes, entry_comes, end_comes, undo_comes, step_goes_on};
+ghost use Rattle.history_judging.specs.Judging.{step_is_clear, commit_is_clear, undoable_is_clear, steps_among};
 ghost use Rattle.history_judging.specs.Keeping.{Tables, is_active_in, row_of};
-ghost use Rattle.schedule_rules.specs.Recovering.{IsBranch, owed_by};
+ghost use Rattle.schedule_rules.specs.Recovering.{owed_by};
 
 use crate::against::{any_conflicts, conflicts_behind, conflicts_in_front, conflicts_with_any};
 use crate::circle::closes_circle;
 use crate::legality::{Legality, ProcessRow};
 use crate::order::{goes_on_to, is_end, is_of_last};
-use process_tree::{Conflicts, Entry, Plan, kind_of};
+use process_tree::{Conflicts, Entry, Plan, commits};
 use schedule_model::Event;
 use schedule_rules::{backward, entry_of, has_same_step, of_process, owed, steps_of};
 use std::alloc::{AllocError, Global};
@@ -132,7 +134,9 @@ fn step_comes(
 ) -> Result<bool, AllocError>
     requires ready { IsReady c.now plan.now t.now e.now.process }
     requires op { e.now.op ≡ slice_index_or plan.now.ops e.now.step 0 }
-    ensures { IfOk result (λ may. may ≡ (step_goes_on (course_of plan.now) t.now e.now && step_is_clear (do_conflict c.now) (course_of plan.now) t.now e.now)) }
+    ensures { IfOk result
+        (λ may. may ≡ (step_goes_on (course_of plan.now) t.now e.now
+        && step_is_clear (do_conflict c.now) (course_of plan.now) t.now e.now)) }
 {
     let steps = steps_among(alloc, &t.net, e.process)?;
     if !goes_on_to(&plan.tree, &steps, e.step) || !is_above(&t.processes, e) {
@@ -167,7 +171,7 @@ fn step_is_clear(
     if has_same_step(&t.owed, e) {
         return Ok(!conflicts_with_any(c, e, &t.owed));
     }
-    if kind_of(&plan.tree, e.step).commits() {
+    if commits(&plan.tree, e.step) {
         commit_is_clear(alloc, c, plan, t, steps, e)
     } else {
         undoable_is_clear(alloc, c, t, e)
@@ -225,7 +229,9 @@ pub fn add_owed(
 ) -> Result<(), AllocError>
     requires good { IsGoodPlan plan.now }
     requires goes { goes_on_to (shape_of plan.now.tree) steps.now e.now.step ≡ true }
-    ensures { OnOk result (added.new.items ≡ added.old.items ++ owed_by (course_of plan.now) e.now.process (forward (shape_of plan.now.tree) (steps.now ++ e.now.step ∷ []))) }
+    ensures { OnOk result
+        (added.new.items ≡ added.old.items ++ owed_by (course_of plan.now) e.now.process
+        (forward (shape_of plan.now.tree) (steps.now ++ e.now.step ∷ []))) }
 {
     let mut done = steps.to_vec(alloc)?;
     done.push(e.step)?;

@@ -10,11 +10,12 @@ ghost use Rattle.schedule_model.specs.Limits.{need};
 ghost use Rattle.process_tree.specs.Recovery.{forward};
 ghost use Rattle.history_judging.specs.Judging.{steps_among};
 ghost use Rattle.schedule_rules.specs.Recovering.{owed_by};
-ghost use Rattle.history_judging.specs.Keeping.{Tables, started, undone, stepped, ended, is_active_in, row_of, with_row, with_act, with_step, at_end, of_others, owed_with};
+ghost use Rattle.history_judging.specs.Keeping.{Tables, started, undone, stepped, ended, is_active_in, row_of, with_row, with_act};
+ghost use Rattle.history_judging.specs.Keeping.{with_step, at_end, of_others, owed_with};
 
 use crate::judging::{add_owed, steps_among};
 use crate::legality::{Legality, ProcessRow};
-use process_tree::{Entry, Plan, kind_of};
+use process_tree::{Entry, Plan, commits};
 use schedule_rules::{has_same_step, is_same_step, take_effect};
 use std::alloc::{AllocError, Global};
 
@@ -79,7 +80,7 @@ fn owe(
         owed.retain(|other| !is_same_step(other, e));
         return Ok(());
     }
-    if kind_of(&plan.tree, e.step).commits() {
+    if commits(&plan.tree, e.step) {
         owe_after(alloc, net, owed, plan, e)?;
     }
     Ok(())
@@ -95,7 +96,10 @@ fn owe_after(
 ) -> Result<(), AllocError>
     requires good { IsGoodPlan plan.now }
     requires goes { goes_on_to (shape_of plan.now.tree) (steps_among net.now e.now.process) e.now.step ≡ true }
-    ensures { OnOk result (owed.new.items ≡ of_others e.now.process owed.old.items ++ owed_by (course_of plan.now) e.now.process (forward (shape_of plan.now.tree) (steps_among net.now e.now.process ++ e.now.step ∷ []))) }
+    ensures { OnOk result
+        (owed.new.items ≡ of_others e.now.process owed.old.items
+        ++ owed_by (course_of plan.now) e.now.process
+        (forward (shape_of plan.now.tree) (steps_among net.now e.now.process ++ e.now.step ∷ []))) }
 {
     let steps = steps_among(alloc, net, e.process)?;
     leave(owed, e.process);

@@ -1,5 +1,6 @@
 // Whether a history is legal.
-ghost use Rattle.std.specs.Prelude.{◌≡◌, ◌⊎◌, ◌<◌, ◌≤◌, ◌+◌, ℕ, List, ◌++◌, ◌∷◌, [], length, Some, None, IfOk, IfErr, OnOk, IsTrue, false};
+ghost use Rattle.std.specs.Prelude.{◌≡◌, ◌⊎◌, ◌<◌, ◌≤◌, ◌+◌, ℕ, List, ◌++◌, ◌∷◌, [], length, Some, None, IfOk, IfErr, OnOk, IsTrue};
+ghost use Rattle.std.specs.Prelude.{false};
 ghost use Rattle.process_tree.specs.Conflicts.{do_conflict, operations_in};
 ghost use Rattle.process_tree.specs.declared.plan.Plan.{Plan};
 ghost use Rattle.schedule_model.specs.declared.event.Event.{Event};
@@ -42,7 +43,9 @@ impl Error for LegalError {}
 pub fn legal(alloc: Global, h: &History, c: &Conflicts) -> Result<(), LegalError>
     requires planned { IsPlanned (operations_in c.now) h.now.plans h.now.events }
     ensures legal { OnOk result (IsTrue (is_legal (do_conflict c.now) (courses_of h.now.plans) h.now.events)) }
-    ensures first { IfErr result (λ e. (e ≡ NoMemory) ⊎ ((n : ℕ) × (e ≡ At n) × (first_illegal (do_conflict c.now) (courses_of h.now.plans) h.now.events ≡ Some n))) }
+    ensures first { IfErr result
+        (λ e. (e ≡ NoMemory) ⊎
+        ((n : ℕ) × (e ≡ At n) × (first_illegal (do_conflict c.now) (courses_of h.now.plans) h.now.events ≡ Some n))) }
 {
     let plans = h.plans.as_slice();
     let mut rest = h.events.as_slice();
@@ -73,8 +76,12 @@ fn one_more(
 ) -> Result<Legality, LegalError>
     requires judged { (h : List Event) × IsJudged c.now plans.now h legality }
     requires plan { HasPlan plans.now legality event }
-    ensures judged { IfOk result (λ longer. (h : List Event) → IsJudged c.now plans.now h legality → IsJudged c.now plans.now (h ++ event ∷ []) longer) }
-    ensures refused { IfErr result (λ e. (e ≡ NoMemory) ⊎ ((e ≡ At place) × ((h : List Event) → IsJudged c.now plans.now h legality → may_come (do_conflict c.now) (courses_of plans.now) h event ≡ false))) }
+    ensures judged { IfOk result
+        (λ longer. (h : List Event) → IsJudged c.now plans.now h legality → IsJudged c.now plans.now (h ++ event ∷ []) longer) }
+    ensures refused { IfErr result
+        (λ e. (e ≡ NoMemory) ⊎
+        ((e ≡ At place) × ((h : List Event) → IsJudged c.now plans.now h legality
+        → may_come (do_conflict c.now) (courses_of plans.now) h event ≡ false))) }
 {
     match legality.with_event(alloc, c, plans, event) {
         Ok(longer) => Ok(longer),

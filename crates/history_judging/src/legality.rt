@@ -49,7 +49,13 @@ impl Model for Legality {
 
     ghost Value = { Tables };
 
-    ghost view = { λ l. record { processes = l.processes.items; net = l.net.items; owed = l.owed.items; active = l.active; entries = l.entries } };
+    ghost view = { λ l. record {
+      processes = l.processes.items;
+      net = l.net.items;
+      owed = l.owed.items;
+      active = l.active;
+      entries = l.entries;
+    } };
 }
 
 /// Why an event was not taken.
@@ -106,8 +112,12 @@ impl Legality {
     ) -> Result<Legality, EventError>
         requires judged { (h : List Event) × IsJudged c.now plans.now h self }
         requires plan { HasPlan plans.now self event }
-        ensures judged { IfOk result (λ longer. (h : List Event) → IsJudged c.now plans.now h self → IsJudged c.now plans.now (h ++ event ∷ []) longer) }
-        ensures refused { IfErr result (λ e. (e ≡ NoMemory) ⊎ ((e ≡ Illegal) × ((h : List Event) → IsJudged c.now plans.now h self → may_come (do_conflict c.now) (courses_of plans.now) h event ≡ false))) }
+        ensures judged { IfOk result
+            (λ longer. (h : List Event) → IsJudged c.now plans.now h self → IsJudged c.now plans.now (h ++ event ∷ []) longer) }
+        ensures refused { IfErr result
+            (λ e. (e ≡ NoMemory) ⊎
+            ((e ≡ Illegal) × ((h : List Event) → IsJudged c.now plans.now h self
+            → may_come (do_conflict c.now) (courses_of plans.now) h event ≡ false))) }
     {
         if !comes(alloc, c, plans, &self, event)? {
             return Err(EventError::Illegal);
@@ -118,21 +128,24 @@ impl Legality {
 
     /// How many processes have started.
     pub fn started_len(&self) -> usize
-        ensures { (table : Table) (plans : List Plan) (h : List Event) → IsJudged table plans h self.now → result ≡ length (starts h) }
+        ensures { (table : Table) (plans : List Plan) (h : List Event) → IsJudged table plans h self.now
+            → result ≡ length (starts h) }
     {
         self.processes.len()
     }
 
     /// How many processes are active.
     pub fn active_len(&self) -> usize
-        ensures { (table : Table) (plans : List Plan) (h : List Event) → IsJudged table plans h self.now → result ≡ length (active h) }
+        ensures { (table : Table) (plans : List Plan) (h : List Event) → IsJudged table plans h self.now
+            → result ≡ length (active h) }
     {
         self.active
     }
 
     /// Whether no more processes are active, have started, and are done and reserved of acts and ends than may be.
     pub fn is_within_limits(&self) -> bool
-        ensures { (table : Table) (plans : List Plan) (h : List Event) → IsJudged table plans h self.now → result ≡ stands_within limits (courses_of plans) h }
+        ensures { (table : Table) (plans : List Plan) (h : List Event) → IsJudged table plans h self.now
+            → result ≡ stands_within limits (courses_of plans) h }
     {
         self.active <= MOST_ACTIVE
             && self.processes.len() <= MOST_PROCESSES
@@ -141,7 +154,8 @@ impl Legality {
 
     /// How many acts and ends there are, done and reserved.
     pub fn entries_len(&self) -> usize
-        ensures { (table : Table) (plans : List Plan) (h : List Event) → IsJudged table plans h self.now → result ≡ entries (courses_of plans) h }
+        ensures { (table : Table) (plans : List Plan) (h : List Event) → IsJudged table plans h self.now
+            → result ≡ entries (courses_of plans) h }
     {
         self.entries
     }
@@ -150,7 +164,8 @@ impl Legality {
 /// The tables after an event that may come.
 fn after(alloc: Global, t: Legality, plans: &[Plan], event: Event) -> Result<Legality, AllocError>
     requires plan { HasPlan plans.now t event }
-    requires comes { (table : Table) × AreReady table plans.now t × (comes (do_conflict table) (courses_of plans.now) t event ≡ true) }
+    requires comes { (table : Table) × AreReady table plans.now t
+        × (comes (do_conflict table) (courses_of plans.now) t event ≡ true) }
     ensures { IfOk result (λ longer. longer ≡ kept_after (courses_of plans.now) t event) }
 {
     match event {

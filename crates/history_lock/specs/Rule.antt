@@ -1,6 +1,7 @@
 -- What is true of a desk between any two steps. Its words are the ticket that is served now, the next ticket, how many entries
 -- the history has, and how many changes were announced. Its one slot has the state.
-use Rattle.std.specs.Prelude.{◌≡◌, ◌≢◌, ◌⊎◌, ◌<◌, ◌≤◌, ℕ, ◌+◌, ◌-◌, ◌/◌, ◌^◌, List, [], ◌∷◌, ◌++◌, length, cond, nat_lt, nat_eq, IfSome, Some, None, Option as Maybe}
+use Rattle.std.specs.Prelude.{◌≡◌, ◌≢◌, ◌⊎◌, ◌<◌, ◌≤◌, ℕ, ◌+◌, ◌-◌, ◌/◌, ◌^◌, List, [], ◌∷◌, ◌++◌, length, cond, nat_lt, nat_eq}
+use Rattle.std.specs.Prelude.{IfSome, Some, None, Option as Maybe}
 use mathlib.Core.Option.{none, some}
 use lib.ListN.{get_elem?}
 use Rattle.atomic_table.specs.Table.{State, Me}

@@ -1,4 +1,5 @@
--- What a seat is to its callers: how the desk began, what the seat has seen of the history, which places are its own, and its share of the whole.
+-- What a seat is to its callers: how the desk began, what the seat has seen of the history, which places are its own, and its share
+-- of the whole.
 use Rattle.std.specs.Prelude.{◌≡◌, ℕ, List, Option as Maybe}
 use Rattle.atomic_table.specs.Seated.{TableId}
 use Rattle.history_lock.specs.declared.desk.Desk.{Desk}

@@ -13,7 +13,11 @@ use crate::held::Held;
 impl<'a, S: Held> Turn<'a, S> {
     /// The state, which may be changed until the turn is done.
     pub fn state(&mut self) -> &mut S
-        ensures* writes_back { sem 𝓛 (follows (the_row (record { mir = named 1; lft = [] }) S.row S.Entry.row S.Held) S.row self.entry.ghost_name result.ghost_name (with_state self.old)) }
+        ensures* writes_back { sem 𝓛
+            (follows (the_row (record {
+              mir = named 1;
+              lft = [];
+            }) S.row S.Entry.row S.Held) S.row self.entry.ghost_name result.ghost_name (with_state self.old)) }
         ensures value { result.now ≡ state_at self.old }
     {
         &mut self.state

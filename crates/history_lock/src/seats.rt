@@ -41,7 +41,8 @@ impl<S: Held> Desk<S> {
         ensures table { place.new.table_id ≡ place.old.table_id }
         ensures rests { place.new.me ≡ rested place.old.me }
         ensures places { NoPlaceTwice place.old.me.0.places }
-        ensures heard { length place.old.me.0.heard ≤ length place.old.me.0.seen → (more : List S.Entry) × (place.old.me.0.heard ++ more ≡ place.old.me.0.seen) }
+        ensures heard { length place.old.me.0.heard ≤ length place.old.me.0.seen
+            → (more : List S.Entry) × (place.old.me.0.heard ++ more ≡ place.old.me.0.seen) }
     {
         self.table.shared.load::<Learn>(place, 0);
     }

@@ -1,4 +1,5 @@
-// One step each on a desk's table. Its words: 0 the ticket that is served, 1 the next ticket, 2 how many entries, 3 how many changes.
+// One step each on a desk's table. Its words: 0 the ticket that is served, 1 the next ticket, 2 how many entries, 3 how many
+// changes.
 ghost use Rattle.std.specs.Prelude.{◌≡◌, ℕ, ◌+◌, [], ◌∷◌, ◌++◌, ◌<◌, ◌≤◌, length, Some, None, IfSome};
 ghost use Rattle.history_lock.specs.Rule.{Took};
 ghost use Rattle.history_lock.specs.Plays.{IsResting, IsClear, IsWaiting, IsTurning, HasCounted, cleared, counting, queued, rested};
@@ -102,7 +103,8 @@ impl<S: Held> Desk<S> {
     // The next ticket is served.
     pub(crate) fn pass(&self, place: &mut Place<S>)
         requires table { place.old.table_id ≡ self.now.table.shared.table_id }
-        requires stands { (x : S) × HasCounted (Some x) place.old.me × IfSome place.old.me.0.opening (λ o. S.stands_for o place.old.me.0.seen x) }
+        requires stands { (x : S) × HasCounted (Some x) place.old.me
+            × IfSome place.old.me.0.opening (λ o. S.stands_for o place.old.me.0.seen x) }
         ensures table { place.new.table_id ≡ place.old.table_id }
         ensures rests { place.new.me ≡ rested place.old.me }
     {

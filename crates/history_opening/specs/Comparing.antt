@@ -13,7 +13,8 @@ abbrev pub difference_from : ℕ → ℕ → List Effect → List Effect → Opt
 difference_from q n [] [] = None
 difference_from q n [] (e ∷ es) = Some (record { subsystem = q; at = n; book = None; acts = Some e })
 difference_from q n (b ∷ book) [] = Some (record { subsystem = q; at = n; book = Some b; acts = None })
-difference_from q n (b ∷ book) (e ∷ es) = if same_effect b e then difference_from q (n + 1) book es else Some (record { subsystem = q; at = n; book = Some b; acts = Some e })
+difference_from q n (b ∷ book) (e ∷ es) = if same_effect b e then difference_from q (n + 1) book es
+    else Some (record { subsystem = q; at = n; book = Some b; acts = Some e })
 
 -- places are counted from 1
 abbrev pub difference : ℕ → List Effect → List Effect → Option BookFault
@@ -36,4 +37,5 @@ or_else (Some x) other = Some x
 -- the first difference of the first of these stores, of subsystem q on, whose book differs from the effects of a history
 abbrev pub books_difference : {B : Type 0} → List Op → History → ℕ → List (Opened B) → Option BookFault
 books_difference ops h q [] = None
-books_difference ops h q (s ∷ stores) = or_else (book_difference q (effects ops h q) s.book s.doubt) (books_difference ops h (q + 1) stores)
+books_difference ops h q (s ∷ stores) =
+    or_else (book_difference q (effects ops h q) s.book s.doubt) (books_difference ops h (q + 1) stores)

@@ -24,6 +24,7 @@ pub record BeganToSettle (old new : Disk) : Type 0 where
   pub sound : IsSound catalog history old.files
   pub becomes : BecomesSound catalog history old new
 
--- What a refused opening leaves: all nine files as before, or, where a call of the rack failed once all were found sound, such files.
+-- What a refused opening leaves: all nine files as before, or, where a call of the rack failed once all were found sound, such
+-- files.
 abbrev pub LeftByRefusal : OpenError → Disk → Disk → Type 0
 LeftByRefusal e old new = AllAsBefore old new ⊎ ((e ≡ DiskFault) × BeganToSettle old new)

@@ -10,4 +10,5 @@ use Rattle.history_opening.specs.Opening.{IsDueToOpening}
 
 -- Sound files are refused for a fault of the rack or want of memory alone.
 abbrev pub SoundFilesAreOpened : Type 0
-SoundFilesAreOpened = (c : Catalog) (h : History) (files : FileSet) (e : OpenError) → IsSound c h files → IsDueToOpening files e → (e ≡ DiskFault) ⊎ (e ≡ NoMemory)
+SoundFilesAreOpened = (c : Catalog) (h : History) (files : FileSet) (e : OpenError) → IsSound c h files → IsDueToOpening files e
+    → (e ≡ DiskFault) ⊎ (e ≡ NoMemory)

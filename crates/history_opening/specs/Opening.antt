@@ -19,7 +19,8 @@ use Rattle.history_files.specs.Effects.{effects}
 use Rattle.history_files.specs.Sound.{kind_of}
 use Rattle.history_opening.specs.declared.faults.BookFault.{BookFault}
 use Rattle.history_opening.specs.declared.faults.OpenError.{OpenError}
-use Rattle.history_opening.specs.declared.faults.OpenError.TheVariants.{DiskFault, BadHeader, BadRecord, BadHistory, BadBook, BookDiffers, NoMemory}
+use Rattle.history_opening.specs.declared.faults.OpenError.TheVariants.{DiskFault, BadHeader, BadRecord, BadHistory, BadBook}
+use Rattle.history_opening.specs.declared.faults.OpenError.TheVariants.{BookDiffers, NoMemory}
 use Rattle.history_opening.specs.Comparing.{book_difference}
 
 -- what a store's refusal is of the files

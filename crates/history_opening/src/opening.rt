@@ -32,9 +32,12 @@ fn read_sound<R: Rack, B: Resource>(
 ) -> Result<ReadFiles<B>, OpenError>
     requires boxes { AreBoxes B.sort boxes.old.items × AreEmpty B.meaning boxes.old.items }
     requires room { 8 ≤ vec_capacity boxes.old }
-    ensures journal { IfOk result (λ r. (r.journal.file ≡ 0) × (r.journal.count ≡ length (journal_bodies r.catalog r.history)) × IsHistoryUnder r.catalog r.history) }
+    ensures journal { IfOk result
+        (λ r. (r.journal.file ≡ 0) × (r.journal.count ≡ length (journal_bodies r.catalog r.history))
+        × IsHistoryUnder r.catalog r.history) }
     ensures stores { IfOk result (λ r. AreStores r.stores.items) }
-    ensures stand { Told (R.disk rack.old) → IfOk result (λ r. Stand r.catalog r.history r.journal r.stores.items (R.disk rack.new)) }
+    ensures stand { Told (R.disk rack.old) → IfOk result
+        (λ r. Stand r.catalog r.history r.journal r.stores.items (R.disk rack.new)) }
     ensures come { IfOk result (λ r. ComeTo r.catalog.ops r.history r.stores.items) }
     ensures good { IfOk result (λ r. AreGoodBooks r.stores.items) }
     ensures fits { IfOk result (λ r. EachFits B.meaning B.sort r.stores.items) }
@@ -77,7 +80,8 @@ fn into_cleared<R: Rack + Drop, B: Resource>(files: Files<R, B>) -> Parts<R, B>
 }
 
 /// The files of a rack, the catalog and the history of their journal. All nine are read, file 0 first, and all books are compared
-/// with the history. Only then what is in doubt is settled: the effects that the history has are committed, and the others taken back.
+/// with the history. Only then what is in doubt is settled: the effects that the history has are committed, and the others taken
+/// back.
 pub fn open_files<R: Rack + Drop, B: Resource>(
     alloc: Global,
     parts: Parts<R, B>,

@@ -35,7 +35,8 @@ pub fn open_stores<R: Rack, B: Resource>(
     requires none { (stores.items ≡ []) × (8 ≤ vec_capacity stores) }
     ensures stores { IfOk result (λ ss. AreStores ss.items) }
     ensures stand { Told (R.disk rack.old) → IfOk result (λ ss. AtEach (λ q s. Stands s (R.disk rack.new)) ss.items) }
-    ensures read { Told (R.disk rack.old) → IfOk result (λ ss. AtEach (λ q s. book_in (R.disk rack.old).files q ≡ Ok (record { book = s.book; doubt = s.doubt })) ss.items) }
+    ensures read { Told (R.disk rack.old) → IfOk result
+        (λ ss. AtEach (λ q s. book_in (R.disk rack.old).files q ≡ Ok (record { book = s.book; doubt = s.doubt })) ss.items) }
     ensures fits { IfOk result (λ ss. EachFits B.meaning B.sort ss.items) }
     ensures good { IfOk result (λ ss. AreGoodBooks ss.items) }
     ensures emptied { OnOk result (boxes.new.items ≡ []) }
@@ -79,11 +80,15 @@ pub fn read_files<R: Rack, B: Resource>(
 ) -> Result<ReadFiles<B>, OpenError>
     requires boxes { AreBoxes B.sort boxes.old.items × AreEmpty B.meaning boxes.old.items }
     requires room { 8 ≤ vec_capacity boxes.old }
-    ensures journal { IfOk result (λ r. (r.journal.file ≡ 0) × (r.journal.count ≡ length (journal_bodies r.catalog r.history)) × IsHistoryUnder r.catalog r.history) }
-    ensures journal_stands { Told (R.disk rack.old) → IfOk result (λ r. JournalStands r.journal r.catalog r.history (R.disk rack.new)) }
+    ensures journal { IfOk result
+        (λ r. (r.journal.file ≡ 0) × (r.journal.count ≡ length (journal_bodies r.catalog r.history))
+        × IsHistoryUnder r.catalog r.history) }
+    ensures journal_stands { Told (R.disk rack.old) → IfOk result
+        (λ r. JournalStands r.journal r.catalog r.history (R.disk rack.new)) }
     ensures stores { IfOk result (λ r. AreStores r.stores.items) }
     ensures stand { Told (R.disk rack.old) → IfOk result (λ r. AtEach (λ q s. Stands s (R.disk rack.new)) r.stores.items) }
-    ensures read { Told (R.disk rack.old) → IfOk result (λ r. AtEach (λ q s. book_in (R.disk rack.old).files q ≡ Ok (record { book = s.book; doubt = s.doubt })) r.stores.items) }
+    ensures read { Told (R.disk rack.old) → IfOk result
+        (λ r. AtEach (λ q s. book_in (R.disk rack.old).files q ≡ Ok (record { book = s.book; doubt = s.doubt })) r.stores.items) }
     ensures fits { IfOk result (λ r. EachFits B.meaning B.sort r.stores.items) }
     ensures good { IfOk result (λ r. AreGoodBooks r.stores.items) }
     ensures emptied { OnOk result (boxes.new.items ≡ []) }

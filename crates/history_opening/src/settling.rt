@@ -45,9 +45,12 @@ fn settle<R: Rack + Drop, B: Resource>(
     requires few { length (acts history.now.events) < 2 ^ 32 }
     requires come { ComeTo catalog.now.ops history.now files.old.stores }
     requires below { AreSettledBelow q catalog.now.ops history.now files.old.stores }
-    requires stand { Told (R.disk files.old.rack) → Stand catalog.now history.now files.old.journal files.old.stores (R.disk files.old.rack) }
-    ensures acknowledged { Told (R.disk files.old.rack) → OnOk result (Stand catalog.now history.now files.new.journal files.new.stores (R.disk files.new.rack)) }
-    ensures any_moment { Told (R.disk files.old.rack) → EachImage (R.disk files.new.rack) (R.disk files.old.rack).moment (IsSound catalog.now history.now) }
+    requires stand { Told (R.disk files.old.rack) → Stand catalog.now history.now files.old.journal files.old.stores
+        (R.disk files.old.rack) }
+    ensures acknowledged { Told (R.disk files.old.rack)
+        → OnOk result (Stand catalog.now history.now files.new.journal files.new.stores (R.disk files.new.rack)) }
+    ensures any_moment { Told (R.disk files.old.rack)
+        → EachImage (R.disk files.new.rack) (R.disk files.old.rack).moment (IsSound catalog.now history.now) }
     ensures follow { Told (R.disk files.old.rack) → ImagesFollow (R.disk files.old.rack) (R.disk files.new.rack) }
     ensures come { OnOk result (ComeTo catalog.now.ops history.now files.new.stores) }
     ensures below { OnOk result (AreSettledBelow (q + 1) catalog.now.ops history.now files.new.stores) }
@@ -74,9 +77,12 @@ pub fn settle_all<R: Rack + Drop, B: Resource>(
     requires fits { EachFits B.meaning B.sort files.old.stores }
     requires few { length (acts history.now.events) < 2 ^ 32 }
     requires come { ComeTo catalog.now.ops history.now files.old.stores }
-    requires stand { Told (R.disk files.old.rack) → Stand catalog.now history.now files.old.journal files.old.stores (R.disk files.old.rack) }
-    ensures acknowledged { Told (R.disk files.old.rack) → OnOk result (Stand catalog.now history.now files.new.journal files.new.stores (R.disk files.new.rack)) }
-    ensures any_moment { Told (R.disk files.old.rack) → EachImage (R.disk files.new.rack) (R.disk files.old.rack).moment (IsSound catalog.now history.now) }
+    requires stand { Told (R.disk files.old.rack) → Stand catalog.now history.now files.old.journal files.old.stores
+        (R.disk files.old.rack) }
+    ensures acknowledged { Told (R.disk files.old.rack)
+        → OnOk result (Stand catalog.now history.now files.new.journal files.new.stores (R.disk files.new.rack)) }
+    ensures any_moment { Told (R.disk files.old.rack)
+        → EachImage (R.disk files.new.rack) (R.disk files.old.rack).moment (IsSound catalog.now history.now) }
     ensures follow { Told (R.disk files.old.rack) → ImagesFollow (R.disk files.old.rack) (R.disk files.new.rack) }
     ensures settled { OnOk result (AreSettled catalog.now.ops history.now files.new.stores) }
     ensures fits { EachFits B.meaning B.sort files.new.stores }

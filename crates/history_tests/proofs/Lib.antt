@@ -1,1 +1,2 @@
 pub mod TwoSteps
+pub mod AroundAPivot

@@ -1,5 +1,5 @@
-// What no clause of `process_journal` says: each damage and each cut of a file, the bytes of a whole journal, and that each call which
-// wants memory succeeds where there is enough.
+// What no clause of `process_journal` says: each damage and each cut of a file, the bytes of a whole journal, and that each call
+// which wants memory succeeds where there is enough.
 ghost use Rattle.std.specs.Prelude.{◌≡◌, ◌<◌, IfOk};
 
 use crate::damages::{CUTS, DAMAGES};
@@ -93,7 +93,8 @@ fn each_cut_has_its_answer(rt: HostRuntime) -> Result<(), Fail> {
     Ok(())
 }
 
-// A rack in memory of which nothing is told, so that no call asks what its files hold. Its count of faults stands at the last value.
+// A rack in memory of which nothing is told, so that no call asks what its files hold. Its count of faults stands at the last
+// value.
 #[derive(Drop)]
 struct Untold {
     rack: MemoryRack,

@@ -20,17 +20,17 @@ use schedule_rules::{completed, started};
 use std::alloc::Global;
 use std::test::Fail;
 
-const ADD: u16 = 0;
+pub const ADD: u16 = 0;
 
-const TAKE: u16 = 1;
+pub const TAKE: u16 = 1;
 
-const PAY: u16 = 2;
+pub const PAY: u16 = 2;
 
-const NOTE: u16 = 3;
+pub const NOTE: u16 = 3;
 
-const BOOK: u16 = 4;
+pub const BOOK: u16 = 4;
 
-fn step(alloc: Global, kind: StepKind, name: &[u8], key: u32) -> Result<Step, Fail>
+pub fn step(alloc: Global, kind: StepKind, name: &[u8], key: u32) -> Result<Step, Fail>
     ensures { IfOk result (λ step. step.kind ≡ kind) }
 {
     Ok(Step {
@@ -89,7 +89,7 @@ fn plan(alloc: Global, op: u16, key: u32) -> Result<Plan, Fail>
 }
 
 /// The pairs that conflict do so by this mode.
-fn conflicts(alloc: Global, mode: Mode) -> Result<Conflicts, Fail>
+pub fn conflicts(alloc: Global, mode: Mode) -> Result<Conflicts, Fail>
     ensures { IfOk result (λ c. operations_in c ≡ 5) }
 {
     let mut c = Conflicts::new(alloc, 5)?;
@@ -228,7 +228,7 @@ const APART: [(&[Event], Result<(), LegalError>); 5] = [
 ];
 
 /// What completes a history, if that is legal.
-fn completion(alloc: Global, h: &History, c: &Conflicts) -> Result<Vec<Event>, Fail>
+pub fn completion(alloc: Global, h: &History, c: &Conflicts) -> Result<Vec<Event>, Fail>
     requires { IsPlanned (operations_in c.now) h.now.plans h.now.events }
 {
     match legal(alloc, h, c) {

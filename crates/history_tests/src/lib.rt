@@ -1,4 +1,5 @@
-//! Tests of histories and journals: what no clause of `journal_records`, `schedule_rules`, `history_judging` and `process_journal` says.
+//! Tests of histories and journals: what no clause of `journal_records`, `schedule_rules`, `history_judging` and `process_journal`
+//! says.
 //!
 //! They stand apart from the crates that they test, since a crate with tests is proved twice.
 #![tactic(auto)]
@@ -13,3 +14,5 @@ mod journals;
 mod legality;
 #[cfg(test)]
 mod records;
+#[cfg(test)]
+mod undoable_until_owed;

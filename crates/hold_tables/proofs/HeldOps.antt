@@ -1,18 +1,22 @@
 -- Marks of operations: what they tell of those that are held.
-use Rattle.std.proofs.Common.{◌≡◌, ◌⊎◌, inl, inr, ◌<◌, ◌≤◌, ℕ, Bool, true, false, not, ◌||◌, ◌&&◌, List, [], ◌∷◌, ◌++◌, length, map, flat_map, slice_index_or, sym, refl, ap, ◌∙◌, subst, arith, Option, Some, None, IfSome}
-use Rattle.std.specs.Prelude.{if◌then◌else◌, min, nat_eq, nat_lt, replicate, slice_set}
+use Rattle.std.proofs.Common.{◌≡◌, ◌⊎◌, inl, inr, ◌<◌, ℕ, Bool, true, false, not, ◌||◌, ◌&&◌, List, [], ◌∷◌, ◌++◌, length, map, slice_index_or, sym, refl, ap, ◌∙◌, subst, arith, Option, Some, None, IfSome}
+use Rattle.std.specs.Prelude.{if◌then◌else◌, nat_eq, nat_lt, replicate, slice_set}
 use Rattle.std.specs.List.{list_any}
 use Rattle.std.specs.Option.{option_to_list}
 use Rattle.std.proofs.lemmas.List.Folds.{list_any-append}
 use Rattle.std.proofs.lemmas.Bool.{eq-eqb, eqb-true, false≢true, ltb-false, ltb-true, or_cases, or_left, or_right}
 use Rattle.process_tree.specs.declared.entry.Entry.{Entry}
-use Rattle.process_tree.specs.Conflicts.{Table, operations_in}
+use Rattle.process_tree.specs.declared.conflicts.Mode.{Mode}
+use Rattle.process_tree.specs.declared.conflicts.Mode.TheVariants.{Never, Key, Always}
+use Rattle.process_tree.specs.Conflicts.{Table, covers, do_conflict, mode_of, operations_in}
 use Rattle.process_tree.specs.Order.{Each}
+use Rattle.schedule_model.specs.Conflict.{conflict}
 use Rattle.schedule_model.specs.Histories.{of_process}
 use Rattle.hold_tables.specs.Tables.{OpenProcess, Tables, running_of}
 use Rattle.hold_tables.specs.Changes.{can_come, has_entry, net_after, without_last}
 use Rattle.hold_tables.specs.Kept.{AreKnown, AreTidy, IsKnown, IsTidy}
-use Rattle.hold_tables.specs.Operations.{AddsOps, AreKnownOps, CoverOps, IsClearOf, KeepOps, TellOps, all_beside, has_pending, has_slot, may_conflict, may_hold, ops_beside, ops_of, slot_of}
+use Rattle.hold_tables.specs.Operations.{AddsOps, AreKnownOps, CoverOps, IsClearOf, KeepOps, TellOps, all_beside, has_pending, has_slot, is_conflict, may_conflict, may_hold, ops_beside, ops_of, slot_of}
+use Rattle.hold_tables.specs.Walks.{conflicts_with}
 use Rattle.hold_tables.proofs.Marks.{neither_of, none_marked, one_marked}
 
 or_none : (a : Bool) → (a || false) ≡ a
@@ -203,3 +207,23 @@ known_beside t tidy = known_rows t.conflicts t.net t.processes tidy.tidy
 
 pub known_in_net : (t : Tables) → AreTidy t → Each (λ op. op < operations_in t.conflicts) (ops_of t.net)
 known_in_net t tidy = known_net t.conflicts t.net tidy.known
+
+-- Where no operation that is held may conflict with that of an entry, none of the entries conflicts with it.
+
+covers_none : (m : Mode) (k l : ℕ) → is_conflict m ≡ false → covers m k l ≡ false
+covers_none Never k l none = refl
+covers_none Key k l none = absurd (false≢true (sym none))
+covers_none Always k l none = absurd (false≢true (sym none))
+
+none_behind : (b : Bool) → (b && false) ≡ false
+none_behind true = refl
+none_behind false = refl
+
+pub no_conflict : (table : Table) (b e : Entry) → may_conflict table b.op e.op ≡ false → conflict (do_conflict table) b e ≡ false
+no_conflict table b e none = ap (not (nat_eq b.process e.process) &&◌) (covers_none (mode_of table b.op e.op) b.key e.key none) ∙ none_behind (not (nat_eq b.process e.process))
+
+pub none_conflicts : (table : Table) (b : Entry) (es : List Entry) → list_any (may_conflict table b.op) (ops_of es) ≡ false → conflicts_with (do_conflict table) es b ≡ false
+none_conflicts table b [] none = refl
+none_conflicts table b (e ∷ es) none =
+    let parts = neither_of (may_conflict table b.op e.op) (list_any (may_conflict table b.op) (ops_of es)) none in
+    ap (λ t. t || conflicts_with (do_conflict table) es b) (no_conflict table b e parts.0) ∙ none_conflicts table b es parts.1

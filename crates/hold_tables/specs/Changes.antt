@@ -1,5 +1,6 @@
 -- Changes: what each call makes of the tables.
-use Rattle.std.specs.Prelude.{ℕ, Bool, false, not, ◌&&◌, List, [], ◌∷◌, ◌++◌, filter, length, map, nat_eq, nat_lt, take, if◌then◌else◌, Option, Some, None}
+use Rattle.std.specs.Prelude.{ℕ, Bool, false, not, ◌&&◌, List, [], ◌∷◌, ◌++◌, filter, length, map, nat_eq, nat_lt, take}
+use Rattle.std.specs.Prelude.{if◌then◌else◌, Option, Some, None}
 use Rattle.std.specs.List.{list_any}
 use Rattle.process_tree.specs.declared.entry.Entry.{Entry}
 use Rattle.process_tree.specs.Conflicts.{Table}
@@ -25,15 +26,18 @@ changed f i t = record { conflicts = t.conflicts; net = t.net; processes = chang
 
 -- this is under way
 abbrev pub with_running : Option Entry → OpenProcess → OpenProcess
-with_running e r = record { process = r.process; steps = r.steps; running = e; reserved = r.reserved; fixed = r.fixed; pending = r.pending }
+with_running e r =
+    record { process = r.process; steps = r.steps; running = e; reserved = r.reserved; fixed = r.fixed; pending = r.pending }
 
 -- so many of the net entries are fixed
 abbrev pub with_fixed : ℕ → OpenProcess → OpenProcess
-with_fixed n r = record { process = r.process; steps = r.steps; running = r.running; reserved = r.reserved; fixed = n; pending = r.pending }
+with_fixed n r =
+    record { process = r.process; steps = r.steps; running = r.running; reserved = r.reserved; fixed = n; pending = r.pending }
 
 -- these are the reserved steps
 abbrev pub with_reserved : List (ℕ × ℕ × ℕ) → OpenProcess → OpenProcess
-with_reserved planned r = record { process = r.process; steps = r.steps; running = r.running; reserved = planned; fixed = r.fixed; pending = r.pending }
+with_reserved planned r =
+    record { process = r.process; steps = r.steps; running = r.running; reserved = planned; fixed = r.fixed; pending = r.pending }
 
 -- only the first so many steps stay reserved
 abbrev pub with_first_reserved : ℕ → OpenProcess → OpenProcess
@@ -41,7 +45,8 @@ with_first_reserved n r = with_reserved (take n r.reserved) r
 
 -- this is the number of pending entries
 abbrev pub with_pending : ℕ → OpenProcess → OpenProcess
-with_pending n r = record { process = r.process; steps = r.steps; running = r.running; reserved = r.reserved; fixed = r.fixed; pending = n }
+with_pending n r =
+    record { process = r.process; steps = r.steps; running = r.running; reserved = r.reserved; fixed = r.fixed; pending = n }
 
 -- the entry becomes what is under way in its process
 abbrev pub run : Entry → Tables → Tables

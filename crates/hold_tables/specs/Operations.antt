@@ -1,5 +1,6 @@
 -- Operations: which operations are held, and which of them may be against another.
-use Rattle.std.specs.Prelude.{◌≡◌, ◌<◌, ℕ, Bool, true, false, not, ◌||◌, List, ◌++◌, map, flat_map, min, nat_eq, slice_index_or, if◌then◌else◌, Option, Some, None}
+use Rattle.std.specs.Prelude.{◌≡◌, ◌<◌, ℕ, Bool, true, false, not, ◌||◌, List, ◌++◌, map, flat_map, min, nat_eq, slice_index_or}
+use Rattle.std.specs.Prelude.{if◌then◌else◌, Option, Some, None}
 use Rattle.std.specs.List.{list_any}
 use Rattle.process_tree.specs.declared.conflicts.Mode.{Mode}
 use Rattle.process_tree.specs.declared.conflicts.Mode.TheVariants.{Never, Key, Always}
@@ -80,4 +81,5 @@ pub record KeepOps (table : Table) (ops : List ℕ) (marks : List Bool) : Type 0
 -- none of those that are marked may conflict with this one, and none is marked that has no place of its own
 abbrev pub IsClearOf : Table → ℕ → List Bool → Type 0
 IsClearOf table op marks =
-    ((k : ℕ) → k < 255 → slice_index_or marks k false ≡ true → may_conflict table op k ≡ false) × (slice_index_or marks 255 false ≡ false)
+    ((k : ℕ) → k < 255 → slice_index_or marks k false ≡ true → may_conflict table op k ≡ false)
+    × (slice_index_or marks 255 false ≡ false)

@@ -1,5 +1,6 @@
 -- Walks: what is kept of where walks of the conflict graph lead.
-use Rattle.std.specs.Prelude.{◌≡◌, ◌≤◌, ◌<◌, ◌+◌, nat_lt, ℕ, Bool, true, false, not, ◌&&◌, ◌||◌, List, [], ◌∷◌, ◌++◌, length, filter, flat_map, nat_eq, slice_index_or, IfSome, if◌then◌else◌, Option, Some, None}
+use Rattle.std.specs.Prelude.{◌≡◌, ◌≤◌, ◌<◌, ◌+◌, nat_lt, ℕ, Bool, true, false, not, ◌&&◌, ◌||◌, List, [], ◌∷◌, ◌++◌, length}
+use Rattle.std.specs.Prelude.{filter, flat_map, nat_eq, slice_index_or, IfSome, if◌then◌else◌, Option, Some, None}
 use Rattle.std.specs.List.{list_any}
 use Rattle.std.specs.Option.{option_to_list}
 use Rattle.process_tree.specs.declared.entry.Entry.{Entry}
@@ -24,7 +25,8 @@ is_or marked c a = nat_eq c a || marked
 abbrev pub IsJoined : ℕ → ℕ → List (List Bool) → List (List Bool) → Type 0
 IsJoined a b old new =
     (length new ≡ length old)
-    × ((c d : ℕ) → c < length old → d < 256 → cell new c d ≡ (cell old c d || (is_or (cell old c a) c a && is_or (cell old b d) d b)))
+    × ((c d : ℕ) → c < length old → d < 256 → cell new c d
+    ≡ (cell old c d || (is_or (cell old c a) c a && is_or (cell old b d) d b)))
 
 -- the marks of place p are taken away in each row
 abbrev pub IsUnmarked : ℕ → List (List Bool) → List (List Bool) → Type 0
@@ -56,7 +58,8 @@ Implies rows p q = (i k : ℕ) → has_number i rows ≡ true → has_number k r
 
 -- among these processes, arrows one after another are an arrow
 abbrev pub IsTransitive : List OpenProcess → Arrow → Type 0
-IsTransitive rows p = (i j k : ℕ) → has_number i rows ≡ true → has_number j rows ≡ true → has_number k rows ≡ true → p i j ≡ true → p j k ≡ true → p i k ≡ true
+IsTransitive rows p = (i j k : ℕ) → has_number i rows ≡ true → has_number j rows ≡ true → has_number k rows ≡ true → p i j ≡ true
+    → p j k ≡ true → p i k ≡ true
 
 -- arrows are added to what the marks tell, and each walk over them, and nothing else
 pub record IsExtended (rows : List OpenProcess) (added : Arrow) (old new : List (List Bool)) : Type 0 where
@@ -64,7 +67,8 @@ pub record IsExtended (rows : List OpenProcess) (added : Arrow) (old new : List 
   pub more : Implies rows (told rows old) (told rows new)
   pub has : Implies rows added (told rows new)
   pub transitive : IsTransitive rows (told rows old) → IsTransitive rows (told rows new)
-  pub least : (led : Arrow) → IsTransitive rows led → Implies rows (told rows old) led → Implies rows added led → Implies rows (told rows new) led
+  pub least : (led : Arrow) → IsTransitive rows led → Implies rows (told rows old) led → Implies rows added led
+      → Implies rows (told rows new) led
 
 -- the arrows that an entry makes, with these behind it
 abbrev pub arrows_by : ConflictRelation → Entry → List Entry → Arrow
@@ -132,7 +136,8 @@ AreDistinctRows rows marks = (length marks ≡ length rows) × (length rows ≤ 
 -- the marks tell where walks of the conflict graph lead
 pub record TellWalks (t : Tables) (marks : List (List Bool)) : Type 0 where
   pub rows : AreRows t.processes marks
-  pub tell : (i k : ℕ) → is_open t i ≡ true → is_open t k ≡ true → told t.processes marks i k ≡ reaches (do_conflict t.conflicts) (holdings_of t) i k
+  pub tell : (i k : ℕ) → is_open t i ≡ true → is_open t k ≡ true
+      → told t.processes marks i k ≡ reaches (do_conflict t.conflicts) (holdings_of t) i k
 
 -- the marks tell where walks lead once these arrows are added to them
 abbrev pub TellWalksBut : Tables → Arrow → List (List Bool) → Type 0

@@ -46,7 +46,8 @@ fn least_with(
 ) -> Option<(u32, u16)>
     requires op { sought.op < operations_in c.now }
     requires known { IsKnown c.now e }
-    ensures { result ≡ (if is_against c.now sought.process (access_sought sought) e then lesser (e.process, e.step) other else other) }
+    ensures { result ≡ (if is_against c.now sought.process (access_sought sought) e then lesser (e.process, e.step) other
+        else other) }
 {
     if is_against(c, sought, e) {
         lesser((e.process, e.step), other)
@@ -85,7 +86,8 @@ fn least_of_steps(
 ) -> Option<(u32, u16)>
     requires op { sought.op < operations_in c.now }
     requires known { AreKnown c.now steps.now }
-    ensures { result ≡ least_step other (filter (is_against c.now sought.process (access_sought sought)) (map (reserved_entry process) steps.now)) }
+    ensures { result ≡ least_step other
+        (filter (is_against c.now sought.process (access_sought sought)) (map (reserved_entry process) steps.now)) }
 {
     let mut rest = steps;
     let mut least = other;
@@ -107,7 +109,8 @@ fn least_of_steps(
 pub fn least_reserved(c: &Conflicts, sought: Sought, rows: &[Row]) -> Option<(u32, u16)>
     requires op { sought.op < operations_in c.now }
     requires known { Each (λ r. AreKnown c.now r.reserved) rows.now }
-    ensures { result ≡ least_step None (filter (is_against c.now sought.process (access_sought sought)) (flat_map reserved_of rows.now)) }
+    ensures { result ≡ least_step None
+        (filter (is_against c.now sought.process (access_sought sought)) (flat_map reserved_of rows.now)) }
 {
     let mut rest = rows;
     let mut least = None;
@@ -144,7 +147,8 @@ pub fn least_running(
 ) -> Option<(u32, u16)>
     requires op { sought.op < operations_in c.now }
     requires known { Each (λ r. IsKnownRunning c.now r.running) rows.now }
-    ensures { result ≡ least_step other (filter (is_against c.now sought.process (access_sought sought)) (flat_map running_of rows.now)) }
+    ensures { result ≡ least_step other
+        (filter (is_against c.now sought.process (access_sought sought)) (flat_map running_of rows.now)) }
 {
     let mut rest = rows;
     let mut least = other;

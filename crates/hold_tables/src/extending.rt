@@ -3,7 +3,9 @@ ghost use Rattle.std.specs.Prelude.{◌≡◌, false, true};
 ghost use Rattle.process_tree.specs.Conflicts.{do_conflict};
 ghost use Rattle.process_tree.specs.Order.{Each};
 ghost use Rattle.hold_tables.specs.Kept.{AreTidy, IsKnown, IsKnownRunning};
-ghost use Rattle.hold_tables.specs.Walks.{AreDistinctRows, AreRows, IsExtended, IsPlaced, TellWalks, TellWalksBut, arrows_by, arrows_to, entry_settled, one_has_arrows, steps_under_way};
+ghost use Rattle.hold_tables.specs.Operations.{KeepOps, ops_of};
+ghost use Rattle.hold_tables.specs.Walks.{AreDistinctRows, AreRows, IsExtended, IsPlaced, TellWalks, TellWalksBut, arrows_by};
+ghost use Rattle.hold_tables.specs.Walks.{arrows_to, entry_settled, one_has_arrows, steps_under_way};
 
 use crate::reach::{Marks, effect_has_arrows, follow, follow_steps, renew_if};
 use crate::row::Row;
@@ -34,8 +36,10 @@ pub fn tell_run(
     requires rows { AreRows rows.now walks.old.items }
     requires tidy { AreTidy (record { conflicts = conflicts.now; net = net.now; processes = rows.now }) }
     requires placed { IsPlaced conflicts.now rows.now e }
-    requires step { e.undo ≡ false → TellWalksBut (record { conflicts = conflicts.now; net = net.now; processes = rows.now }) (arrows_to (do_conflict conflicts.now) net.now e) walks.old.items }
-    requires undo { e.undo ≡ true → TellWalks (record { conflicts = conflicts.now; net = net.now; processes = rows.now }) walks.old.items }
+    requires step { e.undo ≡ false → TellWalksBut (record { conflicts = conflicts.now; net = net.now; processes = rows.now })
+        (arrows_to (do_conflict conflicts.now) net.now e) walks.old.items }
+    requires undo { e.undo ≡ true → TellWalks
+        (record { conflicts = conflicts.now; net = net.now; processes = rows.now }) walks.old.items }
     ensures tell { TellWalks (record { conflicts = conflicts.now; net = net.now; processes = rows.now }) walks.new.items }
 {
     if !e.undo {
@@ -48,16 +52,19 @@ pub fn undo_has_arrows(
     conflicts: &Conflicts,
     rows: &[Row],
     net: &[Entry],
+    in_net: &Marks,
     process: u32,
     e: Entry,
 ) -> bool
     requires known { IsKnown conflicts.now e }
     requires net { Each (IsKnown conflicts.now) net.now }
+    requires marks { KeepOps conflicts.now (ops_of net.now) in_net.now }
     requires running { Each (λ r. IsKnownRunning conflicts.now r.running) rows.now }
-    ensures { e.undo ≡ true → result ≡ one_has_arrows (do_conflict conflicts.now) (steps_under_way rows.now) net.now (entry_settled process e net.now) }
+    ensures { e.undo ≡ true → result ≡ one_has_arrows (do_conflict conflicts.now) (steps_under_way rows.now) net.now
+        (entry_settled process e net.now) }
 {
     if e.undo {
-        effect_has_arrows(conflicts, rows, net, process, e)
+        effect_has_arrows(conflicts, rows, net, in_net, process, e)
     } else {
         false
     }
@@ -76,8 +83,10 @@ pub fn tell_effect(
     requires rows { AreRows rows.now walks.old.items }
     requires tidy { AreTidy (record { conflicts = conflicts.now; net = net.now; processes = rows.now }) }
     requires placed { IsPlaced conflicts.now rows.now e }
-    requires step { e.undo ≡ false → TellWalksBut (record { conflicts = conflicts.now; net = net.now; processes = rows.now }) (arrows_by (do_conflict conflicts.now) e (steps_under_way rows.now)) walks.old.items }
-    requires undo { e.undo ≡ true → changed ≡ false → TellWalks (record { conflicts = conflicts.now; net = net.now; processes = rows.now }) walks.old.items }
+    requires step { e.undo ≡ false → TellWalksBut (record { conflicts = conflicts.now; net = net.now; processes = rows.now })
+        (arrows_by (do_conflict conflicts.now) e (steps_under_way rows.now)) walks.old.items }
+    requires undo { e.undo ≡ true → changed ≡ false → TellWalks
+        (record { conflicts = conflicts.now; net = net.now; processes = rows.now }) walks.old.items }
     ensures tell { TellWalks (record { conflicts = conflicts.now; net = net.now; processes = rows.now }) walks.new.items }
 {
     if e.undo {

@@ -1,5 +1,6 @@
 // The tables of what the open processes hold.
-ghost use Rattle.std.specs.Prelude.{◌≡◌, ◌<◌, ◌≤◌, ◌+◌, ℕ, List, [], length, true, false, IfOk, OnOk, OnErr, IfSome, None, is_some, slice_index_or, vec_capacity, vec_len};
+ghost use Rattle.std.specs.Prelude.{◌≡◌, ◌<◌, ◌≤◌, ◌+◌, ℕ, List, [], length, true, false, IfOk, OnOk, OnErr, IfSome, None, is_some};
+ghost use Rattle.std.specs.Prelude.{slice_index_or, vec_capacity, vec_len};
 ghost use Rattle.process_tree.specs.Blocks.{outline};
 ghost use Rattle.process_tree.specs.Conflicts.{operations_in, do_conflict};
 ghost use Rattle.process_tree.specs.Order.{Each};
@@ -7,7 +8,8 @@ ghost use Rattle.process_tree.specs.declared.entry.Entry.{Entry};
 ghost use Rattle.schedule_model.specs.Histories.{of_process};
 ghost use Rattle.schedule_model.specs.Holdings.{reaches};
 ghost use Rattle.hold_tables.specs.Tables.{OpenProcess, is_open, kept_of, holdings_of};
-ghost use Rattle.hold_tables.specs.Changes.{none_open, opened, changed, with_running, with_pending, with_first_reserved, with_reserved, run, stopped, took_effect, all_fixed, dropped, can_run, undoes};
+ghost use Rattle.hold_tables.specs.Changes.{none_open, opened, changed, with_running, with_pending, with_first_reserved};
+ghost use Rattle.hold_tables.specs.Changes.{with_reserved, run, stopped, took_effect, all_fixed, dropped, can_run, undoes};
 ghost use Rattle.hold_tables.specs.Operations.{may_conflict, may_hold, may_hold_number, ops_of};
 ghost use Rattle.hold_tables.specs.Reading.{next_open, holder_against};
 ghost use Rattle.std.specs.List.{list_any};
@@ -53,7 +55,9 @@ impl Model for Holds {
 
     ghost view = { λ h. record { conflicts = h.conflicts; net = h.net.items; processes = h.rows.items } };
 
-    ghost invariant = { λ h. Stands h.conflicts h.net.items h.rows.items (vec_capacity h.net) × TellWalks (record { conflicts = h.conflicts; net = h.net.items; processes = h.rows.items }) h.walks.items × TellBeside h.rows.items h.beside × KeepOps h.conflicts (ops_of h.net.items) h.in_net };
+    ghost invariant = { λ h. Stands h.conflicts h.net.items h.rows.items (vec_capacity h.net)
+        × TellWalks (record { conflicts = h.conflicts; net = h.net.items; processes = h.rows.items }) h.walks.items
+        × TellBeside h.rows.items h.beside × KeepOps h.conflicts (ops_of h.net.items) h.in_net };
 }
 
 impl Holds {
@@ -133,7 +137,12 @@ impl Holds {
         ensures { self.new ≡ stopped process self.old }
     {
         let at = place_of(&self.rows, process);
-        let changed = step_has_arrows(&self.conflicts, &self.net, self.rows[at].running());
+        let changed = step_has_arrows(
+            &self.conflicts,
+            &self.net,
+            &self.in_net,
+            self.rows[at].running(),
+        );
         self.rows[at].run(None);
         renew_if(
             changed,
@@ -155,7 +164,14 @@ impl Holds {
         let Some(e) = self.rows[at].running() else {
             unreachable!();
         };
-        let changed = undo_has_arrows(&self.conflicts, &self.rows, &self.net, process, e);
+        let changed = undo_has_arrows(
+            &self.conflicts,
+            &self.rows,
+            &self.net,
+            &self.in_net,
+            process,
+            e,
+        );
         settle(&mut self.net, process, e);
         self.rows[at].run(None);
         tell_effect(
@@ -293,7 +309,8 @@ impl Holds {
     pub fn may_hold_at(&self, place: usize, op: u16) -> Option<u32>
         requires place { place < length self.now.processes }
         requires op { op < operations_in self.now.conflicts }
-        ensures number { (d : OpenProcess) → result ≡ may_hold_number self.now.conflicts op (slice_index_or self.now.processes place d) }
+        ensures number { (d : OpenProcess) → result ≡ may_hold_number self.now.conflicts op
+            (slice_index_or self.now.processes place d) }
     {
         let row = &self.rows[place];
         if may_hold(&self.conflicts, op, row) {

@@ -1,5 +1,6 @@
 // What is looked up in the rows and in the net.
-ghost use Rattle.std.specs.Prelude.{◌≡◌, ◌<◌, ◌≤◌, ◌+◌, length, true, false, IfSome, Some, map, nat_le, if◌then◌else◌, vec_len, vec_capacity};
+ghost use Rattle.std.specs.Prelude.{◌≡◌, ◌<◌, ◌≤◌, ◌+◌, length, true, false, IfSome, Some, map, nat_le, if◌then◌else◌, vec_len};
+ghost use Rattle.std.specs.Prelude.{vec_capacity};
 ghost use Rattle.process_tree.specs.Order.{Each};
 ghost use Rattle.schedule_model.specs.Histories.{of_process};
 ghost use Rattle.hold_tables.specs.Tables.{has_number};
@@ -30,7 +31,8 @@ fn first_place(rows: &[Row], process: u32) -> usize
     unreachable!()
 }
 
-/// The place of the process with this number: it is halved down to where numbers rise, as those of processes that are opened in turn.
+/// The place of the process with this number: it is halved down to where numbers rise, as those of processes that are opened in
+/// turn.
 pub fn place_of(rows: &[Row], process: u32) -> usize
     requires open { has_number process rows.now ≡ true }
     requires numbered { are_numbered rows.now ≡ true }

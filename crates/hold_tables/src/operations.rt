@@ -5,7 +5,8 @@ ghost use Rattle.std.specs.Option.{option_to_list};
 ghost use Rattle.process_tree.specs.Conflicts.{operations_in};
 ghost use Rattle.hold_tables.specs.Tables.{OpenProcess};
 ghost use Rattle.hold_tables.specs.Kept.{AreKnown, IsKnownRunning};
-ghost use Rattle.hold_tables.specs.Operations.{AddsOps, AreKnownOps, CoverOps, IsClearOf, TellBeside, TellOps, all_beside, has_pending, may_conflict, may_hold, ops_beside, ops_of, slot_of};
+ghost use Rattle.hold_tables.specs.Operations.{AddsOps, AreKnownOps, CoverOps, IsClearOf, TellBeside, TellOps, all_beside};
+ghost use Rattle.hold_tables.specs.Operations.{has_pending, may_conflict, may_hold, ops_beside, ops_of, slot_of};
 
 use crate::reach::{MOST, Marks};
 use crate::row::Row;

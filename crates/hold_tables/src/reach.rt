@@ -1,14 +1,20 @@
 // Where walks of the conflict graph lead, by the places of the processes.
-ghost use Rattle.std.specs.Prelude.{◌≡◌, ◌<◌, ◌≤◌, ◌+◌, ◌||◌, ◌&&◌, ◌∷◌, [], ℕ, length, false, nat_eq, not, filter, slice_index_or, vec_capacity, vec_len};
+ghost use Rattle.std.specs.Prelude.{◌≡◌, ◌<◌, ◌≤◌, ◌+◌, ◌||◌, ◌&&◌, ◌∷◌, [], ℕ, length, false, nat_eq, not, filter, slice_index_or};
+ghost use Rattle.std.specs.Prelude.{vec_capacity, vec_len};
 ghost use Rattle.std.specs.List.{list_any};
 ghost use Rattle.std.specs.Option.{option_to_list};
 ghost use Rattle.process_tree.specs.Conflicts.{do_conflict};
 ghost use Rattle.process_tree.specs.Order.{Each};
+ghost use Rattle.hold_tables.specs.Operations.{KeepOps, ops_of};
 ghost use Rattle.hold_tables.specs.Places.{place_of};
 ghost use Rattle.hold_tables.specs.Kept.{AreTidy, IsKnown, IsKnownRunning};
-ghost use Rattle.hold_tables.specs.Walks.{AreDistinctRows, AreRows, IsExtended, IsJoined, IsPlaced, IsPlaceTaken, IsPlacedIf, IsTakenOut, IsUnmarked, TellWalks, arrows_by, arrows_from, cell, conflicts_with, entry_settled, has_arrows, leads_through, one_has_arrows, place_before, step_has_arrows, step_of, steps_under_way};
+ghost use Rattle.hold_tables.specs.Walks.{AreDistinctRows, AreRows, IsExtended, IsJoined, IsPlaced, IsPlaceTaken, IsPlacedIf};
+ghost use Rattle.hold_tables.specs.Walks.{IsTakenOut, IsUnmarked, TellWalks, arrows_by, arrows_from, cell, conflicts_with};
+ghost use Rattle.hold_tables.specs.Walks.{entry_settled, has_arrows, leads_through, one_has_arrows, place_before, step_has_arrows};
+ghost use Rattle.hold_tables.specs.Walks.{step_of, steps_under_way};
 
 use crate::looking::{entry_settled, place_of};
+use crate::operations::is_clear_of;
 use crate::row::Row;
 use process_tree::{Conflicts, Entry};
 
@@ -20,7 +26,8 @@ pub type Marks = [bool; MOST];
 
 /// Marks what the other has marked.
 fn add(into: &mut Marks, from: &Marks)
-    ensures { (d : ℕ) → d < 256 → slice_index_or into.new d false ≡ (slice_index_or into.old d false || slice_index_or from.now d false) }
+    ensures { (d : ℕ) → d < 256 → slice_index_or into.new d false
+        ≡ (slice_index_or into.old d false || slice_index_or from.now d false) }
 {
     for place in 0..MOST {
         if from[place] {
@@ -89,7 +96,8 @@ fn follow_step(
     requires rows { AreDistinctRows rows.now marks.old }
     requires first { IsPlaced conflicts.now rows.now x }
     requires later { IsPlacedIf conflicts.now rows.now running }
-    ensures { IsExtended rows.now (arrows_by (do_conflict conflicts.now) x (filter (λ e. not e.undo) (option_to_list running))) marks.old marks.new }
+    ensures { IsExtended rows.now
+        (arrows_by (do_conflict conflicts.now) x (filter (λ e. not e.undo) (option_to_list running))) marks.old marks.new }
 {
     match running {
         Some(y) if !y.undo => follow(marks, conflicts, rows, x, y),
@@ -171,7 +179,8 @@ pub fn renew_if(
 )
     requires rows { AreRows rows.now walks.old.items }
     requires tidy { AreTidy (record { conflicts = conflicts.now; net = net.now; processes = rows.now }) }
-    requires same { changed ≡ false → TellWalks (record { conflicts = conflicts.now; net = net.now; processes = rows.now }) walks.old.items }
+    requires same { changed ≡ false → TellWalks
+        (record { conflicts = conflicts.now; net = net.now; processes = rows.now }) walks.old.items }
     ensures tell { TellWalks (record { conflicts = conflicts.now; net = net.now; processes = rows.now }) walks.new.items }
 {
     if changed {
@@ -195,14 +204,30 @@ fn conflicts_with(conflicts: &Conflicts, entries: &[Entry], e: Entry) -> bool
     false
 }
 
+/// Whether the entry conflicts with a net entry. Their operations are marked, so that what conflicts with none is found at once.
+fn conflicts_in_net(conflicts: &Conflicts, net: &[Entry], in_net: &Marks, e: Entry) -> bool
+    requires known { IsKnown conflicts.now e }
+    requires net { Each (IsKnown conflicts.now) net.now }
+    requires marks { KeepOps conflicts.now (ops_of net.now) in_net.now }
+    ensures { result ≡ conflicts_with (do_conflict conflicts.now) net.now e }
+{
+    !is_clear_of(conflicts, in_net, e.op) && conflicts_with(conflicts, net, e)
+}
+
 /// Whether what is under way is a step that conflicts with a net entry: while it is under way it makes an arrow.
-pub fn step_has_arrows(conflicts: &Conflicts, net: &[Entry], running: Option<Entry>) -> bool
+pub fn step_has_arrows(
+    conflicts: &Conflicts,
+    net: &[Entry],
+    in_net: &Marks,
+    running: Option<Entry>,
+) -> bool
     requires known { IsKnownRunning conflicts.now running }
     requires net { Each (IsKnown conflicts.now) net.now }
+    requires marks { KeepOps conflicts.now (ops_of net.now) in_net.now }
     ensures { result ≡ step_has_arrows (do_conflict conflicts.now) net.now running }
 {
     match running {
-        Some(e) if !e.undo => conflicts_with(conflicts, net, e),
+        Some(e) if !e.undo => conflicts_in_net(conflicts, net, in_net, e),
         _ => false,
     }
 }
@@ -236,13 +261,14 @@ fn conflicts_with_step(conflicts: &Conflicts, running: Option<Entry>, e: Entry) 
 }
 
 /// Whether the entry conflicts with a net entry or with a step that is under way: in the net it makes an arrow.
-fn has_arrows(conflicts: &Conflicts, rows: &[Row], net: &[Entry], e: Entry) -> bool
+fn has_arrows(conflicts: &Conflicts, rows: &[Row], net: &[Entry], in_net: &Marks, e: Entry) -> bool
     requires known { IsKnown conflicts.now e }
     requires net { Each (IsKnown conflicts.now) net.now }
+    requires marks { KeepOps conflicts.now (ops_of net.now) in_net.now }
     requires running { Each (λ r. IsKnownRunning conflicts.now r.running) rows.now }
     ensures { result ≡ has_arrows (do_conflict conflicts.now) (steps_under_way rows.now) net.now e }
 {
-    conflicts_with(conflicts, net, e) || conflicts_with_running(conflicts, rows, e)
+    conflicts_in_net(conflicts, net, in_net, e) || conflicts_with_running(conflicts, rows, e)
 }
 
 /// Whether arrows come or go as this takes effect in the process: those of a step, or of the last entry, which an undo takes away.
@@ -250,16 +276,19 @@ pub fn effect_has_arrows(
     conflicts: &Conflicts,
     rows: &[Row],
     net: &[Entry],
+    in_net: &Marks,
     process: u32,
     e: Entry,
 ) -> bool
     requires known { IsKnown conflicts.now e }
     requires net { Each (IsKnown conflicts.now) net.now }
+    requires marks { KeepOps conflicts.now (ops_of net.now) in_net.now }
     requires running { Each (λ r. IsKnownRunning conflicts.now r.running) rows.now }
-    ensures { result ≡ one_has_arrows (do_conflict conflicts.now) (steps_under_way rows.now) net.now (entry_settled process e net.now) }
+    ensures { result ≡ one_has_arrows (do_conflict conflicts.now) (steps_under_way rows.now) net.now
+        (entry_settled process e net.now) }
 {
     match entry_settled(net, process, e) {
-        Some(settled) => has_arrows(conflicts, rows, net, settled),
+        Some(settled) => has_arrows(conflicts, rows, net, in_net, settled),
         None => false,
     }
 }

@@ -24,7 +24,14 @@ impl Model for Row {
 
     ghost Value = { OpenProcess };
 
-    ghost view = { λ r. record { process = r.process; steps = r.steps; running = r.running; reserved = r.reserved.items; fixed = r.fixed; pending = r.pending } };
+    ghost view = { λ r. record {
+      process = r.process;
+      steps = r.steps;
+      running = r.running;
+      reserved = r.reserved.items;
+      fixed = r.fixed;
+      pending = r.pending;
+    } };
 
     ghost invariant = { λ r. (length r.reserved.items ≤ r.steps) × (r.steps ≤ vec_capacity r.reserved) };
 }

@@ -4,13 +4,14 @@ use Rattle.std.proofs.Common.{◌≡◌, ⊎_elim, ℕ, ◌+◌, ◌≤◌, max,
 use Rattle.process_tree.specs.Order.{has}
 use Rattle.process_tree.specs.Laws.{IsTreeShape}
 use Rattle.process_tree.specs.Termination.{IsWellFormed}
-use Rattle.process_tree.specs.Shape.{Shape, commits, first_of, fixed_len, goes_on_to, is_whole, least, next_steps}
+use Rattle.process_tree.specs.Shape.{Shape, first_of, fixed_len, goes_on_to, is_whole, least, next_steps}
 use Rattle.process_tree.specs.Recovery.{forward}
 use Rattle.process_tree.proofs.Branches.{has_here}
+use Rattle.process_tree.proofs.Classes.{owed_commits}
 use Rattle.process_tree.proofs.Fixed.{fixed_more}
 use Rattle.process_tree.proofs.Numbers.{least_is, least_some}
 use Rattle.process_tree.proofs.Onward.{branch_from}
-use Rattle.process_tree.proofs.TreeLaws.{ends_are_whole, owed_steps_are_retriable, paths_lie_in_order}
+use Rattle.process_tree.proofs.TreeLaws.{ends_are_whole, paths_lie_in_order}
 use Rattle.machine_model.specs.declared.kept.Work.TheVariants.{Forward}
 use Rattle.machine_model.specs.Progress.{Progress, next_task, pending_steps, staying, staying_for, way_on}
 use Rattle.machine_model.specs.ProcessState.{ProcessState, effected, next_piece, step_done, work_done}
@@ -56,8 +57,8 @@ all_stay t tree well s keeps work = ⊎_elim begun not_begun (cases_Bool s.begun
     begun : s.begun ≡ true → length w ≤ staying r
     begun yes' =
         let owed = sym (ap (λ b. if b then first_of (forward t p.net) else way_on p) yes') ∙ (next_step p work).is in
-        let retriable = owed_steps_are_retriable t tree well p.net d (first_has (forward t p.net) d owed) in
-        let fixed = fixed_more t p.net d ∙ ap (λ k. if commits k then length p.net + 1 else fixed_len t p.net) retriable in
+        let commits = owed_commits t (paths_lie_in_order t tree) well p.net d (first_has (forward t p.net) d owed) in
+        let fixed = fixed_more t p.net d ∙ ap (λ c. if c then length p.net + 1 else fixed_len t p.net) commits in
         let stays = staying-begun r yes' in
         let l = length_push p.net d in
         omega arith

@@ -4,10 +4,9 @@ use Rattle.std.specs.Option.{IfSome}
 use Rattle.std.proofs.lemmas.Bool.{ne_eqb}
 use Rattle.std.proofs.lemmas.Option.{none-some, same_Some}
 use Rattle.process_tree.specs.Laws.{IsTreeShape}
-use Rattle.process_tree.specs.Recovery.{forward, last_after}
-use Rattle.process_tree.specs.Shape.{Shape, branch_to, commits, fixed_len, kind_of, last_commit, last_of}
-use Rattle.process_tree.proofs.Fixed.{fixed_more}
-use Rattle.process_tree.proofs.Kept.{fixed_le}
+use Rattle.process_tree.specs.Recovery.{forward}
+use Rattle.process_tree.specs.Shape.{Shape, branch_to, commits, fixed_len, last_commit, last_of, last_after}
+use Rattle.process_tree.proofs.Fixed.{fixed_more, fixed_le}
 use Rattle.instance_state.specs.Rows.{done_to}
 use Rattle.instance_state.proofs.Lists.{length_push, take_all, take_push}
 use Rattle.instance_state.proofs.RowFacts.{behind_within, branch_behind, commit_more, less_behind}
@@ -25,7 +24,7 @@ module _ (t : Shape) (tree : IsTreeShape t) (b c : ℕ) (lt : b < length t.kinds
   abbrev v : List ℕ
   v = branch_to t b
 
-  at_commit : commits (kind_of t b) ≡ true → IsFixedTo t b c
+  at_commit : commits t b ≡ true → IsFixedTo t b c
   at_commit fixes =
       let all : fixed_len t (v ++ b ∷ []) ≡ length v + 1 = fixed_more t v b ∙ ap (λ k. if k then length v + 1 else fixed_len t v) fixes in
       let same : b ≡ c = same_Some b c (sym (commit_more t v b ∙ ap (λ k. if k then Some b else last_commit t v) fixes) ∙ is) in
@@ -35,13 +34,13 @@ module _ (t : Shape) (tree : IsTreeShape t) (b c : ℕ) (lt : b < length t.kinds
         part = take_all (v ++ b ∷ []) (fixed_len t (v ++ b ∷ [])) (omega arith) ∙ ap (λ x. done_to t (Some x)) same;
       }
 
-  before_it : commits (kind_of t b) ≡ false → last_commit t v ≡ Some c
+  before_it : commits t b ≡ false → last_commit t v ≡ Some c
   before_it leaves = sym (commit_more t v b ∙ ap (λ k. if k then Some b else last_commit t v) leaves) ∙ is
 
-  same_part : commits (kind_of t b) ≡ false → take (fixed_len t (v ++ b ∷ [])) (v ++ b ∷ []) ≡ take (fixed_len t v) v
+  same_part : commits t b ≡ false → take (fixed_len t (v ++ b ∷ [])) (v ++ b ∷ []) ≡ take (fixed_len t v) v
   same_part leaves = ap (λ k. take k (v ++ b ∷ [])) (fixed_more t v b ∙ ap (λ k. if k then length v + 1 else fixed_len t v) leaves) ∙ take_push v b (fixed_len t v) (fixed_le t v)
 
-  by_kind : ((a : ℕ) → last_of v ≡ Some a → last_commit t (done_to t (Some a)) ≡ Some c → IsFixedTo t a c) → (k : Bool) → commits (kind_of t b) ≡ k → IsFixedTo t b c
+  by_kind : ((a : ℕ) → last_of v ≡ Some a → last_commit t (done_to t (Some a)) ≡ Some c → IsFixedTo t a c) → (k : Bool) → commits t b ≡ k → IsFixedTo t b c
   by_kind rest true fixes = at_commit fixes
   by_kind rest false leaves = by_last (last_of v) refl
     where
@@ -59,7 +58,7 @@ fixed_to_below : (t : Shape) → IsTreeShape t → (n b c : ℕ) → b < n → b
 fixed_to_below t tree zero b c less lt is = absurd (omega arith)
 fixed_to_below t tree (suc n) b c less lt is =
     by_kind t tree b c lt is (λ a at before. let low = less_behind t tree b a at in fixed_to_below t tree n a c (omega arith) (subst (λ o. IfSome o (λ x. x < length t.kinds)) at (behind_within t tree b lt)) before)
-    (commits (kind_of t b)) refl
+    (commits t b) refl
 
 pub fixed_to : (t : Shape) → IsTreeShape t → (b c : ℕ) → b < length t.kinds → last_commit t (done_to t (Some b)) ≡ Some c → IsFixedTo t b c
 fixed_to t tree b c lt is = fixed_to_below t tree (b + 1) b c (omega arith) lt is

@@ -5,8 +5,8 @@ use Rattle.process_tree.specs.declared.play.Place.{Place}
 use Rattle.process_tree.specs.declared.play.Place.TheVariants.{Step}
 use Rattle.process_tree.specs.Blocks.{outline}
 use Rattle.process_tree.specs.Making.{tree_fault}
-use Rattle.process_tree.specs.Recovery.{last_after, last_path, last_place_after, place_of, with_rest}
-use Rattle.process_tree.specs.Shape.{Shape, goes_on_to, greatest, next_steps, shape_of}
+use Rattle.process_tree.specs.Recovery.{last_place_after, place_of}
+use Rattle.process_tree.specs.Shape.{Shape, goes_on_to, greatest, next_steps, shape_of, last_after, last_path, with_rest}
 use Rattle.process_tree.specs.Stands.{IsNext, left_from}
 use Rattle.process_tree.proofs.InTurn.{greatest_is, greatest_next, kinds_count, last_on, last_place_on, next_left, place_step, step_within}
 use Rattle.process_tree.proofs.Trees.{few_steps}

@@ -8,7 +8,8 @@ use Rattle.process_tree.specs.Play.{fallback_of}
 use Rattle.process_tree.specs.Recovery.{forward}
 use Rattle.process_tree.proofs.InTurn.{goes_within, greatest_is, kinds_count}
 use Rattle.process_tree.proofs.Every.{Each-weaker}
-use Rattle.process_tree.proofs.Kept.{branch_below, branch_rises, fixed_le, rising_short}
+use Rattle.process_tree.proofs.Fixed.{fixed_le}
+use Rattle.process_tree.proofs.Kept.{branch_below, branch_rises, rising_short}
 use Rattle.process_tree.proofs.Numbers.{least_same}
 use Rattle.process_tree.proofs.Trees.{few_steps}
 use Rattle.process_tree.proofs.Onward.{branch_from}

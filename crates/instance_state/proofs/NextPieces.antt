@@ -4,9 +4,9 @@ use Rattle.std.proofs.Common.{◌≡◌, ⊎_elim, ℕ, ◌+◌, ◌-◌, ◌<�
 use Rattle.process_tree.specs.Blocks.{numbers_from}
 use Rattle.process_tree.specs.Laws.{IsTreeShape}
 use Rattle.process_tree.specs.Order.{has}
-use Rattle.process_tree.specs.Shape.{Shape, branch_to, first_of, fixed_len, goes_on_to, greatest, is_whole, last_of, least, next_steps}
+use Rattle.process_tree.specs.Shape.{Shape, branch_to, first_of, fixed_len, goes_on_to, greatest, is_whole, last_of, least, next_steps, last_after, last_path, with_rest}
 use Rattle.process_tree.specs.Play.{kept_for}
-use Rattle.process_tree.specs.Recovery.{forward, last_after, last_path, with_rest}
+use Rattle.process_tree.specs.Recovery.{forward}
 use Rattle.process_tree.proofs.Branches.{Each-among, has_cases}
 use Rattle.process_tree.proofs.InTurn.{goes_within}
 use Rattle.process_tree.proofs.Numbers.{least_some, numbers_has}

@@ -4,13 +4,12 @@ use Rattle.std.proofs.lemmas.Bool.{leb-true, le-leb, cases_lt, eq-eqb}
 use Rattle.process_tree.specs.Blocks.{numbers_from}
 use Rattle.process_tree.specs.Order.{Each, IsLaidOut, IsRising, has}
 use Rattle.process_tree.specs.Laws.{IsTreeShape, IsInWay}
-use Rattle.process_tree.specs.Shape.{Shape, commits, kind_of, next_steps, goes_on_to, branch_to, fixed_len, least}
+use Rattle.process_tree.specs.Shape.{commits_after, Shape, next_steps, goes_on_to, branch_to, fixed_len, least}
 use Rattle.process_tree.specs.Play.{kept_prefixes, fallback_of}
 use Rattle.process_tree.proofs.Branches.{has_here}
 use Rattle.process_tree.proofs.Numbers.{numbers_has, numbers_between, in_flat, to_flat, in_filter as in_later, to_filter as to_later, has_right, least_is, least_same}
 use Rattle.process_tree.proofs.Reached.{least_of}
-use Rattle.process_tree.proofs.Fixed.{fixed_more}
-use Rattle.process_tree.proofs.Kept.{fixed_le}
+use Rattle.process_tree.proofs.Fixed.{fixed_more, fixed_le}
 use Rattle.process_tree.proofs.Intervals.{Begins, begins_from, begins_to}
 use Rattle.process_tree.proofs.Onward.{onward, onward_both, onward_above, goes_along, branch_from}
 use Rattle.process_tree.proofs.InTurn.{goes_up, goes_within}
@@ -169,7 +168,7 @@ way_behind t tree v b d on is =
     (cases_lt way.kept (length w)))
 
 -- where nothing stands behind a commit point, there is no way on
-pub no_way_behind : (t : Shape) (v : List ℕ) (b : ℕ) → next_steps t (v ++ b ∷ []) ≡ [] → commits (kind_of t b) ≡ true
+pub no_way_behind : (t : Shape) (v : List ℕ) (b : ℕ) → next_steps t (v ++ b ∷ []) ≡ [] → commits_after t v b ≡ true
     → way_from t (v ++ b ∷ []) (b + 1) ≡ None
 no_way_behind t v b none commit =
     let w = v ++ b ∷ [] in
@@ -181,7 +180,7 @@ no_way_behind t v b none commit =
     cc)
 
 -- behind another one it is the fallback of b
-pub way_past : (t : Shape) (v : List ℕ) (b : ℕ) → next_steps t (v ++ b ∷ []) ≡ [] → commits (kind_of t b) ≡ false
+pub way_past : (t : Shape) (v : List ℕ) (b : ℕ) → next_steps t (v ++ b ∷ []) ≡ [] → commits_after t v b ≡ false
     → way_from t (v ++ b ∷ []) (b + 1) ≡ way_from t v (b + 1)
 way_past t v b none stays =
     let w = v ++ b ∷ [] in

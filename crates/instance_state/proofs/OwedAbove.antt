@@ -1,20 +1,19 @@
 -- What a process owes first is above each step that it did or was refused.
-use Rattle.std.proofs.Common.{◌≡◌, ⊎_elim, subst, ℕ, ◌+◌, ◌<◌, ◌≤◌, max, zero, suc, true, false, List, [], ◌∷◌, ◌++◌, length, take, Option, Some, None, refl, sym, ap, ◌∙◌, arith, append_assoc, nat_eq, if◌then◌else◌, length-take}
+use Rattle.std.proofs.Common.{◌≡◌, ⊎_elim, subst, ℕ, ◌+◌, ◌<◌, ◌≤◌, max, zero, suc, true, false, List, [], ◌∷◌, ◌++◌, length, take, Option, Some, None, refl, sym, ap, ◌∙◌, arith, append_assoc, nat_eq, if◌then◌else◌}
 use Rattle.std.proofs.lemmas.Bool.{cases_lt, cases_Bool}
-use Rattle.process_tree.specs.declared.step.StepKind.TheVariants.{R}
 use Rattle.process_tree.specs.Laws.{IsTreeShape, IsInWay}
 use Rattle.process_tree.specs.Order.{IsLaidOut, has}
-use Rattle.process_tree.specs.Shape.{Shape, branch_to, commits, first_of, fixed_len, goes_on_to, greatest, kind_of, next_steps}
-use Rattle.process_tree.specs.Recovery.{forward, last_after, last_path, with_rest}
+use Rattle.process_tree.specs.Shape.{commits_after, Shape, branch_to, first_of, fixed_len, goes_on_to, greatest, next_steps, last_after, last_path, with_rest}
+use Rattle.process_tree.specs.Recovery.{forward}
 use Rattle.process_tree.specs.Termination.{IsWellFormed}
 use Rattle.process_tree.proofs.Branches.{has_here}
-use Rattle.process_tree.proofs.Fixed.{fixed_more, fixed_stays}
+use Rattle.process_tree.proofs.Classes.{owed_commits, owed_not_left}
+use Rattle.process_tree.proofs.Fixed.{fixed_more}
 use Rattle.process_tree.proofs.InTurn.{goes_up, goes_within, greatest_is}
 use Rattle.process_tree.proofs.Intervals.{Begins, begins_from, begins_to}
-use Rattle.process_tree.proofs.Kept.{fixed_le}
 use Rattle.process_tree.proofs.LastPath.{greatest_ge}
 use Rattle.process_tree.proofs.Onward.{onward, goes_along, goes_on, branch_from}
-use Rattle.process_tree.proofs.TreeLaws.{owed_steps_are_retriable, paths_lie_in_order, ways_are_intervals}
+use Rattle.process_tree.proofs.TreeLaws.{paths_lie_in_order, ways_are_intervals}
 use Rattle.schedule_model.proofs.Undoing.{owed_without}
 use Rattle.instance_state.proofs.Lists.{SplitAt, length_push, split_at, take_all}
 use Rattle.instance_state.proofs.NextWays.{begins_one, begins_push, onward_first}
@@ -77,18 +76,18 @@ owed_is_last t w e is = ⊎_elim (λ none. absurd (let f = sym (ap (λ c. first_
         by_fuel zero f = absurd (cc)
         by_fuel (suc n) f = sym (first_rest (λ d. last_path n t (take (fixed_len t w) w ++ d ∷ [])) (greatest (next_steps t (take (fixed_len t w) w)))) ∙ f
 
--- a step that isn't retriable, and goes on, is below what is owed first
-pub owed_above : (t : Shape) → IsTreeShape t → IsWellFormed t → (w : List ℕ) (d e : ℕ) → goes_on_to t w d ≡ true → (kind_of t d ≡ R → ⊥) → first_of (forward t w) ≡ Some e → d < e
-owed_above t tree well w d e on no_r is =
+-- a step that isn't owed, and goes on, is below what is owed first
+pub owed_above : (t : Shape) → IsTreeShape t → IsWellFormed t → (w : List ℕ) (d e : ℕ) → goes_on_to t w d ≡ true → (has d (forward t w) ≡ true → ⊥) → first_of (forward t w) ≡ Some e → d < e
+owed_above t tree well w d e on free is =
     ⊎_elim
     (λ lt.
     let s = split_at f w lt in
     let le = greatest_ge (next_steps t (take f w)) e s.here last (goes_at t w d f on s) in
-    behind_is_less t tree w d e f on s other (lower s.here e le (λ same. not_fixed s (ap (λ n. commits (kind_of t n)) same ∙ ap commits retriable))))
+    behind_is_less t tree w d e f on s other (lower s.here e le (λ same. owed_not_left t (paths_lie_in_order t tree) well w s.here s.rest s.is (ap (λ n. has n (forward t w)) same ∙ owed))))
     (λ le.
     let here = take_all w f le in
     let most = greatest_ge (next_steps t (take f w)) e d last (ap (λ v. goes_on_to t v d) here ∙ on) in
-    lower d e most (λ same. no_r (ap (kind_of t) same ∙ retriable)))
+    lower d e most (λ same. free (ap (λ n. has n (forward t w)) same ∙ owed)))
     (cases_lt f (length w))
   where
     f : ℕ
@@ -100,21 +99,11 @@ owed_above t tree well w d e on no_r is =
     other : goes_on_to t (take f w) e ≡ true
     other = greatest_is (next_steps t (take f w)) e last
 
-    retriable : kind_of t e ≡ R
-    retriable = owed_steps_are_retriable t tree well w e (first_has (forward t w) e is)
+    owed : has e (forward t w) ≡ true
+    owed = first_has (forward t w) e is
 
     lower : (a b : ℕ) → a ≤ b → (a ≡ b → ⊥) → a < b
     lower a b le apart = omega arith
-
-    -- what stands behind the fixed isn't fixed
-    not_fixed : (s : SplitAt f w) → commits (kind_of t s.here) ≡ true → ⊥
-    not_fixed s commit =
-        let more = fixed_more t (take f w) s.here ∙ ap (λ c. if c then length (take f w) + 1 else fixed_len t (take f w)) commit in
-        let stays = fixed_stays t (take f w ++ s.here ∷ []) s.rest in
-        let whole = ap (fixed_len t) (append_assoc (take f w) (s.here ∷ []) s.rest ∙ sym s.is) in
-        let count = length-take f w in
-        let le = fixed_le t w in
-        absurd (omega (arith, more, stays, whole, count, le))
 
 -- the bound is no greater than what is owed first
 abbrev pub IsBelowOwed : Shape → List ℕ → ℕ → Type 0
@@ -133,6 +122,6 @@ below_done t tree well w d bound on le below e is =
     (λ stays.
     let same = fixed_more t w d ∙ ap (λ c. if c then length w + 1 else fixed_len t w) stays in
     let before = sym (ap first_of (owed_without t w d same)) ∙ is in
-    let up = owed_above t tree well w d e on (λ r. let f = sym stays ∙ ap commits r in absurd (cc)) before in
+    let up = owed_above t tree well w d e on (λ owed. let f = sym stays ∙ owed_commits t (paths_lie_in_order t tree) well w d owed in absurd (cc)) before in
     omega (arith, up, le))
-    (cases_Bool (commits (kind_of t d)))
+    (cases_Bool (commits_after t w d))

@@ -7,6 +7,7 @@ use Rattle.process_tree.specs.Shape.{Shape, branch_to, can_be_refused, first_of,
 use Rattle.process_tree.specs.Laws.{IsTreeShape}
 use Rattle.process_tree.specs.Recovery.{forward}
 use Rattle.process_tree.proofs.InTurn.{goes_within}
+use Rattle.process_tree.proofs.Classes.{owed_not_refused}
 use Rattle.process_tree.proofs.Onward.{branch_from}
 use Rattle.process_tree.proofs.TreeLaws.{paths_lie_in_order}
 use Rattle.schedule_model.specs.Course.{Course}
@@ -205,7 +206,7 @@ refusal_placed c good s keeps below = by_try (is_only_try t d (next_task p).work
         let on = next_goes t s keeps d (next_step p one.0) in
         subst (IsPlaced t) (sym (ap (λ b. if b then record { progress = complete_unless_on q; refused = 0 } else record { progress = p; refused = s.refused + 1 }) is))
         (completed (is_none (way_on q)) refl (λ e owed.
-        let up = owed_above t good.tree good.well_formed p.net d e on (λ r. let f = sym one.1 ∙ ap can_be_refused r in absurd (cc)) owed in
+        let up = owed_above t good.tree good.well_formed p.net d e on (λ r. let f = sym one.1 ∙ owed_not_refused t (paths_lie_in_order t good.tree) good.well_formed p.net d r in absurd (cc)) owed in
         let low = below e owed in
         omega (arith, up, low)))
     by_try false is =

@@ -1,25 +1,24 @@
 -- The laws of one process, as they are stated.
 use Rattle.std.proofs.Common.{◌≡◌, ⊎_elim, subst, ℕ, ◌<◌, ◌≤◌, zero, suc, Bool, true, false, List, [], ◌∷◌, ◌++◌, length, take, Option, Some, None, refl, sym, ap, ◌∙◌, arith, nat_lt, if◌then◌else◌}
-use Rattle.process_tree.specs.Shape.{Shape, branch_to, can_be_refused, first_of, fixed_len, goes_on_to, greater, greatest, is_whole, next_steps}
+use Rattle.process_tree.specs.Shape.{Shape, branch_to, first_of, fixed_len, goes_on_to, greater, greatest, is_whole, next_steps, last_after, last_path, with_rest}
 use Rattle.process_tree.specs.Recovery.{forward}
 use Rattle.process_tree.specs.Order.{has}
 use Rattle.process_tree.proofs.Branches.{has_here}
-use Rattle.process_tree.proofs.TreeLaws.{next_steps_have_a_class, owed_steps_are_retriable}
+use Rattle.process_tree.proofs.TreeLaws.{next_steps_have_a_class, owed_steps_are_not_refused}
 use Rattle.machine_model.specs.Progress.{Progress, next_task, staying, way_on}
 use Rattle.machine_model.specs.ProcessState.{ProcessState}
 use Rattle.std.specs.Option.{IfSome}
 use Rattle.std.proofs.lemmas.Bool.{cases_lt, ne_eqb}
 use Rattle.process_tree.specs.Laws.{IsTreeShape}
-use Rattle.process_tree.specs.Recovery.{last_after, last_path, with_rest}
 use Rattle.process_tree.proofs.InTurn.{goes_within, greatest_is}
-use Rattle.process_tree.proofs.Kept.{fixed_le}
+use Rattle.process_tree.proofs.Fixed.{fixed_le}
 use Rattle.process_tree.proofs.TreeLaws.{each_step_has_a_path, ends_are_whole, paths_lie_in_order}
 use Rattle.instance_state.specs.Rows.{done_to, way_from}
 use Rattle.instance_state.proofs.Lists.{split_at, take_all}
 use Rattle.instance_state.proofs.NextWays.{none_way}
 use Rattle.instance_state.proofs.Forward.{way_on-here}
 use Rattle.instance_state.proofs.OwedAbove.{goes_at}
-use Rattle.instance_state.specs.Reached.{BegunDoesRetriable, CommittedHasWayOn, OwedIsAbove, PendingCanBeUndone, ReservedUsesNoOutcome}
+use Rattle.instance_state.specs.Reached.{BegunIsNotRefused, CommittedHasWayOn, OwedIsAbove, PendingCanBeUndone, ReservedUsesNoOutcome}
 use Rattle.instance_state.specs.Standings.{progress_of}
 use Rattle.instance_state.proofs.Forward.{fixed_stays, next_step}
 use Rattle.instance_state.proofs.Placed.{placed}
@@ -38,18 +37,18 @@ first_has : (xs : List ℕ) (e : ℕ) → first_of xs ≡ Some e → has e xs �
 first_has [] e is = absurd (cc)
 first_has (x ∷ xs) e is = has_here e x xs (cc)
 
-pub begun_does_retriable : BegunDoesRetriable
-begun_does_retriable c good s reached begun work =
+pub begun_is_not_refused : BegunIsNotRefused
+begun_is_not_refused c good s reached begun work =
     let p = placed c good s reached in
     let next = next_step s.progress work in
     let d = (next_task s.progress).step in
     let owed = sym (ap (λ b. if b then first_of (forward s.progress.shape s.progress.net) else way_on s.progress) begun) ∙ next.is in
     let same : s.progress.shape ≡ c.shape = sym (ap (λ (q : ProcessState). q.progress.shape) p.state) in
-    owed_steps_are_retriable c.shape good.tree good.well_formed s.progress.net d
+    owed_steps_are_not_refused c.shape good.tree good.well_formed s.progress.net d
     (subst (λ t. has d (forward t s.progress.net) ≡ true) same (first_has (forward s.progress.shape s.progress.net) d owed))
 
 pub reserved_uses_no_outcome : ReservedUsesNoOutcome
-reserved_uses_no_outcome t tree well w d on class = ap can_be_refused ((next_steps_have_a_class t tree well w d on).reserved_is_retriable class)
+reserved_uses_no_outcome t tree well w d on class = (next_steps_have_a_class t tree well w d on).reserved_is_not_refused class
 
 -- the greatest of a list with something on it
 greatest_some : (x : ℕ) (xs : List ℕ) → (d : ℕ) × (greatest (x ∷ xs) ≡ Some d)

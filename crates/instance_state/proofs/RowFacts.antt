@@ -9,11 +9,11 @@ use Rattle.process_tree.specs.Blocks.{outline, numbers_from}
 use Rattle.process_tree.specs.Making.{tree_fault}
 use Rattle.process_tree.specs.Order.{Each, has}
 use Rattle.process_tree.specs.Laws.{IsTreeShape}
-use Rattle.process_tree.specs.Shape.{Shape, shape_of, commits, kind_of, next_steps, goes_on_to, branch_to, fixed_len, last_commit, last_of}
+use Rattle.process_tree.specs.Shape.{commits, commits_after, Shape, shape_of, next_steps, goes_on_to, branch_to, fixed_len, last_commit, last_of}
 use Rattle.process_tree.specs.Play.{fallback_by}
 use Rattle.process_tree.proofs.Branches.{Each-has, has_here, has_there}
-use Rattle.process_tree.proofs.Fixed.{fixed_more}
-use Rattle.process_tree.proofs.Kept.{branch_below, fixed_le}
+use Rattle.process_tree.proofs.Fixed.{fixed_more, fixed_le}
+use Rattle.process_tree.proofs.Kept.{branch_below}
 use Rattle.process_tree.proofs.Onward.{branch_from}
 use Rattle.process_tree.proofs.Reached.{goes_before}
 use Rattle.plain_list.proofs.Lasts.{last_cases}
@@ -100,10 +100,10 @@ rows_more root n = more_numbers root 0 n ∙ ap (λ k. rows_to root n ++ row_of 
 
 -- Commit points.
 
-pub commit_more : (t : Shape) (w : List ℕ) (b : ℕ) → last_commit t (w ++ b ∷ []) ≡ (if commits (kind_of t b) then Some b else last_commit t w)
-commit_more t w b = by_kind (commits (kind_of t b)) refl
+pub commit_more : (t : Shape) (w : List ℕ) (b : ℕ) → last_commit t (w ++ b ∷ []) ≡ (if commits_after t w b then Some b else last_commit t w)
+commit_more t w b = by_kind (commits_after t w b) refl
   where
-    by_kind : (c : Bool) → commits (kind_of t b) ≡ c → last_commit t (w ++ b ∷ []) ≡ (if c then Some b else last_commit t w)
+    by_kind : (c : Bool) → commits_after t w b ≡ c → last_commit t (w ++ b ∷ []) ≡ (if c then Some b else last_commit t w)
     by_kind true is =
         let all : fixed_len t (w ++ b ∷ []) ≡ length w + 1 = fixed_more t w b ∙ ap (λ c. if c then length w + 1 else fixed_len t w) is in
         ap last_of (take_all (w ++ b ∷ []) (fixed_len t (w ++ b ∷ [])) (let e = length_push w b in omega arith)) ∙ last_push w b
@@ -153,19 +153,19 @@ mapped f (y ∷ xs) (suc n) x d is = mapped f xs n x d is
 -- The row.
 
 pub fixed_here : (root : Block) (b fixed len : ℕ) → fixed ≡ fixed_len (shape_of root) (branch_to (shape_of root) b) → len ≡ length (branch_to (shape_of root) b) + 1
-    → (kind : StepKind) → kind ≡ kind_of (shape_of root) b → (if commits kind then len else fixed) ≡ (row_of root b).fixed
-fixed_here root b fixed len is long kind of_kind =
+    → (fixes : Bool) → fixes ≡ commits (shape_of root) b → (if fixes then len else fixed) ≡ (row_of root b).fixed
+fixed_here root b fixed len is long fixes committed =
     let t = shape_of root in
-    ap (λ k. if commits k then len else fixed) of_kind ∙ ap (λ l. if commits (kind_of t b) then l else fixed) long
-    ∙ ap (λ f. if commits (kind_of t b) then length (branch_to t b) + 1 else f) is ∙ sym (fixed_more t (branch_to t b) b)
+    ap (λ c. if c then len else fixed) committed ∙ ap (λ l. if commits t b then l else fixed) long
+    ∙ ap (λ f. if commits t b then length (branch_to t b) + 1 else f) is ∙ sym (fixed_more t (branch_to t b) b)
 
 pub way_here : (root : Block) → tree_fault root ≡ None → (b : ℕ) → b < length (outline root).steps
-    → (after other : Option ℕ) → after ≡ (row_of root b).after → other ≡ (row_of root b).other → (kind : StepKind) → kind ≡ kind_of (shape_of root) b → (way : Option ℕ)
-    → IfSome after (λ d. way ≡ Some d) → (after ≡ None → way ≡ (if commits kind then None else other)) → way ≡ (row_of root b).way
-way_here root good b lt (Some d) other is fall kind of_kind way some none =
+    → (after other : Option ℕ) → after ≡ (row_of root b).after → other ≡ (row_of root b).other → (fixes : Bool) → fixes ≡ commits (shape_of root) b → (way : Option ℕ)
+    → IfSome after (λ d. way ≡ Some d) → (after ≡ None → way ≡ (if fixes then None else other)) → way ≡ (row_of root b).way
+way_here root good b lt (Some d) other is fall fixes committed way some none =
     let t = shape_of root in
     some ∙ sym (way_behind t (shape_is root good) (branch_to t b) b d (branch_goes root good b lt) (sym is))
-way_here root good b lt None other is fall kind of_kind way some none = by_kind (commits (kind_of (shape_of root) b)) refl
+way_here root good b lt None other is fall fixes committed way some none = by_kind (commits (shape_of root) b) refl
   where
     t : Shape
     t = shape_of root
@@ -173,10 +173,10 @@ way_here root good b lt None other is fall kind of_kind way some none = by_kind 
     nothing : next_steps t (branch_to t b ++ b ∷ []) ≡ []
     nothing = none_least (next_steps t (branch_to t b ++ b ∷ [])) (sym is)
 
-    by_kind : (c : Bool) → commits (kind_of t b) ≡ c → way ≡ way_from t (branch_to t b ++ b ∷ []) (b + 1)
-    by_kind true yes' = none refl ∙ ap (λ c. if c then None else other) (ap commits of_kind ∙ yes') ∙ sym (no_way_behind t (branch_to t b) b nothing yes')
+    by_kind : (c : Bool) → commits t b ≡ c → way ≡ way_from t (branch_to t b ++ b ∷ []) (b + 1)
+    by_kind true yes' = none refl ∙ ap (λ c. if c then None else other) (committed ∙ yes') ∙ sym (no_way_behind t (branch_to t b) b nothing yes')
     by_kind false no' =
-        none refl ∙ ap (λ c. if c then None else other) (ap commits of_kind ∙ no') ∙ fall
+        none refl ∙ ap (λ c. if c then None else other) (committed ∙ no') ∙ fall
         ∙ sym (way_past t (branch_to t b) b nothing no' ∙ fallback_is_way t (branch_to t b) b)
 
 -- a row by its parts
@@ -194,7 +194,7 @@ before_has_row root good b rows are None is = tt
 before_has_row root good b rows are (Some a) is = let lt = before_less root good b a (sym is) in let n = ap length are ∙ rows_count root b in omega arith
 
 pub commit_here : (root : Block) (b : ℕ) (commit : Option ℕ) → commit ≡ last_commit (shape_of root) (branch_to (shape_of root) b)
-    → (kind : StepKind) → kind ≡ kind_of (shape_of root) b → (if commits kind then Some b else commit) ≡ (row_of root b).commit
-commit_here root b commit is kind of_kind =
+    → (fixes : Bool) → fixes ≡ commits (shape_of root) b → (if fixes then Some b else commit) ≡ (row_of root b).commit
+commit_here root b commit is fixes committed =
     let t = shape_of root in
-    ap (λ k. if commits k then Some b else commit) of_kind ∙ ap (λ c. if commits (kind_of t b) then Some b else c) is ∙ sym (commit_more t (branch_to t b) b)
+    ap (λ c. if c then Some b else commit) committed ∙ ap (λ c. if commits t b then Some b else c) is ∙ sym (commit_more t (branch_to t b) b)

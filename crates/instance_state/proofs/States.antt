@@ -2,7 +2,7 @@
 use Rattle.std.proofs.lemmas.Bool.{cases_Bool}
 use Rattle.std.proofs.Common.{◌≡◌, ⊎_elim, ℕ, ◌+◌, ◌-◌, ◌<◌, Bool, List, [], ◌∷◌, ◌++◌, length, take, Option, Some, refl, sym, ap, ◌∙◌, arith, if◌then◌else◌}
 use Rattle.process_tree.specs.Laws.{IsTreeShape}
-use Rattle.process_tree.specs.Shape.{Shape, branch_to, commits, fixed_len, kind_of, last_of}
+use Rattle.process_tree.specs.Shape.{Shape, branch_to, commits_after, fixed_len, last_of}
 use Rattle.process_tree.proofs.Fixed.{fixed_more}
 use Rattle.machine_model.specs.ProcessState.{ProcessState}
 use Rattle.instance_state.specs.Rows.{done_to}
@@ -19,7 +19,7 @@ last_is_free t v b lt =
     ⊎_elim
     (λ yes'. let e = fixed_more t v b ∙ ap (λ c. if c then length v + 1 else fixed_len t v) yes' in let l = length_push v b in absurd (omega arith))
     (λ no'. fixed_more t v b ∙ ap (λ c. if c then length v + 1 else fixed_len t v) no')
-    (cases_Bool (commits (kind_of t b)))
+    (cases_Bool (commits_after t v b))
 
 -- what is left without the last step
 pub without_last : (t : Shape) → IsTreeShape t → (last : Option ℕ) (b : ℕ) → last ≡ Some b → b < length t.kinds

@@ -1,7 +1,6 @@
 -- The states that a process can come to, and the laws of one process, as statements.
 use Rattle.std.specs.Prelude.{◌≡◌, ◌≢◌, ◌≤◌, ◌<◌, ℕ, true, false, List, [], Some, None}
 use Rattle.process_tree.specs.declared.entry.Entry.{Entry}
-use Rattle.process_tree.specs.declared.step.StepKind.TheVariants.{R}
 use Rattle.process_tree.specs.Laws.{IsTreeShape}
 use Rattle.process_tree.specs.Shape.{Shape, can_be_refused, first_of, fixed_len, goes_on_to, is_whole, kind_of}
 use Rattle.process_tree.specs.Recovery.{class_of, forward, reserved}
@@ -28,7 +27,8 @@ pub record IsGoodCourse (c : Course) : Type 0 where
 
 -- What is pending is a tail of what can be undone: all that is fixed stays.
 abbrev pub PendingCanBeUndone : Type 0
-PendingCanBeUndone = (c : Course) → IsGoodCourse c → (s : ProcessState) → IsReached c s → fixed_len s.progress.shape s.progress.net ≤ staying s.progress
+PendingCanBeUndone = (c : Course) → IsGoodCourse c → (s : ProcessState) → IsReached c s
+    → fixed_len s.progress.shape s.progress.net ≤ staying s.progress
 
 -- After a step took effect, nothing is pending.
 abbrev pub NothingPendingAfterStep : Type 0
@@ -37,20 +37,24 @@ NothingPendingAfterStep = (c : Course) → IsGoodCourse c → (s : ProcessState)
 
 -- The first step that it owes is above each step that was done or refused.
 abbrev pub OwedIsAbove : Type 0
-OwedIsAbove = (c : Course) → IsGoodCourse c → (s : ProcessState) → IsReached c s → (d : ℕ) → first_of (forward s.progress.shape s.progress.net) ≡ Some d
+OwedIsAbove = (c : Course) → IsGoodCourse c → (s : ProcessState) → IsReached c s → (d : ℕ)
+    → first_of (forward s.progress.shape s.progress.net) ≡ Some d
     → s.progress.onward ≤ d
 
 -- With a commit point, before it begins to complete or has done a whole path, it has a way on.
 abbrev pub CommittedHasWayOn : Type 0
-CommittedHasWayOn = (c : Course) → IsGoodCourse c → (s : ProcessState) → IsReached c s → 0 < fixed_len s.progress.shape s.progress.net
+CommittedHasWayOn = (c : Course) → IsGoodCourse c → (s : ProcessState) → IsReached c s
+    → 0 < fixed_len s.progress.shape s.progress.net
     → s.progress.begun ≡ false → is_whole s.progress.shape s.progress.net ≡ false → way_on s.progress ≢ None
 
--- Once it has begun to complete, it does retriable steps alone.
-abbrev pub BegunDoesRetriable : Type 0
-BegunDoesRetriable = (c : Course) → IsGoodCourse c → (s : ProcessState) → IsReached c s → s.progress.begun ≡ true → (next_piece s).work ≡ Forward
-    → kind_of c.shape (next_piece s).step ≡ R
+-- Once it has begun to complete, it does only steps that can't be refused.
+abbrev pub BegunIsNotRefused : Type 0
+BegunIsNotRefused = (c : Course) → IsGoodCourse c → (s : ProcessState) → IsReached c s → s.progress.begun ≡ true
+    → (next_piece s).work ≡ Forward
+    → can_be_refused (kind_of c.shape (next_piece s).step) ≡ false
 
 -- A reserved step uses no outcome.
 abbrev pub ReservedUsesNoOutcome : Type 0
-ReservedUsesNoOutcome = (t : Shape) → IsTreeShape t → IsWellFormed t → (w : List ℕ) (d : ℕ) → goes_on_to t w d ≡ true → class_of t w d ≡ reserved
+ReservedUsesNoOutcome = (t : Shape) → IsTreeShape t → IsWellFormed t → (w : List ℕ) (d : ℕ) → goes_on_to t w d ≡ true
+    → class_of t w d ≡ reserved
     → can_be_refused (kind_of t d) ≡ false

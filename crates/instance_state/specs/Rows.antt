@@ -5,7 +5,8 @@ use Rattle.process_tree.specs.declared.play.Fallback.{Fallback}
 use Rattle.process_tree.specs.declared.play.Fallback.TheVariants.{Alternative, All, Stuck}
 use Rattle.process_tree.specs.declared.step.StepKind.TheVariants.{C}
 use Rattle.process_tree.specs.Blocks.{outline, numbers_from}
-use Rattle.process_tree.specs.Shape.{Shape, shape_of, kind_of, next_steps, least, greatest, last_of, last_commit, fixed_len, branch_to}
+use Rattle.process_tree.specs.Shape.{Shape, shape_of, kind_of, next_steps, least, greatest, last_of, last_commit, fixed_len}
+use Rattle.process_tree.specs.Shape.{branch_to}
 use Rattle.process_tree.specs.Play.{kept_prefixes, fallback_of}
 use Rattle.schedule_model.specs.Course.{Course, allowance_of}
 use Rattle.machine_model.specs.ProcessState.{allowance_in}
@@ -55,4 +56,17 @@ way_of Stuck = None
 
 -- a row of no step
 abbrev pub no_row : Row
-no_row = record { kind = C; tries = 0; undo_tries = 0; len = 0; fixed = 0; commit = None; before = None; after = None; last_after = None; other = None; way = None }
+no_row =
+    record {
+      kind = C;
+      tries = 0;
+      undo_tries = 0;
+      len = 0;
+      fixed = 0;
+      commit = None;
+      before = None;
+      after = None;
+      last_after = None;
+      other = None;
+      way = None;
+    }

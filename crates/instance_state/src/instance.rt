@@ -1,6 +1,7 @@
 // One process on its way.
 ghost use Rattle.std.specs.Prelude.{◌≡◌, [], true, length, IfOk};
-ghost use Rattle.machine_model.specs.ProcessState.{todo, effected, was_refused, begun, refusal, recovery, pending_count, refusal_by, are_used_up, told_task};
+ghost use Rattle.machine_model.specs.ProcessState.{todo, effected, was_refused, begun, refusal, recovery, pending_count};
+ghost use Rattle.machine_model.specs.ProcessState.{refusal_by, are_used_up, told_task};
 ghost use Rattle.process_tree.specs.Shape.{shape_of};
 ghost use Rattle.process_tree.specs.Recovery.{forward};
 ghost use Rattle.instance_state.specs.Instances.{opened, moved_to, is_piece};

@@ -1,5 +1,6 @@
 // The laws of one process that are proved: each function says one, and does nothing.
-ghost use Rattle.instance_state.specs.Reached.{BegunDoesRetriable, CommittedHasWayOn, NothingPendingAfterStep, OwedIsAbove, PendingCanBeUndone, ReservedUsesNoOutcome};
+ghost use Rattle.instance_state.specs.Reached.{BegunIsNotRefused, CommittedHasWayOn, NothingPendingAfterStep, OwedIsAbove};
+ghost use Rattle.instance_state.specs.Reached.{PendingCanBeUndone, ReservedUsesNoOutcome};
 
 /// What is pending is a tail of what can be undone.
 pub fn pending_can_be_undone()
@@ -11,9 +12,9 @@ pub fn owed_is_above()
     ensures { OwedIsAbove }
 {}
 
-/// A process that has begun to complete does retriable steps alone.
-pub fn begun_does_retriable()
-    ensures { BegunDoesRetriable }
+/// A process that has begun to complete does only steps that can't be refused.
+pub fn begun_is_not_refused()
+    ensures { BegunIsNotRefused }
 {}
 
 /// A reserved step uses no outcome.

@@ -13,7 +13,7 @@ mod standing;
 
 pub use instance::Instance;
 pub use laws::{
-    begun_does_retriable, committed_has_way_on, nothing_pending_after_step, owed_is_above,
+    begun_is_not_refused, committed_has_way_on, nothing_pending_after_step, owed_is_above,
     pending_can_be_undone, reserved_uses_no_outcome,
 };
 pub use machine_model::{Recovery, Refusal, Todo};

@@ -1,12 +1,13 @@
 // What is kept of each step of a process.
-ghost use Rattle.std.specs.Prelude.{[], ◌≡◌, ◌<◌, ◌+◌, Option, ℕ, IfOk, IfSome, None, length, OnOk, slice_index_or, Some, if◌then◌else◌};
+ghost use Rattle.std.specs.Prelude.{[], ◌≡◌, ◌<◌, ◌+◌, Option, ℕ, IfOk, IfSome, None, length, OnOk, slice_index_or, Some};
+ghost use Rattle.std.specs.Prelude.{if◌then◌else◌};
 ghost use Rattle.process_tree.specs.Blocks.{outline};
 ghost use Rattle.process_tree.specs.Making.{tree_fault};
-ghost use Rattle.process_tree.specs.Shape.{shape_of, last_of, branch_to, fixed_len, last_commit};
-ghost use Rattle.process_tree.specs.Recovery.{last_after, place_of};
+ghost use Rattle.process_tree.specs.Shape.{shape_of, last_of, branch_to, fixed_len, last_commit, last_after};
+ghost use Rattle.process_tree.specs.Recovery.{place_of};
 ghost use Rattle.instance_state.specs.Rows.{row_of, rows_to, way_of, done_to, way_from, no_row};
 
-use process_tree::{Fallback, Place, Plan, StepKind, Tree, branch_to};
+use process_tree::{Fallback, Place, Plan, StepKind, Tree, branch_to, commits_behind};
 use std::alloc::{AllocError, Global};
 use std::marker::Model;
 
@@ -194,7 +195,7 @@ fn next_row(tree: &Tree, rows: &[Row], n: u16) -> Row
     let after = step_at(tree.after(n));
     let last_after = step_at(tree.last_after(n));
     let len = branch.len() + 1;
-    let fixes = step.kind.commits();
+    let fixes = commits_behind(tree, commit, n);
     let (commit, fixed) = commits_with(fixes, (Some(n), len), (commit, fixed));
     Row {
         kind: step.kind,

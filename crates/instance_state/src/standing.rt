@@ -1,9 +1,11 @@
 // Where a process stands, and what is read off.
-ghost use Rattle.std.specs.Prelude.{[], true, nat_eq, ◌&&◌, ◌≡◌, ◌≤◌, ◌<◌, false, length, Option, Some, None, is_none, if◌then◌else◌};
+ghost use Rattle.std.specs.Prelude.{[], true, nat_eq, ◌&&◌, ◌≡◌, ◌≤◌, ◌<◌, false, length, Option, Some, None, is_none};
+ghost use Rattle.std.specs.Prelude.{if◌then◌else◌};
 ghost use Rattle.process_tree.specs.Shape.{branch_to, is_whole, fixed_len, first_of, goes_on_to};
 ghost use Rattle.process_tree.specs.Recovery.{forward};
 ghost use Rattle.machine_model.specs.Progress.{way_on, staying, staying_for, next_forward, pending_steps, is_only_try, same_work};
-ghost use Rattle.machine_model.specs.ProcessState.{next_piece, step_done, last_undone, past, complete_unless_on, effected, was_refused, begun, tries_in, opening_state};
+ghost use Rattle.machine_model.specs.ProcessState.{next_piece, step_done, last_undone, past, complete_unless_on, effected};
+ghost use Rattle.machine_model.specs.ProcessState.{was_refused, begun, tries_in, opening_state};
 ghost use Rattle.machine_model.specs.declared.kept.Work.TheVariants.{Forward, End};
 ghost use Rattle.instance_state.specs.Rows.{done_to, way_from};
 ghost use Rattle.instance_state.specs.OwnActs.{are_in_own_order};
@@ -179,7 +181,8 @@ impl Standing {
     fn way_before(&self, rows: &Rows, last: u16) -> Option<u16>
         requires keeps { Keeps rows.now.shape self.now }
         requires last { self.now.last ≡ Some last }
-        requires free { fixed_len rows.now.shape (done_to rows.now.shape (Some last)) ≡ fixed_len rows.now.shape (branch_to rows.now.shape last) }
+        requires free { fixed_len rows.now.shape (done_to rows.now.shape (Some last))
+            ≡ fixed_len rows.now.shape (branch_to rows.now.shape last) }
         ensures { self.now.begun ≡ false → result ≡ way_from rows.now.shape (branch_to rows.now.shape last) self.now.onward }
     {
         if self.begun {
@@ -217,7 +220,8 @@ impl Standing {
     /// The last step is undone, which stands behind the last commit point.
     pub fn undone(&self, rows: &Rows) -> Standing
         requires keeps { Keeps rows.now.shape self.now }
-        requires free { fixed_len rows.now.shape (progress_of rows.now.shape self.now).net < length (progress_of rows.now.shape self.now).net }
+        requires free { fixed_len rows.now.shape (progress_of rows.now.shape self.now).net < length
+            (progress_of rows.now.shape self.now).net }
         ensures keeps { Keeps rows.now.shape result }
         ensures state { state_of rows.now.shape result ≡ with_progress (last_undone (progress_of rows.now.shape self.now)) }
     {
@@ -250,7 +254,8 @@ impl Standing {
         requires work { (next_piece (state_of rows.now.shape self.now)).work ≡ Forward }
         requires step { (next_piece (state_of rows.now.shape self.now)).step ≡ step }
         ensures keeps { Keeps rows.now.shape result }
-        ensures state { state_of rows.now.shape result ≡ with_progress (complete_unless_on (past (progress_of rows.now.shape self.now) step)) }
+        ensures state { state_of rows.now.shape result
+            ≡ with_progress (complete_unless_on (past (progress_of rows.now.shape self.now) step)) }
     {
         let way = rows.row(step).other;
         Standing {
@@ -282,7 +287,8 @@ impl Standing {
     /// Its next piece was refused.
     pub fn refused(&self, rows: &Rows) -> Standing
         requires keeps { Keeps rows.now.shape self.now }
-        requires room { is_only_try rows.now.shape (next_piece (state_of rows.now.shape self.now)).step (next_piece (state_of rows.now.shape self.now)).work ≡ false → self.now.refused < 255 }
+        requires room { is_only_try rows.now.shape (next_piece (state_of rows.now.shape self.now)).step
+            (next_piece (state_of rows.now.shape self.now)).work ≡ false → self.now.refused < 255 }
         ensures keeps { Keeps rows.now.shape result }
         ensures state { state_of rows.now.shape result ≡ was_refused (state_of rows.now.shape self.now) }
     {

@@ -44,7 +44,8 @@ act_by i b last =
 
 -- behind a 2: four bytes, two bytes and a last one
 abbrev pub act_in : List ℕ → Option Record
-act_in (p0 ∷ p1 ∷ p2 ∷ p3 ∷ s0 ∷ s1 ∷ last ∷ []) = act_by (from_le_bytes w32 (p0 ∷ p1 ∷ p2 ∷ p3 ∷ [])) (from_le_bytes w16 (s0 ∷ s1 ∷ [])) last
+act_in (p0 ∷ p1 ∷ p2 ∷ p3 ∷ s0 ∷ s1 ∷ last ∷ []) =
+    act_by (from_le_bytes w32 (p0 ∷ p1 ∷ p2 ∷ p3 ∷ [])) (from_le_bytes w16 (s0 ∷ s1 ∷ [])) last
 act_in rest = None
 
 -- behind a 3: four bytes

@@ -5,14 +5,16 @@ use Rattle.trace_verify.specs.Lines.{cut}
 use Rattle.line_reader.specs.declared.taken.Taken.{Taken}
 use Rattle.line_reader.specs.declared.taken.Taken.TheVariants.{Line, LongLine, End, LongEnd}
 
--- Bytes that stood ready are divided: what stands before the first line feed goes to a line, and what stands behind it stays; where there
--- is none all go. Of the line no more than one byte more than may be is kept.
+-- Bytes that stood ready are divided: what stands before the first line feed goes to a line, and what stands behind it stays; where
+-- there is none all go. Of the line no more than one byte more than may be is kept.
 abbrev pub IsFrontTaken : ℕ → List ℕ → List ℕ → List ℕ → List ℕ → Bool → Type 0
-IsFrontTaken most ready left line longer true = (front : List ℕ) × (cut 10 ready ≡ Some (front, left)) × (longer ≡ line ++ take (most + 1 - length line) front)
-IsFrontTaken most ready left line longer false = (cut 10 ready ≡ None) × (left ≡ []) × (longer ≡ line ++ take (most + 1 - length line) ready)
+IsFrontTaken most ready left line longer true =
+    (front : List ℕ) × (cut 10 ready ≡ Some (front, left)) × (longer ≡ line ++ take (most + 1 - length line) front)
+IsFrontTaken most ready left line longer false =
+    (cut 10 ready ≡ None) × (left ≡ []) × (longer ≡ line ++ take (most + 1 - length line) ready)
 
--- Of these bytes the first line was taken, which has at most so many bytes, or more; and these bytes are left behind its line feed. Or there is no
--- line feed, and all are taken.
+-- Of these bytes the first line was taken, which has at most so many bytes, or more; and these bytes are left behind its line feed.
+-- Or there is no line feed, and all are taken.
 abbrev pub IsFirstOf : ℕ → List ℕ → List ℕ → Taken → Type 0
 IsFirstOf most bytes left (Line line) = (cut 10 bytes ≡ Some (line.items, left)) × (length line.items ≤ most)
 IsFirstOf most bytes left LongLine = (line : List ℕ) × (cut 10 bytes ≡ Some (line, left)) × (most < length line)
@@ -28,4 +30,5 @@ IsEndOf after LongEnd = IsAtEnd after
 
 -- Behind bytes that stood ready the source gave more, and of both this was taken.
 abbrev pub IsTaken : ℕ → List ℕ → List ℕ → Option (List ℕ) → Option (List ℕ) → Taken → Type 0
-IsTaken most ready left before after taken = (given : List ℕ) × Consumes before after given × IsFirstOf most (ready ++ given) left taken × IsEndOf after taken
+IsTaken most ready left before after taken =
+    (given : List ℕ) × Consumes before after given × IsFirstOf most (ready ++ given) left taken × IsEndOf after taken

@@ -1,5 +1,6 @@
 // Lines of a source.
-ghost use Rattle.std.specs.Prelude.{◌≡◌, ◌≢◌, ◌≤◌, ◌+◌, ◌-◌, ℕ, List, [], ◌++◌, length, take, false, Option, Some, None, IfOk, IfErr, OnOk, IsErrOf};
+ghost use Rattle.std.specs.Prelude.{◌≡◌, ◌≢◌, ◌≤◌, ◌+◌, ◌-◌, ℕ, List, [], ◌++◌, length, take, false, Option, Some, None, IfOk};
+ghost use Rattle.std.specs.Prelude.{IfErr, OnOk, IsErrOf};
 ghost use Rattle.process_flow.specs.Causes.{Rose};
 ghost use Rattle.std.specs.Io.KnownBytes.{Consumes, IsAtEnd};
 ghost use Rattle.trace_verify.specs.Lines.{cut};
@@ -42,7 +43,8 @@ fn keep(line: &mut Vec<u8>, bytes: &[u8], most: u32) -> Result<(), AllocError>
 
 // The line that ended here.
 fn ended(line: Vec<u8>, most: u32) -> Taken
-    ensures first { (bytes left whole : List ℕ) → cut 10 bytes ≡ Some (whole, left) → line.items ≡ take (most + 1) whole → IsFirstOf most bytes left result }
+    ensures first { (bytes left whole : List ℕ) → cut 10 bytes ≡ Some (whole, left) → line.items ≡ take (most + 1) whole
+        → IsFirstOf most bytes left result }
     ensures end { (after : Option (List ℕ)) → IsEndOf after result }
 {
     if line.len() > most as usize {
@@ -115,8 +117,8 @@ impl LineReader {
         Ok(count > 0)
     }
 
-    /// Takes the next line of the source, or all of it that stands behind its last line feed. Of a line that has more bytes than `most`
-    /// nothing is kept.
+    /// Takes the next line of the source, or all of it that stands behind its last line feed. Of a line that has more bytes than
+    /// `most` nothing is kept.
     pub fn take_line<S: Source>(
         &mut self,
         alloc: Global,

@@ -7,14 +7,13 @@ use Rattle.std.proofs.lemmas.List.Folds.{list_all-append}
 use Rattle.process_tree.specs.Laws.{IsTreeShape}
 use Rattle.process_tree.specs.Order.{has}
 use Rattle.process_tree.specs.Recovery.{forward}
-use Rattle.process_tree.specs.Shape.{Shape, can_be_refused, commits, fixed_len, goes_on_to, kind_of, next_steps}
+use Rattle.process_tree.specs.Shape.{Shape, can_be_refused, commits_after, fixed_len, goes_on_to, kind_of, next_steps}
 use Rattle.process_tree.specs.Termination.{IsWellFormed}
-use Rattle.process_tree.specs.declared.step.StepKind.TheVariants.{R}
 use Rattle.process_tree.proofs.InTurn.{goes_up}
 use Rattle.process_tree.proofs.LastPath.{greatest_ge}
-use Rattle.process_tree.proofs.TreeLaws.{owed_steps_are_retriable, paths_lie_in_order}
+use Rattle.process_tree.proofs.TreeLaws.{owed_steps_are_not_refused, paths_lie_in_order}
+use Rattle.process_tree.proofs.Fixed.{fixed_more}
 use Rattle.schedule_model.proofs.OwedPaths.{FirstOwed, first_owed, below_next, below_owed}
-use Rattle.schedule_model.proofs.Recoveries.{fixed_len-push}
 use Rattle.schedule_model.proofs.Undoing.{owed_without}
 use Rattle.machine_model.specs.Progress.{Progress}
 use Rattle.machine_model.specs.ProcessState.{past, step_done}
@@ -31,11 +30,11 @@ module _ (t : Shape) (tree : IsTreeShape t) (well : IsWellFormed t) where
       v : List ℕ
       v = take (fixed_len t w) w
 
-      kind : kind_of t b ≡ R
-      kind = owed_steps_are_retriable t tree well w b (ap (has b) owes ∙ or_left (eqb b b) (has b rest) (eq-eqb b b refl))
+      kind : can_be_refused (kind_of t b) ≡ false
+      kind = owed_steps_are_not_refused t tree well w b (ap (has b) owes ∙ or_left (eqb b b) (has b rest) (eq-eqb b b refl))
 
       differ : d ≡ b → ⊥
-      differ same = false≢true (sym (ap can_be_refused kind) ∙ (ap (λ x. can_be_refused (kind_of t x)) (sym same) ∙ refusable))
+      differ same = false≢true (sym kind ∙ (ap (λ x. can_be_refused (kind_of t x)) (sym same) ∙ refusable))
 
       by_tail : (u : List ℕ) → drop (fixed_len t w) w ≡ u → d < b
       by_tail [] tail =
@@ -57,17 +56,17 @@ module _ (t : Shape) (tree : IsTreeShape t) (well : IsWellFormed t) where
 
   -- a step that is done is below what is owed then
   pub done_below : (w : List ℕ) (b d : ℕ) (rest : List ℕ) → forward t (w ++ d ∷ []) ≡ b ∷ rest → goes_on_to t w d ≡ true → d < b
-  done_below w b d rest owes on = by_kind (commits (kind_of t d)) refl
+  done_below w b d rest owes on = by_kind (commits_after t w d) refl
     where
-      by_kind : (c : Bool) → commits (kind_of t d) ≡ c → d < b
+      by_kind : (c : Bool) → commits_after t w d ≡ c → d < b
       by_kind true kind =
           let first = first_owed t (w ++ d ∷ []) b rest owes in
-          let all : fixed_len t (w ++ d ∷ []) ≡ length w + 1 = fixed_len-push t w d ∙ ap (λ c. cond c (length w + 1) (fixed_len t w)) kind in
+          let all : fixed_len t (w ++ d ∷ []) ≡ length w + 1 = fixed_more t w d ∙ ap (λ c. cond c (length w + 1) (fixed_len t w)) kind in
           let long = length-append w (d ∷ []) in
           let whole : take (fixed_len t (w ++ d ∷ [])) (w ++ d ∷ []) ≡ w ++ d ∷ [] = take_all (fixed_len t (w ++ d ∷ [])) (w ++ d ∷ []) (omega arith) in
           goes_up t w d b (paths_lie_in_order t tree).rising (sym (ap (λ v. goes_on_to t v b) whole) ∙ first.on)
       by_kind false kind =
-          let same : forward t (w ++ d ∷ []) ≡ forward t w = owed_without t w d (fixed_len-push t w d ∙ ap (λ c. cond c (length w + 1) (fixed_len t w)) kind) in
+          let same : forward t (w ++ d ∷ []) ≡ forward t w = owed_without t w d (fixed_more t w d ∙ ap (λ c. cond c (length w + 1) (fixed_len t w)) kind) in
           below_owed t (paths_lie_in_order t tree) well w b d rest (sym same ∙ owes) on kind
 
 -- a step done at the bound or above keeps what is owed ahead

@@ -4,7 +4,7 @@ use Rattle.std.proofs.lemmas.Option.{none-some}
 use Rattle.std.proofs.lemmas.Bool.{and_parts, eqb-true, leb-true}
 use Rattle.process_tree.specs.declared.step.Step.{Step}
 use Rattle.process_tree.specs.declared.step.StepKind.{StepKind}
-use Rattle.process_tree.specs.declared.step.StepKind.TheVariants.{C, P, R}
+use Rattle.process_tree.specs.declared.step.StepKind.TheVariants.{C, P, R, Cr}
 use Rattle.process_tree.specs.declared.block.Block.{Block}
 use Rattle.process_tree.specs.declared.plan.Plan.{Plan}
 use Rattle.process_tree.specs.Blocks.{outline}
@@ -50,6 +50,11 @@ options_tries R s good =
     let y = and_parts _ (are_refusals s.refuse) x.0 in
     let z = and_parts (are_tries s.tries) (eqb s.undo_tries 3) y.0 in
     (some_tries s.tries z.0, three_tries s.undo_tries z.1)
+options_tries Cr s good =
+    let x = and_parts _ (are_refusals s.undo_refuse) good in
+    let y = and_parts _ (are_refusals s.refuse) x.0 in
+    let z = and_parts (are_tries s.tries) (are_tries s.undo_tries) y.0 in
+    (some_tries s.tries z.0, some_tries s.undo_tries z.1)
 
 -- where no step is bad, the first is good, and none of the others is bad
 pub good_head : (n : ℕ) (s : Step) (ss : List Step) → first_bad_step n (s ∷ ss) ≡ None → (is_good_step s ≡ true) × (first_bad_step (n + 1) ss ≡ None)

@@ -1,12 +1,12 @@
 -- No run hands out more pieces than its processes can take.
-use Rattle.std.proofs.Common.{◌≡◌, ℕ, ◌+◌, ◌≤◌, Bool, true, cond, not, eqb, if◌then◌else◌, List, [], length, map, Some, None, sym, refl, ap, subst, ◌∙◌, arith}
+use Rattle.std.proofs.Common.{◌≡◌, ℕ, ◌+◌, ◌≤◌, Bool, true, cond, eqb, if◌then◌else◌, List, [], length, map, Some, None, sym, refl, ap, subst, ◌∙◌, arith}
 use Rattle.std.proofs.lemmas.Bool.{eqb-true}
 use Rattle.process_tree.specs.declared.plan.Plan.{Plan}
 use Rattle.process_tree.specs.declared.step.StepKind.{StepKind}
-use Rattle.process_tree.specs.declared.step.StepKind.TheVariants.{C, P, R}
+use Rattle.process_tree.specs.declared.step.StepKind.TheVariants.{C, P, R, Cr}
 use Rattle.process_tree.specs.Blocks.{numbers_from}
 use Rattle.process_tree.specs.Order.{Each}
-use Rattle.process_tree.specs.Shape.{can_be_refused, commits, kind_of}
+use Rattle.process_tree.specs.Shape.{can_be_refused, can_be_undone, kind_of}
 use Rattle.process_tree.proofs.Every.{Each-weaker}
 use Rattle.schedule_model.specs.Conflict.{ConflictRelation}
 use Rattle.schedule_model.specs.Course.{Course, allowance, course, courses_of, shape}
@@ -39,11 +39,11 @@ module _ (courses : List Course) (i : ℕ) where
   steps = length (course courses i).ops
 
   abbrev may_undo : ℕ → Bool
-  may_undo b = not (commits (kind_of (shape courses i) b))
+  may_undo b = can_be_undone (kind_of (shape courses i) b)
 
   by_work : (b : ℕ) (w : Work) → Belongs courses i b w → IsCounted i steps may_undo b w
   by_work b Forward own = own
-  by_work b Undo own = (own.0, ap not own.1)
+  by_work b Undo own = own
   by_work b End own = own
 
   counted : (p : Piece) → Belongs courses p.process p.step p.work → eqb p.process i ≡ true → IsCounted i steps may_undo p.step p.work
@@ -57,20 +57,28 @@ module _ (courses : List Course) (i : ℕ) where
         let once = ap (λ k. tries_or_one (if can_be_refused k then None else Some (allowance courses i b).tries)) is in
         let f = few b Forward in
         let g = few b Undo in
-        let x = ap (λ k. cond (not (commits k)) (count (is_try_of i b Undo) hs) 0) is in
-        let y = ap (λ k. cond (not (commits k)) (count (is_try_of i b Undo) ls) 0) is in
+        let x = ap (λ k. cond (can_be_undone k) (count (is_try_of i b Undo) hs) 0) is in
+        let y = ap (λ k. cond (can_be_undone k) (count (is_try_of i b Undo) ls) 0) is in
         omega arith
     step_bound b P is =
         let room : pieces_for_step courses i b ≡ 1 = rw is refl in
         let once = ap (λ k. tries_or_one (if can_be_refused k then None else Some (allowance courses i b).tries)) is in
         let f = few b Forward in
-        let x = ap (λ k. cond (not (commits k)) (count (is_try_of i b Undo) hs) 0) is in
+        let x = ap (λ k. cond (can_be_undone k) (count (is_try_of i b Undo) hs) 0) is in
         omega arith
     step_bound b R is =
         let room : pieces_for_step courses i b ≡ (allowance courses i b).tries = rw is refl in
         let often = ap (λ k. tries_or_one (if can_be_refused k then None else Some (allowance courses i b).tries)) is in
         let f = few b Forward in
-        let x = ap (λ k. cond (not (commits k)) (count (is_try_of i b Undo) hs) 0) is in
+        let x = ap (λ k. cond (can_be_undone k) (count (is_try_of i b Undo) hs) 0) is in
+        omega arith
+    step_bound b Cr is =
+        let room : pieces_for_step courses i b ≡ (allowance courses i b).tries + (allowance courses i b).undo_tries = rw is refl in
+        let often = ap (λ k. tries_or_one (if can_be_refused k then None else Some (allowance courses i b).tries)) is in
+        let f = few b Forward in
+        let g = few b Undo in
+        let x = ap (λ k. cond (can_be_undone k) (count (is_try_of i b Undo) hs) 0) is in
+        let y = ap (λ k. cond (can_be_undone k) (count (is_try_of i b Undo) ls) 0) is in
         omega arith
 
     -- of the process no more than it can take

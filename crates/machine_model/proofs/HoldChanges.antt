@@ -10,7 +10,7 @@ use Rattle.process_tree.specs.declared.plan.Plan.{Plan}
 use Rattle.process_tree.specs.Recovery.{StepClass, reserved, committing, undoable}
 use Rattle.schedule_model.specs.declared.event.Event.{Event}
 use Rattle.schedule_model.specs.declared.event.Event.TheVariants.{Act}
-use Rattle.schedule_model.specs.Course.{Course, courses_of, op_of, access_at}
+use Rattle.schedule_model.specs.Course.{Course, courses_of, access_at}
 use Rattle.schedule_model.specs.Conflict.{ConflictRelation, no_conflict}
 use Rattle.schedule_model.specs.Histories.{active, doing, is_active, net_of, undoing}
 use Rattle.schedule_model.specs.Laws.{AreGood}

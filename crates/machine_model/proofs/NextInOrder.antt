@@ -3,18 +3,18 @@ use Rattle.std.proofs.Common.{◌≡◌, inl, inr, ℕ, ◌+◌, ◌-◌, ◌≤
 use Rattle.std.specs.Bool.{IsTrue}
 use Rattle.std.specs.List.{list_any, list_all}
 use Rattle.std.proofs.lemmas.Option.{none-some}
-use Rattle.std.proofs.lemmas.Bool.{and_parts, and_from, or_left, eq-eqb, le-leb, false≢true}
+use Rattle.std.proofs.lemmas.Bool.{and_parts, and_from, or_left, le-leb, false≢true}
 use Rattle.std.proofs.lemmas.List.{length-take}
 use Rattle.std.proofs.lemmas.List.Folds.{list_all-append}
 use Rattle.process_tree.proofs.Entries.{access-same}
 use Rattle.process_tree.specs.Conflicts.{same_access}
 use Rattle.process_tree.specs.Blocks.{numbers_from}
-use Rattle.process_tree.specs.Shape.{Shape, first_of, fixed_len, goes_on_to, is_end, is_whole, last_of, least, next_steps}
+use Rattle.process_tree.specs.Shape.{Shape, first_of, fixed_len, goes_on_to, is_end, is_whole, last_of, least, next_steps, IsBranch}
 use Rattle.process_tree.specs.Play.{kept_prefixes, kept_for}
 use Rattle.process_tree.specs.Recovery.{forward}
 use Rattle.process_tree.proofs.Numbers.{least_some}
 use Rattle.process_tree.specs.declared.plan.Plan.{Plan}
-use Rattle.schedule_model.specs.Course.{Course, courses_of, op_of, shape, access_at}
+use Rattle.schedule_model.specs.Course.{Course, courses_of, shape, access_at}
 use Rattle.schedule_model.specs.Conflict.{no_conflict}
 use Rattle.schedule_model.specs.Histories.{doing, done_steps, is_active, is_in, net, net_of, net_steps, undoing}
 use Rattle.schedule_model.specs.Laws.{AreGood}
@@ -23,7 +23,7 @@ use Rattle.schedule_model.specs.OwnOrder.{goes_on, is_at_end, is_of_last, keeps_
 use Rattle.schedule_model.specs.Recovery.{owed_steps, backward_entries}
 use Rattle.schedule_model.proofs.Active.{is_in-filter}
 use Rattle.schedule_model.proofs.GoodPlans.{good_if_goes_on}
-use Rattle.schedule_model.proofs.NetPaths.{IsBranch, net-branch, done-below_owed}
+use Rattle.schedule_model.proofs.NetPaths.{net-branch, done-below_owed}
 use Rattle.schedule_model.proofs.OwedPaths.{first_owed, at_end, take_all}
 use Rattle.machine_model.specs.declared.kept.Work.TheVariants.{Forward, Undo, End}
 use Rattle.machine_model.specs.Progress.{Progress, Task, next_forward, pending_steps, staying, staying_for, step_or_end, undo_or, way_on}

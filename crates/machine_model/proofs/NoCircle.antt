@@ -10,7 +10,7 @@ use Rattle.process_tree.specs.declared.entry.Entry.{Entry}
 use Rattle.process_tree.specs.declared.plan.Plan.{Plan}
 use Rattle.process_tree.specs.Recovery.{StepClass, reserved, committing, undoable}
 use Rattle.schedule_model.specs.declared.event.Event.{Event}
-use Rattle.schedule_model.specs.Course.{Course, courses_of, op_of, access_at}
+use Rattle.schedule_model.specs.Course.{Course, courses_of, access_at}
 use Rattle.schedule_model.specs.Conflict.{ConflictRelation, IsSymmetric, conflict, no_conflict}
 use Rattle.schedule_model.specs.Graph.{Walk, one_arrow, and_then}
 use Rattle.schedule_model.specs.Histories.{active, doing, is_active, is_in, net, net_of}

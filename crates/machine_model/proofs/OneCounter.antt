@@ -10,7 +10,7 @@ use Rattle.process_tree.specs.declared.entry.Entry.{Entry}
 use Rattle.process_tree.specs.declared.plan.Plan.{Plan}
 use Rattle.schedule_model.specs.declared.event.Event.{Event}
 use Rattle.schedule_model.specs.declared.event.Event.TheVariants.{Act, End as Ended}
-use Rattle.schedule_model.specs.Course.{Course, courses_of, op_of, shape, access_at}
+use Rattle.schedule_model.specs.Course.{Course, courses_of, shape, access_at}
 use Rattle.schedule_model.specs.Conflict.{ConflictRelation, no_conflict}
 use Rattle.schedule_model.specs.Histories.{doing, done_steps, ends, is_active, is_in, net_steps, steps_of, undoing, net_of}
 use Rattle.schedule_model.specs.Laws.{AreGood}

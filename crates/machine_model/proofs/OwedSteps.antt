@@ -8,7 +8,7 @@ use Rattle.process_tree.specs.Entries.{access_of}
 use Rattle.process_tree.specs.declared.entry.Entry.{Entry}
 use Rattle.process_tree.specs.declared.plan.Plan.{Plan}
 use Rattle.process_tree.specs.Recovery.{reserved}
-use Rattle.schedule_model.specs.Course.{Course, courses_of, op_of, access_at}
+use Rattle.schedule_model.specs.Course.{Course, courses_of, access_at}
 use Rattle.schedule_model.specs.Conflict.{ConflictRelation, IsSymmetric, conflict}
 use Rattle.schedule_model.specs.Histories.{active, doing, is_active, net_of, net_steps}
 use Rattle.schedule_model.specs.Holdings.{Hold, Holdings, all_pending, all_reserved, all_running}

@@ -12,7 +12,7 @@ use Rattle.process_tree.specs.Shape.{first_of, goes_on_to, last_of}
 use Rattle.process_tree.specs.declared.plan.Plan.{Plan}
 use Rattle.schedule_model.specs.declared.event.Event.{Event}
 use Rattle.schedule_model.specs.declared.event.Event.TheVariants.{Start as Started, Act, End as Ended}
-use Rattle.schedule_model.specs.Course.{Course, course, courses_of, op_of, shape, access_at}
+use Rattle.schedule_model.specs.Course.{Course, course, courses_of, shape, access_at}
 use Rattle.schedule_model.specs.Conflict.{ConflictRelation, no_conflict}
 use Rattle.schedule_model.specs.Histories.{doing, done_steps, ends, is_active, is_in, net_steps, starts, steps_of, undoing}
 use Rattle.schedule_model.specs.Laws.{AreGood}

@@ -13,7 +13,7 @@ use Rattle.process_tree.specs.declared.entry.Entry.{Entry}
 use Rattle.process_tree.specs.declared.plan.Plan.{Plan}
 use Rattle.schedule_model.specs.declared.event.Event.{Event}
 use Rattle.schedule_model.specs.declared.event.Event.TheVariants.{Start as Started, Act, End as Ended}
-use Rattle.schedule_model.specs.Course.{Course, courses_of, op_of, shape, access_at}
+use Rattle.schedule_model.specs.Course.{Course, courses_of, shape, access_at}
 use Rattle.schedule_model.specs.Conflict.{ConflictRelation, no_conflict}
 use Rattle.schedule_model.specs.Histories.{doing, ends, is_active, is_in, net_of, net_steps, starts, steps_of, undoing}
 use Rattle.schedule_model.specs.Legal.{is_legal, may_come, is_clear}

@@ -2,11 +2,13 @@
 use Rattle.std.proofs.Common.{◌≡◌, inl, inr, ⊎_elim, ℕ, ◌+◌, ◌≤◌, ◌<◌, Bool, true, false, not, if◌then◌else◌, ◌&&◌, List, [], ◌∷◌, ◌++◌, length, drop, Option, Some, None, is_none, sym, refl, ap, subst, ◌∙◌, eqb, length-append, arith}
 use Rattle.std.proofs.lemmas.List.{drop-append-le}
 use Rattle.std.proofs.lemmas.Option.{none-some, same_Some}
-use Rattle.std.proofs.lemmas.Bool.{and_parts, cases_lt, eqb-true}
+use Rattle.std.proofs.lemmas.Bool.{and_parts, cases_lt, eqb-true, false≢true}
 use Rattle.process_tree.specs.declared.plan.Plan.{Plan}
-use Rattle.process_tree.specs.Order.{Each}
+use Rattle.process_tree.specs.declared.step.StepKind.{StepKind}
+use Rattle.process_tree.specs.declared.step.StepKind.TheVariants.{C, P, R, Cr}
+use Rattle.process_tree.specs.Order.{Each, has}
 use Rattle.process_tree.specs.Recovery.{forward}
-use Rattle.process_tree.specs.Shape.{Shape, commits, first_of, fixed_len, goes_on_to, kind_of, last_of}
+use Rattle.process_tree.specs.Shape.{Shape, can_be_undone, commits_after, commits_by_kind, first_of, fixed_len, goes_on_to, kind_of, last_of, IsBranch}
 use Rattle.process_tree.proofs.Every.{Each-append}
 use Rattle.process_tree.proofs.Fixed.{fixed_more}
 use Rattle.process_tree.proofs.InTurn.{goes_within}
@@ -17,7 +19,7 @@ use Rattle.schedule_model.specs.Histories.{is_active, net_steps}
 use Rattle.schedule_model.specs.Laws.{AreGood}
 use Rattle.schedule_model.specs.OwnOrder.{keeps_order}
 use Rattle.schedule_model.proofs.GoodPlans.{good_if_goes_on}
-use Rattle.schedule_model.proofs.NetPaths.{IsBranch, net-branch}
+use Rattle.schedule_model.proofs.NetPaths.{net-branch}
 use Rattle.machine_model.specs.declared.kept.Kept.{Kept}
 use Rattle.machine_model.specs.declared.kept.Kept.TheVariants.{Start, Hand, Effect, Refuse, Abort, Victim, Restart}
 use Rattle.machine_model.specs.declared.kept.Work.{Work}
@@ -38,12 +40,19 @@ use Rattle.machine_model.proofs.WaysOn.{drop_past, staying-least}
 -- work on step b is of process i: it has the step, what is undone can be undone, and an end has step 0
 abbrev pub Belongs : List Course → ℕ → ℕ → Work → Type 0
 Belongs courses i b Forward = b < length (course courses i).ops
-Belongs courses i b Undo = (b < length (course courses i).ops) × (commits (kind_of (shape courses i) b) ≡ false)
+Belongs courses i b Undo = (b < length (course courses i).ops) × (can_be_undone (kind_of (shape courses i) b) ≡ true)
 Belongs courses i b End = b ≡ 0
 
--- what stands behind the fixed steps and is the last of all doesn't commit
-undone_kind : (t : Shape) (v : List ℕ) (a b k : ℕ) → fixed_len t (v ++ a ∷ []) ≤ k → last_of (drop k (v ++ a ∷ [])) ≡ Some b → (a ≡ b) × (commits (kind_of t a) ≡ false)
-undone_kind t v a b k most last = by_commit (commits (kind_of t a)) refl
+-- a step that is no commit point can be undone
+not_committed : (k : StepKind) (owed : Bool) → commits_by_kind k owed ≡ false → can_be_undone k ≡ true
+not_committed C owed is = refl
+not_committed P owed is = absurd (false≢true (sym is))
+not_committed R owed is = absurd (false≢true (sym is))
+not_committed Cr owed is = refl
+
+-- what stands behind the fixed steps and is the last of all can be undone
+undone_kind : (t : Shape) (v : List ℕ) (a b k : ℕ) → fixed_len t (v ++ a ∷ []) ≤ k → last_of (drop k (v ++ a ∷ [])) ≡ Some b → (a ≡ b) × (can_be_undone (kind_of t a) ≡ true)
+undone_kind t v a b k most last = by_commit (commits_after t v a) refl
   where
     past : length v + 1 ≤ k → ⊥
     past few = let whole = length-append v (a ∷ []) in none-some b (sym (ap last_of (drop_past k (v ++ a ∷ []) (omega arith))) ∙ last)
@@ -51,9 +60,10 @@ undone_kind t v a b k most last = by_commit (commits (kind_of t a)) refl
     its : k ≤ length v → a ≡ b
     its few = same_Some a b (sym (ap last_of (drop-append-le k v (a ∷ []) few) ∙ last_of-push (drop k v) a) ∙ last)
 
-    by_commit : (c : Bool) → commits (kind_of t a) ≡ c → (a ≡ b) × (commits (kind_of t a) ≡ false)
+    by_commit : (c : Bool) → commits_after t v a ≡ c → (a ≡ b) × (can_be_undone (kind_of t a) ≡ true)
     by_commit true is = let all = fixed_more t v a ∙ ap (λ c. if c then length v + 1 else fixed_len t v) is in absurd (past (omega arith))
-    by_commit false is = (⊎_elim (λ (less : length v < k). absurd (past (omega arith))) its (cases_lt (length v) k), is)
+    by_commit false is =
+        (⊎_elim (λ (less : length v < k). absurd (past (omega arith))) its (cases_lt (length v) k), not_committed (kind_of t a) (has a (forward t v)) is)
 
 module _ (table : ConflictRelation) (plans : List Plan) (good : AreGood plans) where
   abbrev cs : List Course
@@ -81,7 +91,7 @@ module _ (table : ConflictRelation) (plans : List Plan) (good : AreGood plans) w
         let least = staying-least s in
         let fixed = ap (fixed_len t) net in
         let kind = undone_kind t is.0 is.1 b (staying s) (omega arith) (sym (ap (λ v. last_of (drop (staying s) v)) net) ∙ last) in
-        (subst (λ c. c < length (course cs i).ops) kind.0 (within i is.0 is.1 is.3), subst (λ c. commits (kind_of t c) ≡ false) kind.0 kind.1)
+        (subst (λ c. c < length (course cs i).ops) kind.0 (within i is.0 is.1 is.3), subst (λ c. can_be_undone (kind_of t c) ≡ true) kind.0 kind.1)
 
     by_parts : (o q : Option ℕ) → last_of (pending_steps s) ≡ o
         → (let x = undo_or (step_or_end q) o in keeps_order cs m.events (event_by cs i x.step x.work) ≡ true)

@@ -9,7 +9,7 @@ use Rattle.process_tree.specs.declared.entry.Entry.{Entry}
 use Rattle.process_tree.specs.declared.plan.Plan.{Plan}
 use Rattle.process_tree.specs.Recovery.{forward}
 use Rattle.process_tree.specs.Shape.{can_be_refused, first_of, fixed_len, kind_of, last_of}
-use Rattle.process_tree.proofs.Kept.{fixed_le}
+use Rattle.process_tree.proofs.Fixed.{fixed_le}
 use Rattle.schedule_model.specs.declared.event.Event.{Event}
 use Rattle.schedule_model.specs.declared.event.Event.TheVariants.{Act}
 use Rattle.schedule_model.specs.Course.{Course, courses_of, shape}

@@ -7,7 +7,7 @@ use Rattle.std.proofs.lemmas.List.Folds.{list_any-append}
 use Rattle.std.proofs.lemmas.Bool.{and_from, and_parts, eqb-true, false≢true, or_cases}
 use Rattle.process_tree.specs.declared.entry.Entry.{Entry}
 use Rattle.process_tree.specs.declared.plan.Plan.{Plan}
-use Rattle.process_tree.specs.Shape.{is_whole, last_of}
+use Rattle.process_tree.specs.Shape.{is_whole, last_of, IsBranch}
 use Rattle.process_tree.proofs.TreeLaws.{whole_paths_end}
 use Rattle.schedule_model.specs.declared.event.Event.{Event}
 use Rattle.schedule_model.specs.Course.{Course, courses_of, shape}
@@ -18,7 +18,7 @@ use Rattle.schedule_model.proofs.Apart.{Apart, Apart-filter, Apart-last, net-apa
 use Rattle.schedule_model.proofs.Behind.{has_step}
 use Rattle.schedule_model.proofs.GoodPlans.{good_if_goes_on}
 use Rattle.schedule_model.proofs.Members.{Among, all-among, among-any, in_map}
-use Rattle.schedule_model.proofs.NetPaths.{IsBranch, net-branch}
+use Rattle.schedule_model.proofs.NetPaths.{net-branch}
 use Rattle.schedule_model.proofs.Started.{in_net_of}
 use Rattle.machine_model.specs.declared.kept.Kept.{Kept}
 use Rattle.machine_model.specs.declared.kept.Kept.TheVariants.{Start, Hand, Effect, Refuse, Abort, Victim, Restart}

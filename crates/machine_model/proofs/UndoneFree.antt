@@ -7,7 +7,7 @@ use Rattle.process_tree.specs.Entries.{access_of}
 use Rattle.process_tree.specs.declared.entry.Entry.{Entry}
 use Rattle.process_tree.specs.declared.plan.Plan.{Plan}
 use Rattle.schedule_model.specs.declared.event.Event.{Event}
-use Rattle.schedule_model.specs.Course.{Course, courses_of, op_of, access_at}
+use Rattle.schedule_model.specs.Course.{Course, courses_of, access_at}
 use Rattle.schedule_model.specs.Conflict.{ConflictRelation, IsSymmetric, conflict}
 use Rattle.schedule_model.specs.Histories.{doing, is_active, net, net_of, same_step}
 use Rattle.schedule_model.specs.Holdings.{behind}

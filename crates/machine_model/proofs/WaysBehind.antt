@@ -8,16 +8,16 @@ use Rattle.process_tree.specs.Laws.{IsTreeShape, IsInWay}
 use Rattle.process_tree.specs.Order.{Each, IsLaidOut, IsRising, has}
 use Rattle.process_tree.specs.Play.{kept_prefixes, kept_for}
 use Rattle.process_tree.specs.Recovery.{forward}
-use Rattle.process_tree.specs.Shape.{Shape, branch_to, commits, first_of, fixed_len, goes_on_to, is_whole, least, next_steps}
+use Rattle.process_tree.specs.Shape.{Shape, branch_to, first_of, fixed_len, goes_on_to, is_whole, least, next_steps}
 use Rattle.process_tree.specs.Termination.{IsWellFormed}
 use Rattle.process_tree.proofs.Branches.{Each-among, has_cases, has_here}
-use Rattle.process_tree.proofs.Fixed.{fixed_more}
+use Rattle.process_tree.proofs.Classes.{owed_commits}
+use Rattle.process_tree.proofs.Fixed.{fixed_more, fixed_le}
 use Rattle.process_tree.proofs.InTurn.{goes_up, goes_within}
 use Rattle.process_tree.proofs.Intervals.{Begins, begins_from, begins_to}
-use Rattle.process_tree.proofs.Kept.{fixed_le}
 use Rattle.process_tree.proofs.Numbers.{has_right, least_is, least_some, numbers_has, to_flat}
 use Rattle.process_tree.proofs.Onward.{branch_from, goes_along, onward_above}
-use Rattle.process_tree.proofs.TreeLaws.{ends_are_whole, owed_steps_are_retriable, paths_lie_in_order, ways_are_intervals}
+use Rattle.process_tree.proofs.TreeLaws.{ends_are_whole, paths_lie_in_order, ways_are_intervals}
 use Rattle.schedule_model.specs.Histories.{is_in}
 use Rattle.schedule_model.proofs.Active.{is_in-filter}
 use Rattle.machine_model.specs.Progress.{Progress, staying, staying_for, way_on}
@@ -192,8 +192,8 @@ module _ (s : Progress) (d : ℕ) (tree : IsTreeShape s.shape) (well : IsWellFor
     where
       begun : s.begun ≡ true → length (s.net ++ d ∷ []) ≤ staying (step_done s d)
       begun yes' =
-          let retriable = owed_steps_are_retriable s.shape tree well s.net d (first_has (forward s.shape s.net) (owed yes')) in
-          let fixed = fixed_more s.shape s.net d ∙ ap (λ k. if commits k then length s.net + 1 else fixed_len s.shape s.net) retriable in
+          let commits = owed_commits s.shape (paths_lie_in_order s.shape tree) well s.net d (first_has (forward s.shape s.net) (owed yes')) in
+          let fixed = fixed_more s.shape s.net d ∙ ap (λ c. if c then length s.net + 1 else fixed_len s.shape s.net) commits in
           let stays = staying-begun (step_done s d) yes' in
           let l = length_push s.net d in
           omega arith

@@ -12,12 +12,12 @@ use Rattle.process_tree.specs.Play.{kept_prefixes, kept_for}
 use Rattle.process_tree.proofs.Numbers.{least_is}
 use Rattle.process_tree.proofs.Every.{Each-map, Each-weaker}
 use Rattle.process_tree.specs.declared.entry.Entry.{Entry}
+use Rattle.process_tree.proofs.Fixed.{fixed_le}
 use Rattle.schedule_model.specs.Course.{Course}
 use Rattle.schedule_model.specs.Histories.{doing, undoing, is_in, steps_of}
 use Rattle.schedule_model.specs.OwnOrder.{is_of_last}
 use Rattle.schedule_model.proofs.Active.{is_in-filter}
 use Rattle.schedule_model.proofs.Appends.{is_in-append}
-use Rattle.schedule_model.proofs.Recoveries.{fixed_len-most}
 use Rattle.schedule_model.proofs.UndoPhase.{of_last}
 use Rattle.machine_model.specs.Progress.{Progress, above, staying, staying_for, way_on}
 use Rattle.machine_model.proofs.Counting.{found-any}
@@ -44,7 +44,7 @@ numbers_within lo (suc n) = ((omega arith, omega arith), Each-weaker (λ k. (lo 
 pub kept_are_kept : (t : Shape) (w : List ℕ) → Each (IsKeptPrefix t w) (kept_prefixes t w)
 kept_are_kept t w = Each-map (IsKeptPrefix t w) (λ k. take k w) (numbers_from (fixed_len t w) (length w - fixed_len t w + 1))
     (Each-weaker (λ k. (fixed_len t w ≤ k) × (k < fixed_len t w + (length w - fixed_len t w + 1))) (λ k. IsKeptPrefix t w (take k w))
-    (λ k is. let most = fixed_len-most t w in let a = is.0 in let b = is.1 in record { count = k; fixed = a; within = omega arith; is = refl })
+    (λ k is. let most = fixed_le t w in let a = is.0 in let b = is.1 in record { count = k; fixed = a; within = omega arith; is = refl })
     (numbers_from (fixed_len t w) (length w - fixed_len t w + 1)) (numbers_within (fixed_len t w) (length w - fixed_len t w + 1)))
 
 -- d is a way on of a process: it goes on from a kept beginning, and is at its bound or above
@@ -83,7 +83,7 @@ stays_by s (Some d) is = length_kept s.shape s.net (kept_for s.shape s.net d) (w
 
 stays_least : (s : Progress) (b whole : Bool) → fixed_len s.shape s.net ≤ (if b then fixed_len s.shape s.net else (if whole then length s.net else staying_for s (way_on s)))
 stays_least s true whole = omega arith
-stays_least s false true = fixed_len-most s.shape s.net
+stays_least s false true = fixed_le s.shape s.net
 stays_least s false false = stays_by s (way_on s) refl
 
 -- pending is a tail of what can be undone

@@ -21,15 +21,18 @@ use Rattle.machine_model.specs.Examples.{from_nothing, begun_in, begun_at, out, 
 
 -- the purchase is asked to complete, and takes the sale along that has built on it
 abbrev pub taken_along : List Call
-taken_along = shop_calls ++ abort 1 ∷ next ∷ finish 3 Done ∷ next ∷ finish 4 Done ∷ next ∷ finish 5 Done ∷ next ∷ finish 6 Done ∷ next ∷ abort 1 ∷ []
+taken_along = shop_calls ++ abort 1 ∷ next ∷ finish 3 Done ∷ next ∷ finish 4 Done ∷ next ∷ finish 5 Done ∷ next ∷ finish 6 Done
+    ∷ next ∷ abort 1 ∷ []
 
 pub taken_along_replies : (from_nothing taken_along).replies ≡
-    (from_nothing shop_calls).replies ++ aborted Ok ∷ turn 3 2 Undo 0 ∷ done_at 5 ∷ turn 4 1 Undo 0 ∷ done_at 6 ∷ turn 5 2 End 0 ∷ done_at 7
+    (from_nothing shop_calls).replies ++ aborted Ok ∷ turn 3 2 Undo 0 ∷ done_at 5 ∷ turn 4 1 Undo 0 ∷ done_at 6 ∷ turn 5 2 End 0
+    ∷ done_at 7
     ∷ turn 6 1 End 0 ∷ done_at 8 ∷ next_is all_ended ∷ aborted HasEnded ∷ []
 taken_along_replies = refl
 
 pub taken_along_kept : (from_nothing taken_along).machine.kept ≡
-    Start 1 ∷ Start 2 ∷ Hand 1 1 0 Forward ∷ Effect 1 ∷ Hand 2 2 0 Forward ∷ Effect 2 ∷ Abort 1 ∷ Hand 3 2 0 Undo ∷ Effect 3 ∷ Hand 4 1 0 Undo ∷ Effect 4
+    Start 1 ∷ Start 2 ∷ Hand 1 1 0 Forward ∷ Effect 1 ∷ Hand 2 2 0 Forward ∷ Effect 2 ∷ Abort 1 ∷ Hand 3 2 0 Undo ∷ Effect 3
+    ∷ Hand 4 1 0 Undo ∷ Effect 4
     ∷ Hand 5 2 0 End ∷ Effect 5 ∷ Hand 6 1 0 End ∷ Effect 6 ∷ []
 taken_along_kept = refl
 
@@ -57,13 +60,16 @@ in_the_midst = start addition ∷ start order ∷ admit 2 ∷ finish 1 Done ∷ 
     ∷ next ∷ finish 4 Done ∷ next ∷ finish 5 Done ∷ next ∷ finish 6 Done ∷ next ∷ finish 7 Done ∷ next ∷ finish 8 Done ∷ next ∷ []
 
 pub in_the_midst_replies : (from_nothing in_the_midst).replies ≡
-    started 1 ∷ started 2 ∷ out 1 2 Forward 0 ∷ done_at 3 ∷ out 2 1 Forward 0 ∷ done_at 4 ∷ out 3 2 Forward 1 ∷ done_at 5 ∷ aborted Ok
-    ∷ turn 4 2 Undo 1 ∷ done_at 6 ∷ turn 5 1 Undo 0 ∷ done_at 7 ∷ turn 6 2 Forward 4 ∷ done_at 8 ∷ turn 7 1 End 0 ∷ done_at 9 ∷ turn 8 2 End 0 ∷ done_at 10
+    started 1 ∷ started 2 ∷ out 1 2 Forward 0 ∷ done_at 3 ∷ out 2 1 Forward 0 ∷ done_at 4 ∷ out 3 2 Forward 1 ∷ done_at 5
+    ∷ aborted Ok
+    ∷ turn 4 2 Undo 1 ∷ done_at 6 ∷ turn 5 1 Undo 0 ∷ done_at 7 ∷ turn 6 2 Forward 4 ∷ done_at 8 ∷ turn 7 1 End 0 ∷ done_at 9
+    ∷ turn 8 2 End 0 ∷ done_at 10
     ∷ next_is all_ended ∷ []
 in_the_midst_replies = refl
 
 pub in_the_midst_kept : (from_nothing in_the_midst).machine.kept ≡
-    Start 1 ∷ Start 2 ∷ Hand 1 2 0 Forward ∷ Effect 1 ∷ Hand 2 1 0 Forward ∷ Effect 2 ∷ Hand 3 2 1 Forward ∷ Effect 3 ∷ Abort 1 ∷ Hand 4 2 1 Undo ∷ Effect 4
+    Start 1 ∷ Start 2 ∷ Hand 1 2 0 Forward ∷ Effect 1 ∷ Hand 2 1 0 Forward ∷ Effect 2 ∷ Hand 3 2 1 Forward ∷ Effect 3 ∷ Abort 1
+    ∷ Hand 4 2 1 Undo ∷ Effect 4
     ∷ Hand 5 1 0 Undo ∷ Effect 5 ∷ Hand 6 2 4 Forward ∷ Effect 6 ∷ Hand 7 1 0 End ∷ Effect 7 ∷ Hand 8 2 0 End ∷ Effect 8 ∷ []
 in_the_midst_kept = refl
 
@@ -89,14 +95,17 @@ half_undone = loose_purchase ∷ withdrawal ∷ []
 
 -- what had happened before it opened
 abbrev pub half_undone_opening : List Event
-half_undone_opening = Started 1 ∷ Started 2 ∷ did half_undone 1 0 ∷ did half_undone 1 1 ∷ undid half_undone 1 1 ∷ did half_undone 2 0 ∷ []
+half_undone_opening =
+    Started 1 ∷ Started 2 ∷ did half_undone 1 0 ∷ did half_undone 1 1 ∷ undid half_undone 1 1 ∷ did half_undone 2 0 ∷ []
 
 pub half_undone_is_legal : is_legal stock_table half_undone half_undone_opening ≡ true
 half_undone_is_legal = refl
 
-pub half_undone_begun : begun_in (session stock_table half_undone half_undone_opening (abort 1 ∷ [])) ≡ begun_at 1 1 Aborted ∷ begun_at 2 1 (Cascade 1) ∷ []
+pub half_undone_begun : begun_in (session stock_table half_undone half_undone_opening (abort 1 ∷ []))
+    ≡ begun_at 1 1 Aborted ∷ begun_at 2 1 (Cascade 1) ∷ []
 half_undone_begun = refl
 
-pub half_undone_replies : (session stock_table half_undone half_undone_opening (abort 1 ∷ next ∷ finish 1 Done ∷ next ∷ [])).replies ≡
+pub half_undone_replies :
+    (session stock_table half_undone half_undone_opening (abort 1 ∷ next ∷ finish 1 Done ∷ next ∷ [])).replies ≡
     aborted Ok ∷ turn 1 2 Undo 0 ∷ done_at 7 ∷ turn 2 1 Undo 0 ∷ []
 half_undone_replies = refl

@@ -11,7 +11,8 @@ use Rattle.machine_model.specs.declared.kept.Work.TheVariants.{Forward, Undo, En
 use Rattle.machine_model.specs.declared.kept.Kept.{Kept}
 use Rattle.machine_model.specs.declared.kept.Kept.TheVariants.{Start, Hand, Effect, Refuse, Abort, Victim, Restart}
 use Rattle.machine_model.specs.declared.began.Cause.{Cause}
-use Rattle.machine_model.specs.declared.began.Cause.TheVariants.{Refused, Abort as Aborted', Cascade, Victim as Victim', Restart as Restarted}
+use Rattle.machine_model.specs.declared.began.Cause.TheVariants.{Refused, Abort as Aborted', Cascade, Victim as Victim'}
+use Rattle.machine_model.specs.declared.began.Cause.TheVariants.{Restart as Restarted}
 use Rattle.machine_model.specs.Cascade.{cascade}
 use Rattle.machine_model.specs.Progress.{way_on}
 use Rattle.machine_model.specs.Moment.{Moment, Piece, noted, happened, begins, all_begin}
@@ -48,7 +49,8 @@ step_refused table courses m i b =
 -- step b of process i or its undo was refused: a step that can be refused leads to another way or back, and all else is
 -- tried again
 abbrev pub work_refused : ConflictRelation → List Course → Moment → ℕ → ℕ → Work → Moment
-work_refused table courses m i b Forward = if can_be_refused (kind_of (shape courses i) b) then step_refused table courses m i b else m
+work_refused table courses m i b Forward =
+    if can_be_refused (kind_of (shape courses i) b) then step_refused table courses m i b else m
 work_refused table courses m i b Undo = m
 work_refused table courses m i b End = m
 

@@ -19,8 +19,11 @@ pub added_before_owed : (from_nothing (start prepaid ∷ start addition ∷ admi
 added_before_owed = refl
 
 -- A2: the purchase would build on the sale, which builds on the purchase by the step that is under way
-pub circle : (from_nothing (start loose_purchase ∷ start loose_sale ∷ admit 1 ∷ finish 1 Done ∷ admit 2 ∷ finish 2 Done ∷ admit 2 ∷ admit 1 ∷ [])).replies ≡
-    started 1 ∷ started 2 ∷ out 1 1 Forward 0 ∷ done_at 3 ∷ out 2 2 Forward 0 ∷ done_at 4 ∷ out 3 2 Forward 1 ∷ blocked_on 2 0 1 A2 ∷ []
+pub circle : (from_nothing
+    (start loose_purchase ∷ start loose_sale ∷ admit 1 ∷ finish 1 Done ∷ admit 2 ∷ finish 2 Done ∷ admit 2 ∷ admit 1
+    ∷ [])).replies ≡
+    started 1 ∷ started 2 ∷ out 1 1 Forward 0 ∷ done_at 3 ∷ out 2 2 Forward 0 ∷ done_at 4 ∷ out 3 2 Forward 1 ∷ blocked_on 2 0 1 A2
+    ∷ []
 circle = refl
 
 -- a purchase adds, a sale takes, and then the sale would be paid
@@ -48,7 +51,8 @@ pub undone_too_early : (from_nothing (shop_calls ++ abort 1 ∷ admit 1 ∷ []))
 undone_too_early = refl
 
 -- two processes that don't conflict go on side by side, each at its own pace
-pub side_by_side : (from_nothing (start purchase ∷ start delivery ∷ admit 1 ∷ finish 1 Done ∷ admit 2 ∷ finish 2 Done ∷ admit 2 ∷ finish 3 Done
+pub side_by_side : (from_nothing
+    (start purchase ∷ start delivery ∷ admit 1 ∷ finish 1 Done ∷ admit 2 ∷ finish 2 Done ∷ admit 2 ∷ finish 3 Done
     ∷ admit 1 ∷ finish 4 Done ∷ admit 2 ∷ finish 5 Done ∷ admit 1 ∷ finish 6 Done ∷ [])).replies ≡
     started 1 ∷ started 2 ∷ out 1 1 Forward 0 ∷ done_at 3 ∷ out 2 2 Forward 0 ∷ done_at 4 ∷ out 3 2 Forward 1 ∷ done_at 5
     ∷ out 4 1 Forward 1 ∷ done_at 6 ∷ out 5 2 End 0 ∷ done_at 7 ∷ out 6 1 End 0 ∷ done_at 8 ∷ []

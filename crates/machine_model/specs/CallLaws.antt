@@ -25,7 +25,8 @@ BeginningsOfRunsAreRuns = (table : ConflictRelation) (h : List Event) (courses :
 
 -- What a call other than a start keeps makes a longer run.
 abbrev pub CallsKeepRuns : Type 0
-CallsKeepRuns = (table : ConflictRelation) (s : Machine) (c : Call) → IsNoStart c → IsTrue (is_run table s) → IsTrue (is_run table (answered s (answer table s c)))
+CallsKeepRuns = (table : ConflictRelation) (s : Machine) (c : Call) → IsNoStart c → IsTrue (is_run table s)
+    → IsTrue (is_run table (answered s (answer table s c)))
 
 -- Victims run dry: with those made that a request makes, there is no other, and more than so many are never made.
 abbrev pub VictimsRunDry : Type 0
@@ -38,17 +39,20 @@ VictimsRunDry = (table : ConflictRelation) (courses : List Course) (m : Moment)
 pub record IsStuck (table : ConflictRelation) (courses : List Course) (m : Moment) (i : ℕ) : Type 0 where
   pub some_active : active m.events ≢ []
   pub nothing_runs : m.out ≡ []
-  pub nobody_goes : (k : ℕ) → IsTrue (is_active m.events k) → IsTrue (is_exhausted courses m k) ⊎ (IsTrue (has_begun m k) × IsTrue (is_blocked table courses m k))
+  pub nobody_goes : (k : ℕ) → IsTrue (is_active m.events k)
+      → IsTrue (is_exhausted courses m k) ⊎ (IsTrue (has_begun m k) × IsTrue (is_blocked table courses m k))
   pub least : i ≡ least_exhausted courses m
 
 -- A request for any piece answers so exactly where it is so after the victims that it makes.
 abbrev pub StuckIsExact : Type 0
 StuckIsExact = (table : ConflictRelation) (courses : List Course) (m : Moment) (served i : ℕ)
-    → ((answer_next table courses m served).reply ≡ next_is (stuck i)) ↔ IsStuck table courses (advance_all table courses m (all_victims table courses m)) i
+    → ((answer_next table courses m served).reply ≡ next_is (stuck i)) ↔ IsStuck table courses
+    (advance_all table courses m (all_victims table courses m)) i
 
 -- Turns make a run: where nothing was queued at first, what they keep makes a longer one.
 abbrev pub TurnsMakeRuns : Type 0
-TurnsMakeRuns = (table : ConflictRelation) (subsystems : Subsystems) (b last : Board) (ts : List Turn) → b.group ≡ [] → IsTrue (is_run table b.machine)
+TurnsMakeRuns = (table : ConflictRelation) (subsystems : Subsystems) (b last : Board) (ts : List Turn) → b.group ≡ []
+    → IsTrue (is_run table b.machine)
     → AreTurns table subsystems b ts last → IsTrue (is_run table last.machine)
 
 -- A flush keeps an effect for each piece of the group that runs, in order.
@@ -57,5 +61,6 @@ FlushesKeepWhatRuns = (m : Moment) (group : List ℕ) → flush_kept m group ≡
 
 -- Whatever is queued is out or was dropped, so that a flush tells of each piece where its event stands or when it was dropped.
 abbrev pub QueuedAreOutOrDropped : Type 0
-QueuedAreOutOrDropped = (table : ConflictRelation) (subsystems : Subsystems) (b last : Board) (ts : List Turn) → b.group ≡ [] → IsTrue (is_run table b.machine)
+QueuedAreOutOrDropped = (table : ConflictRelation) (subsystems : Subsystems) (b last : Board) (ts : List Turn) → b.group ≡ []
+    → IsTrue (is_run table b.machine)
     → AreTurns table subsystems b ts last → (n : ℕ) → IsTrue (is_in n last.group) → state_of (now table last.machine) n ≢ Over

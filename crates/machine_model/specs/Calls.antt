@@ -13,7 +13,9 @@ use Rattle.machine_model.specs.declared.replies.Aborted.TheVariants.{Ok, Unknown
 use Rattle.machine_model.specs.Moment.{Moment}
 use Rattle.machine_model.specs.Advance.{Machine, advance_all}
 use Rattle.machine_model.specs.Runs.{start_refusal, may_be_kept, now}
-use Rattle.machine_model.specs.Replies.{Admit, piece, blocked, running, unknown, ended, exhausted, admit_reply, Next, chosen, wait, all_ended, stuck, next_reply, all_victims, Finish, finish_reply, finish_kept, abort_reply, kept_hand}
+use Rattle.machine_model.specs.Replies.{Admit, piece, blocked, running, unknown, ended, exhausted, admit_reply, Next, chosen, wait}
+use Rattle.machine_model.specs.Replies.{all_ended, stuck, next_reply, all_victims, Finish, finish_reply, finish_kept, abort_reply}
+use Rattle.machine_model.specs.Replies.{kept_hand}
 
 -- what the machine may be asked
 pub data Call : Type 0 where
@@ -124,7 +126,13 @@ answer_abort courses m served i =
 -- that all complete is kept where an active process has not begun to
 abbrev pub answer_complete_all : ConflictRelation → List Course → Moment → ℕ → Answer
 answer_complete_all table courses m served =
-    record { reply = all_complete; kept = if may_be_kept table courses m Restart then Restart ∷ [] else []; courses = []; served = served }
+    record {
+      reply =
+          all_complete;
+      kept = if may_be_kept table courses m Restart then Restart ∷ [] else [];
+      courses = [];
+      served = served;
+    }
 
 -- the answer to a call
 abbrev pub answer_at : ConflictRelation → List Course → Moment → ℕ → Call → Answer
@@ -157,4 +165,5 @@ called table s (c ∷ cs) =
 
 -- a session that opens on this history
 abbrev pub session : ConflictRelation → List Course → List Event → List Call → Session
-session table courses h cs = called table (record { machine = record { opening = h; courses = courses; kept = []; served = 0 }; replies = [] }) cs
+session table courses h cs =
+    called table (record { machine = record { opening = h; courses = courses; kept = []; served = 0 }; replies = [] }) cs

@@ -6,7 +6,8 @@ use Rattle.schedule_model.specs.Histories.{active, is_in}
 use Rattle.machine_model.specs.declared.kept.Kept.{Kept}
 use Rattle.machine_model.specs.declared.kept.Kept.TheVariants.{Start, Hand, Effect, Refuse, Abort, Victim, Restart}
 use Rattle.machine_model.specs.declared.began.Cause.{Cause}
-use Rattle.machine_model.specs.declared.began.Cause.TheVariants.{Refused, Abort as WasAborted, Cascade, Victim as WasVictim, Restart as Restarted}
+use Rattle.machine_model.specs.declared.began.Cause.TheVariants.{Refused, Abort as WasAborted, Cascade, Victim as WasVictim}
+use Rattle.machine_model.specs.declared.began.Cause.TheVariants.{Restart as Restarted}
 use Rattle.machine_model.specs.Progress.{is_only_try, way_on}
 use Rattle.machine_model.specs.Moment.{Moment, Piece, Beginning, beginning_of, noted, begins}
 use Rattle.machine_model.specs.Pieces.{piece_of}
@@ -28,7 +29,8 @@ after_refusal courses m p = if is_none (way_on (progress courses m p.process)) t
 -- the refusal of this piece left its process i no way on, or process i is dragged along by that process
 abbrev pub IsRefusedBy : ConflictRelation → List Course → Moment → Piece → ℕ → Cause → Type 0
 IsRefusedBy table courses m p i cause =
-    ((i ≡ p.process) × (cause ≡ Refused p.step) × IsTrue (is_none (way_on (progress courses m p.process)))) ⊎ IsDragged table courses (after_refusal courses m p) p.process i cause
+    ((i ≡ p.process) × (cause ≡ Refused p.step) × IsTrue (is_none (way_on (progress courses m p.process))))
+    ⊎ IsDragged table courses (after_refusal courses m p) p.process i cause
 
 -- why process i begins to complete at this kept event, which is noted already
 abbrev pub HasCause : ConflictRelation → List Course → Moment → Kept → ℕ → Cause → Type 0
@@ -36,18 +38,21 @@ HasCause table courses m (Start j) i cause = ⊥
 HasCause table courses m (Hand piece process step work) i cause = ⊥
 HasCause table courses m (Effect n) i cause = ⊥
 HasCause table courses m (Refuse n) i cause =
-    (p : Piece) × (piece_of m.kept n ≡ Some p) × IsTrue (is_only_try (shape courses p.process) p.step p.work) × IsRefusedBy table courses m p i cause
+    (p : Piece) × (piece_of m.kept n ≡ Some p) × IsTrue (is_only_try (shape courses p.process) p.step p.work)
+    × IsRefusedBy table courses m p i cause
 HasCause table courses m (Abort j) i cause = GoesBackBy table courses m WasAborted j i cause
 HasCause table courses m (Victim j) i cause = GoesBackBy table courses m WasVictim j i cause
 HasCause table courses m Restart i cause = (cause ≡ Restarted) × IsTrue (is_in i (active m.events))
 
 -- A process begins to complete with the cause that the kept event is, and at its number.
 abbrev pub BeginningsHaveCauses : Type 0
-BeginningsHaveCauses = (table : ConflictRelation) (courses : List Course) (m : Moment) (k : Kept) (i : ℕ) (b : Beginning) → beginning_of m i ≡ None
+BeginningsHaveCauses = (table : ConflictRelation) (courses : List Course) (m : Moment) (k : Kept) (i : ℕ) (b : Beginning)
+    → beginning_of m i ≡ None
     → beginning_of (advance table courses m k) i ≡ Some b
     → (b.process ≡ i) × (b.began.event ≡ length m.kept + 1) × HasCause table courses (noted m k) k i b.began.cause
 
 -- What began stays as it began.
 abbrev pub BeginningsStay : Type 0
-BeginningsStay = (table : ConflictRelation) (courses : List Course) (m : Moment) (k : Kept) (i : ℕ) (b : Beginning) → beginning_of m i ≡ Some b
+BeginningsStay = (table : ConflictRelation) (courses : List Course) (m : Moment) (k : Kept) (i : ℕ) (b : Beginning)
+    → beginning_of m i ≡ Some b
     → beginning_of (advance table courses m k) i ≡ Some b

@@ -10,7 +10,8 @@ use Rattle.machine_model.specs.declared.kept.Work.TheVariants.{Forward}
 use Rattle.machine_model.specs.Moment.{Moment}
 use Rattle.machine_model.specs.Runs.{now}
 use Rattle.machine_model.specs.Calls.{start, admit, finish, abort, Session}
-use Rattle.machine_model.specs.Groups.{Subsystems, queue_reply, queued, full, over, no_refusal, as_done, as_refused, flush_kept, flush_reply, effected, dropped_at_event}
+use Rattle.machine_model.specs.Groups.{Subsystems, queue_reply, queued, full, over, no_refusal, as_done, as_refused, flush_kept}
+use Rattle.machine_model.specs.Groups.{flush_reply, effected, dropped_at_event}
 use Rattle.machine_model.specs.Turns.{Board, queues, flushes, says, IsTurn, AreTurns, FlushesAreDue}
 use Rattle.machine_model.specs.Examples.{from_nothing}
 
@@ -52,7 +53,8 @@ flushed_places = refl
 abbrev pub two_additions : Session
 two_additions = from_nothing (start addition ∷ start addition ∷ admit 1 ∷ admit 2 ∷ [])
 
-pub second_is_full : queue_reply stock_table stores two_additions.machine.courses (now stock_table two_additions.machine) (1 ∷ []) 2 as_done ≡ full
+pub second_is_full : queue_reply stock_table stores two_additions.machine.courses (now stock_table two_additions.machine)
+    (1 ∷ []) 2 as_done ≡ full
 second_is_full = refl
 
 -- a queued piece whose process is asked to complete before the flush is dropped, and the flush keeps nothing of it
@@ -62,12 +64,18 @@ dropped_while_queued = now stock_table (from_nothing (start addition ∷ admit 1
 pub dropped_kept : flush_kept dropped_while_queued (1 ∷ []) ≡ []
 dropped_kept = refl
 
-pub dropped_reply : flush_reply dropped_while_queued (length dropped_while_queued.events) (1 ∷ []) ≡ record { piece = 1; ending = dropped_at_event 3 } ∷ []
+pub dropped_reply : flush_reply dropped_while_queued (length dropped_while_queued.events) (1 ∷ [])
+    ≡ record { piece = 1; ending = dropped_at_event 3 } ∷ []
 dropped_reply = refl
 
 -- the same as one history of turns: two pieces are queued, and a flush says that both took effect
 abbrev pub board : List Kept → List ℕ → Board
-board ks group = record { machine = record { opening = []; courses = addition ∷ payment ∷ []; kept = ks; served = 0 }; group = group; closed = None }
+board ks group =
+    record {
+      machine = record { opening = []; courses = addition ∷ payment ∷ []; kept = ks; served = 0 };
+      group = group;
+      closed = None;
+    }
 
 -- both pieces were handed out
 abbrev pub both_handed : List Kept
@@ -80,13 +88,15 @@ both_done = Start 1 ∷ Start 2 ∷ Hand 1 1 0 Forward ∷ Hand 2 2 0 Forward �
 pub first_turn : IsTurn stock_table stores (board both_handed []) (queues 1 Done (says queued)) (board both_handed (1 ∷ []))
 first_turn = ((as_done, refl, refl), refl)
 
-pub second_turn : IsTurn stock_table stores (board both_handed (1 ∷ [])) (queues 2 Done (says queued)) (board both_handed (1 ∷ 2 ∷ []))
+pub second_turn : IsTurn stock_table stores (board both_handed (1 ∷ [])) (queues 2 Done (says queued))
+    (board both_handed (1 ∷ 2 ∷ []))
 second_turn = ((as_done, refl, refl), refl)
 
 pub third_turn : IsTurn stock_table stores (board both_handed (1 ∷ 2 ∷ [])) (flushes (says 2)) (board both_done [])
 third_turn = (refl, refl)
 
-pub are_turns : AreTurns stock_table stores (board both_handed []) (queues 1 Done (says queued) ∷ queues 2 Done (says queued) ∷ flushes (says 2) ∷ []) (board both_done [])
+pub are_turns : AreTurns stock_table stores (board both_handed [])
+    (queues 1 Done (says queued) ∷ queues 2 Done (says queued) ∷ flushes (says 2) ∷ []) (board both_done [])
 are_turns = ((first_turn.0, (second_turn.0, (third_turn.0, tt))), refl)
 
 -- no flush was due: none had found the group full, and none had waited
@@ -101,8 +111,10 @@ flush_due = (tt, (refl, tt))
 abbrev pub end_under_way : Session
 end_under_way = from_nothing (start addition ∷ admit 1 ∷ finish 1 Done ∷ admit 1 ∷ [])
 
-pub end_not_refused : queue_reply stock_table stores end_under_way.machine.courses (now stock_table end_under_way.machine) [] 2 as_refused ≡ no_refusal
+pub end_not_refused : queue_reply stock_table stores end_under_way.machine.courses
+    (now stock_table end_under_way.machine) [] 2 as_refused ≡ no_refusal
 end_not_refused = refl
 
-pub end_queued : queue_reply stock_table stores end_under_way.machine.courses (now stock_table end_under_way.machine) [] 2 as_done ≡ queued
+pub end_queued : queue_reply stock_table stores end_under_way.machine.courses (now stock_table end_under_way.machine) [] 2 as_done
+    ≡ queued
 end_queued = refl

@@ -1,5 +1,6 @@
 -- What each kept event does to the net, and to what its own process has under way, owes and has to undo, as statements.
-use Rattle.std.specs.Prelude.{◌≡◌, ℕ, true, false, not, ◌&&◌, List, [], ◌∷◌, ◌++◌, filter, nat_eq, IsTrue, Option, Some, None, if◌then◌else◌}
+use Rattle.std.specs.Prelude.{◌≡◌, ℕ, true, false, not, ◌&&◌, List, [], ◌∷◌, ◌++◌, filter, nat_eq, IsTrue, Option, Some, None}
+use Rattle.std.specs.Prelude.{if◌then◌else◌}
 use Rattle.process_tree.specs.declared.entry.Entry.{Entry}
 use Rattle.process_tree.specs.declared.plan.Plan.{Plan}
 use Rattle.process_tree.specs.Recovery.{reserved, committing, undoable}
@@ -50,15 +51,18 @@ running_by_piece k i r (Some p) = r
 -- What a process has under way goes by its own pieces: a hand puts one under way, an effect and a refusal end it, and where the
 -- process begins to complete it stops.
 abbrev pub RunningGoesByPieces : Type 0
-RunningGoesByPieces = (table : ConflictRelation) (s : Machine) (k : Kept) (i : ℕ) → IsTrue (is_run table s) → IsTrue (may_be_kept table s.courses (now table s) k)
+RunningGoesByPieces = (table : ConflictRelation) (s : Machine) (k : Kept) (i : ℕ) → IsTrue (is_run table s)
+    → IsTrue (may_be_kept table s.courses (now table s) k)
     → let m = now table s in
     let after = advance table s.courses m k in
-    running_of after i ≡ (if has_begun after i && not (has_begun m i) then None else running_by_piece k i (running_of m i) (piece_touched s.kept k))
+    running_of after i ≡ (if has_begun after i && not (has_begun m i) then None
+    else running_by_piece k i (running_of m i) (piece_touched s.kept k))
 
 -- A hand puts the entry of the piece under way and reserves what the piece will make its process owe; all else that the process
 -- holds stays. Nothing of it was under way before.
 abbrev pub HandsReserve : Type 0
-HandsReserve = (table : ConflictRelation) (s : Machine) (n i b : ℕ) (w : Work) → IsTrue (is_run table s) → IsTrue (may_be_kept table s.courses (now table s) (Hand n i b w))
+HandsReserve = (table : ConflictRelation) (s : Machine) (n i b : ℕ) (w : Work) → IsTrue (is_run table s)
+    → IsTrue (may_be_kept table s.courses (now table s) (Hand n i b w))
     → let m = now table s in
     let before = hold_of s.courses m i in
     (before.running ≡ None) × (hold_of s.courses (advance table s.courses m (Hand n i b w)) i
@@ -72,7 +76,8 @@ HandsReserve = (table : ConflictRelation) (s : Machine) (n i b : ℕ) (w : Work)
 
 -- Where a process begins to complete, it stops, owes what its net makes it owe, and has all to undo that can be undone.
 abbrev pub BeginningsStop : Type 0
-BeginningsStop = (table : ConflictRelation) (s : Machine) (k : Kept) (i : ℕ) → IsTrue (is_run table s) → IsTrue (may_be_kept table s.courses (now table s) k)
+BeginningsStop = (table : ConflictRelation) (s : Machine) (k : Kept) (i : ℕ) → IsTrue (is_run table s)
+    → IsTrue (may_be_kept table s.courses (now table s) k)
     → let m = now table s in
     let after = advance table s.courses m k in
     has_begun m i ≡ false → has_begun after i ≡ true
@@ -86,7 +91,8 @@ BeginningsStop = (table : ConflictRelation) (s : Machine) (k : Kept) (i : ℕ) �
 
 -- From then on all that it can undo is pending.
 abbrev pub BegunUndoAll : Type 0
-BegunUndoAll = (courses : List Course) (m : Moment) (i : ℕ) → has_begun m i ≡ true → (hold_of courses m i).pending ≡ (hold_of courses m i).backward_entries
+BegunUndoAll = (courses : List Course) (m : Moment) (i : ℕ) → has_begun m i ≡ true
+    → (hold_of courses m i).pending ≡ (hold_of courses m i).backward_entries
 
 -- the effect of step b of process i, by what the process held and holds
 pub record StepTakesEffect (courses : List Course) (m after : Moment) (i b : ℕ) (h g : Hold) : Type 0 where
@@ -107,7 +113,8 @@ pub record StepTakesEffect (courses : List Course) (m after : Moment) (i b : ℕ
 
 -- So it is at the effect of each step.
 abbrev pub StepsTakeEffect : Type 0
-StepsTakeEffect = (table : ConflictRelation) (plans : List Plan) (s : Machine) (n number i b : ℕ) → IsSession table plans s → IsTrue (may_be_kept table s.courses (now table s) (Effect n))
+StepsTakeEffect = (table : ConflictRelation) (plans : List Plan) (s : Machine) (n number i b : ℕ) → IsSession table plans s
+    → IsTrue (may_be_kept table s.courses (now table s) (Effect n))
     → piece_of s.kept n ≡ Some (record { number = number; process = i; step = b; work = Forward })
     → let m = now table s in
     let after = advance table s.courses m (Effect n) in
@@ -127,20 +134,23 @@ pub record UndoTakesEffect (courses : List Course) (i b : ℕ) (h g : Hold) : Ty
 
 -- So it is at the effect of each undo.
 abbrev pub UndosTakeEffect : Type 0
-UndosTakeEffect = (table : ConflictRelation) (plans : List Plan) (s : Machine) (n number i b : ℕ) → IsSession table plans s → IsTrue (may_be_kept table s.courses (now table s) (Effect n))
+UndosTakeEffect = (table : ConflictRelation) (plans : List Plan) (s : Machine) (n number i b : ℕ) → IsSession table plans s
+    → IsTrue (may_be_kept table s.courses (now table s) (Effect n))
     → piece_of s.kept n ≡ Some (record { number = number; process = i; step = b; work = Undo })
     → let m = now table s in
     UndoTakesEffect s.courses i b (hold_of s.courses m i) (hold_of s.courses (advance table s.courses m (Effect n)) i)
 
 -- At the effect of its end a process goes, and nobody else.
 abbrev pub EndsGo : Type 0
-EndsGo = (table : ConflictRelation) (s : Machine) (n number i b : ℕ) → piece_of s.kept n ≡ Some (record { number = number; process = i; step = b; work = End })
+EndsGo = (table : ConflictRelation) (s : Machine) (n number i b : ℕ)
+    → piece_of s.kept n ≡ Some (record { number = number; process = i; step = b; work = End })
     → let m = now table s in
     active (advance table s.courses m (Effect n)).events ≡ filter (λ k. not (nat_eq k i)) (active m.events)
 
 -- A start adds its process behind the active ones, and it holds nothing yet.
 abbrev pub StartsHoldNothing : Type 0
-StartsHoldNothing = (table : ConflictRelation) (plans : List Plan) (s : Machine) (i : ℕ) → IsSession table plans s → IsTrue (may_be_kept table s.courses (now table s) (Start i))
+StartsHoldNothing = (table : ConflictRelation) (plans : List Plan) (s : Machine) (i : ℕ) → IsSession table plans s
+    → IsTrue (may_be_kept table s.courses (now table s) (Start i))
     → let m = now table s in
     let after = advance table s.courses m (Start i) in
     (active after.events ≡ active m.events ++ i ∷ [])

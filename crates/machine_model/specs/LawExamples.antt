@@ -18,18 +18,21 @@ use Rattle.machine_model.specs.Examples.{from_nothing}
 -- A session that opens in the midst of an undo: the addition of the purchase is the last pending entry, and yet its undo is
 -- blocked, since the withdrawal has built on it and need not go back.
 pub last_pending_blocked : (undo_next half_undone (opening_moment half_undone_opening) ≡ Some 1)
-    × (block_of stock_table half_undone (opening_moment half_undone_opening) 1 ≡ Some (record { on = 2; other = 0; own = 0; rule = A5 }))
+    × (block_of stock_table half_undone (opening_moment half_undone_opening) 1
+    ≡ Some (record { on = 2; other = 0; own = 0; rule = A5 }))
 last_pending_blocked = (refl, refl)
 
 -- With a restart the withdrawal goes back too, and nothing blocks whoever comes next.
-pub free_after_restart : (next_in_restart half_undone (advance stock_table half_undone (opening_moment half_undone_opening) Restart) ≡ Some 2)
+pub free_after_restart :
+    (next_in_restart half_undone (advance stock_table half_undone (opening_moment half_undone_opening) Restart) ≡ Some 2)
     × (block_of stock_table half_undone (advance stock_table half_undone (opening_moment half_undone_opening) Restart) 2 ≡ None)
 free_after_restart = (refl, refl)
 
 -- An order pays, takes from the stock, and can't ship; so it undoes the taking, to go another way. The undo is refused twice and
 -- out for its last try when the order is asked to complete: that piece is dropped, and the undo is handed out once more.
 abbrev pub dropped_undo : List Call
-dropped_undo = start order ∷ admit 1 ∷ finish 1 Done ∷ admit 1 ∷ finish 2 Done ∷ admit 1 ∷ finish 3 Refused ∷ admit 1 ∷ finish 4 Refused ∷ admit 1
+dropped_undo = start order ∷ admit 1 ∷ finish 1 Done ∷ admit 1 ∷ finish 2 Done ∷ admit 1 ∷ finish 3 Refused ∷ admit 1
+    ∷ finish 4 Refused ∷ admit 1
     ∷ finish 5 Refused ∷ admit 1 ∷ abort 1 ∷ admit 1 ∷ []
 
 -- the undo of step 1 may be tried three times, and is handed out four times

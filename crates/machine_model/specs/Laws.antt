@@ -1,11 +1,12 @@
 -- The laws of the machine, as statements.
-use Rattle.std.specs.Prelude.{◌≡◌, ◌≢◌, ◌⊎◌, ◌↔◌, ◌≤◌, ℕ, ◌+◌, true, false, not, List, [], ◌∷◌, ◌++◌, length, IsTrue, Some, None, Option}
+use Rattle.std.specs.Prelude.{◌≡◌, ◌≢◌, ◌⊎◌, ◌↔◌, ◌≤◌, ℕ, ◌+◌, true, false, not, List, [], ◌∷◌, ◌++◌, length, IsTrue, Some, None}
+use Rattle.std.specs.Prelude.{Option}
 use Rattle.std.specs.Option.{option_or}
 use Rattle.std.specs.List.{Contains, list_any, sum_by}
 use Rattle.process_tree.specs.declared.entry.Entry.{Entry}
 use Rattle.process_tree.specs.declared.plan.Plan.{Plan}
 use Rattle.process_tree.specs.declared.step.StepKind.{StepKind}
-use Rattle.process_tree.specs.declared.step.StepKind.TheVariants.{C, P, R}
+use Rattle.process_tree.specs.declared.step.StepKind.TheVariants.{C, P, R, Cr}
 use Rattle.process_tree.specs.Blocks.{numbers_from}
 use Rattle.process_tree.specs.Recovery.{committing, reserved}
 use Rattle.process_tree.specs.Shape.{kind_of, first_of}
@@ -29,7 +30,8 @@ use Rattle.machine_model.specs.Blocks.{blocks_of, least_block}
 use Rattle.machine_model.specs.Cascade.{IsCascade, cascade}
 use Rattle.machine_model.specs.Moment.{Moment, Piece, has_begun}
 use Rattle.machine_model.specs.Pieces.{hands, running_of}
-use Rattle.machine_model.specs.State.{against_task, against_work, block_of, hold_of, holdings, is_exhausted, is_pending, next_of, pending_of, undo_next}
+use Rattle.machine_model.specs.State.{against_task, against_work, block_of, hold_of, holdings, is_exhausted, is_pending, next_of}
+use Rattle.machine_model.specs.State.{pending_of, undo_next}
 use Rattle.machine_model.specs.Advance.{Machine, advance, cascade_of, event_by}
 use Rattle.machine_model.specs.Runs.{history, is_run, now}
 use Rattle.machine_model.specs.Replies.{stuck}
@@ -70,15 +72,18 @@ pub record AdmissionLaws (table : ConflictRelation) (s : Machine) : Type 0 where
   -- the conflict graph has no circle
   pub no_circle : (i : ℕ) → reaches table (holdings s.courses (now table s)) i i ≡ false
   -- an undo is blocked by A5 alone
-  pub undo_by_rule : (i : ℕ) (b : Blocked) → (next_of s.courses (now table s) i).work ≡ Undo → block_of table s.courses (now table s) i ≡ Some b → b.rule ≡ A5
+  pub undo_by_rule : (i : ℕ) (b : Blocked) → (next_of s.courses (now table s) i).work ≡ Undo
+      → block_of table s.courses (now table s) i ≡ Some b → b.rule ≡ A5
   -- a step that its process owes is never blocked
   pub owed_is_free : (i : ℕ) → IsTrue (is_active (history table s) i) → (next_of s.courses (now table s) i).work ≡ Forward
-      → class_in s.courses (history table s) i (next_of s.courses (now table s) i).step ≡ reserved → block_of table s.courses (now table s) i ≡ None
+      → class_in s.courses (history table s) i (next_of s.courses (now table s) i).step ≡ reserved
+      → block_of table s.courses (now table s) i ≡ None
   -- nor is the end of a process that has nothing left to undo
   pub end_is_free : (i : ℕ) → IsTrue (is_active (history table s) i) → (next_of s.courses (now table s) i).work ≡ End
       → backward_entries s.courses (history table s) i ≡ [] → block_of table s.courses (now table s) i ≡ None
   -- nor is the undo of the last pending entry in joint order, where the machine opened at rest or all have begun
-  pub last_pending_is_free : (i : ℕ) → OpenedAtRest s ⊎ AllHaveBegun (now table s) → undo_next s.courses (now table s) ≡ Some i → block_of table s.courses (now table s) i ≡ None
+  pub last_pending_is_free : (i : ℕ) → OpenedAtRest s ⊎ AllHaveBegun (now table s) → undo_next s.courses (now table s) ≡ Some i
+      → block_of table s.courses (now table s) i ≡ None
 
 -- They hold at each moment of a run.
 abbrev pub AdmissionLawsHold : Type 0
@@ -98,28 +103,36 @@ pub record StandingFacts (table : ConflictRelation) (s : Machine) : Type 0 where
   -- what is reserved conflicts with no net entry, running step or reserved step of another active process
   pub reserved_is_free : (i k : ℕ) (r e : Entry) → IsTrue (is_active (history table s) i) → IsTrue (is_active (history table s) k)
       → Contains (hold_of s.courses (now table s) i).reserved r
-      → Contains (net_of (history table s) k ++ (hold_of s.courses (now table s) k).reserved) e ⊎ IsRunningStep (now table s) s.courses k e → conflict table r e ≡ false
+      → Contains (net_of (history table s) k ++ (hold_of s.courses (now table s) k).reserved) e
+      ⊎ IsRunningStep (now table s) s.courses k e → conflict table r e ≡ false
   -- before a net entry that can't be undone stands no net entry of another active process that conflicts
   pub fixed_is_free : (i k : ℕ) (x e : Entry) → IsTrue (is_active (history table s) i) → IsTrue (is_active (history table s) k)
-      → Contains (net_of (history table s) k) x → Contains (net_of (history table s) i) e → IsTrue (not (list_any (same_step e) (backward_entries s.courses (history table s) i)))
+      → Contains (net_of (history table s) k) x → Contains (net_of (history table s) i) e
+      → IsTrue (not (list_any (same_step e) (backward_entries s.courses (history table s) i)))
       → Contains (behind x (net (history table s))) e → conflict table x e ≡ false
   -- running steps don't conflict
-  pub running_are_free : (i k : ℕ) (d e : Entry) → IsRunningStep (now table s) s.courses i d → IsRunningStep (now table s) s.courses k e → conflict table d e ≡ false
+  pub running_are_free : (i k : ℕ) (d e : Entry) → IsRunningStep (now table s) s.courses i d
+      → IsRunningStep (now table s) s.courses k e → conflict table d e ≡ false
   -- a pending entry conflicts with no running step
-  pub pending_is_free : (i k : ℕ) (x e : Entry) → IsTrue (is_active (history table s) i) → Contains (pending_of s.courses (now table s) i) x
+  pub pending_is_free : (i k : ℕ) (x e : Entry) → IsTrue (is_active (history table s) i)
+      → Contains (pending_of s.courses (now table s) i) x
       → IsRunningStep (now table s) s.courses k e → conflict table x e ≡ false
   -- while a piece runs that fixes what i has done, no net entry of another active process conflicts with it, or stands before a
   -- net entry of i and conflicts with that
-  pub fixing_is_free : (i k : ℕ) (x e : Entry) → IsFixing (now table s) s.courses i → IsTrue (is_active (history table s) k) → Contains (net_of (history table s) k) x
-      → IsRunningStep (now table s) s.courses i e ⊎ (Contains (net_of (history table s) i) e × Contains (behind x (net (history table s))) e) → conflict table x e ≡ false
+  pub fixing_is_free : (i k : ℕ) (x e : Entry) → IsFixing (now table s) s.courses i → IsTrue (is_active (history table s) k)
+      → Contains (net_of (history table s) k) x
+      → IsRunningStep (now table s) s.courses i e ⊎
+      (Contains (net_of (history table s) i) e × Contains (behind x (net (history table s))) e) → conflict table x e ≡ false
   -- while the undo of x runs, behind x stands no net entry of another process that conflicts
   pub undone_is_free : (i : ℕ) (p : Piece) (e : Entry) → running_of (now table s) i ≡ Some p → p.work ≡ Undo
       → Contains (behind (doing s.courses i p.step) (net (history table s))) e → conflict table (doing s.courses i p.step) e ≡ false
   -- where the machine opened at rest, what stands behind a pending entry and conflicts with it is pending
-  pub pending_is_closed : (i : ℕ) (x e : Entry) → OpenedAtRest s → IsTrue (is_active (history table s) i) → Contains (pending_of s.courses (now table s) i) x
+  pub pending_is_closed : (i : ℕ) (x e : Entry) → OpenedAtRest s → IsTrue (is_active (history table s) i)
+      → Contains (pending_of s.courses (now table s) i) x
       → Contains (behind x (net (history table s))) e → conflict table x e ≡ true → IsTrue (is_pending s.courses (now table s) e)
   -- behind a net entry of an active process stands no net entry of an ended one that conflicts
-  pub ended_is_free : (i k : ℕ) (x e : Entry) → IsTrue (is_active (history table s) k) → Contains (ends (history table s)) i → Contains (net_of (history table s) k) x
+  pub ended_is_free : (i k : ℕ) (x e : Entry) → IsTrue (is_active (history table s) k) → Contains (ends (history table s)) i
+      → Contains (net_of (history table s) k) x
       → Contains (net_of (history table s) i) e → Contains (behind x (net (history table s))) e → conflict table x e ≡ false
 
 -- They hold at each moment of a run.
@@ -129,49 +142,59 @@ StandingFactsHold = (table : ConflictRelation) (plans : List Plan) (s : Machine)
 -- Of these: steps that run don't conflict.
 abbrev pub RunningStepsAreFree : Type 0
 RunningStepsAreFree = (table : ConflictRelation) (plans : List Plan) (s : Machine) → IsSession table plans s
-    → (i k : ℕ) (d e : Entry) → IsRunningStep (now table s) s.courses i d → IsRunningStep (now table s) s.courses k e → conflict table d e ≡ false
+    → (i k : ℕ) (d e : Entry) → IsRunningStep (now table s) s.courses i d → IsRunningStep (now table s) s.courses k e
+    → conflict table d e ≡ false
 
 -- What is reserved conflicts with no net entry, running step or reserved step of another active process.
 abbrev pub ReservedIsFree : Type 0
 ReservedIsFree = (table : ConflictRelation) (plans : List Plan) (s : Machine) → IsSession table plans s
     → (i k : ℕ) (r e : Entry) → IsTrue (is_active (history table s) i) → IsTrue (is_active (history table s) k)
     → Contains (hold_of s.courses (now table s) i).reserved r
-    → Contains (net_of (history table s) k ++ (hold_of s.courses (now table s) k).reserved) e ⊎ IsRunningStep (now table s) s.courses k e → conflict table r e ≡ false
+    → Contains (net_of (history table s) k ++ (hold_of s.courses (now table s) k).reserved) e
+    ⊎ IsRunningStep (now table s) s.courses k e → conflict table r e ≡ false
 
 -- While a piece runs that fixes what i has done, no net entry of another active process conflicts with it, or stands before a net
 -- entry of i and conflicts with that.
 abbrev pub FixingIsFree : Type 0
 FixingIsFree = (table : ConflictRelation) (plans : List Plan) (s : Machine) → IsSession table plans s
-    → (i k : ℕ) (x e : Entry) → IsFixing (now table s) s.courses i → IsTrue (is_active (history table s) k) → Contains (net_of (history table s) k) x
-    → IsRunningStep (now table s) s.courses i e ⊎ (Contains (net_of (history table s) i) e × Contains (behind x (net (history table s))) e) → conflict table x e ≡ false
+    → (i k : ℕ) (x e : Entry) → IsFixing (now table s) s.courses i → IsTrue (is_active (history table s) k)
+    → Contains (net_of (history table s) k) x
+    → IsRunningStep (now table s) s.courses i e ⊎
+    (Contains (net_of (history table s) i) e × Contains (behind x (net (history table s))) e) → conflict table x e ≡ false
 
 -- Before a net entry that can't be undone stands no net entry of another active process that conflicts.
 abbrev pub FixedIsFree : Type 0
 FixedIsFree = (table : ConflictRelation) (plans : List Plan) (s : Machine) → IsSession table plans s
     → (i k : ℕ) (x e : Entry) → IsTrue (is_active (history table s) i) → IsTrue (is_active (history table s) k)
-    → Contains (net_of (history table s) k) x → Contains (net_of (history table s) i) e → IsTrue (not (list_any (same_step e) (backward_entries s.courses (history table s) i)))
+    → Contains (net_of (history table s) k) x → Contains (net_of (history table s) i) e
+    → IsTrue (not (list_any (same_step e) (backward_entries s.courses (history table s) i)))
     → Contains (behind x (net (history table s))) e → conflict table x e ≡ false
 
 -- Behind a net entry of an active process stands no net entry of an ended one that conflicts.
 abbrev pub EndedIsFree : Type 0
 EndedIsFree = (table : ConflictRelation) (plans : List Plan) (s : Machine) → IsSession table plans s
-    → (i k : ℕ) (x e : Entry) → IsTrue (is_active (history table s) k) → Contains (ends (history table s)) i → Contains (net_of (history table s) k) x
+    → (i k : ℕ) (x e : Entry) → IsTrue (is_active (history table s) k) → Contains (ends (history table s)) i
+    → Contains (net_of (history table s) k) x
     → Contains (net_of (history table s) i) e → Contains (behind x (net (history table s))) e → conflict table x e ≡ false
 
 -- The end of a process that has nothing left to undo is never blocked.
 abbrev pub EndsAreFree : Type 0
-EndsAreFree = (table : ConflictRelation) (plans : List Plan) (s : Machine) → IsSession table plans s → (i : ℕ) → IsTrue (is_active (history table s) i)
-    → (next_of s.courses (now table s) i).work ≡ End → backward_entries s.courses (history table s) i ≡ [] → block_of table s.courses (now table s) i ≡ None
+EndsAreFree = (table : ConflictRelation) (plans : List Plan) (s : Machine) → IsSession table plans s → (i : ℕ)
+    → IsTrue (is_active (history table s) i)
+    → (next_of s.courses (now table s) i).work ≡ End → backward_entries s.courses (history table s) i ≡ []
+    → block_of table s.courses (now table s) i ≡ None
 
 -- A pending entry conflicts with no running step.
 abbrev pub PendingIsFree : Type 0
 PendingIsFree = (table : ConflictRelation) (plans : List Plan) (s : Machine) → IsSession table plans s
-    → (i k : ℕ) (x e : Entry) → IsTrue (is_active (history table s) i) → Contains (pending_of s.courses (now table s) i) x → IsRunningStep (now table s) s.courses k e → conflict table x e ≡ false
+    → (i k : ℕ) (x e : Entry) → IsTrue (is_active (history table s) i) → Contains (pending_of s.courses (now table s) i) x
+    → IsRunningStep (now table s) s.courses k e → conflict table x e ≡ false
 
 -- Where the machine opened at rest, what stands behind a pending entry and conflicts with it is pending.
 abbrev pub PendingIsClosed : Type 0
 PendingIsClosed = (table : ConflictRelation) (plans : List Plan) (s : Machine) → IsSession table plans s
-    → (i : ℕ) (x e : Entry) → OpenedAtRest s → IsTrue (is_active (history table s) i) → Contains (pending_of s.courses (now table s) i) x
+    → (i : ℕ) (x e : Entry) → OpenedAtRest s → IsTrue (is_active (history table s) i)
+    → Contains (pending_of s.courses (now table s) i) x
     → Contains (behind x (net (history table s))) e → conflict table x e ≡ true → IsTrue (is_pending s.courses (now table s) e)
 
 -- While the undo of x runs, behind x stands no net entry of another process that conflicts.
@@ -182,12 +205,15 @@ UndoneIsFree = (table : ConflictRelation) (plans : List Plan) (s : Machine) → 
 
 -- The conflict graph has no circle.
 abbrev pub NoCircle : Type 0
-NoCircle = (table : ConflictRelation) (plans : List Plan) (s : Machine) → IsSession table plans s → (i : ℕ) → reaches table (holdings s.courses (now table s)) i i ≡ false
+NoCircle = (table : ConflictRelation) (plans : List Plan) (s : Machine) → IsSession table plans s → (i : ℕ)
+    → reaches table (holdings s.courses (now table s)) i i ≡ false
 
 -- A step that its process owes is never blocked.
 abbrev pub OwedStepsAreFree : Type 0
-OwedStepsAreFree = (table : ConflictRelation) (plans : List Plan) (s : Machine) → IsSession table plans s → (i : ℕ) → IsTrue (is_active (history table s) i)
-    → (next_of s.courses (now table s) i).work ≡ Forward → class_in s.courses (history table s) i (next_of s.courses (now table s) i).step ≡ reserved
+OwedStepsAreFree = (table : ConflictRelation) (plans : List Plan) (s : Machine) → IsSession table plans s → (i : ℕ)
+    → IsTrue (is_active (history table s) i)
+    → (next_of s.courses (now table s) i).work ≡ Forward
+    → class_in s.courses (history table s) i (next_of s.courses (now table s) i).step ≡ reserved
     → block_of table s.courses (now table s) i ≡ None
 
 -- Progress law: where no active process is exhausted, a request for any piece isn't answered that one is stuck.
@@ -204,6 +230,7 @@ pieces_for_step courses i b = by_kind (kind_of (shape courses i) b)
     by_kind C = 1 + (allowance courses i b).undo_tries
     by_kind P = 1
     by_kind R = (allowance courses i b).tries
+    by_kind Cr = (allowance courses i b).tries + (allowance courses i b).undo_tries
 
 -- how many pieces a process can take: those of its steps, its end, and one that is dropped
 abbrev pub pieces_for : List Course → ℕ → ℕ
@@ -221,17 +248,20 @@ CascadeIsLeast = (table : ConflictRelation) (g : Holdings) (root : ℕ) (entries
 
 -- The history of each run is in own order.
 abbrev pub RunsKeepOwnOrder : Type 0
-RunsKeepOwnOrder = (table : ConflictRelation) (plans : List Plan) (s : Machine) → IsSession table plans s → IsTrue (is_in_own_order s.courses (history table s))
+RunsKeepOwnOrder = (table : ConflictRelation) (plans : List Plan) (s : Machine) → IsSession table plans s
+    → IsTrue (is_in_own_order s.courses (history table s))
 
 -- The next piece of an active process keeps own order.
 abbrev pub NextKeepsOwnOrder : Type 0
-NextKeepsOwnOrder = (table : ConflictRelation) (plans : List Plan) (s : Machine) → IsSession table plans s → (i : ℕ) → IsTrue (is_active (history table s) i)
+NextKeepsOwnOrder = (table : ConflictRelation) (plans : List Plan) (s : Machine) → IsSession table plans s → (i : ℕ)
+    → IsTrue (is_active (history table s) i)
     → let t = next_of s.courses (now table s) i in
     IsTrue (keeps_order s.courses (history table s) (event_by s.courses i t.step t.work))
 
 -- Each process that has ended is at an end.
 abbrev pub EndedAreAtEnds : Type 0
-EndedAreAtEnds = (table : ConflictRelation) (plans : List Plan) (s : Machine) → IsSession table plans s → (i : ℕ) → Contains (ends (history table s)) i
+EndedAreAtEnds = (table : ConflictRelation) (plans : List Plan) (s : Machine) → IsSession table plans s → (i : ℕ)
+    → Contains (ends (history table s)) i
     → IsTrue (is_at_end s.courses (history table s) i)
 
 -- At a restart all begin to complete.
@@ -244,7 +274,8 @@ next_in_restart courses m = option_or (undo_next courses m) (first_of (active m.
 
 -- Once all have begun to complete, the next event is the head of the completion.
 abbrev pub RestartFollowsCompletion : Type 0
-RestartFollowsCompletion = (table : ConflictRelation) (plans : List Plan) (s : Machine) → IsSession table plans s → AllHaveBegun (now table s)
+RestartFollowsCompletion = (table : ConflictRelation) (plans : List Plan) (s : Machine) → IsSession table plans s
+    → AllHaveBegun (now table s)
     → (i : ℕ) → next_in_restart s.courses (now table s) ≡ Some i
     → let t = next_of s.courses (now table s) i in
     (rest : List Event) × (completion s.courses (history table s) ≡ event_by s.courses i t.step t.work ∷ rest)
@@ -257,7 +288,8 @@ RestartIsFree = (table : ConflictRelation) (plans : List Plan) (s : Machine) →
 -- The undo of the last pending entry in joint order is never blocked, where the machine opened at rest or all have begun.
 abbrev pub LastPendingIsFree : Type 0
 LastPendingIsFree = (table : ConflictRelation) (plans : List Plan) (s : Machine) → IsSession table plans s
-    → (i : ℕ) → OpenedAtRest s ⊎ AllHaveBegun (now table s) → undo_next s.courses (now table s) ≡ Some i → block_of table s.courses (now table s) i ≡ None
+    → (i : ℕ) → OpenedAtRest s ⊎ AllHaveBegun (now table s) → undo_next s.courses (now table s) ≡ Some i
+    → block_of table s.courses (now table s) i ≡ None
 
 -- A piece is blocked exactly where something stands against it.
 abbrev pub BlockedWhereSomethingStands : Type 0
@@ -265,7 +297,8 @@ BlockedWhereSomethingStands = (c : Clashes) → (least_block (blocks_of c) ≡ N
 
 -- An undo is blocked by A5 alone.
 abbrev pub UndosWaitByA5 : Type 0
-UndosWaitByA5 = (table : ConflictRelation) (courses : List Course) (m : Moment) (i : ℕ) (b : Blocked) → (next_of courses m i).work ≡ Undo
+UndosWaitByA5 = (table : ConflictRelation) (courses : List Course) (m : Moment) (i : ℕ) (b : Blocked)
+    → (next_of courses m i).work ≡ Undo
     → block_of table courses m i ≡ Some b → b.rule ≡ A5
 
 -- what the tables of open processes have of these holdings: no net entry of a process that has ended
@@ -274,7 +307,8 @@ open_only g = record { net = active_net g; holds = g.holds }
 
 -- No net entry of a process that isn't active stands behind x and conflicts with it.
 abbrev pub IsEndedFree : ConflictRelation → Moment → Entry → Type 0
-IsEndedFree table m x = (e : Entry) → Contains (behind x (net m.events)) e → is_active m.events e.process ≡ false → conflict table x e ≡ false
+IsEndedFree table m x = (e : Entry) → Contains (behind x (net m.events)) e → is_active m.events e.process ≡ false
+    → conflict table x e ≡ false
 
 -- The open processes are enough: against the next piece of an active process stands the same by their holdings alone as by all;
 -- for an undo, where no ended process stands behind what is undone.

@@ -16,7 +16,8 @@ use Rattle.machine_model.specs.Laws.{IsSession, open_only}
 -- Against the next piece of an active process stands the same by what the open processes hold alone as by all, and the same go
 -- back with it.
 abbrev pub OpenHoldingsAreEnough : Type 0
-OpenHoldingsAreEnough = (table : ConflictRelation) (plans : List Plan) (s : Machine) (i : ℕ) → IsSession table plans s → IsTrue (is_active (history table s) i)
+OpenHoldingsAreEnough = (table : ConflictRelation) (plans : List Plan) (s : Machine) (i : ℕ) → IsSession table plans s
+    → IsTrue (is_active (history table s) i)
     → let m = now table s in
     let g = open_only (holdings s.courses m) in
     let t = next_of s.courses m i in
@@ -32,7 +33,8 @@ without_process k g = record {
 
 -- At the effect of its end a process is dropped from what the open processes hold, and all else stays.
 abbrev pub EndsDropHoldings : Type 0
-EndsDropHoldings = (table : ConflictRelation) (s : Machine) (n number i b : ℕ) → IsTrue (is_run table s) → IsTrue (may_be_kept table s.courses (now table s) (Effect n))
+EndsDropHoldings = (table : ConflictRelation) (s : Machine) (n number i b : ℕ) → IsTrue (is_run table s)
+    → IsTrue (may_be_kept table s.courses (now table s) (Effect n))
     → piece_of s.kept n ≡ Some (record { number = number; process = i; step = b; work = End })
     → let m = now table s in
     open_only (holdings s.courses (advance table s.courses m (Effect n))) ≡ without_process i (open_only (holdings s.courses m))

@@ -1,5 +1,6 @@
 -- The laws of pieces and of one process alone, as statements.
-use Rattle.std.specs.Prelude.{◌≡◌, ◌⊎◌, ◌↔◌, ◌≤◌, ◌<◌, ℕ, Bool, true, false, not, ◌&&◌, List, length, take, filter, ◌-◌, nat_eq, IsTrue, Option, Some, None, is_some, if◌then◌else◌}
+use Rattle.std.specs.Prelude.{◌≡◌, ◌⊎◌, ◌↔◌, ◌≤◌, ◌<◌, ℕ, Bool, true, false, not, ◌&&◌, List, length, take, filter, ◌-◌, nat_eq}
+use Rattle.std.specs.Prelude.{IsTrue, Option, Some, None, is_some, if◌then◌else◌}
 use Rattle.process_tree.specs.declared.plan.Plan.{Plan}
 use Rattle.schedule_model.specs.Conflict.{ConflictRelation}
 use Rattle.schedule_model.specs.Histories.{done_steps, ends, is_active, is_in, net_steps}
@@ -37,11 +38,13 @@ DroppedIsExact = (table : ConflictRelation) (s : Machine) (n k : ℕ) → IsTrue
 
 -- At most one piece of a process is out.
 abbrev pub OneRuns : Type 0
-OneRuns = (table : ConflictRelation) (s : Machine) (i : ℕ) → IsTrue (is_run table s) → length (filter (λ p. nat_eq p.process i) (now table s).out) ≤ 1
+OneRuns = (table : ConflictRelation) (s : Machine) (i : ℕ) → IsTrue (is_run table s)
+    → length (filter (λ p. nat_eq p.process i) (now table s).out) ≤ 1
 
 -- The running piece of a process is its next piece.
 abbrev pub RunningIsNext : Type 0
-RunningIsNext = (table : ConflictRelation) (s : Machine) (i : ℕ) (p : Piece) → IsTrue (is_run table s) → running_of (now table s) i ≡ Some p
+RunningIsNext = (table : ConflictRelation) (s : Machine) (i : ℕ) (p : Piece) → IsTrue (is_run table s)
+    → running_of (now table s) i ≡ Some p
     → same_task (record { work = p.work; step = p.step }) (next_of s.courses (now table s) i) ≡ true
 
 -- the piece that an event hands out or ends
@@ -61,12 +64,14 @@ LeavesPieceOf ks k i = (p : Piece) → piece_touched ks k ≡ Some p → nat_eq 
 -- Frame law: an event that neither hands out nor ends a piece of process i, and doesn't make it begin to complete, leaves what
 -- it runs, its state and what it holds.
 abbrev pub OthersStay : Type 0
-OthersStay = (table : ConflictRelation) (s : Machine) (k : Kept) (i : ℕ) → IsTrue (is_run table s) → IsTrue (may_be_kept table s.courses (now table s) k)
+OthersStay = (table : ConflictRelation) (s : Machine) (k : Kept) (i : ℕ) → IsTrue (is_run table s)
+    → IsTrue (may_be_kept table s.courses (now table s) k)
     → LeavesPieceOf s.kept k i
     → let m = now table s in
     let after = advance table s.courses m k in
     has_begun after i ≡ has_begun m i
-    → (running_of after i ≡ running_of m i) × (process_state s.courses after i ≡ process_state s.courses m i) × (hold_of s.courses after i ≡ hold_of s.courses m i)
+    → (running_of after i ≡ running_of m i) × (process_state s.courses after i ≡ process_state s.courses m i)
+    × (hold_of s.courses after i ≡ hold_of s.courses m i)
 
 -- the piece that an event ends
 abbrev pub piece_ended : List Kept → Kept → Option Piece
@@ -98,11 +103,14 @@ IsUndoOf i k (Some p) = ⊥
 -- The progress of a process goes by the end of its pieces and by its beginning to complete; for an undo, where it takes back the
 -- last step of the net.
 abbrev pub ProgressGoesByTransitions : Type 0
-ProgressGoesByTransitions = (table : ConflictRelation) (s : Machine) (k : Kept) (i : ℕ) → IsTrue (is_run table s) → IsTrue (may_be_kept table s.courses (now table s) k)
+ProgressGoesByTransitions = (table : ConflictRelation) (s : Machine) (k : Kept) (i : ℕ) → IsTrue (is_run table s)
+    → IsTrue (may_be_kept table s.courses (now table s) k)
     → let m = now table s in
     let after = advance table s.courses m k in
-    (IsUndoOf i k (piece_ended s.kept k) → net_steps after.events i ≡ take (length (net_steps m.events i) - 1) (net_steps m.events i))
-    → progress s.courses after i ≡ with_begun (has_begun after i) (progress_by_piece k i (progress s.courses m i) (piece_ended s.kept k))
+    (IsUndoOf i k (piece_ended s.kept k) → net_steps after.events i
+    ≡ take (length (net_steps m.events i) - 1) (net_steps m.events i))
+    → progress s.courses after i ≡ with_begun (has_begun after i)
+    (progress_by_piece k i (progress s.courses m i) (piece_ended s.kept k))
 
 -- In a session an undo takes back the last step of the net.
 abbrev pub UndosTakeBackTheLast : Type 0
@@ -113,7 +121,8 @@ UndosTakeBackTheLast = (table : ConflictRelation) (plans : List Plan) (s : Machi
 
 -- A refusal of the one try of a step makes its process begin to complete exactly where no way on is left.
 abbrev pub RefusedBeginsWithoutWayOn : Type 0
-RefusedBeginsWithoutWayOn = (table : ConflictRelation) (s : Machine) (n : ℕ) (p : Piece) → IsTrue (is_run table s) → IsTrue (may_be_kept table s.courses (now table s) (Refuse n))
+RefusedBeginsWithoutWayOn = (table : ConflictRelation) (s : Machine) (n : ℕ) (p : Piece) → IsTrue (is_run table s)
+    → IsTrue (may_be_kept table s.courses (now table s) (Refuse n))
     → piece_of s.kept n ≡ Some p
     → let m = now table s in
     let after = advance table s.courses m (Refuse n) in
@@ -129,11 +138,13 @@ state_by_piece k i s (Some p) = s
 
 -- this work on step b of process i never comes again
 abbrev pub IsGone : List Course → Moment → ℕ → ℕ → Work → Type 0
-IsGone courses m i b Forward = (b < (progress courses m i).onward) ⊎ ((has_begun m i ≡ true) × (is_in b (owed_steps courses m.events i) ≡ false))
+IsGone courses m i b Forward =
+    (b < (progress courses m i).onward) ⊎ ((has_begun m i ≡ true) × (is_in b (owed_steps courses m.events i) ≡ false))
 IsGone courses m i b Undo = (is_in b (done_steps m.events i) ≡ true) × (is_in b (net_steps m.events i) ≡ false)
 IsGone courses m i b End = ⊥
 
--- Whatever was refused of a process that hasn't ended is its next piece or never comes again; and what never comes again isn't next.
+-- Whatever was refused of a process that hasn't ended is its next piece or never comes again; and what never comes again isn't
+-- next.
 abbrev pub RefusedIsNextOrGone : Type 0
 RefusedIsNextOrGone = (table : ConflictRelation) (plans : List Plan) (s : Machine) → IsSession table plans s
     → (i b : ℕ) (w : Work) → is_in i (ends (history table s)) ≡ false
@@ -151,4 +162,5 @@ StatesGoByTransitions = (table : ConflictRelation) (plans : List Plan) (s : Mach
     → IsTrue (may_be_kept table s.courses (now table s) k) → (i : ℕ) → IsTrue (is_active (now table s).events i)
     → let after = advance table s.courses (now table s) k in
     IsTrue (is_active after.events i)
-    → process_state s.courses after i ≡ begun_where (has_begun after i) (state_by_piece k i (process_state s.courses (now table s) i) (piece_ended s.kept k))
+    → process_state s.courses after i ≡ begun_where (has_begun after i)
+    (state_by_piece k i (process_state s.courses (now table s) i) (piece_ended s.kept k))

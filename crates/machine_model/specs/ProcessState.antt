@@ -1,5 +1,6 @@
 -- The state of one process alone, and what the ends of its pieces make of it.
-use Rattle.std.specs.Prelude.{ℕ, ◌+◌, ◌-◌, max, Bool, true, false, List, [], ◌∷◌, ◌++◌, length, take, filter, not, nat_eq, nat_le, nat_lt, if◌then◌else◌, Option, Some, None, is_none, slice_index_or}
+use Rattle.std.specs.Prelude.{ℕ, ◌+◌, ◌-◌, max, Bool, true, false, List, [], ◌∷◌, ◌++◌, length, take, filter, not, nat_eq, nat_le}
+use Rattle.std.specs.Prelude.{nat_lt, if◌then◌else◌, Option, Some, None, is_none, slice_index_or}
 use Rattle.process_tree.specs.declared.entry.Entry.{Entry}
 use Rattle.process_tree.specs.Shape.{kind_of, can_be_refused, fixed_len}
 use Rattle.schedule_model.specs.Course.{Course, Allowance, usual}
@@ -106,7 +107,8 @@ complete_unless_on s = if is_none (way_on s) then completing s else s
 abbrev pub was_refused : ProcessState → ProcessState
 was_refused s =
     let t = next_piece s in
-    if is_only_try s.progress.shape t.step t.work then record { progress = complete_unless_on (past s.progress t.step); refused = 0 }
+    if is_only_try s.progress.shape t.step t.work
+    then record { progress = complete_unless_on (past s.progress t.step); refused = 0 }
     else record { progress = s.progress; refused = s.refused + 1 }
 
 -- it begins to complete: a piece that stays its next one has been refused as often as before

@@ -1,5 +1,6 @@
 -- How far one process has come: its way on, what it has to undo, and what it does next.
-use Rattle.std.specs.Prelude.{ℕ, ◌+◌, max, Bool, true, false, ◌&&◌, List, [], ◌∷◌, filter, flat_map, drop, length, nat_eq, nat_le, if◌then◌else◌, Option, Some, None}
+use Rattle.std.specs.Prelude.{ℕ, ◌+◌, max, Bool, true, false, ◌&&◌, List, [], ◌∷◌, filter, flat_map, drop, length, nat_eq, nat_le}
+use Rattle.std.specs.Prelude.{if◌then◌else◌, Option, Some, None}
 use Rattle.process_tree.specs.Shape.{Shape, kind_of, can_be_refused, is_whole, next_steps, least, first_of, last_of, fixed_len}
 use Rattle.process_tree.specs.Play.{kept_prefixes, kept_for}
 use Rattle.process_tree.specs.Recovery.{forward}

@@ -1,5 +1,6 @@
 -- Replies: what each call of the machine answers at a moment.
-use Rattle.std.specs.Prelude.{Bool, true, false, ℕ, zero, suc, ◌+◌, ◌&&◌, List, [], ◌∷◌, ◌++◌, filter, find, length, nat_eq, nat_le, nat_lt, if◌then◌else◌, Option, Some, None, is_some, is_none, unwrap_or}
+use Rattle.std.specs.Prelude.{Bool, true, false, ℕ, zero, suc, ◌+◌, ◌&&◌, List, [], ◌∷◌, ◌++◌, filter, find, length, nat_eq, nat_le}
+use Rattle.std.specs.Prelude.{nat_lt, if◌then◌else◌, Option, Some, None, is_some, is_none, unwrap_or}
 use Rattle.std.specs.List.{filter_map, slice_get}
 use Rattle.std.specs.Option.{option_map}
 use Rattle.process_tree.specs.declared.play.Outcome.{Outcome}
@@ -45,7 +46,11 @@ refuse_of courses i t = refuse_by courses i t.step t.work
 abbrev pub hand_to : List Course → Moment → ℕ → Handed
 hand_to courses m i =
     let t = next_of courses m i in
-    record { piece = record { number = length (hands m.kept) + 1; process = i; step = t.step; work = t.work }; tried = tried m i t; refuse = refuse_of courses i t }
+    record {
+      piece = record { number = length (hands m.kept) + 1; process = i; step = t.step; work = t.work };
+      tried = tried m i t;
+      refuse = refuse_of courses i t;
+    }
 
 -- the event that is kept when a piece is handed out
 abbrev pub kept_hand : Handed → Kept
@@ -124,7 +129,8 @@ victim_then rest (Some i) = Victim i ∷ rest i
 -- the victims that are made as long as one may be made; n is as many as there may be
 abbrev pub victims : ℕ → ConflictRelation → List Course → Moment → List Kept
 victims zero table courses m = []
-victims (suc n) table courses m = victim_then (λ i. victims n table courses (advance table courses m (Victim i))) (victim_of table courses m)
+victims (suc n) table courses m =
+    victim_then (λ i. victims n table courses (advance table courses m (Victim i))) (victim_of table courses m)
 
 -- at most every active process is a victim
 abbrev pub all_victims : ConflictRelation → List Course → Moment → List Kept
@@ -155,7 +161,8 @@ piece_of_free courses m otherwise (Some i) = chosen (hand_to courses m i)
 
 -- with the victims made: the first free piece in rotation, or why there is none
 abbrev pub next_reply : ConflictRelation → List Course → Moment → ℕ → Next
-next_reply table courses m served = piece_of_free courses m (none_free_reply table courses m served) (find (is_free table courses m) (rotation m served))
+next_reply table courses m served =
+    piece_of_free courses m (none_free_reply table courses m served) (find (is_free table courses m) (rotation m served))
 
 -- what became of a piece that was refused just now
 abbrev pub refusal_reply : List Course → Moment → Piece → Refusal

@@ -1,5 +1,6 @@
 -- Runs: which event may be kept next, and the sessions in which each was.
-use Rattle.std.specs.Prelude.{ℕ, ◌+◌, Bool, true, false, not, ◌&&◌, List, [], ◌∷◌, length, nat_eq, nat_le, nat_lt, Option, Some, None, is_none}
+use Rattle.std.specs.Prelude.{ℕ, ◌+◌, Bool, true, false, not, ◌&&◌, List, [], ◌∷◌, length, nat_eq, nat_le, nat_lt, Option, Some}
+use Rattle.std.specs.Prelude.{None, is_none}
 use Rattle.std.specs.List.{list_any}
 use Rattle.schedule_model.specs.declared.event.Event.{Event}
 use Rattle.schedule_model.specs.declared.event.Event.TheVariants.{Start as Started}

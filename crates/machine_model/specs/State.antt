@@ -1,5 +1,6 @@
 -- What follows of each process from a moment: how it stands, what it holds, and whether it is free, blocked or exhausted.
-use Rattle.std.specs.Prelude.{ℕ, Bool, not, ◌&&◌, ◌||◌, List, [], ◌++◌, filter, map, drop, length, nat_eq, if◌then◌else◌, Option, Some, None, is_some, is_none}
+use Rattle.std.specs.Prelude.{ℕ, Bool, not, ◌&&◌, ◌||◌, List, [], ◌++◌, filter, map, drop, length, nat_eq, if◌then◌else◌, Option}
+use Rattle.std.specs.Prelude.{Some, None, is_some, is_none}
 use Rattle.std.specs.List.{list_any, list_all}
 use Rattle.process_tree.specs.declared.entry.Entry.{Entry}
 use Rattle.process_tree.specs.Shape.{greatest, last_of}
@@ -87,7 +88,8 @@ holdings courses m = record { net = net m.events; holds = map (hold_of courses m
 
 -- what stands against step b of process i, against its undo, or against the end of the process
 abbrev pub against_work : ConflictRelation → List Course → Holdings → List Event → ℕ → ℕ → Work → Clashes
-against_work table courses g h i b Forward = against_step table g (class_in courses h i b) (doing courses i b) (owed_after courses h i b)
+against_work table courses g h i b Forward =
+    against_step table g (class_in courses h i b) (doing courses i b) (owed_after courses h i b)
 against_work table courses g h i b Undo = against_undo table g (doing courses i b)
 against_work table courses g h i b End = against_end table g i
 

@@ -1,5 +1,6 @@
 -- One history of turns: the calls of all threads in the order in which they were made, each with its reply.
-use Rattle.std.specs.Prelude.{◌≡◌, ◌≢◌, ℕ, Bool, true, false, ◌||◌, not, List, [], ◌∷◌, ◌++◌, length, nat_eq, Option, Some, None, IsTrue}
+use Rattle.std.specs.Prelude.{◌≡◌, ◌≢◌, ℕ, Bool, true, false, ◌||◌, not, List, [], ◌∷◌, ◌++◌, length, nat_eq, Option, Some, None}
+use Rattle.std.specs.Prelude.{IsTrue}
 use Rattle.process_tree.specs.declared.play.Outcome.{Outcome}
 use Rattle.process_tree.specs.declared.play.Outcome.TheVariants.{Done, Refused}
 use Rattle.schedule_model.specs.Conflict.{ConflictRelation}
@@ -11,7 +12,8 @@ use Rattle.machine_model.specs.Advance.{Machine}
 use Rattle.machine_model.specs.Runs.{now}
 use Rattle.machine_model.specs.Replies.{Next, chosen, wait, all_ended, stuck, Finish, finish_reply, finish_kept, all_victims}
 use Rattle.machine_model.specs.Calls.{answer_next, next_is, next_kept, next_served}
-use Rattle.machine_model.specs.Groups.{Subsystems, Taken, as_done, as_refused, as_barred, may_take, Queue, queued, full, refused, over, dropped, no_piece, no_refusal, queue_reply, queue_kept, queue_adds, flush_kept}
+use Rattle.machine_model.specs.Groups.{Subsystems, Taken, as_done, as_refused, as_barred, may_take, Queue, queued, full, refused}
+use Rattle.machine_model.specs.Groups.{over, dropped, no_piece, no_refusal, queue_reply, queue_kept, queue_adds, flush_kept}
 
 -- the machine with the pieces that are queued, and, once a fault of the disk closed it, how many events were kept then
 pub record Board : Type 0 where
@@ -115,7 +117,8 @@ NextMaySay table b (is_closed k) = ⊥
 abbrev pub FinishMaySay : ConflictRelation → Board → ℕ → Outcome → Said Finish → Type 0
 FinishMaySay table b n outcome (says r) =
     (b.group ≡ [])
-    × ((taken : Taken) × MayTake outcome taken (piece_of b.machine.kept n) × (r ≡ finish_reply table b.machine.courses (now table b.machine) n (taken_as taken)))
+    × ((taken : Taken) × MayTake outcome taken (piece_of b.machine.kept n)
+    × (r ≡ finish_reply table b.machine.courses (now table b.machine) n (taken_as taken)))
 FinishMaySay table b n outcome no_memory =
     (b.group ≡ []) × (outcome ≡ Done) × IsTrue (runs (now table b.machine) n) × IsStepPiece (piece_of b.machine.kept n)
 FinishMaySay table b n outcome disk_fault = (b.group ≡ []) × (outcome ≡ Done) × IsTrue (runs (now table b.machine) n)

@@ -1,11 +1,21 @@
 // The laws of the machine that are proved: each function says one, and does nothing.
-ghost use Rattle.machine_model.specs.Laws.{AdmissionLawsHold, BlockedWhereSomethingStands, BoundOnHands, CallsMakeRuns, CascadeIsLeast, EndedAreAtEnds, EndedIsFree, EndsAreFree, FixedIsFree, FixingIsFree, LastPendingIsFree, NextKeepsOwnOrder, NoCircle, OpenHoldingsBlockAlike, OpenHoldingsDragAlike, OwedStepsAreFree, PendingIsClosed, PendingIsFree, ProgressLaw, ReservedIsFree, RestartBeginsAll, RestartFollowsCompletion, RestartIsFree, RunningStepsAreFree, RunsAreLegal, RunsKeepOwnOrder, StandingFactsHold, UndoneIsFree, UndosWaitByA5};
-ghost use Rattle.machine_model.specs.PieceLaws.{DroppedIsExact, OneRuns, OthersStay, OverIsFinished, ProgressGoesByTransitions, RefusedBeginsWithoutWayOn, RefusedIsNextOrGone, RunningIsNext, StatesGoByTransitions, UndosTakeBackTheLast};
-ghost use Rattle.machine_model.specs.HoldLaws.{BeginningsStop, BegunUndoAll, EndsGo, HandsReserve, NetGoesByPieces, RunningGoesByPieces, StartsHoldNothing, StepsTakeEffect, UndosTakeEffect};
+ghost use Rattle.machine_model.specs.Laws.{AdmissionLawsHold, BlockedWhereSomethingStands, BoundOnHands, CallsMakeRuns};
+ghost use Rattle.machine_model.specs.Laws.{CascadeIsLeast, EndedAreAtEnds, EndedIsFree, EndsAreFree, FixedIsFree, FixingIsFree};
+ghost use Rattle.machine_model.specs.Laws.{LastPendingIsFree, NextKeepsOwnOrder, NoCircle, OpenHoldingsBlockAlike};
+ghost use Rattle.machine_model.specs.Laws.{OpenHoldingsDragAlike, OwedStepsAreFree, PendingIsClosed, PendingIsFree, ProgressLaw};
+ghost use Rattle.machine_model.specs.Laws.{ReservedIsFree, RestartBeginsAll, RestartFollowsCompletion, RestartIsFree};
+ghost use Rattle.machine_model.specs.Laws.{RunningStepsAreFree, RunsAreLegal, RunsKeepOwnOrder, StandingFactsHold, UndoneIsFree};
+ghost use Rattle.machine_model.specs.Laws.{UndosWaitByA5};
+ghost use Rattle.machine_model.specs.PieceLaws.{DroppedIsExact, OneRuns, OthersStay, OverIsFinished, ProgressGoesByTransitions};
+ghost use Rattle.machine_model.specs.PieceLaws.{RefusedBeginsWithoutWayOn, RefusedIsNextOrGone, RunningIsNext};
+ghost use Rattle.machine_model.specs.PieceLaws.{StatesGoByTransitions, UndosTakeBackTheLast};
+ghost use Rattle.machine_model.specs.HoldLaws.{BeginningsStop, BegunUndoAll, EndsGo, HandsReserve, NetGoesByPieces};
+ghost use Rattle.machine_model.specs.HoldLaws.{RunningGoesByPieces, StartsHoldNothing, StepsTakeEffect, UndosTakeEffect};
 ghost use Rattle.machine_model.specs.CauseLaws.{BeginningsHaveCauses, BeginningsStay};
 ghost use Rattle.machine_model.specs.DropLaws.{HandsAreParted, HandsAreWithinTries, OneIsDropped, RefusalsAreWithinTries};
 ghost use Rattle.machine_model.specs.OpenLaws.{EndsDropHoldings, OpenHoldingsAreEnough};
-ghost use Rattle.machine_model.specs.CallLaws.{BeginningsOfRunsAreRuns, CallsKeepRuns, FlushesKeepWhatRuns, QueuedAreOutOrDropped, StuckIsExact, TurnsMakeRuns, VictimsRunDry};
+ghost use Rattle.machine_model.specs.CallLaws.{BeginningsOfRunsAreRuns, CallsKeepRuns, FlushesKeepWhatRuns, QueuedAreOutOrDropped};
+ghost use Rattle.machine_model.specs.CallLaws.{StuckIsExact, TurnsMakeRuns, VictimsRunDry};
 
 /// The computed cascade of an active process is the least set.
 pub fn cascade_is_least()

@@ -44,7 +44,7 @@ use Rattle.core_state.proofs.SeatFacts.{handed_has_plan}
 
 -- an effect leaves the table of conflicts
 pub same_conflicts : (p : Plan) (i b : ℕ) (w : Work) (n : ℕ) (t : Tables) → (tables_effected p i b w n t).conflicts ≡ t.conflicts
-same_conflicts p i b Forward n t = by_kind (commits (kind_of (shape_of p.tree) b))
+same_conflicts p i b Forward n t = by_kind (commits (shape_of p.tree) b)
   where
     by_kind : (k : Bool) → (changed (with_pending n) i (if k then changed (with_reserved (planned_behind p b)) i (all_fixed i (took_effect i t)) else took_effect i t)).conflicts ≡ t.conflicts
     by_kind true = refl

@@ -7,12 +7,14 @@ use Rattle.machine_model.specs.declared.kept.Kept.{Kept}
 use Rattle.machine_model.specs.declared.kept.Work.{Work}
 use Rattle.machine_model.specs.declared.kept.Work.TheVariants.{Forward, Undo, End}
 use Rattle.machine_model.specs.declared.replies.Todo.{Todo}
-use Rattle.machine_model.specs.declared.replies.Todo.TheVariants.{Forward as DoStep, Undo as UndoStep, End as DoEnd, Exhausted as UsedUp}
+use Rattle.machine_model.specs.declared.replies.Todo.TheVariants.{Forward as DoStep, Undo as UndoStep, End as DoEnd}
+use Rattle.machine_model.specs.declared.replies.Todo.TheVariants.{Exhausted as UsedUp}
 use Rattle.machine_model.specs.Moment.{Piece}
 use Rattle.machine_model.specs.ProcessState.{allowance_in}
 use Rattle.machine_model.specs.Replies.{Handed, Admit as AdmitReply, piece, blocked, running, unknown, ended, exhausted}
 use Rattle.process_core.specs.declared.replies.Admit.{Admit}
-use Rattle.process_core.specs.declared.replies.Admit.TheVariants.{Piece as IsPiece, Blocked as IsBlocked, Running, Unknown, Ended, Exhausted}
+use Rattle.process_core.specs.declared.replies.Admit.TheVariants.{Piece as IsPiece, Blocked as IsBlocked, Running, Unknown, Ended}
+use Rattle.process_core.specs.declared.replies.Admit.TheVariants.{Exhausted}
 use Rattle.core_state.specs.Cores.{CoreState}
 
 -- a reply to a request for a piece of one process, as the machine has it
@@ -26,7 +28,8 @@ admit_reply_of (Exhausted b) = exhausted b
 
 -- the piece with this number that does this work on step b of process i, which was refused so often
 abbrev pub piece_for : ℕ → ℕ → Work → ℕ → ℕ → ℕ → Handed
-piece_for number i work b tried refuse = record { piece = record { number = number; process = i; step = b; work = work }; tried = tried; refuse = refuse }
+piece_for number i work b tried refuse =
+    record { piece = record { number = number; process = i; step = b; work = work }; tried = tried; refuse = refuse }
 
 -- the same by what is told of its next piece
 abbrev pub piece_told : Plan → ℕ → ℕ → ℕ → Todo → Handed

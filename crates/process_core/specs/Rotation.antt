@@ -1,7 +1,8 @@
 -- Rotation: looking for the first process of which something is told.
 use Rattle.std.specs.Prelude.{ℕ, Bool, false, not, List, [], ◌∷◌, Option, Some, None}
 use Rattle.std.specs.Option.{option_map, option_or}
-use Rattle.machine_model.specs.Replies.{Handed, Admit, piece, blocked, running, unknown, ended, exhausted, BlockedProcess, Next as NextReply, chosen, wait, all_ended, stuck}
+use Rattle.machine_model.specs.Replies.{Handed, Admit, piece, blocked, running, unknown, ended, exhausted, BlockedProcess}
+use Rattle.machine_model.specs.Replies.{Next as NextReply, chosen, wait, all_ended, stuck}
 use Rattle.process_core.specs.declared.replies.Next.{Next}
 use Rattle.process_core.specs.declared.replies.Next.TheVariants.{Piece as IsPiece, Wait, AllEnded, Stuck}
 use Rattle.process_core.specs.declared.replies.Waiting.{Waiting}

@@ -13,7 +13,8 @@ use crate::replies::Next;
 impl Core {
     /// Why no piece is free.
     fn none_free(&self) -> Next
-        ensures { next_reply_of result ≡ none_free_reply (relation self.now) (courses_in self.now) (moment_of self.now) self.now.served }
+        ensures { next_reply_of result ≡ none_free_reply (relation self.now) (courses_in self.now)
+            (moment_of self.now) self.now.served }
     {
         if self.holds.next_open(0).is_none() {
             return Next::AllEnded;

@@ -43,9 +43,21 @@ impl Model for Core {
 
     ghost coded = { Prim.hlevel (codes, e.the_row.coded) };
 
-    ghost view = { λ c. record { conflicts = c.holds.conflicts; plans = c.history.plans; opening = take c.opening c.history.events; kept = c.kept.items; served = c.served } };
+    ghost view = { λ c. record {
+      conflicts = c.holds.conflicts;
+      plans = c.history.plans;
+      opening = take c.opening c.history.events;
+      kept = c.kept.items;
+      served = c.served;
+    } };
 
-    ghost invariant = { λ c. IsKept (record { conflicts = c.holds.conflicts; plans = c.history.plans; opening = take c.opening c.history.events; kept = c.kept.items; served = c.served }) c.history.events c.seats.items c.holds c.opening c.most (vec_capacity c.kept) };
+    ghost invariant = { λ c. IsKept (record {
+      conflicts = c.holds.conflicts;
+      plans = c.history.plans;
+      opening = take c.opening c.history.events;
+      kept = c.kept.items;
+      served = c.served;
+    }) c.history.events c.seats.items c.holds c.opening c.most (vec_capacity c.kept) };
 }
 
 impl Core {

@@ -79,7 +79,8 @@ impl Core {
     /// The next piece of an active process that may be tried, or what blocks it.
     fn by_rules(&self, i: u32, todo: Todo, tried: u8) -> Admit
         requires { upcoming (seat_of (courses_in self.now) (moment_of self.now) i) ≡ Task todo tried }
-        ensures { admit_reply_of result ≡ piece_unless (courses_in self.now) (moment_of self.now) i (block_of (relation self.now) (courses_in self.now) (moment_of self.now) i) }
+        ensures { admit_reply_of result ≡ piece_unless (courses_in self.now) (moment_of self.now) i
+            (block_of (relation self.now) (courses_in self.now) (moment_of self.now) i) }
     {
         let plan = &self.history.plans.as_slice()[i as usize - 1];
         match admit(&self.holds, plan, i, todo) {

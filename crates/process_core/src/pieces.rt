@@ -20,7 +20,11 @@ impl Model for Piece {
 
     ghost Value = { Handed };
 
-    ghost view = { λ p. record { piece = record { number = p.number; process = p.process; step = p.step; work = p.work }; tried = p.tried; refuse = p.refuse } };
+    ghost view = { λ p. record {
+      piece = record { number = p.number; process = p.process; step = p.step; work = p.work };
+      tried = p.tried;
+      refuse = p.refuse;
+    } };
 }
 
 impl Piece {

@@ -24,7 +24,8 @@ impl Core {
     /// The first piece that may be handed out, of the processes from one number to before another.
     fn first_piece(&self, from: u32, to: u32) -> Option<Piece>
         requires { from ≤ to }
-        ensures { result ≡ first_told (λ i. piece_in (admit_reply (relation self.now) (courses_in self.now) (moment_of self.now) i)) (numbers_from from (to - from)) }
+        ensures { result ≡ first_told (λ i. piece_in (admit_reply (relation self.now) (courses_in self.now) (moment_of self.now) i))
+            (numbers_from from (to - from)) }
     {
         for i in from..to {
             if let Admit::Piece(piece) = self.reply_of(i) {
@@ -36,7 +37,9 @@ impl Core {
 
     /// The first free piece in rotation.
     pub(crate) fn next_piece(&self) -> Option<Piece>
-        ensures { result ≡ option_map (hand_to (courses_in self.now) (moment_of self.now)) (find (is_free (relation self.now) (courses_in self.now) (moment_of self.now)) (rotation (moment_of self.now) self.now.served)) }
+        ensures { result ≡ option_map (hand_to (courses_in self.now) (moment_of self.now))
+            (find (is_free (relation self.now) (courses_in self.now) (moment_of self.now))
+            (rotation (moment_of self.now) self.now.served)) }
     {
         let count = self.seats.len() as u32;
         let served = self.served.min(count);
@@ -49,7 +52,9 @@ impl Core {
     /// The first blocked process of those from one number to before another.
     fn first_waiting(&self, from: u32, to: u32) -> Option<Waiting>
         requires { from ≤ to }
-        ensures { result ≡ first_told (λ i. waiting_in i (admit_reply (relation self.now) (courses_in self.now) (moment_of self.now) i)) (numbers_from from (to - from)) }
+        ensures { result ≡ first_told
+            (λ i. waiting_in i (admit_reply (relation self.now) (courses_in self.now) (moment_of self.now) i))
+            (numbers_from from (to - from)) }
     {
         for i in from..to {
             if let Admit::Blocked(block) = self.reply_of(i) {
@@ -62,7 +67,9 @@ impl Core {
     /// The first exhausted process of those from one number to before another.
     pub(crate) fn first_exhausted(&self, from: u32, to: u32) -> Option<u32>
         requires { from ≤ to }
-        ensures { result ≡ first_told (λ i. exhausted_in i (admit_reply (relation self.now) (courses_in self.now) (moment_of self.now) i)) (numbers_from from (to - from)) }
+        ensures { result ≡ first_told
+            (λ i. exhausted_in i (admit_reply (relation self.now) (courses_in self.now) (moment_of self.now) i))
+            (numbers_from from (to - from)) }
     {
         for i in from..to {
             if let Admit::Exhausted(_) = self.reply_of(i) {
@@ -74,7 +81,8 @@ impl Core {
 
     /// The first blocked process in rotation.
     pub(crate) fn next_waiting(&self) -> Option<Waiting>
-        ensures { option_map waiting_of result ≡ slice_get (blocked_in_rotation (relation self.now) (courses_in self.now) (moment_of self.now) self.now.served) 0 }
+        ensures { option_map waiting_of result ≡ slice_get
+            (blocked_in_rotation (relation self.now) (courses_in self.now) (moment_of self.now) self.now.served) 0 }
     {
         let count = self.seats.len() as u32;
         let served = self.served.min(count);

@@ -41,7 +41,8 @@ impl Model for StartRoom {
 
     ghost view = { λ r. record { plan = r.plan; kept = r.memory.most; processes = r.memory.seats; tables = r.memory.tables } };
 
-    ghost invariant = { λ r. (r.memory.instance ≡ opened r.plan []) × (r.memory.most ≤ r.memory.kept) × (r.memory.tables.steps ≡ length (outline r.plan.tree).steps) };
+    ghost invariant = { λ r. (r.memory.instance ≡ opened r.plan []) × (r.memory.most ≤ r.memory.kept)
+        × (r.memory.tables.steps ≡ length (outline r.plan.tree).steps) };
 }
 
 impl StartRoom {

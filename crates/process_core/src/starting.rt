@@ -82,7 +82,9 @@ impl Core {
         ensures plan { IfOk result (λ room. room.plan ≡ plan) }
         ensures room { IfOk result (λ room. IsRoomFor self.now room) }
         ensures left { IfErr result (λ e. e.plan ≡ plan) }
-        ensures why { IfErr result (λ e. (start_refusal (courses_in self.now) (moment_of self.now) (course_of plan) ≡ Some e.why) ⊎ ((e.why ≡ NoMemory) × (start_refusal (courses_in self.now) (moment_of self.now) (course_of plan) ≡ None))) }
+        ensures why { IfErr result
+            (λ e. (start_refusal (courses_in self.now) (moment_of self.now) (course_of plan) ≡ Some e.why)
+            ⊎ ((e.why ≡ NoMemory) × (start_refusal (courses_in self.now) (moment_of self.now) (course_of plan) ≡ None))) }
     {
         if let Some(why) = self.start_refusal(&plan) {
             return Err(StartRefused { plan, why });
@@ -121,8 +123,8 @@ impl Core {
         number
     }
 
-    /// A process of this plan starts, and takes all memory that it can need; the answer is its number. Where it doesn't, the core is
-    /// as it was.
+    /// A process of this plan starts, and takes all memory that it can need; the answer is its number. Where it doesn't, the core
+    /// is as it was.
     pub fn start(&mut self, plan: Plan) -> Result<u32, StartRefused>
         requires good { IsGoodPlan plan }
         requires known { Each (λ op. op < operations_in self.old.conflicts) plan.ops }
@@ -130,7 +132,9 @@ impl Core {
         ensures reply { IfOk result (λ i. (answer_in self.old (start (course_of plan))).reply ≡ started i) }
         ensures left { OnErr result (self.new ≡ self.old) }
         ensures plan { IfErr result (λ e. e.plan ≡ plan) }
-        ensures why { IfErr result (λ e. (start_refusal (courses_in self.old) (moment_of self.old) (course_of plan) ≡ Some e.why) ⊎ ((e.why ≡ NoMemory) × (start_refusal (courses_in self.old) (moment_of self.old) (course_of plan) ≡ None))) }
+        ensures why { IfErr result
+            (λ e. (start_refusal (courses_in self.old) (moment_of self.old) (course_of plan) ≡ Some e.why)
+            ⊎ ((e.why ≡ NoMemory) × (start_refusal (courses_in self.old) (moment_of self.old) (course_of plan) ≡ None))) }
     {
         let room = self.make_room(plan)?;
         Ok(self.start_in(room))

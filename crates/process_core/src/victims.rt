@@ -17,7 +17,8 @@ use crate::replies::Admit;
 impl Core {
     /// Whether a process is blocked and has not begun to complete.
     fn can_be_victim(&self, i: u32) -> bool
-        ensures { result ≡ can_be_victim (has_begun (moment_of self.now) i) (admit_reply (relation self.now) (courses_in self.now) (moment_of self.now) i) }
+        ensures { result ≡ can_be_victim (has_begun (moment_of self.now) i)
+            (admit_reply (relation self.now) (courses_in self.now) (moment_of self.now) i) }
     {
         if self.began(i).is_some() {
             return false;
@@ -30,7 +31,9 @@ impl Core {
 
     /// The greatest such process of those up to a number.
     fn greatest_victim(&self, count: u32) -> Option<u32>
-        ensures { result ≡ greatest (filter (λ i. can_be_victim (has_begun (moment_of self.now) i) (admit_reply (relation self.now) (courses_in self.now) (moment_of self.now) i)) (numbers_from 1 count)) }
+        ensures { result ≡ greatest
+            (filter (λ i. can_be_victim (has_begun (moment_of self.now) i)
+            (admit_reply (relation self.now) (courses_in self.now) (moment_of self.now) i)) (numbers_from 1 count)) }
     {
         let mut left = count;
         while left > 0 {
@@ -45,7 +48,8 @@ impl Core {
 
     /// The victim, where no piece is free. There is none while a piece runs.
     fn blocked_victim(&self) -> Option<u32>
-        requires { find (is_free (relation self.now) (courses_in self.now) (moment_of self.now)) (rotation (moment_of self.now) self.now.served) ≡ None }
+        requires { find (is_free (relation self.now) (courses_in self.now) (moment_of self.now))
+            (rotation (moment_of self.now) self.now.served) ≡ None }
         ensures { result ≡ victim_of (relation self.now) (courses_in self.now) (moment_of self.now) }
     {
         let count = self.seats.len() as u32;
@@ -59,7 +63,9 @@ impl Core {
     /// The first free piece in rotation, once the victims are made.
     pub(crate) fn free_piece(&mut self) -> Option<Piece>
         ensures core { self.new ≡ with_all self.old (all_victims (relation self.old) (courses_in self.old) (moment_of self.old)) }
-        ensures piece { result ≡ option_map (hand_to (courses_in self.new) (moment_of self.new)) (find (is_free (relation self.new) (courses_in self.new) (moment_of self.new)) (rotation (moment_of self.new) self.new.served)) }
+        ensures piece { result ≡ option_map (hand_to (courses_in self.new) (moment_of self.new))
+            (find (is_free (relation self.new) (courses_in self.new) (moment_of self.new))
+            (rotation (moment_of self.new) self.new.served)) }
     {
         let mut first = self.next_piece();
         'stalls: while first.is_none() {

@@ -1,5 +1,6 @@
 -- Nine files under one clock: what a read gives, what a crash may leave, and what a call does to both.
-use Rattle.std.specs.Prelude.{◌≡◌, ◌≢◌, ◌⊎◌, ℕ, ◌+◌, ◌≤◌, max, List, [], ◌++◌, length, take, drop, Bool, IsTrue, slice_index_or, slice_set}
+use Rattle.std.specs.Prelude.{◌≡◌, ◌≢◌, ◌⊎◌, ℕ, ◌+◌, ◌≤◌, max, List, [], ◌++◌, length, take, drop, Bool, IsTrue, slice_index_or}
+use Rattle.std.specs.Prelude.{slice_set}
 
 -- the bytes of each of the nine files
 abbrev pub FileSet : Type 0
@@ -42,7 +43,8 @@ Same old new = new ≡ old
 pub record SameBut (q : ℕ) (old new : FileSet) : Type 0 where
   pub others : (k : ℕ) → k ≢ q → file_of new k ≡ file_of old k
 
--- a file after a write of n bytes at this place, of which nothing is sure: any bytes in the range and past the old end, the same elsewhere
+-- a file after a write of n bytes at this place, of which nothing is sure: any bytes in the range and past the old end, the same
+-- elsewhere
 pub record Torn (at n : ℕ) (old new : List ℕ) : Type 0 where
   pub before : take at new ≡ take at old
   pub after : drop (at + n) new ≡ drop (at + n) old

@@ -6,13 +6,15 @@ use Rattle.process_disk.specs.Disk.{FileSet, Disk, Same, SameBut}
 pub record EachImage (disk : Disk) (t : ℕ) (P : FileSet → Type 0) : Type 0 where
   pub has : (c : FileSet) → disk.left_since t c → P c
 
--- images follow from one moment to the next: a crash since t may have left what it might have left by the first, or was one since the first
+-- images follow from one moment to the next: a crash since t may have left what it might have left by the first, or was one since
+-- the first
 pub record ImagesFollow (old new : Disk) : Type 0 where
   pub later : old.moment ≤ new.moment
   pub nothing_else : (t : ℕ) (c : FileSet) → t ≤ old.moment → new.left_since t c → old.left_since t c ⊎ new.left_since old.moment c
   pub keeps : (t : ℕ) (c : FileSet) → t ≤ old.moment → old.left_since t c → new.left_since t c
 
--- a run of calls: what is read now, and what a crash since its start may have left, comes by a step from what was read and from what a crash at its start may leave
+-- a run of calls: what is read now, and what a crash since its start may have left, comes by a step from what was read and from
+-- what a crash at its start may leave
 pub record RunBy (step : FileSet → FileSet → Type 0) (old new : Disk) : Type 0 where
   pub follow : ImagesFollow old new
   pub read : step old.files new.files

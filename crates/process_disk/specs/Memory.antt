@@ -1,5 +1,6 @@
 -- A rack in memory: what it holds, what its calls mean, and what a stop leaves of it. Lists of changes have the newest first.
-use Rattle.std.specs.Prelude.{◌≡◌, ◌⊎◌, ℕ, ◌+◌, ◌-◌, ◌^◌, ◌≤◌, min, List, [], ◌∷◌, length, drop, reverse, Bool, IsTrue, true, ◌&&◌, nat_lt, nat_le, Result, IsErr, OnOk, OnErr, Contains}
+use Rattle.std.specs.Prelude.{◌≡◌, ◌⊎◌, ℕ, ◌+◌, ◌-◌, ◌^◌, ◌≤◌, min, List, [], ◌∷◌, length, drop, reverse, Bool, IsTrue, true, ◌&&◌}
+use Rattle.std.specs.Prelude.{nat_lt, nat_le, Result, IsErr, OnOk, OnErr, Contains}
 use Rattle.process_flow.specs.Causes.{Rose, CountsFaults}
 use Rattle.process_disk.specs.Disk.{FileSet, Disk, file_of, put, TornIn}
 use Rattle.process_disk.specs.Calls.{OnlyLooks}
@@ -51,7 +52,8 @@ pub record IsSound (first : FileSet) (made : List Recorded) (files : FileSet) : 
   pub placed : IsTrue (are_placed first (reverse made))
   pub now : files ≡ files_after first (reverse made)
 
--- What a rack in memory holds: the files at first, the writes and the finished syncs since, the calls that are to fail, and how many calls were made, failed and wanted memory.
+-- What a rack in memory holds: the files at first, the writes and the finished syncs since, the calls that are to fail, and how
+-- many calls were made, failed and wanted memory.
 pub record MemoryDisk : Type 0 where
   pub first : FileSet
   pub made : List Recorded
@@ -87,7 +89,8 @@ disk_of m = record {
   left_since = LeftSince m.first m.made;
 }
 
--- One call of it: it fails exactly where its number is listed or memory was wanting, and then the count of faults is one more, up to its last value.
+-- One call of it: it fails exactly where its number is listed or memory was wanting, and then the count of faults is one more, up
+-- to its last value.
 pub record IsCall {T E : Type 0} (old new : MemoryDisk) (result : Result T E) : Type 0 where
   pub listed : Contains old.fails old.calls → IsErr result
   pub failed : IsErr result → Contains old.fails old.calls ⊎ Rose old.starved new.starved

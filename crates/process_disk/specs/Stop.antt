@@ -1,5 +1,6 @@
 -- What a stop within a call leaves of a rack in memory.
-use Rattle.std.specs.Prelude.{ℕ, ◌+◌, ◌-◌, List, [], ◌∷◌, ◌++◌, length, take, replicate, Bool, true, false, ◌&&◌, ◌||◌, nat_lt, nat_le, ◌==◌, if◌then◌else◌}
+use Rattle.std.specs.Prelude.{ℕ, ◌+◌, ◌-◌, List, [], ◌∷◌, ◌++◌, length, take, replicate, Bool, true, false, ◌&&◌, ◌||◌, nat_lt}
+use Rattle.std.specs.Prelude.{nat_le, ◌==◌, if◌then◌else◌}
 use Rattle.process_disk.specs.Disk.{FileSet, put}
 use Rattle.process_disk.specs.Memory.{files_after}
 use Rattle.process_disk.specs.declared.changes.Change.{Change}
@@ -46,7 +47,8 @@ abbrev pub left_with : ℕ → ℕ → Change → FileSet → FileSet → FileSe
 left_with k fill (Written w) files left = put left w.file w.at (kept k fill w.bytes)
 left_with k fill Synced files left = files
 
--- the files as the last finished sync left them, with the ranges written since: what was written in their first `keep` bytes, counted in the order of the writes, and fill in the rest
+-- the files as the last finished sync left them, with the ranges written since: what was written in their first `keep` bytes,
+-- counted in the order of the writes, and fill in the rest
 abbrev pub left_by : ℕ → ℕ → FileSet → List Recorded → FileSet
 left_by keep fill first [] = first
 left_by keep fill first (m ∷ older) =

@@ -33,7 +33,8 @@ impl Rack for MemoryRack {
 
     fn read(&mut self, file: u8, at: u64, buf: &mut [u8]) -> Result<usize, Failed>
         requires { file < 9 }
-        ensures count { IfOk result (λ n. n ≡ min (length buf.old) (length (drop at (file_of (disk_of (memory self.old)).files file)))) }
+        ensures count { IfOk result
+            (λ n. n ≡ min (length buf.old) (length (drop at (file_of (disk_of (memory self.old)).files file)))) }
         ensures bytes { IfOk result (λ n. take n buf.new ≡ take n (drop at (file_of (disk_of (memory self.old)).files file))) }
         ensures bound { IfOk result (λ n. n ≤ length buf.old) }
         ensures look { IsLook (memory self.old) (memory self.new) result }
@@ -47,7 +48,8 @@ impl Rack for MemoryRack {
     fn write_at(&mut self, file: u8, at: u64, bytes: &[u8]) -> Result<(), Failed>
         requires file { file < 9 }
         requires place { at ≤ length (file_of (disk_of (memory self.old)).files file) }
-        ensures written { OnOk result ((disk_of (memory self.new)).files ≡ put (disk_of (memory self.old)).files file at bytes.now) }
+        ensures written { OnOk result
+            ((disk_of (memory self.new)).files ≡ put (disk_of (memory self.old)).files file at bytes.now) }
         ensures writes { OnlyWrites file at (length bytes.now) (disk_of (memory self.old)) (disk_of (memory self.new)) }
         ensures faults { CountsFaults (memory self.old).faults (memory self.new).faults result }
         ensures call { IsCall (memory self.old) (memory self.new) result }

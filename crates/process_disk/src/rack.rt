@@ -26,7 +26,8 @@ pub trait Rack {
         requires { file < 9 }
         ensures count { Told (disk self.old) →
             IfOk result (λ n. n ≡ min (length buf.old) (length (drop at (file_of (disk self.old).files file)))) }
-        ensures bytes { Told (disk self.old) → IfOk result (λ n. take n buf.new ≡ take n (drop at (file_of (disk self.old).files file))) }
+        ensures bytes { Told (disk self.old) → IfOk result
+            (λ n. take n buf.new ≡ take n (drop at (file_of (disk self.old).files file))) }
         ensures bound { IfOk result (λ n. n ≤ length buf.old) }
         ensures looks { OnlyLooks (disk self.old) (disk self.new) }
         ensures faults { CountsFaults (faults self.old) (faults self.new) result };

@@ -3,7 +3,8 @@ ghost use Rattle.std.specs.Prelude.{ℕ, ◌≡◌, ◌<◌, ◌≤◌, ◌-◌,
 ghost use Rattle.process_disk.specs.Disk.{put};
 ghost use Rattle.process_disk.specs.Memory.{files_after, with_change, fresh, LeftSince};
 ghost use Rattle.process_disk.specs.MemoryView.{memory};
-ghost use Rattle.process_disk.specs.Stop.{from_latest, is_before, is_through, is_within, kept, unsynced, unsynced_with, left_with, left_by};
+ghost use Rattle.process_disk.specs.Stop.{from_latest, is_before, is_through, is_within, kept, unsynced, unsynced_with, left_with};
+ghost use Rattle.process_disk.specs.Stop.{left_by};
 
 use crate::MemoryRack;
 use crate::changes::{Change, Recorded};
@@ -39,7 +40,8 @@ impl MemoryRack {
         keep: u64,
         fill: u8,
     ) -> Result<Files, AllocError>
-        ensures files { let m = memory self.now in IfOk result (λ files. files ≡ left_by keep fill m.first (from_latest (is_within call) m.made)) }
+        ensures files { let m =
+            memory self.now in IfOk result (λ files. files ≡ left_by keep fill m.first (from_latest (is_within call) m.made)) }
         ensures image { let m = memory self.now in IfOk result (λ files.
             LeftSince m.first (from_latest (is_through call) m.made) (length (from_latest (is_before call) m.made)) files) }
         ensures nine { IfOk result (λ files. length files ≡ 9) }
@@ -106,7 +108,8 @@ impl Stop {
         fill: u8,
     ) -> Result<(), AllocError>
         ensures files { OnOk result (self.new.files ≡ with_change change.now self.old.files) }
-        ensures room { (count : ℕ) → self.old.room ≡ keep - count → OnOk result (self.new.room ≡ keep - unsynced_with change.now count) }
+        ensures room { (count : ℕ) → self.old.room ≡ keep - count
+            → OnOk result (self.new.room ≡ keep - unsynced_with change.now count) }
         ensures left { OnOk result (self.new.left ≡ left_with self.old.room fill change.now self.old.files self.old.left) }
     {
         match change {

@@ -23,7 +23,8 @@ use Rattle.engine_steps.specs.declared.engines.Phase.TheVariants as phase
 use Rattle.process_engine.specs.declared.gates.Answer.{Answer}
 use Rattle.process_engine.specs.declared.gates.Answer.TheVariants.{Done, Refused}
 use Rattle.process_engine.specs.declared.finishing.Finish.{Finish}
-use Rattle.process_engine.specs.declared.finishing.Finish.TheVariants.{Effected, Retry, Failed, Over, Dropped, Exhausted, DiskFault, NoMemory, Closed}
+use Rattle.process_engine.specs.declared.finishing.Finish.TheVariants.{Effected, Retry, Failed, Over, Dropped, Exhausted, DiskFault}
+use Rattle.process_engine.specs.declared.finishing.Finish.TheVariants.{NoMemory, Closed}
 
 -- the values of the books bar a piece; nothing bars an end
 abbrev pub is_barred : {R B : Type 0} → EngineState R B → Piece → Bool
@@ -68,10 +69,12 @@ Leaves old new p Exhausted = IsFinished old new p.piece Fails × (new.files.rack
 Leaves old new p Over = new ≡ old
 Leaves old new p (Dropped k) = new ≡ old
 Leaves old new p DiskFault = IsLeft old new phase.Closed
-Leaves old new p (NoMemory q) = IsLeft old new phase.Settled × (q ≡ p) × (p.piece.work ≡ Forward) × (new.files.rack ≡ old.files.rack)
+Leaves old new p (NoMemory q) =
+    IsLeft old new phase.Settled × (q ≡ p) × (p.piece.work ≡ Forward) × (new.files.rack ≡ old.files.rack)
 Leaves old new p (Closed n) = new ≡ old
 
--- For which history a crash within the call may leave files: the one before, or where the effect was under way, the one with it too.
+-- For which history a crash within the call may leave files: the one before, or where the effect was under way, the one with it
+-- too.
 abbrev pub MayLeave : Finish → Catalog → History → History → FileSet → Type 0
 MayLeave (Effected n) c before after files = IsSoundForEither c before after files
 MayLeave DiskFault c before after files = IsSoundForEither c before after files
@@ -83,7 +86,8 @@ MayLeave Exhausted c before after files = IsSound c before files
 MayLeave (NoMemory p) c before after files = IsSound c before files
 MayLeave (Closed n) c before after files = IsSound c before files
 
--- An effect is acknowledged with its place, the last one of the history, and each image from then on is sound for the history with it.
+-- An effect is acknowledged with its place, the last one of the history, and each image from then on is sound for the history with
+-- it.
 pub record IsAcknowledged {R B : Type 0} (old new : EngineState R B) (disk : Disk) (p : Piece) (n : ℕ) : Type 0 where
   pub history : full_history new.core ≡ history_with old.core p
   pub place : n ≡ length (history_with old.core p).events
@@ -101,13 +105,16 @@ Acknowledges old new disk p (NoMemory q) = ⊤
 Acknowledges old new disk p (Closed n) = ⊤
 
 -- What a finish of a piece with this outcome does to an engine that is open and at rest.
-pub record Finishes {R B : Type 0} (disk : R → Disk) (old new : EngineState R B) (p : Handed) (outcome : Outcome) (result : Finish) : Type 0 where
+pub record Finishes {R B : Type 0} (disk : R → Disk) (old new : EngineState R B) (p : Handed) (outcome : Outcome)
+    (result : Finish) : Type 0 where
   pub reply : RepliesAs result (finish_reply (relation old.core) (courses_in old.core) (moment_of old.core) p.piece.number outcome)
   pub left : Leaves old new p result
-  pub any_moment : Told (disk old.files.rack) → EachImage (disk new.files.rack) (disk old.files.rack).moment (MayLeave result old.catalog (full_history old.core) (history_with old.core p.piece))
+  pub any_moment : Told (disk old.files.rack) → EachImage (disk new.files.rack) (disk old.files.rack).moment
+      (MayLeave result old.catalog (full_history old.core) (history_with old.core p.piece))
   pub acknowledged : Acknowledges old new (disk new.files.rack) p.piece result
 
--- What the end of a piece leaves of the rack: images follow, it tells as before, and its count of faults rose where a call of it failed.
+-- What the end of a piece leaves of the rack: images follow, it tells as before, and its count of faults rose where a call of it
+-- failed.
 pub record LeavesRack {R : Type 0} (disk : R → Disk) (faults : R → ℕ) (old new : R) (result : Finish) : Type 0 where
   pub follow : Told (disk old) → ImagesFollow (disk old) (disk new)
   pub tells : (disk new).tells ≡ (disk old).tells

@@ -66,7 +66,7 @@ fn finish_refused<R: Rack + Drop, B: Resource>(engine: &mut Engine<R, B>, piece:
     ensures fits { EachFits B.meaning B.sort engine.new.files.stores }
     ensures rack { LeavesRack R.disk R.faults engine.old.files.rack engine.new.files.rack result }
 {
-    engine.is_sound();
+    engine.invariant_holds();
     refused_as(engine.refuse_piece(piece))
 }
 
@@ -81,10 +81,10 @@ fn finish_end<R: Rack + Drop, B: Resource>(engine: &mut Engine<R, B>, piece: Pie
     ensures fits { EachFits B.meaning B.sort engine.new.files.stores }
     ensures rack { LeavesRack R.disk R.faults engine.old.files.rack engine.new.files.rack result }
 {
-    engine.is_sound();
+    engine.invariant_holds();
     match engine.end_piece(piece) {
         Ok(count) => {
-            engine.is_sound();
+            engine.invariant_holds();
             Finish::Effected(count)
         }
         Err(DiskFault) => Finish::DiskFault,
@@ -99,9 +99,11 @@ fn finish_prepared<R: Rack + Drop, B: Resource>(
     requires fits { EachFits B.meaning B.sort engine.old.files.stores }
     requires prepared { IsPrepared engine.old (R.disk engine.old.files.rack) prepared }
     ensures settles { SettlesPiece engine.old engine.new prepared.piece result }
-    ensures any_moment { Told (R.disk engine.old.files.rack) → EachImage (R.disk engine.new.files.rack) (R.disk engine.old.files.rack).moment
+    ensures any_moment { Told (R.disk engine.old.files.rack)
+        → EachImage (R.disk engine.new.files.rack) (R.disk engine.old.files.rack).moment
         (IsSoundForEither engine.old.catalog (full_history engine.old.core) (history_with engine.old.core prepared.piece.piece)) }
-    ensures follow { Told (R.disk engine.old.files.rack) → ImagesFollow (R.disk engine.old.files.rack) (R.disk engine.new.files.rack) }
+    ensures follow { Told (R.disk engine.old.files.rack)
+        → ImagesFollow (R.disk engine.old.files.rack) (R.disk engine.new.files.rack) }
     ensures fits { EachFits B.meaning B.sort engine.new.files.stores }
     ensures tells { (R.disk engine.new.files.rack).tells ≡ (R.disk engine.old.files.rack).tells }
     ensures cause { HasCause (R.faults engine.old.files.rack) (R.faults engine.new.files.rack) result }
@@ -115,15 +117,16 @@ fn finish_done<R: Rack + Drop, B: Resource>(engine: &mut Engine<R, B>, piece: Pi
     requires fits { EachFits B.meaning B.sort engine.old.files.stores }
     requires settled { engine.old.phase ≡ phase.Settled }
     requires out { IsStepOut engine.old.core piece.piece }
-    ensures finishes { Finishes R.disk engine.old engine.new piece (outcome_of Answer.Done (is_barred engine.old piece.piece)) result }
+    ensures finishes { Finishes R.disk engine.old engine.new piece
+        (outcome_of Answer.Done (is_barred engine.old piece.piece)) result }
     ensures fits { EachFits B.meaning B.sort engine.new.files.stores }
     ensures rack { LeavesRack R.disk R.faults engine.old.files.rack engine.new.files.rack result }
 {
-    engine.is_sound();
+    engine.invariant_holds();
     match engine.prepare_piece(piece) {
         PreparePiece::Ready(prepared) => match finish_prepared(engine, prepared) {
             Ok(count) => {
-                engine.is_sound();
+                engine.invariant_holds();
                 Finish::Effected(count)
             }
             Err(DiskFault) => Finish::DiskFault,
@@ -169,9 +172,12 @@ pub fn finish_piece<R: Rack + Drop, B: Resource>(
     requires rest { engine.old.phase ≢ phase.UnderWay }
     requires handed { IsHandedBy engine.old.core piece.piece }
     requires end { piece.piece.work ≡ End → answer ≡ Answer.Done }
-    ensures finishes { engine.old.phase ≡ phase.Settled → Finishes R.disk engine.old engine.new piece (outcome_of answer (is_barred engine.old piece.piece)) result }
-    ensures closed { engine.old.phase ≡ phase.Closed → (result ≡ Finish.Closed (length engine.old.core.kept)) × (engine.new ≡ engine.old) }
-    ensures follow { Told (R.disk engine.old.files.rack) → ImagesFollow (R.disk engine.old.files.rack) (R.disk engine.new.files.rack) }
+    ensures finishes { engine.old.phase ≡ phase.Settled
+        → Finishes R.disk engine.old engine.new piece (outcome_of answer (is_barred engine.old piece.piece)) result }
+    ensures closed { engine.old.phase ≡ phase.Closed → (result ≡ Finish.Closed (length engine.old.core.kept))
+        × (engine.new ≡ engine.old) }
+    ensures follow { Told (R.disk engine.old.files.rack)
+        → ImagesFollow (R.disk engine.old.files.rack) (R.disk engine.new.files.rack) }
     ensures fits { EachFits B.meaning B.sort engine.new.files.stores }
     ensures tells { (R.disk engine.new.files.rack).tells ≡ (R.disk engine.old.files.rack).tells }
     ensures later { R.faults engine.old.files.rack ≤ R.faults engine.new.files.rack }
@@ -180,7 +186,7 @@ pub fn finish_piece<R: Rack + Drop, B: Resource>(
     if let Err(Closed(count)) = engine.not_closed() {
         return Finish::Closed(count);
     }
-    engine.is_sound();
+    engine.invariant_holds();
     match engine.state(&piece) {
         PieceState::Out => finish_out(engine, piece, answer),
         PieceState::Dropped(event) => Finish::Dropped(event),

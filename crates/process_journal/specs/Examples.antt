@@ -15,18 +15,31 @@ use Rattle.process_journal.specs.Journals.{is_allowed}
 
 -- the operation `add` on subsystem 0, which conflicts with nothing, in version 1
 abbrev pub add_alone : Catalog
-add_alone = record { version = 1; ops = record { name = codes "add"; subsystem = 0; verb = Add } ∷ []; conflicts = (Never ∷ []) ∷ [] }
+add_alone =
+    record { version = 1; ops = record { name = codes "add"; subsystem = 0; verb = Add } ∷ []; conflicts = (Never ∷ []) ∷ [] }
 
 -- the same in version 2, where additions of one key conflict
 abbrev pub add_by_key : Catalog
-add_by_key = record { version = 2; ops = record { name = codes "add"; subsystem = 0; verb = Add } ∷ []; conflicts = (Key ∷ []) ∷ [] }
+add_by_key =
+    record { version = 2; ops = record { name = codes "add"; subsystem = 0; verb = Add } ∷ []; conflicts = (Key ∷ []) ∷ [] }
 
 -- process a c x add K 5 end
 abbrev pub add_on : ℕ → Plan
 add_on key = record {
   name = codes "a";
   tree = record {
-    steps = record { kind = C; name = codes "x"; op = codes "add"; key = key; amount = pos 5; tries = 3; undo_tries = 3; refuse = 0; undo_refuse = 0 } ∷ [];
+    steps =
+        record {
+          kind = C;
+          name = codes "x";
+          op = codes "add";
+          key = key;
+          amount = pos 5;
+          tries = 3;
+          undo_tries = 3;
+          refuse = 0;
+          undo_refuse = 0;
+        } ∷ [];
     tail = End;
   };
   ops = 0 ∷ [];
@@ -69,11 +82,13 @@ ended_is_allowed : is_allowed add_alone ended ≡ true
 ended_is_allowed = refl
 
 -- and not where a step comes that the process doesn't have, or it ends twice, or a start has number 2
-no_second_step : is_allowed add_alone (with_event started (events.Act (record { process = 1; step = 1; op = 0; key = 0; undo = false }))) ≡ false
+no_second_step : is_allowed add_alone
+    (with_event started (events.Act (record { process = 1; step = 1; op = 0; key = 0; undo = false }))) ≡ false
 no_second_step = refl
 
 -- or a step comes with a key that isn't its own
-no_other_key : is_allowed add_alone (with_event started (events.Act (record { process = 1; step = 0; op = 0; key = 2; undo = false }))) ≡ false
+no_other_key : is_allowed add_alone
+    (with_event started (events.Act (record { process = 1; step = 0; op = 0; key = 2; undo = false }))) ≡ false
 no_other_key = refl
 
 no_second_end : is_allowed add_alone (with_event ended (events.End 1)) ≡ false
@@ -83,7 +98,9 @@ no_start_of_2 : is_allowed add_alone (with_start no_history 2 one_add) ≡ false
 no_start_of_2 = refl
 
 -- a step may be undone, and then the process ends with nothing left
-undone_and_ended : is_allowed add_alone (with_event (with_event done (events.Act (record { process = 1; step = 0; op = 0; key = 1; undo = true }))) (events.End 1)) ≡ true
+undone_and_ended : is_allowed add_alone
+    (with_event (with_event done (events.Act (record { process = 1; step = 0; op = 0; key = 1; undo = true }))) (events.End 1))
+    ≡ true
 undone_and_ended = refl
 
 -- the setup of the catalog of version 2
@@ -93,7 +110,8 @@ setup_of_2 = refl
 -- behind the first one's step, a second process does its own on this key, and ends
 abbrev pub second_ended : ℕ → History
 second_ended key =
-    with_event (with_event (with_start done 2 (add_on key)) (events.Act (record { process = 2; step = 0; op = 0; key = key; undo = false }))) (events.End 2)
+    with_event (with_event (with_start done 2 (add_on key))
+    (events.Act (record { process = 2; step = 0; op = 0; key = key; undo = false }))) (events.End 2)
 
 -- on another key it may, and on the same one it waits for the first
 ends_on_another_key : is_allowed add_by_key (second_ended 2) ≡ true

@@ -39,7 +39,8 @@ OneHistoryAtMost = (c d : Catalog) (h k : History) (file : List ℕ) → IsHisto
 
 -- A journal is refused for a fault of the rack or want of memory alone.
 abbrev pub JournalsAreOpened : Type 0
-JournalsAreOpened = (c : Catalog) (h : History) (file : List ℕ) (e : JournalError) → IsHistoryUnder c h → IsLog 0 (journal_bodies c h) file
+JournalsAreOpened = (c : Catalog) (h : History) (file : List ℕ) (e : JournalError) → IsHistoryUnder c h
+    → IsLog 0 (journal_bodies c h) file
     → IsDue (read_log 0 file) e → (e ≡ DiskFault) ⊎ (e ≡ NoMemory)
 
 -- A history that a journal may have is what each call of one asks.
@@ -48,8 +49,10 @@ HistoriesArePlanned = (c : Catalog) (h : History) → IsHistoryUnder c h → IsP
 
 -- What a record makes of one is one, where it is allowed.
 abbrev pub RecordsMakeHistories : Type 0
-RecordsMakeHistories = (c : Catalog) (r : Record) (h after : History) → IsHistoryUnder c h → IsMadeBy c r h after → FitsItsBytes r → IsTrue (is_allowed c after) → IsHistoryUnder c after
+RecordsMakeHistories = (c : Catalog) (r : Record) (h after : History) → IsHistoryUnder c h → IsMadeBy c r h after → FitsItsBytes r
+    → IsTrue (is_allowed c after) → IsHistoryUnder c after
 
 -- Each beginning of one is one, with the plans of those that started in it.
 abbrev pub BeginningsAreHistories : Type 0
-BeginningsAreHistories = (c : Catalog) (h : History) (g k : List Event) → IsHistoryUnder c h → h.events ≡ g ++ k → IsHistoryUnder c (beginning h g)
+BeginningsAreHistories = (c : Catalog) (h : History) (g k : List Event) → IsHistoryUnder c h → h.events ≡ g ++ k
+    → IsHistoryUnder c (beginning h g)

@@ -1,5 +1,6 @@
 // An open journal.
-ghost use Rattle.std.specs.Prelude.{◌≡◌, ◌≢◌, ◌<◌, ◌≤◌, ◌+◌, ◌^◌, ◌++◌, ◌∷◌, [], ℕ, List, length, IfOk, IfErr, OnOk, OnErr, IsErrOf};
+ghost use Rattle.std.specs.Prelude.{◌≡◌, ◌≢◌, ◌<◌, ◌≤◌, ◌+◌, ◌^◌, ◌++◌, ◌∷◌, [], ℕ, List, length, IfOk, IfErr, OnOk, OnErr};
+ghost use Rattle.std.specs.Prelude.{IsErrOf};
 ghost use Rattle.process_flow.specs.Causes.{Rose, HasCause};
 ghost use Rattle.process_disk.specs.Disk.{Told, file_of};
 ghost use Rattle.process_disk.specs.Images.{EachImage, OthersAsBefore, AllAsBefore};
@@ -73,14 +74,16 @@ impl Journal {
         requires catalog { IsCatalog catalog.now }
         requires empty { Told (R.disk rack.old) → file_of (R.disk rack.old).files 0 ≡ [] }
         ensures stands { Told (R.disk rack.old) → IfOk result (λ journal. Stands journal catalog.now no_history (R.disk rack.new)) }
-        ensures bytes { Told (R.disk rack.old) → IfOk result (λ _. file_of (R.disk rack.new).files 0 ≡ plain_log 0 (journal_bodies catalog.now no_history)) }
+        ensures bytes { Told (R.disk rack.old) → IfOk result
+            (λ _. file_of (R.disk rack.new).files 0 ≡ plain_log 0 (journal_bodies catalog.now no_history)) }
         ensures journal { IfOk result (λ journal. (journal.file ≡ 0) × (journal.count ≡ 1)) }
         ensures others { Told (R.disk rack.old) → OthersAsBefore 0 (R.disk rack.old) (R.disk rack.new) }
         ensures unwritten { IfErr result (λ e. e ≡ NoMemory → rack.new ≡ rack.old) }
         ensures tells { (R.disk rack.new).tells ≡ (R.disk rack.old).tells }
         ensures later { R.faults rack.old ≤ R.faults rack.new }
         ensures quiet { OnOk result (R.faults rack.new ≡ R.faults rack.old) }
-        ensures refused { IfErr result (λ e. e ≢ NoMemory → (e ≡ JournalError.DiskFault) × Rose (R.faults rack.old) (R.faults rack.new)) }
+        ensures refused { IfErr result
+            (λ e. e ≢ NoMemory → (e ≡ JournalError.DiskFault) × Rose (R.faults rack.old) (R.faults rack.new)) }
     {
         let setup = setup_of(alloc, catalog)?;
         let buffer = room(alloc)?;
@@ -99,7 +102,8 @@ impl Journal {
         ensures stands { Told (R.disk rack.old) → IfOk result (λ opened. Stands opened.0 opened.1 opened.2 (R.disk rack.new)) }
         // Whatever the rack tells, the history is one that a journal of the catalog may have.
         ensures history { IfOk result (λ opened. IsHistoryUnder opened.1 opened.2) }
-        ensures journal { IfOk result (λ opened. (opened.0.file ≡ 0) × (opened.0.count ≡ length (journal_bodies opened.1 opened.2))) }
+        ensures journal { IfOk result
+            (λ opened. (opened.0.file ≡ 0) × (opened.0.count ≡ length (journal_bodies opened.1 opened.2))) }
         ensures all { Told (R.disk rack.old) → AllAsBefore (R.disk rack.old) (R.disk rack.new) }
         ensures tells { (R.disk rack.new).tells ≡ (R.disk rack.old).tells }
         ensures later { R.faults rack.old ≤ R.faults rack.new }
@@ -124,12 +128,15 @@ impl Journal {
         requires size { length (bytes_of entry.now) < 2 ^ 16 }
         requires room { self.old.count < 65536 }
         requires goes_on { Told (R.disk rack.old) → GoesOn self.old entry.now (R.disk rack.old) }
-        ensures acknowledged { Told (R.disk rack.old) → (c : Catalog) (h after : History) → Stands self.old c h (R.disk rack.old) → IsMadeBy c entry.now h after → IsHistoryUnder c after →
+        ensures acknowledged { Told (R.disk rack.old) → (c : Catalog) (h after : History) → Stands self.old c h (R.disk rack.old)
+            → IsMadeBy c entry.now h after → IsHistoryUnder c after →
             OnOk result (Stands self.new c after (R.disk rack.new)) }
-        ensures any_moment { Told (R.disk rack.old) → (c : Catalog) (h after : History) → Stands self.old c h (R.disk rack.old) → IsMadeBy c entry.now h after → IsHistoryUnder c after →
+        ensures any_moment { Told (R.disk rack.old) → (c : Catalog) (h after : History) → Stands self.old c h (R.disk rack.old)
+            → IsMadeBy c entry.now h after → IsHistoryUnder c after →
             EachImage (R.disk rack.new) (R.disk rack.old).moment (IsJournalOfEither c h after) }
         // A file as a journal writes it stays so.
-        ensures bytes { Told (R.disk rack.old) → (c : Catalog) (h after : History) → Stands self.old c h (R.disk rack.old) → IsMadeBy c entry.now h after →
+        ensures bytes { Told (R.disk rack.old) → (c : Catalog) (h after : History) → Stands self.old c h (R.disk rack.old)
+            → IsMadeBy c entry.now h after →
             file_of (R.disk rack.old).files 0 ≡ plain_log 0 (journal_bodies c h) → OnOk result (file_of (R.disk rack.new).files 0 ≡ plain_log 0 (journal_bodies c after)) }
         ensures others { Told (R.disk rack.old) → OthersAsBefore 0 (R.disk rack.old) (R.disk rack.new) }
         ensures ok { OnOk result ((self.new.file ≡ self.old.file) × (self.new.count ≡ self.old.count + 1)) }

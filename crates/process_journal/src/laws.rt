@@ -1,5 +1,6 @@
 // What is proved of journals and of the histories that they may have.
-ghost use Rattle.process_journal.specs.Laws.{OneHistoryAtMost, JournalsAreOpened, HistoriesArePlanned, RecordsMakeHistories, BeginningsAreHistories};
+ghost use Rattle.process_journal.specs.Laws.{OneHistoryAtMost, JournalsAreOpened, HistoriesArePlanned, RecordsMakeHistories};
+ghost use Rattle.process_journal.specs.Laws.{BeginningsAreHistories};
 
 /// A file is the journal of one catalog and one history at most.
 pub fn journals_have_one_history()

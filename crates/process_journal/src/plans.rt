@@ -33,7 +33,9 @@ fn is_memory(error: &TextError) -> bool
 
 // The one process that a text is read as, if it is.
 fn only_process(alloc: Global, text: &[u8]) -> Result<Option<Named>, AllocError>
-    ensures { IfOk result (λ found. MatchOption found ((p : Named) → ¬ IsReading (words_of text.now) (p ∷ [])) (λ p. IsReading (words_of text.now) (p ∷ []))) }
+    ensures { IfOk result
+        (λ found. MatchOption found ((p : Named) → ¬ IsReading (words_of text.now) (p ∷ []))
+        (λ p. IsReading (words_of text.now) (p ∷ []))) }
 {
     match read(alloc, text) {
         Ok(found) => Ok(only(found)),
@@ -75,7 +77,8 @@ fn is_well_formed(alloc: Global, tree: &Tree) -> Result<bool, AllocError>
 /// The plan of a text under a catalog, if it has one.
 pub fn plan_of(alloc: Global, text: &[u8], catalog: &Catalog) -> Result<Option<Plan>, AllocError>
     requires { IsCatalog catalog.now }
-    ensures { IfOk result (λ found. MatchOption found ((p : Plan) → ¬ IsPlanOfText catalog.now text.now p) (IsPlanOfText catalog.now text.now)) }
+    ensures { IfOk result
+        (λ found. MatchOption found ((p : Plan) → ¬ IsPlanOfText catalog.now text.now p) (IsPlanOfText catalog.now text.now)) }
 {
     let Some(named) = process_of(alloc, text)? else {
         return Ok(None);

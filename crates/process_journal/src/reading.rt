@@ -19,7 +19,8 @@ use std::alloc::Global;
 // The catalog of the first body.
 fn catalog_of(alloc: Global, body: &[u8]) -> Result<Catalog, JournalError>
     ensures catalog { IfOk result (λ c. IsCatalog c × (body.now ≡ setup_bytes (bytes_of c))) }
-    ensures refused { IfErr result (λ e. (e ≡ NoMemory) ⊎ ((e ≡ BadRecord 1) × ((c : Catalog) → IsCatalog c → ¬ (body.now ≡ setup_bytes (bytes_of c))))) }
+    ensures refused { IfErr result
+        (λ e. (e ≡ NoMemory) ⊎ ((e ≡ BadRecord 1) × ((c : Catalog) → IsCatalog c → ¬ (body.now ≡ setup_bytes (bytes_of c))))) }
 {
     let Some(Record::Setup(bytes)) = read(alloc, body)? else {
         return Err(JournalError::BadRecord(1));
@@ -35,8 +36,10 @@ fn catalog_of(alloc: Global, body: &[u8]) -> Result<Catalog, JournalError>
 fn history_of(alloc: Global, catalog: &Catalog, bodies: &[Body]) -> Result<History, JournalError>
     requires catalog { IsCatalog catalog.now }
     requires few { length bodies.now ≤ 65536 }
-    ensures history { IfOk result (λ h. IsHistoryUnder catalog.now h × (journal_bodies catalog.now h ≡ setup_bytes (bytes_of catalog.now) ∷ bodies.now)) }
-    ensures refused { IfErr result (λ e. IsDue (Ok (setup_bytes (bytes_of catalog.now) ∷ bodies.now)) e × (e ≢ JournalError.DiskFault)) }
+    ensures history { IfOk result
+        (λ h. IsHistoryUnder catalog.now h × (journal_bodies catalog.now h ≡ setup_bytes (bytes_of catalog.now) ∷ bodies.now)) }
+    ensures refused { IfErr result
+        (λ e. IsDue (Ok (setup_bytes (bytes_of catalog.now) ∷ bodies.now)) e × (e ≢ JournalError.DiskFault)) }
 {
     let mut replay = Replay::new(alloc)?;
     let mut rest = bodies;

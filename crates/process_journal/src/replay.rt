@@ -73,7 +73,8 @@ impl Replay {
         requires no_start { (i : ℕ) → event ≢ Start i }
         ensures read { IfOk result (IsReplayed catalog.now) }
         ensures history { IfOk result (λ after. after.history ≡ with_event self.history event) }
-        ensures refused { IfErr result (λ e. (e ≡ NoMemory) ⊎ ((e ≡ BadHistory number) × (is_allowed catalog.now (with_event self.history event) ≡ false))) }
+        ensures refused { IfErr result
+            (λ e. (e ≡ NoMemory) ⊎ ((e ≡ BadHistory number) × (is_allowed catalog.now (with_event self.history event) ≡ false))) }
     {
         fits_its_bytes(event);
         let plans = self.history.plans;
@@ -105,7 +106,9 @@ impl Replay {
         requires plan { (text : List ℕ) × IsPlanOfText catalog.now text plan }
         ensures read { IfOk result (IsReplayed catalog.now) }
         ensures history { IfOk result (λ after. after.history ≡ with_start self.history process plan) }
-        ensures refused { IfErr result (λ e. (e ≡ NoMemory) ⊎ ((e ≡ BadHistory number) × (is_allowed catalog.now (with_start self.history process plan) ≡ false))) }
+        ensures refused { IfErr result
+            (λ e. (e ≡ NoMemory) ⊎
+            ((e ≡ BadHistory number) × (is_allowed catalog.now (with_start self.history process plan) ≡ false))) }
     {
         let event = Event::Start(process);
         fits_its_bytes(event);
@@ -140,9 +143,13 @@ impl Replay {
     ) -> Result<Self, JournalError>
         requires read { IsReplayed catalog.now self }
         ensures read { IfOk result (IsReplayed catalog.now) }
-        ensures history { IfOk result (λ after. (p : Plan) × IsPlanOfText catalog.now text.now p × (after.history ≡ with_start self.history process p)) }
-        ensures refused { IfErr result (λ e. (e ≡ NoMemory) ⊎ ((e ≡ BadRecord number) × ((p : Plan) → ¬ IsPlanOfText catalog.now text.now p))
-            ⊎ ((e ≡ BadHistory number) × ((p : Plan) × IsPlanOfText catalog.now text.now p × (is_allowed catalog.now (with_start self.history process p) ≡ false)))) }
+        ensures history { IfOk result
+            (λ after. (p : Plan) × IsPlanOfText catalog.now text.now p × (after.history ≡ with_start self.history process p)) }
+        ensures refused { IfErr result
+            (λ e. (e ≡ NoMemory) ⊎ ((e ≡ BadRecord number) × ((p : Plan) → ¬ IsPlanOfText catalog.now text.now p))
+            ⊎ ((e ≡ BadHistory number) ×
+            ((p : Plan) × IsPlanOfText catalog.now text.now p
+            × (is_allowed catalog.now (with_start self.history process p) ≡ false)))) }
     {
         match plan_of(alloc, text, catalog)? {
             Some(plan) => self.with_process(alloc, catalog, number, process, plan),
@@ -160,7 +167,8 @@ impl Replay {
     ) -> Result<Self, JournalError>
         requires read { IsReplayed catalog.now self }
         ensures read { IfOk result (IsReplayed catalog.now) }
-        ensures bodies { IfOk result (λ after. journal_bodies catalog.now after.history ≡ journal_bodies catalog.now self.history ++ body.now ∷ []) }
+        ensures bodies { IfOk result
+            (λ after. journal_bodies catalog.now after.history ≡ journal_bodies catalog.now self.history ++ body.now ∷ []) }
         ensures refused { IfErr result (IsFaultOf catalog.now self.history number body.now) }
     {
         match read(alloc, body)? {

@@ -29,10 +29,13 @@ pub record RackOver (R D : Type 0) : Type 1 where
   pub writes : R → Bool
   pub is_new : R → Type 0
 
--- What `top` answers to these words, over a rack over this folder that was never called, and that may write unless the words only read; with
--- empty boxes and new gates, which are given up at the end. Or there is no memory for the words, the boxes or the gates, and all is as it
--- was.
-abbrev pub EndsSo : {S K R D : Type 0} → Sources S → Sinks K → Racks R → RackOver R D → List (List ℕ) → S → K → D → S → K → R → ℕ → Type 0
+-- What `top` answers to these words, over a rack over this folder that was never called, and that may write unless the words only
+-- read; with empty boxes and new gates, which are given up at the end. Or there is no memory for the words, the boxes or the gates,
+-- and all is as it was.
+abbrev pub EndsSo : {S K R D : Type 0} → Sources S → Sinks K → Racks R → RackOver R D → List (List ℕ) → S → K → D → S → K → R → ℕ
+    → Type 0
 EndsSo {S} {K} {R} {D} s k r over words source sink folder source' sink' rack' number =
-    ((rack : R) × (over.folder rack ≡ folder) × (over.writes rack ≡ not (first_is_show words)) × over.is_new rack × ((own : Own) × Answers words (world_over s k r source sink rack new_own) (world_over s k r source' sink' rack' own) number))
+    ((rack : R) × (over.folder rack ≡ folder) × (over.writes rack ≡ not (first_is_show words)) × over.is_new rack
+    × ((own : Own) × Answers words (world_over s k r source sink rack new_own)
+    (world_over s k r source' sink' rack' own) number))
     ⊎ ((number ≡ number_of NoMemory) × (source' ≡ source) × (sink' ≡ sink) × (over.folder rack' ≡ folder))

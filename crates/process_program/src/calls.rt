@@ -62,7 +62,8 @@ struct Ready {
 fn made_ready(alloc: Global, args: io::Result<Args>) -> Result<Ready, AllocError>
     ensures words { IfOk result (λ r. map string_bytes r.words.items ≡ words_behind args) }
     ensures kinds { IfOk result (λ r. AreBoxes ⟦<OwnBox as Resource>⟧.sort r.resources.items) }
-    ensures empty { IfOk result (λ r. boxes_of ⟦<OwnBox as Resource>⟧.sort ⟦<OwnBox as Resource>⟧.meaning r.resources.items ≡ empty_boxes) }
+    ensures empty { IfOk result
+        (λ r. boxes_of ⟦<OwnBox as Resource>⟧.sort ⟦<OwnBox as Resource>⟧.meaning r.resources.items ≡ empty_boxes) }
     ensures gates { IfOk result (λ r. r.gates.items ≡ replicate 16 (record { calls = 0; refusals = 0 })) }
 {
     let words = words(alloc, args)?;
@@ -86,7 +87,8 @@ pub fn program<H, S: Source, K: Sink, D: Folder + Drop>(
 ) -> Ended<D>
     requires new { D.access folder ≡ Access.Unentered }
     // On these words, from this source, sink and folder to those, the call ends with this number.
-    ensures ends { EndsSo S.Source K.Sink ⟦<FileRack<D> as Rack>⟧ (record { folder = λ r. r.folder; writes = λ r. r.writes; is_new = λ r. IsNew r.unsynced r.broken r.faults })
+    ensures ends { EndsSo S.Source K.Sink ⟦<FileRack<D> as Rack>⟧
+        (record { folder = λ r. r.folder; writes = λ r. r.writes; is_new = λ r. IsNew r.unsynced r.broken r.faults })
         (words_behind args) source.old sink.old folder source.new sink.new result.rack (exit_status result.code) }
 {
     let Ok(ready) = made_ready(alloc, args) else {
@@ -127,9 +129,11 @@ pub fn program_of_system<H, R: Read + Drop, W: Write + Drop, D: Folder + Drop>(
     folder: D,
 ) -> ExitCode
     requires new { D.access folder ≡ Access.Unentered }
-    ensures ends { (source : _) × (sink : _) × (rack : _) × EndsSo ⟦<StdSource<R> as Source>⟧ ⟦<StdSink<W> as Sink>⟧ ⟦<FileRack<D> as Rack>⟧
+    ensures ends { (source : _) × (sink : _) × (rack : _)
+        × EndsSo ⟦<StdSource<R> as Source>⟧ ⟦<StdSink<W> as Sink>⟧ ⟦<FileRack<D> as Rack>⟧
         (record { folder = λ r. r.folder; writes = λ r. r.writes; is_new = λ r. IsNew r.unsynced r.broken r.faults })
-        (words_behind args) (record { inner = input; faults = 0 }) (record { inner = output; faults = 0 }) folder source sink rack (exit_status result) }
+        (words_behind args) (record { inner = input; faults = 0 }) (record { inner = output; faults = 0 }) folder source sink rack
+        (exit_status result) }
 {
     let mut source = StdSource::new(input);
     let mut sink = StdSink::new(output);

@@ -82,7 +82,8 @@ impl Resource for OwnBox {
 /// Empty boxes of the eight subsystems.
 pub fn new_boxes(alloc: Global) -> Result<Vec<OwnBox>, AllocError>
     ensures kinds { IfOk result (λ boxes. AreBoxes ⟦<OwnBox as Resource>⟧.sort boxes.items) }
-    ensures empty { IfOk result (λ boxes. boxes_of ⟦<OwnBox as Resource>⟧.sort ⟦<OwnBox as Resource>⟧.meaning boxes.items ≡ empty_boxes) }
+    ensures empty { IfOk result
+        (λ boxes. boxes_of ⟦<OwnBox as Resource>⟧.sort ⟦<OwnBox as Resource>⟧.meaning boxes.items ≡ empty_boxes) }
 {
     Ok(vec![in alloc;
         OwnBox::Counters(Counters::new(alloc)),

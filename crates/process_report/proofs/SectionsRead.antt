@@ -31,7 +31,7 @@ use Rattle.process_report.specs.Blocks.{joined}
 use Rattle.process_report.specs.Report.{form_of, may_conflict, mode_word, mode_words, pair_line}
 use Rattle.process_report.proofs.Plain.{lacks, lacks-append, name-lacks, number-lacks}
 use Rattle.process_report.proofs.LinesRead.{Reads, reads-line, reads-each}
-use Rattle.process_report.proofs.LineForms.{read_key, read_mode, named, IsKey, IsPrintable, after-other, words-lack, pair-read, entry-read, start-read, end-read}
+use Rattle.process_report.proofs.LineForms.{read_mode, named, IsKey, IsPrintable, after-other, words-lack, pair-read, entry-read, start-read, end-read}
 
 -- x stands where a list is split at it
 pub at-split : {X : Type 0} (all done : List X) (x : X) (after : List X) → all ≡ done ++ x ∷ after → Among x all

@@ -30,7 +30,8 @@ small = record { version = 1; ops = op (codes "add") 0 Add ∷ []; conflicts = n
 abbrev pub stock : Catalog
 stock = record {
   version = 1;
-  ops = op (codes "add") 0 Add ∷ op (codes "take") 0 Take ∷ op (codes "pay") 1 Add ∷ op (codes "ship") 2 Add ∷ op (codes "note") 4 Put ∷ op (codes "book") 6 Hold ∷ [];
+  ops = op (codes "add") 0 Add ∷ op (codes "take") 0 Take ∷ op (codes "pay") 1 Add ∷ op (codes "ship") 2 Add
+      ∷ op (codes "note") 4 Put ∷ op (codes "book") 6 Hold ∷ [];
   conflicts = with_mode (with_mode (with_mode (with_mode (no_conflicts 6) 0 1 Always) 1 1 Always) 4 4 Always) 5 5 Always;
 }
 
@@ -38,7 +39,8 @@ stock = record {
 abbrev pub shop : Catalog
 shop = record {
   version = 1;
-  ops = op (codes "add") 0 Add ∷ op (codes "take") 0 Take ∷ op (codes "pay") 1 Add ∷ op (codes "ship") 2 Add ∷ op (codes "note") 4 Put ∷ [];
+  ops = op (codes "add") 0 Add ∷ op (codes "take") 0 Take ∷ op (codes "pay") 1 Add ∷ op (codes "ship") 2 Add
+      ∷ op (codes "note") 4 Put ∷ [];
   conflicts = with_mode (with_mode (with_mode (no_conflicts 5) 0 1 Always) 1 1 Always) 4 4 Always;
 }
 
@@ -51,19 +53,39 @@ undid i b n = Act (record { process = i; step = b; op = n; key = 1; undo = true 
 
 -- an addition alone
 abbrev pub addition : Plan
-addition = record { name = codes "a"; tree = record { steps = plain_step C (codes "x") (codes "add") ∷ []; tail = no_choice }; ops = 0 ∷ [] }
+addition =
+    record {
+      name = codes "a";
+      tree = record { steps = plain_step C (codes "x") (codes "add") ∷ []; tail = no_choice };
+      ops = 0 ∷ [];
+    }
 
 -- an addition that is paid
 abbrev pub purchase : Plan
-purchase = record { name = codes "a"; tree = two_steps (plain_step C (codes "x") (codes "add")) (plain_step P (codes "y") (codes "pay")); ops = 0 ∷ 2 ∷ [] }
+purchase =
+    record {
+      name = codes "a";
+      tree = two_steps (plain_step C (codes "x") (codes "add")) (plain_step P (codes "y") (codes "pay"));
+      ops = 0 ∷ 2 ∷ [];
+    }
 
 -- an addition that is shipped
 abbrev pub delivery : Plan
-delivery = record { name = codes "b"; tree = two_steps (plain_step C (codes "u") (codes "add")) (plain_step R (codes "v") (codes "ship")); ops = 0 ∷ 3 ∷ [] }
+delivery =
+    record {
+      name = codes "b";
+      tree = two_steps (plain_step C (codes "u") (codes "add")) (plain_step R (codes "v") (codes "ship"));
+      ops = 0 ∷ 3 ∷ [];
+    }
 
 -- a taking that is paid
 abbrev pub sale : Plan
-sale = record { name = codes "b"; tree = two_steps (plain_step C (codes "u") (codes "take")) (plain_step P (codes "v") (codes "pay")); ops = 1 ∷ 2 ∷ [] }
+sale =
+    record {
+      name = codes "b";
+      tree = two_steps (plain_step C (codes "u") (codes "take")) (plain_step P (codes "v") (codes "pay"));
+      ops = 1 ∷ 2 ∷ [];
+    }
 
 -- one process, from its start to its end
 abbrev pub alone : History
@@ -118,15 +140,22 @@ unfolding digits
 report_cut_off = refl
 
 -- the sale isn't paid while what it took may still be taken back
-pub block_of_sale : block_text (purchase ∷ sale ∷ []) 2 (record { on = 1; other = 0; own = 0; rule = A3 }) ≡ codes "on 1.x by 2.u rule A3"
+pub block_of_sale : block_text (purchase ∷ sale ∷ []) 2 (record { on = 1; other = 0; own = 0; rule = A3 })
+    ≡ codes "on 1.x by 2.u rule A3"
 unfolding digits
 block_of_sale = refl
 
 -- a taking that is paid first
 abbrev pub prepaid : Plan
-prepaid = record { name = codes "a"; tree = two_steps (plain_step P (codes "x") (codes "pay")) (plain_step R (codes "y") (codes "take")); ops = 2 ∷ 1 ∷ [] }
+prepaid =
+    record {
+      name = codes "a";
+      tree = two_steps (plain_step P (codes "x") (codes "pay")) (plain_step R (codes "y") (codes "take"));
+      ops = 2 ∷ 1 ∷ [];
+    }
 
 -- nothing is added before what it owes is taken
-pub block_of_delivery : block_text (prepaid ∷ delivery ∷ []) 2 (record { on = 1; other = 1; own = 0; rule = A1 }) ≡ codes "on 1.y by 2.u rule A1"
+pub block_of_delivery : block_text (prepaid ∷ delivery ∷ []) 2 (record { on = 1; other = 1; own = 0; rule = A1 })
+    ≡ codes "on 1.y by 2.u rule A1"
 unfolding digits
 block_of_delivery = refl

@@ -45,6 +45,8 @@ AreCauses plans causes = (b : ℕ × Cause) → Contains causes b → (1 ≤ b.0
 -- Printed reports are accepted: that of each legal history within the limits, under a valid catalog, is a report whose
 -- printed steps bring its schedule to its printed serial list. It is so for both versions of catalogs.
 abbrev pub PrintedReportsAreAccepted : Type 0
-PrintedReportsAreAccepted = (c : Catalog) (h : History) (causes : List (ℕ × Cause)) → IsCatalog c → IsPlanned (length c.ops) h.plans h.events
-    → IsTrue (is_legal (do_conflict c.conflicts) (courses_of h.plans) h.events) → IsTrue (is_within_limits (courses_of h.plans) h.events)
+PrintedReportsAreAccepted = (c : Catalog) (h : History) (causes : List (ℕ × Cause)) → IsCatalog c
+    → IsPlanned (length c.ops) h.plans h.events
+    → IsTrue (is_legal (do_conflict c.conflicts) (courses_of h.plans) h.events)
+    → IsTrue (is_within_limits (courses_of h.plans) h.events)
     → AreNamed h.plans → HaveKeys (form_of c) h.plans → AreCauses h.plans causes → verdict (report_text c h causes) ≡ Accepted

@@ -1,4 +1,5 @@
--- The names that are printed for the numbers of processes, steps and operations. Where a number is none of these, it is the empty text.
+-- The names that are printed for the numbers of processes, steps and operations. Where a number is none of these, it is the empty
+-- text.
 use Rattle.std.specs.Prelude.{ℕ, ◌-◌, List, [], map, slice_index_or}
 use Rattle.process_tree.specs.declared.plan.Plan.{Plan}
 use Rattle.process_tree.specs.Blocks.{outline}

@@ -1,6 +1,7 @@
--- The report: seven sections, each a line with its title and then its lines. That of a catalog of version 2 is keyed: the key stands
--- behind each entry, and the mode behind two operations that conflict.
-use Rattle.std.specs.Prelude.{ℕ, ◌-◌, Bool, true, false, ◌==◌, List, [], ◌∷◌, ◌++◌, length, map, filter, flat_map, codes, decimal, if◌then◌else◌}
+-- The report: seven sections, each a line with its title and then its lines. That of a catalog of version 2 is keyed: the key
+-- stands behind each entry, and the mode behind two operations that conflict.
+use Rattle.std.specs.Prelude.{ℕ, ◌-◌, Bool, true, false, ◌==◌, List, [], ◌∷◌, ◌++◌, length, map, filter, flat_map, codes, decimal}
+use Rattle.std.specs.Prelude.{if◌then◌else◌}
 use Rattle.process_tree.specs.Blocks.{numbers_from}
 use Rattle.process_tree.specs.declared.conflicts.Mode.{Mode}
 use Rattle.process_tree.specs.declared.conflicts.Mode.TheVariants.{Never, Key, Always}
@@ -106,4 +107,5 @@ report_of c h causes added t =
 
 -- the report, with the history's own completion and its printed trace
 abbrev pub report_text : Catalog → History → List (ℕ × Cause) → List ℕ
-report_text c h causes = report_of c h causes (completion (courses_of h.plans) h.events) (printed_trace (courses_of h.plans) h.events)
+report_text c h causes =
+    report_of c h causes (completion (courses_of h.plans) h.events) (printed_trace (courses_of h.plans) h.events)

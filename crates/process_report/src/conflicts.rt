@@ -4,7 +4,8 @@ ghost use Rattle.process_tree.specs.Conflicts.{mode_of};
 ghost use Rattle.process_text.specs.Canonical.{line_of};
 ghost use Rattle.commute_table.specs.Operations.{IsCatalog};
 ghost use Rattle.process_report.specs.Lines.{text_of};
-ghost use Rattle.process_report.specs.Report.{form_of, may_conflict, mode_word, mode_words, pair_line, conflicting, conflicts_lines};
+ghost use Rattle.process_report.specs.Report.{form_of, may_conflict, mode_word, mode_words, pair_line, conflicting};
+ghost use Rattle.process_report.specs.Report.{conflicts_lines};
 
 use crate::lines::{put_line, put_three};
 use crate::names::op_name;
@@ -73,7 +74,9 @@ fn put_pair(c: &Catalog, a: u16, b: u16, out: &mut Vec<u8>) -> Result<(), AllocE
     requires catalog { IsCatalog c.now }
     requires a { a < length c.now.ops }
     requires b { b < length c.now.ops }
-    ensures { OnOk result (out.new.items ≡ out.old.items ++ text_of (if may_conflict (mode_of c.now.conflicts a b) then pair_line c.now a b ∷ [] else [])) }
+    ensures { OnOk result
+        (out.new.items ≡ out.old.items ++ text_of
+        (if may_conflict (mode_of c.now.conflicts a b) then pair_line c.now a b ∷ [] else [])) }
 {
     let mode = c.conflicts.mode(a, b);
     if !may_conflict(mode) {

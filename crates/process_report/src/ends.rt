@@ -35,7 +35,8 @@ fn add_names<'a>(
     steps: &[u16],
     words: &mut Vec<&'a [u8]>,
 ) -> Result<(), AllocError>
-    ensures { OnOk result (map (λ w. w.now) words.new.items ≡ map (λ w. w.now) words.old.items ++ map (step_name plans.now i) steps.now) }
+    ensures { OnOk result
+        (map (λ w. w.now) words.new.items ≡ map (λ w. w.now) words.old.items ++ map (step_name plans.now i) steps.now) }
 {
     let mut rest = steps;
     while let [step, after @ ..] = rest {
@@ -52,7 +53,9 @@ fn add_path<'a>(
     steps: &[u16],
     words: &mut Vec<&'a [u8]>,
 ) -> Result<(), AllocError>
-    ensures { OnOk result (map (λ w. w.now) words.new.items ≡ map (λ w. w.now) words.old.items ++ path_words (map (step_name plans.now i) steps.now)) }
+    ensures { OnOk result
+        (map (λ w. w.now) words.new.items ≡ map (λ w. w.now) words.old.items
+        ++ path_words (map (step_name plans.now i) steps.now)) }
 {
     match steps {
         [] => {

@@ -8,7 +8,8 @@ ghost use Rattle.schedule_model.specs.Laws.{IsPlanned};
 ghost use Rattle.schedule_model.specs.Legal.{is_legal};
 ghost use Rattle.trace_verify.specs.Forms.{first_title};
 ghost use Rattle.process_report.specs.Lines.{event_line};
-ghost use Rattle.process_report.specs.Report.{form_of, conflicts_lines, history_lines, completion_lines, ends_lines, causes_lines, trace_lines, serial_lines, section, report_of, report_text};
+ghost use Rattle.process_report.specs.Report.{form_of, conflicts_lines, history_lines, completion_lines, ends_lines, causes_lines};
+ghost use Rattle.process_report.specs.Report.{trace_lines, serial_lines, section, report_of, report_text};
 ghost use Rattle.process_report.specs.Reduced.{trace_in};
 
 use crate::causes::put_causes;
@@ -52,7 +53,8 @@ fn put_event_section(
     events: &[Event],
     out: &mut Vec<u8>,
 ) -> Result<(), AllocError>
-    ensures { OnOk result (out.new.items ≡ out.old.items ++ section title.now (map (event_line (form_of c.now) h.now.plans c.now.ops) events.now)) }
+    ensures { OnOk result
+        (out.new.items ≡ out.old.items ++ section title.now (map (event_line (form_of c.now) h.now.plans c.now.ops) events.now)) }
 {
     put_line(out, &[title])?;
     put_events(
@@ -85,7 +87,8 @@ fn put_completion_section(
     reduction: &Reduction,
     out: &mut Vec<u8>,
 ) -> Result<(), AllocError>
-    ensures { OnOk result (out.new.items ≡ out.old.items ++ section (codes "completion") (completion_lines c.now h.now reduction.now.completion)) }
+    ensures { OnOk result
+        (out.new.items ≡ out.old.items ++ section (codes "completion") (completion_lines c.now h.now reduction.now.completion)) }
 {
     put_event_section(
         alloc,
@@ -169,7 +172,8 @@ pub fn report_of(
     reduction: &Reduction,
 ) -> Result<Vec<u8>, AllocError>
     requires catalog { IsCatalog c.now }
-    ensures { IfOk result (λ text. text.items ≡ report_of c.now h.now causes.now reduction.now.completion (trace_in reduction.now)) }
+    ensures { IfOk result
+        (λ text. text.items ≡ report_of c.now h.now causes.now reduction.now.completion (trace_in reduction.now)) }
 {
     let mut out = Vec::new(alloc);
     put_event_sections(alloc, c, h, reduction, &mut out)?;

@@ -42,7 +42,7 @@ module _ {R B : Type 0} (r : Racks R) (honest : (rack : R) → Told (r.disk rack
     (tells : (r.disk opening.files.rack).tells ≡ (r.disk entry).tells)
     (was_sound : Told (r.disk entry) → IsSound opening.catalog (full_history opening.core) (r.disk entry).files)
     (became : Told (r.disk entry) → BecomesSound opening.catalog (full_history opening.core) (r.disk entry) (r.disk opening.files.rack))
-    (is_sound : Told (r.disk entry) → EachImage (r.disk opening.files.rack) (r.disk opening.files.rack).moment (IsSound opening.catalog (full_history opening.core)))
+    (invariant_holds : Told (r.disk entry) → EachImage (r.disk opening.files.rack) (r.disk opening.files.rack).moment (IsSound opening.catalog (full_history opening.core)))
     (goes : GoesOn r.disk r.faults [] opening now) (gate : AskedGate) (completing : IsCompleting gate opening.catalog (full_history opening.core) now.core)
     (completion : Completion) (outcome : IsOutcome (full_history opening.core) now.core now.phase completion)
     (under_way : completion ≡ DiskFault → IsNextUnderWay (full_history opening.core) now.core)
@@ -67,7 +67,7 @@ module _ {R B : Type 0} (r : Racks R) (honest : (rack : R) → Told (r.disk rack
   next_ahead files ahead = (ahead.0, (ahead.1.0, under_way (closed_by h now.core now.phase completion outcome ahead.0) ahead.1.0 ahead.1.1, ahead.1.2))
 
   one_ahead : AreKept c h now.core (IsOneAhead c [] now.core now.phase) now.phase (r.disk entry) after
-  one_ahead = are_kept [] r honest entry opening now core.session.one_each tells was_sound became is_sound goes read each
+  one_ahead = are_kept [] r honest entry opening now core.session.one_each tells was_sound became invariant_holds goes read each
 
   kept : AreKept c h now.core (IsNextOfCompletion c h now.core now.phase) now.phase (r.disk entry) after
   kept = record {

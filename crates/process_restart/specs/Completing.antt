@@ -1,4 +1,5 @@
--- How the history of an engine is completed: all begin to complete, and then piece after piece is handed out in the order of the completion.
+-- How the history of an engine is completed: all begin to complete, and then piece after piece is handed out in the order of the
+-- completion.
 use Rattle.std.specs.Prelude.{◌≡◌, ℕ, List, [], ◌∷◌, ◌++◌, map, Some, IsTrue, ⊤}
 use Rattle.process_disk.specs.Disk.{FileSet}
 use Rattle.schedule_model.specs.declared.event.Event.{Event}
@@ -48,8 +49,8 @@ abbrev pub AreInTurn : CoreState → List Kept → Type 0
 AreInTurn core [] = ⊤
 AreInTurn core (k ∷ ks) = IsInTurn core k × AreInTurn (with_kept core k) ks
 
--- All were asked to complete, and since then all were only run, in turn and by this gate. What happened is what completion adds, as far as it
--- went.
+-- All were asked to complete, and since then all were only run, in turn and by this gate. What happened is what completion adds, as
+-- far as it went.
 pub record IsCompleting (gate : AskedGate) (c : Catalog) (h : History) (now : CoreState) : Type 0 where
   pub run : HasRun gate c (restarted_on c h) now
   pub turns : AreInTurn (restarted_on c h) (kept_since (restarted_on c h) now)
@@ -77,8 +78,8 @@ pub record IsHeldUpBy (now : CoreState) (process step : ℕ) : Type 0 where
   pub exhausted : IsTrue (is_exhausted (courses_in now) (moment_of now) process)
   pub step_is : step ≡ (next_of (courses_in now) (moment_of now) process).step
 
--- What the end of a completion says: the history is completed; or the process whose turn it is is exhausted; or a call of the rack failed and
--- the engine is closed; or a piece found no memory.
+-- What the end of a completion says: the history is completed; or the process whose turn it is is exhausted; or a call of the rack
+-- failed and the engine is closed; or a piece found no memory.
 abbrev pub IsOutcome : History → CoreState → Phase → Completion → Type 0
 IsOutcome h now on Ended = (on ≡ Settled) × (history_of now ≡ completed_history h)
 IsOutcome h now on (Exhausted process step) = (on ≡ Settled) × IsHeldUpBy now process step

@@ -24,15 +24,16 @@ use Rattle.process_restart.specs.Completing.{IsCompleting, IsHeldUpBy, IsNextOfC
 use Rattle.process_restart.specs.declared.restarting.Restarted.{Restarted}
 use Rattle.process_restart.specs.declared.restarting.Restarted.TheVariants.{Ended, Exhausted, Refused}
 
--- A restart on files of this history, up to now. Unless a call of the rack failed, the books are exactly the effects of the history now.
+-- A restart on files of this history, up to now. Unless a call of the rack failed, the books are exactly the effects of the history
+-- now.
 pub record IsRestart (gate : AskedGate) (c : Catalog) (h : History) (now : CoreState) (on : Phase) (old new : Disk) : Type 0 where
   pub completing : IsCompleting gate c h now
   pub kept : AreKept c h now (IsNextOfCompletion c h now on) on old new
   pub read : on ≡ Settled → Told old → AreExactly c (full_history now) new.files
   pub each : on ≡ Settled → Told old → EachImage new new.moment (AreExactly c (full_history now))
 
--- The files were not opened: this is the first file or book at fault, and nothing was written, as all are read before; or the rack failed;
--- or memory was wanting. No gate was asked.
+-- The files were not opened: this is the first file or book at fault, and nothing was written, as all are read before; or the rack
+-- failed; or memory was wanting. No gate was asked.
 pub record IsNotOpened (gate : AskedGate) (e : OpenError) (old new : Disk) : Type 0 where
   pub due : Told old → IsDueToOpening old.files e
   pub left : Told old → LeftByOpening e old new
@@ -42,14 +43,17 @@ pub record IsNotOpened (gate : AskedGate) (e : OpenError) (old new : Disk) : Typ
 abbrev pub IsCutOffBy : OpenError → Phase → Type 0
 IsCutOffBy e on = ((e ≡ NoMemory) × (on ≡ Settled)) ⊎ ((e ≡ DiskFault) × (on ≡ Closed))
 
--- What a restart came to: the history is completed; or the process whose turn it is is exhausted; or the files were not opened, or it was cut off.
+-- What a restart came to: the history is completed; or the process whose turn it is is exhausted; or the files were not opened, or
+-- it was cut off.
 abbrev pub IsRestartedAs : {R B : Type 0} → (R → Disk) → AskedGate → R → Restarted R B → Type 0
 IsRestartedAs disk gate entry (Ended e) =
-    (h : History) × IsRestart gate e.catalog h e.core Settled (disk entry) (disk e.files.rack) × (history_of e.core ≡ completed_history h)
+    (h : History) × IsRestart gate e.catalog h e.core Settled (disk entry) (disk e.files.rack)
+    × (history_of e.core ≡ completed_history h)
 IsRestartedAs disk gate entry (Exhausted e process step) =
     (h : History) × IsRestart gate e.catalog h e.core Settled (disk entry) (disk e.files.rack) × IsHeldUpBy e.core process step
 IsRestartedAs disk gate entry (Refused parts why) = IsNotOpened gate why (disk entry) (disk parts.rack)
-    ⊎ ((c : Catalog) × (h : History) × (now : CoreState) × (on : Phase) × IsCutOffBy why on × IsRestart gate c h now on (disk entry) (disk parts.rack))
+    ⊎ ((c : Catalog) × (h : History) × (now : CoreState) × (on : Phase) × IsCutOffBy why on
+    × IsRestart gate c h now on (disk entry) (disk parts.rack))
 
 -- A rack tells as it did, and its count of faults isn't lower.
 pub record IsLater {R : Type 0} (disk : R → Disk) (faults : R → ℕ) (old new : R) : Type 0 where
@@ -61,9 +65,12 @@ pub record AreCleared {B : Type 0} (meaning : B → Pairs) (sort : B → Kind) (
   pub kinds : AreBoxes sort boxes
   pub empty : AreEmpty meaning boxes
 
--- What a restart hands back: an engine that may be called; or the boxes empty, and where a call of the rack failed its count of faults rose.
+-- What a restart hands back: an engine that may be called; or the boxes empty, and where a call of the rack failed its count of
+-- faults rose.
 abbrev pub HandsBack : {R B : Type 0} → (R → Disk) → (R → ℕ) → (B → Pairs) → (B → Kind) → R → Restarted R B → Type 0
 HandsBack disk faults meaning sort entry (Ended e) = IsLater disk faults entry e.files.rack × IsReady meaning sort e
-HandsBack disk faults meaning sort entry (Exhausted e process step) = IsLater disk faults entry e.files.rack × IsReady meaning sort e
+HandsBack disk faults meaning sort entry (Exhausted e process step) =
+    IsLater disk faults entry e.files.rack × IsReady meaning sort e
 HandsBack disk faults meaning sort entry (Refused parts why) =
-    IsLater disk faults entry parts.rack × AreCleared meaning sort parts.resources.items × (why ≡ DiskFault → Rose (faults entry) (faults parts.rack))
+    IsLater disk faults entry parts.rack × AreCleared meaning sort parts.resources.items
+    × (why ≡ DiskFault → Rose (faults entry) (faults parts.rack))

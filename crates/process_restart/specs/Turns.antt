@@ -44,8 +44,8 @@ pub record IsHandedInTurn (old new : CoreState) (process : ℕ) (d : Handed) : T
   pub is : d ≡ hand_to (courses_in old) (moment_of old) process
   pub kept : new.kept ≡ old.kept ++ kept_hand d ∷ []
 
--- What a request for a piece of who is asked next comes to: the piece is handed out; or nothing is kept, and the process is exhausted, or one
--- process more has ended, or nobody is active.
+-- What a request for a piece of who is asked next comes to: the piece is handed out; or nothing is kept, and the process is
+-- exhausted, or one process more has ended, or nobody is active.
 abbrev pub IsAsked : {R B : Type 0} → EngineState R B → EngineState R B → ℕ → ℕ → Admit → Type 0
 IsAsked old new ended process (admits.Piece d) = IsHandedInTurn old.core new.core process d
 IsAsked old new ended process (admits.Exhausted step) = (new ≡ old) × IsHeldUpBy old.core process step
@@ -54,7 +54,8 @@ IsAsked old new ended process admits.Unknown = (new ≡ old) × (active (history
 IsAsked old new ended process (admits.Blocked b) = ⊥
 IsAsked old new ended process admits.Running = ⊥
 
--- Processes were only run from one state of an engine to another, in turn and by this gate, and the history is completed to the same.
+-- Processes were only run from one state of an engine to another, in turn and by this gate, and the history is completed to the
+-- same.
 pub record RanInTurn {R B : Type 0} (disk : R → Disk) (faults : R → ℕ) (gate : AskedGate) (old new : EngineState R B) : Type 0 where
   pub goes : GoesOnAlone disk faults old new
   pub plans : new.core.plans ≡ old.core.plans

@@ -44,7 +44,7 @@ fn next_process<R: Rack + Drop, B: Resource>(engine: &Engine<R, B>, ended: u32) 
     requires ended { HaveEnded engine.now.core ended }
     ensures { IsAskedNext engine.now.core ended result }
 {
-    engine.is_sound();
+    engine.invariant_holds();
     match engine.undo_next() {
         Some(process) => process,
         None => ended + 1,
@@ -66,11 +66,11 @@ fn turn<R: Rack + Drop, B: Resource, G: Gate>(
     ensures more { result ≡ None → length engine.old.core.kept + ended.old < length engine.new.core.kept + ended.new }
     ensures fits { EachFits B.meaning B.sort engine.new.files.stores }
 {
-    engine.is_sound();
+    engine.invariant_holds();
     let process = next_process(engine, *ended);
     match admit(engine, process) {
         Admit::Piece(piece) => {
-            engine.is_sound();
+            engine.invariant_holds();
             failure(work(engine, gate, piece))
         }
         Admit::Exhausted(step) => Some(Completion::Exhausted { process, step }),
@@ -100,13 +100,13 @@ pub fn complete<R: Rack + Drop, B: Resource, G: Gate>(
     ensures fault { result ≡ Completion.DiskFault → Rose (R.faults engine.old.files.rack) (R.faults engine.new.files.rack) }
     ensures fits { EachFits B.meaning B.sort engine.new.files.stores }
 {
-    engine.is_sound();
+    engine.invariant_holds();
     complete_all(engine);
-    engine.is_sound();
+    engine.invariant_holds();
     let mut ended = 0;
     'turns: loop {
         let completion = turn(engine, gate, &mut ended);
-        engine.is_sound();
+        engine.invariant_holds();
         if let Some(completion) = completion {
             return completion;
         }

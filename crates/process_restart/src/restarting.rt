@@ -61,9 +61,9 @@ pub fn restart<R: Rack + Drop, B: Resource, G: Gate>(
             };
         }
     };
-    engine.is_sound();
+    engine.invariant_holds();
     let completion = complete(&mut engine, gate);
-    engine.is_sound();
+    engine.invariant_holds();
     match completion {
         Completion::Ended => Restarted::Ended(engine),
         Completion::Exhausted { process, step } => Restarted::Exhausted {

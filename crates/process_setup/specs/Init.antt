@@ -32,7 +32,8 @@ IsCatalogRead before after c = (bytes : List ℕ) × IsWholeText before after by
 
 -- Why no catalog was read: no text came, or else it is no scenario, by its first refusal; or memory was wanting.
 abbrev pub IsCatalogRefused : Refusal → Input → Input → Type 0
-IsCatalogRefused r before after = HasNoText r before after ⊎ ((bytes : List ℕ) × IsWholeText before after bytes × IsNoScenario bytes r)
+IsCatalogRefused r before after =
+    HasNoText r before after ⊎ ((bytes : List ℕ) × IsWholeText before after bytes × IsNoScenario bytes r)
 
 -- what is told of files that were not made
 abbrev pub create_refusal : CreateError → Refusal
@@ -40,8 +41,8 @@ create_refusal create.DiskFault = refusals.DiskFault
 create_refusal (create.NotEmpty q) = refusals.File (NotEmpty q)
 create_refusal create.NoMemory = refusals.NoMemory
 
--- The nine files, where they are told, were empty. They are the journal of this catalog and the books of a history without events, and
--- so is each image of them from then on.
+-- The nine files, where they are told, were empty. They are the journal of this catalog and the books of a history without events,
+-- and so is each image of them from then on.
 pub record AreMade (c : Catalog) (before after : Files) : Type 0 where
   pub empty : Told before.disk → first_used before.disk.files ≡ None
   pub read : Told before.disk → IsSound c no_history after.disk.files
@@ -50,7 +51,8 @@ pub record AreMade (c : Catalog) (before after : Files) : Type 0 where
 -- They were not made: this is the first that isn't empty, and they are as they were; or the rack failed; or memory was wanting.
 abbrev pub AreNotMade : Refusal → Files → Files → Type 0
 AreNotMade r before after =
-    (e : CreateError) × (r ≡ create_refusal e) × (Told before.disk → IsDueToFiles (first_used before.disk.files) e) × (Told before.disk → AreLeftUnmade e before.disk after.disk)
+    (e : CreateError) × (r ≡ create_refusal e) × (Told before.disk → IsDueToFiles (first_used before.disk.files) e)
+    × (Told before.disk → AreLeftUnmade e before.disk after.disk)
     × (e ≡ create.DiskFault → Rose before.faults after.faults)
 
 -- the line of files that were made, at status 0
@@ -65,7 +67,8 @@ IsCreated before after files files_after = (c : Catalog) × IsCatalogRead before
 -- Why they were not: what is refused first, of the input and then of the files.
 abbrev pub IsNotCreated : Refusal → Input → Input → Files → Files → Type 0
 IsNotCreated r before after files files_after =
-    (IsCatalogRefused r before after × AreUntouched files files_after) ⊎ (((c : Catalog) × IsCatalogRead before after c) × AreNotMade r files files_after)
+    (IsCatalogRefused r before after × AreUntouched files files_after)
+    ⊎ (((c : Catalog) × IsCatalogRead before after c) × AreNotMade r files files_after)
 
 -- What there is to say: that they were made, or why not.
 abbrev pub IsInitDue : Input → Input → Files → Files → Result Said Refusal → Type 0
@@ -75,4 +78,5 @@ IsInitDue before after files files_after (Err r) = IsNotCreated r before after f
 -- where the input is a scenario and all files are empty, they are made, or memory is wanting
 abbrev pub IsInitComplete : Input → Disk → Status → Type 0
 IsInitComplete input disk status =
-    IfSome input.left (λ text. (c : Catalog) → length text ≤ most_input → HasCatalog text c → Told disk → first_used disk.files ≡ None → IsOneOf status (Done ∷ NoMemory ∷ []))
+    IfSome input.left (λ text. (c : Catalog) → length text ≤ most_input → HasCatalog text c → Told disk
+    → first_used disk.files ≡ None → IsOneOf status (Done ∷ NoMemory ∷ []))

@@ -5,7 +5,8 @@ ghost use Rattle.history_files.specs.Boxes.{AreBoxes};
 ghost use Rattle.command_input.specs.Inputs.{input};
 ghost use Rattle.command_input.specs.FilesLeft.{files};
 ghost use Rattle.command_input.specs.Early.{comes_before_files};
-ghost use Rattle.process_setup.specs.Init.{create_refusal, AreMade, AreNotMade, IsCatalogRead, IsCatalogRefused, IsInitDue, SaysCreated};
+ghost use Rattle.process_setup.specs.Init.{create_refusal, AreMade, AreNotMade, IsCatalogRead, IsCatalogRefused, IsInitDue};
+ghost use Rattle.process_setup.specs.Init.{SaysCreated};
 
 use command_input::{CommandEnd, Said, document_of, text_of};
 use commute_table::{Catalog, Scenario};
@@ -88,7 +89,8 @@ pub fn init<S: Source, R: Rack + Drop, B: Resource>(
     parts: Parts<R, B>,
 ) -> CommandEnd<Parts<R, B>>
     requires boxes { AreBoxes B.sort parts.resources.items }
-    ensures due { IsInitDue (input S.Source source.old) (input S.Source source.new) (files R.Rack parts.rack) (files R.Rack result.parts.rack) result.found }
+    ensures due { IsInitDue (input S.Source source.old) (input S.Source source.new) (files R.Rack parts.rack)
+        (files R.Rack result.parts.rack) result.found }
     ensures early { IfErr result.found (λ r. comes_before_files r ≡ true → result.parts.rack ≡ parts.rack) }
     ensures back { AreBoxes B.sort result.parts.resources.items }
     ensures tells { (R.disk result.parts.rack).tells ≡ (R.disk parts.rack).tells }

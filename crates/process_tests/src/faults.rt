@@ -4,8 +4,8 @@ use command_tests::calls::empty;
 use command_tests::scenarios::scenario;
 use std::test::Fail;
 
-// The last device call of a piece's prepare fails: what was answered before stands, the fault is the last line, and what was done is
-// not in the history.
+// The last device call of a piece's prepare fails: what was answered before stands, the fault is the last line, and what was done
+// is not in the history.
 #[test]
 fn a_fault_ends_a_session(rt: HostRuntime) -> Result<(), Fail> {
     let alloc = rt.alloc();

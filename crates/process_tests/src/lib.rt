@@ -1,5 +1,5 @@
-//! Tests of processes on their way through the program, over racks in memory: a session that a fault ends; and nine files with the program's
-//! own boxes, which are opened, settled or refused. Runs and sessions over real files are rows (`tests/rows`).
+//! Tests of processes on their way through the program, over racks in memory: a session that a fault ends; and nine files with the
+//! program's own boxes, which are opened, settled or refused. Runs and sessions over real files are rows (`tests/rows`).
 #![tactic(auto)]
 
 #[cfg(test)]

@@ -4,7 +4,7 @@ use Rattle.std.proofs.lemmas.Bool.{and_parts}
 use Rattle.process_tree.specs.Making.{is_amount, has_good_options, is_good_step, tree_fault}
 use Rattle.process_tree.specs.declared.step.Step.{Step}
 use Rattle.process_tree.specs.declared.step.StepKind.{StepKind}
-use Rattle.process_tree.specs.declared.step.StepKind.TheVariants.{C, P, R}
+use Rattle.process_tree.specs.declared.step.StepKind.TheVariants.{C, P, R, Cr}
 use Rattle.process_tree.specs.declared.block.Block.{Block}
 use Rattle.process_tree.specs.declared.tree.Named.{Named}
 use Rattle.process_text.specs.declared.error.TextError.{TextError}
@@ -30,6 +30,7 @@ unfolding is_blank
 kind_is_plain C = refl
 kind_is_plain P = refl
 kind_is_plain R = refl
+kind_is_plain Cr = refl
 
 mark_is_plain : (m : Mark) → is_plain (mark_word m) ≡ true
 unfolding is_blank

@@ -9,7 +9,7 @@ use Rattle.process_tree.specs.Name.{is_letter, is_name_byte, is_name}
 use Rattle.process_tree.specs.Making.{is_amount, has_good_options, is_good_step, tree_fault}
 use Rattle.process_tree.specs.declared.step.Step.{Step}
 use Rattle.process_tree.specs.declared.step.StepKind.{StepKind}
-use Rattle.process_tree.specs.declared.step.StepKind.TheVariants.{C, P, R}
+use Rattle.process_tree.specs.declared.step.StepKind.TheVariants.{C, P, R, Cr}
 use Rattle.process_tree.specs.declared.block.Block.{Block}
 use Rattle.process_tree.specs.declared.block.Tail.{Tail, End, Choice', Row_of-Block, end_of-Block, more_of-Block}
 use Rattle.process_tree.specs.Blocks.{all_steps, first_odd, outline_of, outlines_of}
@@ -46,13 +46,15 @@ amount_size : (z : ℤ) → is_amount z ≡ true → length (signed_decimal z) �
 amount_size (pos n) e = let le = leb-true n 1000000000 e in length_signed_le 10 (pos n) (omega arith) (omega arith)
 amount_size (negsuc n) e = let lt = ltb-true n 1000000000 e in length_signed_le 10 (negsuc n) (omega arith) (omega arith)
 
-kind_size : (k : StepKind) → length (kind_word k) ≡ 1
-kind_size C = refl
-kind_size P = refl
-kind_size R = refl
+-- the word of a kind has at most 2
+kind_size : (k : StepKind) → length (kind_word k) ≤ 2
+kind_size C = omega arith
+kind_size P = omega arith
+kind_size R = omega arith
+kind_size Cr = omega arith
 
--- what is called has at most 91
-call_size : (s : Step) → HasNames s → is_amount s.amount ≡ true → length (spaced (call_words s)) ≤ 91
+-- what is called has at most 92
+call_size : (s : Step) → HasNames s → is_amount s.amount ≡ true → length (spaced (call_words s)) ≤ 92
 call_size s named e =
     let key = length-decimal-le 10 s.key (omega arith) (omega (arith, named.key_is)) (omega (arith, named.key_is)) in
     let rest = spaced (s.name ∷ s.op ∷ decimal s.key ∷ signed_decimal s.amount ∷ []) in
@@ -81,8 +83,8 @@ setting_size x n e = by_test (nat_eq n (default_of x)) refl
         let digits = length-decimal-le 2 n (omega arith) (omega arith) (omega arith) in
         rw is (omega (arith, digits, length-append (setting_word x) (spaced (decimal n ∷ [])), length-append (decimal n) []))
 
--- the options of a step have at most 32
-settings_size : (k : StepKind) (s : Step) → AllTake (settings k) s → length (spaced (settings_words (settings k) s)) ≤ 32
+-- the options of a step have at most 41
+settings_size : (k : StepKind) (s : Step) → AllTake (settings k) s → length (spaced (settings_words (settings k) s)) ≤ 41
 settings_size C s e =
     omega (
       arith,
@@ -102,15 +104,30 @@ settings_size R s e =
       words_size (setting_words Tries s.tries) (setting_words Refuse s.refuse ++ []),
       words_size (setting_words Refuse s.refuse) [],
     )
+settings_size Cr s e =
+    let behind_refuse = setting_words UndoRefuse s.undo_refuse ++ [] in
+    let behind_undo = setting_words Refuse s.refuse ++ behind_refuse in
+    let behind_tries = setting_words Undo s.undo_tries ++ behind_undo in
+    omega (
+      arith,
+      setting_size Tries s.tries e.0,
+      setting_size Undo s.undo_tries e.1.0,
+      setting_size Refuse s.refuse e.1.1.0,
+      setting_size UndoRefuse s.undo_refuse e.1.1.1.0,
+      words_size (setting_words Tries s.tries) behind_tries,
+      words_size (setting_words Undo s.undo_tries) behind_undo,
+      words_size (setting_words Refuse s.refuse) behind_refuse,
+      words_size (setting_words UndoRefuse s.undo_refuse) [],
+    )
 
--- a step has at most 123
-step_size : (s : Step) → HasNames s → is_good_step s ≡ true → length (spaced (step_words s)) ≤ 123
+-- a step has at most 133
+step_size : (s : Step) → HasNames s → is_good_step s ≡ true → length (spaced (step_words s)) ≤ 133
 step_size s named e =
     let parts = and_parts (is_amount s.amount) (has_good_options s.kind s) e in
     omega (arith, call_size s named parts.0, settings_size s.kind s (all_take s.kind s parts.1), words_size (call_words s) (settings_words (settings s.kind) s))
 
 -- steps
-steps_size : (ss : List Step) → AreNamed (step_pieces ss) → AreGood (step_pieces ss) → size (step_pieces ss) ≤ 123 * length ss
+steps_size : (ss : List Step) → AreNamed (step_pieces ss) → AreGood (step_pieces ss) → size (step_pieces ss) ≤ 133 * length ss
 steps_size [] named good = omega arith
 steps_size (s ∷ ss) named good =
     omega (arith, step_size s named.0 good.0, steps_size ss named.1 good.1, words_size (step_words s) (canonical_words (step_pieces ss)))
@@ -128,9 +145,9 @@ good_split (step s ∷ ps) qs good = let rest = good_split ps qs good.1 in ((goo
 good_split (mark m ∷ ps) qs good = good_split ps qs good
 
 mutual
-  -- a block has fewer than 138 for each of its steps
+  -- a block has fewer than 148 for each of its steps
   block_size : (steps : List Step) (tail : Tail) → AreNamed (pieces_of steps tail) → AreGood (pieces_of steps tail) → (outline_of steps tail).has_empty ≡ false → (outline_of steps tail).odd_choice ≡ None
-      → size (pieces_of steps tail) + 15 ≤ 138 * length (outline_of steps tail).steps
+      → size (pieces_of steps tail) + 15 ≤ 148 * length (outline_of steps tail).steps
   block_size steps End named good full even = omega (arith, steps_size steps named good, ltb-false (length steps) 1 full)
   block_size steps (Choice' shape row) named good full even =
       let choice = mark marks.Choose ∷ alternatives (pieces_in row) in
@@ -149,7 +166,7 @@ mutual
 
   -- alternatives
   row_size : {m : _} (row : Row_of-Block m) → AreNamed (alternatives (pieces_in row)) → AreGood (alternatives (pieces_in row)) → list_any (λ o. o.has_empty) (outlines_of row) ≡ false → first_odd (outlines_of row) ≡ None
-      → 1 ≤ length (outlines_of row) → size (alternatives (pieces_in row)) + 12 * length (outlines_of row) ≤ 138 * length (all_steps (outlines_of row)) + 2
+      → 1 ≤ length (outlines_of row) → size (alternatives (pieces_in row)) + 12 * length (outlines_of row) ≤ 148 * length (all_steps (outlines_of row)) + 2
   row_size end_of-Block named good full even some = absurd (omega arith)
   row_size (more_of-Block steps tail end_of-Block) named good full even some =
       let last = mark marks.Done ∷ [] in

@@ -8,7 +8,7 @@ use Rattle.process_tree.specs.Name.{is_name}
 use Rattle.process_tree.specs.Making.{same_text, is_amount, are_tries, are_refusals, has_good_options}
 use Rattle.process_tree.specs.declared.step.Step.{Step}
 use Rattle.process_tree.specs.declared.step.StepKind.{StepKind}
-use Rattle.process_tree.specs.declared.step.StepKind.TheVariants.{C, P, R}
+use Rattle.process_tree.specs.declared.step.StepKind.TheVariants.{C, P, R, Cr}
 use Rattle.process_text.specs.declared.fault.Fault.{Fault}
 use Rattle.text_words.specs.declared.marks.Setting.{Setting}
 use Rattle.text_words.specs.declared.marks.Setting.TheVariants.{Tries, Undo, Refuse, UndoRefuse}
@@ -131,6 +131,26 @@ options_found R b ws e =
       good = λ name op key amount. and_from _ true (and_from _ (are_refusals r.number) (and_from (are_tries t.number) true t.good refl) r.good) refl;
       are = λ name op key amount. (t.after, t.is, (r.after, r.is, refl));
       on = r.on;
+      few = omega arith;
+    }
+options_found Cr b ws e =
+    let t = option_found b Tries (Undo ∷ Refuse ∷ UndoRefuse ∷ []) ws e in
+    let u = option_found b Undo (Refuse ∷ UndoRefuse ∷ []) t.after t.on in
+    let r = option_found b Refuse (UndoRefuse ∷ []) u.after u.on in
+    let v = option_found b UndoRefuse [] r.after r.on in
+    let few1 = t.few in
+    let few2 = u.few in
+    let few3 = r.few in
+    let few4 = v.few in
+    record {
+      tries = t.number;
+      undo_tries = u.number;
+      refuse = r.number;
+      undo_refuse = v.number;
+      after = v.after;
+      good = λ name op key amount. and_from _ (are_refusals v.number) (and_from _ (are_refusals r.number) (and_from (are_tries t.number) (are_tries u.number) t.good u.good) r.good) v.good;
+      are = λ name op key amount. (t.after, t.is, (u.after, u.is, (r.after, r.is, (v.after, v.is, refl))));
+      on = v.on;
       few = omega arith;
     }
 

@@ -8,7 +8,7 @@ use Rattle.std.proofs.lemmas.Bool.{and_parts, leb-true, ltb-true, eqb-true}
 use Rattle.process_tree.specs.Making.{same_text, is_amount, are_tries, are_refusals, has_good_options}
 use Rattle.process_tree.specs.declared.step.Step.{Step}
 use Rattle.process_tree.specs.declared.step.StepKind.{StepKind}
-use Rattle.process_tree.specs.declared.step.StepKind.TheVariants.{C, P, R}
+use Rattle.process_tree.specs.declared.step.StepKind.TheVariants.{C, P, R, Cr}
 use Rattle.text_words.specs.declared.marks.Setting.{Setting}
 use Rattle.text_words.specs.declared.marks.Mark.{Mark}
 use Rattle.text_words.specs.declared.marks.Mark.TheVariants.{Choose, Or, Done, End}
@@ -41,6 +41,7 @@ kind_of_its_word : (k : StepKind) → kind_of_word (kind_word k) ≡ Some k
 kind_of_its_word C = refl
 kind_of_its_word P = refl
 kind_of_its_word R = refl
+kind_of_its_word Cr = refl
 
 -- what a word begins: 0 a process, 1 a step, 2 another piece
 abbrev sort_of_word : List ℕ → ℕ
@@ -55,6 +56,7 @@ sort_of_kind : (k : StepKind) → sort_of_word (kind_word k) ≡ 1
 sort_of_kind C = refl
 sort_of_kind P = refl
 sort_of_kind R = refl
+sort_of_kind Cr = refl
 
 sort_of_mark : (m : Mark) → sort_of_word (mark_word m) ≡ 2
 sort_of_mark Choose = refl
@@ -127,6 +129,7 @@ numbers_are R s t es et same =
     let one = four (are_tries s.tries) (nat_eq s.undo_tries 3) (are_refusals s.refuse) (nat_eq s.undo_refuse 0) es in
     let two = four (are_tries t.tries) (nat_eq t.undo_tries 3) (are_refusals t.refuse) (nat_eq t.undo_refuse 0) et in
     (same.0, eqb-true s.undo_tries 3 one.1 ∙ sym (eqb-true t.undo_tries 3 two.1), same.1.0, eqb-true s.undo_refuse 0 one.3 ∙ sym (eqb-true t.undo_refuse 0 two.3))
+numbers_are Cr s t es et same = (same.0, same.1.0, same.1.1.0, same.1.1.1.0)
 
 -- a step is written in one way, but for options that may be left out
 step_is : (s t : Step) (a b c : List (List ℕ)) → IsStep s a b → IsStep t a c → (s ≡ t) × (b ≡ c)

@@ -5,7 +5,7 @@ use Rattle.std.proofs.lemmas.Bool.{eqb-true}
 use Rattle.process_tree.specs.Making.{same_text}
 use Rattle.process_tree.specs.declared.step.Step.{Step}
 use Rattle.process_tree.specs.declared.step.StepKind.{StepKind}
-use Rattle.process_tree.specs.declared.step.StepKind.TheVariants.{C, P, R}
+use Rattle.process_tree.specs.declared.step.StepKind.TheVariants.{C, P, R, Cr}
 use Rattle.text_words.specs.declared.marks.Setting.{Setting}
 use Rattle.text_words.specs.declared.marks.Setting.TheVariants.{Tries, Undo, Refuse, UndoRefuse}
 use Rattle.text_words.specs.declared.marks.Mark.{Mark}
@@ -20,15 +20,19 @@ kind_is_no_option : (x : Setting) (k : StepKind) → same_text (kind_word k) (se
 kind_is_no_option Tries C = refl
 kind_is_no_option Tries P = refl
 kind_is_no_option Tries R = refl
+kind_is_no_option Tries Cr = refl
 kind_is_no_option Undo C = refl
 kind_is_no_option Undo P = refl
 kind_is_no_option Undo R = refl
+kind_is_no_option Undo Cr = refl
 kind_is_no_option Refuse C = refl
 kind_is_no_option Refuse P = refl
 kind_is_no_option Refuse R = refl
+kind_is_no_option Refuse Cr = refl
 kind_is_no_option UndoRefuse C = refl
 kind_is_no_option UndoRefuse P = refl
 kind_is_no_option UndoRefuse R = refl
+kind_is_no_option UndoRefuse Cr = refl
 
 mark_is_no_option : (x : Setting) (m : Mark) → same_text (mark_word m) (setting_word x) ≡ false
 mark_is_no_option Tries marks.Choose = refl
@@ -74,6 +78,7 @@ settings_differ : (k : StepKind) → AllDiffer (settings k)
 settings_differ C = ((refl, (refl, tt)), ((refl, tt), (tt, tt)))
 settings_differ P = (tt, tt)
 settings_differ R = ((refl, tt), (tt, tt))
+settings_differ Cr = ((refl, (refl, (refl, tt))), ((refl, (refl, tt)), ((refl, tt), (tt, tt))))
 
 -- where other options stand in front, x doesn't
 not_begun : (x : Setting) (xs : List Setting) (s : Step) (rest : List (List ℕ)) → Differ x xs → begins (λ w. same_text w (setting_word x)) rest ≡ false

@@ -11,7 +11,8 @@ use Rattle.process_text.specs.Places.{text_error}
 
 -- these are one process with this name and a tree that equals the one of this root, wherever both lie in memory
 abbrev pub IsAgain : List ℕ → Block → List Named → Type 0
-IsAgain name root ps = (p : Named) × (ps ≡ p ∷ []) × (p.name ≡ name) × (form_of p.tree ≡ form_of root) × (outline p.tree ≡ outline root)
+IsAgain name root ps =
+    (p : Named) × (ps ≡ p ∷ []) × (p.name ≡ name) × (form_of p.tree ≡ form_of root) × (outline p.tree ≡ outline root)
 
 -- as many processes, each with the name of the other in its place and a tree that equals the other's
 abbrev pub AreAlike : List Named → List Named → Type 0
@@ -31,4 +32,5 @@ HasReading bytes = (ps : List Named) × IsReading (words_of bytes) ps
 -- a text has a reading or a fault, and not both
 abbrev pub ReadingOrFault : Type 0
 ReadingOrFault =
-    (bytes : List ℕ) → (HasReading bytes × (text_error bytes ≡ None)) ⊎ ((¬ HasReading bytes) × ((e : TextError) × (text_error bytes ≡ Some e)))
+    (bytes : List ℕ) → (HasReading bytes × (text_error bytes ≡ None))
+    ⊎ ((¬ HasReading bytes) × ((e : TextError) × (text_error bytes ≡ Some e)))

@@ -1,5 +1,6 @@
 -- The grammar of process texts. A text is a row of pieces, and each piece is written by words.
-use Rattle.std.specs.Prelude.{◌≡◌, ◌≤◌, ◌⊎◌, ℕ, List, [], ◌∷◌, ◌++◌, Bool, true, false, not, ◌&&◌, length, map, flat_map, codes, decimal, None, ⊤}
+use Rattle.std.specs.Prelude.{◌≡◌, ◌≤◌, ◌⊎◌, ℕ, List, [], ◌∷◌, ◌++◌, Bool, true, false, not, ◌&&◌, length, map, flat_map, codes}
+use Rattle.std.specs.Prelude.{decimal, None, ⊤}
 use Rattle.std.specs.Fmt.{signed_decimal}
 use Rattle.std.specs.List.{list_any}
 use Rattle.process_tree.specs.Name.{is_name}

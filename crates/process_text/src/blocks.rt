@@ -1,5 +1,6 @@
 // Blocks of a text.
-ghost use Rattle.std.specs.Prelude.{◌≡◌, ◌∷◌, ◌++◌, [], ◌⊎◌, ◌≤◌, ◌<◌, ◌+◌, ℕ, List, true, false, Some, IfOk, IfErr, OnOk, map, length};
+ghost use Rattle.std.specs.Prelude.{◌≡◌, ◌∷◌, ◌++◌, [], ◌⊎◌, ◌≤◌, ◌<◌, ◌+◌, ℕ, List, true, false, Some, IfOk, IfErr, OnOk, map};
+ghost use Rattle.std.specs.Prelude.{length};
 ghost use Rattle.process_tree.specs.declared.step.Step.{Step};
 ghost use Rattle.text_words.specs.Marks.{mark_word, closes, ends_steps, meaning};
 ghost use Rattle.process_text.specs.Grammar.{IsStep, Writes, step_pieces, block_pieces, alternatives};

@@ -5,7 +5,8 @@ ghost use Rattle.process_tree.specs.Making.{tree_fault};
 ghost use Rattle.text_words.specs.Marks.{kind_word, mark_word, settings, setting_word};
 ghost use Rattle.text_words.specs.Words.{words_of};
 ghost use Rattle.process_text.specs.Grammar.{step_pieces, block_pieces, pieces_of_process, process_of, IsReading};
-ghost use Rattle.process_text.specs.Canonical.{setting_words, settings_words, call_words, step_words, canonical_words, spaced, divider, canonical_text};
+ghost use Rattle.process_text.specs.Canonical.{setting_words, settings_words, call_words, step_words, canonical_words, spaced};
+ghost use Rattle.process_text.specs.Canonical.{divider, canonical_text};
 ghost use Rattle.process_text.specs.Grammar.{HasNames, AreNamed};
 
 use process_tree::{Block, Name, Step, StepKind, Tail, Tree};
@@ -40,6 +41,7 @@ fn print_kind(kind: StepKind, out: &mut Vec<u8>) -> Result<(), AllocError>
         StepKind::C => print_word(b"c", out),
         StepKind::P => print_word(b"p", out),
         StepKind::R => print_word(b"r", out),
+        StepKind::Cr => print_word(b"cr", out),
     }
 }
 
@@ -82,20 +84,31 @@ fn print_setting(
     Ok(())
 }
 
+// Writes the options of a step that can be undone, but for its tries.
+fn print_undo_settings(alloc: Global, step: &Step, out: &mut Vec<u8>) -> Result<(), AllocError>
+    ensures { OnOk result
+        (out.new.items ≡ out.old.items ++ spaced
+        (settings_words (Setting.Undo ∷ Setting.Refuse ∷ Setting.UndoRefuse ∷ []) step.now)) }
+{
+    print_setting(alloc, Setting::Undo, step.undo_tries, out)?;
+    print_setting(alloc, Setting::Refuse, step.refuse, out)?;
+    print_setting(alloc, Setting::UndoRefuse, step.undo_refuse, out)
+}
+
 // Writes the options of a step.
 fn print_settings(alloc: Global, step: &Step, out: &mut Vec<u8>) -> Result<(), AllocError>
     ensures { OnOk result (out.new.items ≡ out.old.items ++ spaced (settings_words (settings step.now.kind) step.now)) }
 {
     match step.kind {
-        StepKind::C => {
-            print_setting(alloc, Setting::Undo, step.undo_tries, out)?;
-            print_setting(alloc, Setting::Refuse, step.refuse, out)?;
-            print_setting(alloc, Setting::UndoRefuse, step.undo_refuse, out)
-        }
+        StepKind::C => print_undo_settings(alloc, step, out),
         StepKind::P => print_setting(alloc, Setting::Refuse, step.refuse, out),
         StepKind::R => {
             print_setting(alloc, Setting::Tries, step.tries, out)?;
             print_setting(alloc, Setting::Refuse, step.refuse, out)
+        }
+        StepKind::Cr => {
+            print_setting(alloc, Setting::Tries, step.tries, out)?;
+            print_undo_settings(alloc, step, out)
         }
     }
 }

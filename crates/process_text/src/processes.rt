@@ -1,5 +1,6 @@
 // Processes of a text.
-ghost use Rattle.std.specs.Prelude.{Option, ◌≡◌, ◌∷◌, ◌++◌, [], ◌⊎◌, ◌<◌, ◌≤◌, ◌+◌, ℕ, List, true, false, not, None, Some, IfOk, IfErr, OnOk, OnErr, length, codes};
+ghost use Rattle.std.specs.Prelude.{Option, ◌≡◌, ◌∷◌, ◌++◌, [], ◌⊎◌, ◌<◌, ◌≤◌, ◌+◌, ℕ, List, true, false, not, None, Some, IfOk};
+ghost use Rattle.std.specs.Prelude.{IfErr, OnOk, OnErr, length, codes};
 ghost use Rattle.std.specs.List.{list_any};
 ghost use Rattle.process_tree.specs.Making.{same_text, tree_fault};
 ghost use Rattle.process_tree.specs.Name.{is_name};

@@ -1,5 +1,6 @@
 // Steps of a text.
-ghost use Rattle.std.specs.Prelude.{◌≡◌, ◌∷◌, ◌++◌, [], ◌⊎◌, ◌≤◌, ◌<◌, ℕ, length, List, true, false, not, Some, IfOk, IfErr, OnOk, decimal};
+ghost use Rattle.std.specs.Prelude.{◌≡◌, ◌∷◌, ◌++◌, [], ◌⊎◌, ◌≤◌, ◌<◌, ℕ, length, List, true, false, not, Some, IfOk, IfErr, OnOk};
+ghost use Rattle.std.specs.Prelude.{decimal};
 ghost use Rattle.std.specs.Fmt.{signed_decimal};
 ghost use Rattle.std.specs.List.{list_any};
 ghost use Rattle.process_tree.specs.Name.{is_name};
@@ -9,7 +10,8 @@ ghost use Rattle.process_tree.specs.declared.step.StepKind.{StepKind};
 ghost use Rattle.text_words.specs.declared.marks.Setting.{Setting};
 ghost use Rattle.text_words.specs.Marks.{kind_word, settings, takes};
 ghost use Rattle.process_text.specs.Grammar.{IsSetting, IsWithSettings, IsStep};
-ghost use Rattle.process_text.specs.FirstFault.{Before, told, told_from, told_behind, at_step_name, at_operation, at_key, at_amount, at_settings, at_number, in_block};
+ghost use Rattle.process_text.specs.FirstFault.{Before, told, told_from, told_behind, at_step_name, at_operation, at_key};
+ghost use Rattle.process_text.specs.FirstFault.{at_amount, at_settings, at_number, in_block};
 ghost use Rattle.process_text.specs.Leading.{with_names};
 
 use crate::{Fault, What, name_of, read_new_name};
@@ -100,10 +102,41 @@ fn read_setting(setting: Setting, words: &mut Words<'_>) -> Result<u8, Fault>
     read_number(setting, words)
 }
 
+// The numbers of the options of a step that can be undone, but for its tries.
+#[derive(Drop)]
+struct UndoSettings {
+    undo_tries: u8,
+    refuse: u8,
+    undo_refuse: u8,
+}
+
+// The options of a step that can be undone, but for its tries.
+fn read_undo_settings(words: &mut Words<'_>) -> Result<UndoSettings, Fault>
+    ensures settings { IfOk result
+        (λ r. (behind_undo behind_refuse : List (List ℕ)) × IsSetting Setting.Undo r.undo_tries words.old behind_undo
+        × IsSetting Setting.Refuse r.refuse behind_undo behind_refuse
+        × IsSetting Setting.UndoRefuse r.undo_refuse behind_refuse words.new) }
+    ensures takes { IfOk result (λ r. (takes Setting.Undo r.undo_tries ≡ true)
+        × (takes Setting.Refuse r.refuse ≡ true) × (takes Setting.UndoRefuse r.undo_refuse ≡ true)) }
+    ensures leads { OnOk result
+        ((b : Before) → told_from b (at_settings (Setting.Undo ∷ Setting.Refuse ∷ Setting.UndoRefuse ∷ [])) words.old
+        ≡ told_from b (at_settings []) words.new) }
+    ensures err { IfErr result
+        (λ e. (b : Before) → told_from b (at_settings (Setting.Undo ∷ Setting.Refuse ∷ Setting.UndoRefuse ∷ [])) words.old
+        ≡ told e words.new) }
+{
+    Ok(UndoSettings {
+        undo_tries: read_setting(Setting::Undo, words)?,
+        refuse: read_setting(Setting::Refuse, words)?,
+        undo_refuse: read_setting(Setting::UndoRefuse, words)?,
+    })
+}
+
 // A step with the options that its kind has, and the defaults of the others.
 fn with_settings(step: Step, words: &mut Words<'_>) -> Result<Step, Fault>
     ensures step { IfOk result (λ s. IsWithSettings step s words.old words.new) }
-    ensures leads { OnOk result ((b : Before) → told_from b (at_settings (settings step.kind)) words.old ≡ told_from b (at_settings []) words.new) }
+    ensures leads { OnOk result
+        ((b : Before) → told_from b (at_settings (settings step.kind)) words.old ≡ told_from b (at_settings []) words.new) }
     ensures err { IfErr result (λ e. (b : Before) → told_from b (at_settings (settings step.kind)) words.old ≡ told e words.new) }
 {
     let default = Step {
@@ -114,12 +147,15 @@ fn with_settings(step: Step, words: &mut Words<'_>) -> Result<Step, Fault>
         ..step
     };
     match default.kind {
-        StepKind::C => Ok(Step {
-            undo_tries: read_setting(Setting::Undo, words)?,
-            refuse: read_setting(Setting::Refuse, words)?,
-            undo_refuse: read_setting(Setting::UndoRefuse, words)?,
-            ..default
-        }),
+        StepKind::C => {
+            let undo = read_undo_settings(words)?;
+            Ok(Step {
+                undo_tries: undo.undo_tries,
+                refuse: undo.refuse,
+                undo_refuse: undo.undo_refuse,
+                ..default
+            })
+        }
         StepKind::P => Ok(Step {
             refuse: read_setting(Setting::Refuse, words)?,
             ..default
@@ -129,6 +165,17 @@ fn with_settings(step: Step, words: &mut Words<'_>) -> Result<Step, Fault>
             refuse: read_setting(Setting::Refuse, words)?,
             ..default
         }),
+        StepKind::Cr => {
+            let tries = read_setting(Setting::Tries, words)?;
+            let undo = read_undo_settings(words)?;
+            Ok(Step {
+                tries,
+                undo_tries: undo.undo_tries,
+                refuse: undo.refuse,
+                undo_refuse: undo.undo_refuse,
+                ..default
+            })
+        }
     }
 }
 

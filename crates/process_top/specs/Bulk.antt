@@ -18,8 +18,9 @@ IsBulkDue gate number count files files_after (ended said) = IsBulkFound gate (s
 IsBulkDue gate number count files files_after (refused r) = IsBulkFound gate (scenario number count) files files_after (Err r)
 IsBulkDue gate number count files files_after reply = ⊥
 
--- Where the generated text is a scenario whose processes fit, and all files are empty, the line is there: all processes have ended, or one is
--- stuck; or memory is wanting.
+-- Where the generated text is a scenario whose processes fit, and all files are empty, the line is there: all processes have ended,
+-- or one is stuck; or memory is wanting.
 abbrev pub IsBulkComplete : ℕ → ℕ → Files → Status → Type 0
 IsBulkComplete number count files status =
-    (c : Catalog) (plans : List Plan) → IsScenarioThatFits (scenario number count) c plans → AreEmptyFiles files → IsOneOf status (Done ∷ Exhausted ∷ NoMemory ∷ [])
+    (c : Catalog) (plans : List Plan) → IsScenarioThatFits (scenario number count) c plans → AreEmptyFiles files
+    → IsOneOf status (Done ∷ Exhausted ∷ NoMemory ∷ [])

@@ -19,4 +19,5 @@ IsCheckDue before after reply = ⊥
 -- where the input is in the grammar, there are verdicts, or memory is wanting
 abbrev pub IsCheckComplete : Input → Status → Type 0
 IsCheckComplete input status =
-    IfSome input.left (λ text. (ps : List Named) → length text ≤ most_input → IsReading (words_of text) ps → IsOneOf status (Done ∷ IllFormed ∷ NoMemory ∷ []))
+    IfSome input.left (λ text. (ps : List Named) → length text ≤ most_input → IsReading (words_of text) ps
+    → IsOneOf status (Done ∷ IllFormed ∷ NoMemory ∷ []))

@@ -3,7 +3,8 @@ use Rattle.std.specs.Prelude.{◌≡◌, ◌⊎◌, ℕ, Bool, true, false, List
 use Rattle.std.specs.Str.{bytes_eq}
 use Rattle.program_words.specs.Commands.{asked}
 use Rattle.program_words.specs.declared.reading.Command.{Command}
-use Rattle.program_words.specs.declared.reading.Command.TheVariants.{Check, Init, Run, Session, Serve, Restart, Show, Verify, Gen, Bulk}
+use Rattle.program_words.specs.declared.reading.Command.TheVariants.{Check, Init, Run, Session, Serve, Restart, Show, Verify, Gen}
+use Rattle.program_words.specs.declared.reading.Command.TheVariants.{Bulk}
 use Rattle.process_flow.specs.Causes.{Rose}
 use Rattle.program_lines.specs.Statuses.{number_of}
 use Rattle.program_lines.specs.declared.status.Status.{Status}
@@ -29,9 +30,11 @@ use Rattle.process_top.specs.Verify.{IsVerifyDue, IsVerifyComplete}
 use Rattle.process_top.specs.Gen.{IsGenDue, IsGenComplete}
 use Rattle.process_top.specs.Bulk.{IsBulkDue, IsBulkComplete}
 
--- what may be due to a command, which may ask the first gate; to words that ask for none, that they are bad, or that memory was wanting for them
+-- what may be due to a command, which may ask the first gate; to words that ask for none, that they are bad, or that memory was
+-- wanting for them
 abbrev pub IsDueTo : Option Command → AskedGate → Input → Input → Files → Files → Reply → Type 0
-IsDueTo None gate before after files files_after reply = ((reply ≡ refused BadWords) ⊎ (reply ≡ refused NoMemory)) × AreUntouched files files_after
+IsDueTo None gate before after files files_after reply =
+    ((reply ≡ refused BadWords) ⊎ (reply ≡ refused NoMemory)) × AreUntouched files files_after
 IsDueTo (Some Check) gate before after files files_after reply = IsCheckDue before after reply × AreUntouched files files_after
 IsDueTo (Some Init) gate before after files files_after reply = IsInitDue before after files files_after reply
 IsDueTo (Some Run) gate before after files files_after reply = IsRunDue gate before after files files_after reply
@@ -40,7 +43,8 @@ IsDueTo (Some Serve) gate before after files files_after reply = IsServeDue befo
 IsDueTo (Some Restart) gate before after files files_after reply = IsRestartDue gate files files_after reply
 IsDueTo (Some Show) gate before after files files_after reply = IsShowDue files files_after reply × AreUntouched files files_after
 IsDueTo (Some Verify) gate before after files files_after reply = IsVerifyDue before after reply × AreUntouched files files_after
-IsDueTo (Some (Gen number count)) gate before after files files_after reply = IsGenDue number count reply × AreUntouched files files_after
+IsDueTo (Some (Gen number count)) gate before after files files_after reply =
+    IsGenDue number count reply × AreUntouched files files_after
 IsDueTo (Some (Bulk number count)) gate before after files files_after reply = IsBulkDue gate number count files files_after reply
 
 -- what a command does where nothing fails
@@ -144,8 +148,8 @@ pub record Answers {S K R : Type 0} (words : List (List ℕ)) (before after : Wo
   -- this was to be said, and it was due
   pub reply : Reply
   pub due : IsDueTo (asked words) (first_gate before.gates after.gates) before.input after.input before.files after.files reply
-  -- it was told: its text went out, and the status is its own, or that of want of memory for its line; or the sink failed, and the status
-  -- is that of a write fault
+  -- it was told: its text went out, and the status is its own, or that of want of memory for its line; or the sink failed, and the
+  -- status is that of a write fault
   pub told : IsReplyTold reply before.output after.output status
   -- where no call failed, the command did what it is for, or memory is wanting
   pub complete : IsQuiet (asked words) before after → DoesItsWork (asked words) before.input before.files status
@@ -155,7 +159,8 @@ pub record Answers {S K R : Type 0} (words : List (List ℕ)) (before after : Wo
   pub boxes : AreBoxes (λ b. b.kind) after.boxes
   pub kept : uses_boxes (asked words) ≡ false → after.boxes ≡ before.boxes
   -- a restart that did its work leaves in each the values of its book
-  pub values : asked words ≡ Some Restart → status ≡ Done → Told after.files.disk → HaveValuesOf (λ (b : BoxState). b.values) after.files.disk.files after.boxes
+  pub values : asked words ≡ Some Restart → status ≡ Done → Told after.files.disk
+      → HaveValuesOf (λ (b : BoxState). b.values) after.files.disk.files after.boxes
   -- only the first gate may be asked, and a command that asks none leaves it as it is
   pub gates : AreOthersAsBefore before.gates after.gates
   pub unasked : asks_gate (asked words) ≡ false → after.gates ≡ before.gates

@@ -55,7 +55,8 @@ text_of accepted = codes "accepted\n"
 text_of (generated text) = text
 text_of (refused r) = refusal_line r
 
--- a reply was told: its text went out, at its status; or it is a refusal whose line needs memory, and it was told that there is none
+-- a reply was told: its text went out, at its status; or it is a refusal whose line needs memory, and it was told that there is
+-- none
 abbrev pub IsReplyTold : Reply → Output → Output → Status → Type 0
 IsReplyTold (refused r) before after ended_at = IsRefusalTold r before after ended_at
 IsReplyTold reply before after ended_at = IsTold (status_of reply) (text_of reply) before after ended_at

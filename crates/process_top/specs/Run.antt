@@ -20,17 +20,19 @@ never_asked = record { asked = 0; refusals = 0 }
 
 -- the first gate, before and after
 abbrev pub first_gate : GatesState → GatesState → AskedGate
-first_gate before after = record { answers = before.answers; before = get_or before.counts 0 never_asked; after = get_or after.counts 0 never_asked }
+first_gate before after =
+    record { answers = before.answers; before = get_or before.counts 0 never_asked; after = get_or after.counts 0 never_asked }
 
--- the report of the history once all processes of the scenario have ended, or one is stuck; or the verdict line of the first process
--- that isn't well-formed; or what is refused
+-- the report of the history once all processes of the scenario have ended, or one is stuck; or the verdict line of the first
+-- process that isn't well-formed; or what is refused
 abbrev pub IsRunDue : AskedGate → Input → Input → Files → Files → Reply → Type 0
 IsRunDue gate before after files files_after (ended said) = IsRunFound gate before after files files_after (Ok said)
 IsRunDue gate before after files files_after (refused r) = IsRunFound gate before after files files_after (Err r)
 IsRunDue gate before after files files_after reply = ⊥
 
--- Where the input is a scenario and the files have room for it, the report is there: all processes have ended, or one is stuck; or memory
--- is wanting.
+-- Where the input is a scenario and the files have room for it, the report is there: all processes have ended, or one is stuck; or
+-- memory is wanting.
 abbrev pub IsRunComplete : Input → Files → Status → Type 0
 IsRunComplete input files status =
-    (bytes : List ℕ) (c : Catalog) (plans : List Plan) (h : History) → HasScenario input bytes c plans → HasRoomFor bytes c h files → IsOneOf status (Done ∷ Exhausted ∷ NoMemory ∷ [])
+    (bytes : List ℕ) (c : Catalog) (plans : List Plan) (h : History) → HasScenario input bytes c plans → HasRoomFor bytes c h files
+    → IsOneOf status (Done ∷ Exhausted ∷ NoMemory ∷ [])

@@ -20,13 +20,15 @@ use Rattle.process_top.specs.Told.{Output, IsTold, IsRefusalTold}
 
 -- a reply of which this holds is said: its text and its status where it is no refusal, and else the refusal
 abbrev pub Says : (Reply → Type 0) → Result Said Refusal → Type 0
-Says IsDue (Ok said) = (reply : Reply) × (is_refused reply ≡ false) × IsDue reply × (said.text.items ≡ text_of reply) × (said.status ≡ status_of reply)
+Says IsDue (Ok said) = (reply : Reply) × (is_refused reply ≡ false) × IsDue reply × (said.text.items ≡ text_of reply)
+    × (said.status ≡ status_of reply)
 Says IsDue (Err r) = IsDue (refused r)
 
--- A call ended with a reply of which this holds: a dialogue was held and told, at the status that the call ended with; or nothing was told yet, and
--- the reply is to be.
+-- A call ended with a reply of which this holds: a dialogue was held and told, at the status that the call ended with; or nothing
+-- was told yet, and the reply is to be.
 abbrev pub EndsBy : (Reply → Type 0) → Output → Output → Ending → Type 0
-EndsBy IsDue out out_after (endings.Told at) = (text : List ℕ) × (status : Status) × IsDue (served text status) × IsTold status text out out_after at
+EndsBy IsDue out out_after (endings.Told at) =
+    (text : List ℕ) × (status : Status) × IsDue (served text status) × IsTold status text out out_after at
 EndsBy IsDue out out_after (endings.Due found) = Says IsDue found × (out_after ≡ out)
 
 -- it was told
@@ -36,9 +38,14 @@ IsResultTold (Err r) before after ended = IsRefusalTold r before after ended
 
 -- what is promised of the work of a command over an engine, where nothing fails
 abbrev pub HasWorked : Option Command → Input → Input → Files → Files → Output → Output → Ending → Type 0
-HasWorked (Some Run) before after files files_after out out_after ending = OnEnding (λ at. ⊤) (IsRunComplete before after files files_after) ending
-HasWorked (Some Session) before after files files_after out out_after ending = OnEnding (λ at. ⊤) (IsSessionComplete before after files files_after) ending
-HasWorked (Some Serve) before after files files_after out out_after ending = IsServeComplete before after files files_after out out_after ending
-HasWorked (Some Restart) before after files files_after out out_after ending = OnEnding (λ at. ⊤) (IsRestartComplete files files_after) ending
-HasWorked (Some (Bulk number count)) before after files files_after out out_after ending = OnEnding (λ at. ⊤) (IsBulkComplete (scenario number count) files files_after) ending
+HasWorked (Some Run) before after files files_after out out_after ending =
+    OnEnding (λ at. ⊤) (IsRunComplete before after files files_after) ending
+HasWorked (Some Session) before after files files_after out out_after ending =
+    OnEnding (λ at. ⊤) (IsSessionComplete before after files files_after) ending
+HasWorked (Some Serve) before after files files_after out out_after ending =
+    IsServeComplete before after files files_after out out_after ending
+HasWorked (Some Restart) before after files files_after out out_after ending =
+    OnEnding (λ at. ⊤) (IsRestartComplete files files_after) ending
+HasWorked (Some (Bulk number count)) before after files files_after out out_after ending =
+    OnEnding (λ at. ⊤) (IsBulkComplete (scenario number count) files files_after) ending
 HasWorked o before after files files_after out out_after ending = ⊤

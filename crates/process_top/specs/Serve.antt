@@ -13,14 +13,17 @@ use Rattle.command_input.specs.FilesLeft.{Files}
 use Rattle.serve_run.specs.Serve.{HasScene, IsNotServed, IsServeTold}
 use Rattle.process_top.specs.Replies.{Reply, ended, refused, served}
 
--- what a dialogue printed, to its end; or the verdict line of the first process of the scenario that isn't well-formed; or what is refused
+-- what a dialogue printed, to its end; or the verdict line of the first process of the scenario that isn't well-formed; or what is
+-- refused
 abbrev pub IsServeDue : Input → Input → Files → Files → Reply → Type 0
 IsServeDue before after files files_after (served text status) = IsServeTold before after files files_after text status
 IsServeDue before after files files_after (ended said) = IsNotServed before after files files_after (Ok said)
 IsServeDue before after files files_after (refused r) = IsNotServed before after files files_after (Err r)
 IsServeDue before after files files_after reply = ⊥
 
--- where a scenario stands in front of the input's mark, and the files are sound, the dialogue is held to its end, or memory is wanting
+-- where a scenario stands in front of the input's mark, and the files are sound, the dialogue is held to its end, or memory is
+-- wanting
 abbrev pub IsServeComplete : Input → Files → Status → Type 0
 IsServeComplete input files status =
-    (bytes : List ℕ) (c : Catalog) (plans : List Plan) (h : History) → HasScene input bytes c plans → Told files.disk → IsSound c h files.disk.files → IsOneOf status (Done ∷ NoMemory ∷ [])
+    (bytes : List ℕ) (c : Catalog) (plans : List Plan) (h : History) → HasScene input bytes c plans → Told files.disk
+    → IsSound c h files.disk.files → IsOneOf status (Done ∷ NoMemory ∷ [])

@@ -31,12 +31,14 @@ journal_refusal journal.NoMemory = refusals.NoMemory
 -- File 0 was not opened: it is no log, or a record is at fault, the first in order; or the rack failed; or memory was wanting.
 abbrev pub IsNotOpened : Refusal → Files → Files → Type 0
 IsNotOpened r before after =
-    (e : JournalError) × (r ≡ journal_refusal e) × (Told before.disk → IsDue (read_log 0 (file_of before.disk.files 0)) e) × (e ≡ journal.DiskFault → Rose before.faults after.faults)
+    (e : JournalError) × (r ≡ journal_refusal e) × (Told before.disk → IsDue (read_log 0 (file_of before.disk.files 0)) e)
+    × (e ≡ journal.DiskFault → Rose before.faults after.faults)
 
 -- File 0, where it is told, is the journal of this catalog and history, and so is each image of it from then on.
 abbrev pub IsShown : Catalog → History → Files → Files → Type 0
 IsShown c h before after =
-    IsHistoryUnder c h × (Told before.disk → IsJournalOf c h before.disk.files × EachImage after.disk after.disk.moment (IsJournalOf c h))
+    IsHistoryUnder c h × (Told before.disk → IsJournalOf c h before.disk.files
+    × EachImage after.disk after.disk.moment (IsJournalOf c h))
 
 -- the history of file 0, or why there is none
 abbrev pub IsShowDue : Files → Files → Reply → Type 0
@@ -46,4 +48,5 @@ IsShowDue before after reply = ⊥
 
 -- where file 0 is the journal of a history, it is shown, or memory is wanting
 abbrev pub IsShowComplete : Disk → Status → Type 0
-IsShowComplete disk status = (c : Catalog) (h : History) → IsHistoryUnder c h → Told disk → IsJournalOf c h disk.files → IsOneOf status (Done ∷ NoMemory ∷ [])
+IsShowComplete disk status = (c : Catalog) (h : History) → IsHistoryUnder c h → Told disk → IsJournalOf c h disk.files
+    → IsOneOf status (Done ∷ NoMemory ∷ [])

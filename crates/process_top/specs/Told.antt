@@ -12,4 +12,5 @@ IsLineTold r before after ended = IsTold (refusal_status r) (refusal_line r) bef
 
 -- or its line needs memory, and it was told that there is none
 abbrev pub IsRefusalTold : Refusal → Output → Output → Status → Type 0
-IsRefusalTold r before after ended = IsLineTold r before after ended ⊎ ((needs_memory r ≡ true) × IsLineTold NoMemory before after ended)
+IsRefusalTold r before after ended =
+    IsLineTold r before after ended ⊎ ((needs_memory r ≡ true) × IsLineTold NoMemory before after ended)

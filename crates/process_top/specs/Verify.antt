@@ -43,4 +43,5 @@ verified_status verdicts.NoMemory = NoMemory
 
 -- an input within the limit has the status of the verdict on it, or memory is wanting; so a report that is accepted ends well
 abbrev pub IsVerifyComplete : Input → Status → Type 0
-IsVerifyComplete input status = IfSome input.left (λ text. length text ≤ most_input → IsOneOf status (verified_status (verdict text) ∷ NoMemory ∷ []))
+IsVerifyComplete input status =
+    IfSome input.left (λ text. length text ≤ most_input → IsOneOf status (verified_status (verdict text) ∷ NoMemory ∷ []))

@@ -44,7 +44,8 @@ pub record World (S K R : Type 0) : Type 1 where
   pub gates : GatesState
 
 -- the world of these five
-abbrev pub world : {S K R B G : Type 0} → Sources S → Sinks K → Racks R → Resources B → Gates G → S → K → R → List B → List G → World S K R
+abbrev pub world : {S K R B G : Type 0} → Sources S → Sinks K → Racks R → Resources B → Gates G → S → K → R → List B → List G
+    → World S K R
 world s k r b g source sink rack resources workers = record {
   source = source;
   sink = sink;

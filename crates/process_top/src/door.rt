@@ -13,7 +13,8 @@ ghost use Rattle.process_top.specs.Run.{first_gate};
 ghost use Rattle.serve_run.specs.Serve.{OnEnding};
 ghost use Rattle.process_top.specs.Said.{EndsBy, HasWorked};
 ghost use Rattle.process_top.specs.Worlds.{files, input, output, world, gates as told_gates};
-ghost use Rattle.process_top.specs.Commands.{asks_gate, first_is_show, reads_input, uses_boxes, uses_files, Answers, AreOthersAsBefore, IsDueTo};
+ghost use Rattle.process_top.specs.Commands.{asks_gate, first_is_show, reads_input, uses_boxes, uses_files, Answers};
+ghost use Rattle.process_top.specs.Commands.{AreOthersAsBefore, IsDueTo};
 
 use crate::check::check;
 use crate::generating::scenario;
@@ -76,9 +77,12 @@ fn done<S: Source, K: Sink, R: Rack + Drop, B: Resource, G: Gate>(
     requires range { IsInRange command }
     requires boxes { AreBoxes B.sort parts.resources.items }
     requires gates { length gates.old.items ≡ 16 }
-    ensures due { EndsBy (IsDueTo (Some command) (first_gate (told_gates G.Gate gates.old.items) (told_gates G.Gate gates.new.items))
-        (input S.Source source.old) (input S.Source source.new) (files R.Rack parts.rack) (files R.Rack result.parts.rack)) (output K.Sink sink.old) (output K.Sink sink.new) result.ending }
-    ensures worked { HasWorked (Some command) (input S.Source source.old) (input S.Source source.new) (files R.Rack parts.rack) (files R.Rack result.parts.rack)
+    ensures due { EndsBy (IsDueTo (Some command)
+        (first_gate (told_gates G.Gate gates.old.items) (told_gates G.Gate gates.new.items))
+        (input S.Source source.old) (input S.Source source.new) (files R.Rack parts.rack) (files R.Rack result.parts.rack))
+        (output K.Sink sink.old) (output K.Sink sink.new) result.ending }
+    ensures worked { HasWorked (Some command) (input S.Source source.old) (input S.Source source.new) (files R.Rack parts.rack)
+        (files R.Rack result.parts.rack)
         (output K.Sink sink.old) (output K.Sink sink.new) result.ending }
     ensures left { AreLeft (files R.Rack parts.rack) (files R.Rack result.parts.rack) }
     ensures boxes { AreBoxes B.sort result.parts.resources.items }
@@ -87,9 +91,12 @@ fn done<S: Source, K: Sink, R: Rack + Drop, B: Resource, G: Gate>(
     ensures unasked { asks_gate (Some command) ≡ false → gates.new.items ≡ gates.old.items }
     ensures untouched { uses_files (Some command) ≡ false → result.parts.rack ≡ parts.rack }
     ensures unread { reads_input (Some command) ≡ false → source.new ≡ source.old }
-    ensures early { OnEnding (λ _. ⊤) (λ found. IfErr found (λ r. comes_before_files r ≡ true → result.parts.rack ≡ parts.rack)) result.ending }
-    ensures verdict { OnEnding (λ _. ⊤) (λ found. IfOk found (λ s. s.status ≡ IllFormed → result.parts.rack ≡ parts.rack)) result.ending }
-    ensures values { Some command ≡ Some Restart → OnEnding (λ _. ⊥) (λ found. IfOk found (λ s. s.status ≡ Done → Told (R.disk result.parts.rack)
+    ensures early { OnEnding (λ _. ⊤)
+        (λ found. IfErr found (λ r. comes_before_files r ≡ true → result.parts.rack ≡ parts.rack)) result.ending }
+    ensures verdict { OnEnding (λ _. ⊤)
+        (λ found. IfOk found (λ s. s.status ≡ IllFormed → result.parts.rack ≡ parts.rack)) result.ending }
+    ensures values { Some command ≡ Some Restart → OnEnding (λ _. ⊥)
+        (λ found. IfOk found (λ s. s.status ≡ Done → Told (R.disk result.parts.rack)
         → HaveValuesOf (λ b. (B.meaning b).items) (R.disk result.parts.rack).files result.parts.resources.items)) result.ending }
 {
     match command {
@@ -135,9 +142,12 @@ fn said<S: Source, K: Sink, R: Rack + Drop, B: Resource, G: Gate>(
 ) -> Served<Parts<R, B>>
     requires boxes { AreBoxes B.sort parts.resources.items }
     requires gates { length gates.old.items ≡ 16 }
-    ensures due { EndsBy (IsDueTo (asked (map string_bytes words.now)) (first_gate (told_gates G.Gate gates.old.items) (told_gates G.Gate gates.new.items))
-        (input S.Source source.old) (input S.Source source.new) (files R.Rack parts.rack) (files R.Rack result.parts.rack)) (output K.Sink sink.old) (output K.Sink sink.new) result.ending }
-    ensures worked { HasWorked (asked (map string_bytes words.now)) (input S.Source source.old) (input S.Source source.new) (files R.Rack parts.rack) (files R.Rack result.parts.rack)
+    ensures due { EndsBy (IsDueTo (asked (map string_bytes words.now))
+        (first_gate (told_gates G.Gate gates.old.items) (told_gates G.Gate gates.new.items))
+        (input S.Source source.old) (input S.Source source.new) (files R.Rack parts.rack) (files R.Rack result.parts.rack))
+        (output K.Sink sink.old) (output K.Sink sink.new) result.ending }
+    ensures worked { HasWorked (asked (map string_bytes words.now)) (input S.Source source.old) (input S.Source source.new)
+        (files R.Rack parts.rack) (files R.Rack result.parts.rack)
         (output K.Sink sink.old) (output K.Sink sink.new) result.ending }
     ensures left { AreLeft (files R.Rack parts.rack) (files R.Rack result.parts.rack) }
     ensures boxes { AreBoxes B.sort result.parts.resources.items }
@@ -146,9 +156,12 @@ fn said<S: Source, K: Sink, R: Rack + Drop, B: Resource, G: Gate>(
     ensures unasked { asks_gate (asked (map string_bytes words.now)) ≡ false → gates.new.items ≡ gates.old.items }
     ensures untouched { uses_files (asked (map string_bytes words.now)) ≡ false → result.parts.rack ≡ parts.rack }
     ensures unread { reads_input (asked (map string_bytes words.now)) ≡ false → source.new ≡ source.old }
-    ensures early { OnEnding (λ _. ⊤) (λ found. IfErr found (λ r. comes_before_files r ≡ true → result.parts.rack ≡ parts.rack)) result.ending }
-    ensures verdict { OnEnding (λ _. ⊤) (λ found. IfOk found (λ s. s.status ≡ IllFormed → result.parts.rack ≡ parts.rack)) result.ending }
-    ensures values { asked (map string_bytes words.now) ≡ Some Restart → OnEnding (λ _. ⊥) (λ found. IfOk found (λ s. s.status ≡ Done → Told (R.disk result.parts.rack)
+    ensures early { OnEnding (λ _. ⊤)
+        (λ found. IfErr found (λ r. comes_before_files r ≡ true → result.parts.rack ≡ parts.rack)) result.ending }
+    ensures verdict { OnEnding (λ _. ⊤)
+        (λ found. IfOk found (λ s. s.status ≡ IllFormed → result.parts.rack ≡ parts.rack)) result.ending }
+    ensures values { asked (map string_bytes words.now) ≡ Some Restart
+        → OnEnding (λ _. ⊥) (λ found. IfOk found (λ s. s.status ≡ Done → Told (R.disk result.parts.rack)
         → HaveValuesOf (λ b. (B.meaning b).items) (R.disk result.parts.rack).files result.parts.resources.items)) result.ending }
 {
     match read_words(alloc, words) {
@@ -177,7 +190,8 @@ pub fn answer<S: Source, K: Sink, R: Rack + Drop, B: Resource, G: Gate>(
     requires boxes { AreBoxes B.sort resources.items }
     requires gates { length gates.items ≡ 16 }
     // On these words, from this world to that one, at this status, this was answered.
-    ensures { Answers (map string_bytes words.now) (world S.Source K.Sink R.Rack B.Resource G.Gate source.old sink.old rack resources.items gates.items)
+    ensures { Answers (map string_bytes words.now)
+        (world S.Source K.Sink R.Rack B.Resource G.Gate source.old sink.old rack resources.items gates.items)
         (world S.Source K.Sink R.Rack B.Resource G.Gate source.new sink.new result.rack result.resources.items result.gates.items) result.status }
 {
     let mut gates = gates;
@@ -207,7 +221,8 @@ pub fn top<H, S: Source, K: Sink, R: Rack + Drop, B: Resource, G: Gate>(
     requires boxes { AreBoxes B.sort resources.items }
     requires gates { length gates.items ≡ 16 }
     // On these words, from this world to that one, at this status, this was answered.
-    ensures { Answers (map string_bytes words.now) (world S.Source K.Sink R.Rack B.Resource G.Gate source.old sink.old rack resources.items gates.items)
+    ensures { Answers (map string_bytes words.now)
+        (world S.Source K.Sink R.Rack B.Resource G.Gate source.old sink.old rack resources.items gates.items)
         (world S.Source K.Sink R.Rack B.Resource G.Gate source.new sink.new result.rack result.resources.items result.gates.items) result.status }
 {
     answer(alloc, words, source, sink, rack, resources, gates)

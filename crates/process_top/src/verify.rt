@@ -16,7 +16,8 @@ use trace_verify::Verified;
 // Nothing, where a report is accepted.
 fn fault_of(verified: Verified) -> Result<(), Refusal>
     ensures accepted { OnOk result (verified ≡ verdicts.Accepted) }
-    ensures fault { IfErr result (λ r. (r ≡ NoMemory) ⊎ ((fault : ReportFault) × (r ≡ Report fault) × (verified ≡ verdict_of fault))) }
+    ensures fault { IfErr result
+        (λ r. (r ≡ NoMemory) ⊎ ((fault : ReportFault) × (r ≡ Report fault) × (verified ≡ verdict_of fault))) }
 {
     match verified {
         Verified::Accepted => Ok(()),

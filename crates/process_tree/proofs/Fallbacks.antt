@@ -12,7 +12,8 @@ use Rattle.process_tree.specs.Paths.{way_from, kept_len}
 use Rattle.process_tree.specs.Shape.{shape_of, branch_to, path_through, steps_before, fixed_len, last_commit, least}
 use Rattle.process_tree.specs.Play.{fallback_of, fallback_by, fallback_place, kept_for}
 use Rattle.process_tree.proofs.Onward.{branch_from}
-use Rattle.process_tree.proofs.Kept.{fallback_is, fixed_le, kept_is, last_commit_on, branch_below, branch_rises, branch_within, rising_short, kept_goes_on}
+use Rattle.process_tree.proofs.Fixed.{fixed_le}
+use Rattle.process_tree.proofs.Kept.{fallback_is, kept_is, last_commit_on, branch_below, branch_rises, branch_within, rising_short, kept_goes_on}
 use Rattle.process_tree.proofs.Trees.{tree_laid_out, few_steps}
 
 -- a commit point of the branch is on it

@@ -7,9 +7,9 @@ use Rattle.process_tree.specs.declared.play.Place.TheVariants.{Step, End}
 use Rattle.process_tree.specs.Blocks.{outline}
 use Rattle.process_tree.specs.Making.{tree_fault}
 use Rattle.process_tree.specs.Order.{Each, IsRising, has}
-use Rattle.process_tree.specs.Shape.{Shape, shape_of, next_steps, goes_on_to, least, greatest, greater, kind_of, can_be_refused, last_of}
+use Rattle.process_tree.specs.Shape.{Shape, shape_of, next_steps, goes_on_to, least, greatest, greater, kind_of, can_be_refused, last_of, last_path, last_after, with_rest}
 use Rattle.process_tree.specs.Play.{asks, follow, come_to, arrive, go_on}
-use Rattle.process_tree.specs.Recovery.{place_of, place_after, last_place_after, last_path, last_after, with_rest}
+use Rattle.process_tree.specs.Recovery.{place_of, place_after, last_place_after}
 use Rattle.process_tree.specs.Paths.{last_or}
 use Rattle.process_tree.specs.Stands.{arrive_at, IsNext, left_from}
 use Rattle.process_tree.proofs.Branches.{has_here, has_there, Each-has, Each-among}

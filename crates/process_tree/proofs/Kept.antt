@@ -1,5 +1,4 @@
 -- What is kept at a fallback, and the way on from it.
-use Rattle.process_tree.proofs.Fixed.{fixed_from-le}
 use Rattle.std.proofs.Common.{◌≡◌, inl, inr, ⊎_elim, subst, ℕ, ◌+◌, ◌-◌, ◌<◌, ◌≤◌, zero, suc, Bool, true, false, List, [], ◌∷◌, length, map, take, filter, find, flat_map, cond, unwrap_or, Option, Some, None, refl, sym, ap, ◌∙◌, arith, nat_eq, nat_lt, if◌then◌else◌}
 use Rattle.std.proofs.lemmas.Bool.{ltb-true, ltb-false, lt-ltb, eq-eqb, ne_eqb, cases_eq, cases_Bool}
 use Rattle.std.specs.List.{filter_map, slice_get}
@@ -140,9 +139,6 @@ kept_goes_on t w b d is =
 -- the way on is later than what was refused
 pub way_is_later : (t : Shape) (w : List ℕ) (b d : ℕ) → fallback_of t w b ≡ Some d → b < d
 way_is_later t w b d is = (in_filter b d (flat_map (next_steps t) (kept_prefixes t w)) (least_is (filter (λ d. nat_lt b d) (flat_map (next_steps t) (kept_prefixes t w))) d is).0).1
-
-pub fixed_le : (t : Shape) (w : List ℕ) → fixed_len t w ≤ length w
-fixed_le t w = omega (arith, fixed_from-le t w 0 0 (omega arith))
 
 -- the last of the first f steps tells how many these are
 has_last : (x : ℕ) (xs : List ℕ) (c : ℕ) → last_of (x ∷ xs) ≡ Some c → has c (x ∷ xs) ≡ true

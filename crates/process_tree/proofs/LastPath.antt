@@ -3,9 +3,9 @@ use Rattle.std.proofs.Common.{◌≡◌, ⊎_elim, ℕ, ◌+◌, ◌-◌, ◌<�
 use Rattle.std.proofs.lemmas.Bool.{ltb-true, ltb-false, cases_lt}
 use Rattle.process_tree.specs.Blocks.{numbers_from}
 use Rattle.process_tree.specs.Order.{Each, IsRising, has}
-use Rattle.process_tree.specs.Shape.{Shape, next_steps, goes_on_to, greatest, greater, fixed_len}
+use Rattle.process_tree.specs.Shape.{Shape, next_steps, goes_on_to, greatest, greater, fixed_len, last_path, with_rest}
 use Rattle.process_tree.specs.Play.{fallback_of, kept_prefixes}
-use Rattle.process_tree.specs.Recovery.{last_path, with_rest}
+use Rattle.process_tree.proofs.Fixed.{take_whole}
 use Rattle.process_tree.proofs.Branches.{has_cases, has_here, has_there, Each-among}
 use Rattle.process_tree.proofs.Numbers.{numbers_between, in_flat, in_filter, least_is, some_greater}
 use Rattle.process_tree.proofs.Onward.{onward_above, goes_along}
@@ -62,18 +62,13 @@ pub record OnLast (t : Shape) (k : ℕ) (v : List ℕ) (b : ℕ) : Type 0 where
   -- it is itself on that path
   pub within : (c : ℕ) → has c part ≡ true → has c (last_path k t v) ≡ true
 
-take_whole : (xs : List ℕ) (j : ℕ) → length xs ≤ j → take j xs ≡ xs
-take_whole [] zero le = refl
-take_whole [] (suc j) le = refl
-take_whole (x ∷ xs) zero le = absurd (omega arith)
-take_whole (x ∷ xs) (suc j) le = ap (λ ys. x ∷ ys) (take_whole xs j (omega arith))
-
 take_front : (xs ys : List ℕ) → take (length xs) (xs ++ ys) ≡ xs
 take_front [] [] = refl
 take_front [] (y ∷ ys) = refl
 take_front (x ∷ xs) ys = ap (λ zs. x ∷ zs) (take_front xs ys)
 
-Each-front : (P : ℕ → Type 0) (xs ys : List ℕ) → Each P (xs ++ ys) → Each P xs
+-- what holds of each holds of each of the first
+pub Each-front : (P : ℕ → Type 0) (xs ys : List ℕ) → Each P (xs ++ ys) → Each P xs
 Each-front P [] ys h = tt
 Each-front P (x ∷ xs) ys h = (h.0, Each-front P xs ys h.1)
 

@@ -18,6 +18,7 @@ pub mod Reached
 pub mod LastPath
 pub mod Fixed
 pub mod Classes
+pub mod Along
 pub mod Wholes
 pub mod Covered
 pub mod Intervals

@@ -174,3 +174,12 @@ branch_from t v d order rise on =
     let along = goes_along t v d on in
     branch_is t d along.0 order rise along.1 (onward_has v along.0 d along.2)
     ∙ onward_before v along.0 d (Each-among IsRising t.paths along.0 rise along.1) along.2
+
+-- a path that goes on from more than v goes on from v with the first step behind it
+pub onward_first : (v u p : List ℕ) (x d : ℕ) → onward (v ++ x ∷ u) p ≡ Some d → onward v p ≡ Some x
+onward_first [] u [] x d on = absurd (cc)
+onward_first [] u (y ∷ p) x d on = ap Some (sym (onward_both x y d u p on).0)
+onward_first (z ∷ v) u [] x d on = absurd (cc)
+onward_first (z ∷ v) u (y ∷ p) x d on =
+    let both = onward_both z y d (v ++ x ∷ u) p on in
+    ap (λ b. if b then onward v p else None) (eq-eqb z y both.0) ∙ onward_first v u p x d both.1

@@ -5,7 +5,7 @@ use Rattle.process_tree.specs.Blocks.{outline}
 use Rattle.process_tree.specs.Making.{tree_fault}
 use Rattle.process_tree.specs.Order.{IsLaidOut}
 use Rattle.process_tree.specs.Shape.{Shape, shape_of, goes_on_to}
-use Rattle.process_tree.specs.Laws.{IsTreeShape, PathsLieInOrder, PathsPart, EachStepHasAPath, OneBranchToAStep, StepsGoUp, WholePathsEnd, EndsAreWhole, WaysAreIntervals, AlternativesAreIntervals, NextStepsHaveAClass, OwedStepsAreRetriable, CommitPointsStay, CommitPointsGrow}
+use Rattle.process_tree.specs.Laws.{IsTreeShape, PathsLieInOrder, PathsPart, EachStepHasAPath, OneBranchToAStep, StepsGoUp, WholePathsEnd, EndsAreWhole, WaysAreIntervals, AlternativesAreIntervals, NextStepsHaveAClass, OwedStepsAreNotRefused, CommitPointsStay, CommitPointsGrow}
 use Rattle.process_tree.proofs.Branches.{branch_is}
 use Rattle.process_tree.proofs.Onward.{onward_self, goes_on, branch_from}
 use Rattle.process_tree.proofs.Trees.{tree_laid_out, none_odd}
@@ -14,7 +14,7 @@ use Rattle.process_tree.proofs.Covered.{OnSomePath, covered}
 use Rattle.process_tree.proofs.Wholes.{whole_among, paths_part, whole_ends, end_is_whole}
 use Rattle.process_tree.proofs.Intervals.{in_between}
 use Rattle.process_tree.proofs.Between.{between_ways}
-use Rattle.process_tree.proofs.Classes.{has_class, owed_retriable}
+use Rattle.process_tree.proofs.Classes.{has_class, owed_not_refused}
 use Rattle.process_tree.proofs.Fixed.{fixed_stays, fixed_more}
 
 -- of the shape of a block
@@ -71,8 +71,8 @@ ways_are_intervals t tree v d first b last lt in_first in_last le ge =
 pub next_steps_have_a_class : NextStepsHaveAClass
 next_steps_have_a_class t tree well w d on = has_class t (paths_lie_in_order t tree) well w d on
 
-pub owed_steps_are_retriable : OwedStepsAreRetriable
-owed_steps_are_retriable t tree well w b on = owed_retriable t (paths_lie_in_order t tree) well w b on
+pub owed_steps_are_not_refused : OwedStepsAreNotRefused
+owed_steps_are_not_refused t tree well w b on = owed_not_refused t (paths_lie_in_order t tree) well w b on
 
 pub commit_points_stay : CommitPointsStay
 commit_points_stay = fixed_stays

@@ -1,5 +1,6 @@
 -- Which operations conflict: a symmetric table of modes.
-use Rattle.std.specs.Prelude.{ℕ, suc, zero, ◌-◌, min, max, Bool, true, false, ◌&&◌, ◌||◌, List, [], ◌∷◌, length, replicate, nat_eq, slice_index_or, slice_set}
+use Rattle.std.specs.Prelude.{ℕ, suc, zero, ◌-◌, min, max, Bool, true, false, ◌&&◌, ◌||◌, List, [], ◌∷◌, length, replicate, nat_eq}
+use Rattle.std.specs.Prelude.{slice_index_or, slice_set}
 use Rattle.process_tree.specs.declared.conflicts.Mode.{Mode}
 use Rattle.process_tree.specs.declared.conflicts.Mode.TheVariants.{Never, Key, Always}
 

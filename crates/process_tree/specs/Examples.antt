@@ -1,11 +1,11 @@
 -- Worked examples, computed.
-use Rattle.std.specs.Prelude.{◌≡◌, true, [], ◌∷◌, refl}
-use Rattle.process_tree.specs.declared.step.StepKind.TheVariants.{C, P, R}
+use Rattle.std.specs.Prelude.{◌≡◌, true, false, [], ◌∷◌, refl}
+use Rattle.process_tree.specs.declared.step.StepKind.TheVariants.{C, P, R, Cr}
 use Rattle.process_tree.specs.declared.play.Outcome.TheVariants.{Done, Refused}
 use Rattle.process_tree.specs.declared.play.Played.TheVariants.{Path, Nothing, Stuck, Unfinished}
-use Rattle.process_tree.specs.Shape.{Shape}
+use Rattle.process_tree.specs.Shape.{Shape, commits, fixed_len}
 use Rattle.process_tree.specs.Play.{play}
-use Rattle.process_tree.specs.Termination.{is_later_way, ways_before, outcomes_to}
+use Rattle.process_tree.specs.Termination.{is_later_way, tried_before, ways_before, outcomes_to}
 use Rattle.process_tree.specs.Recovery.{backward, forward}
 
 -- a pivot, and a compensatable step behind it
@@ -78,3 +78,48 @@ order_not_over = refl
 
 pub order_ways : ways_before order 5 ≡ 2 ∷ []
 order_ways = refl
+
+-- a pivot pay, and then ship and load, or mail; ship can be tried until it is done, and can be undone
+abbrev pub shipped_or_mailed : Shape
+shipped_or_mailed = record { kinds = P ∷ Cr ∷ C ∷ R ∷ []; paths = (0 ∷ 1 ∷ 2 ∷ []) ∷ (0 ∷ 3 ∷ []) ∷ [] }
+
+-- ship is not on the last way behind the pivot, so it is no commit point, and is to be undone
+pub ship_stays : commits shipped_or_mailed 1 ≡ false
+ship_stays = refl
+
+pub ship_is_undone : backward shipped_or_mailed (0 ∷ 1 ∷ []) ≡ 1 ∷ []
+ship_is_undone = refl
+
+pub mail_is_owed : forward shipped_or_mailed (0 ∷ 1 ∷ []) ≡ 3 ∷ []
+mail_is_owed = refl
+
+-- load refused: ship is undone, and mail is done at once
+pub mailed : play shipped_or_mailed (Done ∷ Refused ∷ []) ≡ Path (0 ∷ 3 ∷ [])
+mailed = refl
+
+-- ship uses no outcome, so one refusal passes over its way
+pub ship_is_passed : tried_before shipped_or_mailed 3 ≡ 2 ∷ []
+ship_is_passed = refl
+
+-- two such steps around a pivot: the one behind it is on the last way, so it is a commit point
+abbrev pub around_a_pivot : Shape
+around_a_pivot = record { kinds = Cr ∷ P ∷ Cr ∷ []; paths = (0 ∷ 1 ∷ 2 ∷ []) ∷ [] }
+
+pub first_stays : commits around_a_pivot 0 ≡ false
+first_stays = refl
+
+pub last_commits : commits around_a_pivot 2 ≡ true
+last_commits = refl
+
+pub all_is_fixed : fixed_len around_a_pivot (0 ∷ 1 ∷ 2 ∷ []) ≡ 3
+all_is_fixed = refl
+
+-- a pivot, and then ship, or mail and tell, of which tell alone can be refused: it has no way on then
+abbrev pub late_tell : Shape
+late_tell = record { kinds = P ∷ Cr ∷ C ∷ Cr ∷ C ∷ []; paths = (0 ∷ 1 ∷ 2 ∷ []) ∷ (0 ∷ 3 ∷ 4 ∷ []) ∷ [] }
+
+pub late_tell_outcomes : outcomes_to late_tell 4 ≡ Done ∷ Refused ∷ Refused ∷ []
+late_tell_outcomes = refl
+
+pub late_tell_is_stuck : play late_tell (outcomes_to late_tell 4) ≡ Stuck 4
+late_tell_is_stuck = refl

@@ -2,14 +2,14 @@
 use Rattle.std.specs.Prelude.{◌≡◌, ◌⊎◌, ℕ, ◌+◌, ◌<◌, ◌≤◌, true, false, List, [], ◌∷◌, ◌++◌, length, None, nat_eq, if◌then◌else◌}
 use Rattle.std.specs.List.{starts_with}
 use Rattle.process_tree.specs.declared.block.Block.{Block}
-use Rattle.process_tree.specs.declared.step.StepKind.TheVariants.{C, R}
 use Rattle.process_tree.specs.declared.entry.Entry.{Entry}
 use Rattle.process_tree.specs.declared.plan.Plan.{Plan}
 use Rattle.process_tree.specs.Entries.{Test, IsSymmetric, conflict, entry_of, undo_of, IsOfStep}
 use Rattle.process_tree.specs.Conflicts.{Access, Table, do_conflict, mode_of}
 use Rattle.process_tree.specs.Making.{tree_fault}
 use Rattle.process_tree.specs.Order.{IsLaidOut, PartsBelow, has}
-use Rattle.process_tree.specs.Shape.{Shape, shape_of, kind_of, commits, is_whole, next_steps, goes_on_to, branch_to, fixed_len}
+use Rattle.process_tree.specs.Shape.{Shape, shape_of, kind_of, can_be_refused, can_be_undone, commits, commits_after, is_whole}
+use Rattle.process_tree.specs.Shape.{next_steps, goes_on_to, branch_to, fixed_len}
 use Rattle.process_tree.specs.Recovery.{backward, forward, class_of, reserved, committing, undoable}
 use Rattle.process_tree.specs.Termination.{IsWellFormed}
 
@@ -39,7 +39,8 @@ OneBranchToAStep = (t : Shape) → IsTreeShape t → (v : List ℕ) (b : ℕ) �
 
 -- a step that goes on from others is one of the process, and greater than each of them
 abbrev pub StepsGoUp : Type 0
-StepsGoUp = (t : Shape) → IsTreeShape t → (v : List ℕ) (a b : ℕ) → goes_on_to t (v ++ a ∷ []) b ≡ true → (a < b) × (b < length t.kinds)
+StepsGoUp = (t : Shape) → IsTreeShape t → (v : List ℕ) (a b : ℕ) → goes_on_to t (v ++ a ∷ []) b ≡ true
+    → (a < b) × (b < length t.kinds)
 
 -- no whole path is the beginning of another
 abbrev pub WholePathsEnd : Type 0
@@ -61,7 +62,8 @@ WaysAreIntervals =
     (t : Shape) → IsTreeShape t → (v : List ℕ) (d first b last : ℕ) → last < length t.kinds →
     IsInWay t v d first → IsInWay t v d last → first ≤ b → b ≤ last → IsInWay t v d b
 
--- and so are those of the ways from d to e, where both go on from v: an alternative has more than one way where it begins with a choice
+-- and so are those of the ways from d to e, where both go on from v: an alternative has more than one way where it begins with a
+-- choice
 abbrev pub AlternativesAreIntervals : Type 0
 AlternativesAreIntervals =
     (t : Shape) → IsTreeShape t → (v : List ℕ) (d e first b last : ℕ) → last < length t.kinds →
@@ -69,37 +71,41 @@ AlternativesAreIntervals =
 
 -- what the class of a next step says
 pub record HasClass (t : Shape) (w : List ℕ) (d : ℕ) : Type 0 where
-  -- a reserved step is retriable, so it is a commit point, and uses no outcome in play
-  pub reserved_is_retriable : class_of t w d ≡ reserved → kind_of t d ≡ R
+  -- a reserved step can't be refused, so it uses no outcome in play
+  pub reserved_is_not_refused : class_of t w d ≡ reserved → can_be_refused (kind_of t d) ≡ false
+  -- and it is a commit point
+  pub reserved_commits : class_of t w d ≡ reserved → commits t d ≡ true
   -- where it is next, nothing is left to undo
   pub nothing_to_undo : class_of t w d ≡ reserved → backward t w ≡ []
   -- and it is the first that is owed
   pub owed_first : class_of t w d ≡ reserved → forward t w ≡ d ∷ forward t (w ++ d ∷ [])
   -- a committing step is a commit point
-  pub committing_commits : class_of t w d ≡ committing → commits (kind_of t d) ≡ true
-  -- the undoable ones are the compensatable ones
-  pub undoable_is_compensatable : class_of t w d ≡ undoable → kind_of t d ≡ C
-  pub compensatable_is_undoable : kind_of t d ≡ C → class_of t w d ≡ undoable
+  pub committing_commits : class_of t w d ≡ committing → commits t d ≡ true
+  -- the undoable ones are those that are no commit points, and they can be undone
+  pub undoable_stays : class_of t w d ≡ undoable → commits t d ≡ false
+  pub undoable_is_undone : class_of t w d ≡ undoable → can_be_undone (kind_of t d) ≡ true
+  pub undoable_if_stays : commits t d ≡ false → class_of t w d ≡ undoable
 
 -- each next step of a well-formed process is reserved, committing or undoable
 abbrev pub NextStepsHaveAClass : Type 0
 NextStepsHaveAClass =
     (t : Shape) → IsTreeShape t → IsWellFormed t → (w : List ℕ) (d : ℕ) → goes_on_to t w d ≡ true → HasClass t w d
 
--- all that a well-formed process owes is retriable
-abbrev pub OwedStepsAreRetriable : Type 0
-OwedStepsAreRetriable =
-    (t : Shape) → IsTreeShape t → IsWellFormed t → (w : List ℕ) (b : ℕ) → has b (forward t w) ≡ true → kind_of t b ≡ R
+-- nothing that a well-formed process owes can be refused
+abbrev pub OwedStepsAreNotRefused : Type 0
+OwedStepsAreNotRefused =
+    (t : Shape) → IsTreeShape t → IsWellFormed t → (w : List ℕ) (b : ℕ) → has b (forward t w) ≡ true
+    → can_be_refused (kind_of t b) ≡ false
 
 -- a commit point stays one while steps are added
 abbrev pub CommitPointsStay : Type 0
 CommitPointsStay = (t : Shape) (w v : List ℕ) → fixed_len t w ≤ fixed_len t (w ++ v)
 
--- a step that commits fixes all before it, and another one fixes nothing
+-- a commit point fixes all before it, and another step fixes nothing
 abbrev pub CommitPointsGrow : Type 0
 CommitPointsGrow =
     (t : Shape) (w : List ℕ) (d : ℕ) →
-    fixed_len t (w ++ d ∷ []) ≡ (if commits (kind_of t d) then length w + 1 else fixed_len t w)
+    fixed_len t (w ++ d ∷ []) ≡ (if commits_after t w d then length w + 1 else fixed_len t w)
 
 -- a pair of operations has one mode
 abbrev pub ModesAreSymmetric : Type 0
@@ -120,10 +126,12 @@ ConflictIsBetweenProcesses = (test : Test) (a b : Entry) → a.process ≡ b.pro
 -- an entry and its undo conflict with the same entries
 abbrev pub UndoConflictsAsItsStep : Type 0
 UndoConflictsAsItsStep =
-    (test : Test) (a b : Entry) → (conflict test (undo_of a) b ≡ conflict test a b) × (conflict test b (undo_of a) ≡ conflict test b a)
+    (test : Test) (a b : Entry) → (conflict test (undo_of a) b ≡ conflict test a b)
+    × (conflict test b (undo_of a) ≡ conflict test b a)
 
 -- and so does its step, while it is reserved, pending or running
 abbrev pub EntryConflictsAsItsStep : Type 0
 EntryConflictsAsItsStep =
     (test : Test) (plan : Plan) (i b : ℕ) (e other : Entry) → IsOfStep plan i b e →
-    (conflict test e other ≡ conflict test (entry_of plan i b) other) × (conflict test other e ≡ conflict test other (entry_of plan i b))
+    (conflict test e other ≡ conflict test (entry_of plan i b) other)
+    × (conflict test other e ≡ conflict test other (entry_of plan i b))

@@ -1,10 +1,11 @@
 -- What the making of a tree tests, in this order, each over the whole block.
-use Rattle.std.specs.Prelude.{ℕ, ◌+◌, Bool, ◌&&◌, List, [], ◌∷◌, length, nat_lt, nat_le, nat_eq, if◌then◌else◌, Option, Some, None, ℤ, pos, negsuc, ◌++◌, codes, decimal}
+use Rattle.std.specs.Prelude.{ℕ, ◌+◌, Bool, ◌&&◌, List, [], ◌∷◌, length, nat_lt, nat_le, nat_eq, if◌then◌else◌, Option, Some, None}
+use Rattle.std.specs.Prelude.{ℤ, pos, negsuc, ◌++◌, codes, decimal}
 use Rattle.std.specs.List.{list_any}
 use lib.Pointwise.{pointwise}
 use Rattle.process_tree.specs.declared.step.Step.{Step}
 use Rattle.process_tree.specs.declared.step.StepKind.{StepKind}
-use Rattle.process_tree.specs.declared.step.StepKind.TheVariants.{C, P, R}
+use Rattle.process_tree.specs.declared.step.StepKind.TheVariants.{C, P, R, Cr}
 use Rattle.process_tree.specs.declared.block.Block.{Block}
 use Rattle.process_tree.specs.declared.tree.TreeError.{TreeError}
 use Rattle.process_tree.specs.declared.tree.TreeError.TheVariants.{Empty, Steps, Nesting, Alternatives, SameName, Number, NoMemory}
@@ -28,6 +29,7 @@ abbrev pub has_good_options : StepKind → Step → Bool
 has_good_options C s = nat_eq s.tries 3 && are_tries s.undo_tries && are_refusals s.refuse && are_refusals s.undo_refuse
 has_good_options P s = nat_eq s.tries 3 && nat_eq s.undo_tries 3 && are_refusals s.refuse && nat_eq s.undo_refuse 0
 has_good_options R s = are_tries s.tries && nat_eq s.undo_tries 3 && are_refusals s.refuse && nat_eq s.undo_refuse 0
+has_good_options Cr s = are_tries s.tries && are_tries s.undo_tries && are_refusals s.refuse && are_refusals s.undo_refuse
 
 -- each field of the step is within its limits; a key has no others than its type's
 abbrev pub is_good_step : Step → Bool

@@ -1,5 +1,6 @@
 -- Play: what becomes of a process as the tries of its steps end well or badly.
-use Rattle.std.specs.Prelude.{ℕ, zero, suc, ◌+◌, ◌-◌, List, [], ◌∷◌, ◌++◌, length, take, map, filter, find, flat_map, Option, Some, None, if◌then◌else◌, nat_eq, nat_lt, unwrap_or}
+use Rattle.std.specs.Prelude.{ℕ, zero, suc, ◌+◌, ◌-◌, List, [], ◌∷◌, ◌++◌, length, take, map, filter, find, flat_map, Option, Some}
+use Rattle.std.specs.Prelude.{None, if◌then◌else◌, nat_eq, nat_lt, unwrap_or}
 use Rattle.process_tree.specs.declared.play.Outcome.{Outcome}
 use Rattle.process_tree.specs.declared.play.Outcome.TheVariants.{Done, Refused}
 use Rattle.process_tree.specs.declared.play.Fallback.{Fallback}

@@ -1,33 +1,24 @@
 -- Recovery: what a process that is cut off has to undo, and the path that it still owes. w is what is done and not undone.
-use Rattle.std.specs.Prelude.{ℕ, zero, suc, List, [], ◌∷◌, ◌++◌, length, take, drop, Option, Some, None, if◌then◌else◌, nat_eq}
+use Rattle.std.specs.Prelude.{ℕ, List, [], ◌∷◌, ◌++◌, drop, Option, Some, None, if◌then◌else◌, nat_eq}
 use Rattle.std.specs.List.{list_any}
 use Rattle.process_tree.specs.declared.step.StepKind.{StepKind}
-use Rattle.process_tree.specs.declared.step.StepKind.TheVariants.{C, P, R}
+use Rattle.process_tree.specs.declared.step.StepKind.TheVariants.{C, P, R, Cr}
 use Rattle.process_tree.specs.declared.play.Place.{Place}
 use Rattle.process_tree.specs.declared.play.Place.TheVariants.{Step, End}
-use Rattle.process_tree.specs.Shape.{Shape, kind_of, next_steps, least, greatest, fixed_len, branch_to}
+use Rattle.process_tree.specs.Shape.{Shape, kind_of, next_steps, least, greatest, last_after, owed_from, fixed_len, branch_to}
 
 -- backward recovery: what stands after the last commit point
 abbrev pub backward : Shape → List ℕ → List ℕ
 backward t w = drop (fixed_len t w) w
 
--- this step, if there is one, and what follows it
-abbrev pub with_rest : (ℕ → List ℕ) → Option ℕ → List ℕ
-with_rest rest None = []
-with_rest rest (Some d) = d ∷ rest d
-
--- what follows v on the whole path that takes the last alternative at each choice, as far as n steps
-abbrev pub last_path : ℕ → Shape → List ℕ → List ℕ
-last_path zero t v = []
-last_path (suc n) t v = with_rest (λ d. last_path n t (v ++ d ∷ [])) (greatest (next_steps t v))
-
--- the same to its end
-abbrev pub last_after : Shape → List ℕ → List ℕ
-last_after t v = last_path (length t.kinds) t v
-
 -- forward recovery: what follows the last commit point through last alternatives; nothing where there is none
 abbrev pub forward : Shape → List ℕ → List ℕ
-forward t w = if nat_eq (fixed_len t w) 0 then [] else last_after t (take (fixed_len t w) w)
+forward t w = owed_from t w (fixed_len t w)
+
+-- what is owed where c is the last commit point
+abbrev pub owed_behind : Shape → Option ℕ → List ℕ
+owed_behind t None = []
+owed_behind t (Some c) = last_after t (branch_to t c ++ c ∷ [])
 
 -- the place of a step, or the end
 abbrev pub place_of : Option ℕ → Place
@@ -57,6 +48,7 @@ abbrev pub class_by_kind : StepKind → StepClass
 class_by_kind C = undoable
 class_by_kind P = committing
 class_by_kind R = committing
+class_by_kind Cr = undoable
 
 abbrev pub class_of : Shape → List ℕ → ℕ → StepClass
 class_of t w d = if list_any (nat_eq d) (forward t w) then reserved else class_by_kind (kind_of t d)

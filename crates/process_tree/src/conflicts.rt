@@ -1,6 +1,7 @@
 // Tables of conflicts.
 ghost use Rattle.std.specs.Prelude.{◌≡◌, ◌<◌, ◌-◌, ℕ, min, max, if◌then◌else◌, IfOk, false, true};
-ghost use Rattle.process_tree.specs.Conflicts.{is_table, operations_in, mode_of, covers, do_conflict, no_conflicts, with_mode, is_same_pair};
+ghost use Rattle.process_tree.specs.Conflicts.{is_table, operations_in, mode_of, covers, do_conflict, no_conflicts, with_mode};
+ghost use Rattle.process_tree.specs.Conflicts.{is_same_pair};
 ghost use Rattle.process_tree.specs.Entries.{conflict};
 
 use crate::Entry;

@@ -1,7 +1,8 @@
 // Which steps are within the limits and differ in name.
 ghost use Rattle.std.specs.Prelude.{◌≡◌, ◌<◌, [], length, map, IfSome};
 ghost use Rattle.std.specs.List.{list_any};
-ghost use Rattle.process_tree.specs.Making.{are_tries, are_refusals, has_good_options, is_amount, is_good_step, same_text, first_same_name, first_bad_step};
+ghost use Rattle.process_tree.specs.Making.{are_tries, are_refusals, has_good_options, is_amount, is_good_step, same_text};
+ghost use Rattle.process_tree.specs.Making.{first_same_name, first_bad_step};
 
 use crate::{DEFAULT_TRIES, MOST_AMOUNT, MOST_REFUSALS, MOST_TRIES, Step, StepKind};
 
@@ -44,6 +45,12 @@ fn has_good_options(step: &Step) -> bool
                 && step.undo_tries == DEFAULT_TRIES
                 && are_refusals(step.refuse)
                 && step.undo_refuse == 0
+        }
+        StepKind::Cr => {
+            are_tries(step.tries)
+                && are_tries(step.undo_tries)
+                && are_refusals(step.refuse)
+                && are_refusals(step.undo_refuse)
         }
     }
 }

@@ -1,6 +1,10 @@
 // The laws of trees: each function says one, and does nothing.
 ghost use Rattle.process_tree.specs.Alternatives.{AlternativesAreWays, AlternativesFallInTurn, LaterWaysAreLaterAlternatives};
-ghost use Rattle.process_tree.specs.Laws.{PathsLieInOrder, PathsPart, EachStepHasAPath, OneBranchToAStep, StepsGoUp, WholePathsEnd, EndsAreWhole, WaysAreIntervals, AlternativesAreIntervals, ModesAreSymmetric, ConflictIsSymmetric, EntriesConflictBothWays, ConflictIsBetweenProcesses, UndoConflictsAsItsStep, EntryConflictsAsItsStep, NextStepsHaveAClass, OwedStepsAreRetriable, CommitPointsStay, CommitPointsGrow};
+ghost use Rattle.process_tree.specs.Laws.{PathsLieInOrder, PathsPart, EachStepHasAPath, OneBranchToAStep, StepsGoUp, WholePathsEnd};
+ghost use Rattle.process_tree.specs.Laws.{EndsAreWhole, WaysAreIntervals, AlternativesAreIntervals, ModesAreSymmetric};
+ghost use Rattle.process_tree.specs.Laws.{ConflictIsSymmetric, EntriesConflictBothWays, ConflictIsBetweenProcesses};
+ghost use Rattle.process_tree.specs.Laws.{UndoConflictsAsItsStep, EntryConflictsAsItsStep, NextStepsHaveAClass};
+ghost use Rattle.process_tree.specs.Laws.{OwedStepsAreNotRefused, CommitPointsStay, CommitPointsGrow};
 
 /// The whole paths of a tree go upward, and lie in order.
 pub fn paths_lie_in_order()
@@ -75,9 +79,9 @@ pub fn next_steps_have_a_class()
     ensures { NextStepsHaveAClass }
 {}
 
-/// All that a well-formed process owes is retriable.
-pub fn owed_steps_are_retriable()
-    ensures { OwedStepsAreRetriable }
+/// Nothing that a well-formed process owes can be refused.
+pub fn owed_steps_are_not_refused()
+    ensures { OwedStepsAreNotRefused }
 {}
 
 /// A commit point stays one.

@@ -28,12 +28,12 @@ mod ways;
 pub use block::{Block, Tail};
 pub use conflicts::{Conflicts, Mode};
 pub use entry::Entry;
-pub use kinds::{fixed_len, key_of, kind_of, op_of};
+pub use kinds::{commits, commits_behind, fixed_len, key_of, kind_of, op_of};
 pub use laws::{
     alternatives_are_intervals, alternatives_are_ways, commit_points_grow, commit_points_stay,
     conflict_is_between_processes, conflict_is_of_steps, conflict_is_symmetric,
     each_step_has_a_path, ends_are_whole, next_steps_have_a_class, one_branch_to_a_step,
-    owed_steps_are_retriable, paths_lie_in_order, paths_part, steps_go_up, whole_paths_end,
+    owed_steps_are_not_refused, paths_lie_in_order, paths_part, steps_go_up, whole_paths_end,
 };
 pub use limits::{
     DEFAULT_TRIES, LEAST_ALTERNATIVES, MOST_ALTERNATIVES, MOST_AMOUNT, MOST_NAME_BYTES,

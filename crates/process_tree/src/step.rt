@@ -1,6 +1,6 @@
 // Steps of a process.
 ghost use Rattle.std.specs.Prelude.{◌≡◌};
-ghost use Rattle.process_tree.specs.Shape.{commits, can_be_refused};
+ghost use Rattle.process_tree.specs.Shape.{commits_by_kind, can_be_refused, can_be_undone};
 
 use crate::Name;
 use plain_list::Items;
@@ -14,16 +14,19 @@ pub enum StepKind {
     P,
     /// Retriable: it succeeds within its tries, and it can't be undone.
     R,
+    /// Compensatable and retriable: it succeeds within its tries, and it can be undone where forward recovery doesn't owe it.
+    Cr,
 }
 
 impl StepKind {
-    /// Whether a step of this kind is a commit point once it took effect.
-    pub fn commits(self) -> bool
-        ensures { result ≡ commits self }
+    /// Whether a step of this kind is a commit point once it took effect, where forward recovery owes it or not.
+    pub fn commits(self, is_owed: bool) -> bool
+        ensures { result ≡ commits_by_kind self is_owed }
     {
         match self {
             StepKind::C => false,
             StepKind::P | StepKind::R => true,
+            StepKind::Cr => is_owed,
         }
     }
 
@@ -33,7 +36,17 @@ impl StepKind {
     {
         match self {
             StepKind::C | StepKind::P => true,
-            StepKind::R => false,
+            StepKind::R | StepKind::Cr => false,
+        }
+    }
+
+    /// Whether a step of this kind can be undone, where it is no commit point.
+    pub fn can_be_undone(self) -> bool
+        ensures { result ≡ can_be_undone self }
+    {
+        match self {
+            StepKind::C | StepKind::Cr => true,
+            StepKind::P | StepKind::R => false,
         }
     }
 }
@@ -46,9 +59,9 @@ pub struct Step {
     pub op: Name,
     pub key: u32,
     pub amount: i64,
-    /// How many tries a retriable step has.
+    /// How many tries a step has that can't be refused.
     pub tries: u8,
-    /// How many tries the undo of a compensatable step has.
+    /// How many tries the undo has of a step that can be undone.
     pub undo_tries: u8,
     /// How many tries the plain gate refuses.
     pub refuse: u8,

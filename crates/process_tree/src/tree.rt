@@ -2,9 +2,9 @@
 ghost use Rattle.std.specs.Prelude.{◌≡◌, ◌++◌, ◌∷◌, [], ◌⊎◌, ◌<◌, length, Some, None, IfOk, IfErr, OnOk, slice_get};
 ghost use Rattle.process_tree.specs.Blocks.{outline};
 ghost use Rattle.process_tree.specs.Making.{tree_fault, text_of};
-ghost use Rattle.process_tree.specs.Shape.{shape_of, branch_to, last_commit};
+ghost use Rattle.process_tree.specs.Shape.{shape_of, branch_to, last_commit, last_after};
 ghost use Rattle.process_tree.specs.Play.{fallback_place};
-ghost use Rattle.process_tree.specs.Recovery.{last_after, place_of, first_place, place_after, last_place_after};
+ghost use Rattle.process_tree.specs.Recovery.{place_of, first_place, place_after, last_place_after};
 ghost use Rattle.process_tree.specs.declared.tree.TreeError.TheVariants.{NoMemory};
 
 use crate::building::steps_within;

@@ -55,7 +55,8 @@ fn come_to(tree: &Tree, done: &mut Vec<u16>, place: Place) -> Result<Standing, A
 fn go_back(tree: &Tree, done: &mut Vec<u16>, step: u16) -> Result<Standing, AllocError>
     requires good { tree_fault tree.now ≡ None }
     requires asked { goes_on_to (shape_of tree.now) done.old.items step ≡ true }
-    ensures stand { IfOk result (λ s. stand_of done.new.items s ≡ answered (shape_of tree.now) (asks done.old.items step) Outcome.Refused) }
+    ensures stand { IfOk result
+        (λ s. stand_of done.new.items s ≡ answered (shape_of tree.now) (asks done.old.items step) Outcome.Refused) }
     ensures asked { IfOk result (λ s. IsOpen (shape_of tree.now) done.new.items s) }
 {
     let fixed = fixed_len(tree, done);
@@ -100,7 +101,8 @@ fn answered(
 ) -> Result<Standing, AllocError>
     requires good { tree_fault tree.now ≡ None }
     requires asked { IsOpen (shape_of tree.now) done.old.items stand }
-    ensures stand { IfOk result (λ s. stand_of done.new.items s ≡ answered (shape_of tree.now) (stand_of done.old.items stand) outcome) }
+    ensures stand { IfOk result
+        (λ s. stand_of done.new.items s ≡ answered (shape_of tree.now) (stand_of done.old.items stand) outcome) }
     ensures asked { IfOk result (λ s. IsOpen (shape_of tree.now) done.new.items s) }
 {
     match stand {

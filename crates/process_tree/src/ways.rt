@@ -1,11 +1,13 @@
 // Steps along whole paths.
-ghost use Rattle.std.specs.Prelude.{◌≡◌, ◌<◌, true, false, length, take, IfSome, MatchOption};
+ghost use Rattle.std.specs.Prelude.{◌≡◌, ◌<◌, true, false, List, Some, length, take, IfSome, MatchOption};
 ghost use Rattle.std.specs.List.{filter_map};
-ghost use Rattle.process_tree.specs.Shape.{first_of, least, greatest, steps_before, path_through};
+ghost use Rattle.process_tree.specs.Shape.{commits_by_kind, shape_by, first_of, least, greatest, steps_before, path_through};
 ghost use Rattle.process_tree.specs.Paths.{behind, step_behind, lesser_of, greater_of, shared, way_from, kept_len};
-ghost use Rattle.process_tree.specs.Order.{has};
+ghost use Rattle.process_tree.specs.declared.step.StepKind.{StepKind};
+ghost use Rattle.process_tree.specs.Order.{has, AreInOrder, Each, IsRising};
+ghost use Rattle.process_tree.specs.Recovery.{owed_behind};
 
-use crate::Places;
+use crate::{Places, StepKind};
 
 /// The first step of a path.
 fn first_of(path: &[u16]) -> Option<u16>
@@ -156,6 +158,50 @@ pub fn kept_len(branch: &[u16], commit: Option<u16>) -> usize
         Some(step) => match place_on(branch, step) {
             Some(place) => place + 1,
             None => unreachable!(),
+        },
+    }
+}
+
+/// Whether a step is owed where `commit` is the last commit point: it stands behind it through last alternatives. The paths
+/// are those of so many steps.
+fn is_owed(paths: &[Places], count: usize, commit: u16, step: u16) -> bool
+    requires within { Each (Each (λ b. b < count)) paths.now }
+    requires order { AreInOrder paths.now }
+    requires rising { Each IsRising paths.now }
+    ensures { (kinds : List StepKind) → length kinds ≡ count
+        → result ≡ has step (owed_behind (shape_by kinds paths.now) (Some commit)) }
+{
+    let mut next = greatest_behind(paths, Some(commit));
+    while let Some(owed) = next {
+        if step <= owed {
+            return step == owed;
+        }
+        next = greatest_behind(paths, Some(owed));
+    }
+    false
+}
+
+/// Whether a step of this kind is a commit point where `commit` is the last one before it. The paths are those of so many
+/// steps.
+pub fn commits_on(
+    paths: &[Places],
+    count: usize,
+    kind: StepKind,
+    commit: Option<u16>,
+    step: u16,
+) -> bool
+    requires within { Each (Each (λ b. b < count)) paths.now }
+    requires order { AreInOrder paths.now }
+    requires rising { Each IsRising paths.now }
+    ensures { (kinds : List StepKind) → length kinds ≡ count
+        → result ≡ commits_by_kind kind (has step (owed_behind (shape_by kinds paths.now) commit)) }
+{
+    match kind {
+        StepKind::C => false,
+        StepKind::P | StepKind::R => true,
+        StepKind::Cr => match commit {
+            None => false,
+            Some(commit) => is_owed(paths, count, commit, step),
         },
     }
 }

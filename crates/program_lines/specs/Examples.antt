@@ -4,7 +4,8 @@ use Rattle.std.specs.Fmt.{digits}
 use Rattle.program_lines.specs.declared.faults.Quantity.TheVariants.{Input, Operations, Entries}
 use Rattle.program_lines.specs.declared.faults.ScenarioFault.TheVariants.{BadToml, BadKey, UnknownOperation, SameOperation}
 use Rattle.program_lines.specs.declared.faults.FileFault.TheVariants.{NotEmpty, BadHeader, BadRecord, BadHistory, BadBook}
-use Rattle.program_lines.specs.declared.refusal.Refusal.TheVariants.{Scenario, CatalogDiffers, BadLine, Limit, Unfinished, File, BookDiffers, Exhausted}
+use Rattle.program_lines.specs.declared.refusal.Refusal.TheVariants.{Scenario, CatalogDiffers, BadLine, Limit, Unfinished, File}
+use Rattle.program_lines.specs.declared.refusal.Refusal.TheVariants.{BookDiffers, Exhausted}
 use Rattle.program_lines.specs.Shown.{shown_word}
 use Rattle.program_lines.specs.Refusals.{refusal_text}
 

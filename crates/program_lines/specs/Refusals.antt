@@ -9,7 +9,9 @@ use Rattle.program_lines.specs.declared.faults.ScenarioFault.TheVariants.{BadTom
 use Rattle.program_lines.specs.declared.faults.ReportFault.{ReportFault}
 use Rattle.program_lines.specs.declared.faults.ReportFault.TheVariants as faults
 use Rattle.program_lines.specs.declared.refusal.Refusal.{Refusal}
-use Rattle.program_lines.specs.declared.refusal.Refusal.TheVariants.{BadWords, Text, Scenario, CatalogDiffers, BadLine, Limit, Unfinished, File, BookDiffers, Report, ReadFault, DiskFault, Exhausted, NoMemory}
+use Rattle.program_lines.specs.declared.refusal.Refusal.TheVariants.{BadWords, Text, Scenario, CatalogDiffers, BadLine, Limit}
+use Rattle.program_lines.specs.declared.refusal.Refusal.TheVariants.{Unfinished, File, BookDiffers, Report, ReadFault, DiskFault}
+use Rattle.program_lines.specs.declared.refusal.Refusal.TheVariants.{Exhausted, NoMemory}
 use Rattle.program_lines.specs.Faults.{quantity_word, scenario_text, file_text, report_text}
 
 -- of a text

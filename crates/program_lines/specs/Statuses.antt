@@ -1,7 +1,9 @@
 -- The statuses and their numbers.
 use Rattle.std.specs.Prelude.{◌≡◌, ◌⊎◌, ℕ, List, [], ◌∷◌}
 use Rattle.program_lines.specs.declared.status.Status.{Status}
-use Rattle.program_lines.specs.declared.status.Status.TheVariants.{Done, BadWords, BadInput, IllFormed, Limit, Unfinished, BadFile, BookDiffers, ReadFault, WriteFault, DiskFault, Exhausted, NotReduced, NoMemory}
+use Rattle.program_lines.specs.declared.status.Status.TheVariants.{Done, BadWords, BadInput, IllFormed, Limit, Unfinished, BadFile}
+use Rattle.program_lines.specs.declared.status.Status.TheVariants.{BookDiffers, ReadFault, WriteFault, DiskFault, Exhausted}
+use Rattle.program_lines.specs.declared.status.Status.TheVariants.{NotReduced, NoMemory}
 
 -- the number with which the program ends
 abbrev pub number_of : Status → ℕ

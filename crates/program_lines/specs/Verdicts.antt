@@ -1,5 +1,6 @@
 -- Verdicts: what the check says of a process.
-use Rattle.std.specs.Prelude.{◌≡◌, ◌⊎◌, ℕ, Bool, false, ◌||◌, List, [], ◌∷◌, ◌++◌, map, slice_index_or, codes, Option, Some, None, is_some, ⊤}
+use Rattle.std.specs.Prelude.{◌≡◌, ◌⊎◌, ℕ, Bool, false, ◌||◌, List, [], ◌∷◌, ◌++◌, map, slice_index_or, codes, Option, Some, None}
+use Rattle.std.specs.Prelude.{is_some, ⊤}
 use Rattle.std.specs.List.{join_with_byte}
 use Rattle.process_tree.specs.declared.block.Block.{Block}
 use Rattle.process_tree.specs.declared.tree.Named.{Named}
@@ -33,7 +34,8 @@ outcomes_text os = join_with_byte 32 (map outcome_word os)
 -- what is said of a process of this root
 abbrev pub fault_text : Block → Option Fault → List ℕ
 fault_text root None = codes ": well-formed\n"
-fault_text root (Some (stuck_at b os)) = codes ": stuck at " ++ path_text root b ++ codes " after " ++ outcomes_text os ++ codes "\n"
+fault_text root (Some (stuck_at b os)) =
+    codes ": stuck at " ++ path_text root b ++ codes " after " ++ outcomes_text os ++ codes "\n"
 fault_text root (Some (unreachable_at d)) = codes ": unreachable " ++ path_text root d ++ codes "\n"
 
 -- the verdict line of a process
@@ -60,7 +62,8 @@ any_fault (v ∷ vs) = is_some v || any_fault vs
 
 -- what is said of a process of this root was added, and whether it tells a fault
 abbrev pub IsFaultAdded : Block → Bool → List ℕ → List ℕ → Type 0
-IsFaultAdded root any old new = (v : Option Fault) × IsVerdict (shape_of root) v × (new ≡ old ++ fault_text root v) × (any ≡ is_some v)
+IsFaultAdded root any old new =
+    (v : Option Fault) × IsVerdict (shape_of root) v × (new ≡ old ++ fault_text root v) × (any ≡ is_some v)
 
 -- the line of a process was added
 abbrev pub IsLineAdded : Named → Bool → List ℕ → List ℕ → Type 0

@@ -2,7 +2,8 @@
 ghost use Rattle.std.specs.Prelude.{◌≡◌, ◌++◌, Some, map, option_map, IfOk, OnOk};
 ghost use Rattle.std.specs.List.{join_with_byte};
 ghost use Rattle.process_tree.specs.Termination.{stuck_at, unreachable_at};
-ghost use Rattle.program_lines.specs.Verdicts.{step_name, path_text, outcome_word, outcomes_text, fault_text, IsFaultAdded, IsLineAdded, IsFirstVerdict, AreLines};
+ghost use Rattle.program_lines.specs.Verdicts.{step_name, path_text, outcome_word, outcomes_text, fault_text, IsFaultAdded};
+ghost use Rattle.program_lines.specs.Verdicts.{IsLineAdded, IsFirstVerdict, AreLines};
 
 use process_tree::{Named, Outcome, Tree};
 use std::alloc::{AllocError, Global};

@@ -30,7 +30,8 @@ IsCommandForm command.Restart words = IsNamed (codes "restart") words
 IsCommandForm command.Show words = IsNamed (codes "show") words
 IsCommandForm command.Verify words = IsNamed (codes "verify") words
 IsCommandForm (command.Gen number count) words = (rest : List Text) × (words ≡ codes "gen" ∷ rest) × IsNumbersForm number count rest
-IsCommandForm (command.Bulk number count) words = (rest : List Text) × (words ≡ codes "bulk" ∷ rest) × IsNumbersForm number count rest
+IsCommandForm (command.Bulk number count) words =
+    (rest : List Text) × (words ≡ codes "bulk" ∷ rest) × IsNumbersForm number count rest
 
 -- COUNT is from 1 to 256
 abbrev pub IsInRange : Command → Type 0

@@ -17,7 +17,9 @@ pub fn in_order(
     steps: &mut Vec<TraceStep>,
 ) -> Result<Vec<Entry>, AllocError>
     requires few { length left.old.items < 4294967296 }
-    ensures phase { IfOk result (λ serial. serial_phase_behind order.now steps.old.items [] left.old.items ≡ record { steps = steps.new.items; list = serial.items }) }
+    ensures phase { IfOk result
+        (λ serial. serial_phase_behind order.now steps.old.items [] left.old.items
+        ≡ record { steps = steps.new.items; list = serial.items }) }
 {
     let mut serial = Vec::new(alloc);
     let mut rest = order;
@@ -37,8 +39,11 @@ fn move_process(
     serial: &mut Vec<Entry>,
 ) -> Result<(), AllocError>
     requires few { length serial.old.items + length left.old.items < 4294967296 }
-    ensures phase { OnOk result ((order : List ℕ) → serial_phase_behind (process ∷ order) steps.old.items serial.old.items left.old.items ≡ serial_phase_behind order steps.new.items serial.new.items left.new.items) }
-    ensures count { OnOk result (length serial.new.items + length left.new.items ≡ length serial.old.items + length left.old.items) }
+    ensures phase { OnOk result
+        ((order : List ℕ) → serial_phase_behind (process ∷ order) steps.old.items serial.old.items left.old.items
+        ≡ serial_phase_behind order steps.new.items serial.new.items left.new.items) }
+    ensures count { OnOk result
+        (length serial.new.items + length left.new.items ≡ length serial.old.items + length left.old.items) }
 {
     while let Some(place) = first_of(left, process) {
         move_entry(place, left, steps, serial)?;
@@ -55,8 +60,12 @@ fn move_entry(
 ) -> Result<(), AllocError>
     requires few { length serial.old.items + length left.old.items < 4294967296 }
     requires within { (0 < place) × (place ≤ length left.old.items) }
-    ensures phase { OnOk result ((order : List ℕ) → first_to_end order left.old.items ≡ place → serial_phase_behind order steps.old.items serial.old.items left.old.items ≡ serial_phase_behind order steps.new.items serial.new.items left.new.items) }
-    ensures count { OnOk result (length serial.new.items + length left.new.items ≡ length serial.old.items + length left.old.items) }
+    ensures phase { OnOk result
+        ((order : List ℕ) → first_to_end order left.old.items ≡ place
+        → serial_phase_behind order steps.old.items serial.old.items left.old.items
+        ≡ serial_phase_behind order steps.new.items serial.new.items left.new.items) }
+    ensures count { OnOk result
+        (length serial.new.items + length left.new.items ≡ length serial.old.items + length left.old.items) }
     ensures fewer { OnOk result (length left.new.items < length left.old.items) }
 {
     add_move(steps, serial.len() + place, serial.len() + 1)?;

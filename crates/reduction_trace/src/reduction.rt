@@ -43,11 +43,15 @@ pub struct Reduction {
 pub fn trace(alloc: Global, h: &History, c: &Conflicts) -> Result<Reduction, AllocError>
     requires planned { IsPlanned (operations_in c.now) h.now.plans h.now.events }
     requires legal { IsTrue (is_legal (do_conflict c.now) (courses_of h.now.plans) h.now.events) }
-    ensures list { IfOk result (λ r. (r.completion ≡ completion (courses_of h.now.plans) h.now.events) × (r.list ≡ acts (completed_history h.now))) }
-    ensures printed { IfOk result (λ r. record { steps = r.steps; list = r.serial } ≡ printed_trace (courses_of h.now.plans) h.now.events) }
+    ensures list { IfOk result
+        (λ r. (r.completion ≡ completion (courses_of h.now.plans) h.now.events) × (r.list ≡ acts (completed_history h.now))) }
+    ensures printed { IfOk result
+        (λ r. record { steps = r.steps; list = r.serial } ≡ printed_trace (courses_of h.now.plans) h.now.events) }
     ensures applies { IfOk result (λ r. applied_all (do_conflict c.now) r.steps r.list ≡ Some r.serial) }
     ensures chain { IfOk result (λ r. AreReduced (do_conflict c.now) r.list r.serial) }
-    ensures serial { IfOk result (λ r. IsTrue (is_serial r.serial) × (r.serial ≡ flat_map (net_of (completed_history h.now)) (ends (completed_history h.now)))) }
+    ensures serial { IfOk result
+        (λ r. IsTrue (is_serial r.serial) ×
+        (r.serial ≡ flat_map (net_of (completed_history h.now)) (ends (completed_history h.now)))) }
 {
     printed(alloc, h)
 }
@@ -56,8 +60,10 @@ pub fn trace(alloc: Global, h: &History, c: &Conflicts) -> Result<Reduction, All
 fn printed(alloc: Global, h: &History) -> Result<Reduction, AllocError>
     requires planned { (operations : ℕ) × IsPlanned operations h.now.plans h.now.events }
     requires own_order { IsTrue (is_in_own_order (courses_of h.now.plans) h.now.events) }
-    ensures list { IfOk result (λ r. (r.completion ≡ completion (courses_of h.now.plans) h.now.events) × (r.list ≡ acts (completed_history h.now))) }
-    ensures printed { IfOk result (λ r. record { steps = r.steps; list = r.serial } ≡ printed_trace (courses_of h.now.plans) h.now.events) }
+    ensures list { IfOk result
+        (λ r. (r.completion ≡ completion (courses_of h.now.plans) h.now.events) × (r.list ≡ acts (completed_history h.now))) }
+    ensures printed { IfOk result
+        (λ r. record { steps = r.steps; list = r.serial } ≡ printed_trace (courses_of h.now.plans) h.now.events) }
 {
     let added = completed(alloc, h)?;
     let list = schedule(alloc, h.events.as_slice(), &added)?;

@@ -1,5 +1,5 @@
-//! Tests of reports: printed traces, what is printed of a history and of blocks; the lines of sessions and of their answers. Verdicts on
-//! reports are rows (`tests/rows/verify`).
+//! Tests of reports: printed traces, what is printed of a history and of blocks; the lines of sessions and of their answers.
+//! Verdicts on reports are rows (`tests/rows/verify`).
 //!
 //! They stand apart from the crates that they test, since a crate with tests is proved twice.
 #![tactic(auto)]

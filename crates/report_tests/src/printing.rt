@@ -1,4 +1,5 @@
-// What no clause of `process_report` says: that there is an answer where memory is found. Reports of both forms, and texts of blocks.
+// What no clause of `process_report` says: that there is an answer where memory is found. Reports of both forms, and texts of
+// blocks.
 ghost use Rattle.std.specs.Prelude.{◌≡◌, IfOk};
 ghost use Rattle.process_report.specs.Examples.{shop, stock};
 ghost use Rattle.process_report.specs.KeyedExamples.{goods};

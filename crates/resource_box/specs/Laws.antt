@@ -8,8 +8,10 @@ ReadsWhatWasSet = (pairs : List (ℕ × ℤ)) (key : ℕ) (value : ℤ) → valu
 
 -- and every other key keeps its value
 abbrev pub KeepsOtherKeys : Type 0
-KeepsOtherKeys = (pairs : List (ℕ × ℤ)) (key : ℕ) (value : ℤ) (other : ℕ) → other ≢ key → value_at (with_value pairs key value) other ≡ value_at pairs other
+KeepsOtherKeys = (pairs : List (ℕ × ℤ)) (key : ℕ) (value : ℤ) (other : ℕ) → other ≢ key
+    → value_at (with_value pairs key value) other ≡ value_at pairs other
 
 -- a pair that was made has the key, and changes no value
 abbrev pub ReadyChangesNoValue : Type 0
-ReadyChangesNoValue = (pairs : List (ℕ × ℤ)) (key other : ℕ) → (has_key (with_key pairs key) key ≡ true) × (value_at (with_key pairs key) other ≡ value_at pairs other)
+ReadyChangesNoValue = (pairs : List (ℕ × ℤ)) (key other : ℕ)
+    → (has_key (with_key pairs key) key ≡ true) × (value_at (with_key pairs key) other ≡ value_at pairs other)

@@ -34,7 +34,8 @@ takes Seats Put = false
 takes Seats Hold = true
 takes Seats Free = true
 
--- the values at which a verb is barred: a counter that holds too little, a seat that is held, and one that isn't held by this amount
+-- the values at which a verb is barred: a counter that holds too little, a seat that is held, and one that isn't held by this
+-- amount
 abbrev pub bars_at : Verb → ℤ → ℤ → Bool
 bars_at Add amount value = false
 bars_at Take amount value = int_lt value amount

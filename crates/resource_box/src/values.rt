@@ -14,7 +14,8 @@ use std::collections::BTreeMap;
 #[derive(Drop)]
 pub struct Values {
     pub map: BTreeMap<u32, i64>,
-    ghost ordered: { IsStrictlySortedBy nat_cmp (keys_of map.entries) } by { IsStrictlySortedBy-prop nat_cmp (keys_of map.entries) },
+    ghost ordered: { IsStrictlySortedBy nat_cmp (keys_of map.entries) } by { IsStrictlySortedBy-prop nat_cmp
+        (keys_of map.entries) },
 }
 
 impl Values {
@@ -60,7 +61,8 @@ impl Values {
     pub fn apply(&mut self, kind: Kind, call: &Call) -> i64
         requires ready { IsTrue (has_key self.old.map.entries call.now.key) }
         ensures before { result ≡ value_at self.old.map.entries call.now.key }
-        ensures changed { self.new.map.entries ≡ with_value self.old.map.entries call.now.key (applied kind call.now (value_at self.old.map.entries call.now.key)) }
+        ensures changed { self.new.map.entries ≡ with_value self.old.map.entries call.now.key
+            (applied kind call.now (value_at self.old.map.entries call.now.key)) }
     {
         let value = self.at(call.key);
         self.set(call.key, applied(kind, call, value));
@@ -70,7 +72,8 @@ impl Values {
     /// Undoes a call, given the value before it.
     pub fn revert(&mut self, kind: Kind, call: &Call, before: i64)
         requires ready { IsTrue (has_key self.old.map.entries call.now.key) }
-        ensures changed { self.new.map.entries ≡ with_value self.old.map.entries call.now.key (reverted kind call.now (value_at self.old.map.entries call.now.key) before) }
+        ensures changed { self.new.map.entries ≡ with_value self.old.map.entries call.now.key
+            (reverted kind call.now (value_at self.old.map.entries call.now.key) before) }
     {
         let value = self.at(call.key);
         self.set(call.key, reverted(kind, call, value, before));

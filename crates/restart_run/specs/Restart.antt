@@ -31,13 +31,15 @@ SaysAll c now said = (said.status ≡ statuses.Done) × (said.text.items ≡ rep
 
 -- What is said where this process has no try left at this step: the report so far, and a line that says so.
 abbrev pub SaysPart : Catalog → CoreState → ℕ → ℕ → Said → Type 0
-SaysPart c now process step said = (said.status ≡ statuses.Exhausted) × (said.text.items ≡ report_in c now ++ line_of (exhausted_words now.plans process step))
+SaysPart c now process step said =
+    (said.status ≡ statuses.Exhausted) × (said.text.items ≡ report_in c now ++ line_of (exhausted_words now.plans process step))
 
--- All are completed, and the report of the completed history is printed; or the process whose turn it is has no try left, and behind the
--- report of the history so far stands a line that says so.
+-- All are completed, and the report of the completed history is printed; or the process whose turn it is has no try left, and
+-- behind the report of the history so far stands a line that says so.
 abbrev pub SaysRestart : Catalog → History → CoreState → Said → Type 0
 SaysRestart c h now said =
-    ((said.status ≡ statuses.Done) × (history_of now ≡ completed_history h) × (said.text.items ≡ report_text c (with_completion h) (restart_causes h)))
+    ((said.status ≡ statuses.Done) × (history_of now ≡ completed_history h)
+    × (said.text.items ≡ report_text c (with_completion h) (restart_causes h)))
     ⊎ ((process step : ℕ) × (said.status ≡ statuses.Exhausted) × IsHeldUpBy now process step
     × (said.text.items ≡ report_text c (full_history now) (restart_causes h) ++ exhausted_line now process))
 
@@ -45,15 +47,19 @@ SaysRestart c h now said =
 abbrev pub IsRestartCutOff : AskedGate → Files → Files → Refusal → Type 0
 IsRestartCutOff gate before after r =
     (c : Catalog) × (h : History) × (now : CoreState)
-    × (((r ≡ NoMemory) × IsRestart gate c h now Settled before.disk after.disk) ⊎ ((r ≡ DiskFault) × IsRestart gate c h now Closed before.disk after.disk × Rose before.faults after.faults))
+    × (((r ≡ NoMemory) × IsRestart gate c h now Settled before.disk after.disk)
+    ⊎ ((r ≡ DiskFault) × IsRestart gate c h now Closed before.disk after.disk × Rose before.faults after.faults))
 
 -- What there is to say of the files: what a restart on them comes to; or they are not opened, or it was cut off.
 abbrev pub IsRestartFound : AskedGate → Files → Files → Result Said Refusal → Type 0
-IsRestartFound gate before after (Ok said) = (c : Catalog) × (h : History) × (now : CoreState) × IsRestart gate c h now Settled before.disk after.disk × SaysRestart c h now said
-IsRestartFound gate before after (Err r) = ((e : OpenError) × (r ≡ open_refusal e) × AreNotOpened e before after) ⊎ IsRestartCutOff gate before after r
+IsRestartFound gate before after (Ok said) = (c : Catalog) × (h : History) × (now : CoreState)
+    × IsRestart gate c h now Settled before.disk after.disk × SaysRestart c h now said
+IsRestartFound gate before after (Err r) =
+    ((e : OpenError) × (r ≡ open_refusal e) × AreNotOpened e before after) ⊎ IsRestartCutOff gate before after r
 
--- Where the files are sound and no call of the rack failed, the report is there, of the completed history or of how far it went; or memory was
--- wanting.
+-- Where the files are sound and no call of the rack failed, the report is there, of the completed history or of how far it went; or
+-- memory was wanting.
 abbrev pub IsRestartComplete : Files → Files → Result Said Refusal → Type 0
 IsRestartComplete before after found =
-    (c : Catalog) (h : History) → Told before.disk → IsSound c h before.disk.files → ¬ Rose before.faults after.faults → IsReportThere found
+    (c : Catalog) (h : History) → Told before.disk → IsSound c h before.disk.files → ¬ Rose before.faults after.faults
+    → IsReportThere found

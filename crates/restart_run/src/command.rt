@@ -60,7 +60,8 @@ pub fn restart<R: Rack + Drop, B: Resource, G: Gate>(
     gate: &mut G,
 ) -> CommandEnd<Parts<R, B>>
     requires boxes { AreBoxes B.sort parts.resources.items }
-    ensures due { IsRestartFound (asked G.Gate gate.old gate.new) (files R.Rack parts.rack) (files R.Rack result.parts.rack) result.found }
+    ensures due { IsRestartFound (asked G.Gate gate.old gate.new) (files R.Rack parts.rack)
+        (files R.Rack result.parts.rack) result.found }
     ensures complete { IsRestartComplete (files R.Rack parts.rack) (files R.Rack result.parts.rack) result.found }
     ensures late { IfErr result.found (λ r. comes_before_files r ≡ false) }
     ensures said { IfOk result.found (λ s. s.status ≢ Status.IllFormed) }
@@ -74,7 +75,7 @@ pub fn restart<R: Rack + Drop, B: Resource, G: Gate>(
     books_are_read_back();
     match process_restart::restart(alloc, parts, gate) {
         Restarted::Ended(engine) => {
-            engine.is_sound();
+            engine.invariant_holds();
             let found = said_of_all(alloc, &engine);
             CommandEnd {
                 parts: engine.into_parts(),
@@ -86,7 +87,7 @@ pub fn restart<R: Rack + Drop, B: Resource, G: Gate>(
             process,
             step,
         } => {
-            engine.is_sound();
+            engine.invariant_holds();
             let found = said_of_part(alloc, &engine, process, step);
             CommandEnd {
                 parts: engine.into_parts(),

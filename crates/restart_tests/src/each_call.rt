@@ -1,4 +1,5 @@
-// Runs and restarts that are stopped within each of their device calls, or of which one call fails: of the rack, the input or the output.
+// Runs and restarts that are stopped within each of their device calls, or of which one call fails: of the rack, the input or the
+// output.
 ghost use Rattle.std.specs.Prelude.{◌≤◌, length};
 
 use crate::plays::{expect_on, made};
@@ -69,7 +70,8 @@ fn printed<H: Abort>(
     Ok((told.sink.bytes().to_vec(alloc)?, told.rack))
 }
 
-// A restart ends all, its report is accepted, and another one says the same. The answer is how many starts and steps the history has.
+// A restart ends all, its report is accepted, and another one says the same. The answer is how many starts and steps the history
+// has.
 fn expect_restored<H: Abort>(rt: &H, alloc: Global, rack: MemoryRack) -> Result<usize, AllocError> {
     let (first, rack) = printed(rt, alloc, "restart", b"", rack)?;
     let (verdict, rack) = printed(rt, alloc, "verify", &first, rack)?;

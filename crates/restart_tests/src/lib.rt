@@ -1,5 +1,6 @@
-//! Tests of `restart` through the program, over racks in memory: stops and faults within each device call of a run and of a restart; and gates
-//! that refuse. What it makes of real files that were left unfinished, and files that it refuses, are rows (`tests/rows/restart`).
+//! Tests of `restart` through the program, over racks in memory: stops and faults within each device call of a run and of a
+//! restart; and gates that refuse. What it makes of real files that were left unfinished, and files that it refuses, are rows
+//! (`tests/rows/restart`).
 #![tactic(auto)]
 
 #[cfg(test)]

@@ -22,7 +22,8 @@ struct Case {
     lines: &'static [u8],
     answers: &'static [u8],
     stop: Option<Stop>,
-    /// Up to the title of the causes, what stands there for each process that is active, in the order in which they end, and the rest.
+    /// Up to the title of the causes, what stands there for each process that is active, in the order in which they end, and the
+    /// rest.
     head: &'static [u8],
     causes: &'static [&'static [u8]],
     rest: &'static [u8],

@@ -54,7 +54,8 @@ fn open_in(alloc: Global, mode: Mode, a: &Plan, b: &Plan) -> Result<Holds, Fail>
     requires steps_b { length (outline b.now.tree).steps ≡ 2 }
     requires ops_a { Each (λ op. op < 4) a.now.ops }
     requires ops_b { Each (λ op. op < 4) b.now.ops }
-    ensures { IfOk result (λ holds. holds ≡ opened 2 2 (opened 1 2 (none_open (with_mode (with_mode (no_conflicts 4) 0 1 mode) 3 3 mode)))) }
+    ensures { IfOk result
+        (λ holds. holds ≡ opened 2 2 (opened 1 2 (none_open (with_mode (with_mode (no_conflicts 4) 0 1 mode) 3 3 mode)))) }
 {
     let conflicts = conflicts(alloc, mode)?;
     let mut holds = Holds::new(alloc, &conflicts)?;
@@ -69,7 +70,9 @@ fn both_open(alloc: Global, a: &Plan, b: &Plan) -> Result<Holds, Fail>
     requires steps_b { length (outline b.now.tree).steps ≡ 2 }
     requires ops_a { Each (λ op. op < 4) a.now.ops }
     requires ops_b { Each (λ op. op < 4) b.now.ops }
-    ensures { IfOk result (λ holds. holds ≡ opened 2 2 (opened 1 2 (none_open (with_mode (with_mode (no_conflicts 4) 0 1 Mode.Always) 3 3 Mode.Always)))) }
+    ensures { IfOk result
+        (λ holds. holds ≡ opened 2 2
+        (opened 1 2 (none_open (with_mode (with_mode (no_conflicts 4) 0 1 Mode.Always) 3 3 Mode.Always)))) }
 {
     open_in(alloc, Mode::Always, a, b)
 }
@@ -128,7 +131,8 @@ fn each_waits_for_the_other(alloc: Global) -> Result<[Admitted; 2], Fail> {
     ])
 }
 
-/// The same where all can be undone, and the taking is under way: the note would close a circle. Something is added elsewhere meanwhile.
+/// The same where all can be undone, and the taking is under way: the note would close a circle. Something is added elsewhere
+/// meanwhile.
 fn a_circle(alloc: Global) -> Result<[Admitted; 2], Fail> {
     let purchase = two_steps(alloc, [StepKind::C, StepKind::C], [ADD, NOTE])?;
     let sale = two_steps(alloc, [StepKind::C, StepKind::C], [NOTE, TAKE])?;

@@ -1,5 +1,5 @@
-// What no clause of `cascade` says: three processes of one step each, whose steps conflict; the first two did theirs, and the third has
-// it under way.
+// What no clause of `cascade` says: three processes of one step each, whose steps conflict; the first two did theirs, and the third
+// has it under way.
 ghost use Rattle.std.specs.Prelude.{◌≡◌, IfOk};
 ghost use Rattle.process_tree.specs.Conflicts.{no_conflicts, with_mode};
 ghost use Rattle.hold_tables.specs.Changes.{none_open, opened};
@@ -13,7 +13,8 @@ use std::test::Fail;
 
 /// The three are open.
 fn all_open(alloc: Global) -> Result<Holds, Fail>
-    ensures { IfOk result (λ holds. holds ≡ opened 3 1 (opened 2 1 (opened 1 1 (none_open (with_mode (no_conflicts 1) 0 0 Mode.Always))))) }
+    ensures { IfOk result
+        (λ holds. holds ≡ opened 3 1 (opened 2 1 (opened 1 1 (none_open (with_mode (no_conflicts 1) 0 0 Mode.Always))))) }
 {
     let conflicts = one_conflict(alloc, Mode::Always)?;
     let plan = one_step(alloc)?;

@@ -1,5 +1,5 @@
-// What no clause of `instance_state` says: one process on its way, step by step. After a pivot there are three ways, of which the last is
-// retriable; and there is a process of a single step.
+// What no clause of `instance_state` says: one process on its way, step by step. After a pivot there are three ways, of which the
+// last is retriable; and there is a process of a single step.
 use crate::plans::steps;
 use instance_state::{Instance, Recovery, Refusal, Todo};
 use process_tree::{Block, Name, Operations, Plan, StepKind, Tail, Tree};

@@ -26,8 +26,8 @@ pub record SameSays (h k : History) : Type 0 where
   pub effects : (ops : List Op) (q : ℕ) → effects ops h q ≡ effects ops k q
   pub beginnings : (g : List Event) → IsSameHistory (beginning h g) (beginning k g)
 
--- A journal may have a history where it may have the same one, and files are the journal of the one, and sound for it, where they are so of
--- the other.
+-- A journal may have a history where it may have the same one, and files are the journal of the one, and sound for it, where they
+-- are so of the other.
 pub record SameStands (c : Catalog) (h k : History) : Type 0 where
   pub under : IsHistoryUnder c h → IsHistoryUnder c k
   pub journal : (files : FileSet) → IsJournalOf c h files → IsJournalOf c k files
@@ -35,7 +35,8 @@ pub record SameStands (c : Catalog) (h k : History) : Type 0 where
 
 -- Files are sound for one catalog and one history at most.
 abbrev pub OneSoundHistory : Type 0
-OneSoundHistory = (c d : Catalog) (h k : History) (files : FileSet) → IsSound c h files → IsSound d k files → (d ≡ c) × IsSameHistory h k
+OneSoundHistory = (c d : Catalog) (h k : History) (files : FileSet) → IsSound c h files → IsSound d k files
+    → (d ≡ c) × IsSameHistory h k
 
 -- So it is of all of them.
 pub record SameHistoriesAreAlike : Type 0 where

@@ -3,10 +3,12 @@ use Rattle.std.specs.Prelude.{◌≡◌, ◌/◌, [], ◌∷◌, ◌++◌, codes
 use Rattle.std.specs.Fn.{iterate}
 use Rattle.std.specs.Fmt.{digits}
 use Rattle.scenario_gen.specs.Draws.{draws_of, first_number, next_number}
-use Rattle.scenario_gen.specs.Generated.{first_steps_text, first_way_text, generated, last_way_text, process_text, processes_text, tail_text}
+use Rattle.scenario_gen.specs.Generated.{first_steps_text, first_way_text, generated, last_way_text, process_text, processes_text}
+use Rattle.scenario_gen.specs.Generated.{tail_text}
 
 -- the first numbers of the generator behind 1, without their last 16 bits
-pub first_numbers : map (λ n. iterate next_number n (first_number 1) / 65536) (1 ∷ 2 ∷ 3 ∷ 4 ∷ []) ≡ 16838 ∷ 5758 ∷ 10113 ∷ 17515 ∷ []
+pub first_numbers : map (λ n. iterate next_number n (first_number 1) / 65536) (1 ∷ 2 ∷ 3 ∷ 4 ∷ [])
+    ≡ 16838 ∷ 5758 ∷ 10113 ∷ 17515 ∷ []
 first_numbers = refl
 
 -- what is drawn of them
@@ -21,16 +23,19 @@ draws_of_the_tenth = refl
 pub of_64_bits : first_number 18446744073709551615 ≡ 2147483647
 of_64_bits = refl
 
-pub a_process : process_text 1 (draws_of 1 1) ≡ codes "process g1 c s1 load 14 13 p s2 pay 14 13 choose c s3 load 14 13 p s4 haul 14 13 r s5 note 14 13 or r s6 mail 14 13 done end\n"
+pub a_process : process_text 1 (draws_of 1 1)
+    ≡ codes "process g1 c s1 load 14 13 p s2 pay 14 13 choose c s3 load 14 13 p s4 haul 14 13 r s5 note 14 13 or r s6 mail 14 13 done end\n"
 unfolding digits process_text first_steps_text first_way_text last_way_text
 a_process = refl
 
 -- of a process one step is refused at most
-pub fourth_refused : process_text 10 (draws_of 1 10) ≡ codes "process g10 c s1 note 5 61 p s2 pay 5 61 choose c s3 load 5 61 p s4 haul 5 61 refuse 1 r s5 note 5 61 or r s6 mail 5 61 done end\n"
+pub fourth_refused : process_text 10 (draws_of 1 10)
+    ≡ codes "process g10 c s1 note 5 61 p s2 pay 5 61 choose c s3 load 5 61 p s4 haul 5 61 refuse 1 r s5 note 5 61 or r s6 mail 5 61 done end\n"
 unfolding digits process_text first_steps_text first_way_text last_way_text
 fourth_refused = refl
 
-pub two_processes : processes_text 2 2 ≡ codes "process g1 c s1 load 1 39 p s2 pay 1 39 choose c s3 load 1 39 p s4 haul 1 39 r s5 note 1 39 or r s6 mail 1 39 done end\nprocess g2 c s1 note 7 76 p s2 pay 7 76 choose c s3 load 7 76 refuse 1 p s4 haul 7 76 r s5 note 7 76 or r s6 mail 7 76 done end\n"
+pub two_processes : processes_text 2 2
+    ≡ codes "process g1 c s1 load 1 39 p s2 pay 1 39 choose c s3 load 1 39 p s4 haul 1 39 r s5 note 1 39 or r s6 mail 1 39 done end\nprocess g2 c s1 note 7 76 p s2 pay 7 76 choose c s3 load 7 76 refuse 1 p s4 haul 7 76 r s5 note 7 76 or r s6 mail 7 76 done end\n"
 unfolding digits process_text first_steps_text first_way_text last_way_text
 two_processes = refl
 

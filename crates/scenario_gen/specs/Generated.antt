@@ -19,7 +19,8 @@ refusable_text step operation once d = step_text step operation d ++ (if once th
 -- the beginning of process k, with the two steps in front of its choice
 unfoldable pub first_steps_text : ℕ → Draws → List ℕ
 first_steps_text k d =
-    codes "process g" ++ decimal k ++ step_text (codes "c s1") (operation_of d.operation) d ++ step_text (codes "p s2") (codes "pay") d
+    codes "process g" ++ decimal k ++ step_text (codes "c s1") (operation_of d.operation) d
+    ++ step_text (codes "p s2") (codes "pay") d
 
 -- the first alternative of the choice: of eight draws one has its first step refused, and one its second
 unfoldable pub first_way_text : Draws → List ℕ
@@ -42,7 +43,8 @@ processes_text number count = flat_map (λ k. process_text k (draws_of number k)
 -- an empty line, and the table of an operation
 abbrev pub operation_text : List ℕ × ℕ × List ℕ → List ℕ
 operation_text (name, subsystem, verb) =
-    codes "\n[[op]]\nname = \"" ++ name ++ codes "\"\nsubsystem = " ++ decimal subsystem ++ codes "\nverb = \"" ++ verb ++ codes "\"\n"
+    codes "\n[[op]]\nname = \"" ++ name ++ codes "\"\nsubsystem = " ++ decimal subsystem ++ codes "\nverb = \"" ++ verb
+    ++ codes "\"\n"
 
 -- the operations in their order: the name, the subsystem and the verb of each
 abbrev pub operations : List (List ℕ × ℕ × List ℕ)

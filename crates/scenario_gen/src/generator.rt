@@ -19,8 +19,8 @@ const AMOUNTS: u32 = 100;
 
 const REFUSALS: u32 = 8;
 
-/// What is drawn for a process: which operation its first step has, the key and the amount of each of its steps, and which of its steps
-/// is refused once.
+/// What is drawn for a process: which operation its first step has, the key and the amount of each of its steps, and which of its
+/// steps is refused once.
 #[derive(Clone, Copy, Drop)]
 pub(crate) struct Draws {
     pub operation: u32,

@@ -1,6 +1,7 @@
 // The text of a generated scenario.
 ghost use Rattle.std.specs.Prelude.{◌≡◌, ◌++◌, ◌≤◌, OnOk, IfOk};
-ghost use Rattle.scenario_gen.specs.Generated.{first_steps_text, first_way_text, generated, last_way_text, operation_of, process_text, processes_text, refusable_text, step_text, tail_text};
+ghost use Rattle.scenario_gen.specs.Generated.{first_steps_text, first_way_text, generated, last_way_text, operation_of};
+ghost use Rattle.scenario_gen.specs.Generated.{process_text, processes_text, refusable_text, step_text, tail_text};
 
 use crate::generator::{Draws, Generator};
 use std::alloc::{AllocError, Global};

@@ -24,7 +24,7 @@ use Rattle.command_input.specs.declared.scenario.NoPlans.TheVariants.{Refused, I
 use Rattle.command_input.specs.FilesLeft.{Files}
 use Rattle.command_input.specs.Inputs.{Input, IsWholeText, HasNoText, most_input}
 use Rattle.command_input.specs.Scenarios.{AreNoGoodPlans, IsBound, IsNotBound}
-use Rattle.scenario_run.specs.Completeness.{AreAtRest, NothingFailed}
+use Rattle.scenario_run.specs.Completeness.{AreSoundAndIdle, NothingFailed}
 use Rattle.scenario_run.specs.Opening.{AreNotOpened, AreOpenedOn, IsNotOpenedFor, IsOther, IsUnfit, open_refusal}
 use Rattle.scenario_run.proofs.NotRefused.{no_plans, no_scenario, no_text, no_verdict, says_one}
 use Rattle.scenario_run.proofs.OwnCatalog.{own_catalog}
@@ -81,7 +81,7 @@ module _ (alloc : Global) (bytes : List ℕ) (c : Catalog) (plans : List Plan) (
   catalog_of d ps is = ap (λ x. (said_or own x).catalog) (says_one bytes (Ok (record { catalog = d; processes = is.0 })) (Ok own) is.1 bound.1)
 
 -- Files at rest of which no call failed
-module _ (c : Catalog) (h : History) (before after : Input) (files files_after : Files) (rest : AreAtRest c h files) (quiet : NothingFailed before after files files_after)
+module _ (c : Catalog) (h : History) (before after : Input) (files files_after : Files) (rest : AreSoundAndIdle c h files) (quiet : NothingFailed before after files files_after)
     (opened : SoundFilesAreOpened) where
   -- are opened,
   not_opened : (e : OpenError) (r : Refusal) → r ≡ open_refusal e → AreNotOpened e files files_after → r ≡ refusals.NoMemory

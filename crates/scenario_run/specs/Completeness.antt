@@ -34,19 +34,20 @@ pub record HasScenario (before : Input) (bytes : List ℕ) (c : Catalog) (plans 
   pub bound : IsBound bytes c plans
 
 -- The files are sound for a history of this catalog in which no process is active.
-pub record AreAtRest (c : Catalog) (h : History) (files : Files) : Type 0 where
+pub record AreSoundAndIdle (c : Catalog) (h : History) (files : Files) : Type 0 where
   pub told : Told files.disk
   pub sound : IsSound c h files.disk.files
   pub idle : active h.events ≡ []
 
--- The files are at rest, and the processes of the scenario fit beside those that started.
+-- The files are sound and idle, and the processes of the scenario fit beside those that started.
 pub record HasRoomFor (bytes : List ℕ) (c : Catalog) (h : History) (files : Files) : Type 0 where
-  pub rest : AreAtRest c h files
+  pub rest : AreSoundAndIdle c h files
   pub fit : (plans : List Plan) → IsBound bytes c plans → limit_passed (opened_on c.conflicts h.plans h.events) plans ≡ None
 
--- Where the source has such a scenario, the files have room for it and nothing failed, the report is there: all processes have ended, or one
--- is stuck; or memory was wanting.
+-- Where the source has such a scenario, the files have room for it and nothing failed, the report is there: all processes have
+-- ended, or one is stuck; or memory was wanting.
 abbrev pub IsRunComplete : Input → Input → Files → Files → Result Said Refusal → Type 0
 IsRunComplete before after files files_after found =
-    (bytes : List ℕ) (c : Catalog) (plans : List Plan) (h : History) → HasScenario before bytes c plans → HasRoomFor bytes c h files → NothingFailed before after files files_after
+    (bytes : List ℕ) (c : Catalog) (plans : List Plan) (h : History) → HasScenario before bytes c plans → HasRoomFor bytes c h files
+    → NothingFailed before after files files_after
     → IsReportThere found

@@ -1,4 +1,5 @@
--- Files that are opened for a scenario: their history goes on with its processes, where its catalog is theirs and no process is active.
+-- Files that are opened for a scenario: their history goes on with its processes, where its catalog is theirs and no process is
+-- active.
 use Rattle.std.specs.Prelude.{◌≡◌, ◌⊎◌, ⊤, ℕ, suc, List, [], ◌∷◌, nat_eq, Option, Some, None, if◌then◌else◌}
 use Rattle.std.specs.Option.{option_map}
 use Rattle.process_flow.specs.Causes.{Rose}
@@ -43,28 +44,28 @@ IsOther own c (refusals.CatalogDiffers n) = first_difference (bytes_of own) (byt
 IsOther own c refusals.NoMemory = ⊤
 IsOther own c r = ⊥
 
--- Why the history of files of one catalog doesn't go on with processes of a scenario of another: the catalogs aren't the same; or they
--- are, and this is the least active process.
+-- Why the history of files of one catalog doesn't go on with processes of a scenario of another: the catalogs aren't the same; or
+-- they are, and this is the least active process.
 abbrev pub IsUnfit : Catalog → Catalog → History → Refusal → Type 0
 IsUnfit own c h r = IsOther own c r ⊎ ((c ≡ own) × ((i : ℕ) × (r ≡ refusals.Unfinished i) × (first_of (active h.events) ≡ Some i)))
 
--- The files, where they are told, were sound for this history, and became so again from some moment of the opening on: they are now, and
--- so is each image of them from now on.
+-- The files, where they are told, were sound for this history, and became so again from some moment of the opening on: they are
+-- now, and so is each image of them from now on.
 pub record AreOpenedOn (c : Catalog) (h : History) (before after : Files) : Type 0 where
   pub sound : Told before.disk → IsSound c h before.disk.files
   pub becomes : Told before.disk → BecomesSound c h before.disk after.disk
   pub now : Told before.disk → IsSound c h after.disk.files
   pub each : Told before.disk → EachImage after.disk after.disk.moment (IsSound c h)
 
--- They were not opened: this is the first file or book at fault, and nothing was written, as all are read before; or the rack failed; or
--- memory was wanting.
+-- They were not opened: this is the first file or book at fault, and nothing was written, as all are read before; or the rack
+-- failed; or memory was wanting.
 pub record AreNotOpened (e : OpenError) (before after : Files) : Type 0 where
   pub due : Told before.disk → IsDueToOpening before.disk.files e
   pub left : Told before.disk → LeftByOpening e before.disk after.disk
   pub fault : e ≡ errors.DiskFault → Rose before.faults after.faults
 
--- Why there is no engine on files of this catalog: what is refused of the files; or, once they were opened on their history, that their
--- catalog is another.
+-- Why there is no engine on files of this catalog: what is refused of the files; or, once they were opened on their history, that
+-- their catalog is another.
 abbrev pub IsNotOpenedWith : Catalog → Refusal → Files → Files → Type 0
 IsNotOpenedWith own r before after =
     ((e : OpenError) × (r ≡ open_refusal e) × AreNotOpened e before after)

@@ -12,7 +12,8 @@ use Rattle.scenario_run.specs.Opening.{first_difference, open_refusal}
 
 -- one operation that conflicts with nothing
 abbrev pub add_only : Catalog
-add_only = record { version = 1; ops = record { name = codes "add"; subsystem = 0; verb = Add } ∷ []; conflicts = (Never ∷ []) ∷ [] }
+add_only =
+    record { version = 1; ops = record { name = codes "add"; subsystem = 0; verb = Add } ∷ []; conflicts = (Never ∷ []) ∷ [] }
 
 -- two operations, both of which conflict with themselves and each other
 abbrev pub add_and_take : Catalog

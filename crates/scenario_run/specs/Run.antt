@@ -1,4 +1,5 @@
--- The command `run`: the processes of a scenario start in the order of its text, on files that are opened for it, and then they are run.
+-- The command `run`: the processes of a scenario start in the order of its text, on files that are opened for it, and then they are
+-- run.
 use Rattle.std.specs.Prelude.{◌≡◌, ◌⊎◌, ℕ, List, [], ◌++◌, Some, Result, Ok, Err}
 use Rattle.process_flow.specs.Causes.{Rose}
 use Rattle.process_tree.specs.declared.plan.Plan.{Plan}
@@ -30,8 +31,8 @@ use Rattle.scenario_run.specs.Reports.{exhausted_line, report_in}
 use Rattle.scenario_run.specs.Scenario.{IsNoScenarioRead, IsSaidOfNone, IsScenarioRead}
 use Rattle.scenario_run.specs.Starting.{started_on}
 
--- The machine opened on this history, in which no process is active. Processes of these plans started, in this order, and since then all
--- were only run: a piece was handed out and ended, or not, turn after turn.
+-- The machine opened on this history, in which no process is active. Processes of these plans started, in this order, and since
+-- then all were only run: a piece was handed out and ended, or not, turn after turn.
 pub record HasGone (gate : AskedGate) (c : Catalog) (h : History) (started : List Plan) (now : CoreState) : Type 0 where
   pub idle : active h.events ≡ []
   pub run : HasRun gate c (started_on c h started) now
@@ -40,7 +41,8 @@ pub record HasGone (gate : AskedGate) (c : Catalog) (h : History) (started : Lis
 
 -- A run on files of this history, up to now.
 abbrev pub IsRun : AskedGate → Catalog → History → List Plan → List Plan → CoreState → Phase → Files → Files → Type 0
-IsRun gate c h plans started now on before after = HasGone gate c h started now × AreKept c h now (IsOneAhead c plans now on) on before.disk after.disk
+IsRun gate c h plans started now on before after =
+    HasGone gate c h started now × AreKept c h now (IsOneAhead c plans now on) on before.disk after.disk
 
 -- what is told of a limit that the processes of a scenario would pass
 abbrev pub limit_refusal : StartLimit → Refusal
@@ -51,34 +53,39 @@ limit_refusal (limits.Entries n) = Limit Entries n
 -- The processes of a scenario don't all fit within the limits beside those that started, and nothing was kept.
 abbrev pub IsPastLimit : Catalog → List Plan → Files → Files → Refusal → Type 0
 IsPastLimit c plans before after r =
-    (h : History) × (limit : StartLimit) × (r ≡ limit_refusal limit) × (limit_passed (opened_on c.conflicts h.plans h.events) plans ≡ Some limit)
+    (h : History) × (limit : StartLimit) × (r ≡ limit_refusal limit)
+    × (limit_passed (opened_on c.conflicts h.plans h.events) plans ≡ Some limit)
     × AreOnlyOpened c h before.disk after.disk
 
 -- A run was cut off once the first of the processes had started, or all: a call of the rack failed, or memory was wanting.
 abbrev pub IsCutOff : AskedGate → Catalog → List Plan → Files → Files → Refusal → Type 0
 IsCutOff gate c plans before after r =
     (h : History) × (started rest : List Plan) × (now : CoreState) × (plans ≡ started ++ rest)
-    × (((r ≡ NoMemory) × IsRun gate c h plans started now Settled before after) ⊎ ((r ≡ DiskFault) × IsRun gate c h plans started now Closed before after × Rose before.faults after.faults))
+    × (((r ≡ NoMemory) × IsRun gate c h plans started now Settled before after)
+    ⊎ ((r ≡ DiskFault) × IsRun gate c h plans started now Closed before after × Rose before.faults after.faults))
 
--- All have ended, and the report of the history is printed; or this process is stuck, since it has no try left, and behind the report stands
--- a line that says so.
+-- All have ended, and the report of the history is printed; or this process is stuck, since it has no try left, and behind the
+-- report stands a line that says so.
 abbrev pub SaysRun : Catalog → CoreState → Said → Type 0
 SaysRun c now said =
     ((said.status ≡ statuses.Done) × (active (history_of now) ≡ []) × (said.text.items ≡ report_in c now))
-    ⊎ ((i : ℕ) × (said.status ≡ statuses.Exhausted) × ((answer_in now next).reply ≡ next_is (stuck i)) × (said.text.items ≡ report_in c now ++ exhausted_line now i))
+    ⊎ ((i : ℕ) × (said.status ≡ statuses.Exhausted) × ((answer_in now next).reply ≡ next_is (stuck i))
+    × (said.text.items ≡ report_in c now ++ exhausted_line now i))
 
--- What there is to say of a run of the processes of a scenario: its report. Else it is refused, in this order: the files, and what would
--- pass a limit; or it was cut off.
+-- What there is to say of a run of the processes of a scenario: its report. Else it is refused, in this order: the files, and what
+-- would pass a limit; or it was cut off.
 abbrev pub IsRunOf : AskedGate → Catalog → List Plan → Files → Files → Result Said Refusal → Type 0
-IsRunOf gate c plans before after (Ok said) = (h : History) × (now : CoreState) × IsRun gate c h plans plans now Settled before after × SaysRun c now said
-IsRunOf gate c plans before after (Err r) = IsNotOpenedFor c r before after ⊎ IsPastLimit c plans before after r ⊎ IsCutOff gate c plans before after r
+IsRunOf gate c plans before after (Ok said) =
+    (h : History) × (now : CoreState) × IsRun gate c h plans plans now Settled before after × SaysRun c now said
+IsRunOf gate c plans before after (Err r) =
+    IsNotOpenedFor c r before after ⊎ IsPastLimit c plans before after r ⊎ IsCutOff gate c plans before after r
 
 -- the input holds no scenario, so there is a verdict line, or a refusal
 abbrev pub IsNotReadAs : Input → Input → Result Said Refusal → Type 0
 IsNotReadAs before after found = IsSaidOfNone (IsNoScenarioRead before after) found
 
--- What there is to say: what is refused of the input, and then the files are left as they were; or else what there is to say of a run of
--- the processes of its scenario.
+-- What there is to say: what is refused of the input, and then the files are left as they were; or else what there is to say of a
+-- run of the processes of its scenario.
 abbrev pub IsRunDue : AskedGate → Input → Input → Files → Files → Result Said Refusal → Type 0
 IsRunDue gate before after files files_after found =
     (IsNotReadAs before after found × AreUntouched files files_after)

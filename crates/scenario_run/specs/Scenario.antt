@@ -16,11 +16,13 @@ IsScenarioRead before after c plans = (bytes : List ℕ) × IsWholeText before a
 
 -- Why none was read: no text came; or it is the text of no scenario with well-formed processes, by what is refused of it first.
 abbrev pub IsNoScenarioRead : Input → Input → NoPlans → Type 0
-IsNoScenarioRead before after (Refused r) = HasNoText r before after ⊎ ((bytes : List ℕ) × IsWholeText before after bytes × IsNotBound bytes (Refused r))
-IsNoScenarioRead before after (IllFormed line) = (bytes : List ℕ) × IsWholeText before after bytes × IsNotBound bytes (IllFormed line)
+IsNoScenarioRead before after (Refused r) =
+    HasNoText r before after ⊎ ((bytes : List ℕ) × IsWholeText before after bytes × IsNotBound bytes (Refused r))
+IsNoScenarioRead before after (IllFormed line) =
+    (bytes : List ℕ) × IsWholeText before after bytes × IsNotBound bytes (IllFormed line)
 
--- What there is to say where no processes were read, for a reason of this kind: the verdict line of the first that isn't well-formed; all
--- else is refused.
+-- What there is to say where no processes were read, for a reason of this kind: the verdict line of the first that isn't
+-- well-formed; all else is refused.
 abbrev pub IsSaidOfNone : (NoPlans → Type 0) → Result Said Refusal → Type 0
 IsSaidOfNone IsWhy (Ok said) = (said.status ≡ statuses.IllFormed) × IsWhy (IllFormed said.text)
 IsSaidOfNone IsWhy (Err r) = IsWhy (Refused r)

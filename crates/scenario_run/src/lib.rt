@@ -1,11 +1,11 @@
 //! The command `run`: the processes of a scenario are started and run on files that are opened for it, and the history is printed.
 //!
-//! `specs/Run` says what there is to say and what the files are then, and `specs/Completeness` when the report is there. The parts of `run`
-//! are of use to other commands: `scenario_from` reads a scenario, and `said_of_none` says why there is none (`specs/Scenario`);
-//! `opened_with` gives an engine on files of its catalog and `opened` one for it, or they say which refusal is due (`specs/Opening`);
-//! `all_fit` refuses its processes where they would pass a limit, and `start_all` starts them (`specs/Starting`); `report_now` prints the
-//! history of an engine, `stuck_step` tells of a stuck process which step has no try left, and `stuck_report` adds the line that says so
-//! (`specs/Reports`). Who runs the processes is `worker_gate`'s `run_alone`.
+//! `specs/Run` says what there is to say and what the files are then, and `specs/Completeness` when the report is there. The parts
+//! of `run` are of use to other commands: `scenario_from` reads a scenario, and `said_of_none` says why there is none
+//! (`specs/Scenario`); `opened_with` gives an engine on files of its catalog and `opened` one for it, or they say which refusal is
+//! due (`specs/Opening`); `all_fit` refuses its processes where they would pass a limit, and `start_all` starts them
+//! (`specs/Starting`); `report_now` prints the history of an engine, `stuck_step` tells of a stuck process which step has no try
+//! left, and `stuck_report` adds the line that says so (`specs/Reports`). Who runs the processes is `worker_gate`'s `run_alone`.
 #![tactic(auto)]
 
 mod opening;

@@ -100,8 +100,8 @@ fn first_active(h: &History) -> Option<u32>
     None
 }
 
-/// An engine on the history of the files, whose catalog is this one. What is refused first is a file, a book, and then the catalog. Once all
-/// nine files were found sound, what was in doubt is settled, whatever is refused then.
+/// An engine on the history of the files, whose catalog is this one. What is refused first is a file, a book, and then the catalog.
+/// Once all nine files were found sound, what was in doubt is settled, whatever is refused then.
 pub fn opened_with<R: Rack + Drop, B: Resource>(
     alloc: Global,
     catalog: &Catalog,
@@ -111,7 +111,8 @@ pub fn opened_with<R: Rack + Drop, B: Resource>(
     requires boxes { AreBoxes B.sort parts.resources.items }
     ensures opened { IfOk result IsOpened }
     ensures catalog { IfOk result (λ e. e.catalog ≡ catalog.now) }
-    ensures on { IfOk result (λ e. AreOpenedOn e.catalog (full_history e.core) (files R.Rack parts.rack) (files R.Rack e.files.rack)) }
+    ensures on { IfOk result
+        (λ e. AreOpenedOn e.catalog (full_history e.core) (files R.Rack parts.rack) (files R.Rack e.files.rack)) }
     ensures fits { IfOk result (λ e. EachFits B.meaning B.sort e.files.stores) }
     ensures due { IfErr result (λ n. IsNotOpenedWith catalog.now n.why (files R.Rack parts.rack) (files R.Rack n.parts.rack)) }
     ensures late { IfErr result (λ n. comes_before_files n.why ≡ false) }
@@ -130,7 +131,7 @@ pub fn opened_with<R: Rack + Drop, B: Resource>(
             });
         }
     };
-    engine.is_sound();
+    engine.invariant_holds();
     match same_catalog(alloc, catalog, engine.catalog()) {
         Ok(()) => Ok(engine),
         Err(why) => Err(NotOpened {
@@ -151,7 +152,8 @@ pub fn opened<R: Rack + Drop, B: Resource>(
     ensures opened { IfOk result IsOpened }
     ensures catalog { IfOk result (λ e. e.catalog ≡ catalog.now) }
     ensures idle { IfOk result (λ e. active (history_of e.core) ≡ []) }
-    ensures on { IfOk result (λ e. AreOpenedOn e.catalog (full_history e.core) (files R.Rack parts.rack) (files R.Rack e.files.rack)) }
+    ensures on { IfOk result
+        (λ e. AreOpenedOn e.catalog (full_history e.core) (files R.Rack parts.rack) (files R.Rack e.files.rack)) }
     ensures fits { IfOk result (λ e. EachFits B.meaning B.sort e.files.stores) }
     ensures due { IfErr result (λ n. IsNotOpenedFor catalog.now n.why (files R.Rack parts.rack) (files R.Rack n.parts.rack)) }
     ensures late { IfErr result (λ n. comes_before_files n.why ≡ false) }
@@ -162,7 +164,7 @@ pub fn opened<R: Rack + Drop, B: Resource>(
     ensures later_back { IfErr result (λ n. R.faults parts.rack ≤ R.faults n.parts.rack) }
 {
     let engine = opened_with(alloc, catalog, parts)?;
-    engine.is_sound();
+    engine.invariant_holds();
     match first_active(engine.history()) {
         None => Ok(engine),
         Some(i) => Err(NotOpened {

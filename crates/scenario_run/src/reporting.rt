@@ -25,7 +25,7 @@ fn causes_of<R: Rack + Drop, B: Resource>(
 ) -> Result<Vec<(u32, Cause)>, AllocError>
     ensures { IfOk result (λ causes. causes.items ≡ causes_in engine.now.core) }
 {
-    engine.is_sound();
+    engine.invariant_holds();
     let count = engine.history().plans.as_slice().len() as u32;
     let mut causes = Vec::new(alloc);
     let mut i = 0;
@@ -46,7 +46,7 @@ pub fn report_now<R: Rack + Drop, B: Resource>(
     ensures { IfOk result (λ text. text.items ≡ report_in engine.now.catalog engine.now.core) }
 {
     journals_keep_histories();
-    engine.is_sound();
+    engine.invariant_holds();
     let causes = causes_of(alloc, engine)?;
     report(alloc, engine.catalog(), engine.history(), &causes)
 }
@@ -59,7 +59,7 @@ pub fn stuck_step<R: Rack + Drop, B: Resource>(engine: &mut Engine<R, B>, i: u32
     ensures step { result ≡ step_due engine.old.core i }
     ensures left { engine.new ≡ engine.old }
 {
-    engine.is_sound();
+    engine.invariant_holds();
     match engine_runs::admit(engine, i) {
         Admit::Exhausted(step) => step,
         _ => unreachable!(),
@@ -75,7 +75,8 @@ pub fn stuck_report<R: Rack + Drop, B: Resource>(
     requires ready { IsReady B.meaning B.sort engine.old }
     requires replied { (answer_in engine.old.core next).reply ≡ next_is (stuck i) }
     requires stuck { IsStuck (relation engine.old.core) (courses_in engine.old.core) (moment_of engine.old.core) i }
-    ensures text { IfOk result (λ text. text.items ≡ report_in engine.old.catalog engine.old.core ++ exhausted_line engine.old.core i) }
+    ensures text { IfOk result
+        (λ text. text.items ≡ report_in engine.old.catalog engine.old.core ++ exhausted_line engine.old.core i) }
     ensures left { engine.new ≡ engine.old }
 {
     let step = stuck_step(engine, i);

@@ -60,7 +60,9 @@ fn said_of<R: Rack + Drop, B: Resource>(
     requires ready { outcome ≢ RunOutcome.DiskFault → IsReady B.meaning B.sort engine.old }
     ensures said { IfOk result (SaysRun engine.old.catalog engine.old.core) }
     ensures settled { IfOk result (λ s. outcome ≢ RunOutcome.DiskFault) }
-    ensures refused { IfErr result (λ r. ((r ≡ Refusal.NoMemory) × (outcome ≢ RunOutcome.DiskFault)) ⊎ ((r ≡ Refusal.DiskFault) × (outcome ≡ RunOutcome.DiskFault))) }
+    ensures refused { IfErr result
+        (λ r. ((r ≡ Refusal.NoMemory) × (outcome ≢ RunOutcome.DiskFault))
+        ⊎ ((r ≡ Refusal.DiskFault) × (outcome ≡ RunOutcome.DiskFault))) }
     ensures left { engine.new ≡ engine.old }
 {
     match outcome {
@@ -84,7 +86,8 @@ pub fn all_fit<R: Rack + Drop, B: Resource>(
 ) -> Result<(), Refusal>
     requires few { length plans.now ≤ 256 }
     ensures fit { OnOk result (limit_passed engine.now.core plans.now ≡ None) }
-    ensures passed { IfErr result (λ r. (limit : Limit') × (r ≡ limit_refusal limit) × (limit_passed engine.now.core plans.now ≡ Some limit)) }
+    ensures passed { IfErr result
+        (λ r. (limit : Limit') × (r ≡ limit_refusal limit) × (limit_passed engine.now.core plans.now ≡ Some limit)) }
     ensures late { IfErr result (λ r. comes_before_files r ≡ false) }
 {
     match fits(engine, plans) {
@@ -103,7 +106,10 @@ fn run_started<R: Rack + Drop, B: Resource, G: Gate>(
     requires alone { NothingRuns engine.old.core }
     ensures ran { RanBy R.disk R.faults (asked G.Gate gate.old gate.new) engine.old engine.new }
     ensures said { IfOk result (λ s. (engine.new.phase ≡ phase.Settled) × SaysRun engine.new.catalog engine.new.core s) }
-    ensures refused { IfErr result (λ r. ((r ≡ Refusal.NoMemory) × (engine.new.phase ≡ phase.Settled)) ⊎ ((r ≡ Refusal.DiskFault) × (engine.new.phase ≡ phase.Closed) × Rose (R.faults engine.old.files.rack) (R.faults engine.new.files.rack))) }
+    ensures refused { IfErr result
+        (λ r. ((r ≡ Refusal.NoMemory) × (engine.new.phase ≡ phase.Settled))
+        ⊎ ((r ≡ Refusal.DiskFault) × (engine.new.phase ≡ phase.Closed)
+        × Rose (R.faults engine.old.files.rack) (R.faults engine.new.files.rack))) }
     ensures fits { EachFits B.meaning B.sort engine.new.files.stores }
 {
     let outcome = run_alone(engine, gate);
@@ -123,19 +129,21 @@ fn run_on<R: Rack + Drop, B: Resource, G: Gate>(
     requires plans { Each (λ p. IsPlanFor engine.old.catalog p × IsGoodPlan p) plans.items }
     requires few { length plans.items ≤ 256 }
     ensures goes { GoesOn R.disk R.faults plans.items engine.old engine.new }
-    ensures ran { IfOk result (λ s. HasGone (asked G.Gate gate.old gate.new) engine.old.catalog (full_history engine.old.core) plans.items engine.new.core × (engine.new.phase ≡ phase.Settled) × SaysRun engine.old.catalog engine.new.core s) }
+    ensures ran { IfOk result
+        (λ s. HasGone (asked G.Gate gate.old gate.new) engine.old.catalog (full_history engine.old.core) plans.items engine.new.core
+        × (engine.new.phase ≡ phase.Settled) × SaysRun engine.old.catalog engine.new.core s) }
     ensures refused { IfErr result (λ r. IsStopped (asked G.Gate gate.old gate.new) R.faults engine.old engine.new plans.items r) }
     ensures fits { EachFits B.meaning B.sort engine.new.files.stores }
 {
-    engine.is_sound();
+    engine.invariant_holds();
     all_fit(engine, &plans)?;
     if let Err(refusal) = start_all(alloc, engine, plans) {
-        engine.is_sound();
+        engine.invariant_holds();
         return Err(refusal);
     }
-    engine.is_sound();
+    engine.invariant_holds();
     let found = run_started(alloc, engine, gate);
-    engine.is_sound();
+    engine.invariant_holds();
     found
 }
 
@@ -150,7 +158,8 @@ fn run_bound<R: Rack + Drop, B: Resource, G: Gate>(
     requires plans { Each (λ p. IsPlanFor bound.catalog p × IsGoodPlan p) bound.plans.items }
     requires few { length bound.plans.items ≤ 256 }
     requires boxes { AreBoxes B.sort parts.resources.items }
-    ensures due { IsRunOf (asked G.Gate gate.old gate.new) bound.catalog bound.plans.items (files R.Rack parts.rack) (files R.Rack result.parts.rack) result.found }
+    ensures due { IsRunOf (asked G.Gate gate.old gate.new) bound.catalog bound.plans.items (files R.Rack parts.rack)
+        (files R.Rack result.parts.rack) result.found }
     ensures late { IfErr result.found (λ r. comes_before_files r ≡ false) }
     ensures said { IfOk result.found (λ s. s.status ≢ Status.IllFormed) }
     ensures back { AreBoxes B.sort result.parts.resources.items }
@@ -161,9 +170,9 @@ fn run_bound<R: Rack + Drop, B: Resource, G: Gate>(
     match opened(alloc, &catalog, parts) {
         Ok(engine) => {
             let mut engine = engine;
-            engine.is_sound();
+            engine.invariant_holds();
             let found = run_on(alloc, &mut engine, plans, gate);
-            engine.is_sound();
+            engine.invariant_holds();
             CommandEnd {
                 parts: engine.into_parts(),
                 found,
@@ -176,8 +185,8 @@ fn run_bound<R: Rack + Drop, B: Resource, G: Gate>(
     }
 }
 
-/// Runs each process of the source's scenario once, on the files of the parts, with a gate that works on one piece after another. The report of
-/// the history is written once all have ended or one is stuck.
+/// Runs each process of the source's scenario once, on the files of the parts, with a gate that works on one piece after another.
+/// The report of the history is written once all have ended or one is stuck.
 pub fn run<S: Source, R: Rack + Drop, B: Resource, G: Gate>(
     alloc: Global,
     source: &mut S,
@@ -185,8 +194,10 @@ pub fn run<S: Source, R: Rack + Drop, B: Resource, G: Gate>(
     gate: &mut G,
 ) -> CommandEnd<Parts<R, B>>
     requires boxes { AreBoxes B.sort parts.resources.items }
-    ensures due { IsRunDue (asked G.Gate gate.old gate.new) (input S.Source source.old) (input S.Source source.new) (files R.Rack parts.rack) (files R.Rack result.parts.rack) result.found }
-    ensures complete { IsRunComplete (input S.Source source.old) (input S.Source source.new) (files R.Rack parts.rack) (files R.Rack result.parts.rack) result.found }
+    ensures due { IsRunDue (asked G.Gate gate.old gate.new) (input S.Source source.old) (input S.Source source.new)
+        (files R.Rack parts.rack) (files R.Rack result.parts.rack) result.found }
+    ensures complete { IsRunComplete (input S.Source source.old) (input S.Source source.new) (files R.Rack parts.rack)
+        (files R.Rack result.parts.rack) result.found }
     ensures early { IfErr result.found (λ r. comes_before_files r ≡ true → result.parts.rack ≡ parts.rack) }
     ensures ill_formed { IfOk result.found (λ s. s.status ≡ Status.IllFormed → result.parts.rack ≡ parts.rack) }
     ensures back { AreBoxes B.sort result.parts.resources.items }

@@ -11,7 +11,8 @@ use std::alloc::Global;
 
 /// The catalog of the source's scenario, and the plans of its processes.
 pub fn scenario_from<S: Source>(alloc: Global, source: &mut S) -> Result<Bound, NoPlans>
-    ensures read { IfOk result (λ b. IsScenarioRead (input S.Source source.old) (input S.Source source.new) b.catalog b.plans.items) }
+    ensures read { IfOk result
+        (λ b. IsScenarioRead (input S.Source source.old) (input S.Source source.new) b.catalog b.plans.items) }
     ensures valid { IfOk result (λ b. IsCatalog b.catalog) }
     ensures refused { IfErr result (λ no. IsNoScenarioRead (input S.Source source.old) (input S.Source source.new) no) }
 {

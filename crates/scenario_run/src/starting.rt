@@ -32,7 +32,10 @@ fn start_one<R: Rack + Drop, B: Resource>(
     ensures core { OnOk result (engine.new.core ≡ after_start engine.old.core plan) }
     ensures ready { OnOk result (IsReady B.meaning B.sort engine.new) }
     ensures left { IfErr result (λ r. engine.new.core ≡ engine.old.core) }
-    ensures why { IfErr result (λ r. ((r ≡ Refusal.NoMemory) × (engine.new ≡ engine.old)) ⊎ ((r ≡ Refusal.DiskFault) × (engine.new.phase ≡ phase.Closed) × Rose (R.faults engine.old.files.rack) (R.faults engine.new.files.rack))) }
+    ensures why { IfErr result
+        (λ r. ((r ≡ Refusal.NoMemory) × (engine.new ≡ engine.old))
+        ⊎ ((r ≡ Refusal.DiskFault) × (engine.new.phase ≡ phase.Closed)
+        × Rose (R.faults engine.old.files.rack) (R.faults engine.new.files.rack))) }
     ensures goes { (may_start : List Plan') → IsOneOf may_start plan → GoesOn R.disk R.faults may_start engine.old engine.new }
     ensures fits { EachFits B.meaning B.sort engine.new.files.stores }
 {
@@ -57,15 +60,20 @@ pub fn start_all<R: Rack + Drop, B: Resource>(
     requires fit { limit_passed engine.old.core plans.items ≡ None }
     ensures started { OnOk result (engine.new.core ≡ with_started engine.old.core plans.items) }
     ensures ready { OnOk result (IsReady B.meaning B.sort engine.new) }
-    ensures cut_off { IfErr result (λ r. (started rest : List Plan') × (plans.items ≡ started ++ rest) × (engine.new.core ≡ with_started engine.old.core started)) }
-    ensures why { IfErr result (λ r. ((r ≡ Refusal.NoMemory) × IsReady B.meaning B.sort engine.new) ⊎ ((r ≡ Refusal.DiskFault) × (engine.new.phase ≡ phase.Closed) × Rose (R.faults engine.old.files.rack) (R.faults engine.new.files.rack))) }
+    ensures cut_off { IfErr result
+        (λ r. (started rest : List Plan') × (plans.items ≡ started ++ rest)
+        × (engine.new.core ≡ with_started engine.old.core started)) }
+    ensures why { IfErr result
+        (λ r. ((r ≡ Refusal.NoMemory) × IsReady B.meaning B.sort engine.new)
+        ⊎ ((r ≡ Refusal.DiskFault) × (engine.new.phase ≡ phase.Closed)
+        × Rose (R.faults engine.old.files.rack) (R.faults engine.new.files.rack))) }
     ensures goes { GoesOn R.disk R.faults plans.items engine.old engine.new }
     ensures fits { EachFits B.meaning B.sort engine.new.files.stores }
 {
-    engine.is_sound();
+    engine.invariant_holds();
     let mut rest = plans.into_iter();
     while let Some(plan) = rest.next() {
-        engine.is_sound();
+        engine.invariant_holds();
         start_one(alloc, engine, plan)?;
     }
     Ok(())

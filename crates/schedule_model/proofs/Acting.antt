@@ -1,14 +1,14 @@
 -- What an event that may come says of its process.
-use Rattle.std.proofs.Common.{◌≡◌, ℕ, eqb, ◌&&◌, if◌then◌else◌, List}
+use Rattle.std.proofs.Common.{◌≡◌, ℕ, ◌&&◌, if◌then◌else◌, List}
 use Rattle.std.specs.Bool.{IsTrue}
-use Rattle.std.proofs.lemmas.Bool.{and_parts, eqb-true}
+use Rattle.std.proofs.lemmas.Bool.{and_parts}
 use Rattle.process_tree.proofs.Entries.{same_access-true}
 use Rattle.process_tree.specs.Entries.{access_of}
 use Rattle.process_tree.specs.Conflicts.{same_access}
 use Rattle.process_tree.specs.declared.entry.Entry.{Entry}
 use Rattle.schedule_model.specs.declared.event.Event.{Event}
 use Rattle.schedule_model.specs.declared.event.Event.TheVariants.{Act, End}
-use Rattle.schedule_model.specs.Course.{Course, op_of, access_at}
+use Rattle.schedule_model.specs.Course.{Course, access_at}
 use Rattle.schedule_model.specs.Conflict.{ConflictRelation}
 use Rattle.schedule_model.specs.Histories.{is_active}
 use Rattle.schedule_model.specs.Recovery.{backward_entries}

@@ -12,7 +12,7 @@ use Rattle.schedule_model.specs.declared.event.Event.{Event}
 use Rattle.schedule_model.specs.declared.event.Event.TheVariants.{Start, Act, End}
 use Rattle.schedule_model.specs.declared.trace_step.TraceStep.TheVariants.{Cancel}
 use Rattle.schedule_model.specs.declared.trace_step.TraceStep.{TraceStep}
-use Rattle.schedule_model.specs.Course.{Course, op_of, access_at}
+use Rattle.schedule_model.specs.Course.{Course, access_at}
 use Rattle.schedule_model.specs.Conflict.{ConflictRelation, conflict, no_conflict}
 use Rattle.schedule_model.specs.EachEvent.{each_passes}
 use Rattle.schedule_model.specs.Histories.{acts, net, net_of, of_process, same_step, takes_back}

@@ -1,14 +1,16 @@
 -- What a step does to the recovery of its process, by its class.
-use Rattle.std.proofs.Common.{◌≡◌, ℕ, true, false, List, [], ◌∷◌, ◌++◌, map, length, drop, zero, suc, sym, refl, ap, ◌∙◌, arith}
+use Rattle.std.proofs.Common.{◌≡◌, ℕ, true, List, [], ◌∷◌, ◌++◌, map, length, drop, zero, suc, sym, refl, ap, ◌∙◌, arith}
 use Rattle.std.specs.List.{list_all}
 use Rattle.std.specs.Prelude.{nat_lt}
 use Rattle.std.proofs.lemmas.Bool.{and_parts}
 use Rattle.process_tree.specs.declared.entry.Entry.{Entry}
-use Rattle.process_tree.specs.Shape.{Shape, kind_of, commits, can_be_refused, fixed_len, goes_on_to}
-use Rattle.process_tree.specs.Recovery.{reserved, undoable, forward}
+use Rattle.process_tree.specs.Shape.{Shape, commits, commits_after, fixed_len, goes_on_to}
+use Rattle.process_tree.specs.Recovery.{reserved, forward}
 use Rattle.process_tree.specs.Laws.{HasClass}
 use Rattle.process_tree.proofs.TreeLaws.{next_steps_have_a_class, paths_lie_in_order}
 use Rattle.process_tree.proofs.InTurn.{arrive_on}
+use Rattle.process_tree.proofs.Fixed.{commits_there}
+use Rattle.process_tree.proofs.Onward.{branch_from}
 use Rattle.schedule_model.specs.declared.event.Event.{Event}
 use Rattle.schedule_model.specs.declared.event.Event.TheVariants.{Act}
 use Rattle.schedule_model.specs.Course.{Course, courses_of, shape}
@@ -36,14 +38,11 @@ module _ (courses : List Course) (h : List Event) (i b : ℕ) (plan : HasGoodPla
   class : HasClass t (net_steps h i) b
   class = next_steps_have_a_class t plan.tree plan.well_formed (net_steps h i) b on
 
-  pub reserved_commits : class_in courses h i b ≡ reserved → commits (kind_of t b) ≡ true
-  reserved_commits is = ap commits (class.reserved_is_retriable is)
+  there : commits_after t (net_steps h i) b ≡ commits t b
+  there = let laid = paths_lie_in_order t plan.tree in commits_there t (net_steps h i) b (branch_from t (net_steps h i) b laid.in_order laid.rising on)
 
-  reserved_never_refused : class_in courses h i b ≡ reserved → can_be_refused (kind_of t b) ≡ false
-  reserved_never_refused is = ap can_be_refused (class.reserved_is_retriable is)
-
-  undoable_not_commits : class_in courses h i b ≡ undoable → commits (kind_of t b) ≡ false
-  undoable_not_commits is = ap commits (class.undoable_is_compensatable is)
+  pub reserved_commits : class_in courses h i b ≡ reserved → commits_after t (net_steps h i) b ≡ true
+  reserved_commits is = there ∙ class.reserved_commits is
 
   pub facts : ClassFacts courses h after i b
   facts = record {
@@ -51,14 +50,14 @@ module _ (courses : List Course) (h : List Event) (i b : ℕ) (plan : HasGoodPla
     reserved_after = λ is. backward_entries-commit courses h (doing courses i b) refl (reserved_commits is);
     reserved_owes = λ is. ap (map (doing courses i)) (class.owed_first is)
         ∙ ap (λ w. doing courses i b ∷ map (doing courses i) (forward t w)) (sym (net_steps-do h (doing courses i b) refl));
-    reserved_succeeds = reserved_never_refused;
+    reserved_succeeds = class.reserved_is_not_refused;
     reserved_without_outcome = λ is.
         let laid = paths_lie_in_order t plan.tree in
-        arrive_on t (length t.kinds) (net_steps h i) b refl laid.rising laid.within on (reserved_never_refused is);
-    committing_after = λ is. backward_entries-commit courses h (doing courses i b) refl (class.committing_commits is);
+        arrive_on t (length t.kinds) (net_steps h i) b refl laid.rising laid.within on (class.reserved_is_not_refused is);
+    committing_after = λ is. backward_entries-commit courses h (doing courses i b) refl (there ∙ class.committing_commits is);
     committing_owes = λ is. owed-do courses h (doing courses i b) refl;
-    undoable_after = λ is. backward_entries-do courses h (doing courses i b) refl (undoable_not_commits is);
-    undoable_owes = λ is. owed-stays courses h (doing courses i b) refl (undoable_not_commits is);
+    undoable_after = λ is. backward_entries-do courses h (doing courses i b) refl (there ∙ class.undoable_stays is);
+    undoable_owes = λ is. owed-stays courses h (doing courses i b) refl (there ∙ class.undoable_stays is);
   }
 
 pub class-facts : ClassFactsHold

@@ -6,11 +6,11 @@ use Rattle.std.specs.List.{list_any, list_all, flat_map}
 use Rattle.std.proofs.lemmas.Bool.{eq-eqb, eqb-true, and_parts, false≢true, not-true}
 use Rattle.std.proofs.lemmas.List.Elements.{filter-append}
 use Rattle.process_tree.specs.declared.entry.Entry.{Entry}
-use Rattle.process_tree.specs.Shape.{commits, kind_of}
+use Rattle.process_tree.specs.Shape.{commits_after}
 use Rattle.schedule_model.specs.declared.event.Event.{Event}
 use Rattle.schedule_model.specs.declared.event.Event.TheVariants.{Act, End}
 use Rattle.schedule_model.specs.Course.{Course, shape}
-use Rattle.schedule_model.specs.Histories.{active, is_active, is_in, net, same_step, doing, undoing}
+use Rattle.schedule_model.specs.Histories.{active, is_active, is_in, net, net_steps, same_step, doing, undoing}
 use Rattle.schedule_model.specs.Recovery.{backward_entries, owed, owed_after}
 use Rattle.schedule_model.specs.Completion.{is_to_undo, all_backward_entries, closing, completion}
 use Rattle.schedule_model.proofs.Snoc.{net-do, net-end, net_of-other, net_of-end, backward_entries-by_net, owed-by_net, is_active-do, active-do, active-end}
@@ -24,7 +24,7 @@ none_through : {X : Type 0} (p q : X → Bool) (xs : List X) → ((x : X) → p 
 none_through p q xs h none = filter-none q xs (λ x is. h x (none_pass p xs none x is))
 
 module _ (courses : List Course) (h : List Event) (i : ℕ) (others : List ℕ) (first : active h ≡ i ∷ others) (undone : all_backward_entries courses h ≡ []) where
-  module _ (b : ℕ) (rest : List Entry) (next : owed courses h i ≡ doing courses i b ∷ rest) (point : commits (kind_of (shape courses i) b) ≡ true)
+  module _ (b : ℕ) (rest : List Entry) (next : owed courses h i ≡ doing courses i b ∷ rest) (point : commits_after (shape courses i) (net_steps h i) b ≡ true)
       (then_owed : owed_after courses h i b ≡ rest) where
     abbrev then_done : List Event
     then_done = h ++ Act (doing courses i b) ∷ []

@@ -9,12 +9,12 @@ use Rattle.process_tree.specs.Entries.{access_of}
 use Rattle.process_tree.specs.Conflicts.{same_access}
 use Rattle.process_tree.specs.declared.entry.Entry.{Entry}
 use Rattle.process_tree.specs.declared.plan.Plan.{Plan}
-use Rattle.process_tree.specs.Shape.{fixed_len, goes_on_to, is_end}
+use Rattle.process_tree.specs.Shape.{fixed_len, goes_on_to, is_end, IsBranch}
 use Rattle.process_tree.specs.Recovery.{forward, reserved}
 use Rattle.process_tree.proofs.TreeLaws.{paths_lie_in_order}
 use Rattle.schedule_model.specs.declared.event.Event.{Event}
 use Rattle.schedule_model.specs.declared.event.Event.TheVariants.{Act, End}
-use Rattle.schedule_model.specs.Course.{Course, courses_of, shape, op_of, access_at}
+use Rattle.schedule_model.specs.Course.{Course, courses_of, shape, access_at}
 use Rattle.schedule_model.specs.Conflict.{no_conflict}
 use Rattle.schedule_model.specs.Histories.{acts, active, is_active, is_in, doing, undoing, net, net_of, net_steps, done_steps, of_process, steps_of}
 use Rattle.schedule_model.specs.Recovery.{backward_entries, owed, owed_steps}
@@ -33,7 +33,7 @@ use Rattle.schedule_model.proofs.ClosingPhase.{completion-after_owed, completion
 use Rattle.schedule_model.proofs.GoodPlans.{good_if_goes_on}
 use Rattle.schedule_model.proofs.ClassFacts.{facts, reserved_commits}
 use Rattle.schedule_model.proofs.OwedPaths.{owed_is_reserved, first_owed, at_end, take_all}
-use Rattle.schedule_model.proofs.NetPaths.{IsBranch, net-branch, done-below_owed}
+use Rattle.schedule_model.proofs.NetPaths.{net-branch, done-below_owed}
 
 -- a list is empty, or has a last
 pub last_or_none : {X : Type 0} (xs : List X) → (xs ≡ []) ⊎ ((front : List X) × (x : X) × (xs ≡ front ++ x ∷ []))

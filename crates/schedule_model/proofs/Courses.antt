@@ -10,7 +10,7 @@ use Rattle.process_tree.specs.Shape.{fixed_len, goes_on_to, is_end}
 use Rattle.process_tree.specs.Recovery.{forward, class_of}
 use Rattle.schedule_model.specs.declared.event.Event.{Event}
 use Rattle.schedule_model.specs.declared.event.Event.TheVariants.{Start, Act, End}
-use Rattle.schedule_model.specs.Course.{Course, course, op_of, access_at}
+use Rattle.schedule_model.specs.Course.{Course, course, access_at}
 use Rattle.schedule_model.specs.Conflict.{ConflictRelation}
 use Rattle.schedule_model.specs.Histories.{net, active, is_active, is_in, doing, net_of, net_steps, done_steps}
 use Rattle.schedule_model.specs.Recovery.{backward_entries, owed_after}

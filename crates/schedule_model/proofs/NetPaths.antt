@@ -1,6 +1,6 @@
 -- In own order what stands of a process is the beginning of a whole path, and the first step that it owes is above each
 -- that took effect.
-use Rattle.std.proofs.Common.{◌≡◌, ◌⊎◌, inl, inr, ⊎_elim, ℕ, ◌+◌, ◌<◌, Bool, true, false, cond, eqb, ltb, ◌&&◌, List, [], ◌∷◌, ◌++◌, length, map, take, sym, refl, ap, ◌∙◌, subst, arith, append-nil, length-append}
+use Rattle.std.proofs.Common.{◌≡◌, inl, inr, ℕ, ◌+◌, ◌<◌, Bool, true, false, cond, eqb, ltb, ◌&&◌, List, [], ◌∷◌, ◌++◌, length, map, take, sym, refl, ap, ◌∙◌, subst, arith, append-nil, length-append}
 use Rattle.std.specs.Bool.{IsTrue}
 use Rattle.std.specs.List.{list_all}
 use Rattle.std.proofs.lemmas.Bool.{and_parts, and_from, eqb-true, ltb-true, lt-ltb}
@@ -8,12 +8,12 @@ use Rattle.std.proofs.lemmas.List.{map-append}
 use Rattle.std.proofs.lemmas.List.Folds.{list_all-append}
 use Rattle.process_tree.specs.declared.entry.Entry.{Entry}
 use Rattle.process_tree.specs.declared.plan.Plan.{Plan}
-use Rattle.process_tree.specs.Shape.{Shape, kind_of, commits, fixed_len, goes_on_to}
+use Rattle.process_tree.specs.Shape.{Shape, commits_after, fixed_len, goes_on_to, IsBranch}
 use Rattle.process_tree.specs.Recovery.{forward}
-use Rattle.process_tree.proofs.Reached.{goes_before}
-use Rattle.plain_list.proofs.Lasts.{last_cases}
+use Rattle.process_tree.proofs.Along.{before_goes, same_end}
 use Rattle.process_tree.proofs.InTurn.{goes_up}
 use Rattle.process_tree.proofs.TreeLaws.{paths_lie_in_order}
+use Rattle.process_tree.proofs.Fixed.{fixed_more}
 use Rattle.schedule_model.specs.declared.event.Event.{Event}
 use Rattle.schedule_model.specs.declared.event.Event.TheVariants.{Start, Act, End}
 use Rattle.schedule_model.specs.Course.{Course, courses_of, shape}
@@ -26,7 +26,7 @@ use Rattle.schedule_model.specs.Laws.{AreGood}
 use Rattle.schedule_model.proofs.Induction.{by_legal}
 use Rattle.schedule_model.proofs.Appends.{done_steps-append}
 use Rattle.schedule_model.proofs.Snoc.{net_of-other, net_of-start, net_of-end, done_steps-do, done_steps-undo}
-use Rattle.schedule_model.proofs.Recoveries.{fixed_len-push, net_steps-do}
+use Rattle.schedule_model.proofs.Recoveries.{net_steps-do}
 use Rattle.schedule_model.proofs.Rising.{step_goes_on}
 use Rattle.schedule_model.proofs.Apart.{list_all-weaker}
 use Rattle.schedule_model.proofs.Undoing.{undoes, owed_without}
@@ -34,31 +34,11 @@ use Rattle.schedule_model.proofs.GoodPlans.{HasGoodPlan, good_if_goes_on}
 use Rattle.schedule_model.proofs.OwedPaths.{first_owed, below_owed}
 use Rattle.schedule_model.proofs.FewActs.{done_other}
 
--- w is nothing, or goes along a whole path
-abbrev pub IsBranch : Shape → List ℕ → Type 0
-IsBranch t w = (w ≡ []) ⊎ ((v : List ℕ) × (a : ℕ) × (w ≡ v ++ a ∷ []) × (goes_on_to t v a ≡ true))
-
--- so does what stands before its last
-shorter : (t : Shape) (w : List ℕ) (b : ℕ) → goes_on_to t w b ≡ true → IsBranch t w
-shorter t w b on =
-    ⊎_elim (λ none. inl none) (λ some. inr (some.0, some.1, some.2, goes_before t some.0 some.1 b (sym (ap (λ v. goes_on_to t v b) some.2) ∙ on)))
-    (last_cases w)
-
-same_end : (v w : List ℕ) (a b : ℕ) → v ++ a ∷ [] ≡ w ++ b ∷ [] → (v ≡ w) × (a ≡ b)
-same_end [] [] a b e = (refl, cc)
-same_end [] (y ∷ w) a b e = let l = ap length e in let m = length-append w (b ∷ []) in absurd (omega arith)
-same_end (x ∷ v) [] a b e = let l = ap length e in let m = length-append v (a ∷ []) in absurd (omega arith)
-same_end (x ∷ v) (y ∷ w) a b e =
-    let first : x ≡ y = cc in
-    let later : v ++ a ∷ [] ≡ w ++ b ∷ [] = cc in
-    let rest = same_end v w a b later in
-    (ap (λ z. z ∷ v) first ∙ ap (λ zs. y ∷ zs) rest.0, rest.1)
-
 branch-shrinks : (t : Shape) (w : List ℕ) (b : ℕ) → IsBranch t (w ++ b ∷ []) → IsBranch t w
 branch-shrinks t w b (inl none) = let l = ap length none in let m = length-append w (b ∷ []) in absurd (omega arith)
 branch-shrinks t w b (inr is) =
     let same = same_end w is.0 b is.1 is.2 in
-    shorter t w is.1 (ap (λ v. goes_on_to t v is.1) same.0 ∙ is.3)
+    before_goes t w is.1 (ap (λ v. goes_on_to t v is.1) same.0 ∙ is.3)
 
 -- entries of these steps have these steps
 pub steps_of-doing : (courses : List Course) (i : ℕ) (bs : List ℕ) → steps_of (map (doing courses i) bs) ≡ bs
@@ -122,23 +102,23 @@ module _ (plans : List Plan) (good : AreGood plans) (i : ℕ) where
       list_all-append (λ x. ltb x b) ds (d ∷ []) ∙ and_from (list_all (λ x. ltb x b) ds) (ltb d b && true) all (and_from (ltb d b) true (lt-ltb d b less) refl)
 
   -- a step that isn't a commit point
-  below-undoable : (h after : List Event) (d : ℕ) → commits (kind_of t d) ≡ false → HasGoodPlan cs i → goes_on_to t (net_steps h i) d ≡ true
+  below-undoable : (h after : List Event) (d : ℕ) → commits_after t (net_steps h i) d ≡ false → HasGoodPlan cs i → goes_on_to t (net_steps h i) d ≡ true
       → net_steps after i ≡ net_steps h i ++ d ∷ [] → done_steps after i ≡ done_steps h i ++ d ∷ [] → BelowOwed cs i h → BelowOwed cs i after
   below-undoable h after d kind plan on net done is b rest next =
       let w = net_steps h i in
-      let same : forward t (w ++ d ∷ []) ≡ forward t w = owed_without t w d (fixed_len-push t w d ∙ ap (λ c. cond c (length w + 1) (fixed_len t w)) kind) in
+      let same : forward t (w ++ d ∷ []) ≡ forward t w = owed_without t w d (fixed_more t w d ∙ ap (λ c. cond c (length w + 1) (fixed_len t w)) kind) in
       let before : forward t w ≡ b ∷ rest = sym same ∙ (sym (ap (forward t) net) ∙ next) in
       let less = below_owed t (paths_lie_in_order t plan.tree) plan.well_formed w b d rest before on kind in
       subst (λ ds. IsTrue (list_all (λ x. ltb x b) ds)) (sym done) (push_below b d (done_steps h i) (is b rest before) less)
 
   -- a commit point
-  below-commit : (h after : List Event) (d : ℕ) → commits (kind_of t d) ≡ true → HasGoodPlan cs i → IsTrue (list_all (λ x. ltb x d) (done_steps h i))
+  below-commit : (h after : List Event) (d : ℕ) → commits_after t (net_steps h i) d ≡ true → HasGoodPlan cs i → IsTrue (list_all (λ x. ltb x d) (done_steps h i))
       → net_steps after i ≡ net_steps h i ++ d ∷ [] → done_steps after i ≡ done_steps h i ++ d ∷ [] → BelowOwed cs i after
   below-commit h after d kind plan high net done b rest next =
       let w = net_steps h i in
       let now : forward t (w ++ d ∷ []) ≡ b ∷ rest = sym (ap (forward t) net) ∙ next in
       let first = first_owed t (w ++ d ∷ []) b rest now in
-      let all : fixed_len t (w ++ d ∷ []) ≡ length w + 1 = fixed_len-push t w d ∙ ap (λ c. cond c (length w + 1) (fixed_len t w)) kind in
+      let all : fixed_len t (w ++ d ∷ []) ≡ length w + 1 = fixed_more t w d ∙ ap (λ c. cond c (length w + 1) (fixed_len t w)) kind in
       let long = length-append w (d ∷ []) in
       let whole : take (fixed_len t (w ++ d ∷ [])) (w ++ d ∷ []) ≡ w ++ d ∷ [] =
       ap (λ n. take n (w ++ d ∷ [])) (let e : fixed_len t (w ++ d ∷ []) ≡ length (w ++ d ∷ []) = omega arith in e) ∙ take_length (w ++ d ∷ []) in
@@ -151,13 +131,13 @@ module _ (plans : List Plan) (good : AreGood plans) (i : ℕ) where
       take_length [] = refl
       take_length (x ∷ xs) = ap (λ ys. x ∷ ys) (take_length xs)
 
-  below-step : (h after : List Event) (d : ℕ) (c : Bool) → commits (kind_of t d) ≡ c → IsTrue (goes_on cs h i d)
+  below-step : (h after : List Event) (d : ℕ) (c : Bool) → commits_after t (net_steps h i) d ≡ c → IsTrue (goes_on cs h i d)
       → net_steps after i ≡ net_steps h i ++ d ∷ [] → done_steps after i ≡ done_steps h i ++ d ∷ [] → BelowOwed cs i h → BelowOwed cs i after
   below-step h after d c kind goes net done is =
       let parts = and_parts (goes_on_to t (net_steps h i) d) (list_all (λ x. ltb x d) (done_steps h i)) goes in
       by_kind c kind parts (good_if_goes_on plans i (net_steps h i) d good parts.0)
     where
-      by_kind : (c : Bool) → commits (kind_of t d) ≡ c → (goes_on_to t (net_steps h i) d ≡ true) × (list_all (λ x. ltb x d) (done_steps h i) ≡ true) → HasGoodPlan cs i → BelowOwed cs i after
+      by_kind : (c : Bool) → commits_after t (net_steps h i) d ≡ c → (goes_on_to t (net_steps h i) d ≡ true) × (list_all (λ x. ltb x d) (done_steps h i) ≡ true) → HasGoodPlan cs i → BelowOwed cs i after
       by_kind true kind parts plan = below-commit h after d kind plan parts.1 net done
       by_kind false kind parts plan = below-undoable h after d kind plan parts.0 net done is
 
@@ -174,7 +154,7 @@ module _ (plans : List Plan) (good : AreGood plans) (i : ℕ) where
       (done_steps-undo h e i undo) is
   below-act h e legal may true false own is_step is =
       let same = eqb-true e.process i own in
-      below-step h (h ++ Act e ∷ []) e.step (commits (kind_of t e.step)) refl
+      below-step h (h ++ Act e ∷ []) e.step (commits_after t (net_steps h i) e.step) refl
       (subst (λ k. IsTrue (goes_on cs h k e.step)) same (step_goes_on no_conflict cs h e is_step may))
       (subst (λ k. net_steps (h ++ Act e ∷ []) k ≡ net_steps h k ++ e.step ∷ []) same (net_steps-do h e is_step))
       (subst (λ k. done_steps (h ++ Act e ∷ []) k ≡ done_steps h k ++ e.step ∷ []) same (done_steps-do h e is_step)) is

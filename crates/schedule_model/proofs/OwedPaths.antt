@@ -1,28 +1,19 @@
 -- The path that is owed: its first step goes on from what is fixed, and is above each step that can be undone.
-use Rattle.std.proofs.Common.{◌≡◌, ◌⊎◌, inl, inr, ⊎_elim, ℕ, zero, suc, ◌+◌, ◌<◌, ◌≤◌, Bool, true, false, cond, List, [], ◌∷◌, ◌++◌, length, take, drop, Option, Some, None, sym, refl, ap, ◌∙◌, subst, arith, append-nil, append_assoc, length-append, length-drop, nat_lt, ◌-◌, if◌then◌else◌}
+use Rattle.std.proofs.Common.{◌≡◌, ◌⊎◌, inl, inr, ⊎_elim, ℕ, zero, suc, ◌<◌, Bool, true, false, cond, List, [], ◌∷◌, ◌++◌, length, take, drop, Option, Some, None, sym, refl, ap, ◌∙◌, subst, arith, append-nil, length-append, length-drop, nat_lt, ◌-◌, if◌then◌else◌}
 use Rattle.std.proofs.lemmas.Bool.{eq-eqb, ne_eqb, false≢true, cases_eq}
-use Rattle.std.proofs.lemmas.List.{take-append-drop, drop-append-le}
+use Rattle.std.proofs.lemmas.List.{take-append-drop}
 use Rattle.process_tree.specs.Order.{Each, PartsBelow, IsLaidOut, has}
-use Rattle.process_tree.specs.Shape.{Shape, kind_of, commits, fixed_len, goes_on_to, next_steps, greater, greatest, is_end, is_whole}
-use Rattle.process_tree.specs.Recovery.{class_of, class_by_kind, forward, last_after, last_path, with_rest, reserved}
+use Rattle.process_tree.specs.Shape.{Shape, kind_of, commits_after, fixed_len, goes_on_to, next_steps, greater, greatest, is_end, is_whole, last_after, last_path, with_rest}
+use Rattle.process_tree.specs.Recovery.{class_of, class_by_kind, forward, reserved}
 use Rattle.process_tree.specs.Termination.{IsWellFormed}
 use Rattle.process_tree.specs.Laws.{IsTreeShape}
 use Rattle.process_tree.proofs.Branches.{Each-has, has_here}
-use Rattle.process_tree.proofs.Onward.{onward, onward_both, onward_has, goes_along, goes_on}
+use Rattle.process_tree.proofs.Onward.{onward, onward_both, onward_first, onward_has, goes_along, goes_on}
 use Rattle.process_tree.proofs.InTurn.{greatest_is, goes_within}
 use Rattle.process_tree.proofs.LastPath.{greatest_ge}
 use Rattle.process_tree.proofs.Wholes.{paths_part}
-use Rattle.process_tree.proofs.Classes.{owed_retriable}
+use Rattle.process_tree.proofs.Classes.{owed_commits, owed_not_left}
 use Rattle.process_tree.proofs.TreeLaws.{paths_lie_in_order, ends_are_whole}
-use Rattle.schedule_model.proofs.Recoveries.{fixed_len-push, fixed_len-most}
-
--- what holds of no steps and is kept by one more holds of each list
-pub by_last : (P : List ℕ → Type 0) → P [] → ((w : List ℕ) (b : ℕ) → P w → P (w ++ b ∷ [])) → (w : List ℕ) → P w
-by_last P nothing more w = from [] w nothing
-  where
-    from : (v w : List ℕ) → P v → P (v ++ w)
-    from v [] has = subst P (sym (append-nil v)) has
-    from v (b ∷ w) has = subst P (append_assoc v (b ∷ []) w) (from (v ++ b ∷ []) w (more v b has))
 
 pub take_all : (w : List ℕ) (n : ℕ) → drop n w ≡ [] → take n w ≡ w
 take_all w n none = sym (append-nil (take n w)) ∙ (ap (λ es. take n w ++ es) (sym none) ∙ take-append-drop n w)
@@ -31,33 +22,6 @@ cons_nothing : (x : ℕ) (xs : List ℕ) → x ∷ xs ≡ [] → ⊥
 cons_nothing x xs e = let l = ap length e in omega arith
 
 module _ (t : Shape) where
-  -- The tail that can be undone has no commit point.
-
-  abbrev NoneCommits : List ℕ → Type 0
-  NoneCommits w = Each (λ b. commits (kind_of t b) ≡ false) (drop (fixed_len t w) w)
-
-  Each-push : (P : ℕ → Type 0) (xs : List ℕ) (b : ℕ) → Each P xs → P b → Each P (xs ++ b ∷ [])
-  Each-push P [] b each one = (one, tt)
-  Each-push P (x ∷ xs) b each one = (each.0, Each-push P xs b each.1 one)
-
-  none_commits_more : (w : List ℕ) (b : ℕ) → NoneCommits w → (c : Bool) → commits (kind_of t b) ≡ c → NoneCommits (w ++ b ∷ [])
-  none_commits_more w b each true is =
-      let at : fixed_len t (w ++ b ∷ []) ≡ length w + 1 = fixed_len-push t w b ∙ ap (λ c. cond c (length w + 1) (fixed_len t w)) is in
-      let long = length-append w (b ∷ []) in
-      let left = length-drop (fixed_len t (w ++ b ∷ [])) (w ++ b ∷ []) in
-      no_more (drop (fixed_len t (w ++ b ∷ [])) (w ++ b ∷ [])) (omega arith)
-    where
-      no_more : (xs : List ℕ) → length xs ≤ 0 → Each (λ b. commits (kind_of t b) ≡ false) xs
-      no_more [] few = tt
-      no_more (x ∷ xs) few = absurd (omega arith)
-  none_commits_more w b each false is =
-      let at : fixed_len t (w ++ b ∷ []) ≡ fixed_len t w = fixed_len-push t w b ∙ ap (λ c. cond c (length w + 1) (fixed_len t w)) is in
-      subst (Each (λ b. commits (kind_of t b) ≡ false)) (sym (ap (λ n. drop n (w ++ b ∷ [])) at ∙ drop-append-le (fixed_len t w) w (b ∷ []) (fixed_len-most t w)))
-      (Each-push (λ b. commits (kind_of t b) ≡ false) (drop (fixed_len t w) w) b each is)
-
-  pub none_commits : (w : List ℕ) → NoneCommits w
-  none_commits w = by_last NoneCommits tt (λ w b each. none_commits_more w b each (commits (kind_of t b)) refl) w
-
   -- The first step that is owed.
 
   pub record FirstOwed (w : List ℕ) (b : ℕ) : Type 0 where
@@ -110,15 +74,6 @@ onward_within [] u p d on = onward_has u p d on
 onward_within (z ∷ v) u [] d on = absurd (cc)
 onward_within (z ∷ v) u (x ∷ p) d on = onward_within v u p d (onward_both z x d (v ++ u) p on).1
 
--- and so the path goes on from v with the first of those
-onward_first : (v u p : List ℕ) (x d : ℕ) → onward (v ++ x ∷ u) p ≡ Some d → onward v p ≡ Some x
-onward_first [] u [] x d on = absurd (cc)
-onward_first [] u (y ∷ p) x d on = ap Some (sym (onward_both x y d u p on).0)
-onward_first (z ∷ v) u [] x d on = absurd (cc)
-onward_first (z ∷ v) u (y ∷ p) x d on =
-    let both = onward_both z y d (v ++ x ∷ u) p on in
-    ap (λ b. if b then onward v p else None) (eq-eqb z y both.0) ∙ onward_first v u p x d both.1
-
 module _ (t : Shape) (laid : IsLaidOut (length t.kinds) t.paths) where
   -- what goes on behind a lesser next step is below a greater one
   pub below_next : (v u : List ℕ) (x b d : ℕ) → goes_on_to t (v ++ x ∷ u) d ≡ true → goes_on_to t v b ≡ true → x < b → d < b
@@ -142,19 +97,19 @@ module _ (t : Shape) (laid : IsLaidOut (length t.kinds) t.paths) where
     owed_head w b rest is = ap (has b) is ∙ has_here b b rest refl
 
     -- the first owed step is a commit point, so none that can be undone
-    owed_commits : (w : List ℕ) (b : ℕ) (rest : List ℕ) → forward t w ≡ b ∷ rest → commits (kind_of t b) ≡ true
-    owed_commits w b rest is = ap commits (owed_retriable t laid well w b (owed_head w b rest is))
+    owed_first_commits : (w : List ℕ) (b : ℕ) (rest : List ℕ) → forward t w ≡ b ∷ rest → commits_after t w b ≡ true
+    owed_first_commits w b rest is = owed_commits t laid well w b (owed_head w b rest is)
 
-    by_tail : (w u : List ℕ) (b d : ℕ) (rest : List ℕ) → drop (fixed_len t w) w ≡ u → Each (λ x. commits (kind_of t x) ≡ false) u → forward t w ≡ b ∷ rest
-        → goes_on_to t w d ≡ true → commits (kind_of t d) ≡ false → d < b
-    by_tail w [] b d rest tail none is on not_commit =
+    by_tail : (w u : List ℕ) (b d : ℕ) (rest : List ℕ) → drop (fixed_len t w) w ≡ u → forward t w ≡ b ∷ rest
+        → goes_on_to t w d ≡ true → commits_after t w d ≡ false → d < b
+    by_tail w [] b d rest tail is on not_commit =
         let first = first_owed t w b rest is in
         let whole = take_all w (fixed_len t w) tail in
         let on_v : goes_on_to t (take (fixed_len t w) w) d ≡ true = ap (λ v. goes_on_to t v d) whole ∙ on in
         let le = greatest_ge (next_steps t (take (fixed_len t w) w)) b d first.greatest on_v in
-        let apart : d ≡ b → ⊥ = λ e. false≢true (sym not_commit ∙ (ap (λ x. commits (kind_of t x)) e ∙ owed_commits w b rest is)) in
+        let apart : d ≡ b → ⊥ = λ e. false≢true (sym not_commit ∙ (ap (λ x. commits_after t w x) e ∙ owed_first_commits w b rest is)) in
         ⊎_elim (λ same. absurd (apart same)) (λ differ. omega arith) (cases_eq d b)
-    by_tail w (x ∷ u) b d rest tail none is on not_commit =
+    by_tail w (x ∷ u) b d rest tail is on not_commit =
         let v = take (fixed_len t w) w in
         let first = first_owed t w b rest is in
         let whole : w ≡ v ++ x ∷ u = sym (take-append-drop (fixed_len t w) w) ∙ ap (λ es. v ++ es) tail in
@@ -162,12 +117,12 @@ module _ (t : Shape) (laid : IsLaidOut (length t.kinds) t.paths) where
         let q = goes_along t (v ++ x ∷ u) d on' in
         let on_x = goes_on t v x q.0 q.1 (onward_first v u q.0 x d q.2) in
         let le = greatest_ge (next_steps t v) b x first.greatest on_x in
-        let apart : x ≡ b → ⊥ = λ e. false≢true (sym none.0 ∙ (ap (λ y. commits (kind_of t y)) e ∙ owed_commits w b rest is)) in
+        let apart : x ≡ b → ⊥ = λ e. owed_not_left t laid well w x u whole (ap (λ y. has y (forward t w)) e ∙ owed_head w b rest is) in
         ⊎_elim (λ same. absurd (apart same)) (λ differ. below_next v u x b d on' first.on (omega arith)) (cases_eq x b)
 
     -- a next step that isn't a commit point is below the first that is owed
-    pub below_owed : (w : List ℕ) (b d : ℕ) (rest : List ℕ) → forward t w ≡ b ∷ rest → goes_on_to t w d ≡ true → commits (kind_of t d) ≡ false → d < b
-    below_owed w b d rest is on not_commit = by_tail w (drop (fixed_len t w) w) b d rest refl (none_commits t w) is on not_commit
+    pub below_owed : (w : List ℕ) (b d : ℕ) (rest : List ℕ) → forward t w ≡ b ∷ rest → goes_on_to t w d ≡ true → commits_after t w d ≡ false → d < b
+    below_owed w b d rest is on not_commit = by_tail w (drop (fixed_len t w) w) b d rest refl is on not_commit
 
     -- where nothing is to be undone, the first owed step goes on, and is reserved
     pub owed_goes_on : (w : List ℕ) (b : ℕ) (rest : List ℕ) → drop (fixed_len t w) w ≡ [] → forward t w ≡ b ∷ rest → goes_on_to t w b ≡ true

@@ -1,46 +1,18 @@
 -- Recovery of a process that goes on or back by one step.
-use Rattle.std.proofs.Common.{◌≡◌, ℕ, ◌+◌, ◌≤◌, Bool, true, false, not, cond, eqb, ◌&&◌, List, [], ◌∷◌, ◌++◌, length, map, filter, drop, sym, refl, ap, ◌∙◌, arith}
+use Rattle.std.proofs.Common.{◌≡◌, ℕ, ◌+◌, true, false, not, cond, eqb, ◌&&◌, List, [], ◌∷◌, ◌++◌, length, map, filter, drop, sym, refl, ap, ◌∙◌, arith}
 use Rattle.std.proofs.Math.Bool.{and_comm}
 use Rattle.std.proofs.lemmas.List.{drop-append-le, length-append, map-append}
 use Rattle.std.proofs.Math.ListN.{drop_of_length-le}
 use Rattle.process_tree.specs.declared.entry.Entry.{Entry}
-use Rattle.process_tree.specs.Shape.{Shape, commits, kind_of, fixed_from, fixed_len}
+use Rattle.process_tree.specs.Shape.{commits_after, fixed_len}
 use Rattle.process_tree.specs.Recovery.{forward}
 use Rattle.schedule_model.specs.declared.event.Event.{Event}
 use Rattle.schedule_model.specs.declared.event.Event.TheVariants.{Act}
 use Rattle.schedule_model.specs.Course.{Course, shape}
 use Rattle.schedule_model.specs.Histories.{doing, net, net_of, net_steps, same_step, steps_of, of_process}
 use Rattle.schedule_model.specs.Recovery.{backward_entries, owed, owed_after}
+use Rattle.process_tree.proofs.Fixed.{fixed_le, fixed_more}
 use Rattle.schedule_model.proofs.Snoc.{net_of-do, net-undo, filter_twice, filter_same}
-
-fixed_step : (t : Shape) (b : ℕ) (n i j last : ℕ) (c : Bool) → i + 1 + n ≡ j → cond c (i + 1 + n + 1) last ≡ cond c (j + 1) last
-fixed_step t b n i j last true e = ap (λ k. k + 1) e
-fixed_step t b n i j last false e = refl
-
--- a commit point fixes all up to itself, and another step fixes nothing more
-pub fixed_from-push : (t : Shape) (w : List ℕ) (b i last : ℕ)
-    → fixed_from t (w ++ b ∷ []) i last ≡ cond (commits (kind_of t b)) (i + length w + 1) (fixed_from t w i last)
-fixed_from-push t [] b i last = ap (λ k. cond (commits (kind_of t b)) (k + 1) last) (omega arith)
-fixed_from-push t (x ∷ w) b i last =
-    let before = cond (commits (kind_of t x)) (i + 1) last in
-    fixed_from-push t w b (i + 1) before
-    ∙ fixed_step t b (length w) i (i + length (x ∷ w)) (fixed_from t w (i + 1) before) (commits (kind_of t b)) (omega arith)
-
-pub fixed_len-push : (t : Shape) (w : List ℕ) (b : ℕ) → fixed_len t (w ++ b ∷ []) ≡ cond (commits (kind_of t b)) (length w + 1) (fixed_len t w)
-fixed_len-push t w b = fixed_from-push t w b 0 0 ∙ ap (λ k. cond (commits (kind_of t b)) (k + 1) (fixed_len t w)) (omega arith)
-
-by_commit : (i last : ℕ) (c : Bool) → last ≤ i → cond c (i + 1) last ≤ i + 1
-by_commit i last true le = omega arith
-by_commit i last false le = omega arith
-
-fixed_from-most : (t : Shape) (w : List ℕ) (i last : ℕ) → last ≤ i → fixed_from t w i last ≤ i + length w
-fixed_from-most t [] i last le = omega arith
-fixed_from-most t (x ∷ w) i last le =
-    let l = fixed_from-most t w (i + 1) (cond (commits (kind_of t x)) (i + 1) last) (by_commit i last (commits (kind_of t x)) le) in omega arith
-
--- no more steps are fixed than there are
-pub fixed_len-most : (t : Shape) (w : List ℕ) → fixed_len t w ≤ length w
-fixed_len-most t w = let l = fixed_from-most t w 0 0 (omega arith) in omega arith
 
 pub steps_count : (es : List Entry) → length (steps_of es) ≡ length es
 steps_count [] = refl
@@ -58,15 +30,15 @@ owed-do courses h e is_step = ap (λ w. map (doing courses e.process) (forward (
 
 undoable_at : (courses : List Course) (h : List Event) (e : Entry) → e.undo ≡ false
     → backward_entries courses (h ++ Act e ∷ []) e.process
-    ≡ drop (cond (commits (kind_of (shape courses e.process) e.step)) (length (net_steps h e.process) + 1) (fixed_len (shape courses e.process) (net_steps h e.process))) (net_of h e.process ++ e ∷ [])
+    ≡ drop (cond (commits_after (shape courses e.process) (net_steps h e.process) e.step) (length (net_steps h e.process) + 1) (fixed_len (shape courses e.process) (net_steps h e.process))) (net_of h e.process ++ e ∷ [])
 undoable_at courses h e is_step =
     ap (λ es. drop (fixed_len (shape courses e.process) (steps_of es)) es) (net_of-do h e is_step)
     ∙ ap (λ k. drop k (net_of h e.process ++ e ∷ []))
     (ap (fixed_len (shape courses e.process)) (map-append (λ (x : Entry). x.step) (net_of h e.process) (e ∷ []))
-    ∙ fixed_len-push (shape courses e.process) (net_steps h e.process) e.step)
+    ∙ fixed_more (shape courses e.process) (net_steps h e.process) e.step)
 
 -- after a commit point nothing can be undone any more
-pub backward_entries-commit : (courses : List Course) (h : List Event) (e : Entry) → e.undo ≡ false → commits (kind_of (shape courses e.process) e.step) ≡ true
+pub backward_entries-commit : (courses : List Course) (h : List Event) (e : Entry) → e.undo ≡ false → commits_after (shape courses e.process) (net_steps h e.process) e.step ≡ true
     → backward_entries courses (h ++ Act e ∷ []) e.process ≡ []
 backward_entries-commit courses h e is_step is =
     undoable_at courses h e is_step
@@ -74,13 +46,13 @@ backward_entries-commit courses h e is_step is =
     ∙ drop_of_length-le (net_of h e.process ++ e ∷ []) (omega (arith, length-append (net_of h e.process) (e ∷ []), steps_count (net_of h e.process))))
 
 -- another step can be undone too
-pub backward_entries-do : (courses : List Course) (h : List Event) (e : Entry) → e.undo ≡ false → commits (kind_of (shape courses e.process) e.step) ≡ false
+pub backward_entries-do : (courses : List Course) (h : List Event) (e : Entry) → e.undo ≡ false → commits_after (shape courses e.process) (net_steps h e.process) e.step ≡ false
     → backward_entries courses (h ++ Act e ∷ []) e.process ≡ backward_entries courses h e.process ++ e ∷ []
 backward_entries-do courses h e is_step is =
     undoable_at courses h e is_step
     ∙ (ap (λ c. drop (cond c (length (net_steps h e.process) + 1) (fixed_len (shape courses e.process) (net_steps h e.process))) (net_of h e.process ++ e ∷ [])) is
     ∙ drop-append-le (fixed_len (shape courses e.process) (net_steps h e.process)) (net_of h e.process) (e ∷ [])
-    (omega (arith, fixed_len-most (shape courses e.process) (net_steps h e.process), steps_count (net_of h e.process))))
+    (omega (arith, fixed_le (shape courses e.process) (net_steps h e.process), steps_count (net_of h e.process))))
 
 -- The net of a process after an undo of its own.
 

@@ -8,7 +8,7 @@ use Rattle.process_tree.specs.Conflicts.{same_access}
 use Rattle.process_tree.specs.declared.entry.Entry.{Entry}
 use Rattle.schedule_model.specs.declared.event.Event.{Event}
 use Rattle.schedule_model.specs.declared.event.Event.TheVariants.{Start, Act, End}
-use Rattle.schedule_model.specs.Course.{Course, shape, op_of, access_at}
+use Rattle.schedule_model.specs.Course.{Course, shape, access_at}
 use Rattle.schedule_model.specs.Conflict.{ConflictRelation}
 use Rattle.schedule_model.specs.Histories.{acts, net_acts, net, net_of, net_steps, done_steps, same_step, steps_of, of_process, takes_back, is_active}
 use Rattle.schedule_model.specs.OwnOrder.{entry_keeps_order, goes_on, is_of_last}

@@ -8,7 +8,7 @@ use Rattle.process_tree.specs.declared.plan.Plan.{Plan}
 use Rattle.process_tree.specs.Recovery.{reserved}
 use Rattle.schedule_model.specs.declared.event.Event.TheVariants.{Act, End}
 use Rattle.schedule_model.specs.declared.event.Event.{Event}
-use Rattle.schedule_model.specs.Course.{Course, courses_of, op_of, access_at}
+use Rattle.schedule_model.specs.Course.{Course, courses_of, access_at}
 use Rattle.schedule_model.specs.Conflict.{ConflictRelation, IsSymmetric, conflict}
 use Rattle.schedule_model.specs.Histories.{active, after_number, doing, ends, is_active, is_in, net, net_of, outlives, same_step, starts, undoing}
 use Rattle.schedule_model.specs.Recovery.{owed, backward_entries}

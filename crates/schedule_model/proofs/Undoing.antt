@@ -6,8 +6,9 @@ use Rattle.std.proofs.lemmas.Bool.{eqb-true, and_from, and_parts, false≢true, 
 use Rattle.std.proofs.lemmas.List.Elements.{filter-append}
 use Rattle.std.proofs.lemmas.List.{take-append-drop, drop-append-le, take-append-le, map-append, length-append, length-drop}
 use Rattle.process_tree.specs.declared.entry.Entry.{Entry}
-use Rattle.process_tree.specs.Shape.{Shape, commits, kind_of, fixed_len}
-use Rattle.process_tree.specs.Recovery.{forward, last_after}
+use Rattle.process_tree.specs.Shape.{Shape, commits_after, fixed_len, last_after}
+use Rattle.process_tree.specs.Recovery.{forward}
+use Rattle.process_tree.proofs.Fixed.{fixed_more, fixed_le}
 use Rattle.schedule_model.specs.declared.event.Event.{Event}
 use Rattle.schedule_model.specs.declared.event.Event.TheVariants.{Act}
 use Rattle.schedule_model.specs.Course.{Course, shape}
@@ -16,7 +17,7 @@ use Rattle.schedule_model.specs.Histories.{doing, net_of, net_steps, same_step, 
 use Rattle.schedule_model.specs.Recovery.{backward_entries, owed}
 use Rattle.schedule_model.specs.OwnOrder.{is_of_last}
 use Rattle.schedule_model.specs.Legal.{may_come, is_legal}
-use Rattle.schedule_model.proofs.Recoveries.{fixed_len-push, fixed_len-most, net_of-undo, steps_count, net_steps-do}
+use Rattle.schedule_model.proofs.Recoveries.{net_of-undo, steps_count, net_steps-do}
 use Rattle.schedule_model.proofs.Rising.{Rising, net_steps-rising, undo_is_of_last}
 
 -- a list that ends with an entry of this step
@@ -55,15 +56,15 @@ lesser_steps_stay e (x ∷ xs) all =
 -- The last entry of a net goes, where it is of the backward recovery: nothing else was fixed by it.
 
 fixed_at_last : (t : Shape) (front : List Entry) (x : Entry)
-    → fixed_len t (steps_of (front ++ x ∷ [])) ≡ cond (commits (kind_of t x.step)) (length (steps_of front) + 1) (fixed_len t (steps_of front))
-fixed_at_last t front x = ap (fixed_len t) (map-append (λ (f : Entry). f.step) front (x ∷ [])) ∙ fixed_len-push t (steps_of front) x.step
+    → fixed_len t (steps_of (front ++ x ∷ [])) ≡ cond (commits_after t (steps_of front) x.step) (length (steps_of front) + 1) (fixed_len t (steps_of front))
+fixed_at_last t front x = ap (fixed_len t) (map-append (λ (f : Entry). f.step) front (x ∷ [])) ∙ fixed_more t (steps_of front) x.step
 
 nothing_left : (front us : List Entry) (x : Entry) (n : ℕ) → n ≡ length (steps_of front) + 1 → drop n (front ++ x ∷ []) ≡ us ++ x ∷ [] → ⊥
 nothing_left front us x n is left =
     let few = ap length left in
     omega (arith, few, length-drop n (front ++ x ∷ []), length-append front (x ∷ []), length-append us (x ∷ []), steps_count front)
 
-by_kind : (t : Shape) (front us : List Entry) (x : Entry) (c : Bool) → commits (kind_of t x.step) ≡ c
+by_kind : (t : Shape) (front us : List Entry) (x : Entry) (c : Bool) → commits_after t (steps_of front) x.step ≡ c
     → drop (fixed_len t (steps_of (front ++ x ∷ []))) (front ++ x ∷ []) ≡ us ++ x ∷ [] → fixed_len t (steps_of (front ++ x ∷ [])) ≡ fixed_len t (steps_of front)
 by_kind t front us x true is left =
     absurd (nothing_left front us x (fixed_len t (steps_of (front ++ x ∷ []))) (fixed_at_last t front x ∙ ap (λ c. cond c (length (steps_of front) + 1) (fixed_len t (steps_of front))) is) left)
@@ -72,16 +73,16 @@ by_kind t front us x false is left = fixed_at_last t front x ∙ ap (λ c. cond 
 -- the same steps are fixed without it
 fixed_without : (t : Shape) (front us : List Entry) (x : Entry)
     → drop (fixed_len t (steps_of (front ++ x ∷ []))) (front ++ x ∷ []) ≡ us ++ x ∷ [] → fixed_len t (steps_of (front ++ x ∷ [])) ≡ fixed_len t (steps_of front)
-fixed_without t front us x = by_kind t front us x (commits (kind_of t x.step)) refl
+fixed_without t front us x = by_kind t front us x (commits_after t (steps_of front) x.step) refl
 
 fixed_within : (t : Shape) (front : List Entry) → fixed_len t (steps_of front) ≤ length front
-fixed_within t front = subst (λ n. fixed_len t (steps_of front) ≤ n) (steps_count front) (fixed_len-most t (steps_of front))
+fixed_within t front = subst (λ n. fixed_len t (steps_of front) ≤ n) (steps_count front) (fixed_le t (steps_of front))
 
 -- the path that is owed stays the same
 pub owed_without : (t : Shape) (ws : List ℕ) (b : ℕ) → fixed_len t (ws ++ b ∷ []) ≡ fixed_len t ws → forward t (ws ++ b ∷ []) ≡ forward t ws
 owed_without t ws b same =
     ap (λ k. if eqb k 0 then [] else last_after t (take k (ws ++ b ∷ []))) same
-    ∙ ap (λ vs. if eqb (fixed_len t ws) 0 then [] else last_after t vs) (take-append-le (fixed_len t ws) ws (b ∷ []) (fixed_len-most t ws))
+    ∙ ap (λ vs. if eqb (fixed_len t ws) 0 then [] else last_after t vs) (take-append-le (fixed_len t ws) ws (b ∷ []) (fixed_le t ws))
 
 -- what an undo does to its process: its net and its backward recovery lose their last entry, and what it owes stays
 pub record Undoes (courses : List Course) (e : Entry) (h after : List Event) : Type 0 where
@@ -141,11 +142,11 @@ pub undoes : (table : ConflictRelation) (courses : List Course) (h : List Event)
 undoes table courses h e legal undo may = undoes_last table courses h e legal undo (undo_is_of_last table courses h e undo may)
 
 -- a step that can be undone leaves what its process owes, too
-pub owed-stays : (courses : List Course) (h : List Event) (e : Entry) → e.undo ≡ false → commits (kind_of (shape courses e.process) e.step) ≡ false
+pub owed-stays : (courses : List Course) (h : List Event) (e : Entry) → e.undo ≡ false → commits_after (shape courses e.process) (net_steps h e.process) e.step ≡ false
     → owed courses (h ++ Act e ∷ []) e.process ≡ owed courses h e.process
 owed-stays courses h e is_step backward_entries =
     let t = shape courses e.process in
     let ws = net_steps h e.process in
     ap (map (doing courses e.process))
     (ap (forward t) (net_steps-do h e is_step)
-    ∙ owed_without t ws e.step (fixed_len-push t ws e.step ∙ ap (λ c. cond c (length ws + 1) (fixed_len t ws)) backward_entries))
+    ∙ owed_without t ws e.step (fixed_more t ws e.step ∙ ap (λ c. cond c (length ws + 1) (fixed_len t ws)) backward_entries))

@@ -23,7 +23,8 @@ closing courses h i = map Act (owed courses h i) ++ End i ∷ []
 -- the events that completion adds: the undo of every backward recovery, the last entry first, and then for each active
 -- process by number what it owes and its end
 abbrev pub completion : List Course → List Event → List Event
-completion courses h = map (λ e. Act (undoing e)) (reverse (all_backward_entries courses h)) ++ flat_map (closing courses h) (active h)
+completion courses h =
+    map (λ e. Act (undoing e)) (reverse (all_backward_entries courses h)) ++ flat_map (closing courses h) (active h)
 
 -- a history with its completion
 abbrev pub completed : List Course → List Event → List Event

@@ -27,7 +27,8 @@ allowance_of s = record { tries = s.tries; undo_tries = s.undo_tries; refuse = s
 
 -- the course of a plan
 abbrev pub course_of : Plan → Course
-course_of p = record { shape = shape_of p.tree; ops = p.ops; keys = keys_of p.tree; allowances = map allowance_of (outline p.tree).steps }
+course_of p =
+    record { shape = shape_of p.tree; ops = p.ops; keys = keys_of p.tree; allowances = map allowance_of (outline p.tree).steps }
 
 -- the courses of these plans
 abbrev pub courses_of : List Plan → List Course

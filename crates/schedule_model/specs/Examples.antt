@@ -13,7 +13,8 @@ use Rattle.schedule_model.specs.OwnOrder.{keeps_order}
 use Rattle.schedule_model.specs.Legal.{is_legal, is_reducible, first_illegal}
 use Rattle.schedule_model.specs.Reduction.{applied, applied_all, is_serial, not_serial}
 use Rattle.schedule_model.specs.PrintedTrace.{printed_trace}
-use Rattle.schedule_model.specs.Samples.{stock_table, goods_table, of_goods, purchase, sale, delivery, addition, order, nested, did, undid}
+use Rattle.schedule_model.specs.Samples.{stock_table, goods_table, of_goods, purchase, sale, delivery, addition, order, nested, did}
+use Rattle.schedule_model.specs.Samples.{undid}
 
 -- process 1 is a purchase, and process 2 a sale
 abbrev pub shop : List Course
@@ -60,11 +61,13 @@ pub cut_off_trace : (printed_trace shop (Start 1 ∷ Start 2 ∷ did shop 1 0 �
 cut_off_trace = refl
 
 -- both cut off: what was done last is undone first
-pub both_cut_off : completion shop (Start 1 ∷ Start 2 ∷ did shop 1 0 ∷ did shop 2 0 ∷ []) ≡ undid shop 2 0 ∷ undid shop 1 0 ∷ End 1 ∷ End 2 ∷ []
+pub both_cut_off : completion shop (Start 1 ∷ Start 2 ∷ did shop 1 0 ∷ did shop 2 0 ∷ [])
+    ≡ undid shop 2 0 ∷ undid shop 1 0 ∷ End 1 ∷ End 2 ∷ []
 both_cut_off = refl
 
 -- the undo of what the sale builds on comes too early
-pub undone_too_early : first_illegal stock_table shop (Start 1 ∷ Start 2 ∷ did shop 1 0 ∷ did shop 2 0 ∷ undid shop 1 0 ∷ []) ≡ Some 5
+pub undone_too_early : first_illegal stock_table shop (Start 1 ∷ Start 2 ∷ did shop 1 0 ∷ did shop 2 0 ∷ undid shop 1 0 ∷ [])
+    ≡ Some 5
 undone_too_early = refl
 
 -- both undone: two cancels, and nothing is left
@@ -141,7 +144,8 @@ ordered_is_legal = refl
 pub ordered_net : net (ordered ++ ordered_end) ≡ doing counter 2 0 ∷ doing counter 2 4 ∷ []
 ordered_net = refl
 
-pub ordered_trace : printed_trace counter ordered ≡ record { steps = Cancel 3 ∷ Cancel 2 ∷ []; list = doing counter 2 0 ∷ doing counter 2 4 ∷ [] }
+pub ordered_trace : printed_trace counter ordered
+    ≡ record { steps = Cancel 3 ∷ Cancel 2 ∷ []; list = doing counter 2 0 ∷ doing counter 2 4 ∷ [] }
 ordered_trace = refl
 
 -- once the second way of a nested choice was gone and the last one taken back, the second may not come any more

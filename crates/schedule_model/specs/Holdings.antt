@@ -70,7 +70,14 @@ reaches table g k i = leads (arrow table g) (holders g) k i
 
 -- what process i holds while nothing is under way and nothing pending
 abbrev pub hold_at_rest : List Course → List Event → ℕ → Hold
-hold_at_rest courses h i = record { process = i; running = None; reserved = owed courses h i; pending = []; backward_entries = backward_entries courses h i }
+hold_at_rest courses h i =
+    record {
+      process = i;
+      running = None;
+      reserved = owed courses h i;
+      pending = [];
+      backward_entries = backward_entries courses h i;
+    }
 
 -- what all active processes hold then
 abbrev pub at_rest : List Course → List Event → Holdings

@@ -1,5 +1,6 @@
 -- The laws of histories, as statements.
-use Rattle.std.specs.Prelude.{◌≡◌, ℕ, ◌+◌, ◌*◌, ◌≤◌, false, not, List, [], ◌∷◌, ◌++◌, length, take, flat_map, nat_lt, IsTrue, Some, None}
+use Rattle.std.specs.Prelude.{◌≡◌, ℕ, ◌+◌, ◌*◌, ◌≤◌, false, not, List, [], ◌∷◌, ◌++◌, length, take, flat_map, nat_lt, IsTrue, Some}
+use Rattle.std.specs.Prelude.{None}
 use Rattle.std.specs.List.{Contains, list_any, list_all}
 use Rattle.process_tree.specs.Entries.{access_of}
 use Rattle.process_tree.specs.declared.entry.Entry.{Entry}
@@ -13,9 +14,10 @@ use Rattle.process_tree.specs.Recovery.{StepClass, reserved, committing, undoabl
 use Rattle.schedule_model.specs.declared.event.Event.{Event}
 use Rattle.schedule_model.specs.declared.event.Event.TheVariants.{Act}
 use Rattle.schedule_model.specs.declared.trace_step.TraceStep.{TraceStep}
-use Rattle.schedule_model.specs.Course.{Course, course, courses_of, op_of, shape, access_at}
+use Rattle.schedule_model.specs.Course.{Course, course, courses_of, shape, access_at}
 use Rattle.schedule_model.specs.Conflict.{ConflictRelation, IsSymmetric, conflict}
-use Rattle.schedule_model.specs.Histories.{acts, starts, ends, active, is_active, is_in, net, net_of, net_steps, of_process, outlives, same_step, doing}
+use Rattle.schedule_model.specs.Histories.{acts, starts, ends, active, is_active, is_in, net, net_of, net_steps, of_process}
+use Rattle.schedule_model.specs.Histories.{outlives, same_step, doing}
 use Rattle.schedule_model.specs.Recovery.{backward_entries, owed, owed_after}
 use Rattle.schedule_model.specs.Completion.{completed}
 use Rattle.schedule_model.specs.OwnOrder.{goes_on, is_at_end, is_in_own_order}
@@ -58,7 +60,8 @@ plans_in plans g = take (length (starts g)) plans
 
 -- Prefix law: each beginning of a legal history is legal, with the plans of those that started in it.
 abbrev pub PrefixLaw : Type 0
-PrefixLaw = (table : ConflictRelation) (plans : List Plan) (g k : List Event) → IsGood table plans (g ++ k) → IsGood table (plans_in plans g) g
+PrefixLaw = (table : ConflictRelation) (plans : List Plan) (g k : List Event) → IsGood table plans (g ++ k)
+    → IsGood table (plans_in plans g) g
 
 -- Each beginning of a history has what every call asks, with the plans of those that started in it.
 abbrev pub BeginningsArePlanned : Type 0
@@ -80,7 +83,8 @@ FirstIllegalIsExact = (table : ConflictRelation) (courses : List Course) (h : Li
 
 -- Each beginning of a history within limits is within them.
 abbrev pub BeginningsKeepLimits : Type 0
-BeginningsKeepLimits = (l : Limits) (courses : List Course) (g k : List Event) → IsTrue (keeps_limits l courses (g ++ k)) → IsTrue (keeps_limits l courses g)
+BeginningsKeepLimits = (l : Limits) (courses : List Course) (g k : List Event) → IsTrue (keeps_limits l courses (g ++ k))
+    → IsTrue (keeps_limits l courses g)
 
 -- Of a legal one it is so with the plans of those that started in it alone.
 abbrev pub LimitsOfBeginnings : Type 0
@@ -89,11 +93,13 @@ LimitsOfBeginnings = (l : Limits) (table : ConflictRelation) (plans : List Plan)
 
 -- Completion of a history within limits is within them.
 abbrev pub CompletionKeepsLimits : Type 0
-CompletionKeepsLimits = (l : Limits) (courses : List Course) (h : List Event) → IsTrue (keeps_limits l courses h) → IsTrue (keeps_limits l courses (completed courses h))
+CompletionKeepsLimits = (l : Limits) (courses : List Course) (h : List Event) → IsTrue (keeps_limits l courses h)
+    → IsTrue (keeps_limits l courses (completed courses h))
 
 -- And it stands within them: what is added was counted when its processes started.
 abbrev pub CompletedStandsWithin : Type 0
-CompletedStandsWithin = (l : Limits) (plans : List Plan) (h : List Event) → AreGood plans → IsTrue (is_in_own_order (courses_of plans) h)
+CompletedStandsWithin = (l : Limits) (plans : List Plan) (h : List Event) → AreGood plans
+    → IsTrue (is_in_own_order (courses_of plans) h)
     → IsTrue (keeps_limits l (courses_of plans) h) → IsTrue (stands_within l (courses_of plans) (completed (courses_of plans) h))
 
 -- In own order a process has at most twice as many acts as steps.
@@ -114,20 +120,23 @@ AllAtEnds courses h = (i : ℕ) → IsTrue (is_in i (starts h)) → IsTrue (is_a
 
 -- In own order each process that ended is at an end.
 abbrev pub EndedAreAtEnds : Type 0
-EndedAreAtEnds = (courses : List Course) (h : List Event) (i : ℕ) → IsTrue (is_in_own_order courses h) → IsTrue (is_in i (ends h)) → IsTrue (is_at_end courses h i)
+EndedAreAtEnds = (courses : List Course) (h : List Event) (i : ℕ) → IsTrue (is_in_own_order courses h) → IsTrue (is_in i (ends h))
+    → IsTrue (is_at_end courses h i)
 
 -- Completion law of own order: of a history in own order, the completed one is in own order, nobody is active in it, and
 -- each process is at an end.
 abbrev pub OwnOrderCompletionLaw : Type 0
 OwnOrderCompletionLaw = (plans : List Plan) (h : List Event) → AreGood plans → IsTrue (is_in_own_order (courses_of plans) h)
     → let courses = courses_of plans in
-    IsTrue (is_in_own_order courses (completed courses h)) × (active (completed courses h) ≡ []) × AllAtEnds courses (completed courses h)
+    IsTrue (is_in_own_order courses (completed courses h)) × (active (completed courses h) ≡ [])
+    × AllAtEnds courses (completed courses h)
 
 -- Completion law: a completed history is legal, no process is active in it, and each is at an end.
 abbrev pub CompletionLaw : Type 0
 CompletionLaw = (table : ConflictRelation) (plans : List Plan) (h : List Event) → IsGood table plans h
     → let courses = courses_of plans in
-    IsTrue (is_legal table courses (completed courses h)) × (active (completed courses h) ≡ []) × AllAtEnds courses (completed courses h)
+    IsTrue (is_legal table courses (completed courses h)) × (active (completed courses h) ≡ [])
+    × AllAtEnds courses (completed courses h)
 
 -- Completion is stable: what is cut off while it is completed is completed to the same. Own order is enough.
 abbrev pub CompletionIsStable : Type 0
@@ -139,7 +148,8 @@ CompletionIsStable = (plans : List Plan) (h part rest : List Event) → AreGood 
 
 -- Trace steps that apply in turn are exchanges of neighbours and cancels, one after another.
 abbrev pub AppliedStepsReduce : Type 0
-AppliedStepsReduce = (table : ConflictRelation) (steps : List TraceStep) (xs ys : List Entry) → applied_all table steps xs ≡ Some ys → AreReduced table xs ys
+AppliedStepsReduce = (table : ConflictRelation) (steps : List TraceStep) (xs ys : List Entry) → applied_all table steps xs ≡ Some ys
+    → AreReduced table xs ys
 
 -- the printed trace leads from the schedule of h to a serial list
 pub record Reduces (table : ConflictRelation) (h : List Event) : Type 0 where
@@ -178,7 +188,8 @@ pub record ClassFacts (courses : List Course) (h after : List Event) (i b : ℕ)
   pub committing_after : class_in courses h i b ≡ committing → backward_entries courses after i ≡ []
   pub committing_owes : class_in courses h i b ≡ committing → owed courses after i ≡ owed_after courses h i b
   -- an undoable step adds itself to what can be undone, and what is owed stays
-  pub undoable_after : class_in courses h i b ≡ undoable → backward_entries courses after i ≡ backward_entries courses h i ++ doing courses i b ∷ []
+  pub undoable_after : class_in courses h i b ≡ undoable
+      → backward_entries courses after i ≡ backward_entries courses h i ++ doing courses i b ∷ []
   pub undoable_owes : class_in courses h i b ≡ undoable → owed courses after i ≡ owed courses h i
 
 -- They hold of each step that goes on, over good plans.
@@ -194,7 +205,8 @@ pub record StandingFacts (table : ConflictRelation) (courses : List Course) (h :
       → Contains (net_of h k ++ owed courses h k) e → conflict table s e ≡ false
   -- before a net entry of an active process that can't be undone stands no net entry of another active process that conflicts
   pub fixed_is_free : (i k : ℕ) (x e : Entry) → IsTrue (is_active h i) → IsTrue (is_active h k) → Contains (net_of h k) x
-      → Contains (net_of h i) e → IsTrue (not (list_any (same_step e) (backward_entries courses h i))) → Contains (behind x (net h)) e
+      → Contains (net_of h i) e → IsTrue (not (list_any (same_step e) (backward_entries courses h i)))
+      → Contains (behind x (net h)) e
       → conflict table x e ≡ false
   -- no net entry of an ended process conflicts with an earlier net entry of a process that is active, or ended after it
   pub ended_is_free : (i k : ℕ) (x e : Entry) → IsTrue (is_in i (ends h)) → IsTrue (outlives h k i) → Contains (net_of h k) x
@@ -202,7 +214,8 @@ pub record StandingFacts (table : ConflictRelation) (courses : List Course) (h :
 
 -- They hold of each legal history.
 abbrev pub StandingFactsHold : Type 0
-StandingFactsHold = (table : ConflictRelation) (plans : List Plan) (h : List Event) → IsGood table plans h → StandingFacts table (courses_of plans) h
+StandingFactsHold = (table : ConflictRelation) (plans : List Plan) (h : List Event) → IsGood table plans h
+    → StandingFacts table (courses_of plans) h
 
 -- Openings are acyclic: the conflict graph of a legal history has no circle.
 abbrev pub OpeningsAreAcyclic : Type 0
@@ -211,7 +224,8 @@ OpeningsAreAcyclic = (table : ConflictRelation) (plans : List Plan) (h : List Ev
 
 -- What stands against a step or an end is the same without those that have ended.
 pub record EndedAreAside (table : ConflictRelation) (g : Holdings) : Type 0 where
-  pub steps : (class : StepClass) (b : Entry) (owed : List Entry) → against_step table (of_active g) class b owed ≡ against_step table g class b owed
+  pub steps : (class : StepClass) (b : Entry) (owed : List Entry)
+      → against_step table (of_active g) class b owed ≡ against_step table g class b owed
   pub to_end : (i : ℕ) → against_end table (of_active g) i ≡ against_end table g i
 
 abbrev pub EndedDontBlockSteps : Type 0

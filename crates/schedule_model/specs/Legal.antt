@@ -56,7 +56,8 @@ first_illegal table courses h = first_illegal_from table courses 1 [] h
 -- an event keeps own order, and nothing stands against it if it is an undo or an end
 abbrev pub keeps_and_ends_clear : ConflictRelation → List Course → List Event → Event → Bool
 keeps_and_ends_clear table courses h (Start i) = keeps_order courses h (Start i)
-keeps_and_ends_clear table courses h (Act e) = keeps_order courses h (Act e) && (if e.undo then is_clear table courses h (Act e) else true)
+keeps_and_ends_clear table courses h (Act e) =
+    keeps_order courses h (Act e) && (if e.undo then is_clear table courses h (Act e) else true)
 keeps_and_ends_clear table courses h (End i) = keeps_order courses h (End i) && is_clear table courses h (End i)
 
 -- a history is reducible where each of its events is so: less than legal, and enough for the reduction

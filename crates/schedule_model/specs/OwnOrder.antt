@@ -7,7 +7,7 @@ use Rattle.process_tree.specs.declared.entry.Entry.{Entry}
 use Rattle.process_tree.specs.Shape.{goes_on_to, is_end}
 use Rattle.schedule_model.specs.declared.event.Event.{Event}
 use Rattle.schedule_model.specs.declared.event.Event.TheVariants.{Start, Act, End}
-use Rattle.schedule_model.specs.Course.{Course, shape, op_of, access_at}
+use Rattle.schedule_model.specs.Course.{Course, shape, access_at}
 use Rattle.schedule_model.specs.EachEvent.{each_passes}
 use Rattle.schedule_model.specs.Histories.{is_active, starts, done_steps, net_steps, same_step}
 use Rattle.schedule_model.specs.Recovery.{backward_entries}

@@ -41,7 +41,8 @@ goods_table a b = stock_table a b && nat_eq a.key b.key
 
 -- steps one after another
 abbrev pub line : List StepKind → List ℕ → Course
-line kinds ops = record { shape = record { kinds = kinds; paths = numbers_from 0 (length kinds) ∷ [] }; ops = ops; keys = []; allowances = [] }
+line kinds ops =
+    record { shape = record { kinds = kinds; paths = numbers_from 0 (length kinds) ∷ [] }; ops = ops; keys = []; allowances = [] }
 
 -- a purchase adds to the stock, and pays
 abbrev pub purchase : Course

@@ -1,5 +1,9 @@
 // The laws of histories: each function says one, and does nothing.
-ghost use Rattle.schedule_model.specs.Laws.{PrefixLaw, BeginningsArePlanned, FirstIllegalIsExact, BeginningsKeepLimits, CompletionKeepsLimits, CompletedStandsWithin, ActsAreFew, LimitsHold, EndedAreAtEnds, OwnOrderCompletionLaw, CompletionLaw, CompletionIsStable, StandingFactsHold, OpeningsAreAcyclic, LimitsOfBeginnings, EndedDontBlockUndos, AppliedStepsReduce, ReductionLaw, PrefixReducibility, ClassFactsHold, EndedDontBlockSteps};
+ghost use Rattle.schedule_model.specs.Laws.{PrefixLaw, BeginningsArePlanned, FirstIllegalIsExact, BeginningsKeepLimits};
+ghost use Rattle.schedule_model.specs.Laws.{CompletionKeepsLimits, CompletedStandsWithin, ActsAreFew, LimitsHold, EndedAreAtEnds};
+ghost use Rattle.schedule_model.specs.Laws.{OwnOrderCompletionLaw, CompletionLaw, CompletionIsStable, StandingFactsHold};
+ghost use Rattle.schedule_model.specs.Laws.{OpeningsAreAcyclic, LimitsOfBeginnings, EndedDontBlockUndos, AppliedStepsReduce};
+ghost use Rattle.schedule_model.specs.Laws.{ReductionLaw, PrefixReducibility, ClassFactsHold, EndedDontBlockSteps};
 ghost use Rattle.schedule_model.specs.PlannedExample.{ShopIsPlanned};
 
 /// Each beginning of a legal history is legal, with the plans of those that started in it.

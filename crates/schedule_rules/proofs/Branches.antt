@@ -1,5 +1,5 @@
 -- The branch that what stands of a process goes along.
-use Rattle.std.proofs.Common.{◌≡◌, inl, inr, ℕ, zero, suc, ◌-◌, ◌<◌, ◌≤◌, true, if◌then◌else◌, List, [], ◌∷◌, ◌++◌, length, take, drop, get_or, Some, None, sym, refl, ap, ◌∙◌, subst, arith, append_assoc, length-append, length-take}
+use Rattle.std.proofs.Common.{◌≡◌, inl, inr, ℕ, zero, suc, ◌-◌, ◌<◌, ◌≤◌, true, if◌then◌else◌, List, [], ◌∷◌, ◌++◌, length, take, drop, get_or, None, sym, refl, ap, ◌∙◌, subst, arith, append_assoc, length-take}
 use Rattle.std.proofs.Math.Seq.{split_at}
 use Rattle.std.proofs.lemmas.Bool.{eq-eqb, ne_eqb}
 use Rattle.process_tree.specs.declared.block.Block.{Block}
@@ -7,36 +7,13 @@ use Rattle.process_tree.specs.declared.plan.Plan.{Plan}
 use Rattle.process_tree.specs.Blocks.{outline}
 use Rattle.process_tree.specs.Making.{tree_fault}
 use Rattle.process_tree.specs.Order.{Each}
-use Rattle.process_tree.specs.Recovery.{forward, last_after}
-use Rattle.process_tree.specs.Shape.{Shape, shape_of, fixed_len, goes_on_to, branch_to}
+use Rattle.process_tree.specs.Recovery.{forward}
+use Rattle.process_tree.specs.Shape.{shape_of, fixed_len, goes_on_to, branch_to, last_after, IsBranch}
 use Rattle.process_tree.proofs.InTurn.{step_within}
 use Rattle.process_tree.proofs.GoesBack.{done_is, done_within}
-use Rattle.process_tree.proofs.Onward.{onward, onward_both, goes_along, goes_on}
+use Rattle.process_tree.proofs.Along.{goes_there}
+use Rattle.process_tree.proofs.Fixed.{fixed_le}
 use Rattle.schedule_model.specs.Course.{course_of, courses_of, no_course}
-use Rattle.schedule_model.proofs.Recoveries.{fixed_len-most}
-use Rattle.schedule_rules.specs.Recovering.{IsBranch}
-
--- a step on the way to another goes on from what stands before it
-prefix_onward : (u y v p : List ℕ) (x a : ℕ) → onward v p ≡ Some a → v ++ a ∷ [] ≡ u ++ x ∷ y → onward u p ≡ Some x
-prefix_onward [] y [] p x a on e = let same : a ≡ x = cc in on ∙ ap Some same
-prefix_onward [] y (b ∷ v) [] x a on e = absurd (cc)
-prefix_onward [] y (b ∷ v) (q ∷ p) x a on e =
-    let both = onward_both b q a v p on in
-    let same : b ≡ x = cc in
-    ap Some (sym both.0 ∙ same)
-prefix_onward (z ∷ u) y [] p x a on e = let l = ap length e in let m = length-append u (x ∷ y) in absurd (omega arith)
-prefix_onward (z ∷ u) y (b ∷ v) [] x a on e = absurd (cc)
-prefix_onward (z ∷ u) y (b ∷ v) (q ∷ p) x a on e =
-    let both = onward_both b q a v p on in
-    let same : b ≡ z = cc in
-    let later : v ++ a ∷ [] ≡ u ++ x ∷ y = cc in
-    ap (λ t. if t then onward u p else None) (eq-eqb z q (sym same ∙ both.0)) ∙ prefix_onward u y v p x a both.1 later
-
-pub prefix_goes : (t : Shape) (w u y : List ℕ) (x : ℕ) → IsBranch t w → w ≡ u ++ x ∷ y → goes_on_to t u x ≡ true
-prefix_goes t w u y x (inl none) is = let l = ap length (sym none ∙ is) in let m = length-append u (x ∷ y) in absurd (omega arith)
-prefix_goes t w u y x (inr some) is =
-    let along = goes_along t some.0 some.1 some.3 in
-    goes_on t u x along.0 along.1 (prefix_onward u y some.0 along.0 x some.1 along.2 (sym some.2 ∙ is))
 
 each_and : (P : ℕ → Type 0) (v : List ℕ) (a : ℕ) → Each P v → P a → Each P (v ++ a ∷ [])
 each_and P [] a each is = (is, tt)
@@ -62,7 +39,7 @@ module _ (root : Block) (good : tree_fault root ≡ None) where
     done = take n w
 
     many : length done ≡ n
-    many = let le = fixed_len-most (shape_of root) w in omega (arith, length-take n w, is)
+    many = let le = fixed_le (shape_of root) w in omega (arith, length-take n w, is)
 
     together : (k : ℕ) (xs : List ℕ) → take k xs ++ drop k xs ≡ xs
     together zero [] = refl
@@ -77,8 +54,10 @@ module _ (root : Block) (good : tree_fault root ≡ None) where
 
     goes : (d : ℕ) → 1 ≤ length done → goes_on_to (shape_of root) (take (length done - 1) done) (get_or done (length done - 1) d) ≡ true
     goes d some =
-        prefix_goes (shape_of root) w (take (length done - 1) done) (drop n w) (get_or done (length done - 1) d) branch
+        goes_there (shape_of root) (take (length done - 1) done) (get_or done (length done - 1) d) (drop n w)
+        (subst (IsBranch (shape_of root))
         (sym (together n w) ∙ (ap (λ es. es ++ drop n w) (split d some) ∙ append_assoc (take (length done - 1) done) (get_or done (length done - 1) d ∷ []) (drop n w)))
+        branch)
 
     pub last_within : (d : ℕ) → 1 ≤ length done → get_or done (length done - 1) d < length (outline root).steps
     last_within d some = step_within root (take (length done - 1) done) (get_or done (length done - 1) d) good (goes d some)

@@ -7,14 +7,14 @@ use Rattle.process_tree.specs.declared.entry.Entry.{Entry}
 use Rattle.process_tree.specs.declared.plan.Plan.{Plan}
 use Rattle.process_tree.specs.Blocks.{outline}
 use Rattle.process_tree.specs.Order.{Each}
-use Rattle.process_tree.specs.Shape.{shape_of, fixed_len}
+use Rattle.process_tree.specs.Shape.{shape_of, fixed_len, IsBranch}
 use Rattle.schedule_model.specs.Course.{Course, course_of}
 use Rattle.schedule_model.specs.Histories.{of_process, steps_of}
 use Rattle.schedule_model.specs.Laws.{IsGoodPlan}
 use Rattle.schedule_model.specs.OwnOrder.{is_of_last}
 use Rattle.schedule_model.proofs.Members.{Among, among_there, in_map}
 use Rattle.schedule_model.proofs.Undoing.{ends_with}
-use Rattle.schedule_rules.specs.Recovering.{IsBranch, backward_among, owed_by}
+use Rattle.schedule_rules.specs.Recovering.{backward_among, owed_by}
 use Rattle.schedule_rules.proofs.Branches.{steps_within}
 use Rattle.schedule_rules.proofs.ListTests.{each-among}
 

@@ -1,18 +1,14 @@
 -- Recovery, said of the entries that stand: the net of a history alone.
-use Rattle.std.specs.Prelude.{◌≡◌, ◌⊎◌, ◌<◌, ◌≤◌, ℕ, true, false, List, [], ◌∷◌, ◌++◌, length, drop, map, flat_map, slice_index_or}
+use Rattle.std.specs.Prelude.{◌<◌, ◌≤◌, ℕ, false, List, [], ◌∷◌, ◌++◌, length, drop, map, flat_map, slice_index_or}
 use Rattle.process_tree.specs.declared.entry.Entry.{Entry}
 use Rattle.process_tree.specs.declared.plan.Plan.{Plan}
 use Rattle.process_tree.specs.Order.{Each}
 use Rattle.process_tree.specs.Recovery.{forward}
-use Rattle.process_tree.specs.Shape.{Shape, fixed_len, goes_on_to}
+use Rattle.process_tree.specs.Shape.{fixed_len, IsBranch}
 use Rattle.schedule_model.specs.declared.event.Event.{Event}
 use Rattle.schedule_model.specs.declared.event.Event.TheVariants.{Act, End}
 use Rattle.schedule_model.specs.Course.{Course, course, courses_of, shape}
 use Rattle.schedule_model.specs.Histories.{of_process, steps_of}
-
--- w is nothing, or goes along a whole path
-abbrev pub IsBranch : Shape → List ℕ → Type 0
-IsBranch t w = (w ≡ []) ⊎ ((v : List ℕ) × (a : ℕ) × (w ≡ v ++ a ∷ []) × (goes_on_to t v a ≡ true))
 
 -- there is a plan for process i, and what stands of it goes along a whole path
 abbrev pub StandsOnBranch : List Plan → List Entry → ℕ → Type 0

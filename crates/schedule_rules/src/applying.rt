@@ -1,5 +1,6 @@
 // Reduction steps applied to a list.
-ghost use Rattle.std.specs.Prelude.{◌≡◌, ◌<◌, ◌≤◌, ◌-◌, ◌+◌, suc, ◌∷◌, ◌++◌, length, Option, Some, None, MatchOption, List, vec_capacity};
+ghost use Rattle.std.specs.Prelude.{◌≡◌, ◌<◌, ◌≤◌, ◌-◌, ◌+◌, suc, ◌∷◌, ◌++◌, length, Option, Some, None, MatchOption, List};
+ghost use Rattle.std.specs.Prelude.{vec_capacity};
 ghost use Rattle.std.specs.List.{list_all};
 ghost use Rattle.process_tree.specs.declared.entry.Entry.{Entry};
 ghost use Rattle.process_tree.specs.Conflicts.{operations_in, do_conflict};
@@ -85,7 +86,8 @@ fn can_be_passed(c: &Conflicts, entry: &Entry, others: &[Entry]) -> bool
 fn first_to_last(list: &mut [Entry], start: usize, end: usize)
     requires some { start < end }
     requires within { end ≤ length list.old }
-    ensures turned { (front : List Entry) (x : Entry) (bs rest : List Entry) → list.old ≡ front ++ x ∷ (bs ++ rest) → start ≡ length front → end ≡ start + suc (length bs) → list.new ≡ front ++ (bs ++ x ∷ rest) }
+    ensures turned { (front : List Entry) (x : Entry) (bs rest : List Entry) → list.old ≡ front ++ x ∷ (bs ++ rest)
+        → start ≡ length front → end ≡ start + suc (length bs) → list.new ≡ front ++ (bs ++ x ∷ rest) }
     ensures len { length list.new ≡ length list.old }
 {
     list[start..end].rotate_left(1);
@@ -95,7 +97,8 @@ fn first_to_last(list: &mut [Entry], start: usize, end: usize)
 fn last_to_first(list: &mut [Entry], start: usize, end: usize)
     requires some { start < end }
     requires within { end ≤ length list.old }
-    ensures turned { (front : List Entry) (x : Entry) (bs rest : List Entry) → list.old ≡ front ++ (bs ++ x ∷ rest) → start ≡ length front → end ≡ start + suc (length bs) → list.new ≡ front ++ x ∷ (bs ++ rest) }
+    ensures turned { (front : List Entry) (x : Entry) (bs rest : List Entry) → list.old ≡ front ++ (bs ++ x ∷ rest)
+        → start ≡ length front → end ≡ start + suc (length bs) → list.new ≡ front ++ x ∷ (bs ++ rest) }
     ensures len { length list.new ≡ length list.old }
 {
     list[start..end].rotate_right(1);

@@ -4,14 +4,15 @@ ghost use Rattle.std.specs.List.{list_any};
 ghost use Rattle.process_tree.specs.declared.entry.Entry.{Entry};
 ghost use Rattle.process_tree.specs.Making.{tree_fault};
 ghost use Rattle.process_tree.specs.Recovery.{forward};
-ghost use Rattle.process_tree.specs.Shape.{shape_of};
+ghost use Rattle.process_tree.specs.Shape.{shape_of, IsBranch};
 ghost use Rattle.schedule_model.specs.declared.event.Event.TheVariants.{Act, End};
 ghost use Rattle.schedule_model.specs.Completion.{completion};
 ghost use Rattle.schedule_model.specs.Course.{courses_of, course_of};
 ghost use Rattle.schedule_model.specs.Histories.{active, starts, ends, is_in, of_process, same_step, steps_of, undoing};
 ghost use Rattle.schedule_model.specs.Laws.{AreGood, IsPlanned};
 ghost use Rattle.schedule_model.specs.OwnOrder.{is_in_own_order};
-ghost use Rattle.schedule_rules.specs.Recovering.{StandsOnBranches, IsBranch, backward_among, all_backward, owed_by, closed_by, closing_among};
+ghost use Rattle.schedule_rules.specs.Recovering.{StandsOnBranches, backward_among, all_backward, owed_by, closed_by};
+ghost use Rattle.schedule_rules.specs.Recovering.{closing_among};
 
 use crate::events::{is_same_step, net};
 use crate::planned::entry_of;
@@ -190,7 +191,10 @@ fn undos(
 ) -> Result<Vec<Event>, AllocError>
     requires good { AreGood plans.now }
     requires branches { StandsOnBranches plans.now entries.now processes.now }
-    ensures { IfOk result (λ added. added.items ≡ map (λ e. Act (undoing e)) (reverse (filter (λ e. list_any (same_step e) (all_backward (courses_of plans.now) entries.now processes.now)) entries.now))) }
+    ensures { IfOk result
+        (λ added. added.items ≡ map (λ e. Act (undoing e))
+        (reverse (filter (λ e. list_any (same_step e)
+        (all_backward (courses_of plans.now) entries.now processes.now)) entries.now))) }
 {
     let backward = backward_of_all(alloc, plans, entries, processes)?;
     undos_among(alloc, entries, &backward)
@@ -198,7 +202,9 @@ fn undos(
 
 /// The undos of those of these entries that are listed, the last entry first.
 fn undos_among(alloc: Global, entries: &[Entry], listed: &[Entry]) -> Result<Vec<Event>, AllocError>
-    ensures { IfOk result (λ added. added.items ≡ map (λ e. Act (undoing e)) (reverse (filter (λ e. list_any (same_step e) listed.now) entries.now))) }
+    ensures { IfOk result
+        (λ added. added.items ≡ map (λ e. Act (undoing e))
+        (reverse (filter (λ e. list_any (same_step e) listed.now) entries.now))) }
 {
     let mut added = Vec::new(alloc);
     let mut rest = entries;

@@ -1,5 +1,6 @@
 -- The lines of a driver one after another, each with its answer before the next is taken.
-use Rattle.std.specs.Prelude.{⊤, ◌≡◌, ◌≢◌, ◌⊎◌, ◌≤◌, ◌<◌, ◌+◌, ◌-◌, ◌^◌, ℕ, List, [], ◌∷◌, ◌++◌, flat_map, length, min, codes, Option, Some, None}
+use Rattle.std.specs.Prelude.{⊤, ◌≡◌, ◌≢◌, ◌⊎◌, ◌≤◌, ◌<◌, ◌+◌, ◌-◌, ◌^◌, ℕ, List, [], ◌∷◌, ◌++◌, flat_map, length, min, codes}
+use Rattle.std.specs.Prelude.{Option, Some, None}
 use Rattle.std.specs.Io.KnownBytes.{Appends, Consumes, IsAtEnd}
 use Rattle.process_flow.specs.Causes.{Rose}
 use Rattle.process_flow.specs.declared.source.Source.{Ghosts as Sources}
@@ -69,12 +70,14 @@ pub record Exchange : Type 0 where
 -- what a line is answered; one that is too long has no form
 abbrev pub IsAnswered : Catalog → List Plan → DriverState → ℕ → List ℕ → DriverState → List ℕ → Type 0
 IsAnswered c plans s n line t text =
-    ((length line ≤ most_line) × IsLineAnswered c plans s n line t text) ⊎ ((most_line < length line) × (t ≡ s) × (text ≡ line_of (bad_line_words n)))
+    ((length line ≤ most_line) × IsLineAnswered c plans s n line t text)
+    ⊎ ((most_line < length line) × (t ≡ s) × (text ≡ line_of (bad_line_words n)))
 
 -- lines of which the first has the number n lead from one state to another, each with its answer
 abbrev pub AreAnswered : Catalog → List Plan → DriverState → ℕ → List Exchange → DriverState → Type 0
 AreAnswered c plans s n [] t = s ≡ t
-AreAnswered c plans s n (x ∷ xs) t = (m : DriverState) × IsAnswered c plans s n x.line m x.answer × AreAnswered c plans m (next_number n) xs t
+AreAnswered c plans s n (x ∷ xs) t =
+    (m : DriverState) × IsAnswered c plans s n x.line m x.answer × AreAnswered c plans m (next_number n) xs t
 
 -- A dialogue between two lines: its source with the bytes that came and no line took, its sink, its engine with the pieces that are
 -- unfinished, and the number of the next line.
@@ -88,7 +91,8 @@ pub record DialogueState (S K R B : Type 0) : Type 0 where
 
 -- the dialogue of these
 abbrev pub state_at : {S K R B : Type 0} → S → List ℕ → K → EngineState R B → List Handed → ℕ → DialogueState S K R B
-state_at source ready sink engine unfinished number = record { source = source; ready = ready; sink = sink; engine = engine; unfinished = unfinished; number = number }
+state_at source ready sink engine unfinished number =
+    record { source = source; ready = ready; sink = sink; engine = engine; unfinished = unfinished; number = number }
 
 -- what a driver sees of it
 abbrev pub driver_state : {S K R B : Type 0} → DialogueState S K R B → DriverState
@@ -99,10 +103,12 @@ pub record IsBetween {R B : Type 0} (r : Racks R) (e : EngineState R B) : Type 0
   pub machine : IsCore e.core
   pub settled : e.phase ≡ Settled
   pub read : Told (r.disk e.files.rack) → IsSound e.catalog (full_history e.core) (r.disk e.files.rack).files
-  pub each : Told (r.disk e.files.rack) → EachImage (r.disk e.files.rack) (r.disk e.files.rack).moment (IsSound e.catalog (full_history e.core))
+  pub each : Told (r.disk e.files.rack) → EachImage (r.disk e.files.rack) (r.disk e.files.rack).moment
+      (IsSound e.catalog (full_history e.core))
 
 -- One line and its answer, from one state of a dialogue to the next.
-pub record IsExchange {S K R B : Type 0} (s : Sources S) (k : Sinks K) (r : Racks R) (plans : List Plan) (x : Exchange) (a b : DialogueState S K R B) : Type 0 where
+pub record IsExchange {S K R B : Type 0} (s : Sources S) (k : Sinks K) (r : Racks R) (plans : List Plan) (x : Exchange)
+    (a b : DialogueState S K R B) : Type 0 where
   -- the line was taken
   pub given : List ℕ
   pub consumed : Consumes (s.left a.source) (s.left b.source) given
@@ -121,10 +127,13 @@ pub record IsExchange {S K R B : Type 0} (s : Sources S) (k : Sinks K) (r : Rack
   pub no_write_fault : k.faults b.sink ≡ k.faults a.sink
   pub next : b.number ≡ next_number a.number
 
--- Lines and their answers, one after another: each begins in the state in which the one before ended, so its line is taken once the answer before was given.
-abbrev pub AreExchanged : {S K R B : Type 0} → Sources S → Sinks K → Racks R → List Plan → DialogueState S K R B → List Exchange → DialogueState S K R B → Type 0
+-- Lines and their answers, one after another: each begins in the state in which the one before ended, so its line is taken once the
+-- answer before was given.
+abbrev pub AreExchanged : {S K R B : Type 0} → Sources S → Sinks K → Racks R → List Plan → DialogueState S K R B → List Exchange
+    → DialogueState S K R B → Type 0
 AreExchanged s k r plans a [] b = a ≡ b
-AreExchanged {S} {K} {R} {B} s k r plans a (x ∷ xs) b = (m : DialogueState S K R B) × IsExchange s k r plans x a m × AreExchanged s k r plans m xs b
+AreExchanged {S} {K} {R} {B} s k r plans a (x ∷ xs) b =
+    (m : DialogueState S K R B) × IsExchange s k r plans x a m × AreExchanged s k r plans m xs b
 
 -- what is printed of lines
 abbrev pub printed_of : List Exchange → List ℕ
@@ -144,9 +153,9 @@ abbrev pub IsInFront : Option (List ℕ) → List ℕ → Type 0
 IsInFront None bytes = ⊤
 IsInFront (Some line) bytes = (behind : List ℕ) × (cut 10 bytes ≡ Some (line, behind))
 
--- How a dialogue ends behind the lines that were answered, with what is printed last: by `stop`, or with its input; by a fault, or for want of memory, which
--- has a line; or the answer to line n, which was taken last, was not given whole. What the machine kept is what the answered lines make; or, where
--- memory was wanting to print that answer or it was not given whole, that line too.
+-- How a dialogue ends behind the lines that were answered, with what is printed last: by `stop`, or with its input; by a fault, or
+-- for want of memory, which has a line; or the answer to line n, which was taken last, was not given whole. What the machine kept
+-- is what the answered lines make; or, where memory was wanting to print that answer or it was not given whole, that line too.
 abbrev pub EndsWith : Catalog → List Plan → DriverState → ℕ → Option (List ℕ) → List ℕ → CoreState → Status → Type 0
 EndsWith c plans last n unanswered tail now Done = (tail ≡ []) × (now ≡ last.core)
 EndsWith c plans last n unanswered tail now ReadFault = (tail ≡ refusal_line refusals.ReadFault) × (now ≡ last.core)
@@ -162,18 +171,21 @@ EndsWith c plans last n unanswered tail now status = ⊥
 abbrev pub IsStop : List ℕ → Option (List ℕ) → Type 0
 IsStop rest left = ((behind : List ℕ) × (cut 10 rest ≡ Some (codes "stop", behind))) ⊎ ((cut 10 rest ≡ None) × IsAtEnd left)
 
--- What comes next of a dialogue: of the bytes that stood ready and those that the source gave the first line, which isn't too long; or one that is; or
--- `stop`, or no line.
+-- What comes next of a dialogue: of the bytes that stood ready and those that the source gave the first line, which isn't too long;
+-- or one that is; or `stop`, or no line.
 abbrev pub IsNext : List ℕ → List ℕ → Option (List ℕ) → Option (List ℕ) → Next → Type 0
 IsNext ready rest before after (Line line) =
-    (given : List ℕ) × Consumes before after given × (cut 10 (ready ++ given) ≡ Some (line.items, rest)) × (length line.items ≤ most_line)
+    (given : List ℕ) × Consumes before after given × (cut 10 (ready ++ given) ≡ Some (line.items, rest))
+    × (length line.items ≤ most_line)
 IsNext ready rest before after LongLine =
-    (given : List ℕ) × (line : List ℕ) × Consumes before after given × (cut 10 (ready ++ given) ≡ Some (line, rest)) × (most_line < length line)
+    (given : List ℕ) × (line : List ℕ) × Consumes before after given × (cut 10 (ready ++ given) ≡ Some (line, rest))
+    × (most_line < length line)
 IsNext ready rest before after Stop = (given : List ℕ) × Consumes before after given × IsStop (ready ++ given) after
 
--- What is printed last, and at which status the dialogue ends with it: an engine and a sink went from one state to the last. A line may have been
--- taken meanwhile, whose answer was not given.
-pub record IsCutShort {K R B : Type 0} (k : Sinks K) (r : Racks R) (plans : List Plan) (s : DriverState) (n : ℕ) (unanswered : Option (List ℕ)) (sink sink_after : K) (engine engine_after : EngineState R B) (ended : Status) : Type 0 where
+-- What is printed last, and at which status the dialogue ends with it: an engine and a sink went from one state to the last. A line
+-- may have been taken meanwhile, whose answer was not given.
+pub record IsCutShort {K R B : Type 0} (k : Sinks K) (r : Racks R) (plans : List Plan) (s : DriverState) (n : ℕ)
+    (unanswered : Option (List ℕ)) (sink sink_after : K) (engine engine_after : EngineState R B) (ended : Status) : Type 0 where
   pub tail : List ℕ
   pub status : Status
   pub ends : EndsWith engine.catalog plans s n unanswered tail engine_after.core status
@@ -187,13 +199,15 @@ pub record IsCutShort {K R B : Type 0} (k : Sinks K) (r : Racks R) (plans : List
   pub write : status ≡ WriteFault → Rose (k.faults sink) (k.faults sink_after)
 
 -- the same where this line was taken
-pub record IsCutAmid {K R B : Type 0} (k : Sinks K) (r : Racks R) (plans : List Plan) (s : DriverState) (n : ℕ) (line : List ℕ) (sink sink_after : K) (engine engine_after : EngineState R B) (ended : Status) : Type 0 where
+pub record IsCutAmid {K R B : Type 0} (k : Sinks K) (r : Racks R) (plans : List Plan) (s : DriverState) (n : ℕ) (line : List ℕ)
+    (sink sink_after : K) (engine engine_after : EngineState R B) (ended : Status) : Type 0 where
   pub cut : IsCutShort k r plans s n (Some line) sink sink_after engine engine_after ended
   pub not_stopped : cut.status ≢ Done
   pub not_unread : cut.status ≢ ReadFault
 
 -- A dialogue ended, from one state to the last.
-pub record IsOver {S K R B : Type 0} (s : Sources S) (k : Sinks K) (r : Racks R) (plans : List Plan) (a b : DialogueState S K R B) (ended : Status) : Type 0 where
+pub record IsOver {S K R B : Type 0} (s : Sources S) (k : Sinks K) (r : Racks R) (plans : List Plan) (a b : DialogueState S K R B)
+    (ended : Status) : Type 0 where
   pub given : List ℕ
   pub consumed : Consumes (s.left a.source) (s.left b.source) given
   -- the line that was taken, if one was, is the first of the bytes that no line took
@@ -205,14 +219,16 @@ pub record IsOver {S K R B : Type 0} (s : Sources S) (k : Sinks K) (r : Racks R)
   pub later : s.faults a.source ≤ s.faults b.source
 
 -- A dialogue: lines with their answers, and its end.
-pub record IsDialogue {S K R B : Type 0} (s : Sources S) (k : Sinks K) (r : Racks R) (plans : List Plan) (a b : DialogueState S K R B) (ended : Status) : Type 0 where
+pub record IsDialogue {S K R B : Type 0} (s : Sources S) (k : Sinks K) (r : Racks R) (plans : List Plan)
+    (a b : DialogueState S K R B) (ended : Status) : Type 0 where
   pub exchanges : List Exchange
   pub last : DialogueState S K R B
   pub exchanged : AreExchanged s k r plans a exchanges last
   pub over : IsOver s k r plans last b ended
 
 -- What a dialogue prints, at which status, that began in this state with line n: these lines were answered, and so it ended.
-pub record HasConversed (c : Catalog) (plans : List Plan) (first : DriverState) (n : ℕ) (now : CoreState) (taken : List ℕ) (left : Option (List ℕ)) (text : List ℕ) (status : Status) : Type 0 where
+pub record HasConversed (c : Catalog) (plans : List Plan) (first : DriverState) (n : ℕ) (now : CoreState) (taken : List ℕ)
+    (left : Option (List ℕ)) (text : List ℕ) (status : Status) : Type 0 where
   pub exchanges : List Exchange
   pub last : DriverState
   pub answered : AreAnswered c plans first n exchanges last

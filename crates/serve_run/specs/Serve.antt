@@ -39,8 +39,8 @@ use Rattle.serve_run.specs.declared.command.Ending.{Ending}
 use Rattle.serve_run.specs.declared.command.Ending.TheVariants.{Told, Due}
 use Rattle.serve_run.specs.Dialogue.{HasConversed, phase_by}
 
--- A scenario with this catalog, whose processes have these plans, was taken from the front of the input, and then these bytes, of which the first line
--- has this number.
+-- A scenario with this catalog, whose processes have these plans, was taken from the front of the input, and then these bytes, of
+-- which the first line has this number.
 pub record IsServeRead (before after : Input) (c : Catalog) (plans : List Plan) (first : ℕ) (taken : List ℕ) : Type 0 where
   pub scenario : List ℕ
   pub ready : List ℕ
@@ -54,22 +54,27 @@ pub record IsServeRead (before after : Input) (c : Catalog) (plans : List Plan) 
 -- Why there is no such scenario: none came; or else what is refused of it first.
 abbrev pub IsNoServeRead : Input → Input → NoPlans → Type 0
 IsNoServeRead before after (Refused r) = HasNoScenario r before after
-    ⊎ ((scenario ready : List ℕ) × (first : ℕ) × IsScenarioTaken before.left after.left scenario ready first × IsNotBound scenario (Refused r))
+    ⊎ ((scenario ready : List ℕ) × (first : ℕ) × IsScenarioTaken before.left after.left scenario ready first
+    × IsNotBound scenario (Refused r))
 IsNoServeRead before after (IllFormed line) =
-    (scenario ready : List ℕ) × (first : ℕ) × IsScenarioTaken before.left after.left scenario ready first × IsNotBound scenario (IllFormed line)
+    (scenario ready : List ℕ) × (first : ℕ) × IsScenarioTaken before.left after.left scenario ready first
+    × IsNotBound scenario (IllFormed line)
 
 -- the dialogue on files with this history begins: whoever was active has begun to complete
 abbrev pub begun_on : Catalog → History → DriverState
 begun_on c h = record { core = after_call (opened_on c.conflicts h.plans h.events) complete_all; unfinished = [] }
 
--- the answers that are printed behind the first lines, and what they made of the machine; where the first lines were not taken whole there is none
+-- the answers that are printed behind the first lines, and what they made of the machine; where the first lines were not taken
+-- whole there is none
 abbrev pub IsSpoken : Catalog → List Plan → History → ℕ → CoreState → List ℕ → Option (List ℕ) → List ℕ → Status → Type 0
 IsSpoken c plans h first now taken left text status =
-    HasConversed c plans (begun_on c h) first now taken left text status ⊎ ((text ≡ []) × (status ≡ WriteFault) × (now ≡ (begun_on c h).core))
+    HasConversed c plans (begun_on c h) first now taken left text status
+    ⊎ ((text ≡ []) × (status ≡ WriteFault) × (now ≡ (begun_on c h).core))
 
--- The machine opened on the history of the files, whoever was active began to complete, and it went on by the lines. What it kept is kept in
--- the files, and in what a crash leaves; each fault has its cause.
-pub record IsServed (c : Catalog) (plans : List Plan) (first : ℕ) (taken : List ℕ) (before after : Input) (files files_after : Files) (text : List ℕ) (status : Status) : Type 0 where
+-- The machine opened on the history of the files, whoever was active began to complete, and it went on by the lines. What it kept
+-- is kept in the files, and in what a crash leaves; each fault has its cause.
+pub record IsServed (c : Catalog) (plans : List Plan) (first : ℕ) (taken : List ℕ) (before after : Input)
+    (files files_after : Files) (text : List ℕ) (status : Status) : Type 0 where
   pub history : History
   pub now : CoreState
   pub machine : IsCore now
@@ -78,7 +83,8 @@ pub record IsServed (c : Catalog) (plans : List Plan) (first : ℕ) (taken : Lis
   pub printed : text ≡ ready_text history ++ answers
   -- no start was under way but of a plan of the scenario, or of these
   pub spelled : List Plan
-  pub kept : AreKept c history now (IsOneAhead c (plans ++ spelled) now (phase_by status)) (phase_by status) files.disk files_after.disk
+  pub kept : AreKept c history now (IsOneAhead c (plans ++ spelled) now (phase_by status))
+      (phase_by status) files.disk files_after.disk
   pub disk : status ≡ DiskFault → Rose files.faults files_after.faults
   pub read : status ≡ ReadFault → Rose before.faults after.faults
 
@@ -97,25 +103,29 @@ abbrev pub IsNotServedOn : Catalog → Files → Files → Result Said Refusal �
 IsNotServedOn c files files_after (Ok s) = ⊥
 IsNotServedOn c files files_after (Err r) = IsNotOpenedWith c r files files_after ⊎ IsNotBegun c files files_after r
 
--- No dialogue was held, and this is to be said, in this order: what is wrong with the input, before any file is touched; or why the files were
--- not opened.
+-- No dialogue was held, and this is to be said, in this order: what is wrong with the input, before any file is touched; or why the
+-- files were not opened.
 abbrev pub IsNotServed : Input → Input → Files → Files → Result Said Refusal → Type 0
 IsNotServed before after files files_after found =
     (IsSaidOfNone (IsNoServeRead before after) found × AreUntouched files files_after)
-    ⊎ ((c : Catalog) × (plans : List Plan) × (first : ℕ) × (taken : List ℕ) × IsServeRead before after c plans first taken × IsNotServedOn c files files_after found)
+    ⊎ ((c : Catalog) × (plans : List Plan) × (first : ℕ) × (taken : List ℕ) × IsServeRead before after c plans first taken
+    × IsNotServedOn c files files_after found)
 
 -- what holds of a call that told all, by its status; or of one that has this to tell
 abbrev pub OnEnding : (Status → Type 0) → (Result Said Refusal → Type 0) → Ending → Type 0
 OnEnding IfTold IfDue (Told status) = IfTold status
 OnEnding IfTold IfDue (Due found) = IfDue found
 
--- The first lines were told, and a dialogue followed: an engine that was opened, a source and a sink went from one state to the last.
-pub record IsHeld {S K R B : Type 0} (s : Sources S) (k : Sinks K) (r : Racks R) (plans : List Plan) (first : ℕ) (ready : List ℕ) (source source_after : S) (sink sink_after : K) (engine engine_after : EngineState R B) (ended : Status) : Type 0 where
+-- The first lines were told, and a dialogue followed: an engine that was opened, a source and a sink went from one state to the
+-- last.
+pub record IsHeld {S K R B : Type 0} (s : Sources S) (k : Sinks K) (r : Racks R) (plans : List Plan) (first : ℕ) (ready : List ℕ)
+    (source source_after : S) (sink sink_after : K) (engine engine_after : EngineState R B) (ended : Status) : Type 0 where
   pub given : List ℕ
   pub consumed : Consumes (s.left source) (s.left source_after) given
   pub text : List ℕ
   pub status : Status
-  pub spoken : IsSpoken engine.catalog plans (full_history engine.core) first engine_after.core (ready ++ given) (s.left source_after) text status
+  pub spoken : IsSpoken engine.catalog plans (full_history engine.core) first engine_after.core (ready ++ given)
+      (s.left source_after) text status
   pub told : IsTold status (ready_text (full_history engine.core) ++ text) (output k sink) (output k sink_after) ended
   pub spelled : List Plan
   pub goes : GoesOn r.disk r.faults (plans ++ spelled) engine engine_after
@@ -125,23 +135,27 @@ pub record IsHeld {S K R B : Type 0} (s : Sources S) (k : Sinks K) (r : Racks R)
   pub write : status ≡ WriteFault → Rose (k.faults sink) (k.faults sink_after)
   pub later : s.faults source ≤ s.faults source_after
 
--- a scenario with this catalog, whose processes have these plans, was taken from a source; these bytes stand ready behind it, of which the first line has this
--- number
+-- a scenario with this catalog, whose processes have these plans, was taken from a source; these bytes stand ready behind it, of
+-- which the first line has this number
 abbrev pub IsScene : Option (List ℕ) → Option (List ℕ) → Catalog → List Plan → List ℕ → ℕ → Type 0
-IsScene before after c plans ready first = (scenario : List ℕ) × IsScenarioTaken before after scenario ready first × IsBound scenario c plans
+IsScene before after c plans ready first =
+    (scenario : List ℕ) × IsScenarioTaken before after scenario ready first × IsBound scenario c plans
 
 -- What a dialogue over files comes to: what it prints, and that this was told; or that it was not held, and what is to be said.
 abbrev pub IsHeldOn : Catalog → List Plan → ℕ → List ℕ → Input → Input → Files → Files → Output → Output → Ending → Type 0
 IsHeldOn c plans first ready before after files files_after out out_after (Told ended) =
     (given : List ℕ) × (text : List ℕ) × (status : Status) × Consumes before.left after.left given
     × IsServed c plans first (ready ++ given) before after files files_after text status × IsTold status text out out_after ended
-IsHeldOn c plans first ready before after files files_after out out_after (Due found) = IsNotServedOn c files files_after found × (out_after ≡ out) × (after ≡ before)
+IsHeldOn c plans first ready before after files files_after out out_after (Due found) =
+    IsNotServedOn c files files_after found × (out_after ≡ out) × (after ≡ before)
 
 -- what the command comes to
 abbrev pub IsServeDue : Input → Input → Files → Files → Output → Output → Ending → Type 0
 IsServeDue before after files files_after out out_after (Told ended) =
-    (text : List ℕ) × (status : Status) × IsServeTold before after files files_after text status × IsTold status text out out_after ended
-IsServeDue before after files files_after out out_after (Due found) = IsNotServed before after files files_after found × (out_after ≡ out)
+    (text : List ℕ) × (status : Status) × IsServeTold before after files files_after text status
+    × IsTold status text out out_after ended
+IsServeDue before after files files_after out out_after (Due found) =
+    IsNotServed before after files files_after found × (out_after ≡ out)
 
 -- a dialogue that nothing cut off ended by `stop` or with its input, or for want of memory
 abbrev pub IsEndedWell : Ending → Type 0
@@ -154,8 +168,10 @@ pub record HasScene (before : Input) (bytes : List ℕ) (c : Catalog) (plans : L
   pub within : length (scenario_of bytes) ≤ most_input
   pub bound : IsBound (scenario_of bytes) c plans
 
--- Where the source has such a scenario, the files are sound and nothing failed, the dialogue was held to its end; or memory was wanting.
+-- Where the source has such a scenario, the files are sound and nothing failed, the dialogue was held to its end; or memory was
+-- wanting.
 abbrev pub IsServeComplete : Input → Input → Files → Files → Output → Output → Ending → Type 0
 IsServeComplete before after files files_after out out_after ending =
-    (bytes : List ℕ) (c : Catalog) (plans : List Plan) (h : History) → HasScene before bytes c plans → IsKnown files.disk → IsSound c h files.disk.files
+    (bytes : List ℕ) (c : Catalog) (plans : List Plan) (h : History) → HasScene before bytes c plans → IsKnown files.disk
+    → IsSound c h files.disk.files
     → NothingFailed before after files files_after → ¬ Rose out.faults out_after.faults → IsEndedWell ending

@@ -93,16 +93,18 @@ fn hold<S: Source, K: Sink, R: Rack + Drop, B: Resource>(
     requires fits { EachFits B.meaning B.sort engine.old.files.stores }
     requires plans { Each (IsPlanFor engine.old.catalog) plans.now }
     ensures begun { IsCore engine.old.core }
-    ensures held { OnEnding (IsHeld S.Source K.Sink R.Rack plans.now first reader.old source.old source.new sink.old sink.new engine.old engine.new)
-        (λ found. (found ≡ Err Refusal.NoMemory) × (engine.new ≡ engine.old) × (sink.new ≡ sink.old) × (source.new ≡ source.old)) result }
+    ensures held { OnEnding
+        (IsHeld S.Source K.Sink R.Rack plans.now first reader.old source.old source.new sink.old sink.new engine.old engine.new)
+        (λ found. (found ≡ Err Refusal.NoMemory) × (engine.new ≡ engine.old) × (sink.new ≡ sink.old)
+        × (source.new ≡ source.old)) result }
     ensures fits { EachFits B.meaning B.sort engine.new.files.stores }
 {
-    engine.is_sound();
+    engine.invariant_holds();
     let Ok(text) = ready_text(alloc, engine.history()) else {
         return Ending::Due(Err(Refusal::NoMemory));
     };
     complete_all(engine);
-    engine.is_sound();
+    engine.invariant_holds();
     match give(sink, &text) {
         None => Ending::Told(converse(alloc, engine, plans, reader, source, sink, first)),
         Some(status) => Ending::Told(status),
@@ -120,9 +122,11 @@ fn on_files<S: Source, K: Sink, R: Rack + Drop, B: Resource>(
     requires boxes { AreBoxes B.sort parts.resources.items }
     requires catalog { IsCatalog scene.catalog }
     requires plans { Each (IsPlanFor scene.catalog) scene.plans.items }
-    ensures due { IsHeldOn scene.catalog scene.plans.items scene.first scene.reader (input S.Source source.old) (input S.Source source.new) (files R.Rack parts.rack) (files R.Rack result.parts.rack)
+    ensures due { IsHeldOn scene.catalog scene.plans.items scene.first scene.reader (input S.Source source.old)
+        (input S.Source source.new) (files R.Rack parts.rack) (files R.Rack result.parts.rack)
         (output K.Sink sink.old) (output K.Sink sink.new) result.ending }
-    ensures written { OnEnding (λ ended. ended ≡ statuses.WriteFault → Rose (K.faults sink.old) (K.faults sink.new)) (λ _. ⊤) result.ending }
+    ensures written { OnEnding (λ ended. ended ≡ statuses.WriteFault → Rose (K.faults sink.old) (K.faults sink.new))
+        (λ _. ⊤) result.ending }
     ensures late { OnEnding (λ _. ⊤) (λ found. IfErr found (λ r. comes_before_files r ≡ false)) result.ending }
     ensures unsaid { OnEnding (λ _. ⊤) (λ found. IfOk found (λ _. ⊥)) result.ending }
     ensures later { S.faults source.old ≤ S.faults source.new }
@@ -140,7 +144,7 @@ fn on_files<S: Source, K: Sink, R: Rack + Drop, B: Resource>(
     match opened_with(alloc, &catalog, parts) {
         Ok(mut engine) => {
             let ending = hold(alloc, &mut engine, &plans, &mut reader, source, sink, first);
-            engine.is_sound();
+            engine.invariant_holds();
             Served {
                 parts: engine.into_parts(),
                 ending,
@@ -161,11 +165,14 @@ pub fn serve<S: Source, K: Sink, R: Rack + Drop, B: Resource>(
     parts: Parts<R, B>,
 ) -> Served<Parts<R, B>>
     requires boxes { AreBoxes B.sort parts.resources.items }
-    ensures due { IsServeDue (input S.Source source.old) (input S.Source source.new) (files R.Rack parts.rack) (files R.Rack result.parts.rack)
+    ensures due { IsServeDue (input S.Source source.old) (input S.Source source.new) (files R.Rack parts.rack)
+        (files R.Rack result.parts.rack)
         (output K.Sink sink.old) (output K.Sink sink.new) result.ending }
-    ensures complete { IsServeComplete (input S.Source source.old) (input S.Source source.new) (files R.Rack parts.rack) (files R.Rack result.parts.rack)
+    ensures complete { IsServeComplete (input S.Source source.old) (input S.Source source.new) (files R.Rack parts.rack)
+        (files R.Rack result.parts.rack)
         (output K.Sink sink.old) (output K.Sink sink.new) result.ending }
-    ensures early { OnEnding (λ _. ⊤) (λ found. IfErr found (λ r. comes_before_files r ≡ true → result.parts.rack ≡ parts.rack)) result.ending }
+    ensures early { OnEnding (λ _. ⊤)
+        (λ found. IfErr found (λ r. comes_before_files r ≡ true → result.parts.rack ≡ parts.rack)) result.ending }
     ensures ill_formed { OnEnding (λ _. ⊤) (λ found. IfOk found (λ s. result.parts.rack ≡ parts.rack)) result.ending }
     ensures back { AreBoxes B.sort result.parts.resources.items }
     ensures tells { (R.disk result.parts.rack).tells ≡ (R.disk parts.rack).tells }

@@ -18,7 +18,8 @@ use program_lines::Status;
 use resource_box::Resource;
 use std::alloc::Global;
 
-/// Answers the lines of a source, the first of which has this number, with these plans of the scenario: each before the next is taken.
+/// Answers the lines of a source, the first of which has this number, with these plans of the scenario: each before the next is
+/// taken.
 pub fn converse<S: Source, K: Sink, R: Rack + Drop, B: Resource>(
     alloc: Global,
     engine: &mut Engine<R, B>,
@@ -30,13 +31,14 @@ pub fn converse<S: Source, K: Sink, R: Rack + Drop, B: Resource>(
 ) -> Status
     requires ready { IsReady B.meaning B.sort engine.old }
     requires plans { Each (IsPlanFor engine.old.catalog) plans.now }
-    ensures held { (unfinished : List Handed) × (number : ℕ) × IsDialogue S.Source K.Sink R.Rack plans.now (state_at source.old reader.old sink.old engine.old [] first)
+    ensures held { (unfinished : List Handed) × (number : ℕ)
+        × IsDialogue S.Source K.Sink R.Rack plans.now (state_at source.old reader.old sink.old engine.old [] first)
         (state_at source.new reader.new sink.new engine.new unfinished number) result }
     ensures fits { EachFits B.meaning B.sort engine.new.files.stores }
 {
     let mut pieces = Vec::new(alloc);
     let mut number = first;
-    engine.is_sound();
+    engine.invariant_holds();
     for _ in 0..u64::MAX {
         if let Some(status) = exchange(
             alloc,

@@ -13,7 +13,8 @@ ghost use Rattle.program_lines.specs.declared.status.Status.TheVariants.{NoMemor
 ghost use Rattle.command_input.specs.Outputs.{output, IsTold};
 ghost use Rattle.driver_requests.specs.Answers.{bad_line_words};
 ghost use Rattle.driver_answers.specs.Serving.{IsLineAnswered};
-ghost use Rattle.serve_run.specs.Dialogue.{fault_line, most_line, next_number, state_at, Exchange, IsBetween, IsCutAmid, IsExchange, IsOver};
+ghost use Rattle.serve_run.specs.Dialogue.{fault_line, most_line, next_number, state_at, Exchange, IsBetween, IsCutAmid};
+ghost use Rattle.serve_run.specs.Dialogue.{IsExchange, IsOver};
 
 use crate::faults::{Fault, fault_of, tell_fault};
 use crate::taking::{Next, next_line};
@@ -31,8 +32,10 @@ use std::alloc::{AllocError, Global};
 
 /// Gives a text. The status, if it was not taken whole.
 pub fn give<K: Sink>(sink: &mut K, text: &[u8]) -> Option<Status>
-    ensures whole { IfNone result (Appends (K.taken sink.old) (K.taken sink.new) text.now × (K.faults sink.new ≡ K.faults sink.old)) }
-    ensures part { IfSome result (λ s. (s ≡ WriteFault) × IsTold WriteFault text.now (output K.Sink sink.old) (output K.Sink sink.new) s
+    ensures whole { IfNone result
+        (Appends (K.taken sink.old) (K.taken sink.new) text.now × (K.faults sink.new ≡ K.faults sink.old)) }
+    ensures part { IfSome result
+        (λ s. (s ≡ WriteFault) × IsTold WriteFault text.now (output K.Sink sink.old) (output K.Sink sink.new) s
         × Rose (K.faults sink.old) (K.faults sink.new)) }
 {
     match write_all(sink, text) {
@@ -52,9 +55,14 @@ fn bad_line(alloc: Global, number: u64) -> Result<Vec<u8>, AllocError>
 
 // Gives the answer to a line that is too long.
 fn refuse<K: Sink>(alloc: Global, sink: &mut K, number: u64) -> Option<Status>
-    ensures whole { IfNone result (Appends (K.taken sink.old) (K.taken sink.new) (line_of (bad_line_words number)) × (K.faults sink.new ≡ K.faults sink.old)) }
-    ensures part { IfSome result (λ s. ((s ≡ WriteFault) × IsTold WriteFault (line_of (bad_line_words number)) (output K.Sink sink.old) (output K.Sink sink.new) s
-        × Rose (K.faults sink.old) (K.faults sink.new)) ⊎ IsTold NoMemory (fault_line Fault.NoMemory) (output K.Sink sink.old) (output K.Sink sink.new) s) }
+    ensures whole { IfNone result
+        (Appends (K.taken sink.old) (K.taken sink.new) (line_of (bad_line_words number))
+        × (K.faults sink.new ≡ K.faults sink.old)) }
+    ensures part { IfSome result
+        (λ s. ((s ≡ WriteFault) × IsTold WriteFault (line_of (bad_line_words number)) (output K.Sink sink.old)
+        (output K.Sink sink.new) s
+        × Rose (K.faults sink.old) (K.faults sink.new))
+        ⊎ IsTold NoMemory (fault_line Fault.NoMemory) (output K.Sink sink.old) (output K.Sink sink.new) s) }
 {
     match bad_line(alloc, number) {
         Ok(text) => give(sink, &text),
@@ -76,9 +84,17 @@ fn respond<K: Sink, R: Rack + Drop, B: Resource>(
     requires plans { Each (IsPlanFor engine.old.catalog) plans.now }
     requires handed { AreHandedBy engine.old.core pieces.old.items }
     requires line { length line.now ≤ most_line }
-    ensures on { IfNone result ((text : List ℕ) × IsLineAnswered engine.old.catalog plans.now (record { core = engine.old.core; unfinished = pieces.old.items }) number line.now
-        (record { core = engine.new.core; unfinished = pieces.new.items }) text × Appends (K.taken sink.old) (K.taken sink.new) text × (K.faults sink.new ≡ K.faults sink.old)) }
-    ensures over { IfSome result (IsCutAmid K.Sink R.Rack plans.now (record { core = engine.old.core; unfinished = pieces.old.items }) number line.now sink.old sink.new engine.old engine.new) }
+    ensures on { IfNone result
+        ((text : List ℕ) × IsLineAnswered engine.old.catalog plans.now
+        (record { core = engine.old.core; unfinished = pieces.old.items }) number line.now
+        (record { core = engine.new.core; unfinished = pieces.new.items }) text × Appends (K.taken sink.old) (K.taken sink.new) text
+        × (K.faults sink.new ≡ K.faults sink.old)) }
+    ensures over { IfSome result
+        (IsCutAmid K.Sink R.Rack plans.now
+        (record {
+          core = engine.old.core;
+          unfinished = pieces.old.items;
+        }) number line.now sink.old sink.new engine.old engine.new) }
     ensures goes { (spelled : List Plan') × GoesOn R.disk R.faults (plans.now ++ spelled) engine.old engine.new }
     ensures handed { IfNone result (AreHandedBy engine.new.core pieces.new.items) }
     ensures ready { IfNone result (IsReady B.meaning B.sort engine.new) }
@@ -87,7 +103,7 @@ fn respond<K: Sink, R: Rack + Drop, B: Resource>(
 {
     match answer_line(alloc, engine, plans, pieces, line, number) {
         Ok(text) => {
-            engine.is_sound();
+            engine.invariant_holds();
             give(sink, &text)
         }
         Err(cut) => Some(tell_fault(sink, fault_of(cut))),
@@ -109,15 +125,18 @@ pub fn exchange<S: Source, K: Sink, R: Rack + Drop, B: Resource>(
     requires plans { Each (IsPlanFor engine.old.catalog) plans.now }
     requires handed { AreHandedBy engine.old.core pieces.old.items }
     // The line was taken, it was answered, what it led to is kept, and its answer was given.
-    ensures on { IfNone result ((x : Exchange) × IsExchange S.Source K.Sink R.Rack plans.now x (state_at source.old reader.old sink.old engine.old pieces.old.items number)
+    ensures on { IfNone result
+        ((x : Exchange) × IsExchange S.Source K.Sink R.Rack plans.now x
+        (state_at source.old reader.old sink.old engine.old pieces.old.items number)
         (state_at source.new reader.new sink.new engine.new pieces.new.items (next_number number))) }
-    ensures over { IfSome result (IsOver S.Source K.Sink R.Rack plans.now (state_at source.old reader.old sink.old engine.old pieces.old.items number)
+    ensures over { IfSome result
+        (IsOver S.Source K.Sink R.Rack plans.now (state_at source.old reader.old sink.old engine.old pieces.old.items number)
         (state_at source.new reader.new sink.new engine.new pieces.new.items number)) }
     ensures handed { IfNone result (AreHandedBy engine.new.core pieces.new.items) }
     ensures ready { IfNone result (IsReady B.meaning B.sort engine.new) }
     ensures fits { EachFits B.meaning B.sort engine.new.files.stores }
 {
-    engine.is_sound();
+    engine.invariant_holds();
     match next_line(alloc, reader, source) {
         Ok(Next::Line(line)) => respond(alloc, engine, plans, pieces, sink, &line, number),
         Ok(Next::LongLine) => refuse(alloc, sink, number),

@@ -30,7 +30,8 @@ pub fn next_line<S: Source>(
     source: &mut S,
 ) -> Result<Next, Fault>
     ensures next { IfOk result (IsNext reader.old reader.new (S.left source.old) (S.left source.new)) }
-    ensures fault { IfErr result (λ f. ((f ≡ Fault.ReadFault) × Rose (S.faults source.old) (S.faults source.new)) ⊎ (f ≡ Fault.NoMemory)) }
+    ensures fault { IfErr result
+        (λ f. ((f ≡ Fault.ReadFault) × Rose (S.faults source.old) (S.faults source.new)) ⊎ (f ≡ Fault.NoMemory)) }
     ensures later { S.faults source.old ≤ S.faults source.new }
     ensures quiet { OnOk result (S.faults source.new ≡ S.faults source.old) }
     ensures gave { IfErr result (λ _. (given : List ℕ) × Consumes (S.left source.old) (S.left source.new) given) }

@@ -1,5 +1,6 @@
 -- What each line of a session makes of the machine, and what is printed of it.
-use Rattle.std.specs.Prelude.{ℕ, ◌+◌, Bool, false, List, [], ◌∷◌, ◌++◌, filter, find, length, map, nat_eq, Option, Some, None, if◌then◌else◌}
+use Rattle.std.specs.Prelude.{ℕ, ◌+◌, Bool, false, List, [], ◌∷◌, ◌++◌, filter, find, length, map, nat_eq, Option, Some, None}
+use Rattle.std.specs.Prelude.{if◌then◌else◌}
 use Rattle.std.specs.List.{filter_map}
 use Rattle.process_tree.specs.Blocks.{numbers_from}
 use Rattle.process_tree.specs.Making.{same_text}
@@ -12,7 +13,8 @@ use Rattle.schedule_model.specs.Histories.{is_in, starts}
 use Rattle.commute_table.specs.declared.catalog.Catalog.{Catalog}
 use Rattle.machine_model.specs.declared.began.Began.{Began}
 use Rattle.machine_model.specs.declared.kept.Kept.{Kept}
-use Rattle.machine_model.specs.declared.kept.Kept.TheVariants.{Start as HasStarted, Hand, Effect, Refuse, Abort as WasAborted, Victim, Restart}
+use Rattle.machine_model.specs.declared.kept.Kept.TheVariants.{Start as HasStarted, Hand, Effect, Refuse, Abort as WasAborted}
+use Rattle.machine_model.specs.declared.kept.Kept.TheVariants.{Victim, Restart}
 use Rattle.machine_model.specs.declared.kept.Work.TheVariants.{End}
 use Rattle.machine_model.specs.declared.replies.StartWhy.{StartWhy}
 use Rattle.machine_model.specs.Advance.{advance_all}
@@ -31,7 +33,8 @@ use Rattle.engine_runs.specs.GateAnswers.{is_barred_in}
 use Rattle.process_report.specs.Lines.{Line as Words, text_of}
 use Rattle.session_text.specs.declared.line.Line.{Line}
 use Rattle.session_text.specs.declared.line.Line.TheVariants.{Start, Admit, Next, Finish, Abort, Show, Stop}
-use Rattle.session_text.specs.Answers.{started_words, no_process_words, not_started_words, admit_words, next_lines, finish_words, no_piece_words, no_refusal_words, abort_words}
+use Rattle.session_text.specs.Answers.{started_words, no_process_words, not_started_words, admit_words, next_lines, finish_words}
+use Rattle.session_text.specs.Answers.{no_piece_words, no_refusal_words, abort_words}
 use Rattle.scenario_run.specs.Reports.{report_in}
 
 -- A session between two lines: the machine, and the numbers of the pieces that a line may still finish, as they were handed out.
@@ -93,7 +96,8 @@ victim_of Restart = None
 abbrev pub reply_to_next : CoreState → NextReply
 reply_to_next core =
     let m = moment_of core in
-    next_reply (relation core) (courses_in core) (advance_all (relation core) (courses_in core) m (all_victims (relation core) (courses_in core) m)) core.served
+    next_reply (relation core) (courses_in core)
+    (advance_all (relation core) (courses_in core) m (all_victims (relation core) (courses_in core) m)) core.served
 
 -- `next`
 abbrev pub play_next : SessionState → Played
@@ -116,7 +120,9 @@ without n (k ∷ ks) = if nat_eq k n then ks else k ∷ without n ks
 abbrev pub finish_as : SessionState → Piece → Outcome → Played
 finish_as s p outcome = record {
   state = record { core = after_call s.core (finish p.number outcome); unfinished = without p.number s.unfinished };
-  printed = line_of (finish_words s.core.plans p (finish_reply (relation s.core) (courses_in s.core) (moment_of s.core) p.number outcome));
+  printed =
+      line_of (finish_words s.core.plans p
+      (finish_reply (relation s.core) (courses_in s.core) (moment_of s.core) p.number outcome));
 }
 
 -- it is an end, and told to be refused
@@ -128,7 +134,8 @@ is_refused_end p Refused = same_work p.work End
 abbrev pub finish_piece : Catalog → SessionState → ℕ → Outcome → Option Piece → Played
 finish_piece c s n outcome None = stays s (no_piece_words n)
 finish_piece c s n outcome (Some p) =
-    if is_refused_end p outcome then stays s (no_refusal_words p.number) else finish_as s p (outcome_of (answer_of outcome) (is_barred_in c s.core p))
+    if is_refused_end p outcome then stays s (no_refusal_words p.number)
+    else finish_as s p (outcome_of (answer_of outcome) (is_barred_in c s.core p))
 
 -- `finish N done` or `finish N refused`
 abbrev pub play_finish : Catalog → SessionState → ℕ → Outcome → Played
@@ -147,7 +154,8 @@ just_began core = filter (λ i. is_at (length core.kept) (began_in core i)) (num
 abbrev pub play_abort : SessionState → ℕ → Played
 play_abort s i = record {
   state = called s (abort i);
-  printed = line_of (abort_words i (just_began (after_call s.core (abort i))) (abort_reply (courses_in s.core) (moment_of s.core) i));
+  printed =
+      line_of (abort_words i (just_began (after_call s.core (abort i))) (abort_reply (courses_in s.core) (moment_of s.core) i));
 }
 
 -- `show`: the report of this moment, with the causes of this session

@@ -27,14 +27,18 @@ pub fn play_admit<R: Rack + Drop, B: Resource>(
 ) -> Result<Vec<u8>, Cut>
     requires ready { IsReady B.meaning B.sort engine.old }
     requires handed { AreHandedBy engine.old.core pieces.old.items }
-    ensures answered { IfOk result (λ text. IsAnswered (play_admit (session_of engine.old.core pieces.old.items) i) engine.new.core pieces.new.items text.items) }
+    ensures answered { IfOk result
+        (λ text. IsAnswered (play_admit
+        (session_of engine.old.core pieces.old.items) i) engine.new.core pieces.new.items text.items) }
     ensures handed { OnOk result (AreHandedBy engine.new.core pieces.new.items) }
-    ensures cut { IfErr result (λ cut. (cut ≡ NoMemory) × IsCut cut (play_admit (session_of engine.old.core pieces.old.items) i) engine.old.core engine.new.core) }
+    ensures cut { IfErr result
+        (λ cut. (cut ≡ NoMemory) × IsCut cut
+        (play_admit (session_of engine.old.core pieces.old.items) i) engine.old.core engine.new.core) }
     ensures goes { GoesOnAlone R.disk R.faults engine.old engine.new }
     ensures ready { IsReady B.meaning B.sort engine.new }
 {
     let reply = admit(engine, i);
-    engine.is_sound();
+    engine.invariant_holds();
     let mut text = Vec::new(alloc);
     put_admit(alloc, engine.history(), i, &reply, &mut text)?;
     keep_admitted(pieces, reply)?;
@@ -49,15 +53,18 @@ pub fn play_next<R: Rack + Drop, B: Resource>(
 ) -> Result<Vec<u8>, Cut>
     requires ready { IsReady B.meaning B.sort engine.old }
     requires handed { AreHandedBy engine.old.core pieces.old.items }
-    ensures answered { IfOk result (λ text. IsAnswered (play_next (session_of engine.old.core pieces.old.items)) engine.new.core pieces.new.items text.items) }
+    ensures answered { IfOk result
+        (λ text. IsAnswered (play_next (session_of engine.old.core pieces.old.items)) engine.new.core pieces.new.items text.items) }
     ensures handed { OnOk result (AreHandedBy engine.new.core pieces.new.items) }
-    ensures cut { IfErr result (λ cut. (cut ≡ NoMemory) × IsCut cut (play_next (session_of engine.old.core pieces.old.items)) engine.old.core engine.new.core) }
+    ensures cut { IfErr result
+        (λ cut. (cut ≡ NoMemory) × IsCut cut
+        (play_next (session_of engine.old.core pieces.old.items)) engine.old.core engine.new.core) }
     ensures goes { GoesOnAlone R.disk R.faults engine.old engine.new }
     ensures ready { IsReady B.meaning B.sort engine.new }
 {
     let before = engine.kept().len();
     let reply = next(engine);
-    engine.is_sound();
+    engine.invariant_holds();
     let mut text = Vec::new(alloc);
     let (_, kept) = engine.kept().split_at(before);
     put_victims(alloc, kept, &mut text)?;
@@ -75,9 +82,13 @@ pub fn play_abort<R: Rack + Drop, B: Resource>(
 ) -> Result<Vec<u8>, Cut>
     requires ready { IsReady B.meaning B.sort engine.old }
     requires handed { AreHandedBy engine.old.core pieces.now.items }
-    ensures answered { IfOk result (λ text. IsAnswered (play_abort (session_of engine.old.core pieces.now.items) i) engine.new.core pieces.now.items text.items) }
+    ensures answered { IfOk result
+        (λ text. IsAnswered (play_abort
+        (session_of engine.old.core pieces.now.items) i) engine.new.core pieces.now.items text.items) }
     ensures handed { OnOk result (AreHandedBy engine.new.core pieces.now.items) }
-    ensures cut { IfErr result (λ cut. (cut ≡ NoMemory) × IsCut cut (play_abort (session_of engine.old.core pieces.now.items) i) engine.old.core engine.new.core) }
+    ensures cut { IfErr result
+        (λ cut. (cut ≡ NoMemory) × IsCut cut
+        (play_abort (session_of engine.old.core pieces.now.items) i) engine.old.core engine.new.core) }
     ensures goes { GoesOnAlone R.disk R.faults engine.old engine.new }
     ensures ready { IsReady B.meaning B.sort engine.new }
 {

@@ -18,8 +18,8 @@ fn is_at(event: usize, began: Option<Began>) -> bool
     }
 }
 
-/// The processes that began to complete at the last kept event, ascending. Processes of which 32 bits don't hold the number are told as want
-/// of memory.
+/// The processes that began to complete at the last kept event, ascending. Processes of which 32 bits don't hold the number are
+/// told as want of memory.
 pub fn just_began<R: Rack + Drop, B: Resource>(
     alloc: Global,
     engine: &Engine<R, B>,

@@ -56,8 +56,11 @@ fn finish_piece<R: Rack + Drop, B: Resource>(
     requires end { piece.piece.work ≡ End → answer ≡ Answer.Done }
     ensures core { OnOk result (engine.new.core ≡ (finish_alone engine.old.catalog engine.old.core piece.piece answer).state.core) }
     ensures text { IfOk result (λ text. text.items ≡ (finish_alone engine.old.catalog engine.old.core piece.piece answer).printed) }
-    ensures cut { IfErr result (λ cut. IsCut cut (finish_alone engine.old.catalog engine.old.core piece.piece answer) engine.old.core engine.new.core) }
-    ensures fault { IfErr result (λ cut. cut ≡ DiskFault → (engine.new.phase ≡ phase.Closed) × Rose (R.faults engine.old.files.rack) (R.faults engine.new.files.rack)) }
+    ensures cut { IfErr result
+        (λ cut. IsCut cut (finish_alone engine.old.catalog engine.old.core piece.piece answer) engine.old.core engine.new.core) }
+    ensures fault { IfErr result
+        (λ cut. cut ≡ DiskFault → (engine.new.phase ≡ phase.Closed)
+        × Rose (R.faults engine.old.files.rack) (R.faults engine.new.files.rack)) }
     ensures goes { GoesOnAlone R.disk R.faults engine.old engine.new }
     ensures fits { EachFits B.meaning B.sort engine.new.files.stores }
     ensures ready { result ≢ Err DiskFault → IsReady B.meaning B.sort engine.new }
@@ -107,15 +110,21 @@ pub fn play_finish<R: Rack + Drop, B: Resource>(
 ) -> Result<Vec<u8>, Cut>
     requires ready { IsReady B.meaning B.sort engine.old }
     requires handed { AreHandedBy engine.old.core pieces.old.items }
-    ensures answered { IfOk result (λ text. IsAnswered (play_finish engine.old.catalog (session_of engine.old.core pieces.old.items) n outcome) engine.new.core pieces.new.items text.items) }
+    ensures answered { IfOk result
+        (λ text. IsAnswered (play_finish engine.old.catalog
+        (session_of engine.old.core pieces.old.items) n outcome) engine.new.core pieces.new.items text.items) }
     ensures handed { OnOk result (AreHandedBy engine.new.core pieces.new.items) }
-    ensures cut { IfErr result (λ cut. IsCut cut (play_finish engine.old.catalog (session_of engine.old.core pieces.old.items) n outcome) engine.old.core engine.new.core) }
-    ensures fault { IfErr result (λ cut. cut ≡ DiskFault → (engine.new.phase ≡ phase.Closed) × Rose (R.faults engine.old.files.rack) (R.faults engine.new.files.rack)) }
+    ensures cut { IfErr result
+        (λ cut. IsCut cut (play_finish engine.old.catalog
+        (session_of engine.old.core pieces.old.items) n outcome) engine.old.core engine.new.core) }
+    ensures fault { IfErr result
+        (λ cut. cut ≡ DiskFault → (engine.new.phase ≡ phase.Closed)
+        × Rose (R.faults engine.old.files.rack) (R.faults engine.new.files.rack)) }
     ensures goes { GoesOnAlone R.disk R.faults engine.old engine.new }
     ensures fits { EachFits B.meaning B.sort engine.new.files.stores }
     ensures ready { result ≢ Err DiskFault → IsReady B.meaning B.sort engine.new }
 {
-    engine.is_sound();
+    engine.invariant_holds();
     let Some(place) = place_of(pieces, n) else {
         return Ok(no_piece(alloc, n)?);
     };

@@ -37,16 +37,20 @@ pub fn play_line<R: Rack + Drop, B: Resource>(
     requires plans { Each (IsPlanFor engine.old.catalog) plans.now }
     requires handed { AreHandedBy engine.old.core pieces.old.items }
     ensures answered { IfOk result (λ text. (copy : Option Plan) × IsCopy (plan_for plans.now line.now) copy
-        × IsAnswered (play engine.old.catalog (session_of engine.old.core pieces.old.items) line.now copy) engine.new.core pieces.new.items text.items) }
+        × IsAnswered (play engine.old.catalog
+        (session_of engine.old.core pieces.old.items) line.now copy) engine.new.core pieces.new.items text.items) }
     ensures handed { OnOk result (AreHandedBy engine.new.core pieces.new.items) }
     ensures cut { IfErr result (λ cut. (copy : Option Plan) × IsCopy (plan_for plans.now line.now) copy
-        × IsCut cut (play engine.old.catalog (session_of engine.old.core pieces.old.items) line.now copy) engine.old.core engine.new.core) }
-    ensures fault { IfErr result (λ cut. cut ≡ DiskFault → (engine.new.phase ≡ phase.Closed) × Rose (R.faults engine.old.files.rack) (R.faults engine.new.files.rack)) }
+        × IsCut cut (play engine.old.catalog
+        (session_of engine.old.core pieces.old.items) line.now copy) engine.old.core engine.new.core) }
+    ensures fault { IfErr result
+        (λ cut. cut ≡ DiskFault → (engine.new.phase ≡ phase.Closed)
+        × Rose (R.faults engine.old.files.rack) (R.faults engine.new.files.rack)) }
     ensures goes { GoesOn R.disk R.faults plans.now engine.old engine.new }
     ensures fits { EachFits B.meaning B.sort engine.new.files.stores }
     ensures ready { result ≢ Err DiskFault → IsReady B.meaning B.sort engine.new }
 {
-    engine.is_sound();
+    engine.invariant_holds();
     match line {
         Line::Start(name) => play_start(alloc, engine, plans, name.bytes()),
         Line::Admit(i) => play_admit(alloc, engine, pieces, *i),

@@ -85,7 +85,8 @@ pub fn put_next(
 
 // Writes a kept event, if it is a victim.
 fn put_victim(alloc: Global, kept: &Kept, out: &mut Vec<u8>) -> Result<(), AllocError>
-    ensures { OnOk result (out.new.items ≡ out.old.items ++ text_of (map (numbered (codes "victim")) (option_to_list (victim_of kept.now)))) }
+    ensures { OnOk result
+        (out.new.items ≡ out.old.items ++ text_of (map (numbered (codes "victim")) (option_to_list (victim_of kept.now)))) }
 {
     match kept {
         Kept::Victim(i) => put_number(alloc, b"victim", *i, out),
@@ -95,7 +96,8 @@ fn put_victim(alloc: Global, kept: &Kept, out: &mut Vec<u8>) -> Result<(), Alloc
 
 /// Writes the victims among kept events.
 pub fn put_victims(alloc: Global, kept: &[Kept], out: &mut Vec<u8>) -> Result<(), AllocError>
-    ensures { OnOk result (out.new.items ≡ out.old.items ++ text_of (map (numbered (codes "victim")) (filter_map victim_of kept.now))) }
+    ensures { OnOk result
+        (out.new.items ≡ out.old.items ++ text_of (map (numbered (codes "victim")) (filter_map victim_of kept.now))) }
 {
     let mut rest = kept;
     while let [event, after @ ..] = rest {
@@ -114,9 +116,11 @@ pub fn put_finish(
     out: &mut Vec<u8>,
 ) -> Result<(), Cut>
     requires open { (n : ℕ) → found ≢ Finish.Closed n }
-    ensures told { (p : Piece') (reply : FinishReply) → p.number ≡ piece.0 → p.process ≡ piece.1 → p.step ≡ piece.2 → RepliesAs found reply
+    ensures told { (p : Piece') (reply : FinishReply) → p.number ≡ piece.0 → p.process ≡ piece.1 → p.step ≡ piece.2
+        → RepliesAs found reply
         → OnOk result (out.new.items ≡ out.old.items ++ line_of (finish_words h.now.plans p reply)) }
-    ensures cut { IfErr result (λ cut. ((cut ≡ NoMemory) × (found ≢ Finish.DiskFault)) ⊎ ((cut ≡ DiskFault) × (found ≡ Finish.DiskFault))) }
+    ensures cut { IfErr result
+        (λ cut. ((cut ≡ NoMemory) × (found ≢ Finish.DiskFault)) ⊎ ((cut ≡ DiskFault) × (found ≡ Finish.DiskFault))) }
     ensures found { OnOk result ((found ≢ Finish.DiskFault) × ((p : Handed) → found ≢ Finish.NoMemory p)) }
 {
     let (number, process, step) = piece;

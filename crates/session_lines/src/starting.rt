@@ -46,8 +46,11 @@ pub fn plan_named<'a>(plans: &'a [Plan], name: &[u8]) -> Option<&'a Plan>
 // Writes why a process did not start, or says that this ends the session.
 fn put_refusal(alloc: Global, why: EngineStartWhy, out: &mut Vec<u8>) -> Result<(), Cut>
     requires open { (n : ℕ) → why ≢ EngineStartWhy.Closed n }
-    ensures told { OnOk result ((core : StartWhy) × (why ≡ of_start_why core) × (core ≢ StartWhy.NoMemory) × (out.new.items ≡ out.old.items ++ line_of (not_started_words core))) }
-    ensures cut { IfErr result (λ cut. ((cut ≡ NoMemory) × (why ≢ EngineStartWhy.DiskFault)) ⊎ ((cut ≡ DiskFault) × (why ≡ EngineStartWhy.DiskFault))) }
+    ensures told { OnOk result
+        ((core : StartWhy) × (why ≡ of_start_why core) × (core ≢ StartWhy.NoMemory)
+        × (out.new.items ≡ out.old.items ++ line_of (not_started_words core))) }
+    ensures cut { IfErr result
+        (λ cut. ((cut ≡ NoMemory) × (why ≢ EngineStartWhy.DiskFault)) ⊎ ((cut ≡ DiskFault) × (why ≡ EngineStartWhy.DiskFault))) }
 {
     match why {
         EngineStartWhy::TooMany(n) => put_not_started(alloc, StartWhy::TooMany(n), out)?,
@@ -68,9 +71,15 @@ pub fn play_plan<R: Rack + Drop, B: Resource>(
 ) -> Result<Vec<u8>, Cut>
     requires ready { IsReady B.meaning B.sort engine.old }
     requires plan { IsPlanFor engine.old.catalog plan }
-    ensures answered { IfOk result (λ text. (ps : List Handed) → IsAnswered (play_start (session_of engine.old.core ps) name.now (Some plan)) engine.new.core ps text.items) }
-    ensures cut { IfErr result (λ cut. (ps : List Handed) → IsCut cut (play_start (session_of engine.old.core ps) name.now (Some plan)) engine.old.core engine.new.core) }
-    ensures fault { IfErr result (λ cut. cut ≡ DiskFault → (engine.new.phase ≡ phase.Closed) × Rose (R.faults engine.old.files.rack) (R.faults engine.new.files.rack)) }
+    ensures answered { IfOk result
+        (λ text. (ps : List Handed) → IsAnswered
+        (play_start (session_of engine.old.core ps) name.now (Some plan)) engine.new.core ps text.items) }
+    ensures cut { IfErr result
+        (λ cut. (ps : List Handed) → IsCut cut
+        (play_start (session_of engine.old.core ps) name.now (Some plan)) engine.old.core engine.new.core) }
+    ensures fault { IfErr result
+        (λ cut. cut ≡ DiskFault → (engine.new.phase ≡ phase.Closed)
+        × Rose (R.faults engine.old.files.rack) (R.faults engine.new.files.rack)) }
     ensures goes { (may_start : List Plan) → IsOneOf may_start plan → GoesOn R.disk R.faults may_start engine.old engine.new }
     ensures fits { EachFits B.meaning B.sort engine.new.files.stores }
     ensures ready { result ≢ Err DiskFault → IsReady B.meaning B.sort engine.new }
@@ -102,15 +111,19 @@ pub fn play_start<R: Rack + Drop, B: Resource>(
     requires ready { IsReady B.meaning B.sort engine.old }
     requires plans { Each (IsPlanFor engine.old.catalog) plans.now }
     ensures answered { IfOk result (λ text. (copy : Option Plan) × IsCopy (plan_named plans.now name.now) copy
-        × ((ps : List Handed) → IsAnswered (play_start (session_of engine.old.core ps) name.now copy) engine.new.core ps text.items)) }
+        × ((ps : List Handed) → IsAnswered
+        (play_start (session_of engine.old.core ps) name.now copy) engine.new.core ps text.items)) }
     ensures cut { IfErr result (λ cut. (copy : Option Plan) × IsCopy (plan_named plans.now name.now) copy
-        × ((ps : List Handed) → IsCut cut (play_start (session_of engine.old.core ps) name.now copy) engine.old.core engine.new.core)) }
-    ensures fault { IfErr result (λ cut. cut ≡ DiskFault → (engine.new.phase ≡ phase.Closed) × Rose (R.faults engine.old.files.rack) (R.faults engine.new.files.rack)) }
+        × ((ps : List Handed) → IsCut cut
+        (play_start (session_of engine.old.core ps) name.now copy) engine.old.core engine.new.core)) }
+    ensures fault { IfErr result
+        (λ cut. cut ≡ DiskFault → (engine.new.phase ≡ phase.Closed)
+        × Rose (R.faults engine.old.files.rack) (R.faults engine.new.files.rack)) }
     ensures goes { GoesOn R.disk R.faults plans.now engine.old engine.new }
     ensures fits { EachFits B.meaning B.sort engine.new.files.stores }
     ensures ready { result ≢ Err DiskFault → IsReady B.meaning B.sort engine.new }
 {
-    engine.is_sound();
+    engine.invariant_holds();
     match plan_named(plans, name) {
         Some(plan) => {
             let copy = plan.copy(alloc)?;

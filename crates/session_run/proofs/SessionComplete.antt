@@ -14,7 +14,7 @@ use Rattle.command_input.specs.declared.scenario.NoPlans.TheVariants.{Refused, I
 use Rattle.command_input.specs.FilesLeft.{Files}
 use Rattle.command_input.specs.Inputs.{Input, IsWholeText}
 use Rattle.command_input.specs.Scenarios.{IsBound, IsNotBound}
-use Rattle.scenario_run.specs.Completeness.{AreAtRest, NothingFailed}
+use Rattle.scenario_run.specs.Completeness.{AreSoundAndIdle, NothingFailed}
 use Rattle.scenario_run.specs.Opening.{IsNotOpenedFor}
 use Rattle.scenario_run.proofs.NothingWrong.{catalog_of, ill_formed, no_lack, unbound, unopened, whole_is}
 use Rattle.session_text.specs.declared.line.Line.{Line}
@@ -41,7 +41,7 @@ ended c plans first now answered rest statuses.Exhausted ends quiet = absurd end
 ended c plans first now answered rest statuses.NotReduced ends quiet = absurd ends
 
 module _ (alloc : Global) (before after : Input) (files files_after : Files) (bytes : List ℕ) (c : Catalog) (plans : List Plan) (lines : List Line) (h : History)
-    (has : HasSession before bytes c plans lines) (rest : AreAtRest c h files) (quiet : NothingFailed before after files files_after) (opened : SoundFilesAreOpened) where
+    (has : HasSession before bytes c plans lines) (rest : AreSoundAndIdle c h files) (quiet : NothingFailed before after files files_after) (opened : SoundFilesAreOpened) where
   -- the text of the scenario
   abbrev scene : List ℕ
   scene = scenario_of bytes

@@ -41,18 +41,21 @@ fault_line DiskFault = refusal_text refusals.DiskFault ++ codes "\n"
 fault_line NoMemory = refusal_text refusals.NoMemory ++ codes "\n"
 fault_line status = []
 
--- How a session ended that answered these lines and not the rest: with the last line; or a call of the rack failed, or memory was wanting,
--- at the first of the rest. What the machine kept is what the answered lines make; or, where memory was wanting to print an answer, that line
--- too.
+-- How a session ended that answered these lines and not the rest: with the last line; or a call of the rack failed, or memory was
+-- wanting, at the first of the rest. What the machine kept is what the answered lines make; or, where memory was wanting to print
+-- an answer, that line too.
 abbrev pub EndsAt : Catalog → List Plan → CoreState → CoreState → List Line → List Line → Status → Type 0
 EndsAt c plans first now answered rest Done = (rest ≡ []) × AreAlike (core_by c plans first answered) now
 EndsAt c plans first now answered rest DiskFault = (rest ≢ []) × AreAlike (core_by c plans first answered) now
 EndsAt c plans first now answered rest NoMemory =
-    AreAlike (core_by c plans first answered) now ⊎ ((line : Line) × (others : List Line) × (rest ≡ line ∷ others) × AreAlike (core_by c plans first (answered ++ line ∷ [])) now)
+    AreAlike (core_by c plans first answered) now ⊎
+    ((line : Line) × (others : List Line) × (rest ≡ line ∷ others)
+    × AreAlike (core_by c plans first (answered ++ line ∷ [])) now)
 EndsAt c plans first now answered rest status = ⊥
 
 -- A machine that was this one is now that one by lines of a session: these were answered, in order, and so it ended.
-pub record HasPlayed (c : Catalog) (plans : List Plan) (first now : CoreState) (lines : List Line) (text : List ℕ) (status : Status) : Type 0 where
+pub record HasPlayed (c : Catalog) (plans : List Plan) (first now : CoreState) (lines : List Line) (text : List ℕ)
+    (status : Status) : Type 0 where
   pub answered : List Line
   pub rest : List Line
   pub are : lines ≡ answered ++ rest
@@ -60,7 +63,8 @@ pub record HasPlayed (c : Catalog) (plans : List Plan) (first now : CoreState) (
   pub ends : EndsAt c plans first now answered rest status
 
 -- Of the lines of a session that began on a machine these are left: those before were answered, and this was printed.
-pub record HasAnswered (c : Catalog) (plans : List Plan) (first now : CoreState) (pieces : List Handed) (lines rest : List Line) (text : List ℕ) : Type 0 where
+pub record HasAnswered (c : Catalog) (plans : List Plan) (first now : CoreState) (pieces : List Handed) (lines rest : List Line)
+    (text : List ℕ) : Type 0 where
   pub answered : List Line
   pub are : lines ≡ answered ++ rest
   pub printed : text ≡ printed_by c plans first answered

@@ -28,10 +28,11 @@ use Rattle.session_text.specs.declared.line.LinesError.TheVariants as errors
 use Rattle.session_text.specs.Sessions.{said, scenario_of}
 use Rattle.session_run.specs.Playthrough.{HasPlayed}
 
--- The source was read to its end. In front of its mark stands a scenario with this catalog, whose processes have these plans, and what stands
--- behind it says these lines.
+-- The source was read to its end. In front of its mark stands a scenario with this catalog, whose processes have these plans, and
+-- what stands behind it says these lines.
 abbrev pub IsSessionRead : Input → Input → Catalog → List Plan → List Line → Type 0
-IsSessionRead before after c plans lines = (bytes : List ℕ) × IsWholeText before after bytes × IsBound (scenario_of bytes) c plans × (said bytes ≡ Ok lines)
+IsSessionRead before after c plans lines =
+    (bytes : List ℕ) × IsWholeText before after bytes × IsBound (scenario_of bytes) c plans × (said bytes ≡ Ok lines)
 
 -- what is told of lines that were not read
 abbrev pub lines_refusal : LinesError → Refusal
@@ -46,17 +47,20 @@ HasBadLine bytes r = (r ≡ NoMemory) ⊎ ((n : ℕ) × (r ≡ BadLine n) × (sa
 abbrev pub IsNoSessionRead : Input → Input → NoPlans → Type 0
 IsNoSessionRead before after (Refused r) = HasNoText r before after
     ⊎ ((bytes : List ℕ) × IsWholeText before after bytes
-    × (IsNotBound (scenario_of bytes) (Refused r) ⊎ (((c : Catalog) × (plans : List Plan) × IsBound (scenario_of bytes) c plans) × HasBadLine bytes r)))
-IsNoSessionRead before after (IllFormed line) = (bytes : List ℕ) × IsWholeText before after bytes × IsNotBound (scenario_of bytes) (IllFormed line)
+    × (IsNotBound (scenario_of bytes) (Refused r) ⊎
+    (((c : Catalog) × (plans : List Plan) × IsBound (scenario_of bytes) c plans) × HasBadLine bytes r)))
+IsNoSessionRead before after (IllFormed line) =
+    (bytes : List ℕ) × IsWholeText before after bytes × IsNotBound (scenario_of bytes) (IllFormed line)
 
 -- what an engine is left in by a session of this status
 abbrev pub phase_by : Status → Phase
 phase_by statuses.DiskFault = Closed
 phase_by status = Settled
 
--- The machine opened on the history of the files, in which no process is active, and went on by the lines. What it kept is kept in the
--- files, and in what a crash leaves; where a call of the rack failed, its count of faults rose.
-pub record IsSession (c : Catalog) (plans : List Plan) (lines : List Line) (before after : Files) (text : List ℕ) (status : Status) : Type 0 where
+-- The machine opened on the history of the files, in which no process is active, and went on by the lines. What it kept is kept in
+-- the files, and in what a crash leaves; where a call of the rack failed, its count of faults rose.
+pub record IsSession (c : Catalog) (plans : List Plan) (lines : List Line) (before after : Files) (text : List ℕ)
+    (status : Status) : Type 0 where
   pub history : History
   pub idle : active history.events ≡ []
   pub now : CoreState
@@ -78,8 +82,10 @@ IsPlayedOn c plans lines files files_after (Err r) = IsNotOpenedFor c r files fi
 abbrev pub IsNotRead : Input → Input → Result Said Refusal → Type 0
 IsNotRead before after found = IsSaidOfNone (IsNoSessionRead before after) found
 
--- What there is to say, in this order: what is wrong with the input, before any file is touched; or what the files and the lines come to.
+-- What there is to say, in this order: what is wrong with the input, before any file is touched; or what the files and the lines
+-- come to.
 abbrev pub IsSessionDue : Input → Input → Files → Files → Result Said Refusal → Type 0
 IsSessionDue before after files files_after found =
     (IsNotRead before after found × AreUntouched files files_after)
-    ⊎ ((c : Catalog) × (plans : List Plan) × (lines : List Line) × IsSessionRead before after c plans lines × IsPlayedOn c plans lines files files_after found)
+    ⊎ ((c : Catalog) × (plans : List Plan) × (lines : List Line) × IsSessionRead before after c plans lines
+    × IsPlayedOn c plans lines files files_after found)

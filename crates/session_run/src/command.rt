@@ -49,7 +49,8 @@ fn lines_refusal(error: LinesError) -> Refusal
 
 // The scenario and the lines of the source.
 fn script_of<S: Source>(alloc: Global, source: &mut S) -> Result<Script, NoPlans>
-    ensures read { IfOk result (λ s. IsSessionRead (input S.Source source.old) (input S.Source source.new) s.catalog s.plans.items s.lines.items) }
+    ensures read { IfOk result
+        (λ s. IsSessionRead (input S.Source source.old) (input S.Source source.new) s.catalog s.plans.items s.lines.items) }
     ensures valid { IfOk result (λ s. IsCatalog s.catalog) }
     ensures plans { IfOk result (λ s. Each (IsPlanFor s.catalog) s.plans.items) }
     ensures refused { IfErr result (λ no. IsNoSessionRead (input S.Source source.old) (input S.Source source.new) no) }
@@ -77,15 +78,17 @@ fn said_on<R: Rack + Drop, B: Resource>(
     requires ready { IsReady B.meaning B.sort engine.old }
     requires plans { Each (IsPlanFor engine.old.catalog) plans.now }
     ensures begun { IsCore engine.old.core }
-    ensures played { IfOk result (λ s. HasPlayed engine.old.catalog plans.now engine.old.core engine.new.core lines.now s.text.items s.status) }
+    ensures played { IfOk result
+        (λ s. HasPlayed engine.old.catalog plans.now engine.old.core engine.new.core lines.now s.text.items s.status) }
     ensures phase { IfOk result (λ s. engine.new.phase ≡ phase_by s.status) }
     ensures status { IfOk result (λ s. s.status ≢ Status.IllFormed) }
-    ensures fault { IfOk result (λ s. s.status ≡ statuses.DiskFault → Rose (R.faults engine.old.files.rack) (R.faults engine.new.files.rack)) }
+    ensures fault { IfOk result
+        (λ s. s.status ≡ statuses.DiskFault → Rose (R.faults engine.old.files.rack) (R.faults engine.new.files.rack)) }
     ensures refused { IfErr result (λ r. (r ≡ Refusal.NoMemory) × (engine.new ≡ engine.old)) }
     ensures goes { GoesOn R.disk R.faults plans.now engine.old engine.new }
     ensures fits { EachFits B.meaning B.sort engine.new.files.stores }
 {
-    engine.is_sound();
+    engine.invariant_holds();
     let mut text = Vec::new(alloc);
     text.reserve(FAULT_ROOM)?;
     let status = play_lines(alloc, engine, plans, lines, &mut text);
@@ -101,7 +104,8 @@ fn on_files<R: Rack + Drop, B: Resource>(
     requires boxes { AreBoxes B.sort parts.resources.items }
     requires catalog { IsCatalog script.now.catalog }
     requires plans { Each (IsPlanFor script.now.catalog) script.now.plans.items }
-    ensures due { IsPlayedOn script.now.catalog script.now.plans.items script.now.lines.items (files R.Rack parts.rack) (files R.Rack result.parts.rack) result.found }
+    ensures due { IsPlayedOn script.now.catalog script.now.plans.items script.now.lines.items (files R.Rack parts.rack)
+        (files R.Rack result.parts.rack) result.found }
     ensures late { IfErr result.found (λ r. comes_before_files r ≡ false) }
     ensures played { IfOk result.found (λ s. s.status ≢ Status.IllFormed) }
     ensures back { AreBoxes B.sort result.parts.resources.items }
@@ -111,7 +115,7 @@ fn on_files<R: Rack + Drop, B: Resource>(
     match opened(alloc, &script.catalog, parts) {
         Ok(mut engine) => {
             let found = said_on(alloc, &mut engine, &script.plans, &script.lines);
-            engine.is_sound();
+            engine.invariant_holds();
             CommandEnd {
                 parts: engine.into_parts(),
                 found,
@@ -131,8 +135,10 @@ pub fn session<S: Source, R: Rack + Drop, B: Resource>(
     parts: Parts<R, B>,
 ) -> CommandEnd<Parts<R, B>>
     requires boxes { AreBoxes B.sort parts.resources.items }
-    ensures due { IsSessionDue (input S.Source source.old) (input S.Source source.new) (files R.Rack parts.rack) (files R.Rack result.parts.rack) result.found }
-    ensures complete { IsSessionComplete (input S.Source source.old) (input S.Source source.new) (files R.Rack parts.rack) (files R.Rack result.parts.rack) result.found }
+    ensures due { IsSessionDue (input S.Source source.old) (input S.Source source.new) (files R.Rack parts.rack)
+        (files R.Rack result.parts.rack) result.found }
+    ensures complete { IsSessionComplete (input S.Source source.old) (input S.Source source.new) (files R.Rack parts.rack)
+        (files R.Rack result.parts.rack) result.found }
     ensures early { IfErr result.found (λ r. comes_before_files r ≡ true → result.parts.rack ≡ parts.rack) }
     ensures ill_formed { IfOk result.found (λ s. s.status ≡ Status.IllFormed → result.parts.rack ≡ parts.rack) }
     ensures back { AreBoxes B.sort result.parts.resources.items }

@@ -72,14 +72,18 @@ fn answer_line<R: Rack + Drop, B: Resource>(
     requires handed { AreHandedBy engine.old.core pieces.old.items }
     requires room { vec_len said.old + 11 ≤ vec_capacity said.old }
     ensures answered { OnOk result ((copy : Option Plan) × (text : List ℕ) × IsCopy (plan_for plans.now line.now) copy
-        × IsAnswered (play engine.old.catalog (session_of engine.old.core pieces.old.items) line.now copy) engine.new.core pieces.new.items text
+        × IsAnswered (play engine.old.catalog
+        (session_of engine.old.core pieces.old.items) line.now copy) engine.new.core pieces.new.items text
         × (said.new.items ≡ said.old.items ++ text)) }
     ensures handed { OnOk result (AreHandedBy engine.new.core pieces.new.items) }
     ensures cut { IfErr result (λ cut. (copy : Option Plan) × IsCopy (plan_for plans.now line.now) copy
-        × IsCut cut (play engine.old.catalog (session_of engine.old.core pieces.old.items) line.now copy) engine.old.core engine.new.core) }
+        × IsCut cut (play engine.old.catalog
+        (session_of engine.old.core pieces.old.items) line.now copy) engine.old.core engine.new.core) }
     ensures left { OnErr result (said.new.items ≡ said.old.items) }
     ensures room { vec_len said.new + 11 ≤ vec_capacity said.new }
-    ensures fault { IfErr result (λ cut. cut ≡ DiskFault → (engine.new.phase ≡ phase.Closed) × Rose (R.faults engine.old.files.rack) (R.faults engine.new.files.rack)) }
+    ensures fault { IfErr result
+        (λ cut. cut ≡ DiskFault → (engine.new.phase ≡ phase.Closed)
+        × Rose (R.faults engine.old.files.rack) (R.faults engine.new.files.rack)) }
     ensures goes { GoesOn R.disk R.faults plans.now engine.old engine.new }
     ensures fits { EachFits B.meaning B.sort engine.new.files.stores }
     ensures ready { result ≢ Err DiskFault → IsReady B.meaning B.sort engine.new }
@@ -89,8 +93,8 @@ fn answer_line<R: Rack + Drop, B: Resource>(
     Ok(())
 }
 
-/// Answers lines in order, with these plans of the scenario. What is printed of them is added; behind it stands the line of a fault, if
-/// one ended this before the last line.
+/// Answers lines in order, with these plans of the scenario. What is printed of them is added; behind it stands the line of a
+/// fault, if one ended this before the last line.
 pub fn play_lines<R: Rack + Drop, B: Resource>(
     alloc: Global,
     engine: &mut Engine<R, B>,
@@ -103,21 +107,22 @@ pub fn play_lines<R: Rack + Drop, B: Resource>(
     requires empty { said.old.items ≡ [] }
     requires room { vec_len said.old + 11 ≤ vec_capacity said.old }
     ensures played { HasPlayed engine.old.catalog plans.now engine.old.core engine.new.core lines.now said.new.items result }
-    ensures fault { result ≡ Status.DiskFault → (engine.new.phase ≡ phase.Closed) × Rose (R.faults engine.old.files.rack) (R.faults engine.new.files.rack) }
+    ensures fault { result ≡ Status.DiskFault → (engine.new.phase ≡ phase.Closed)
+        × Rose (R.faults engine.old.files.rack) (R.faults engine.new.files.rack) }
     ensures goes { GoesOn R.disk R.faults plans.now engine.old engine.new }
     ensures fits { EachFits B.meaning B.sort engine.new.files.stores }
     ensures ready { result ≢ Status.DiskFault → IsReady B.meaning B.sort engine.new }
 {
     let mut pieces = Vec::new(alloc);
     let mut rest = lines;
-    engine.is_sound();
+    engine.invariant_holds();
     while let [line, after @ ..] = rest {
         if let Err(cut) = answer_line(alloc, engine, plans, &mut pieces, line, said) {
-            engine.is_sound();
+            engine.invariant_holds();
             add_fault(said, cut);
             return status_of(cut);
         }
-        engine.is_sound();
+        engine.invariant_holds();
         rest = after;
     }
     Status::Done

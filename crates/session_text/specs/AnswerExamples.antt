@@ -11,7 +11,8 @@ use Rattle.machine_model.specs.declared.replies.StartWhy.TheVariants.{TooMany, N
 use Rattle.machine_model.specs.Replies.{piece, blocked, chosen, wait, all_ended, Handed, effected, refused, over}
 use Rattle.process_report.specs.Examples.{purchase, sale}
 use Rattle.process_report.specs.Lines.{text_of}
-use Rattle.session_text.specs.Answers.{admit_words, next_words, next_lines, finish_words, abort_words, no_process_words, no_refusal_words, not_started_words, refusal_words, started_words, waiting_words}
+use Rattle.session_text.specs.Answers.{admit_words, next_words, next_lines, finish_words, abort_words, no_process_words}
+use Rattle.session_text.specs.Answers.{no_refusal_words, not_started_words, refusal_words, started_words, waiting_words}
 
 abbrev pub plans : List Plan
 plans = purchase ∷ sale ∷ []
@@ -28,7 +29,8 @@ pub a_piece : line_of (admit_words plans 1 (piece first_of_purchase)) ≡ codes 
 unfolding digits
 a_piece = refl
 
-pub a_block : line_of (admit_words plans 2 (blocked (record { on = 1; other = 0; own = 0; rule = A3 }))) ≡ codes "blocked on 1.x by 2.u rule A3\n"
+pub a_block : line_of (admit_words plans 2 (blocked (record { on = 1; other = 0; own = 0; rule = A3 })))
+    ≡ codes "blocked on 1.x by 2.u rule A3\n"
 unfolding digits
 a_block = refl
 
@@ -36,7 +38,9 @@ pub a_victim : text_of (next_lines plans (2 ∷ []) (chosen undo_of_sale)) ≡ c
 unfolding digits
 a_victim = refl
 
-pub a_wait : line_of (next_words plans (wait (Some (record { process = 1; block = record { on = 2; other = 0; own = 1; rule = A2 } })))) ≡ codes "wait on 2.u by 1.y rule A2\n"
+pub a_wait : line_of (next_words plans
+    (wait (Some (record { process = 1; block = record { on = 2; other = 0; own = 1; rule = A2 } }))))
+    ≡ codes "wait on 2.u by 1.y rule A2\n"
 unfolding digits
 a_wait = refl
 

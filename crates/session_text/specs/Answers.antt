@@ -10,7 +10,8 @@ use Rattle.machine_model.specs.declared.replies.Refusal.TheVariants as refusals
 use Rattle.machine_model.specs.declared.replies.StartWhy.{StartWhy}
 use Rattle.machine_model.specs.declared.replies.StartWhy.TheVariants.{TooMany, NoRoom, NoMemory}
 use Rattle.machine_model.specs.Moment.{Piece}
-use Rattle.machine_model.specs.Replies.{Admit, piece, blocked, running, unknown, ended, exhausted, Next, chosen, wait, all_ended, stuck, BlockedProcess, Finish, effected, refused, over, dropped, no_piece, no_refusal}
+use Rattle.machine_model.specs.Replies.{Admit, piece, blocked, running, unknown, ended, exhausted, Next, chosen, wait, all_ended}
+use Rattle.machine_model.specs.Replies.{stuck, BlockedProcess, Finish, effected, refused, over, dropped, no_piece, no_refusal}
 use Rattle.process_report.specs.Lines.{Line, place_word}
 use Rattle.process_report.specs.Names.{step_name}
 use Rattle.process_report.specs.Blocks.{block_words}

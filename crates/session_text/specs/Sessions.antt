@@ -1,5 +1,6 @@
 -- What a text says to a session.
-use Rattle.std.specs.Prelude.{◌≡◌, ℕ, ◌+◌, List, [], ◌∷◌, ◌++◌, length, take, Option, Some, None, Result, Ok, Err, ⊤, codes, if◌then◌else◌}
+use Rattle.std.specs.Prelude.{◌≡◌, ℕ, ◌+◌, List, [], ◌∷◌, ◌++◌, length, take, Option, Some, None, Result, Ok, Err, ⊤, codes}
+use Rattle.std.specs.Prelude.{if◌then◌else◌}
 use Rattle.std.specs.Prelude.{Vec}
 use Rattle.std.specs.declared.alloc.Global.{Global}
 use Rattle.process_tree.specs.Making.{same_text}
@@ -20,7 +21,8 @@ pub record Mark : Type 0 where
 abbrev pub mark_from : ℕ → ℕ → List (List ℕ) → Option Mark
 mark_from size n [] = None
 mark_from size n (line ∷ lines) =
-    if same_text line (codes "%%") then Some (record { size = size; number = n; lines = lines }) else mark_from (size + length line + 1) (n + 1) lines
+    if same_text line (codes "%%") then Some (record { size = size; number = n; lines = lines })
+    else mark_from (size + length line + 1) (n + 1) lines
 
 -- of a text
 abbrev pub mark_of : List ℕ → Option Mark

@@ -59,7 +59,9 @@ pub fn put_piece(
     work: Work,
     out: &mut Vec<u8>,
 ) -> Result<(), AllocError>
-    ensures { OnOk result (out.new.items ≡ out.old.items ++ line_of (piece_words h.now.plans (record { number = n; process = i; step = step; work = work }))) }
+    ensures { OnOk result
+        (out.new.items ≡ out.old.items ++ line_of
+        (piece_words h.now.plans (record { number = n; process = i; step = step; work = work }))) }
 {
     match work {
         Work::Forward => put_step(alloc, h, n, b"do", i, step, out),

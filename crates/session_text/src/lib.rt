@@ -1,9 +1,9 @@
 //! The language of sessions: the lines that a session reads, and those that it prints.
 //!
-//! `specs/Sessions` says how a text is divided into a scenario and event lines and what these say, line by line, or which line is the
-//! first that has no form; `specs/Forms` has the form of each line. `divide` and `read_lines` answer that. `specs/Answers`
-//! has the line of each answer of the machine, and the functions of `answers`, `requests` and `finishing` write these. What a line does, and which answer is due, is
-//! no question of this crate.
+//! `specs/Sessions` says how a text is divided into a scenario and event lines and what these say, line by line, or which line is
+//! the first that has no form; `specs/Forms` has the form of each line. `divide` and `read_lines` answer that. `specs/Answers` has
+//! the line of each answer of the machine, and the functions of `answers`, `requests` and `finishing` write these. What a line
+//! does, and which answer is due, is no question of this crate.
 #![tactic(auto)]
 
 mod answers;

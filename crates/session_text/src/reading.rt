@@ -64,7 +64,9 @@ fn bad_line(n: usize) -> LinesError
 
 // Adds a line, and says whether another is looked at.
 fn add_line(lines: &mut Vec<Line>, line: Line) -> Result<bool, AllocError>
-    ensures { IfOk result (λ on. (n : ℕ) (rest : Said) → after lines.old.items (line_then n rest (Some line)) ≡ (if on then after lines.new.items rest else Ok lines.new.items)) }
+    ensures { IfOk result
+        (λ on. (n : ℕ) (rest : Said) → after lines.old.items (line_then n rest (Some line))
+        ≡ (if on then after lines.new.items rest else Ok lines.new.items)) }
 {
     if let Line::Stop = line {
         return Ok(false);
@@ -80,7 +82,9 @@ fn read_line(
     line: &[u8],
     n: usize,
 ) -> Result<bool, LinesError>
-    ensures on { IfOk result (λ on. (rest : Said) → after lines.old.items (unless_empty line.now n rest) ≡ (if on then after lines.new.items rest else Ok lines.new.items)) }
+    ensures on { IfOk result
+        (λ on. (rest : Said) → after lines.old.items (unless_empty line.now n rest)
+        ≡ (if on then after lines.new.items rest else Ok lines.new.items)) }
     ensures bad { IfErr result (λ e. (e ≡ NoMemory) ⊎ ((e ≡ BadLine n) × ((rest : Said) → unless_empty line.now n rest ≡ Err n))) }
 {
     if line.is_empty() {

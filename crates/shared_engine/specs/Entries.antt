@@ -6,7 +6,8 @@ use Rattle.process_tree.specs.declared.play.Outcome.{Outcome}
 use Rattle.process_tree.specs.declared.play.Outcome.TheVariants as outcome
 use Rattle.machine_model.specs.declared.replies.Refusal.{Refusal}
 use Rattle.machine_model.specs.declared.replies.Refusal.TheVariants as refusal
-use Rattle.machine_model.specs.Replies.{Next as NextReply, chosen, wait, all_ended, stuck, Finish as FinishReply, effected, refused, over, dropped, no_piece, no_refusal}
+use Rattle.machine_model.specs.Replies.{Next as NextReply, chosen, wait, all_ended, stuck, Finish as FinishReply, effected, refused}
+use Rattle.machine_model.specs.Replies.{over, dropped, no_piece, no_refusal}
 use Rattle.machine_model.specs.Turns.{Said, says, no_memory, disk_fault, is_closed, Turn, nexts, finishes, queues, flushes}
 use Rattle.process_core.specs.declared.replies.Next.{Next as CoreNext}
 use Rattle.process_core.specs.declared.replies.Next.TheVariants as next
@@ -105,6 +106,7 @@ SaysFinish n (is_closed k) said = said ≡ ended.Closed k
 -- the entry is that of this turn of the machine
 abbrev pub IsEntryOf : Turn → TurnEntry → Type 0
 IsEntryOf (nexts said) e = (s : NextSaid) × (e ≡ Next s) × SaysNext said s
-IsEntryOf (finishes n outcome said) e = (a : Answer) × (s : FinishSaid) × (e ≡ Finish n a s) × (outcome ≡ outcome_as a) × SaysFinish n said s
+IsEntryOf (finishes n outcome said) e =
+    (a : Answer) × (s : FinishSaid) × (e ≡ Finish n a s) × (outcome ≡ outcome_as a) × SaysFinish n said s
 IsEntryOf (queues n outcome said) e = ⊥
 IsEntryOf (flushes said) e = ⊥

@@ -23,7 +23,8 @@ knowledge s = s.place.me.0
 
 module _ {R B : Type 0} where
   -- what the seat knows of the opening: it was settled and sound
-  pub record HasOpened (disk : R → Disk) (meaning : B → Pairs) (sort : B → Kind) (v : View (SharedEngine R B) TurnEntry) : Type 0 where
+  pub record HasOpened (disk : R → Disk) (meaning : B → Pairs) (sort : B → Kind)
+      (v : View (SharedEngine R B) TurnEntry) : Type 0 where
     pub opening : SharedEngine R B
     pub known : v.opening ≡ Some opening
     pub sound : IsOpening disk meaning sort opening.engine

@@ -34,10 +34,11 @@ IfClosed Closed P = P
 pub record IsOpening {R B : Type 0} (disk : R → Disk) (meaning : B → Pairs) (sort : B → Kind) (o : EngineState R B) : Type 0 where
   pub ready : IsReady meaning sort o
   pub core : IsCore o.core
-  pub each : Told (disk o.files.rack) → EachImage (disk o.files.rack) (disk o.files.rack).moment (IsSound o.catalog (full_history o.core))
+  pub each : Told (disk o.files.rack) → EachImage (disk o.files.rack) (disk o.files.rack).moment
+      (IsSound o.catalog (full_history o.core))
 
--- These entries led from one engine to another: each is the machine's turn at its place; the engine went on meanwhile, and asked for no
--- start; each box has the values of its book; and it is closed only where a call of the rack failed.
+-- These entries led from one engine to another: each is the machine's turn at its place; the engine went on meanwhile, and asked
+-- for no start; each box has the values of its book; and it is closed only where a call of the rack failed.
 pub record AreOf {R B : Type 0} (disk : R → Disk) (faults : R → ℕ) (meaning : B → Pairs) (sort : B → Kind) (o : EngineState R B)
     (entries : List TurnEntry) (x : EngineState R B) : Type 0 where
   pub told : AreTold (subsystem_of o.catalog.ops) (progress o) entries (progress x)
@@ -47,7 +48,8 @@ pub record AreOf {R B : Type 0} (disk : R → Disk) (faults : R → ℕ) (meanin
   pub fault : IfClosed x.phase (Rose (faults o.files.rack) (faults x.files.rack))
 
 -- an engine stands for an opening one and these entries, if that may be an opening
-abbrev pub StandsFor : {R B : Type 0} → (R → Disk) → (R → ℕ) → (B → Pairs) → (B → Kind) → EngineState R B → List TurnEntry → EngineState R B
+abbrev pub StandsFor : {R B : Type 0} → (R → Disk) → (R → ℕ) → (B → Pairs) → (B → Kind) → EngineState R B → List TurnEntry
+    → EngineState R B
     → Type 0
 StandsFor disk faults meaning sort o entries x = IsOpening disk meaning sort o → AreOf disk faults meaning sort o entries x
 

@@ -24,8 +24,8 @@ pub struct SharedEngine<R: Rack + Drop, B: Resource> {
 }
 
 impl<R: Rack + Drop, B: Resource> SharedEngine<R, B> {
-    /// Hands out the first free piece in rotation, or says why there is none; a closed engine says so. Tells too whether the end of a
-    /// piece has found no memory.
+    /// Hands out the first free piece in rotation, or says why there is none; a closed engine says so. Tells too whether the end of
+    /// a piece has found no memory.
     pub fn next(&mut self) -> (Result<Next, Closed>, bool)
         requires rest { IsAtRest self.old.engine.phase }
         requires fits { EachFits B.meaning B.sort self.old.engine.files.stores }
@@ -34,7 +34,7 @@ impl<R: Rack + Drop, B: Resource> SharedEngine<R, B> {
         ensures given { IfOk result.0 (IsGiven self.new.engine.core) }
         ensures starved { (self.new.starved ≡ self.old.starved) × (result.1 ≡ self.old.starved) }
     {
-        self.engine.is_sound();
+        self.engine.invariant_holds();
         if let Err(closed) = self.engine.not_closed() {
             return (Err(closed), self.starved);
         }
@@ -48,10 +48,11 @@ impl<R: Rack + Drop, B: Resource> SharedEngine<R, B> {
         requires handed { IsHandedBy self.old.engine.core piece.piece }
         requires end { piece.piece.work ≡ End → answer ≡ Answer.Done }
         ensures leads { (o : EngineState R B) (es : List TurnEntry) → AreOf R.disk R.faults B.meaning B.sort o es self.old.engine
-            → AreOf R.disk R.faults B.meaning B.sort o (es ++ entry.Finish piece.piece.number answer (finish_said result) ∷ []) self.new.engine }
+            → AreOf R.disk R.faults B.meaning B.sort o
+            (es ++ entry.Finish piece.piece.number answer (finish_said result) ∷ []) self.new.engine }
         ensures starved { self.new.starved ≡ self.old.starved || lacks_memory result }
     {
-        self.engine.is_sound();
+        self.engine.invariant_holds();
         if let Err(Closed(count)) = self.engine.not_closed() {
             return Finish::Closed(count);
         }

@@ -47,8 +47,8 @@ pub fn ask<H: Wait, R: Rack + Drop, B: Resource>(
     (turn.done(entry), reply, Pause { changes, starved })
 }
 
-/// A turn for the end of a piece that was handed out in an earlier turn, by what came of its work. It may change what comes next, so
-/// whoever waits at the desk for a change is woken.
+/// A turn for the end of a piece that was handed out in an earlier turn, by what came of its work. It may change what comes next,
+/// so whoever waits at the desk for a change is woken.
 pub fn tell<H: Wait, R: Rack + Drop, B: Resource>(
     rt: &H,
     desk: &Desk<SharedEngine<R, B>>,

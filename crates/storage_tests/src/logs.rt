@@ -1,4 +1,5 @@
-// What no clause of `gate_log` says: the bytes of a file written by hand, files that are cut or damaged, and stops within an append or a retract.
+// What no clause of `gate_log` says: the bytes of a file written by hand, files that are cut or damaged, and stops within an append
+// or a retract.
 use gate_log::{Body, DiskFault, Log, LogError};
 use process_disk::{MemoryRack, Rack};
 use std::alloc::Global;

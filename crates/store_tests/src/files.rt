@@ -4,8 +4,8 @@ use resource_box::{Counters, Resource};
 use std::alloc::Global;
 use std::test::Fail;
 
-// File 1 after one committed effect: its header, the record of the effect, that of its commit, and a closed gate. The record has the
-// number, the process, the step, the direction, the verb, the key and the amount.
+// File 1 after one committed effect: its header, the record of the effect, that of its commit, and a closed gate. The record has
+// the number, the process, the step, the direction, the verb, the key and the amount.
 const FILE: &[u8] = b"tpsl\x01\x01\x00\x00\
 \x01\x19\x00\x10\x00\x00\x00\x00\x01\x00\x00\x00\x00\x00\x00\x00\x01\x00\x00\x00\x05\x00\x00\x00\x00\x00\x00\x00\
 \x01\x05\x00\x11\x00\x00\x00\x00\

@@ -2,7 +2,8 @@
 use Rattle.std.specs.Prelude.{◌≡◌, ⊤, Option, Some, None, Result, Ok, Err}
 use Rattle.subsystem_store.specs.declared.effect.Effect.{Effect}
 use Rattle.subsystem_store.specs.declared.errors.Prepare.{Prepare}
-use Rattle.subsystem_store.specs.declared.errors.Prepare.TheVariants.{Prepared as IsPrepared, Barred, DiskFault as PrepareFault, NoMemory as PrepareMemory}
+use Rattle.subsystem_store.specs.declared.errors.Prepare.TheVariants.{Prepared as IsPrepared, Barred, DiskFault as PrepareFault}
+use Rattle.subsystem_store.specs.declared.errors.Prepare.TheVariants.{NoMemory as PrepareMemory}
 use Rattle.subsystem_store.specs.declared.errors.StoreError.{StoreError}
 use Rattle.subsystem_store.specs.declared.errors.StoreError.TheVariants.{DiskFault, BadHeader, BadRecord, BadBook, NoMemory}
 use Rattle.subsystem_store.specs.declared.errors.StoreRefused.{StoreRefused}

@@ -1,5 +1,6 @@
 -- The bodies of a store's records.
-use Rattle.std.specs.Prelude.{ℕ, ℤ, pos, negsuc, Bool, ◌&&◌, ◌==◌, int_lt, not, List, [], ◌∷◌, ◌++◌, length, take, drop, flat_map, Option, Some, None, if◌then◌else◌, slice_index_or}
+use Rattle.std.specs.Prelude.{ℕ, ℤ, pos, negsuc, Bool, ◌&&◌, ◌==◌, int_lt, not, List, [], ◌∷◌, ◌++◌, length, take, drop, flat_map}
+use Rattle.std.specs.Prelude.{Option, Some, None, if◌then◌else◌, slice_index_or}
 use Rattle.std.specs.Int.{to_le_bytes, from_le_bytes, cast_signed, cast_unsigned, w16, w32, w64}
 use Rattle.commute_table.specs.declared.op.Verb.{Verb}
 use Rattle.commute_table.specs.declared.op.Verb.TheVariants.{Add, Take, Look, Put, Hold, Free}
@@ -12,7 +13,8 @@ use Rattle.subsystem_store.specs.declared.effect.Record.TheVariants.{Prepared, C
 -- an effect that is prepared: 16, its number, process and step, whether it is an undo, and its verb, key and amount
 abbrev pub prepared_bytes : Effect → List ℕ
 prepared_bytes e =
-    16 ∷ to_le_bytes w32 e.number ++ to_le_bytes w32 e.process ++ to_le_bytes w16 e.step ++ (if e.undo then 1 else 0) ∷ verb_code e.call.verb ∷ to_le_bytes w32 e.call.key ++ to_le_bytes w64 (cast_unsigned w64 e.call.amount)
+    16 ∷ to_le_bytes w32 e.number ++ to_le_bytes w32 e.process ++ to_le_bytes w16 e.step ++ (if e.undo then 1 else 0)
+    ∷ verb_code e.call.verb ∷ to_le_bytes w32 e.call.key ++ to_le_bytes w64 (cast_unsigned w64 e.call.amount)
 
 -- that the effect of a number is committed: 17 and the number
 abbrev pub committed_bytes : ℕ → List ℕ
@@ -55,7 +57,8 @@ is_amount a = not (int_lt a (negsuc 999999999)) && not (int_lt (pos 1000000000) 
 
 -- the record of 25 bytes: they are the bytes of an effect, whose amount is within its limit
 abbrev pub prepared_of : List ℕ → Option Record
-prepared_of body = if same_text (prepared_bytes (effect_at body)) body && is_amount (effect_at body).call.amount then Some (Prepared (effect_at body)) else None
+prepared_of body = if same_text (prepared_bytes (effect_at body)) body
+    && is_amount (effect_at body).call.amount then Some (Prepared (effect_at body)) else None
 
 -- the number that 5 bytes commit
 abbrev pub number_of : List ℕ → ℕ

@@ -1,6 +1,7 @@
 -- What a log's refusal is of a store.
 use Rattle.gate_log.specs.declared.errors.LogError.{LogError}
-use Rattle.gate_log.specs.declared.errors.LogError.TheVariants.{DiskFault as LogFault, BadHeader as NoHeader, BadRecord as NoRecord, NoMemory as LogMemory}
+use Rattle.gate_log.specs.declared.errors.LogError.TheVariants.{DiskFault as LogFault, BadHeader as NoHeader, BadRecord as NoRecord}
+use Rattle.gate_log.specs.declared.errors.LogError.TheVariants.{NoMemory as LogMemory}
 use Rattle.subsystem_store.specs.declared.errors.StoreError.{StoreError}
 use Rattle.subsystem_store.specs.declared.errors.StoreError.TheVariants.{DiskFault, BadHeader, BadRecord, NoMemory}
 

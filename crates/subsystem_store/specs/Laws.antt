@@ -36,11 +36,13 @@ IsReadAs kind q book doubt files = read_store kind q (file_of files q) ≡ Ok (r
 
 -- a file of a book that a store may have is read as that book
 abbrev pub BooksAreReadBack : Type 0
-BooksAreReadBack = (kind : Kind) (q : ℕ) (book : List Effect) (doubt : Option Effect) (files : FileSet) → IsGoodBook kind book doubt → IsStoreOf q book doubt files → IsReadAs kind q book doubt files
+BooksAreReadBack = (kind : Kind) (q : ℕ) (book : List Effect) (doubt : Option Effect) (files : FileSet) → IsGoodBook kind book doubt
+    → IsStoreOf q book doubt files → IsReadAs kind q book doubt files
 
 -- and a file of one of two such books, as each image of a crash within a call is, is read as one of the two
 abbrev pub EitherIsReadBack : Type 0
-EitherIsReadBack = (kind : Kind) (q : ℕ) (one two : List Effect × Option Effect) (files : FileSet) → IsGoodBook kind one.0 one.1 → IsGoodBook kind two.0 two.1
+EitherIsReadBack = (kind : Kind) (q : ℕ) (one two : List Effect × Option Effect) (files : FileSet) → IsGoodBook kind one.0 one.1
+    → IsGoodBook kind two.0 two.1
     → IsStoreOfEither q one two files → IsReadAs kind q one.0 one.1 files ⊎ IsReadAs kind q two.0 two.1 files
 
 -- A store may have the empty book,
@@ -49,15 +51,18 @@ EmptyIsGood = (kind : Kind) → IsGoodBook kind [] None
 
 -- a book with an effect in doubt that may follow it,
 abbrev pub PreparedIsGood : Type 0
-PreparedIsGood = (kind : Kind) (book : List Effect) (e : Effect) → IsGoodBook kind book None → length book < 16384 → FitsItsBytes e → may_follow kind book e ≡ true → IsGoodBook kind book (Some e)
+PreparedIsGood = (kind : Kind) (book : List Effect) (e : Effect) → IsGoodBook kind book None → length book < 16384 → FitsItsBytes e
+    → may_follow kind book e ≡ true → IsGoodBook kind book (Some e)
 
 -- that book once the effect is committed,
 abbrev pub CommittedIsGood : Type 0
-CommittedIsGood = (kind : Kind) (book : List Effect) (e : Effect) → IsGoodBook kind book (Some e) → IsGoodBook kind (book ++ e ∷ []) None
+CommittedIsGood = (kind : Kind) (book : List Effect) (e : Effect) → IsGoodBook kind book (Some e)
+    → IsGoodBook kind (book ++ e ∷ []) None
 
 -- that book once the effect is rolled back,
 abbrev pub RolledBackIsGood : Type 0
-RolledBackIsGood = (kind : Kind) (book : List Effect) (doubt : Option Effect) → IsGoodBook kind book doubt → IsGoodBook kind book None
+RolledBackIsGood = (kind : Kind) (book : List Effect) (doubt : Option Effect) → IsGoodBook kind book doubt
+    → IsGoodBook kind book None
 
 -- and each that is read from a file.
 abbrev pub ReadIsGood : Type 0

@@ -1,9 +1,11 @@
 -- The order of a store's records.
-use Rattle.std.specs.Prelude.{ℕ, ◌+◌, Bool, true, false, not, ◌&&◌, ◌||◌, ◌==◌, nat_lt, nat_le, List, [], ◌∷◌, ◌++◌, Option, Some, None, Result, Ok, Err, if◌then◌else◌, is_none}
+use Rattle.std.specs.Prelude.{ℕ, ◌+◌, Bool, true, false, not, ◌&&◌, ◌||◌, ◌==◌, nat_lt, nat_le, List, [], ◌∷◌, ◌++◌, Option, Some}
+use Rattle.std.specs.Prelude.{None, Result, Ok, Err, if◌then◌else◌, is_none}
 use Rattle.resource_box.specs.declared.call.Kind.{Kind}
 use Rattle.gate_log.specs.LogFile.{read_log}
 use Rattle.gate_log.specs.declared.errors.LogError.{LogError}
-use Rattle.gate_log.specs.declared.errors.LogError.TheVariants.{DiskFault as LogFault, BadHeader as NoHeader, BadRecord as NoRecord, NoMemory as LogMemory}
+use Rattle.gate_log.specs.declared.errors.LogError.TheVariants.{DiskFault as LogFault, BadHeader as NoHeader, BadRecord as NoRecord}
+use Rattle.gate_log.specs.declared.errors.LogError.TheVariants.{NoMemory as LogMemory}
 use Rattle.subsystem_store.specs.declared.effect.Effect.{Effect}
 use Rattle.subsystem_store.specs.declared.errors.StoreError.{StoreError}
 use Rattle.subsystem_store.specs.declared.errors.StoreError.TheVariants.{DiskFault, BadHeader, BadRecord, BadBook, NoMemory}
@@ -33,7 +35,8 @@ may_follow kind book e = is_above book e.number && (not e.undo || can_undo kind 
 
 -- after one record more; or none where it is out of place
 abbrev pub after_prepared : Kind → Book → Effect → Option Book
-after_prepared kind b e = if is_none b.doubt && may_follow kind b.book e then Some (record { book = b.book; doubt = Some e }) else None
+after_prepared kind b e =
+    if is_none b.doubt && may_follow kind b.book e then Some (record { book = b.book; doubt = Some e }) else None
 
 abbrev pub after_committed : List Effect → Option Effect → ℕ → Option Book
 after_committed book None number = None

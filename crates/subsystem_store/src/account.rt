@@ -1,9 +1,12 @@
 // A box, its book, and what may be undone.
-ghost use Rattle.std.specs.Prelude.{◌≡◌, ◌≢◌, ◌<◌, ◌≤◌, ◌+◌, ◌++◌, ◌∷◌, [], List, ℕ, length, None, Some, true, false, not, ◌||◌, ◌&&◌, nat_le, Ok, Err, IfOk, IfErr, OnOk, OnErr, IsOk, IsTrue, vec_len, vec_capacity, IsSome, IfSome, option_copied, is_some, is_none, ◌-◌, if◌then◌else◌};
+ghost use Rattle.std.specs.Prelude.{◌≡◌, ◌≢◌, ◌<◌, ◌≤◌, ◌+◌, ◌++◌, ◌∷◌, [], List, ℕ, length, None, Some, true, false, not, ◌||◌};
+ghost use Rattle.std.specs.Prelude.{◌&&◌, nat_le, Ok, Err, IfOk, IfErr, OnOk, OnErr, IsOk, IsTrue, vec_len, vec_capacity, IsSome};
+ghost use Rattle.std.specs.Prelude.{IfSome, option_copied, is_some, is_none, ◌-◌, if◌then◌else◌};
 ghost use Rattle.resource_box.specs.Meaning.{Pairs, value_at, has_key};
 ghost use Rattle.resource_box.specs.Table.{bars};
 ghost use Rattle.subsystem_store.specs.Values.{values, take_last, can_undo, settle, undone, beside};
-ghost use Rattle.subsystem_store.specs.Order.{is_above, may_follow, commits, placed, after_prepared, after_committed, after_body, read_bodies, no_book};
+ghost use Rattle.subsystem_store.specs.Order.{is_above, may_follow, commits, placed, after_prepared, after_committed, after_body};
+ghost use Rattle.subsystem_store.specs.Order.{read_bodies, no_book};
 ghost use Rattle.subsystem_store.specs.Bodies.{record_of, store_bodies};
 ghost use Rattle.subsystem_store.specs.Answers.{RefusedAs};
 ghost use Rattle.subsystem_store.specs.Opened.{Fits, book_of};
@@ -91,7 +94,8 @@ impl<B: Resource> Account<B> {
     /// Whether the values bar a forward effect.
     pub fn bars(&self, effect: &Effect) -> bool
         requires fits { Fits B.meaning B.sort self.now }
-        ensures { result ≡ (if effect.now.undo then false else bars self.now.kind effect.now.call (value_at (values self.now.kind self.now.book) effect.now.call.key)) }
+        ensures { result ≡ (if effect.now.undo then false
+            else bars self.now.kind effect.now.call (value_at (values self.now.kind self.now.book) effect.now.call.key)) }
     {
         !effect.undo && self.resource.bars(&effect.call)
     }
@@ -127,7 +131,8 @@ impl<B: Resource> Account<B> {
         ensures fits { IfOk result (λ a. Fits B.meaning B.sort a) }
         ensures kind { IfOk result (λ a. a.kind ≡ self.kind) }
         ensures bodies { IfOk result (λ a. store_bodies a.book a.doubt ≡ bodies.now) }
-        ensures refused { IfErr result (λ r. RefusedAs (read_bodies self.kind 1 bodies.now no_book) r.why × (r.why ≢ StoreError.DiskFault)) }
+        ensures refused { IfErr result
+            (λ r. RefusedAs (read_bodies self.kind 1 bodies.now no_book) r.why × (r.why ≢ StoreError.DiskFault)) }
         ensures cleared { IfErr result (λ r. ((B.meaning r.resource).items ≡ []) × (B.sort r.resource ≡ B.sort self.resource)) }
         ensures small { OnOk result (length bodies.now ≤ 32768) }
     {
@@ -150,9 +155,13 @@ impl<B: Resource> Account<B> {
     /// Takes the record of one body, which is the one of this number.
     fn take(&mut self, number: u32, body: &[u8]) -> Result<(), StoreError>
         requires fits { Fits B.meaning B.sort self.old }
-        ensures read { OnOk result (after_body self.old.kind number (book_of self.old) (record_of body.now) ≡ Ok (book_of self.new)) }
-        ensures bodies { OnOk result (store_bodies self.new.book self.new.doubt ≡ store_bodies self.old.book self.old.doubt ++ body.now ∷ []) }
-        ensures refused { IfErr result (λ e. RefusedAs (after_body self.old.kind number (book_of self.old) (record_of body.now)) e × (e ≢ StoreError.DiskFault)) }
+        ensures read { OnOk result
+            (after_body self.old.kind number (book_of self.old) (record_of body.now) ≡ Ok (book_of self.new)) }
+        ensures bodies { OnOk result
+            (store_bodies self.new.book self.new.doubt ≡ store_bodies self.old.book self.old.doubt ++ body.now ∷ []) }
+        ensures refused { IfErr result
+            (λ e. RefusedAs (after_body self.old.kind number (book_of self.old) (record_of body.now)) e
+            × (e ≢ StoreError.DiskFault)) }
         ensures few { OnOk result (number ≤ 32768) }
         ensures fits { Fits B.meaning B.sort self.new }
         ensures same { self.new.kind ≡ self.old.kind }
@@ -173,8 +182,12 @@ impl<B: Resource> Account<B> {
 
     fn take_prepared(&mut self, number: u32, effect: Effect) -> Result<(), StoreError>
         requires fits { Fits B.meaning B.sort self.old }
-        ensures ok { OnOk result ((placed number (after_prepared self.old.kind (book_of self.old) effect) ≡ Ok (book_of self.new)) × (self.old.doubt ≡ None) × (self.new.doubt ≡ Some effect) × (self.new.book ≡ self.old.book)) }
-        ensures refused { IfErr result (λ e. e ≢ StoreError.NoMemory → (e ≡ StoreError.BadBook number) × (placed number (after_prepared self.old.kind (book_of self.old) effect) ≡ Err (StoreError.BadBook number))) }
+        ensures ok { OnOk result
+            ((placed number (after_prepared self.old.kind (book_of self.old) effect) ≡ Ok (book_of self.new))
+            × (self.old.doubt ≡ None) × (self.new.doubt ≡ Some effect) × (self.new.book ≡ self.old.book)) }
+        ensures refused { IfErr result
+            (λ e. e ≢ StoreError.NoMemory → (e ≡ StoreError.BadBook number)
+            × (placed number (after_prepared self.old.kind (book_of self.old) effect) ≡ Err (StoreError.BadBook number))) }
         ensures few { OnOk result (number ≤ 32768) }
         ensures fits { Fits B.meaning B.sort self.new }
         ensures same { self.new.kind ≡ self.old.kind }
@@ -191,8 +204,13 @@ impl<B: Resource> Account<B> {
 
     fn take_committed(&mut self, number: u32, committed: u32) -> Result<(), StoreError>
         requires fits { Fits B.meaning B.sort self.old }
-        ensures ok { OnOk result ((placed number (after_committed self.old.book self.old.doubt committed) ≡ Ok (book_of self.new)) × IfSome self.old.doubt (λ e. (e.number ≡ committed) × (self.new.book ≡ self.old.book ++ e ∷ [])) × IsSome self.old.doubt × (self.new.doubt ≡ None)) }
-        ensures refused { IfErr result (λ e. (e ≡ StoreError.BadBook number) × (placed number (after_committed self.old.book self.old.doubt committed) ≡ Err (StoreError.BadBook number))) }
+        ensures ok { OnOk result
+            ((placed number (after_committed self.old.book self.old.doubt committed) ≡ Ok (book_of self.new))
+            × IfSome self.old.doubt (λ e. (e.number ≡ committed) × (self.new.book ≡ self.old.book ++ e ∷ []))
+            × IsSome self.old.doubt × (self.new.doubt ≡ None)) }
+        ensures refused { IfErr result
+            (λ e. (e ≡ StoreError.BadBook number) ×
+            (placed number (after_committed self.old.book self.old.doubt committed) ≡ Err (StoreError.BadBook number))) }
         ensures few { OnOk result (number ≤ 32768) }
         ensures fits { Fits B.meaning B.sort self.new }
         ensures same { self.new.kind ≡ self.old.kind }
@@ -206,7 +224,8 @@ impl<B: Resource> Account<B> {
     }
 
     fn is_in_place(&self, number: u32, effect: &Effect) -> bool
-        ensures place { result ≡ (is_none self.now.doubt && may_follow self.now.kind self.now.book effect.now && nat_le number 32768) }
+        ensures place { result ≡
+            (is_none self.now.doubt && may_follow self.now.kind self.now.book effect.now && nat_le number 32768) }
         ensures few { IsTrue result → number ≤ 32768 }
     {
         self.doubt.is_none() && self.may_follow(effect) && number <= 32_768
@@ -275,7 +294,9 @@ fn reserve(book: &mut Vec<Effect>, undoable: &mut Vec<Undoable>) -> Result<(), A
     requires few { vec_len undoable.old ≤ vec_capacity book.old }
     ensures same { (book.new.items ≡ book.old.items) × (undoable.new.items ≡ undoable.old.items) }
     ensures keeps { (vec_capacity book.old ≤ vec_capacity book.new) × (vec_capacity undoable.old ≤ vec_capacity undoable.new) }
-    ensures room { OnOk result ((vec_len book.new + vec_len undoable.new + 2 ≤ vec_capacity book.new) × (vec_len undoable.new + 1 ≤ vec_capacity undoable.new)) }
+    ensures room { OnOk result
+        ((vec_len book.new + vec_len undoable.new + 2 ≤ vec_capacity book.new)
+        × (vec_len undoable.new + 1 ≤ vec_capacity undoable.new)) }
 {
     book.reserve(undoable.len() + 2)?;
     undoable.reserve(1)
@@ -286,8 +307,10 @@ fn settle<B: Resource>(resource: &mut B, undoable: &mut Vec<Undoable>, effect: E
     requires ready { IsTrue (has_key (B.meaning resource.old).items effect.call.key) }
     requires room { effect.undo ≡ false → vec_len undoable.old < vec_capacity undoable.old }
     requires found { effect.undo ≡ true → IsTrue (is_some (take_last effect undoable.old.items)) }
-    ensures pairs { (B.meaning resource.new).items ≡ (settle (B.sort resource.old) (beside (B.meaning resource.old).items undoable.old.items) effect).pairs }
-    ensures undoable { undoable.new.items ≡ (settle (B.sort resource.old) (beside (B.meaning resource.old).items undoable.old.items) effect).undoable }
+    ensures pairs { (B.meaning resource.new).items ≡
+        (settle (B.sort resource.old) (beside (B.meaning resource.old).items undoable.old.items) effect).pairs }
+    ensures undoable { undoable.new.items ≡
+        (settle (B.sort resource.old) (beside (B.meaning resource.old).items undoable.old.items) effect).undoable }
     ensures kind { B.sort resource.new ≡ B.sort resource.old }
     ensures capacity { vec_capacity undoable.old ≤ vec_capacity undoable.new }
     ensures size { vec_len undoable.new ≡ (if effect.undo then vec_len undoable.old - 1 else vec_len undoable.old + 1) }
@@ -303,8 +326,12 @@ fn settle<B: Resource>(resource: &mut B, undoable: &mut Vec<Undoable>, effect: E
 fn undo<B: Resource>(resource: &mut B, undoable: &mut Vec<Undoable>, effect: &Effect)
     requires ready { IsTrue (has_key (B.meaning resource.old).items effect.now.call.key) }
     requires found { IsTrue (is_some (take_last effect.now undoable.old.items)) }
-    ensures pairs { (B.meaning resource.new).items ≡ (undone (B.sort resource.old) (beside (B.meaning resource.old).items undoable.old.items) effect.now (take_last effect.now undoable.old.items)).pairs }
-    ensures undoable { undoable.new.items ≡ (undone (B.sort resource.old) (beside (B.meaning resource.old).items undoable.old.items) effect.now (take_last effect.now undoable.old.items)).undoable }
+    ensures pairs { (B.meaning resource.new).items ≡
+        (undone (B.sort resource.old) (beside (B.meaning resource.old).items undoable.old.items) effect.now
+        (take_last effect.now undoable.old.items)).pairs }
+    ensures undoable { undoable.new.items ≡
+        (undone (B.sort resource.old) (beside (B.meaning resource.old).items undoable.old.items) effect.now
+        (take_last effect.now undoable.old.items)).undoable }
     ensures kind { B.sort resource.new ≡ B.sort resource.old }
     ensures capacity { vec_capacity undoable.old ≤ vec_capacity undoable.new }
     ensures size { vec_len undoable.new + 1 ≡ vec_len undoable.old }

@@ -2,7 +2,8 @@
 ghost use Rattle.std.specs.Prelude.{◌≡◌, ◌<◌, ◌≤◌, ◌+◌, take, drop, length, Some, None, IsTrue, if◌then◌else◌, MatchOption};
 ghost use Rattle.std.specs.Int.{from_le_bytes, w16, w32, w64};
 ghost use Rattle.process_tree.specs.Making.{same_text};
-ghost use Rattle.subsystem_store.specs.Bodies.{prepared_bytes, committed_bytes, verb_of, effect_at, is_amount, record_of, prepared_of, committed_of};
+ghost use Rattle.subsystem_store.specs.Bodies.{prepared_bytes, committed_bytes, verb_of, effect_at, is_amount, record_of};
+ghost use Rattle.subsystem_store.specs.Bodies.{prepared_of, committed_of};
 
 use crate::Effect;
 use crate::effect::Record;

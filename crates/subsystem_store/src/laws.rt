@@ -1,7 +1,8 @@
 // What is proved of the books of stores.
 ghost use Rattle.std.specs.Prelude.{◌≡◌, true};
 ghost use Rattle.subsystem_store.specs.Bodies.{is_amount};
-ghost use Rattle.subsystem_store.specs.Laws.{BooksAreReadBack, EitherIsReadBack, FitsItsBytes, EmptyIsGood, PreparedIsGood, CommittedIsGood, RolledBackIsGood, ReadIsGood};
+ghost use Rattle.subsystem_store.specs.Laws.{BooksAreReadBack, EitherIsReadBack, FitsItsBytes, EmptyIsGood, PreparedIsGood};
+ghost use Rattle.subsystem_store.specs.Laws.{CommittedIsGood, RolledBackIsGood, ReadIsGood};
 
 use crate::Effect;
 

@@ -1,5 +1,6 @@
 // An open store.
-ghost use Rattle.std.specs.Prelude.{◌≡◌, ◌≢◌, ◌↔◌, ◌⊎◌, ◌<◌, ◌≤◌, ◌+◌, ◌++◌, ◌∷◌, [], List, ℕ, length, None, Some, true, false, OnOk, OnErr, IfOk, IfErr, IfSome, IsSome, if◌then◌else◌, option_copied};
+ghost use Rattle.std.specs.Prelude.{◌≡◌, ◌≢◌, ◌↔◌, ◌⊎◌, ◌<◌, ◌≤◌, ◌+◌, ◌++◌, ◌∷◌, [], List, ℕ, length, None, Some, true, false};
+ghost use Rattle.std.specs.Prelude.{OnOk, OnErr, IfOk, IfErr, IfSome, IsSome, if◌then◌else◌, option_copied};
 ghost use Rattle.process_flow.specs.Causes.{Rose, HasCause};
 ghost use Rattle.process_disk.specs.Disk.{Told, file_of};
 ghost use Rattle.process_disk.specs.Images.{EachImage, OthersAsBefore, AllAsBefore};
@@ -37,7 +38,13 @@ impl<B: Drop> Model for Store<B> {
 
     ghost Value = { Opened B };
 
-    ghost view = { λ s. record { log = s.log; kind = s.account.kind; resource = s.account.resource; book = s.account.book; doubt = s.account.doubt } };
+    ghost view = { λ s. record {
+      log = s.log;
+      kind = s.account.kind;
+      resource = s.account.resource;
+      book = s.account.book;
+      doubt = s.account.doubt;
+    } };
 
     ghost invariant = { λ s. (s.log.count ≡ records_of (length s.account.book) s.account.doubt)
         × (length s.account.book ≤ 16384)
@@ -58,7 +65,8 @@ impl<B: Resource> Store<B> {
         ensures fits { IfOk result (λ s. Fits B.meaning B.sort (account_of s)) }
         ensures unused { IfOk result (λ s. (s.log.file ≡ file) × (s.kind ≡ B.sort resource) × (s.book ≡ []) × (s.doubt ≡ None)) }
         ensures cleared { IfErr result (λ r. ((B.meaning r.resource).items ≡ []) × (B.sort r.resource ≡ B.sort resource)) }
-        ensures refused { IfErr result (λ r. r.why ≢ StoreError.NoMemory → (r.why ≡ StoreError.DiskFault) × Rose (R.faults rack.old) (R.faults rack.new)) }
+        ensures refused { IfErr result
+            (λ r. r.why ≢ StoreError.NoMemory → (r.why ≡ StoreError.DiskFault) × Rose (R.faults rack.old) (R.faults rack.new)) }
         ensures others { Told (R.disk rack.old) → OthersAsBefore file (R.disk rack.old) (R.disk rack.new) }
         ensures tells { (R.disk rack.new).tells ≡ (R.disk rack.old).tells }
         ensures later { R.faults rack.old ≤ R.faults rack.new }
@@ -81,7 +89,8 @@ impl<B: Resource> Store<B> {
         resource: B,
     ) -> Result<Self, StoreRefused<B>>
         requires file { file < 9 }
-        ensures answer { Told (R.disk rack.old) → OpensAs (read_store (B.sort resource) file (file_of (R.disk rack.old).files file)) result }
+        ensures answer { Told (R.disk rack.old) → OpensAs
+            (read_store (B.sort resource) file (file_of (R.disk rack.old).files file)) result }
         ensures stands { Told (R.disk rack.old) → IfOk result (λ s. Stands s (R.disk rack.new)) }
         ensures fits { IfOk result (λ s. Fits B.meaning B.sort (account_of s)) }
         ensures store { IfOk result (λ s. (s.log.file ≡ file) × (s.kind ≡ B.sort resource)) }
@@ -118,9 +127,12 @@ impl<B: Resource> Store<B> {
             EachImage (R.disk rack.new) (R.disk rack.old).moment (IsStoreOfEither self.old.log.file (self.old.book, None) (self.old.book, Some effect)) }
         ensures fits { Fits B.meaning B.sort (account_of self.new) }
         ensures doubt { self.new.doubt ≡ doubt_after result effect }
-        ensures barred { (result ≡ Prepare.Barred) ↔ ((if effect.undo then false else bars self.old.kind effect.call (value_at (values self.old.kind self.old.book) effect.call.key)) ≡ true) }
+        ensures barred { (result ≡ Prepare.Barred) ↔
+            ((if effect.undo then false else bars self.old.kind effect.call
+            (value_at (values self.old.kind self.old.book) effect.call.key)) ≡ true) }
         ensures undo { effect.undo ≡ true → (result ≡ Prepare.Prepared) ⊎ (result ≡ Prepare.DiskFault) }
-        ensures untouched { ((result ≡ Prepare.Barred) ⊎ (result ≡ Prepare.NoMemory)) → (rack.new ≡ rack.old) × (self.new.log ≡ self.old.log) }
+        ensures untouched { ((result ≡ Prepare.Barred) ⊎ (result ≡ Prepare.NoMemory))
+            → (rack.new ≡ rack.old) × (self.new.log ≡ self.old.log) }
         ensures same { (self.new.log.file ≡ self.old.log.file) × (self.new.kind ≡ self.old.kind) × (self.new.book ≡ self.old.book) }
         ensures others { Told (R.disk rack.old) → OthersAsBefore self.old.log.file (R.disk rack.old) (R.disk rack.new) }
         ensures tells { (R.disk rack.new).tells ≡ (R.disk rack.old).tells }

@@ -6,7 +6,7 @@ use Rattle.std.proofs.lemmas.Bool.{and_parts, and_left, and_right, and_from, leb
 use Rattle.process_tree.specs.Making.{are_tries, are_refusals, has_good_options}
 use Rattle.process_tree.specs.declared.step.Step.{Step}
 use Rattle.process_tree.specs.declared.step.StepKind.{StepKind}
-use Rattle.process_tree.specs.declared.step.StepKind.TheVariants.{C, P, R}
+use Rattle.process_tree.specs.declared.step.StepKind.TheVariants.{C, P, R, Cr}
 use Rattle.text_words.specs.declared.marks.Setting.{Setting}
 use Rattle.text_words.specs.declared.marks.Setting.TheVariants.{Tries, Undo, Refuse, UndoRefuse}
 use Rattle.text_words.specs.Marks.{settings, default_of, number_of, takes, is_setting_number}
@@ -62,6 +62,9 @@ all_take P s e =
 all_take R s e =
     let parts = four (are_tries s.tries) (nat_eq s.undo_tries 3) (are_refusals s.refuse) (nat_eq s.undo_refuse 0) e in
     (parts.0, (parts.2, tt))
+all_take Cr s e =
+    let parts = four (are_tries s.tries) (are_tries s.undo_tries) (are_refusals s.refuse) (are_refusals s.undo_refuse) e in
+    (parts.0, (parts.1, (parts.2, (parts.3, tt))))
 
 -- where an option is left out, its number is one that it takes
 pub default_is_good : (x : Setting) → takes x (default_of x) ≡ true

@@ -3,7 +3,7 @@ use Rattle.std.proofs.Common.{◌≡◌, ◌≢◌, ◌+◌, ℕ, zero, suc, add
 use Rattle.std.specs.Cmp.Lexicographic.{same_text as texts_are_same}
 use Rattle.process_tree.specs.Making.{same_text}
 use Rattle.process_tree.specs.declared.step.StepKind.{StepKind}
-use Rattle.process_tree.specs.declared.step.StepKind.TheVariants.{C, P, R}
+use Rattle.process_tree.specs.declared.step.StepKind.TheVariants.{C, P, R, Cr}
 use Rattle.text_words.specs.declared.marks.At.{At}
 use Rattle.text_words.specs.declared.marks.At.TheVariants.{Begin, BehindStep, BehindChoice}
 use Rattle.text_words.specs.declared.marks.Mark.{Mark}
@@ -24,9 +24,11 @@ pub meaning_of_kind : (at : At) (begun : ℕ) (k : StepKind) → may_go_on at �
 meaning_of_kind Begin begun C e = refl
 meaning_of_kind Begin begun P e = refl
 meaning_of_kind Begin begun R e = refl
+meaning_of_kind Begin begun Cr e = refl
 meaning_of_kind BehindStep begun C e = refl
 meaning_of_kind BehindStep begun P e = refl
 meaning_of_kind BehindStep begun R e = refl
+meaning_of_kind BehindStep begun Cr e = refl
 meaning_of_kind BehindChoice begun k e = absurd (cc)
 
 -- a block may be closed behind a step and behind a choice
@@ -58,13 +60,15 @@ choose_means BehindStep k e = refl
 choose_means BehindChoice k e = absurd (cc)
 
 kind_word_is : (w : List ℕ) (k : StepKind) → kind_of_word w ≡ Some k → w ≡ kind_word k
-kind_word_is w k e = by_c (same_text w (codes "c")) (same_text w (codes "p")) (same_text w (codes "r")) refl refl refl
+kind_word_is w k e = by_c (same_text w (codes "c")) (same_text w (codes "p")) (same_text w (codes "r")) (same_text w (codes "cr")) refl refl refl refl
   where
-    by_c : (c p r : Bool) → same_text w (codes "c") ≡ c → same_text w (codes "p") ≡ p → same_text w (codes "r") ≡ r → w ≡ kind_word k
-    by_c true p r ec ep er = let found : Some C ≡ Some k = sym (rw ec refl) ∙ e in let same : C ≡ k = cc in texts_are_same w (codes "c") (sym ec) ∙ ap kind_word same
-    by_c false true r ec ep er = let found : Some P ≡ Some k = sym (rw (ec, ep) refl) ∙ e in let same : P ≡ k = cc in texts_are_same w (codes "p") (sym ep) ∙ ap kind_word same
-    by_c false false true ec ep er = let found : Some R ≡ Some k = sym (rw (ec, ep, er) refl) ∙ e in let same : R ≡ k = cc in texts_are_same w (codes "r") (sym er) ∙ ap kind_word same
-    by_c false false false ec ep er = let found : None ≡ Some k = sym (rw (ec, ep, er) refl) ∙ e in absurd (cc)
+    by_c : (c p r cr : Bool) → same_text w (codes "c") ≡ c → same_text w (codes "p") ≡ p → same_text w (codes "r") ≡ r → same_text w (codes "cr") ≡ cr → w ≡ kind_word k
+    by_c true p r cr ec ep er ecr = let found : Some C ≡ Some k = sym (rw ec refl) ∙ e in let same : C ≡ k = cc in texts_are_same w (codes "c") (sym ec) ∙ ap kind_word same
+    by_c false true r cr ec ep er ecr = let found : Some P ≡ Some k = sym (rw (ec, ep) refl) ∙ e in let same : P ≡ k = cc in texts_are_same w (codes "p") (sym ep) ∙ ap kind_word same
+    by_c false false true cr ec ep er ecr = let found : Some R ≡ Some k = sym (rw (ec, ep, er) refl) ∙ e in let same : R ≡ k = cc in texts_are_same w (codes "r") (sym er) ∙ ap kind_word same
+    by_c false false false true ec ep er ecr =
+        let found : Some Cr ≡ Some k = sym (rw (ec, ep, er, ecr) refl) ∙ e in let same : Cr ≡ k = cc in texts_are_same w (codes "cr") (sym ecr) ∙ ap kind_word same
+    by_c false false false false ec ep er ecr = let found : None ≡ Some k = sym (rw (ec, ep, er, ecr) refl) ∙ e in absurd (cc)
 
 opening_word : (begun : ℕ) (w : List ℕ) (n : Next) → opening w ≡ Some n → IsWordOf begun n w
 opening_word begun w n e = by_tests (same_text w (codes "choose")) (kind_of_word w) refl refl

@@ -1,7 +1,8 @@
 -- What was expected, as it reads.
 use Rattle.std.specs.Prelude.{ℕ, List, codes}
 use Rattle.text_words.specs.declared.expected.Expected.{Expected}
-use Rattle.text_words.specs.declared.expected.Expected.TheVariants.{Process, Name, Step, Operation, Key, Amount, Number, Next, Close, Or}
+use Rattle.text_words.specs.declared.expected.Expected.TheVariants.{Process, Name, Step, Operation, Key, Amount, Number, Next}
+use Rattle.text_words.specs.declared.expected.Expected.TheVariants.{Close, Or}
 
 -- the word of what was expected
 abbrev pub expected_word : Expected → List ℕ

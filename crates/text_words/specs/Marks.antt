@@ -1,10 +1,11 @@
 -- What words mean in a block.
-use Rattle.std.specs.Prelude.{◌≡◌, ⊤, ℕ, zero, suc, List, [], ◌∷◌, Bool, true, false, codes, if◌then◌else◌, Option, Some, None, ◌&&◌}
+use Rattle.std.specs.Prelude.{◌≡◌, ⊤, ℕ, zero, suc, List, [], ◌∷◌, Bool, true, false, codes, if◌then◌else◌, Option, Some, None}
+use Rattle.std.specs.Prelude.{◌&&◌}
 use Rattle.std.specs.Str.Parse.{digits_value}
 use Rattle.process_tree.specs.Making.{same_text, are_tries, are_refusals}
 use Rattle.process_tree.specs.declared.step.Step.{Step}
 use Rattle.process_tree.specs.declared.step.StepKind.{StepKind}
-use Rattle.process_tree.specs.declared.step.StepKind.TheVariants.{C, P, R}
+use Rattle.process_tree.specs.declared.step.StepKind.TheVariants.{C, P, R, Cr}
 use Rattle.text_words.specs.declared.expected.Expected.{Expected}
 use Rattle.text_words.specs.declared.expected.Expected.TheVariants as expects
 use Rattle.text_words.specs.declared.marks.Mark.{Mark}
@@ -22,13 +23,15 @@ abbrev pub kind_word : StepKind → List ℕ
 kind_word C = codes "c"
 kind_word P = codes "p"
 kind_word R = codes "r"
+kind_word Cr = codes "cr"
 
 -- the kind that a word names
 abbrev pub kind_of_word : List ℕ → Option StepKind
 kind_of_word w =
     if same_text w (codes "c") then Some C
     else (if same_text w (codes "p") then Some P
-    else (if same_text w (codes "r") then Some R else None))
+    else (if same_text w (codes "r") then Some R
+    else (if same_text w (codes "cr") then Some Cr else None)))
 
 -- the words that open, divide and close blocks
 abbrev pub mark_word : Mark → List ℕ
@@ -42,6 +45,7 @@ abbrev pub settings : StepKind → List Setting
 settings C = Undo ∷ Refuse ∷ UndoRefuse ∷ []
 settings P = Refuse ∷ []
 settings R = Tries ∷ Refuse ∷ []
+settings Cr = Tries ∷ Undo ∷ Refuse ∷ UndoRefuse ∷ []
 
 -- the word of an option
 abbrev pub setting_word : Setting → List ℕ

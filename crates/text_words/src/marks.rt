@@ -1,7 +1,8 @@
 // The words of a process that are no step's, and what words mean in a block.
 ghost use Rattle.std.specs.Prelude.{◌≡◌, codes, true, IfSome};
 ghost use Rattle.process_tree.specs.Making.{same_text};
-ghost use Rattle.text_words.specs.Marks.{kind_word, kind_of_word, mark_word, setting_word, default_of, is_setting_number, opening, closing, closes, mark_or, meaning, IsWordOf, expected_at};
+ghost use Rattle.text_words.specs.Marks.{kind_word, kind_of_word, mark_word, setting_word, default_of, is_setting_number, opening};
+ghost use Rattle.text_words.specs.Marks.{closing, closes, mark_or, meaning, IsWordOf, expected_at};
 
 use crate::{Expected, is_word};
 use process_tree::{DEFAULT_TRIES, StepKind};
@@ -79,6 +80,8 @@ pub fn kind_of_word(word: &[u8]) -> Option<StepKind>
         Some(StepKind::P)
     } else if is_word(word, b"r") {
         Some(StepKind::R)
+    } else if is_word(word, b"cr") {
+        Some(StepKind::Cr)
     } else {
         None
     }

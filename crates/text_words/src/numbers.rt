@@ -1,5 +1,6 @@
 // Numbers in words.
-ghost use Rattle.std.specs.Prelude.{◌≡◌, ◌≢◌, ◌≤◌, ◌∷◌, true, false, not, ◌&&◌, nat_eq, ◌⊎◌, IfSome, IfNone, is_some, IsTrue, ℕ, slice_index, length, decimal};
+ghost use Rattle.std.specs.Prelude.{◌≡◌, ◌≢◌, ◌≤◌, ◌∷◌, true, false, not, ◌&&◌, nat_eq, ◌⊎◌, IfSome, IfNone, is_some, IsTrue, ℕ};
+ghost use Rattle.std.specs.Prelude.{slice_index, length, decimal};
 ghost use Rattle.std.specs.Fmt.{signed_decimal};
 ghost use Rattle.std.specs.Str.Parse.{digits_value};
 ghost use Rattle.process_tree.specs.Making.{is_amount};

@@ -47,7 +47,8 @@ module _ {R B G : Type 0} {h : Helds (SharedEngine R B) TurnEntry} (disk : R →
   -- the job has a seat of the desk, for a worker with such a gate
   abbrev pub IsReady : Job (SharedEngine R B) G TurnEntry h → Type 0
   IsReady job =
-      (s : Seat (SharedEngine R B) TurnEntry h) × (job.seat ≡ Some s) × (desk_of s ≡ desk) × WorkerKnows disk meaning sort answers (knowledge s)
+      (s : Seat (SharedEngine R B) TurnEntry h) × (job.seat ≡ Some s) × (desk_of s ≡ desk)
+      × WorkerKnows disk meaning sort answers (knowledge s)
 
   -- its worker has stopped
   abbrev pub IsDone : Job (SharedEngine R B) G TurnEntry h → Type 0

@@ -59,7 +59,7 @@ pub fn run_workers<
     ensures ready { result.outcome ≢ RunOutcome.DiskFault → IsReady B.meaning B.sort result.engine }
     ensures fits { EachFits B.meaning B.sort result.engine.files.stores }
 {
-    engine.is_sound();
+    engine.invariant_holds();
     let mut jobs = match Vec::with_capacity(alloc, gates.len()) {
         Ok(jobs) => jobs,
         Err(_) => {

@@ -61,7 +61,8 @@ empty_text = refl
 abbrev pub before_keyed_trace : List ℕ → List ℕ → List ℕ
 before_keyed_trace mode key =
     codes "conflicts 2\ntake take " ++ mode
-    ++ codes "\nhistory\nstart 1 a\nstart 2 b\ndo 1.x take 7\ndo 2.u take " ++ key ++ codes "\ndo 2.v ship 0\ndo 1.y pay 0\nend 2\nend 1\n"
+    ++ codes "\nhistory\nstart 1 a\nstart 2 b\ndo 1.x take 7\ndo 2.u take " ++ key
+    ++ codes "\ndo 2.v ship 0\ndo 1.y pay 0\nend 2\nend 1\n"
     ++ codes "completion\nends\n1 a path x y\n2 b path u v\ncauses\ntrace\nmove 2 1\nmove 3 2\n"
 
 -- the second, and then the first

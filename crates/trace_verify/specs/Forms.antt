@@ -15,7 +15,8 @@ use Rattle.trace_verify.specs.declared.form.Form.{Form}
 use Rattle.trace_verify.specs.declared.form.Form.TheVariants.{Plain, Keyed}
 use Rattle.trace_verify.specs.Lines.{parts, cut, of_both, both_pass}
 
--- A step of a process that took effect, or its undo, by the names of the step and of its operation. A plain report has key 0 for all.
+-- A step of a process that took effect, or its undo, by the names of the step and of its operation. A plain report has key 0 for
+-- all.
 pub record NamedAct : Type 0 where
   pub process : ℕ
   pub step : List ℕ
@@ -123,11 +124,13 @@ is_end_line line = both_pass (λ i rest. is_number i && is_named_end rest) (cut 
 -- `refused STEP` or `cascade K`
 abbrev pub is_longer_cause : List ℕ → Bool
 is_longer_cause text =
-    both_pass (λ word rest. (same_text word (codes "refused") && is_name rest) || (same_text word (codes "cascade") && is_number rest)) (cut 32 text)
+    both_pass (λ word rest. (same_text word (codes "refused") && is_name rest)
+    || (same_text word (codes "cascade") && is_number rest)) (cut 32 text)
 
 -- why a process began to complete: `abort`, `victim`, `restart`, `refused STEP` or `cascade K`
 abbrev pub is_cause : List ℕ → Bool
-is_cause text = same_text text (codes "abort") || same_text text (codes "victim") || same_text text (codes "restart") || is_longer_cause text
+is_cause text =
+    same_text text (codes "abort") || same_text text (codes "victim") || same_text text (codes "restart") || is_longer_cause text
 
 -- `I` and the cause
 abbrev pub is_cause_line : List ℕ → Bool
@@ -149,7 +152,8 @@ cancel_of text = option_map Cancel (number_of text)
 
 -- `move FROM TO` or `cancel AT`, by its first word and the rest
 abbrev pub step_of : List ℕ → List ℕ → Option TraceStep
-step_of word rest = if same_text word (codes "move") then move_of rest else (if same_text word (codes "cancel") then cancel_of rest else None)
+step_of word rest =
+    if same_text word (codes "move") then move_of rest else (if same_text word (codes "cancel") then cancel_of rest else None)
 
 -- a step of the trace
 abbrev pub step_line : List ℕ → Option TraceStep

@@ -1,10 +1,12 @@
 -- What the verdicts mean, as laws.
-use Rattle.std.specs.Prelude.{◌≡◌, ◌<◌, ◌-◌, ◌+◌, ℕ, List, [], ◌∷◌, ◌++◌, length, map, take, slice_index_or, Option, Some, None, IsTrue}
+use Rattle.std.specs.Prelude.{◌≡◌, ◌<◌, ◌-◌, ◌+◌, ℕ, List, [], ◌∷◌, ◌++◌, length, map, take, slice_index_or, Option, Some, None}
+use Rattle.std.specs.Prelude.{IsTrue}
 use Rattle.process_tree.specs.declared.entry.Entry.{Entry}
 use Rattle.schedule_model.specs.declared.trace_step.TraceStep.{TraceStep}
 use Rattle.schedule_model.specs.Reduction.{and_then, applied, applied_all, not_serial, is_serial, AreReduced}
 use Rattle.trace_verify.specs.declared.verdict.Verified.{Verified}
-use Rattle.trace_verify.specs.declared.verdict.Verified.TheVariants.{Accepted, BadText, StepRefused, NotSerial, SerialDiffers, NoMemory}
+use Rattle.trace_verify.specs.declared.verdict.Verified.TheVariants.{Accepted, BadText, StepRefused, NotSerial, SerialDiffers}
+use Rattle.trace_verify.specs.declared.verdict.Verified.TheVariants.{NoMemory}
 use Rattle.trace_verify.specs.declared.section.Section.TheVariants.{Serial}
 use Rattle.trace_verify.specs.Lines.{parts}
 use Rattle.trace_verify.specs.Forms.{NamedAct}
@@ -15,7 +17,14 @@ use Rattle.trace_verify.specs.Verdicts.{verdict}
 -- an entry as it is printed, by these names of steps and operations
 abbrev pub printed_by : List (List ℕ) → List (List ℕ) → Entry → NamedAct
 printed_by steps ops e =
-    record { process = e.process; step = slice_index_or steps e.step []; op = slice_index_or ops e.op []; key = e.key; undo = e.undo }
+    record {
+      process =
+          e.process;
+      step = slice_index_or steps e.step [];
+      op = slice_index_or ops e.op [];
+      key = e.key;
+      undo = e.undo;
+    }
 
 -- entries as they are printed in this report
 abbrev pub printed : Report → List Entry → List NamedAct

@@ -1,15 +1,18 @@
 -- What a report is: seven sections in this order, each a line with its title and then its lines. Each line ends with a line feed.
 -- The first title says the form of the report.
-use Rattle.std.specs.Prelude.{◌≡◌, ℕ, ◌+◌, List, [], ◌∷◌, ◌++◌, Bool, true, false, length, nat_lt, if◌then◌else◌, Option, Some, None, codes}
+use Rattle.std.specs.Prelude.{◌≡◌, ℕ, ◌+◌, List, [], ◌∷◌, ◌++◌, Bool, true, false, length, nat_lt, if◌then◌else◌, Option, Some}
+use Rattle.std.specs.Prelude.{None, codes}
 use Rattle.std.specs.Option.{option_map}
 use Rattle.process_tree.specs.Making.{same_text}
 use Rattle.schedule_model.specs.declared.trace_step.TraceStep.{TraceStep}
 use Rattle.trace_verify.specs.declared.form.Form.{Form}
 use Rattle.trace_verify.specs.declared.form.Form.TheVariants.{Plain}
 use Rattle.trace_verify.specs.declared.section.Section.{Section}
-use Rattle.trace_verify.specs.declared.section.Section.TheVariants.{Opening, Conflicts, History, Completion, Ends, Causes, Trace, Serial}
+use Rattle.trace_verify.specs.declared.section.Section.TheVariants.{Opening, Conflicts, History, Completion, Ends, Causes, Trace}
+use Rattle.trace_verify.specs.declared.section.Section.TheVariants.{Serial}
 use Rattle.trace_verify.specs.Lines.{parts}
-use Rattle.trace_verify.specs.Forms.{NamedAct, Pair, form_of_title, pair_line, event_line, is_end_line, is_cause_line, step_line, serial_line}
+use Rattle.trace_verify.specs.Forms.{NamedAct, Pair, form_of_title, pair_line, event_line, is_end_line, is_cause_line, step_line}
+use Rattle.trace_verify.specs.Forms.{serial_line}
 
 -- What is read of a report, up to some line, and the section in which the next line stands.
 pub record Report : Type 0 where
@@ -38,19 +41,23 @@ in_section r s = record { section = s; form = r.form; pairs = r.pairs; acts = r.
 
 -- two operations that conflict are added
 abbrev pub with_pair : Report → Pair → Report
-with_pair r p = record { section = r.section; form = r.form; pairs = r.pairs ++ p ∷ []; acts = r.acts; steps = r.steps; serial = r.serial }
+with_pair r p =
+    record { section = r.section; form = r.form; pairs = r.pairs ++ p ∷ []; acts = r.acts; steps = r.steps; serial = r.serial }
 
 -- an act is added
 abbrev pub with_act : Report → NamedAct → Report
-with_act r a = record { section = r.section; form = r.form; pairs = r.pairs; acts = r.acts ++ a ∷ []; steps = r.steps; serial = r.serial }
+with_act r a =
+    record { section = r.section; form = r.form; pairs = r.pairs; acts = r.acts ++ a ∷ []; steps = r.steps; serial = r.serial }
 
 -- a step of the trace is added
 abbrev pub with_step : Report → TraceStep → Report
-with_step r s = record { section = r.section; form = r.form; pairs = r.pairs; acts = r.acts; steps = r.steps ++ s ∷ []; serial = r.serial }
+with_step r s =
+    record { section = r.section; form = r.form; pairs = r.pairs; acts = r.acts; steps = r.steps ++ s ∷ []; serial = r.serial }
 
 -- an entry of the printed serial list is added
 abbrev pub with_serial : Report → NamedAct → Report
-with_serial r a = record { section = r.section; form = r.form; pairs = r.pairs; acts = r.acts; steps = r.steps; serial = r.serial ++ a ∷ [] }
+with_serial r a =
+    record { section = r.section; form = r.form; pairs = r.pairs; acts = r.acts; steps = r.steps; serial = r.serial ++ a ∷ [] }
 
 -- the section that a title opens behind another; the first title is the one line of the opening
 abbrev pub opened : Section → List ℕ → Option Section

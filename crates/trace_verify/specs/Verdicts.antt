@@ -10,7 +10,8 @@ use Rattle.trace_verify.specs.Forms.{NamedAct}
 use Rattle.trace_verify.specs.Reports.{Report, Reading, whole, bad_line, reading}
 use Rattle.trace_verify.specs.Names.{step_names, op_names, is_named, schedule, conflicts_of}
 
--- what comes of a list by steps: the last list, or the number of the first step that doesn't apply to what the steps before it leave
+-- what comes of a list by steps: the last list, or the number of the first step that doesn't apply to what the steps before it
+-- leave
 pub data Outcome : Type 0 where
   last_list : List Entry → Outcome
   refused : ℕ → Outcome
@@ -37,9 +38,11 @@ same_way false b = not b
 -- the entry is printed so: by its process, its step's name, its operation's name and its key
 abbrev pub is_printed : List (List ℕ) → List (List ℕ) → Entry → NamedAct → Bool
 is_printed steps ops e a =
-    nat_eq e.process a.process && is_named steps e.step a.step && is_named ops e.op a.op && nat_eq e.key a.key && same_way e.undo a.undo
+    nat_eq e.process a.process && is_named steps e.step a.step && is_named ops e.op a.op && nat_eq e.key a.key
+    && same_way e.undo a.undo
 
--- the first place at which a list isn't printed so, the first having place n; where one ends early, that is the place behind its end
+-- the first place at which a list isn't printed so, the first having place n; where one ends early, that is the place behind its
+-- end
 abbrev pub differs_from : List (List ℕ) → List (List ℕ) → ℕ → List Entry → List NamedAct → Option ℕ
 differs_from steps ops n [] [] = None
 differs_from steps ops n [] (a ∷ acts) = Some n

@@ -23,7 +23,8 @@ fn has_applied(list: &mut Vec<Entry>, table: &Conflicts, step: TraceStep) -> boo
 pub fn apply_all(list: &mut Vec<Entry>, table: &Conflicts, steps: &[TraceStep]) -> Option<u32>
     requires known { AreKnown table.now list.old.items }
     requires few { length steps.now ≤ 65536 }
-    ensures outcome { MatchOption result (outcome_from (do_conflict table.now) 1 steps.now list.old.items ≡ last_list list.new.items)
+    ensures outcome { MatchOption result
+        (outcome_from (do_conflict table.now) 1 steps.now list.old.items ≡ last_list list.new.items)
         (λ k. outcome_from (do_conflict table.now) 1 steps.now list.old.items ≡ refused k) }
     ensures no_longer { length list.new.items ≤ length list.old.items }
 {

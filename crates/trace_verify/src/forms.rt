@@ -1,7 +1,10 @@
 // Lines by their forms.
 ghost use Rattle.std.specs.Prelude.{◌≡◌, Some, option_and_then};
 ghost use Rattle.std.specs.Option.{option_map};
-ghost use Rattle.trace_verify.specs.Forms.{form_of_title, is_number, number_of, pair_of, mode_of_word, pair_from, pair_line, named_act, placed_act, act_from, act_of, is_start, without_act, event_of, event_line, is_path, is_end, is_named_end, is_end_line, is_longer_cause, is_cause, is_cause_line, move_of, cancel_of, step_line, serial_line};
+ghost use Rattle.trace_verify.specs.Forms.{form_of_title, is_number, number_of, pair_of, mode_of_word, pair_from, pair_line};
+ghost use Rattle.trace_verify.specs.Forms.{named_act, placed_act, act_from, act_of, is_start, without_act, event_of, event_line};
+ghost use Rattle.trace_verify.specs.Forms.{is_path, is_end, is_named_end, is_end_line, is_longer_cause, is_cause, is_cause_line};
+ghost use Rattle.trace_verify.specs.Forms.{move_of, cancel_of, step_line, serial_line};
 
 use crate::cutting::{are_names, cut};
 use crate::form::Form;

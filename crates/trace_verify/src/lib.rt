@@ -1,9 +1,9 @@
 //! Reports judged: whether the printed steps of a report bring its schedule to the printed serial list.
 //!
-//! `specs/Forms` says which forms the lines of a report have, with keys (`Form::Keyed`) or without, `specs/Reports` what a report is, and `specs/Verdicts` the verdict
-//! on a text; the steps and what is serial are those of `schedule_model`. `verify` answers the verdict. It takes nothing on
-//! trust from whoever wrote the report: the schedule, the conflicts, the steps and the serial list are all read from it, and
-//! whether that schedule is what happened is no work of this crate.
+//! `specs/Forms` says which forms the lines of a report have, with keys (`Form::Keyed`) or without, `specs/Reports` what a report
+//! is, and `specs/Verdicts` the verdict on a text; the steps and what is serial are those of `schedule_model`. `verify` answers the
+//! verdict. It takes nothing on trust from whoever wrote the report: the schedule, the conflicts, the steps and the serial list are
+//! all read from it, and whether that schedule is what happened is no work of this crate.
 #![tactic(auto)]
 
 mod applying;

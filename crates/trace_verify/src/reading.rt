@@ -3,7 +3,8 @@ ghost use Rattle.std.specs.Prelude.{◌≡◌, ℕ, IfOk, if◌then◌else◌};
 ghost use Rattle.std.specs.Option.{option_map};
 ghost use Rattle.trace_verify.specs.Lines.{parts};
 ghost use Rattle.trace_verify.specs.Forms.{form_of_title, pair_line, event_line, step_line, serial_line};
-ghost use Rattle.trace_verify.specs.Reports.{Report as Read, in_form, with_pair, with_event, with_new_step, with_serial, with_line, after_line, opened, reading_from, at_end, whole, bad_line, IsTaken, IsRead};
+ghost use Rattle.trace_verify.specs.Reports.{Report as Read, in_form, with_pair, with_event, with_new_step, with_serial, with_line};
+ghost use Rattle.trace_verify.specs.Reports.{after_line, opened, reading_from, at_end, whole, bad_line, IsTaken, IsRead};
 
 use crate::cutting::cut;
 use crate::forms::{
@@ -70,7 +71,8 @@ impl<'a> Report<'a> {
     }
 
     fn take_pair(&mut self, line: &'a [u8]) -> Result<bool, AllocError>
-        ensures { IfOk result (λ taken. IsTaken (option_map (with_pair self.old) (pair_line self.old.form line.now)) taken self.new) }
+        ensures { IfOk result
+            (λ taken. IsTaken (option_map (with_pair self.old) (pair_line self.old.form line.now)) taken self.new) }
     {
         match pair_line(self.form, line) {
             Some(pair) => {
@@ -113,7 +115,8 @@ impl<'a> Report<'a> {
     }
 
     fn take_serial(&mut self, line: &'a [u8]) -> Result<bool, AllocError>
-        ensures { IfOk result (λ taken. IsTaken (option_map (with_serial self.old) (serial_line self.old.form line.now)) taken self.new) }
+        ensures { IfOk result
+            (λ taken. IsTaken (option_map (with_serial self.old) (serial_line self.old.form line.now)) taken self.new) }
     {
         match serial_line(self.form, line) {
             Some(act) => {

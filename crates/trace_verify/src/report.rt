@@ -61,7 +61,14 @@ impl<'a> Model for Report<'a> {
 
     ghost Value = { Read };
 
-    ghost view = { λ r. record { section = r.section; form = r.form; pairs = r.pairs.items; acts = r.acts.items; steps = r.steps.items; serial = r.serial.items } };
+    ghost view = { λ r. record {
+      section = r.section;
+      form = r.form;
+      pairs = r.pairs.items;
+      acts = r.acts.items;
+      steps = r.steps.items;
+      serial = r.serial.items;
+    } };
 
     ghost invariant = { λ r. (length r.acts.items ≤ 32768) × (length r.steps.items ≤ 65536) };
 }

@@ -92,12 +92,14 @@ fn of_text(alloc: Global, text: &[u8]) -> Result<Verified, AllocError>
     }
 }
 
-/// Whether a text is a report whose printed steps bring its schedule to its printed serial list (`docs/SCHEDULES.md`, `docs/FORMATS.md`).
+/// Whether a text is a report whose printed steps bring its schedule to its printed serial list (`docs/SCHEDULES.md`,
+/// `docs/FORMATS.md`).
 pub fn verify(alloc: Global, text: &[u8]) -> Verified
     // It is the verdict of the definition, but for want of memory. A bad line beyond the 4,294,967,295th is told as that, too.
     ensures verdict { (result ≡ Verified.NoMemory) ⊎ (result ≡ verdict text.now) }
-    // Accepted means that the text is a report from whose schedule a chain of single exchanges of neighbours that don't conflict, and of
-    // removals of a step with its undo behind it, leads to the serial list that it prints. A refusal means that it is the first.
+    // Accepted means that the text is a report from whose schedule a chain of single exchanges of neighbours that don't conflict,
+    // and of removals of a step with its undo behind it, leads to the serial list that it prints. A refusal means that it is the
+    // first.
     ensures means { Means text.now result }
 {
     match of_text(alloc, text) {

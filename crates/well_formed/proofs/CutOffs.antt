@@ -1,109 +1,149 @@
 -- Nothing falls back to a step that is cut off.
-use Rattle.process_tree.proofs.Wholes.{paths_part}
-use Rattle.process_tree.proofs.Fixed.{fixed_from-ge}
-use Rattle.std.proofs.Common.{◌≡◌, ⊎_elim, subst, ℕ, ◌+◌, ◌-◌, ◌<◌, ◌≤◌, zero, suc, Bool, true, false, List, [], ◌∷◌, length, take, filter, flat_map, Option, Some, None, refl, sym, ap, ◌∙◌, arith, nat_lt, if◌then◌else◌, take_all, slice_index, not}
+use Rattle.std.proofs.Common.{◌≡◌, ⊎_elim, subst, ℕ, ◌+◌, ◌<◌, ◌≤◌, true, false, List, [], ◌∷◌, ◌++◌, length, take, Option, Some, None, refl, sym, ap, ◌∙◌, arith, append_assoc, append-nil, length-append, if◌then◌else◌, drop}
 use Rattle.std.proofs.lemmas.Bool.{cases_lt}
+use Rattle.std.proofs.lemmas.List.{length-take-le, take-append-drop}
 use Rattle.process_tree.specs.declared.step.StepKind.{StepKind}
-use Rattle.process_tree.specs.declared.step.StepKind.TheVariants.{C, P, R}
-use Rattle.process_tree.specs.Blocks.{numbers_from}
+use Rattle.process_tree.specs.declared.step.StepKind.TheVariants.{C, P, R, Cr}
 use Rattle.process_tree.specs.Order.{has}
-use Rattle.process_tree.specs.Shape.{Shape, kind_of, can_be_refused, commits, next_steps, goes_on_to, greatest, fixed_len, fixed_from}
-use Rattle.process_tree.specs.Play.{asks, kept_prefixes, fallback_of}
+use Rattle.process_tree.specs.Shape.{Shape, kind_of, can_be_refused, commits_by_kind, commits_after, next_steps, goes_on_to, greatest, fixed_len, last_after}
+use Rattle.process_tree.specs.Play.{asks}
+use Rattle.process_tree.specs.Recovery.{forward}
 use Rattle.process_tree.specs.Termination.{IsFallenTo}
-use Rattle.process_tree.proofs.Numbers.{numbers_between, in_flat, to_flat, in_filter, to_filter, least_is}
-use Rattle.process_tree.proofs.Onward.{goes_along, goes_on}
-use Rattle.well_formed.specs.Flaws.{IsOrderly, is_sure, is_cut_off}
-use Rattle.well_formed.proofs.Apart.{beyond, onward_at}
-use Rattle.well_formed.proofs.Once.{below, has_below, below_has, greatest_is}
-use Rattle.well_formed.proofs.Standing.{IsStand, stands, on_above}
-use Rattle.well_formed.proofs.Reach.{Each-at, before_is}
+use Rattle.process_tree.proofs.Fixed.{fixed_more, fixed_stays, take_whole, take_front}
+use Rattle.process_tree.proofs.InTurn.{last_step}
+use Rattle.process_tree.proofs.Onward.{onward_first, goes_along, goes_on, branch_from}
+use Rattle.well_formed.specs.Flaws.{IsOrderly, way_before, is_sure_by, is_sure, is_way_sure, is_cut_off}
+use Rattle.well_formed.proofs.Below.{below, has_below, below_has, greatest_is, greatest_none}
+use Rattle.well_formed.proofs.Falls.{FallsTo, falls_to, below_later}
+use Rattle.well_formed.proofs.Reach.{before_is}
+use Rattle.well_formed.proofs.Standing.{IsStand, stands, on_above, mid_below}
 
 -- what stands up to a commit point is fixed
-commit_from : (t : Shape) (w : List ℕ) (k i last : ℕ) → k < length w → commits (kind_of t (slice_index w k)) ≡ true → i + k + 1 ≤ fixed_from t w i last
-commit_from t [] k i last lt is = absurd (omega arith)
-commit_from t (b ∷ w) zero i last lt is =
-    let e = ap (λ c. fixed_from t w (i + 1) (if c then i + 1 else last)) is in
-    let ge = fixed_from-ge t w (i + 1) (i + 1) (omega arith) in
-    let P : ℕ → Type 0 = λ n. i + 0 + 1 ≤ n in
-    subst P (sym e) (omega (arith, ge))
-commit_from t (b ∷ w) (suc k) i last lt is = omega (arith, commit_from t w k (i + 1) (if commits (kind_of t b) then i + 1 else last) (omega arith) is)
+commit_fixed : (t : Shape) (v : List ℕ) (s : ℕ) (more : List ℕ) → commits_after t v s ≡ true → length v + 1 ≤ fixed_len t (v ++ s ∷ more)
+commit_fixed t v s more is =
+    let here = fixed_more t v s ∙ ap (λ c. if c then length v + 1 else fixed_len t v) is in
+    let stays = fixed_stays t (v ++ s ∷ []) more in
+    let whole = ap (fixed_len t) (append_assoc v (s ∷ []) more) in
+    omega (arith, here, stays, whole)
 
-pub commit_fixed : (t : Shape) (w : List ℕ) (k : ℕ) → k < length w → commits (kind_of t (slice_index w k)) ≡ true → k + 1 ≤ fixed_len t w
-commit_fixed t w k lt is = omega (arith, commit_from t w k 0 0 lt is)
+-- play falls back from b to d, which goes on from a beginning of v
+pub record FallsPast (t : Shape) (v : List ℕ) (b d : ℕ) : Type 0 where
+  pub up : b < d
+  pub keep : ℕ
+  pub within : keep ≤ length v
+  pub way : goes_on_to t (take keep v) d ≡ true
 
--- what can't be refused is a commit point
-sure_commits : (k : StepKind) → can_be_refused k ≡ false → commits k ≡ true
-sure_commits C is = absurd (cc)
-sure_commits P is = refl
-sure_commits R is = refl
+-- the greatest step below d that goes on from v
+pub record IsMost (t : Shape) (v : List ℕ) (d g : ℕ) : Type 0 where
+  pub on : goes_on_to t v g ≡ true
+  pub under : g < d
+  pub most : (n : ℕ) → goes_on_to t v n ≡ true → n < d → n ≤ g
 
--- a sure step can't be refused
-sure_is : (t : Shape) (e : ℕ) → is_sure t.kinds (Some e) ≡ true → can_be_refused (kind_of t e) ≡ false
-sure_is t e is = by_kind (can_be_refused (kind_of t e)) refl
+-- the first of these steps, or b behind them
+abbrev OnFirst : Shape → List ℕ → List ℕ → ℕ → Type 0
+OnFirst t v [] b = goes_on_to t v b ≡ true
+OnFirst t v (s ∷ u) b = goes_on_to t v s ≡ true
+
+-- it goes on from v
+first_on : (t : Shape) (v u : List ℕ) (b : ℕ) → goes_on_to t (v ++ u) b ≡ true → OnFirst t v u b
+first_on t v [] b on = ap (λ w. goes_on_to t w b) (sym (append-nil v)) ∙ on
+first_on t v (s ∷ u) b on = let p = goes_along t (v ++ s ∷ u) b on in goes_on t v s p.0 p.1 (onward_first v u p.0 s b p.2)
+
+-- so something goes on from v
+some_on : (t : Shape) (v u : List ℕ) (b : ℕ) → goes_on_to t (v ++ u) b ≡ true → next_steps t v ≡ [] → ⊥
+some_on t v [] b on none = let h : has b [] ≡ true = sym (ap (has b) none) ∙ first_on t v [] b on in cc
+some_on t v (s ∷ u) b on none = let h : has s [] ≡ true = sym (ap (has s) none) ∙ first_on t v (s ∷ u) b on in cc
+
+-- along last alternatives from v to b, no way is sure that falls back to d
+no_sure : (u : List ℕ) (t : Shape) (v : List ℕ) (b d g : ℕ) → IsOrderly t → goes_on_to t (v ++ u) b ≡ true → can_be_refused (kind_of t b) ≡ true → fixed_len t (v ++ u) ≤ length v
+    → ((j e : ℕ) → length v ≤ j → j ≤ length (v ++ u) → goes_on_to t (take j (v ++ u)) e ≡ true → b < e → d ≤ e)
+    → FallsPast t v b d → IsMost t v d g → is_sure t.kinds (g ∷ last_after t (v ++ g ∷ [])) ≡ true → ⊥
+no_sure [] t v b d g o on may fixed nearest past most sure =
+    let whole = append-nil v in
+    let on_b : goes_on_to t v b ≡ true = ap (λ w. goes_on_to t w b) (sym whole) ∙ on in
+    let le = most.most b on_b past.up in
+    ⊎_elim
+    (λ lt. let far = nearest (length v) g (omega arith) (omega (arith, ap length whole)) (ap (λ w. goes_on_to t w g) (ap (take (length v)) whole ∙ take_whole v (length v) (omega arith)) ∙ most.on) lt in let under = most.under in omega arith)
+    (λ ge.
+    let same : b ≡ g = omega arith in
+    not_sure (kind_of t g) (is_sure t.kinds (last_after t (v ++ g ∷ []))) (ap (λ s. can_be_refused (kind_of t s)) (sym same) ∙ may) sure)
+    (cases_lt b g)
   where
-    by_kind : (b : Bool) → can_be_refused (kind_of t e) ≡ b → can_be_refused (kind_of t e) ≡ false
-    by_kind true may = let f : false ≡ true = sym (ap not may) ∙ is in absurd (cc)
-    by_kind false may = may
-
--- play stands at b with w done, and falls back to d, which goes on from the first k steps of w
-record Falls (t : Shape) (w : List ℕ) (b d k : ℕ) : Type 0 where
-  on : goes_on_to t w b ≡ true
-  may : can_be_refused (kind_of t b) ≡ true
-  falls : fallback_of t w b ≡ Some d
-  up : b < d
-  kept : has k (numbers_from (fixed_len t w) (length w - fixed_len t w + 1)) ≡ true
-  way : goes_on_to t (take k w) d ≡ true
-
--- no way behind b goes before the one that it falls back to
-no_nearer : (t : Shape) (w : List ℕ) (b d k e : ℕ) → Falls t w b d k → goes_on_to t (take k w) e ≡ true → b < e → d ≤ e
-no_nearer t w b d k e f on lt =
-    let fixed = fixed_len t w in
-    (least_is (filter (λ x. nat_lt b x) (flat_map (next_steps t) (kept_prefixes t w))) d f.falls).1 e
-    (to_filter b e (flat_map (next_steps t) (kept_prefixes t w)) (to_flat (next_steps t) (λ j. take j w) e k (numbers_from fixed (length w - fixed + 1)) f.kept on) lt)
-
--- so the way just before that of d may be refused
-before_fails : (t : Shape) (w : List ℕ) (b d k e : ℕ) → IsOrderly t → Falls t w b d k → greatest (below d (next_steps t (take k w))) ≡ Some e → can_be_refused (kind_of t e) ≡ false → ⊥
-before_fails t w b d k e o f before sure =
-    let most = greatest_is (below d (next_steps t (take k w))) e before in
-    let under = has_below d e (next_steps t (take k w)) most.0 in
-    let up : b < d = f.up in
-    let nearer = no_nearer t w b d k e f under.0 in
+    not_sure : (k : StepKind) (rest : _) → can_be_refused k ≡ true → is_sure_by k rest ≡ true → ⊥
+    not_sure C rest may is = cc
+    not_sure P rest may is = cc
+    not_sure R rest may is = cc
+    not_sure Cr rest may is = cc
+no_sure (s ∷ u) t v b d g o on may fixed nearest past most sure =
     ⊎_elim
     (λ lt.
-    let p = goes_along t w b f.on in
-    let q = goes_along t (take k w) e under.0 in
-    let at = onward_at w p.0 b k p.2 lt in
-    let x = slice_index w k in
-    let low : x < b = Each-at (λ y. y < b) w k (on_above t w b o f.on) lt in
-    let le = most.1 x (below_has d x (next_steps t (take k w)) (goes_on t (take k w) x p.0 p.1 at) (omega arith)) in
-    ⊎_elim
-    (λ less.
-    let far = beyond w p.0 q.0 k b e (paths_part t.paths p.0 q.0 o.in_order p.1 q.1) p.2 q.2 lt less in
-    let no = nearer far in
-    let yes = under.1 in
+    let high = below_later t v s (length v) g u b o on_s (omega arith) (ap (λ w. goes_on_to t w g) (take_whole v (length v) (omega arith)) ∙ most.on) lt on in
+    let far = nearest (length v) g (omega arith) (omega (arith, long)) (ap (λ w. goes_on_to t w g) (take_front (length v) v (s ∷ u) (omega arith) ∙ take_whole v (length v) (omega arith)) ∙ most.on) high in
+    let under = most.under in
     omega arith)
-    (λ ge.
-    let same : e ≡ x = omega arith in
-    let fixed = commit_fixed t w k lt (sure_commits (kind_of t x) (sym (ap (λ y. can_be_refused (kind_of t y)) same) ∙ sure)) in
-    let from = (numbers_between k (fixed_len t w) (length w - fixed_len t w + 1) f.kept).0 in
-    omega arith)
-    (cases_lt x e))
-    (λ end.
-    let here : goes_on_to t (take k w) b ≡ true = ap (λ v. goes_on_to t v b) (take_all k w end) ∙ f.on in
-    let le = most.1 b (below_has d b (next_steps t (take k w)) here up) in
-    ⊎_elim
-    (λ less. let no = nearer less in let yes = under.1 in omega arith)
-    (λ ge.
-    let same : e ≡ b = omega arith in
-    let may = ap (λ y. can_be_refused (kind_of t y)) same ∙ f.may in
-    let no : true ≡ false = sym may ∙ sure in
-    cc)
-    (cases_lt b e))
-    (cases_lt k (length w))
+    (λ ge. let same : g ≡ s = omega (arith, le) in by_kind (kind_of t s) refl (ap (λ x. is_sure t.kinds (x ∷ last_after t (v ++ x ∷ []))) (sym same) ∙ sure) (λ f on_f most_f sure_f. no_sure u t (v ++ s ∷ []) b d f o on' may fixed' nearest' past' (record { on = on_f; under = below_d f on_f; most = λ n on_n lt. most_f n on_n }) sure_f))
+    (cases_lt s g)
+  where
+    long : length (v ++ s ∷ u) ≡ length v + length (s ∷ u)
+    long = length-append v (s ∷ u)
+
+    more : length (v ++ s ∷ []) ≡ length v + 1
+    more = length-append v (s ∷ [])
+
+    assoc : (v ++ s ∷ []) ++ u ≡ v ++ s ∷ u
+    assoc = append_assoc v (s ∷ []) u
+
+    on_s : goes_on_to t v s ≡ true
+    on_s = (first_on t v (s ∷ u) b on)
+
+    up : s < b
+    up = mid_below v s u b (on_above t (v ++ s ∷ u) b o on)
+
+    le : s ≤ g
+    le = most.most s on_s (let lt = past.up in omega (arith, up))
+
+    on' : goes_on_to t ((v ++ s ∷ []) ++ u) b ≡ true
+    on' = ap (λ w. goes_on_to t w b) assoc ∙ on
+
+    fixed' : fixed_len t ((v ++ s ∷ []) ++ u) ≤ length (v ++ s ∷ [])
+    fixed' = omega (arith, fixed, more, ap (fixed_len t) assoc)
+
+    nearest' : (j e : ℕ) → length (v ++ s ∷ []) ≤ j → j ≤ length ((v ++ s ∷ []) ++ u) → goes_on_to t (take j ((v ++ s ∷ []) ++ u)) e ≡ true → b < e → d ≤ e
+    nearest' j e from to goes lt = nearest j e (omega (arith, more)) (omega (arith, ap length assoc)) (sym (ap (λ w. goes_on_to t (take j w) e) assoc) ∙ goes) lt
+
+    past' : FallsPast t (v ++ s ∷ []) b d
+    past' = record {
+      up = past.up;
+      keep = past.keep;
+      within = omega (arith, more, past.within);
+      way = ap (λ w. goes_on_to t w d) (take_front past.keep v (s ∷ []) past.within) ∙ past.way;
+    }
+
+    below_d : (f : ℕ) → goes_on_to t (v ++ s ∷ []) f ≡ true → f < d
+    below_d f on_f = below_later t v s past.keep d [] f o on_s past.within past.way (omega (arith, up, past.up)) on_f
+
+    commits : commits_by_kind (kind_of t s) (has s (forward t v)) ≡ true → ⊥
+    commits is = omega (arith, commit_fixed t v s u is, fixed)
+
+    by_kind : (k : StepKind) → kind_of t s ≡ k → is_sure t.kinds (s ∷ last_after t (v ++ s ∷ [])) ≡ true
+        → ((f : ℕ) → goes_on_to t (v ++ s ∷ []) f ≡ true → ((n : ℕ) → goes_on_to t (v ++ s ∷ []) n ≡ true → n ≤ f) → is_sure t.kinds (f ∷ last_after t ((v ++ s ∷ []) ++ f ∷ [])) ≡ true → ⊥) → ⊥
+    by_kind C is sure_s rest = let f : false ≡ true = sym (ap (λ k. is_sure_by k (is_sure t.kinds (last_after t (v ++ s ∷ [])))) is) ∙ sure_s in cc
+    by_kind P is sure_s rest = commits (ap (λ k. commits_by_kind k (has s (forward t v))) is)
+    by_kind R is sure_s rest = commits (ap (λ k. commits_by_kind k (has s (forward t v))) is)
+    by_kind Cr is sure_s rest = by_next (greatest (next_steps t (v ++ s ∷ []))) refl
+      where
+        behind : is_sure t.kinds (last_after t (v ++ s ∷ [])) ≡ true
+        behind = sym (ap (λ k. is_sure_by k (is_sure t.kinds (last_after t (v ++ s ∷ [])))) is) ∙ sure_s
+
+        by_next : (o : Option ℕ) → greatest (next_steps t (v ++ s ∷ [])) ≡ o → ⊥
+        by_next None none = some_on t (v ++ s ∷ []) u b on' (greatest_none (next_steps t (v ++ s ∷ [])) none)
+        by_next (Some f) some =
+            let found = greatest_is (next_steps t (v ++ s ∷ [])) f some in
+            rest f found.0 found.1 (sym (ap (is_sure t.kinds) (last_step t (length t.kinds) (v ++ s ∷ []) f o.rising o.within some)) ∙ behind)
 
 -- nothing falls back to what is cut off
 pub never_fallen_to : (t : Shape) (d : ℕ) → IsOrderly t → is_cut_off t d ≡ true → IsFallenTo t d → ⊥
-never_fallen_to t d o cut h = by_before (greatest (below d (next_steps t (take k w)))) refl
+never_fallen_to t d o cut h = by_before (greatest (below d (next_steps t v))) refl
   where
     w : List ℕ
     w = h.1
@@ -114,20 +154,34 @@ never_fallen_to t d o cut h = by_before (greatest (below d (next_steps t (take k
     at : IsStand t (asks w b)
     at = subst (IsStand t) h.3 (stands t h.0 o)
 
-    passed : (has d (flat_map (next_steps t) (kept_prefixes t w)) ≡ true) × (b < d)
-    passed = in_filter b d (flat_map (next_steps t) (kept_prefixes t w)) (least_is (filter (λ x. nat_lt b x) (flat_map (next_steps t) (kept_prefixes t w))) d h.4).0
+    far : FallsTo t w b d
+    far = falls_to t w b d h.4
 
-    prefix : (k : ℕ) × (has k (numbers_from (fixed_len t w) (length w - fixed_len t w + 1)) ≡ true) × (has d (next_steps t (take k w)) ≡ true)
-    prefix = in_flat (next_steps t) (λ j. take j w) d (numbers_from (fixed_len t w) (length w - fixed_len t w + 1)) passed.0
+    v : List ℕ
+    v = take far.keep w
 
-    k : ℕ
-    k = prefix.0
+    count : length v ≡ far.keep
+    count = length-take-le far.keep w far.within
 
-    by_before : (g : Option ℕ) → greatest (below d (next_steps t (take k w))) ≡ g → ⊥
-    by_before g is =
-        let sure = sym (ap (is_sure t.kinds) (before_is t (take k w) d o.in_order o.rising prefix.2 ∙ is)) ∙ cut in
-        by_way g is sure
+    whole : v ++ drop far.keep w ≡ w
+    whole = take-append-drop far.keep w
+
+    by_before : (g : Option ℕ) → greatest (below d (next_steps t v)) ≡ g → ⊥
+    by_before g is = by_way g is sure
       where
-        by_way : (g : Option ℕ) → greatest (below d (next_steps t (take k w))) ≡ g → is_sure t.kinds g ≡ true → ⊥
+        sure : is_way_sure t v g ≡ true
+        sure =
+            sym (ap (is_way_sure t v) (before_is t v d o.in_order o.rising far.way ∙ is))
+            ∙ sym (ap (λ u. is_way_sure t u (way_before t d)) (branch_from t v d o.in_order o.rising far.way))
+            ∙ cut
+
+        by_way : (g : Option ℕ) → greatest (below d (next_steps t v)) ≡ g → is_way_sure t v g ≡ true → ⊥
         by_way None is sure = cc
-        by_way (Some e) is sure = before_fails t w b d k e o (record { on = at.0; may = at.1; falls = h.4; up = passed.1; kept = prefix.1; way = prefix.2 }) is (sure_is t e sure)
+        by_way (Some e) is sure =
+            let found = greatest_is (below d (next_steps t v)) e is in
+            let under = has_below d e (next_steps t v) found.0 in
+            no_sure (drop far.keep w) t v b d e o (ap (λ u. goes_on_to t u b) whole ∙ at.0) at.1 (omega (arith, count, far.fixed, ap (fixed_len t) whole))
+            (λ j x from to goes lt. far.nearest j x (omega (arith, count, far.fixed)) (omega (arith, ap length whole)) (sym (ap (λ u. goes_on_to t (take j u) x) whole) ∙ goes) lt)
+            (record { up = far.up; keep = far.keep; within = omega (arith, count); way = ap (λ u. goes_on_to t u d) (take_whole v far.keep (omega (arith, count))) ∙ far.way })
+            (record { on = under.0; under = under.1; most = λ n on lt. found.1 n (below_has d n (next_steps t v) on lt) })
+            sure

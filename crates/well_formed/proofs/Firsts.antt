@@ -1,5 +1,5 @@
 -- What is wrong first with the steps of a process is the first fault of it.
-use Rattle.process_tree.proofs.Reached.{asks_there}
+use Rattle.process_tree.proofs.Reached.{asks_there, has_once, nonempty}
 use Rattle.std.proofs.Common.{◌≡◌, ⊎_elim, ℕ, ◌+◌, ◌*◌, ◌≤◌, ◌&&◌, Bool, true, false, List, [], ◌∷◌, length, Option, Some, None, refl, sym, ap, ◌∙◌, arith, nat_lt, if◌then◌else◌}
 use Rattle.std.proofs.lemmas.Bool.{cases_lt, ltb-true, lt-ltb, ne_eqb}
 use Rattle.process_tree.specs.declared.play.Outcome.TheVariants.{Refused}
@@ -9,10 +9,11 @@ use Rattle.process_tree.specs.Play.{ended, go_on, go_back, answered, end_of, pla
 use Rattle.process_tree.specs.Termination.{once, ways_before, is_later_way, IsFallenTo, IsWellFormed, outcomes_to, Fault, stuck_at, unreachable_at, IsFault, IsFirstFault, rank}
 use Rattle.process_tree.proofs.Onward.{branch_from}
 use Rattle.well_formed.specs.declared.flaw.Flaw.TheVariants.{CutOff, DeadEnd}
-use Rattle.well_formed.specs.Flaws.{IsOrderly, is_cut_off, is_dead_end, is_nowhere, is_sure, flaw_at, IsSound, IsOn, IsSoundBelow}
-use Rattle.well_formed.proofs.Once.{below, has_below, greatest_is, greatest_none}
+use Rattle.well_formed.specs.Flaws.{IsOrderly, is_cut_off, is_dead_end, is_nowhere, is_way_sure, flaw_at, IsSound, IsOn, IsSoundBelow}
+use Rattle.well_formed.proofs.Below.{below, has_below, greatest_is, greatest_none}
 use Rattle.well_formed.proofs.Standing.{on_branch, stuck_is_dead_end}
-use Rattle.well_formed.proofs.Reach.{NoneCutOff, nearest, may_fail, reaches, stand_append, ways_are, before_is, one_more}
+use Rattle.well_formed.proofs.Falls.{falls_to}
+use Rattle.well_formed.proofs.Reach.{NoneCutOff, nearest, way_open, opened, reaches, stand_append}
 use Rattle.well_formed.proofs.CutOffs.{never_fallen_to}
 
 pub both_true : (a b : Bool) → (a && b) ≡ true → (a ≡ true) × (b ≡ true)
@@ -62,13 +63,20 @@ fallen_to t d o later whole = by_before (greatest (below d (next_steps t v))) re
     by_before : (g : Option ℕ) → greatest (below d (next_steps t v)) ≡ g → IsFallenTo t d
     by_before None none =
         let empty = ap (λ l. nat_lt 0 (length (once l))) (greatest_none (below d (next_steps t v)) none) in
-        absurd (let f = sym is.1 ∙ ap (λ l. nat_lt 0 (length l)) (ways_are t v d o.in_order o.rising is.0) ∙ empty in cc)
+        absurd (let f = sym is.1 ∙ empty in cc)
     by_before (Some e) before =
         let under = has_below d e (next_steps t v) (greatest_is (below d (next_steps t v)) e before).0 in
-        let on_e = on_branch t v e o under.0 in
-        let r = reaches t e o on_e (λ y lt. whole y (let less = under.1 in omega arith)) in
-        let may = may_fail t v e d o is.0 before (whole d (omega arith) is.0) in
-        (r.0, v, e, r.2 ∙ ap (λ w. arrive t w e) (branch_from t v e o.in_order o.rising under.0) ∙ asks_there t v e may, nearest t v e d o is.0 before)
+        let unsure = opened d t v e d o under.0 (nearest t v e d o is.0 before) (way_open t v e d o is.0 before (whole d (omega arith) is.0)) (omega arith) in
+        let up = (falls_to t unsure.before unsure.step d unsure.falls).up in
+        let r = reaches t unsure.step o (on_branch t unsure.before unsure.step o unsure.on) (λ y lt. whole y (omega arith)) in (
+          r.0,
+          unsure.before,
+          unsure.step,
+          r.2
+              ∙ ap (λ w. arrive t w unsure.step) (branch_from t unsure.before unsure.step o.in_order o.rising unsure.on)
+              ∙ asks_there t unsure.before unsure.step unsure.may,
+          unsure.falls,
+        )
 
 -- there is no way on
 nowhere : (o : Option ℕ) → is_nowhere o ≡ true → o ≡ None
@@ -127,15 +135,13 @@ first_cut_off t d o on is sound = record {
     v : List ℕ
     v = branch_to t d
 
-    some_before : (g : Option ℕ) → greatest (below d (next_steps t v)) ≡ g → is_sure t.kinds g ≡ true → nat_lt 0 (length (ways_before t d)) ≡ true
+    some_before : (g : Option ℕ) → greatest (below d (next_steps t v)) ≡ g → is_way_sure t v g ≡ true → nat_lt 0 (length (ways_before t d)) ≡ true
     some_before None is sure = absurd (cc)
     some_before (Some e) is sure =
-        lt-ltb 0 (length (ways_before t d)) (let more = one_more t v e d o.in_order o.rising on is in omega arith)
+        lt-ltb 0 (length (ways_before t d)) (nonempty e (ways_before t d) (has_once e (below d (next_steps t v)) (greatest_is (below d (next_steps t v)) e is).0))
 
     later : is_later_way t d ≡ true
-    later =
-        ap (λ b. b && nat_lt 0 (length (ways_before t d))) on
-        ∙ some_before (greatest (below d (next_steps t v))) refl (sym (ap (is_sure t.kinds) (before_is t v d o.in_order o.rising on)) ∙ cut)
+    later = ap (λ b. b && nat_lt 0 (length (ways_before t d))) on ∙ some_before (greatest (below d (next_steps t v))) refl cut
 
 -- the first dead end is the first fault, if nothing before it and not itself is cut off
 pub first_dead_end : (t : Shape) (b : ℕ) → IsOrderly t → IsOn t b → flaw_at t b ≡ Some DeadEnd → IsSoundBelow t b → IsFirstFault t (stuck_at b (outcomes_to t b))

@@ -1,18 +1,18 @@
 -- What the tests of a step answer, in terms of the shape.
-use Rattle.std.proofs.Common.{◌≡◌, ◌⊎◌, inl, inr, ⊎_elim, ℕ, ◌-◌, ◌<◌, ◌≤◌, ◌&&◌, zero, suc, Bool, true, false, List, [], ◌∷◌, length, Option, Some, None, refl, sym, ap, ◌∙◌, arith, nat_lt, not}
+use Rattle.std.proofs.Common.{◌≡◌, ◌⊎◌, inl, inr, ⊎_elim, subst, ℕ, ◌-◌, ◌<◌, ◌≤◌, ◌&&◌, zero, suc, Bool, true, false, List, [], ◌∷◌, ◌++◌, length, drop, Option, Some, None, refl, sym, ap, ◌∙◌, arith, nat_lt, not}
+use Rattle.std.proofs.Math.Seq.{drop-append_seam}
 use Rattle.std.proofs.lemmas.Bool.{lt-ltb}
-use Rattle.std.specs.Option.{IfSome}
 use Rattle.std.specs.List.{list_any, filter_map, slice_get}
-use Rattle.process_tree.specs.Shape.{Shape, kind_of, can_be_refused, next_steps, goes_on_to, greatest, fixed_len, last_of}
+use Rattle.process_tree.specs.Shape.{Shape, kind_of, can_be_refused, next_steps, goes_on_to, greatest, fixed_len, branch_to, last_after, last_of}
 use Rattle.process_tree.specs.Play.{fallback_of}
 use Rattle.process_tree.proofs.Onward.{branch_from}
-use Rattle.process_tree.proofs.Kept.{fixed_le}
-use Rattle.well_formed.specs.Flaws.{IsOrderly, way_before, is_dead_end, is_nowhere}
-use Rattle.well_formed.specs.Spots.{earlier_way, leaves_later}
-use Rattle.well_formed.proofs.Once.{below, has_below, greatest_is}
+use Rattle.process_tree.proofs.Fixed.{fixed_le}
+use Rattle.well_formed.specs.Flaws.{IsOrderly, way_before, is_sure, is_way_sure, is_cut_off, is_dead_end, is_nowhere}
+use Rattle.well_formed.specs.Spots.{earlier_way, leaves_later, last_through}
+use Rattle.well_formed.proofs.Below.{below, has_below, greatest_is}
+use Rattle.well_formed.proofs.LastThrough.{IsThrough, through_is}
 use Rattle.well_formed.proofs.Reach.{before_is}
 use Rattle.well_formed.proofs.Spots.{earlier_ways}
-use Rattle.well_formed.proofs.Standing.{on_within}
 use Rattle.well_formed.proofs.WaysOn.{way_on}
 
 -- the last of a list is at its last place
@@ -28,12 +28,26 @@ pub way_is : (t : Shape) (w : List ℕ) (d : ℕ) (way : Option ℕ) → IsOrder
 way_is t w d way o on is =
     before_is t w d o.in_order o.rising on ∙ sym (ap greatest (earlier_ways t w d d o.in_order o.rising on)) ∙ sym is
 
--- is a step of the process
-pub way_within : (t : Shape) (w : List ℕ) (d : ℕ) (way : Option ℕ) → IsOrderly t → goes_on_to t w d ≡ true → way ≡ greatest (filter_map (earlier_way w d) t.paths) → IfSome way (λ e. e < length t.kinds)
-way_within t w d None o on is = tt
-way_within t w d (Some e) o on is =
+-- goes on from the same steps
+pub way_on_from : (t : Shape) (w : List ℕ) (d e : ℕ) → IsOrderly t → goes_on_to t w d ≡ true → Some e ≡ greatest (filter_map (earlier_way w d) t.paths) → goes_on_to t w e ≡ true
+way_on_from t w d e o on is =
     let found = greatest_is (below d (next_steps t w)) e (sym (ap greatest (earlier_ways t w d d o.in_order o.rising on)) ∙ sym is) in
-    on_within t w e o (has_below d e (next_steps t w) found.0).0
+    (has_below d e (next_steps t w) found.0).0
+
+-- none was found: the step isn't cut off
+pub cut_by_none : (t : Shape) (w : List ℕ) (d : ℕ) → IsOrderly t → goes_on_to t w d ≡ true → None ≡ greatest (filter_map (earlier_way w d) t.paths) → false ≡ is_cut_off t d
+cut_by_none t w d o on is = sym (ap (is_way_sure t (branch_to t d)) (way_is t w d None o on is))
+
+-- the last path through it
+pub way_through : (t : Shape) (w : List ℕ) (d e : ℕ) (q : List ℕ) → IsOrderly t → goes_on_to t w d ≡ true → Some e ≡ greatest (filter_map (earlier_way w d) t.paths) → q ≡ last_through e (length w) t.paths [] → IsThrough t w e q
+way_through t w d e q o on is found = subst (IsThrough t w e) (sym found) (through_is t w e o (way_on_from t w d e o on is))
+
+-- it is cut off where the way that was found is sure, as the last path through that has it
+pub cut_by_way : (t : Shape) (w : List ℕ) (d e : ℕ) (steps : List ℕ) → IsOrderly t → goes_on_to t w d ≡ true → Some e ≡ greatest (filter_map (earlier_way w d) t.paths) → steps ≡ drop (length w) (last_through e (length w) t.paths []) → is_sure t.kinds steps ≡ is_cut_off t d
+cut_by_way t w d e steps o on is found =
+    ap (is_sure t.kinds) (found ∙ ap (drop (length w)) (through_is t w e o (way_on_from t w d e o on is)).is ∙ drop-append_seam w (e ∷ last_after t (w ++ e ∷ [])))
+    ∙ sym (ap (λ v. is_way_sure t v (Some e)) (branch_from t w d o.in_order o.rising on))
+    ∙ sym (ap (is_way_sure t (branch_to t d)) (way_is t w d (Some e) o on is))
 
 -- a step is a dead end where it may be refused behind a commit point, and no path leaves its branch for later steps
 pub dead_is : (t : Shape) (w : List ℕ) (b fixed : ℕ) → IsOrderly t → goes_on_to t w b ≡ true → fixed ≡ fixed_len t w → is_dead_end t b ≡ (can_be_refused (kind_of t b) && nat_lt 0 fixed && not (list_any (leaves_later (fixed - 1) w b) t.paths))

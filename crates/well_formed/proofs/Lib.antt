@@ -1,13 +1,15 @@
 pub mod Apart
-pub mod Once
+pub mod Below
 pub mod Standing
+pub mod Falls
+pub mod Tried
 pub mod Reach
 pub mod CutOffs
 pub mod Firsts
 pub mod Spots
 pub mod WaysOn
 pub mod Judging
+pub mod LastThrough
 pub mod Rounds
-pub mod Counted
 pub mod Told
 pub mod Judged

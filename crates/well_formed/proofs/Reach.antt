@@ -1,36 +1,38 @@
 -- Play reaches each step of a process in which nothing before it is cut off.
 use Rattle.process_tree.proofs.Wholes.{paths_part}
 use Rattle.process_tree.proofs.Reached.{least_of, asks_there}
-use Rattle.std.proofs.Common.{◌≡◌, ⊎_elim, ℕ, ◌+◌, ◌<◌, ◌≤◌, zero, suc, Bool, true, false, List, [], ◌∷◌, ◌++◌, length, take, filter, flat_map, ◌-◌, Option, Some, None, refl, sym, ap, ◌∙◌, arith, nat_lt, if◌then◌else◌, append_assoc, append-nil, take_all, slice_index, replicate, not}
-use Rattle.std.proofs.lemmas.Bool.{cases_lt, eq-eqb}
+use Rattle.std.proofs.Common.{◌≡◌, ⊎_elim, ℕ, ◌+◌, ◌<◌, ◌≤◌, zero, suc, Bool, true, false, List, [], ◌∷◌, ◌++◌, length, take, filter, flat_map, ◌-◌, Option, Some, None, refl, sym, ap, ◌∙◌, arith, nat_lt, if◌then◌else◌, append_assoc, append-nil, take_all, slice_index, replicate}
+use Rattle.std.proofs.lemmas.Bool.{cases_lt}
 use Rattle.std.proofs.lemmas.List.{replicate-append-replicate}
+use Rattle.process_tree.specs.declared.step.StepKind.{StepKind}
+use Rattle.process_tree.specs.declared.step.StepKind.TheVariants.{C, P, R, Cr}
 use Rattle.process_tree.specs.declared.play.Outcome.{Outcome}
 use Rattle.process_tree.specs.declared.play.Outcome.TheVariants.{Done, Refused}
 use Rattle.process_tree.specs.Blocks.{numbers_from}
 use Rattle.process_tree.specs.Order.{Each, IsRising, AreInOrder, has}
-use Rattle.process_tree.specs.Shape.{Shape, kind_of, can_be_refused, next_steps, goes_on_to, least, greatest, fixed_len, branch_to}
+use Rattle.process_tree.specs.Shape.{Shape, kind_of, can_be_refused, next_steps, goes_on_to, least, greatest, fixed_len, branch_to, last_after}
 use Rattle.process_tree.specs.Play.{Stand, asks, follow, come_to, arrive, go_on, go_back, answered, stand_from, stand, kept_prefixes, fallback_of, kept_for}
-use Rattle.process_tree.specs.Termination.{once, ways_before, outcomes_along, outcomes_to}
+use Rattle.process_tree.specs.Termination.{is_first_tried, tried_before, outcomes_along, outcomes_to}
 use Rattle.process_tree.proofs.Numbers.{numbers_has, in_flat, to_flat, in_filter, to_filter, least_is}
-use Rattle.process_tree.proofs.Onward.{onward, onward_both, goes_along, goes_on, branch_from}
-use Rattle.process_tree.proofs.Kept.{kept_goes_on, fixed_le}
-use Rattle.well_formed.specs.Flaws.{IsOrderly, IsOn, way_before, is_sure, is_cut_off}
+use Rattle.process_tree.proofs.Onward.{onward_first, goes_along, goes_on, branch_from}
+use Rattle.process_tree.proofs.Fixed.{fixed_le}
+use Rattle.process_tree.proofs.Kept.{kept_goes_on}
+use Rattle.well_formed.specs.Flaws.{IsOrderly, IsOn, way_before, is_sure_by, is_sure, is_way_sure, is_cut_off}
 use Rattle.well_formed.proofs.Apart.{beyond}
-use Rattle.well_formed.proofs.Once.{below, has_below, below_has, greatest_is, greatest_none, counted}
-use Rattle.well_formed.proofs.Standing.{on_branch, on_within, on_above, last_below}
+use Rattle.well_formed.proofs.Below.{below, has_below, below_has, greatest_is, greatest_none}
+use Rattle.well_formed.proofs.Falls.{falls_to, LeadsDown, leads_down}
+use Rattle.well_formed.proofs.Standing.{on_branch, on_within, on_above, last_below, mid_below}
+use Rattle.well_formed.proofs.Tried.{tried_below, tried_is, tried_more, tried_flat, tried_one, tried_through, not_tried}
 
--- the ways that lie before that of x where it goes on from v
-pub ways_are : (t : Shape) (v : List ℕ) (x : ℕ) → AreInOrder t.paths → Each IsRising t.paths → goes_on_to t v x ≡ true → ways_before t x ≡ once (below x (next_steps t v))
-ways_are t v x order rise on = ap (λ w. once (below x (next_steps t w))) (branch_from t v x order rise on)
-
+-- the way before that of x where it goes on from v
 pub before_is : (t : Shape) (v : List ℕ) (x : ℕ) → AreInOrder t.paths → Each IsRising t.paths → goes_on_to t v x ≡ true → way_before t x ≡ greatest (below x (next_steps t v))
 before_is t v x order rise on = ap (λ w. greatest (below x (next_steps t w))) (branch_from t v x order rise on)
 
 -- the step of v at a place, of which v has more
-pub Each-at : (P : ℕ → Type 0) (v : List ℕ) (k : ℕ) → Each P v → k < length v → P (slice_index v k)
-Each-at P [] k h lt = absurd (omega arith)
-Each-at P (x ∷ v) zero h lt = h.0
-Each-at P (x ∷ v) (suc k) h lt = Each-at P v k h.1 (omega arith)
+pub Each-at : (H : ℕ → Type 0) (v : List ℕ) (k : ℕ) → Each H v → k < length v → H (slice_index v k)
+Each-at H [] k h lt = absurd (omega arith)
+Each-at H (x ∷ v) zero h lt = h.0
+Each-at H (x ∷ v) (suc k) h lt = Each-at H v k h.1 (omega arith)
 
 -- a refused step falls back to the next way at the same choice, if there is one
 pub nearest : (t : Shape) (v : List ℕ) (e x : ℕ) → IsOrderly t → goes_on_to t v x ≡ true → greatest (below x (next_steps t v)) ≡ Some e → fallback_of t v e ≡ Some x
@@ -68,64 +70,42 @@ nearest t v e x o on before = least_of (filter (λ d. nat_lt e d) (flat_map (nex
         ⊎_elim (λ less. absurd (let h = most.1 d (below_has x d (next_steps t v) same less) in omega (arith, passed.1))) (λ le. le) (cases_lt d x))
         (cases_lt k (length v))
 
--- and goes on from the same steps
-kept_there : (t : Shape) (v : List ℕ) (e x : ℕ) → IsOrderly t → goes_on_to t v x ≡ true → fallback_of t v e ≡ Some x → kept_for t v x ≡ v
-kept_there t v e x o on falls = sym (branch_from t (kept_for t v x) x o.in_order o.rising (kept_goes_on t v e x falls)) ∙ branch_from t v x o.in_order o.rising on
-
 -- none of the steps below n is cut off
 abbrev pub NoneCutOff : Shape → ℕ → Type 0
 NoneCutOff t n = (y : ℕ) → y < n → IsOn t y → is_cut_off t y ≡ false
 
--- the way before one that isn't cut off may be refused
-pub may_fail : (t : Shape) (v : List ℕ) (e x : ℕ) → IsOrderly t → goes_on_to t v x ≡ true → greatest (below x (next_steps t v)) ≡ Some e → is_cut_off t x ≡ false → can_be_refused (kind_of t e) ≡ true
-may_fail t v e x o on before whole = by_kind (can_be_refused (kind_of t e)) refl (sym (ap (is_sure t.kinds) (before_is t v x o.in_order o.rising on ∙ before)) ∙ whole)
+-- the way before one that isn't cut off isn't sure
+pub way_open : (t : Shape) (v : List ℕ) (e x : ℕ) → IsOrderly t → goes_on_to t v x ≡ true → greatest (below x (next_steps t v)) ≡ Some e → is_cut_off t x ≡ false → is_sure t.kinds (e ∷ last_after t (v ++ e ∷ [])) ≡ false
+way_open t v e x o on before whole =
+    sym (ap (is_way_sure t v) (before_is t v x o.in_order o.rising on ∙ before))
+    ∙ sym (ap (λ u. is_way_sure t u (way_before t x)) (branch_from t v x o.in_order o.rising on))
+    ∙ whole
+
+-- of a way that isn't sure some step can be refused, and falls back to the same
+pub record IsOpen (t : Shape) (x : ℕ) : Type 0 where
+  pub before : List ℕ
+  pub step : ℕ
+  pub on : goes_on_to t before step ≡ true
+  pub may : can_be_refused (kind_of t step) ≡ true
+  pub falls : fallback_of t before step ≡ Some x
+
+pub opened : (m : ℕ) (t : Shape) (w : List ℕ) (e x : ℕ) → IsOrderly t → goes_on_to t w e ≡ true → fallback_of t w e ≡ Some x → is_sure t.kinds (e ∷ last_after t (w ++ e ∷ [])) ≡ false → x ≤ e + m → IsOpen t x
+opened zero t w e x o on falls unsure le = let up = (falls_to t w e x falls).up in absurd (omega arith)
+opened (suc m) t w e x o on falls unsure le = by_kind (kind_of t e) refl (λ f d. opened m t (w ++ e ∷ []) f x o d.on d.falls d.unsure (let up = d.up in omega arith))
   where
-    by_kind : (b : Bool) → can_be_refused (kind_of t e) ≡ b → not (can_be_refused (kind_of t e)) ≡ false → can_be_refused (kind_of t e) ≡ true
-    by_kind true is f = is
-    by_kind false is f = let g : true ≡ false = sym (ap not is) ∙ f in absurd (cc)
+    here : can_be_refused (kind_of t e) ≡ true → IsOpen t x
+    here may = record { before = w; step = e; on = on; may = may; falls = falls }
+
+    by_kind : (k : StepKind) → kind_of t e ≡ k → ((f : ℕ) → LeadsDown t w e x f → IsOpen t x) → IsOpen t x
+    by_kind C is rest = here (ap can_be_refused is)
+    by_kind P is rest = here (ap can_be_refused is)
+    by_kind R is rest = absurd (let f : true ≡ false = sym (ap (λ k. is_sure_by k (is_sure t.kinds (last_after t (w ++ e ∷ [])))) is) ∙ unsure in cc)
+    by_kind Cr is rest = let down = leads_down t w e x o on falls is unsure in rest down.0 down.1
 
 -- some outcomes, and then others
 pub stand_append : (t : Shape) (s : Stand) (xs ys : List Outcome) → stand_from t s (xs ++ ys) ≡ stand_from t (stand_from t s xs) ys
 stand_append t s [] ys = refl
 stand_append t s (x ∷ xs) ys = stand_append t (answered t s x) xs ys
-
--- one way is passed over
-pub pass : (t : Shape) (v : List ℕ) (e x : ℕ) → IsOrderly t → goes_on_to t v x ≡ true → greatest (below x (next_steps t v)) ≡ Some e → can_be_refused (kind_of t e) ≡ true → answered t (arrive t v e) Refused ≡ arrive t v x
-pass t v e x o on before may =
-    let falls = nearest t v e x o on before in
-    ap (λ s. answered t s Refused) (asks_there t v e may)
-    ∙ ap (go_back t v e) falls
-    ∙ ap (λ w. arrive t w x) (kept_there t v e x o on falls)
-
--- there is one way more before x than before the way just before it
-pub one_more : (t : Shape) (v : List ℕ) (e x : ℕ) → AreInOrder t.paths → Each IsRising t.paths → goes_on_to t v x ≡ true → greatest (below x (next_steps t v)) ≡ Some e → length (ways_before t x) ≡ length (ways_before t e) + 1
-one_more t v e x order rise on before =
-    let most = greatest_is (below x (next_steps t v)) e before in
-    let under = has_below x e (next_steps t v) most.0 in
-    ap length (ways_are t v x order rise on)
-    ∙ counted x e (next_steps t v) under.1 (λ n on_n lt. most.1 n (below_has x n (next_steps t v) on_n lt))
-    ∙ ap (λ b. length (once (below e (next_steps t v))) + (if b then 1 else 0)) under.0
-    ∙ sym (ap (λ l. length l + 1) (ways_are t v e order rise under.0))
-
--- all ways before x are passed over, each by one refusal
-pub passes : (n : ℕ) (t : Shape) (v : List ℕ) (x : ℕ) → IsOrderly t → goes_on_to t v x ≡ true → NoneCutOff t (x + 1) → x < n → stand_from t (go_on t v) (replicate (length (ways_before t x)) Refused) ≡ arrive t v x
-passes zero t v x o on whole lt = absurd (omega arith)
-passes (suc n) t v x o on whole lt = by_before (greatest (below x (next_steps t v))) refl (λ e on_e less. passes n t v e o on_e (λ y under. whole y (omega arith)) (omega arith))
-  where
-    by_before : (g : Option ℕ) → greatest (below x (next_steps t v)) ≡ g → ((e : ℕ) → goes_on_to t v e ≡ true → e < x → stand_from t (go_on t v) (replicate (length (ways_before t e)) Refused) ≡ arrive t v e) → stand_from t (go_on t v) (replicate (length (ways_before t x)) Refused) ≡ arrive t v x
-    by_before None is rest =
-        let none = greatest_none (below x (next_steps t v)) is in
-        let first = least_of (next_steps t v) x on (λ e on_e. ⊎_elim (λ less. absurd (let h = sym (ap (has e) none) ∙ below_has x e (next_steps t v) on_e less in cc)) (λ le. le) (cases_lt e x)) in
-        ap (λ l. stand_from t (go_on t v) (replicate (length l) Refused)) (ways_are t v x o.in_order o.rising on ∙ ap once none) ∙ ap (follow (arrive t) v) first
-    by_before (Some e) is rest =
-        let under = has_below x e (next_steps t v) (greatest_is (below x (next_steps t v)) e is).0 in
-        let c = length (ways_before t e) in
-        let may = may_fail t v e x o on is (whole x (omega arith) (on_branch t v x o on)) in
-        ap (λ k. stand_from t (go_on t v) (replicate k Refused)) (one_more t v e x o.in_order o.rising on is)
-        ∙ ap (stand_from t (go_on t v)) (sym (replicate-append-replicate c 1 Refused))
-        ∙ stand_append t (go_on t v) (replicate c Refused) (Refused ∷ [])
-        ∙ ap (λ s. answered t s Refused) (rest e under.0 under.1)
-        ∙ pass t v e x o on is may
 
 -- how many further steps are allowed doesn't matter, if they are enough
 come_same : (n m : ℕ) (t : Shape) (w : List ℕ) (d : ℕ) → IsOrderly t → goes_on_to t w d ≡ true → length t.kinds ≤ d + n → length t.kinds ≤ d + m → come_to n t w d ≡ come_to m t w d
@@ -164,33 +144,116 @@ done t v x o on = by_kind (can_be_refused (kind_of t x)) refl
     by_kind true may = ap (λ s. answered t s Done) (asks_there t v x may)
     by_kind false sure = done_at_once t v x o on sure
 
--- a beginning of the branch to a step goes on with the next step of it
-onward_prefix : (v : List ℕ) (x : ℕ) (xs p : List ℕ) (b : ℕ) → onward (v ++ x ∷ xs) p ≡ Some b → onward v p ≡ Some x
-onward_prefix [] x xs [] b on = absurd (cc)
-onward_prefix [] x xs (y ∷ p) b on = ap Some (sym (onward_both x y b xs p on).0)
-onward_prefix (z ∷ v) x xs [] b on = absurd (cc)
-onward_prefix (z ∷ v) x xs (y ∷ p) b on =
-    let both = onward_both z y b (v ++ x ∷ xs) p on in
-    ap (λ t. if t then onward v p else None) (eq-eqb z y both.0) ∙ onward_prefix v x xs p b both.1
+-- refusals of those that are tried before x lead play to it
+abbrev pub Passes : Shape → List ℕ → ℕ → Type 0
+Passes t v x = stand_from t (go_on t v) (replicate (tried_below t v x) Refused) ≡ arrive t v x
 
--- one of the steps of a list is below what all of it is below
-mid_below : (v : List ℕ) (x : ℕ) (xs : List ℕ) (d : ℕ) → Each (λ y. y < d) (v ++ x ∷ xs) → x < d
-mid_below [] x xs d h = h.0
-mid_below (y ∷ v) x xs d h = mid_below v x xs d h.1
+-- a refused step falls back to where it does
+back_to : (t : Shape) (w : List ℕ) (e x : ℕ) → IsOrderly t → goes_on_to t w e ≡ true → fallback_of t w e ≡ Some x → can_be_refused (kind_of t e) ≡ true → answered t (arrive t w e) Refused ≡ arrive t (branch_to t x) x
+back_to t w e x o on falls may =
+    ap (λ s. answered t s Refused) (asks_there t w e may)
+    ∙ ap (go_back t w e) falls
+    ∙ ap (λ v. arrive t v x) (sym (branch_from t (kept_for t w x) x o.in_order o.rising (kept_goes_on t w e x falls)))
+
+-- one way is passed over, by the refusals of those that are tried in it
+pub passes_way : (m : ℕ) (t : Shape) (w : List ℕ) (e x c : ℕ) → IsOrderly t → goes_on_to t w e ≡ true → fallback_of t w e ≡ Some x → is_sure t.kinds (e ∷ last_after t (w ++ e ∷ [])) ≡ false
+    → ((v : List ℕ) (y : ℕ) → goes_on_to t v y ≡ true → y < x → Passes t v y) → x ≤ e + m → tried_below t w x ≡ tried_below t w e + c
+    → stand_from t (arrive t w e) (replicate c Refused) ≡ arrive t (branch_to t x) x
+passes_way zero t w e x c o on falls unsure passed le count = let up = (falls_to t w e x falls).up in absurd (omega arith)
+passes_way (suc m) t w e x c o on falls unsure passed le count =
+    by_kind (kind_of t e) refl (λ f d more few. passes_way m t (w ++ e ∷ []) f x more o d.on d.falls d.unsure passed (let up = d.up in omega arith) few)
+  where
+    v : List ℕ
+    v = w ++ e ∷ []
+
+    here : can_be_refused (kind_of t e) ≡ true → stand_from t (arrive t w e) (replicate c Refused) ≡ arrive t (branch_to t x) x
+    here may =
+        let one : c ≡ 1 = omega (arith, count, tried_one t w e x o on falls may) in
+        ap (λ k. stand_from t (arrive t w e) (replicate k Refused)) one ∙ back_to t w e x o on falls may
+
+    through : can_be_refused (kind_of t e) ≡ false → (f : ℕ) → LeadsDown t w e x f
+        → ((more : ℕ) → tried_below t v x ≡ tried_below t v f + more → stand_from t (arrive t v f) (replicate more Refused) ≡ arrive t (branch_to t x) x)
+        → stand_from t (arrive t w e) (replicate c Refused) ≡ arrive t (branch_to t x) x
+    through never f d rest =
+        let up = (falls_to t v f x d.falls).up in
+        let before = tried_below t v f in
+        let more = tried_below t v x - before in
+        let few = tried_more t v f x (omega arith) in
+        let split : c ≡ before + more = omega (arith, count, tried_through t w e x o on falls never, few) in
+        ap (λ s. stand_from t s (replicate c Refused)) (done_at_once t w e o on never)
+        ∙ ap (stand_from t (go_on t v)) (ap (λ k. replicate k Refused) split ∙ sym (replicate-append-replicate before more Refused))
+        ∙ stand_append t (go_on t v) (replicate before Refused) (replicate more Refused)
+        ∙ ap (λ s. stand_from t s (replicate more Refused)) (passed v f d.on up)
+        ∙ rest more (omega (arith, few))
+
+    by_kind : (k : StepKind) → kind_of t e ≡ k
+        → ((f : ℕ) → LeadsDown t w e x f → (more : ℕ) → tried_below t v x ≡ tried_below t v f + more → stand_from t (arrive t v f) (replicate more Refused) ≡ arrive t (branch_to t x) x)
+        → stand_from t (arrive t w e) (replicate c Refused) ≡ arrive t (branch_to t x) x
+    by_kind C is rest = here (ap can_be_refused is)
+    by_kind P is rest = here (ap can_be_refused is)
+    by_kind R is rest = absurd (let f : true ≡ false = sym (ap (λ k. is_sure_by k (is_sure t.kinds (last_after t (w ++ e ∷ [])))) is) ∙ unsure in cc)
+    by_kind Cr is rest = let down = leads_down t w e x o on falls is unsure in through (ap can_be_refused is) down.0 down.1 (rest down.0 down.1)
+
+-- none is tried before the first way
+none_first : (t : Shape) (v : List ℕ) (x : ℕ) → IsOrderly t → goes_on_to t v x ≡ true → ((e : ℕ) → goes_on_to t v e ≡ true → x ≤ e) → tried_below t v x ≡ 0
+none_first t v x o on first = tried_flat t v 0 x (omega arith) (λ y from to. not_tried t v y (λ is. by_rest y to is.rest is.is))
+  where
+    by_rest : (y : ℕ) → y < x → (rest : List ℕ) → branch_to t y ≡ v ++ rest → ⊥
+    by_rest y lt rest is = by_first rest (ap (λ u. goes_on_to t u y) (sym is) ∙ o.covered y (let in_t = on_within t v x o on in omega arith))
+      where
+        by_first : (rest : List ℕ) → goes_on_to t (v ++ rest) y ≡ true → ⊥
+        by_first [] on_y = let le = first y (sym (ap (λ u. goes_on_to t u y) (append-nil v)) ∙ on_y) in omega arith
+        by_first (z ∷ more) on_y =
+            let p = goes_along t (v ++ z ∷ more) y on_y in
+            let le = first z (goes_on t v z p.0 p.1 (onward_first v more p.0 z y p.2)) in
+            let up : z < y = mid_below v z more y (on_above t (v ++ z ∷ more) y o on_y) in
+            omega arith
+
+-- all ways before x are passed over
+pub passes : (n : ℕ) (t : Shape) (v : List ℕ) (x : ℕ) → IsOrderly t → goes_on_to t v x ≡ true → NoneCutOff t (x + 1) → x < n → Passes t v x
+passes zero t v x o on whole lt = absurd (omega arith)
+passes (suc n) t v x o on whole lt = by_before (greatest (below x (next_steps t v))) refl (λ u y on_y less. passes n t u y o on_y (λ z under. whole z (omega arith)) (omega arith))
+  where
+    by_before : (g : Option ℕ) → greatest (below x (next_steps t v)) ≡ g → ((u : List ℕ) (y : ℕ) → goes_on_to t u y ≡ true → y < x → Passes t u y) → Passes t v x
+    by_before None is rest =
+        let none = greatest_none (below x (next_steps t v)) is in
+        let low : (e : ℕ) → goes_on_to t v e ≡ true → x ≤ e = λ e on_e. ⊎_elim (λ less. absurd (let h = sym (ap (has e) none) ∙ below_has x e (next_steps t v) on_e less in cc)) (λ le. le) (cases_lt e x) in
+        ap (λ k. stand_from t (go_on t v) (replicate k Refused)) (none_first t v x o on low) ∙ ap (follow (arrive t) v) (least_of (next_steps t v) x on low)
+    by_before (Some e) is rest =
+        let under = has_below x e (next_steps t v) (greatest_is (below x (next_steps t v)) e is).0 in
+        let up = under.1 in
+        let before = tried_below t v e in
+        let more = tried_below t v x - before in
+        let few = tried_more t v e x (omega arith) in
+        let split : tried_below t v x ≡ before + more = omega (arith, few) in
+        let unsure = way_open t v e x o on is (whole x (omega arith) (on_branch t v x o on)) in
+        ap (stand_from t (go_on t v)) (ap (λ k. replicate k Refused) split ∙ sym (replicate-append-replicate before more Refused))
+        ∙ stand_append t (go_on t v) (replicate before Refused) (replicate more Refused)
+        ∙ ap (λ s. stand_from t s (replicate more Refused)) (rest v e under.0 up)
+        ∙ passes_way x t v e x more o under.0 (nearest t v e x o on is) unsure rest (omega arith) split
+        ∙ ap (λ u. arrive t u x) (branch_from t v x o.in_order o.rising on)
+
+-- the refusals that are passed over before x are those of the steps that are tried before it
+pub tried_count : (t : Shape) (v : List ℕ) (x : ℕ) → IsOrderly t → goes_on_to t v x ≡ true → length (tried_before t x) ≡ tried_below t v x
+tried_count t v x o on = ap (λ u. length (filter (is_first_tried t u) (numbers_from 0 x))) (branch_from t v x o.in_order o.rising on) ∙ tried_is t v x
+
+-- so the outcomes before x lead play to it
+passes_over : (t : Shape) (v : List ℕ) (x : ℕ) → IsOrderly t → goes_on_to t v x ≡ true → NoneCutOff t (x + 1) → stand_from t (go_on t v) (replicate (length (tried_before t x)) Refused) ≡ arrive t v x
+passes_over t v x o on whole = ap (λ k. stand_from t (go_on t v) (replicate k Refused)) (tried_count t v x o on) ∙ passes (x + 1) t v x o on whole (omega arith)
 
 -- the outcomes along a branch but for the last lead play to its end
 pub along : (xs : List ℕ) (t : Shape) (v : List ℕ) (b : ℕ) → IsOrderly t → goes_on_to t (v ++ xs) b ≡ true → NoneCutOff t (b + 1)
     → (os : List Outcome) × (outcomes_along t xs b ≡ os ++ Refused ∷ []) × (stand_from t (go_on t v) os ≡ arrive t (v ++ xs) b)
 along [] t v b o on whole =
     let on' = sym (ap (λ w. goes_on_to t w b) (append-nil v)) ∙ on in
-    (replicate (length (ways_before t b)) Refused, refl, passes (b + 1) t v b o on' whole (omega arith) ∙ sym (ap (λ w. arrive t w b) (append-nil v)))
+    (replicate (length (tried_before t b)) Refused, refl, passes_over t v b o on' whole ∙ sym (ap (λ w. arrive t w b) (append-nil v)))
 along (x ∷ xs) t v b o on whole =
     let p = goes_along t (v ++ x ∷ xs) b on in
-    let on_x = goes_on t v x p.0 p.1 (onward_prefix v x xs p.0 b p.2) in
+    let on_x = goes_on t v x p.0 p.1 (onward_first v xs p.0 x b p.2) in
     let up = mid_below v x xs b (on_above t (v ++ x ∷ xs) b o on) in
     let assoc = append_assoc v (x ∷ []) xs in
     let rest = along xs t (v ++ x ∷ []) b o (ap (λ w. goes_on_to t w b) assoc ∙ on) whole in
-    let refused = replicate (length (ways_before t x)) Refused in
+    let refused = replicate (length (tried_before t x)) Refused in
     let first = if can_be_refused (kind_of t x) then Done ∷ [] else [] in (
       refused ++ (first ++ rest.0),
       append_assoc refused first (outcomes_along t xs b)
@@ -198,7 +261,7 @@ along (x ∷ xs) t v b o on whole =
           ∙ ap (λ os. refused ++ os) (sym (append_assoc first rest.0 (Refused ∷ [])))
           ∙ sym (append_assoc refused (first ++ rest.0) (Refused ∷ [])),
       stand_append t (go_on t v) refused (first ++ rest.0)
-          ∙ ap (λ s. stand_from t s (first ++ rest.0)) (passes (x + 1) t v x o on_x (λ y under. whole y (omega arith)) (omega arith))
+          ∙ ap (λ s. stand_from t s (first ++ rest.0)) (passes_over t v x o on_x (λ y under. whole y (omega arith)))
           ∙ stand_append t (arrive t v x) first rest.0
           ∙ ap (λ s. stand_from t s rest.0) (done t v x o on_x)
           ∙ rest.2

@@ -1,15 +1,17 @@
 -- Paths are judged one after another, and on each the steps from its beginning.
-use Rattle.process_tree.proofs.Fixed.{fixed_more}
-use Rattle.std.proofs.lemmas.Bool.{eq-eqb}
-use Rattle.std.proofs.Common.{◌≡◌, ◌⊎◌, inl, inr, ⊎_elim, subst, ℕ, ◌+◌, ◌<◌, ◌≤◌, zero, suc, true, List, [], ◌∷◌, length, take, Some, None, refl, sym, ap, ◌∙◌, arith, if◌then◌else◌, slice_index, slice_index_or, take_all, add-one}
-use Rattle.std.proofs.Math.Seq.{take-suc}
+use Rattle.process_tree.proofs.Fixed.{fixed_le, fixed_more, take_whole, take_front}
+use Rattle.std.proofs.lemmas.Bool.{eq-eqb, ne_eqb}
+use Rattle.std.proofs.Common.{◌≡◌, ◌⊎◌, inl, inr, ⊎_elim, subst, ℕ, ◌+◌, ◌<◌, ◌≤◌, zero, suc, Bool, true, false, List, [], ◌∷◌, ◌++◌, length, take, Some, None, refl, sym, ap, ◌∙◌, arith, if◌then◌else◌, slice_index, slice_index_or, take_all, add-one, drop, append_assoc, length-append, nat_eq}
+use Rattle.std.proofs.Math.Seq.{take-suc, drop-append_seam}
 use Rattle.std.proofs.lemmas.List.{length-take-le}
 use Rattle.process_tree.specs.Order.{Each, IsRising, PartsBelow, AreInOrder, has}
-use Rattle.process_tree.specs.Shape.{Shape, goes_on_to, branch_to, kind_of, commits, fixed_len}
+use Rattle.process_tree.specs.Shape.{Shape, goes_on_to, branch_to, kind_of, commits_by_kind, commits_behind, commits_after, fixed_len, last_after, owed_from}
 use Rattle.process_tree.proofs.Every.{Each-append}
 use Rattle.process_tree.proofs.Branches.{has_cases, has_here, has_there, Each-has, Among, Each-among}
 use Rattle.process_tree.proofs.Onward.{onward, onward_has, goes_along, goes_on}
 use Rattle.well_formed.specs.Flaws.{IsOrderly, IsSound, IsSoundBelow}
+use Rattle.well_formed.specs.Spots.{stands_at, last_through}
+use Rattle.well_formed.proofs.LastThrough.{IsLastWith, IsThrough, through_is, still_through, stands_or_has}
 
 -- what each of a list has, each of its beginnings has
 pub Each-take : {A : Type 0} (P : A → Type 0) (n : ℕ) (xs : List A) → Each P xs → Each P (take n xs)
@@ -121,12 +123,87 @@ path_at ps at r p lt is same = same ∙ is ∙ default_free ps at r lt
     default_free (p ∷ ps) zero r lt = refl
     default_free (p ∷ ps) (suc at) r lt = default_free ps at r (omega arith)
 
--- the same of how many steps are fixed
-pub fixed_on : (t : Shape) (p : List ℕ) (k fixed : ℕ) → k < length p → fixed ≡ fixed_len t (take k p) → (if commits (kind_of t (slice_index p k)) then k + 1 else fixed) ≡ fixed_len t (take (k + 1) p)
-fixed_on t p k fixed lt is =
-    let x = slice_index p k in
-    let n : k + 1 ≡ length (take k p) + 1 = ap (λ m. m + 1) (sym (length-take-le k p (omega arith))) in
-    ap (λ f. if commits (kind_of t x) then k + 1 else f) is
-    ∙ ap (λ m. if commits (kind_of t x) then m else fixed_len t (take k p)) n
-    ∙ sym (fixed_more t (take k p) x)
-    ∙ sym (ap (λ n. fixed_len t (take n p)) (add-one k) ∙ ap (fixed_len t) (take-suc p k 0 lt))
+-- how the walk along a path stands at a place of it: how many steps are fixed, and the last path through the last of them
+pub record IsWalked (t : Shape) (p : List ℕ) (k fixed : ℕ) (owed : List ℕ) : Type 0 where
+  pub count : fixed ≡ fixed_len t (take k p)
+  pub rest : drop fixed owed ≡ owed_from t (take k p) fixed
+  pub path : (owed ≡ []) ⊎ IsLastWith t (take fixed (take k p)) owed
+
+-- at its beginning
+pub walk_begins : (t : Shape) (p : List ℕ) → IsWalked t p 0 0 []
+walk_begins t p = record { count = refl; rest = refl; path = inl refl }
+
+-- one step more, which commits or doesn't
+module _ (t : Shape) (p : List ℕ) (k fixed : ℕ) (owed : List ℕ) (o : IsOrderly t) (lt : k < length p) (on : goes_on_to t (take k p) (slice_index p k) ≡ true) (at : IsWalked t p k fixed owed) where
+  abbrev v : List ℕ
+  v = take k p
+
+  abbrev x : ℕ
+  x = slice_index p k
+
+  more : take (k + 1) p ≡ v ++ x ∷ []
+  more = ap (λ n. take n p) (add-one k) ∙ take-suc p k 0 lt
+
+  long : length v ≡ k
+  long = length-take-le k p (omega arith)
+
+  few : fixed ≤ length v
+  few = omega (arith, at.count, fixed_le t v)
+
+  -- it is owed if it stands on the path
+  owed_here : stands_at x k owed ≡ has x (owed_from t v fixed)
+  owed_here =
+      ⊎_elim
+      (λ none. ap (stands_at x k) none ∙ sym (ap (has x) (sym at.rest ∙ ap (drop fixed) none ∙ drop_nothing fixed)))
+      (λ l. ap (λ n. stands_at x n owed) (sym long) ∙ stands_or_has t v owed fixed x o on l.among few ∙ ap (has x) at.rest)
+      at.path
+    where
+      drop_nothing : (n : ℕ) → drop n [] ≡ (let none : List ℕ = [] in none)
+      drop_nothing zero = refl
+      drop_nothing (suc n) = refl
+
+  commits_so : commits_by_kind (kind_of t x) (stands_at x k owed) ≡ commits_after t v x
+  commits_so = ap (commits_by_kind (kind_of t x)) owed_here ∙ ap (λ n. commits_behind t v n x) at.count
+
+  then_fixed : (c : Bool) → commits_by_kind (kind_of t x) (stands_at x k owed) ≡ c → fixed_len t (take (k + 1) p) ≡ (if c then length v + 1 else fixed_len t v)
+  then_fixed c is = ap (fixed_len t) more ∙ (fixed_more t v x ∙ ap (λ c. if c then length v + 1 else fixed_len t v) (sym commits_so ∙ is))
+
+  -- behind a commit point, by the last path through it
+  then_walked : (q : List ℕ) → commits_by_kind (kind_of t x) (stands_at x k owed) ≡ true → IsThrough t v x q → IsWalked t p (k + 1) (k + 1) q
+  then_walked q is through =
+      let one = length-append v (x ∷ []) in
+      let all : length (v ++ x ∷ []) ≡ k + 1 = omega (arith, one, long) in
+      let whole : take (k + 1) (take (k + 1) p) ≡ v ++ x ∷ [] = ap (take (k + 1)) more ∙ take_whole (v ++ x ∷ []) (k + 1) (omega (arith, all)) in
+      record {
+        count = ap (λ n. n + 1) (sym long) ∙ sym (then_fixed true is);
+        rest =
+            ap (drop (k + 1)) (through.is ∙ sym (append_assoc v (x ∷ []) (last_after t (v ++ x ∷ []))))
+            ∙ ap (λ n. drop n ((v ++ x ∷ []) ++ last_after t (v ++ x ∷ []))) (sym all)
+            ∙ drop-append_seam (v ++ x ∷ []) (last_after t (v ++ x ∷ []))
+            ∙ sym (ap (last_after t) whole)
+            ∙ sym (ap (λ c. if c then [] else last_after t (take (k + 1) (take (k + 1) p))) (ne_eqb (k + 1) 0 (λ z. omega arith)));
+        path = inr (subst (λ u. IsLastWith t u q) (sym whole) through.with_both);
+      }
+
+  pub walk_commits : commits_by_kind (kind_of t x) (stands_at x k owed) ≡ true → IsWalked t p (k + 1) (k + 1) (if stands_at x k owed then owed else last_through x k t.paths [])
+  walk_commits is = by_stand (stands_at x k owed) refl
+    where
+      by_stand : (b : Bool) → stands_at x k owed ≡ b → IsWalked t p (k + 1) (k + 1) (if b then owed else last_through x k t.paths [])
+      by_stand true on_owed =
+          then_walked owed is
+          (⊎_elim
+          (λ none. absurd (let f : false ≡ true = sym (ap (stands_at x k) none) ∙ on_owed in cc))
+          (λ l. still_through t v fixed x owed o on (ap (λ n. stands_at x n owed) long ∙ on_owed) l)
+          at.path)
+      by_stand false off = then_walked (last_through x k t.paths []) is (subst (λ n. IsThrough t v x (last_through x n t.paths [])) long (through_is t v x o on))
+
+  pub walk_passes : commits_by_kind (kind_of t x) (stands_at x k owed) ≡ false → IsWalked t p (k + 1) fixed owed
+  walk_passes is = record {
+    count = at.count ∙ sym (then_fixed false is);
+    rest = at.rest ∙ sym (ap (λ u. if nat_eq fixed 0 then [] else last_after t u) (ap (take fixed) more ∙ take_front fixed v (x ∷ []) few));
+    path =
+        ⊎_elim
+        (λ none. inl none)
+        (λ l. inr (subst (λ u. IsLastWith t u owed) (sym (ap (take fixed) more ∙ take_front fixed v (x ∷ []) few)) l))
+        at.path;
+  }

@@ -11,7 +11,7 @@ use Rattle.process_tree.proofs.Branches.{has_cases, has_here, has_there, before_
 use Rattle.process_tree.proofs.Onward.{onward, onward_has, onward_before, onward_behind, onward_off, filter_map-same, next_is, goes_along}
 use Rattle.well_formed.specs.Spots.{is_step, stands_at, step_on, if_earlier, earlier_way}
 use Rattle.well_formed.proofs.Apart.{onward_at}
-use Rattle.well_formed.proofs.Once.{below}
+use Rattle.well_formed.proofs.Below.{below}
 
 -- it is that step
 pub step_is : (c : ℕ) (o : Option ℕ) → is_step c o ≡ true → o ≡ Some c

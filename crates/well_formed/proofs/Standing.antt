@@ -34,6 +34,11 @@ pub last_below : (w : List ℕ) (b d : ℕ) → Each (λ x. x < d) (w ++ b ∷ [
 last_below [] b d h = h.0
 last_below (x ∷ w) b d h = last_below w b d h.1
 
+-- so is each step of it
+pub mid_below : (v : List ℕ) (x : ℕ) (xs : List ℕ) (d : ℕ) → Each (λ y. y < d) (v ++ x ∷ xs) → x < d
+mid_below [] x xs d h = h.0
+mid_below (y ∷ v) x xs d h = mid_below v x xs d h.1
+
 -- where play can stand
 abbrev pub IsStand : Shape → Stand → Type 0
 IsStand t (asks w b) = (goes_on_to t w b ≡ true) × (can_be_refused (kind_of t b) ≡ true)

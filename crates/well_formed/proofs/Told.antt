@@ -1,5 +1,5 @@
 -- What was found of a process tells its verdict.
-use Rattle.std.proofs.Common.{◌≡◌, ◌⊎◌, inl, inr, subst, ℕ, ◌+◌, ◌<◌, zero, suc, true, List, [], ◌∷◌, ◌++◌, length, map, take, drop, Some, None, refl, sym, ap, ◌∙◌, append_assoc, replicate, if◌then◌else◌, add-one, drop-cons, slice_index}
+use Rattle.std.proofs.Common.{◌≡◌, ◌⊎◌, inl, inr, subst, ℕ, ◌+◌, ◌<◌, zero, suc, true, List, [], ◌∷◌, ◌++◌, length, map, take, drop, Some, None, refl, sym, ap, ◌∙◌, append_assoc, replicate, if◌then◌else◌, add-one, arith, drop-cons, slice_index}
 use Rattle.std.proofs.lemmas.List.{length-map}
 use Rattle.std.specs.List.{slice_get}
 use Rattle.process_tree.specs.declared.step.Step.{Step}
@@ -8,11 +8,12 @@ use Rattle.process_tree.specs.declared.play.Outcome.{Outcome}
 use Rattle.process_tree.specs.declared.play.Outcome.TheVariants.{Done, Refused}
 use Rattle.process_tree.specs.Blocks.{outline}
 use Rattle.process_tree.specs.Making.{tree_fault}
-use Rattle.process_tree.specs.Order.{Each}
+use Rattle.process_tree.specs.Order.{Each, IsRising}
 use Rattle.process_tree.specs.Shape.{Shape, shape_of, goes_on_to, branch_to, can_be_refused, kind_of}
-use Rattle.process_tree.specs.Termination.{ways_before, IsWellFormed, outcomes_along, outcomes_to, Fault, stuck_at, unreachable_at, IsFault, IsFirstFault}
+use Rattle.process_tree.specs.Termination.{tried_before, IsWellFormed, outcomes_along, outcomes_to, Fault, stuck_at, unreachable_at, IsFault, IsFirstFault}
 use Rattle.process_tree.proofs.Branches.{Each-has, Each-among}
 use Rattle.process_tree.proofs.Onward.{onward_has, goes_along, goes_on}
+use Rattle.process_tree.proofs.TreeLaws.{each_step_has_a_path}
 use Rattle.process_tree.proofs.Trees.{tree_laid_out}
 use Rattle.well_formed.specs.declared.flaw.Flaw.TheVariants.{CutOff, DeadEnd}
 use Rattle.well_formed.specs.declared.judge.Flawed.{Flawed}
@@ -21,6 +22,7 @@ use Rattle.well_formed.specs.declared.verdict.Verdict.TheVariants.{Good, Stuck, 
 use Rattle.well_formed.specs.Flaws.{IsOrderly, IsSound, IsFirstFlaw, IsJudged}
 use Rattle.well_formed.specs.Verdicts.{Tells}
 use Rattle.well_formed.proofs.Apart.{onward_at}
+use Rattle.well_formed.proofs.Reach.{Each-at}
 use Rattle.well_formed.proofs.Firsts.{all_sound, first_cut_off, first_dead_end}
 
 -- the whole paths of a tree lie in order
@@ -33,6 +35,7 @@ orderly root good =
       within = subst (λ n. Each (Each (λ b. b < n)) (outline root).paths) count laid.within;
       rising = laid.rising;
       in_order = laid.in_order;
+      covered = each_step_has_a_path (shape_of root) (record { root = root; good = good; is = refl });
     }
 
 -- nothing was found
@@ -75,11 +78,18 @@ on_branch_at t w b k on lt =
     let along = goes_along t w b on in
     goes_on t (take k w) (slice_index w k) along.0 along.1 (onward_at w along.0 b k along.2 lt)
 
+-- a step of a rising list is below the later ones
+pub rising_at : (w : List ℕ) (i k : ℕ) → IsRising w → i < k → k < length w → slice_index w i < slice_index w k
+rising_at [] i k rise lt inside = absurd (omega arith)
+rising_at (x ∷ w) i zero rise lt inside = absurd (omega arith)
+rising_at (x ∷ w) zero (suc k) rise lt inside = Each-at (λ y. x < y) w k rise.0 (omega arith)
+rising_at (x ∷ w) (suc i) (suc k) rise lt inside = rising_at w i k rise.1 (omega arith) (omega arith)
+
 -- the outcomes along one step more
-pub along_next : (t : Shape) (w : List ℕ) (b k n : ℕ) (old mid new all : List Outcome) → k < length w → n ≡ slice_index w k → mid ≡ old ++ replicate (length (ways_before t (slice_index w k))) Refused → new ≡ mid ++ (if can_be_refused (kind_of t n) then Done ∷ [] else []) → old ++ outcomes_along t (drop k w) b ≡ all → new ++ outcomes_along t (drop (k + 1) w) b ≡ all
+pub along_next : (t : Shape) (w : List ℕ) (b k n : ℕ) (old mid new all : List Outcome) → k < length w → n ≡ slice_index w k → mid ≡ old ++ replicate (length (tried_before t (slice_index w k))) Refused → new ≡ mid ++ (if can_be_refused (kind_of t n) then Done ∷ [] else []) → old ++ outcomes_along t (drop k w) b ≡ all → new ++ outcomes_along t (drop (k + 1) w) b ≡ all
 along_next t w b k n old mid new all lt at passed done is =
     let x = slice_index w k in
-    let refused = replicate (length (ways_before t x)) Refused in
+    let refused = replicate (length (tried_before t x)) Refused in
     let first = if can_be_refused (kind_of t x) then Done ∷ [] else [] in
     let rest = outcomes_along t (drop (k + 1) w) b in
     let item : drop k w ≡ x ∷ drop (k + 1) w = drop-cons w k 0 lt ∙ sym (ap (λ m. x ∷ drop m w) (add-one k)) in

@@ -11,7 +11,7 @@ use Rattle.process_tree.specs.Play.{kept_prefixes, fallback_of}
 use Rattle.process_tree.proofs.Branches.{has_cases, has_here, has_there, Each-has, Among, Each-among, branch_is}
 use Rattle.process_tree.proofs.Numbers.{numbers_has, numbers_between, in_flat, to_flat, in_filter, to_filter, least_is, least_some}
 use Rattle.process_tree.proofs.Onward.{onward, onward_both, onward_has, onward_before, onward_self, goes_along, goes_on}
-use Rattle.process_tree.proofs.Kept.{fixed_le}
+use Rattle.process_tree.proofs.Fixed.{fixed_le}
 use Rattle.well_formed.specs.Flaws.{IsOrderly, is_nowhere}
 use Rattle.well_formed.specs.Spots.{stands_at, is_later, leaves_later}
 use Rattle.well_formed.proofs.Apart.{leaves, onward_at}

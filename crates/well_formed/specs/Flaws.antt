@@ -1,37 +1,53 @@
 -- What can be wrong with a step, told by its place alone.
-use Rattle.std.specs.Prelude.{ℕ, ◌<◌, ◌&&◌, ◌≡◌, Bool, true, false, List, length, filter, Option, Some, None, if◌then◌else◌, nat_lt, not, slice_index_or}
+use Rattle.std.specs.Prelude.{ℕ, ◌<◌, ◌&&◌, ◌≡◌, Bool, true, false, List, [], ◌∷◌, ◌++◌, length, filter, Option, Some, None}
+use Rattle.std.specs.Prelude.{if◌then◌else◌, nat_lt, slice_index_or}
 use Rattle.process_tree.specs.declared.step.StepKind.{StepKind}
-use Rattle.process_tree.specs.declared.step.StepKind.TheVariants.{C}
+use Rattle.process_tree.specs.declared.step.StepKind.TheVariants.{C, P, R, Cr}
 use Rattle.process_tree.specs.Order.{Each, IsRising, AreInOrder}
 use Rattle.process_tree.specs.Shape.{Shape, kind_of, can_be_refused, next_steps, goes_on_to, fixed_len, branch_to, greatest}
+use Rattle.process_tree.specs.Shape.{last_after}
 use Rattle.process_tree.specs.Play.{fallback_of}
 use Rattle.well_formed.specs.declared.judge.Flawed.{Flawed}
 use Rattle.well_formed.specs.declared.flaw.Flaw.{Flaw}
 use Rattle.well_formed.specs.declared.flaw.Flaw.TheVariants.{CutOff, DeadEnd}
 
--- the shape with these kinds and paths
-abbrev pub shape_by : List StepKind → List (List ℕ) → Shape
-shape_by kinds paths = record { kinds = kinds; paths = paths }
+-- b stands on a whole path
+abbrev pub IsOn : Shape → ℕ → Type 0
+IsOn t b = goes_on_to t (branch_to t b) b ≡ true
 
--- the whole paths lie as those of a tree do
+-- the whole paths lie as those of a tree do, and have each step
 pub record IsOrderly (t : Shape) : Type 0 where
   pub some : Each (λ p. 0 < length p) t.paths
   pub within : Each (Each (λ b. b < length t.kinds)) t.paths
   pub rising : Each IsRising t.paths
   pub in_order : AreInOrder t.paths
+  pub covered : (b : ℕ) → b < length t.kinds → IsOn t b
 
 -- the first step of the way just before that of d, at the choice where d begins one
 abbrev pub way_before : Shape → ℕ → Option ℕ
 way_before t d = greatest (filter (λ e. nat_lt e d) (next_steps t (branch_to t d)))
 
--- there is such a step, and it can't be refused
-abbrev pub is_sure : List StepKind → Option ℕ → Bool
-is_sure kinds None = false
-is_sure kinds (Some e) = not (can_be_refused (slice_index_or kinds e C))
+-- whether steps are sure by the kind of the first of them, where those behind it are or aren't: one that can't be refused but
+-- can be undone leaves it to them
+abbrev pub is_sure_by : StepKind → Bool → Bool
+is_sure_by C behind = false
+is_sure_by P behind = false
+is_sure_by R behind = true
+is_sure_by Cr behind = behind
+
+-- steps are sure where none of them can be refused before one that can't be undone is done
+abbrev pub is_sure : List StepKind → List ℕ → Bool
+is_sure kinds [] = true
+is_sure kinds (e ∷ es) = is_sure_by (slice_index_or kinds e C) (is_sure kinds es)
+
+-- there is a way that e begins behind v, and it is sure through last alternatives
+abbrev pub is_way_sure : Shape → List ℕ → Option ℕ → Bool
+is_way_sure t v None = false
+is_way_sure t v (Some e) = is_sure t.kinds (e ∷ last_after t (v ++ e ∷ []))
 
 -- d begins a way that nothing falls back to, since the one before it is sure
 abbrev pub is_cut_off : Shape → ℕ → Bool
-is_cut_off t d = is_sure t.kinds (way_before t d)
+is_cut_off t d = is_way_sure t (branch_to t d) (way_before t d)
 
 -- whether there is none
 abbrev pub is_nowhere : Option ℕ → Bool
@@ -50,10 +66,6 @@ flaw_at t b = if is_cut_off t b then Some CutOff else (if is_dead_end t b then S
 -- nothing is wrong with it
 abbrev pub IsSound : Shape → ℕ → Type 0
 IsSound t b = flaw_at t b ≡ None
-
--- b stands on a whole path
-abbrev pub IsOn : Shape → ℕ → Type 0
-IsOn t b = goes_on_to t (branch_to t b) b ≡ true
 
 -- each step below n is sound
 abbrev pub IsSoundBelow : Shape → ℕ → Type 0

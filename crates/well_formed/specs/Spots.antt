@@ -1,5 +1,6 @@
 -- Steps at places of whole paths.
-use Rattle.std.specs.Prelude.{ℕ, zero, suc, ◌&&◌, Bool, false, List, length, Option, Some, None, if◌then◌else◌, nat_eq, nat_lt, not, slice_index}
+use Rattle.std.specs.Prelude.{ℕ, zero, suc, ◌&&◌, Bool, false, List, [], ◌∷◌, length, Option, Some, None, if◌then◌else◌, nat_eq}
+use Rattle.std.specs.Prelude.{nat_lt, not, slice_index}
 use Rattle.std.specs.List.{slice_get}
 use Rattle.process_tree.specs.Shape.{first_of, last_of}
 
@@ -34,3 +35,8 @@ is_later b (Some d) = nat_lt b d
 -- a path with the last of the first k + 1 steps of w that leaves w, or b behind it, for later steps
 abbrev pub leaves_later : ℕ → List ℕ → ℕ → List ℕ → Bool
 leaves_later k w b p = stands_at (slice_index w k) k p && not (stands_at b (length w) p) && is_later b (last_of p)
+
+-- the last of these paths that has the step at that place, or what was found before
+abbrev pub last_through : ℕ → ℕ → List (List ℕ) → List ℕ → List ℕ
+last_through c k [] found = found
+last_through c k (p ∷ ps) found = last_through c k ps (if stands_at c k p then p else found)

@@ -1,8 +1,8 @@
 // The check of a process, and its branches.
 ghost use Rattle.std.specs.Prelude.{◌≡◌, ◌⊎◌, ◌++◌, ◌∷◌, [], IfOk};
-ghost use Rattle.process_tree.specs.Shape.{shape_of, branch_to};
+ghost use Rattle.process_tree.specs.Shape.{shape_by, shape_of, branch_to};
 ghost use Rattle.process_tree.specs.Termination.{IsWellFormed};
-ghost use Rattle.well_formed.specs.Flaws.{shape_by, IsOrderly};
+ghost use Rattle.well_formed.specs.Flaws.{IsOrderly};
 ghost use Rattle.well_formed.specs.Verdicts.{Tells};
 ghost use Rattle.well_formed.specs.declared.verdict.Verdict.TheVariants.{Good, NoMemory};
 

@@ -1,30 +1,42 @@
 // What is wrong with single steps.
-ghost use Rattle.std.specs.Prelude.{◌≡◌, ◌≤◌, ◌<◌, ◌-◌, ◌++◌, ◌∷◌, [], true, length, Option, None, slice_index, IsTrue, MatchOption};
+ghost use Rattle.std.specs.Prelude.{◌≡◌, ◌≤◌, ◌<◌, ◌-◌, [], length};
 ghost use Rattle.std.specs.List.{list_any, filter_map};
-ghost use Rattle.process_tree.specs.Order.{Each};
-ghost use Rattle.process_tree.specs.Shape.{greatest, goes_on_to, fixed_len, can_be_refused, commits, last_of};
-ghost use Rattle.process_tree.specs.Paths.{greater_of};
-ghost use Rattle.well_formed.specs.Flaws.{shape_by, IsOrderly, flaw_at, IsSound, is_sure};
-ghost use Rattle.well_formed.specs.Spots.{stands_at, step_on, earlier_way, is_later, leaves_later};
+ghost use Rattle.process_tree.specs.Shape.{greatest, last_of};
+ghost use Rattle.well_formed.specs.Spots.{stands_at, last_through, step_on, earlier_way, is_later, leaves_later};
 
 use process_tree::{Places, greater_of};
 
 /// What can be wrong with a step.
 #[derive(Clone, Copy, Debug, PartialEq, Eq)]
 pub enum Flaw {
-    /// It begins an alternative behind one that is always finished.
+    /// It begins an alternative that nothing falls back to, since the one before it is sure.
     CutOff,
     /// If it is refused, the process is stuck.
     DeadEnd,
 }
 
-fn stands_at(path: &[u16], place: usize, step: u16) -> bool
+/// Whether a step stands at this place of a path.
+pub fn stands_at(path: &[u16], place: usize, step: u16) -> bool
     ensures { result ≡ stands_at step place path.now }
 {
     match path.get(place) {
         None => false,
         Some(other) => *other == step,
     }
+}
+
+/// The last of the paths that have a step at this place: behind it, that path takes last alternatives.
+pub fn last_through(paths: &[Places], place: usize, step: u16) -> &[u16]
+    ensures { result.now ≡ last_through step place paths.now [] }
+{
+    let mut found: &[u16] = &[];
+    for path in paths {
+        let steps = path.as_slice();
+        if stands_at(steps, place, step) {
+            found = steps;
+        }
+    }
+    found
 }
 
 /// The step with which a path goes on from a branch: a step stands behind one branch only.

@@ -1,11 +1,12 @@
 // What is wrong first with a process.
-ghost use Rattle.std.specs.Prelude.{◌≡◌, ◌+◌, ◌<◌, true, [], length, take, slice_index_or, IfSome, IsTrue, if◌then◌else◌};
+ghost use Rattle.std.specs.Prelude.{◌≡◌, ◌<◌, true, [], length, take, slice_index_or, IsTrue, if◌then◌else◌};
 ghost use Rattle.process_tree.specs.declared.step.StepKind.TheVariants.{C};
 ghost use Rattle.process_tree.specs.Order.{Each};
-ghost use Rattle.process_tree.specs.Shape.{goes_on_to, fixed_len, commits};
-ghost use Rattle.well_formed.specs.Flaws.{shape_by, IsOrderly, is_sure, is_cut_off, is_dead_end, flaw_at, IsSound, AreJudged, IsJudged};
+ghost use Rattle.process_tree.specs.Shape.{shape_by, goes_on_to, fixed_len, commits_by_kind};
+ghost use Rattle.well_formed.specs.Flaws.{IsOrderly, is_sure, is_cut_off, is_dead_end, flaw_at, IsSound, AreJudged, IsJudged};
+ghost use Rattle.well_formed.specs.Spots.{stands_at, last_through};
 
-use crate::flaw::{Flaw, has_way_on, way_before};
+use crate::flaw::{Flaw, has_way_on, last_through, stands_at, way_before};
 use process_tree::{Places, StepKind, shared};
 
 /// A step with what is wrong with it.
@@ -15,15 +16,19 @@ pub struct Flawed {
     pub flaw: Flaw,
 }
 
-/// Whether there is a step that can't be refused.
-fn is_sure(kinds: &[StepKind], way: Option<u16>) -> bool
-    requires { IfSome way (λ step. step < length kinds.now) }
-    ensures { result ≡ is_sure kinds.now way }
+/// Whether steps are sure: none of them can be refused before one that can't be undone is done.
+fn is_sure(kinds: &[StepKind], steps: &[u16]) -> bool
+    requires { Each (λ b. b < length kinds.now) steps.now }
+    ensures { result ≡ is_sure kinds.now steps.now }
 {
-    match way {
-        None => false,
-        Some(step) => !kinds[usize::from(step)].can_be_refused(),
+    for step in steps {
+        match kinds[usize::from(*step)] {
+            StepKind::C | StepKind::P => return false,
+            StepKind::R => return true,
+            StepKind::Cr => {}
+        }
     }
+    true
 }
 
 /// Whether a step that goes on from this branch is cut off by the way before it.
@@ -32,7 +37,14 @@ fn is_cut_off(paths: &[Places], kinds: &[StepKind], branch: &[u16], step: u16) -
     requires on { goes_on_to (shape_by kinds.now paths.now) branch.now step ≡ true }
     ensures { result ≡ is_cut_off (shape_by kinds.now paths.now) step }
 {
-    is_sure(kinds, way_before(paths, branch, step))
+    match way_before(paths, branch, step) {
+        None => false,
+        Some(way) => {
+            let path = last_through(paths, branch.len(), way);
+            let (_, steps) = path.split_at(branch.len());
+            is_sure(kinds, steps)
+        }
+    }
 }
 
 /// Whether a step that goes on from this branch is a dead end. So many first steps of the branch stand up to its last
@@ -85,16 +97,22 @@ fn flaw_of(
     None
 }
 
-/// How many steps stand up to the last commit point behind a step that stands at this place.
-fn fixed_behind(kinds: &[StepKind], fixed: usize, place: usize, step: u16) -> usize
-    requires step { step < length kinds.now }
-    requires place { place < 18446744073709551615 }
-    ensures { result ≡ (if commits (slice_index_or kinds.now step C) then place + 1 else fixed) }
+/// Whether a step at this place is a commit point, where `owed` is the last path through the last one before it.
+fn commits_there(kinds: &[StepKind], owed: &[u16], place: usize, step: u16) -> bool
+    requires { step < length kinds.now }
+    ensures { result ≡ commits_by_kind (slice_index_or kinds.now step C) (stands_at step place owed.now) }
 {
-    if kinds[usize::from(step)].commits() {
-        place + 1
+    kinds[usize::from(step)].commits(stands_at(owed, place, step))
+}
+
+/// The last path through a step at this place, where `owed` is the last one through an earlier step, or no path.
+fn owed_behind<'a>(paths: &'a [Places], owed: &'a [u16], place: usize, step: u16) -> &'a [u16]
+    ensures { result.now ≡ (if stands_at step place owed.now then owed.now else last_through step place paths.now []) }
+{
+    if stands_at(owed, place, step) {
+        owed
     } else {
-        fixed
+        last_through(paths, place, step)
     }
 }
 
@@ -108,12 +126,16 @@ fn flaw_on(paths: &[Places], kinds: &[StepKind], at: usize, skip: usize) -> Opti
 {
     let path = paths[at].as_slice();
     let mut fixed = 0;
+    let mut owed: &[u16] = &[];
     for place in 0..path.len() {
         let step = path[place];
         if let Some(flaw) = flaw_of(paths, kinds, &path[..place], fixed, step, place < skip) {
             return Some(Flawed { step, flaw });
         }
-        fixed = fixed_behind(kinds, fixed, place, step);
+        if commits_there(kinds, owed, place, step) {
+            fixed = place + 1;
+            owed = owed_behind(paths, owed, place, step);
+        }
     }
     None
 }

@@ -25,11 +25,13 @@ fn step(alloc: Global, kind: StepKind, number: usize) -> Result<Step, anyhow::Er
     })
 }
 
+/// The kind that a letter stands for: `b` is both compensatable and retriable.
 fn kind(letter: u8) -> Option<StepKind> {
     match letter {
         b'c' => Some(StepKind::C),
         b'p' => Some(StepKind::P),
         b'r' => Some(StepKind::R),
+        b'b' => Some(StepKind::Cr),
         _ => None,
     }
 }

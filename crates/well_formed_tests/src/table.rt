@@ -1,7 +1,7 @@
-// A hundred processes and what is wrong first with each, worked out by `verdicts.py`, beside `src`, by trying all outcomes of play.
+// 146 processes and what is wrong first with each, worked out by `verdicts.py`, beside `src`, by trying all outcomes of play.
 
-/// In each line a process, in which a letter is a step of that kind and brackets are a choice, and then its verdict. Steps are
-/// numbered from 0.
+/// In each line a process, in which a letter is a step of that kind, `b` one that is both compensatable and retriable, and brackets
+/// are a choice; and then its verdict. Steps are numbered from 0.
 pub const TABLE: &str = "\
 c good
 p good
@@ -103,4 +103,50 @@ pr(r(p(r|c)|p)|p) unreachable 5
 (c(c(r|c)|pc(r|cr))|c|r) unreachable 3
 cc(cc|(cp|pr|c)) good
 (c(c|r)|c) good
+bpb good
+p(b|r) unreachable 2
+p(bc|bc) stuck 4 done refused refused
+p(bc|r) good
+b good
+bpbrb good
+p(c|b) good
+p(b(c|c)|r) good
+p(b(c|b)|r) unreachable 4
+p(b(b|c)|r) unreachable 3
+(b|c) unreachable 1
+(bc|c) good
+(b(c|bc)|c) good
+(br|c) unreachable 2
+(bp|c) good
+p(c|bbc) stuck 4 done refused refused
+bc(bbr|c) unreachable 5
+p(b(bc|bp)|b) good
+p(c(b|c)|b) unreachable 3
+bc(bc|bpbc) stuck 7 done refused done refused
+p(b(c(bc|bbc)|bc)|b) good
+p(bb(c|(bc|bp(c|r)))|b(c|b)) good
+b(bc|b(c|bb)) good
+(c(c|cb)|cb(bc|bc)) good
+p(c(cb(bc|bcb)|c)|b) good
+bb(c(cc|b(cp|b))|b) good
+bb((c|c|b(p|c))|cb) good
+bcb((c|bc)|b) good
+pbb(bc|b(bc|b)) good
+bc(c|bc|c(b(bcc|cbc)|b)) good
+b(c|bb((bbc|cbc|cbb)|c)) good
+bp(rb|c) unreachable 4
+pbbb((b(b|c)|r)|b) unreachable 6
+bpbb(((c|bb)|(b|rbb))|bc) unreachable 7
+(cb|rb|pb((b|bc)|b)) unreachable 4
+p(bc((bb|p)|b(c|b)|bp)|bc) unreachable 5
+cpbb(b|c) unreachable 5
+bpbb(b|(cc|c(bbb|b|cc))) unreachable 5
+pbbb(bb(cb|bc)|c|cb) stuck 11 done refused refused refused refused
+cprr(cc|c(b(ccp|cbc)|b)|c) stuck 15 done done refused refused refused
+bpbb(c|bb(c|b(rbc|ccr))) stuck 11 done refused refused refused
+pb(cc|cb(c|bc)|cc) stuck 9 done refused refused refused
+pbb(pb|(cc|bc)) stuck 8 done refused refused refused
+p(c|cb|p(c(ccb|cb)|c)) stuck 4 done refused refused refused
+p(bc|c|c(p(bcb|c)|b)) stuck 4 done refused refused refused
+bpb((c|cb)|c) stuck 6 done refused refused refused
 ";

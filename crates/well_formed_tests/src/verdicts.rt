@@ -36,7 +36,7 @@ fn verdicts_are_those_found_by_trying_all_outcomes(rt: HostRuntime) -> Result<()
             told_of = told_of.saturating_add(1);
         }
     }
-    assert_eq!(rt; told_of, 100);
+    assert_eq!(rt; told_of, 146);
     Ok(())
 }
 

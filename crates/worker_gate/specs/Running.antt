@@ -35,11 +35,12 @@ IsOfRunning Restart = ⊥
 abbrev pub NothingRuns : CoreState → Type 0
 NothingRuns c = (moment_of c).out ≡ []
 
--- One turn of a thread that runs processes: the machine's answer to a request for any piece; and where that is a piece, it ended by one of
--- its two outcomes, or is still out.
+-- One turn of a thread that runs processes: the machine's answer to a request for any piece; and where that is a piece, it ended by
+-- one of its two outcomes, or is still out.
 abbrev pub IsTurn : CoreState → CoreState → Type 0
 IsTurn old new = (new ≡ after_call old next)
-    ⊎ ((d : Handed) × (outcome : Outcome) × ((answer_in old next).reply ≡ next_is (chosen d)) × (new ≡ after_call (after_call old next) (finish d.piece.number outcome)))
+    ⊎ ((d : Handed) × (outcome : Outcome) × ((answer_in old next).reply ≡ next_is (chosen d))
+    × (new ≡ after_call (after_call old next) (finish d.piece.number outcome)))
 
 -- turns one after another, each of which led to one of these cores
 abbrev pub AreTurns : List CoreState → CoreState → CoreState → Type 0
@@ -73,11 +74,12 @@ pub record HasRun (gate : AskedGate) (c : Catalog) (begun now : CoreState) : Typ
   pub by_gate : IsByGate gate c begun now
   pub asked_once : IsAskedOnce gate begun now
 
--- What the outcome of a run says of the engine after it: all processes have ended; or the machine is stuck now, and so it would answer
--- again; or a call of the rack failed.
+-- What the outcome of a run says of the engine after it: all processes have ended; or the machine is stuck now, and so it would
+-- answer again; or a call of the rack failed.
 abbrev pub IsOutcome : {R B : Type 0} → EngineState R B → RunOutcome → Type 0
 IsOutcome e AllEnded = active (history_of e.core) ≡ []
-IsOutcome e (Stuck i) = ((answer_in e.core next).reply ≡ next_is (stuck i)) × IsStuck (relation e.core) (courses_in e.core) (moment_of e.core) i
+IsOutcome e (Stuck i) =
+    ((answer_in e.core next).reply ≡ next_is (stuck i)) × IsStuck (relation e.core) (courses_in e.core) (moment_of e.core) i
 IsOutcome e DiskFault = e.phase ≡ phase.Closed
 IsOutcome e NoMemory = ⊤
 

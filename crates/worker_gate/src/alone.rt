@@ -53,7 +53,7 @@ fn turn<R: Rack + Drop, B: Resource, G: Gate>(
 {
     match next(engine) {
         Next::Piece(piece) => {
-            engine.is_sound();
+            engine.invariant_holds();
             failure(work(engine, gate, piece))
         }
         Next::Wait(_) => unreachable!(),
@@ -62,8 +62,8 @@ fn turn<R: Rack + Drop, B: Resource, G: Gate>(
     }
 }
 
-/// Runs the processes of a settled engine of which no piece is out, until all have ended or one is stuck, or a call fails. The gate works
-/// on one piece after another; the end of a process asks no gate.
+/// Runs the processes of a settled engine of which no piece is out, until all have ended or one is stuck, or a call fails. The gate
+/// works on one piece after another; the end of a process asks no gate.
 pub fn run_alone<R: Rack + Drop, B: Resource, G: Gate>(
     engine: &mut Engine<R, B>,
     gate: &mut G,
@@ -76,11 +76,11 @@ pub fn run_alone<R: Rack + Drop, B: Resource, G: Gate>(
     ensures ready { result ≢ RunOutcome.DiskFault → IsReady B.meaning B.sort engine.new }
     ensures fits { EachFits B.meaning B.sort engine.new.files.stores }
 {
-    engine.is_sound();
+    engine.invariant_holds();
     'turns: loop {
         match turn(engine, gate) {
             Some(outcome) => return outcome,
-            None => engine.is_sound(),
+            None => engine.invariant_holds(),
         }
     }
 }

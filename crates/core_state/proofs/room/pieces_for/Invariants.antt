@@ -9,5 +9,5 @@ use Rattle.core_state.proofs.room.pieces_for.Given as goal
 abbrev pub invariant-loop-n : goal.invariant-loop-n
 invariant-loop-n l = record {
   pieces : l.pieces ≡ sum_by (pieces_for_step (course_of l.plan ∷ []) 1) (numbers_from 0 l.n);
-  few : l.pieces ≤ 256 * l.n;
+  few : l.pieces ≤ 512 * l.n;
 }

@@ -10,5 +10,5 @@ use Rattle.core_state.proofs.room.room_at_opening.Given as goal
 abbrev pub invariant-loop-place : goal.invariant-loop-place
 invariant-loop-place l = record {
   room : l.room ≡ sum_by (λ i. kept_for (course (courses_of l.h.plans) i)) (filter (is_active l.h.events) (numbers_from 1 l.place));
-  few : l.room ≤ 33554438 * l.place;
+  few : l.room ≤ 67108870 * l.place;
 }

@@ -5,7 +5,7 @@ use Rattle.process_tree.specs.Conflicts.{operations_in}
 use Rattle.process_tree.specs.Order.{Each}
 use Rattle.process_tree.proofs.Trees.{tree_laid_out}
 use Rattle.hold_tables.specs.Kept.{AreKnown}
-use Rattle.process_tree.specs.Shape.{commits, kind_of, shape_of}
+use Rattle.process_tree.specs.Shape.{commits, shape_of}
 use Rattle.hold_tables.specs.Tables.{OpenProcess, Tables, is_open, kept_of}
 use Rattle.hold_tables.specs.Changes.{all_fixed, changed, run, took_effect, undoes, with_reserved}
 use Rattle.core_state.specs.OpenTables.{planned_behind}
@@ -72,7 +72,7 @@ returns-in_ok-planned c =
     let p = c.args.plan.now in
     let after = took_effect e.process (run e old) in
     let is : c.take_effect.new.self ≡ after = c.take_effect.ensures ∙ ap (took_effect e.process) c.run.ensures in
-    let fixes : commits (kind_of (shape_of p.tree) e.step) ≡ true = sym (c.commits.ensures ∙ ap commits c.kind_of.ensures) ∙ c.if-commits.true in
+    let fixes : commits (shape_of p.tree) e.step ≡ true = sym c.commits.ensures ∙ c.if-commits.true in
     c.reserve.ensures
     ∙ (ap (λ ps. changed (with_reserved ps) e.process c.fix.new.self) (c.deref.ensures.value ∙ c.in_ok-planned.ensures)
     ∙ (ap (changed (with_reserved (planned_behind p e.step)) e.process) (c.fix.ensures ∙ ap (all_fixed e.process) is)
@@ -85,5 +85,5 @@ returns-else-commits c =
     let p = c.args.plan.now in
     let after = took_effect e.process (run e old) in
     let is : c.take_effect.new.self ≡ after = c.take_effect.ensures ∙ ap (took_effect e.process) c.run.ensures in
-    let fixes : commits (kind_of (shape_of p.tree) e.step) ≡ false = sym (c.commits.ensures ∙ ap commits c.kind_of.ensures) ∙ c.if-commits.false in
+    let fixes : commits (shape_of p.tree) e.step ≡ false = sym c.commits.ensures ∙ c.if-commits.false in
     is ∙ sym (ap (λ t. if t then changed (with_reserved (planned_behind p e.step)) e.process (all_fixed e.process after) else after) fixes)

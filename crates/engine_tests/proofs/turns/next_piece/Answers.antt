@@ -12,7 +12,7 @@ returns-in-Ok-Piece-clause-ready g c =
 
 pub returns-in-Ok-Piece-clause-handed : goal.returns-in-Ok-Piece-clause-handed
 returns-in-Ok-Piece-clause-handed g c =
-    handed_next c.args.engine.now.core c.next-reply.new.self.core c.in-Ok-Piece.piece c.is_sound.ensures.run
+    handed_next c.args.engine.now.core c.next-reply.new.self.core c.in-Ok-Piece.piece c.invariant_holds.ensures.run
     (ap (λ (e : EngineState g.row.R.Denot g.row.B.Denot). e.core) c.in-Ok-Piece.ensures.engine)
     (sym (ap (λ r. next_is (next_reply_of r)) c.in-Ok-Piece.field-0-is) ∙ c.in-Ok-Piece.ensures.reply)
 

@@ -1,8 +1,8 @@
-use Rattle.std.proofs.Common.{◌≡◌, ◌<◌, not, length}
+use Rattle.std.proofs.Common.{◌≡◌, ◌<◌, length}
 use Rattle.std.specs.List.{list_any}
 use Rattle.process_tree.specs.Conflicts.{mode_of, operations_in}
 use Rattle.process_tree.specs.Order.{Each}
-use Rattle.history_judging.specs.Conflicting.{is_always, is_never}
+use Rattle.history_judging.specs.Conflicting.{is_always}
 use Rattle.history_judging.proofs.access.always_conflicts.Given as goal
 
 abbrev pub invariant-loop-rest : goal.invariant-loop-rest

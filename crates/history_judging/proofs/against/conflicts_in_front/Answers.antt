@@ -2,7 +2,7 @@ use Rattle.std.proofs.Common.{◌<◌, ◌-◌, ◌∷◌, ◌++◌, ◌||◌, L
 use Rattle.process_tree.specs.Entries.{access_of}
 use Rattle.process_tree.specs.declared.entry.Entry.{Entry}
 use Rattle.process_tree.specs.Conflicts.{do_conflict, operations_in}
-use Rattle.history_judging.specs.Conflicting.{access_conflicts, conflicts_in_front}
+use Rattle.history_judging.specs.Conflicting.{conflicts_in_front}
 use Rattle.schedule_rules.proofs.Moves.{blank}
 use Rattle.schedule_rules.proofs.ListTests.{each_last, last_split}
 use Rattle.history_judging.proofs.ByAccess.{front-more, front-met, front-own, accesses-own}

@@ -10,8 +10,8 @@ conflicts_with_any-requires-clause-entry c =
     let e = c.args.e.now in
     op_known plan r.good (operations_in c.args.c.now) r.known e.op e.step c.requires.op (step_within plan.tree c.args.steps.now e.step r.good.tree c.requires.goes)
 
-pub kind_of-requires : goal.kind_of-requires
-kind_of-requires c = step_within c.args.plan.now.tree c.args.steps.now c.args.e.now.step c.requires.ready.good.tree c.requires.goes
+pub commits-requires-clause-step : goal.commits-requires-clause-step
+commits-requires-clause-step c = step_within c.args.plan.now.tree c.args.steps.now c.args.e.now.step c.requires.ready.good.tree c.requires.goes
 
 pub undoable_is_clear-requires-clause-op : goal.undoable_is_clear-requires-clause-op
 undoable_is_clear-requires-clause-op c =

@@ -1,11 +1,15 @@
-use Rattle.std.proofs.Common.{◌∙◌, ◌+◌, length, None, Some, sym, ap, if◌then◌else◌}
+use Rattle.std.proofs.Common.{◌∙◌, ◌+◌, length, sym, ap}
 use Rattle.process_tree.specs.declared.step.StepKind.TheVariants.{C}
-use Rattle.process_tree.specs.Shape.{branch_to, last_of, path_through, shape_of, steps_before}
+use Rattle.process_tree.specs.Order.{has}
+use Rattle.process_tree.specs.Recovery.{owed_behind}
+use Rattle.process_tree.specs.Shape.{branch_to, commits_by_kind, kind_of, last_of, path_through, shape_of, steps_before}
+use Rattle.process_tree.proofs.Along.{before_goes, owed_by_last}
+use Rattle.process_tree.proofs.Trees.{tree_laid_out}
 use Rattle.process_tree.specs.Play.{fallback_of}
 use Rattle.schedule_model.specs.Course.{allowance_of, usual}
 use Rattle.instance_state.specs.Rows.{row_of, way_of}
 use Rattle.instance_state.proofs.Lists.{length_push}
-use Rattle.instance_state.proofs.RowFacts.{before_has_row, commit_here, commits_before, fixed_here, mapped, same_row, way_here, way_of-fallback}
+use Rattle.instance_state.proofs.RowFacts.{before_has_row, branch_goes, commit_here, commits_before, fixed_here, mapped, same_row, way_here, way_of-fallback}
 use Rattle.instance_state.proofs.rows.next_row.Goals as goal
 
 pub commit_of-commit-requires : goal.commit_of-commit-requires
@@ -34,12 +38,15 @@ returns c =
     let after = c.step_at-after.ensures _ c.after.ensures.place in
     let other = c.way_of-other.ensures ∙ ap way_of c.fallback.ensures ∙ way_of-fallback t (branch_to t n) (fallback_of t (branch_to t n) n) in
     let len = ap (λ w. length w + 1) branch in
+    let laid = tree_laid_out root good in
+    let owes = ap (owed_behind t) commits.commit_is ∙ owed_by_last t laid.in_order laid.rising (branch_to t n) (before_goes t (branch_to t n) n (branch_goes root good n c.requires.step)) in
+    let fixes = c.commits_behind-fixes.ensures ∙ ap (λ bs. commits_by_kind (kind_of t n) (has n bs)) owes in
     same_row _ _ _ _ _ _ _ _ _ _ _ (row_of root n) kind (ap (λ a. a.tries) allowance) (ap (λ a. a.undo_tries) allowance)
     (len ∙ sym (length_push (branch_to t n) n))
-    (c.commits_with-commit.ensures.fixed ∙ ap (λ f. if f then length c.branch_to-branch.result.now + 1 else c.commit_of-commit.result.1) c.commits-fixes.ensures
-    ∙ fixed_here root n c.commit_of-commit.result.1 (length c.branch_to-branch.result.now + 1) commits.fixed_is len c.step-step.result.now.kind kind)
-    (c.commits_with-commit.ensures.commit ∙ ap (λ f. if f then Some n else c.commit_of-commit.result.0) c.commits-fixes.ensures
-    ∙ commit_here root n c.commit_of-commit.result.0 commits.commit_is c.step-step.result.now.kind kind)
+    (c.commits_with-commit.ensures.fixed
+    ∙ fixed_here root n c.commit_of-commit.result.1 (length c.branch_to-branch.result.now + 1) commits.fixed_is len c.commits_behind-fixes.result fixes)
+    (c.commits_with-commit.ensures.commit
+    ∙ commit_here root n c.commit_of-commit.result.0 commits.commit_is c.commits_behind-fixes.result fixes)
     before after (c.step_at-last_after.ensures _ c.last_after.ensures.place) other
-    (way_here root good n c.requires.step c.step_at-after.result c.way_of-other.result after other c.step-step.result.now.kind kind c.way_behind.result c.way_behind.ensures.some
-    (λ e. c.way_behind.ensures.none e ∙ ap (λ f. if f then None else c.way_of-other.result) c.commits-fixes.ensures))
+    (way_here root good n c.requires.step c.step_at-after.result c.way_of-other.result after other c.commits_behind-fixes.result fixes c.way_behind.result c.way_behind.ensures.some
+    c.way_behind.ensures.none)

@@ -11,10 +11,10 @@ pub returns-in-Ok-clause-finishes : goal.returns-in-Ok-clause-finishes
 returns-in-Ok-clause-finishes g c =
     let free = c.in-Ready.ensures.reply.0 in
     subst (λ o. Finishes g.R.Rack.disk c.args.engine.now c.finish_prepared.new.engine c.args.piece o (Effected c.in-Ok.count)) (sym (succeeds c.args.engine.now c.args.piece c.requires.out free))
-    (done g.R.Rack.disk c.args.engine.now c.prepare_piece.new.self c.finish_prepared.new.engine c.args.piece c.in-Ready.prepared.piece c.is_sound.ensures.run c.requires.out c.in-Ready.ensures.reply.1
+    (done g.R.Rack.disk c.args.engine.now c.prepare_piece.new.self c.finish_prepared.new.engine c.args.piece c.in-Ready.prepared.piece c.invariant_holds.ensures.run c.requires.out c.in-Ready.ensures.reply.1
     c.prepare_piece.ensures.core c.prepare_piece.ensures.catalog c.prepare_piece.ensures.tells c.prepare_piece.ensures.follow c.prepare_piece.ensures.any_moment
     c.finish_prepared.ensures.follow c.finish_prepared.ensures.any_moment c.finish_prepared.ensures.settles.catalog
-    c.in-Ok.count c.in-Ok.ensures.settles.core c.in-Ok.ensures.settles.settled c.in-Ok.ensures.settles.reply (c.is_sound-in-Ok.ensures.each c.in-Ok.ensures.settles.settled))
+    c.in-Ok.count c.in-Ok.ensures.settles.core c.in-Ok.ensures.settles.settled c.in-Ok.ensures.settles.reply (c.invariant_holds-in-Ok.ensures.each c.in-Ok.ensures.settles.settled))
 
 pub returns-in-Ok-clause-rack : goal.returns-in-Ok-clause-rack
 returns-in-Ok-clause-rack g c = record {
@@ -30,7 +30,7 @@ pub returns-in-Err-clause-finishes : goal.returns-in-Err-clause-finishes
 returns-in-Err-clause-finishes g c =
     let free = c.in-Ready.ensures.reply.0 in
     subst (λ o. Finishes g.R.Rack.disk c.args.engine.now c.finish_prepared.new.engine c.args.piece o DiskFault) (sym (succeeds c.args.engine.now c.args.piece c.requires.out free))
-    (undone g.R.Rack.disk c.args.engine.now c.prepare_piece.new.self c.finish_prepared.new.engine c.args.piece c.in-Ready.prepared.piece c.is_sound.ensures.run c.requires.out c.in-Ready.ensures.reply.1
+    (undone g.R.Rack.disk c.args.engine.now c.prepare_piece.new.self c.finish_prepared.new.engine c.args.piece c.in-Ready.prepared.piece c.invariant_holds.ensures.run c.requires.out c.in-Ready.ensures.reply.1
     c.prepare_piece.ensures.core c.prepare_piece.ensures.catalog c.prepare_piece.ensures.tells c.prepare_piece.ensures.follow c.prepare_piece.ensures.any_moment
     c.finish_prepared.ensures.follow c.finish_prepared.ensures.any_moment c.finish_prepared.ensures.settles.catalog c.in-Err.ensures.settles.left c.in-Err.ensures.settles.closed)
 
@@ -54,7 +54,7 @@ returns-in-Barred-clause-finishes g c =
 pub returns-in-DiskFault-clause-finishes : goal.returns-in-DiskFault-clause-finishes
 returns-in-DiskFault-clause-finishes g c =
     subst (λ o. Finishes g.R.Rack.disk c.args.engine.now c.prepare_piece.new.self c.args.piece o DiskFault) (sym (succeeds c.args.engine.now c.args.piece c.requires.out c.in-DiskFault.ensures.reply.0))
-    (unprepared g.R.Rack.disk c.args.engine.now c.prepare_piece.new.self c.args.piece c.is_sound.ensures.run c.requires.out c.prepare_piece.ensures.core c.prepare_piece.ensures.catalog
+    (unprepared g.R.Rack.disk c.args.engine.now c.prepare_piece.new.self c.args.piece c.invariant_holds.ensures.run c.requires.out c.prepare_piece.ensures.core c.prepare_piece.ensures.catalog
     c.in-DiskFault.ensures.reply.1 c.prepare_piece.ensures.any_moment)
 
 pub returns-in-NoMemory-clause-finishes : goal.returns-in-NoMemory-clause-finishes

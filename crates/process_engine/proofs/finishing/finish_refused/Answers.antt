@@ -7,7 +7,7 @@ use Rattle.process_engine.proofs.finishing.finish_refused.Goals as goal
 pub returns-clause-finishes : goal.returns-clause-finishes
 returns-clause-finishes g c =
     refused_finishes g.R.Rack.disk c.args.engine.now c.refuse_piece.new.self c.args.piece c.refuse_piece.result c.requires.settled c.refuse_piece.ensures.engine c.refuse_piece.ensures.reply
-    (c.is_sound.ensures.each c.requires.settled) c.refused_as.result c.refused_as.ensures
+    (c.invariant_holds.ensures.each c.requires.settled) c.refused_as.result c.refused_as.ensures
 
 pub returns-clause-fits : goal.returns-clause-fits
 returns-clause-fits g c =

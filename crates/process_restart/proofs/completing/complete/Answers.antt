@@ -10,9 +10,9 @@ use Rattle.process_restart.proofs.completing.complete.Goals as goal
 
 pub turns-init : goal.turns-init
 turns-init g c = record {
-  ran = turns_none g.R.Rack.disk g.R.Rack.faults g.G.Gate.answers (counts_of g.G.Gate c.args.gate.now) c.complete_all.new.engine c.is_sound-2.ensures.run (c.is_sound-2.ensures.each c.complete_all.ensures.ready.settled);
-  at = first_turn c.args.engine.now c.complete_all.new.engine c.requires.opened c.complete_all.ensures.engine g.B.Resource.meaning g.B.Resource.sort c.complete_all.ensures.ready c.is_sound-2.ensures.run;
-  core = c.is_sound-2.ensures.run;
+  ran = turns_none g.R.Rack.disk g.R.Rack.faults g.G.Gate.answers (counts_of g.G.Gate c.args.gate.now) c.complete_all.new.engine c.invariant_holds-2.ensures.run (c.invariant_holds-2.ensures.each c.complete_all.ensures.ready.settled);
+  at = first_turn c.args.engine.now c.complete_all.new.engine c.requires.opened c.complete_all.ensures.engine g.B.Resource.meaning g.B.Resource.sort c.complete_all.ensures.ready c.invariant_holds-2.ensures.run;
+  core = c.invariant_holds-2.ensures.run;
 }
 
 pub returns-in-Some-clause-goes : goal.returns-in-Some-clause-goes
@@ -22,7 +22,7 @@ returns-in-Some-clause-goes g c may_start =
     let now = c.turn-completion.new.engine in
     let so_far = c.turns.invariant in
     let honest = g.met.R.Rack.honest now.files.rack in
-    goes_then disk faults may_start c.args.engine.now c.complete_all.new.engine now c.complete_all.ensures.ready.settled c.is_sound-2.ensures.run.session.one_each honest (c.complete_all.ensures.goes may_start)
+    goes_then disk faults may_start c.args.engine.now c.complete_all.new.engine now c.complete_all.ensures.ready.settled c.invariant_holds-2.ensures.run.session.one_each honest (c.complete_all.ensures.goes may_start)
     (goes_then disk faults may_start c.complete_all.new.engine c.turns.engine now so_far.at.ready.settled so_far.core.session.one_each honest (so_far.ran.goes may_start) (c.turn-completion.ensures.ran.goes may_start))
 
 pub returns-in-Some-clause-completing : goal.returns-in-Some-clause-completing
@@ -32,7 +32,7 @@ returns-in-Some-clause-completing g c =
     let ran = turns_then g.R.Rack.disk g.R.Rack.faults g.G.Gate.answers (counts_of g.G.Gate c.args.gate.now) (counts_of g.G.Gate c.turns.gate) (counts_of g.G.Gate c.turn-completion.new.gate) c.complete_all.new.engine c.turns.engine now
     so_far.at.ready.settled so_far.core (g.met.R.Rack.honest now.files.rack) so_far.ran c.turn-completion.ensures.ran in
     completing c.args.engine.now c.complete_all.new.engine c.requires.opened c.complete_all.ensures.engine g.R.Rack.disk g.R.Rack.faults (asked g.G.Gate c.args.gate.now c.turn-completion.new.gate) now ran
-    c.is_sound-in-turns.ensures.run c.is_sound-in-turns.ensures.under
+    c.invariant_holds-in-turns.ensures.run c.invariant_holds-in-turns.ensures.under
 
 pub returns-in-Some-clause-outcome : goal.returns-in-Some-clause-outcome
 returns-in-Some-clause-outcome g c =
@@ -58,9 +58,9 @@ pub turns-smaller : goal.turns-smaller
 turns-smaller g c =
     let ran = c.in_default.ensures.ran in
     let same : room_of c.turn-completion.new.engine.core ≡ room_of c.turns.engine.core =
-    room_same c.turns.engine.core c.turn-completion.new.engine.core c.turns.invariant.core c.is_sound-in-turns.ensures.run ran.plans (ran.goes []).opening in
+    room_same c.turns.engine.core c.turn-completion.new.engine.core c.turns.invariant.core c.invariant_holds-in-turns.ensures.run ran.plans (ran.goes []).opening in
     let plans = ap length ran.plans in
-    let most : length c.turn-completion.new.engine.core.kept ≤ room_of c.turn-completion.new.engine.core = within_room c.turn-completion.new.engine.core c.is_sound-in-turns.ensures.run in
+    let most : length c.turn-completion.new.engine.core.kept ≤ room_of c.turn-completion.new.engine.core = within_room c.turn-completion.new.engine.core c.invariant_holds-in-turns.ensures.run in
     let few = (c.in_default.ensures.at refl).have_ended.within in
     let more = c.in_default.ensures.more refl in
     omega (arith, same, plans, most, few, more)
@@ -73,5 +73,5 @@ turns-preserved g c =
       ran = turns_then g.R.Rack.disk g.R.Rack.faults g.G.Gate.answers (counts_of g.G.Gate c.args.gate.now) (counts_of g.G.Gate c.turns.gate) (counts_of g.G.Gate c.turn-completion.new.gate) c.complete_all.new.engine c.turns.engine now
           so_far.at.ready.settled so_far.core (g.met.R.Rack.honest now.files.rack) so_far.ran c.turn-completion.ensures.ran;
       at = c.in_default.ensures.at refl;
-      core = c.is_sound-in-turns.ensures.run;
+      core = c.invariant_holds-in-turns.ensures.run;
     }

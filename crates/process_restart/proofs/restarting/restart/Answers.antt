@@ -15,9 +15,9 @@ pub returns-in-Ended-clause-restarted : goal.returns-in-Ended-clause-restarted
 returns-in-Ended-clause-restarted g c =
     let opened = c.in-Ok.ensures in
     let told = c.in-Ended.ensures in
-    let sound = c.is_sound-2.ensures in
+    let sound = c.invariant_holds-2.ensures in
     let now = c.complete-completion.new.engine in
-    let restart = restart_is g.R.Rack g.met.R.Rack.honest c.args.parts.rack c.in-Ok.engine now c.is_sound.ensures.run opened.tells opened.sound opened.any_moment opened.each
+    let restart = restart_is g.R.Rack g.met.R.Rack.honest c.args.parts.rack c.in-Ok.engine now c.invariant_holds.ensures.run opened.tells opened.sound opened.any_moment opened.each
     (told.goes []) (asked g.G.Gate c.args.gate.now c.complete-completion.new.gate) told.completing ends.Ended told.outcome told.under_way sound.read sound.each sound.exactly sound.exactly_each Settled told.outcome.0 in
     (full_history c.in-Ok.engine.core, restart, told.outcome.1)
 
@@ -25,9 +25,9 @@ pub returns-in-Exhausted-clause-restarted : goal.returns-in-Exhausted-clause-res
 returns-in-Exhausted-clause-restarted g c =
     let opened = c.in-Ok.ensures in
     let told = c.in-Exhausted.ensures in
-    let sound = c.is_sound-2.ensures in
+    let sound = c.invariant_holds-2.ensures in
     let now = c.complete-completion.new.engine in
-    let restart = restart_is g.R.Rack g.met.R.Rack.honest c.args.parts.rack c.in-Ok.engine now c.is_sound.ensures.run opened.tells opened.sound opened.any_moment opened.each
+    let restart = restart_is g.R.Rack g.met.R.Rack.honest c.args.parts.rack c.in-Ok.engine now c.invariant_holds.ensures.run opened.tells opened.sound opened.any_moment opened.each
     (told.goes []) (asked g.G.Gate c.args.gate.now c.complete-completion.new.gate) told.completing (ends.Exhausted c.in-Exhausted.process c.in-Exhausted.step) told.outcome told.under_way sound.read sound.each sound.exactly sound.exactly_each Settled told.outcome.0 in
     (full_history c.in-Ok.engine.core, restart, told.outcome.1)
 
@@ -35,9 +35,9 @@ pub returns-in-DiskFault-clause-restarted : goal.returns-in-DiskFault-clause-res
 returns-in-DiskFault-clause-restarted g c =
     let opened = c.in-Ok.ensures in
     let told = c.in-DiskFault.ensures in
-    let sound = c.is_sound-2.ensures in
+    let sound = c.invariant_holds-2.ensures in
     let now = c.complete-completion.new.engine in
-    let restart = restart_is g.R.Rack g.met.R.Rack.honest c.args.parts.rack c.in-Ok.engine now c.is_sound.ensures.run opened.tells opened.sound opened.any_moment opened.each
+    let restart = restart_is g.R.Rack g.met.R.Rack.honest c.args.parts.rack c.in-Ok.engine now c.invariant_holds.ensures.run opened.tells opened.sound opened.any_moment opened.each
     (told.goes []) (asked g.G.Gate c.args.gate.now c.complete-completion.new.gate) told.completing ends.DiskFault told.outcome told.under_way sound.read sound.each sound.exactly sound.exactly_each Closed told.outcome in
     inr (
       now.catalog,
@@ -52,9 +52,9 @@ pub returns-in-NoMemory-clause-restarted : goal.returns-in-NoMemory-clause-resta
 returns-in-NoMemory-clause-restarted g c =
     let opened = c.in-Ok.ensures in
     let told = c.in-NoMemory.ensures in
-    let sound = c.is_sound-2.ensures in
+    let sound = c.invariant_holds-2.ensures in
     let now = c.complete-completion.new.engine in
-    let restart = restart_is g.R.Rack g.met.R.Rack.honest c.args.parts.rack c.in-Ok.engine now c.is_sound.ensures.run opened.tells opened.sound opened.any_moment opened.each
+    let restart = restart_is g.R.Rack g.met.R.Rack.honest c.args.parts.rack c.in-Ok.engine now c.invariant_holds.ensures.run opened.tells opened.sound opened.any_moment opened.each
     (told.goes []) (asked g.G.Gate c.args.gate.now c.complete-completion.new.gate) told.completing ends.NoMemory told.outcome told.under_way sound.read sound.each sound.exactly sound.exactly_each Settled told.outcome in
     inr (
       now.catalog,

@@ -1,15 +1,14 @@
-use Rattle.std.proofs.Common.{◌<◌, ℕ, List, length, length-take, take, arith, ◌∙◌, sym, ap, subst}
-use Rattle.process_tree.specs.Blocks.{outline}
-use Rattle.process_tree.specs.Order.{Each}
-use Rattle.process_tree.specs.Shape.{shape_of, fixed_len, last_of}
+use Rattle.std.proofs.Common.{ℕ, List, length, length-take, take, arith, ◌∙◌, sym, ap, subst}
+use Rattle.process_tree.specs.Shape.{shape_of, fixed_len, last_of, IsBranch}
+use Rattle.process_tree.proofs.Along.{before_goes}
 use Rattle.process_tree.proofs.InTurn.{step_within}
-use Rattle.process_tree.proofs.Kept.{fixed_le}
-use Rattle.process_tree.proofs.GoesBack.{done_within, commit_is, falls_alternative, alternative_goes_on, alternative_stands, stands_there, all_undone, stuck_there}
+use Rattle.process_tree.proofs.Fixed.{fixed_le}
+use Rattle.process_tree.proofs.GoesBack.{commit_is, falls_alternative, alternative_goes_on, alternative_stands, stands_there, all_undone, stuck_there}
 use Rattle.process_tree.proofs.turns.go_back.Goals as goal
 
-pub fixed_len-fixed-requires : goal.fixed_len-fixed-requires
-fixed_len-fixed-requires c =
-    subst (Each (λ b. b < length (outline c.args.tree.now).steps)) (sym c.deref.ensures.value) (done_within c.args.tree.now c.args.done.now.items c.args.step c.requires.good c.requires.asked)
+pub fixed_len-fixed-requires-clause-branch : goal.fixed_len-fixed-requires-clause-branch
+fixed_len-fixed-requires-clause-branch c =
+    subst (IsBranch (shape_of c.args.tree.now)) (sym c.deref.ensures.value) (before_goes (shape_of c.args.tree.now) c.args.done.now.items c.args.step c.requires.asked)
 
 pub slice_bounds-last_of-end : goal.slice_bounds-last_of-end
 slice_bounds-last_of-end c =

@@ -29,7 +29,7 @@ returns-in-Ended-clause-values g c =
     let e = c.in-Ended.engine in
     let b = g.B.Resource in
     let back = c.in-Ended.ensures.back.1 in
-    let rest = c.is_sound.ensures.rest back.settled in
+    let rest = c.invariant_holds.ensures.rest back.settled in
     let kinds : AreBoxes b.sort (map (λ (s : Opened g.row.B.Denot). s.resource) e.files.stores) = subst (AreBoxes b.sort) c.into_parts.ensures.boxes c.into_parts.ensures.kinds in
     IfOk-weaker c.said_of_all-found.result (SaysAll e.catalog e.core)
     (λ s. s.status ≡ Done → Told (g.R.Rack.disk c.args.parts.rack) → HaveValuesOf (λ x. (b.meaning x).items) (g.R.Rack.disk c.into_parts.result.rack).files c.into_parts.result.resources.items)

@@ -22,4 +22,4 @@ returns-in-Err-same_catalog-clause-due g c =
     )
 
 pub same_catalog-requires-clause-other : goal.same_catalog-requires-clause-other
-same_catalog-requires-clause-other g c = subst IsCatalog (sym c.catalog.ensures) c.is_sound.ensures.under.history.catalog
+same_catalog-requires-clause-other g c = subst IsCatalog (sym c.catalog.ensures) c.invariant_holds.ensures.under.history.catalog

@@ -8,13 +8,13 @@ use Rattle.scenario_run.proofs.reporting.causes_of.Goals as goal
 
 pub overflow_cast-count : goal.overflow_cast-count
 overflow_cast-count g c =
-    let few = few_plans c.args.engine.now.core c.is_sound.ensures.run in
+    let few = few_plans c.args.engine.now.core c.invariant_holds.ensures.run in
     let plans = ap length (c.as_slice.ensures ∙ ap (λ (h : History). h.plans) c.history.ensures) in
     omega arith
 
 pub overflow_add-i : goal.overflow_add-i
 overflow_add-i g c =
-    let few = few_plans c.args.engine.now.core c.is_sound.ensures.run in
+    let few = few_plans c.args.engine.now.core c.invariant_holds.ensures.run in
     let plans = ap length (c.as_slice.ensures ∙ ap (λ (h : History). h.plans) c.history.ensures) in
     let less = c.loop-i-test.true in
     omega arith

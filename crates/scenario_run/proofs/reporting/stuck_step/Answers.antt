@@ -7,4 +7,4 @@ pub unreachable-requires : goal.unreachable-requires
 unreachable-requires g c =
     let core = c.args.engine.now.core in
     c.in_default.not-Exhausted (step_due core c.args.i)
-    (exhausted_is c.admit.result (step_due core c.args.i) (c.admit.ensures.reply ∙ stuck_admits core c.is_sound.ensures.run c.args.i c.requires.replied c.requires.stuck))
+    (exhausted_is c.admit.result (step_due core c.args.i) (c.admit.ensures.reply ∙ stuck_admits core c.invariant_holds.ensures.run c.args.i c.requires.replied c.requires.stuck))

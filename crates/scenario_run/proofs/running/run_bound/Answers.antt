@@ -16,5 +16,5 @@ returns-in-Ok-clause-due g c =
     let on = c.in-Ok.ensures in
     let ran = c.run_on-found.ensures in
     run_of g.R.Rack g.met.R.Rack.honest (asked g.G.Gate c.args.gate.now c.run_on-found.new.gate) c.args.parts.rack c.into_parts.result.rack opening now c.args.bound.plans.items
-    on.opened c.is_sound.ensures.run.session.one_each on.tells on.later on.on ran.goes c.is_sound-in-Ok.ensures.read c.is_sound-in-Ok.ensures.each c.into_parts.ensures.rack
+    on.opened c.invariant_holds.ensures.run.session.one_each on.tells on.later on.on ran.goes c.invariant_holds-in-Ok.ensures.read c.invariant_holds-in-Ok.ensures.each c.into_parts.ensures.rack
     c.args.bound.catalog c.run_on-found.result on.catalog ran.ran ran.refused

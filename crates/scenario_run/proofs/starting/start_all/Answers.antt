@@ -22,7 +22,7 @@ loop-plan-init g c =
       ready = c.requires.ready;
       plans = subst (Each (λ p. IsPlanFor c.args.engine.now.catalog p × IsGoodPlan p)) (sym all) c.requires.plans;
       fit = subst (λ (ps : List Plan). limit_passed c.args.engine.now.core ps ≡ None) (sym all) c.requires.fit;
-      goes = goes_none g.R.Rack.disk g.R.Rack.faults c.args.plans.items c.args.engine.now c.is_sound.ensures.run (c.is_sound.ensures.each c.requires.ready.settled);
+      goes = goes_none g.R.Rack.disk g.R.Rack.faults c.args.plans.items c.args.engine.now c.invariant_holds.ensures.run (c.invariant_holds.ensures.each c.requires.ready.settled);
     }
 
 pub start_one-requires-clause-free : goal.start_one-requires-clause-free
@@ -31,7 +31,7 @@ start_one-requires-clause-free g c =
     let core = c.loop-plan.engine.core in
     let split = c.in-Some.ensures.cases.0 in
     let plans = subst (Each (λ p. IsPlanFor c.loop-plan.engine.catalog p × IsGoodPlan p)) split inv.plans in
-    first_starts core c.is_sound-in-Some.ensures.run c.in-Some.plan plans.0.1 (into_iter_items c.next.new.self) (subst (λ (ps : List Plan). limit_passed core ps ≡ None) split inv.fit)
+    first_starts core c.invariant_holds-in-Some.ensures.run c.in-Some.plan plans.0.1 (into_iter_items c.next.new.self) (subst (λ (ps : List Plan). limit_passed core ps ≡ None) split inv.fit)
 
 pub loop-plan-preserved : goal.loop-plan-preserved
 loop-plan-preserved g c =
@@ -42,7 +42,7 @@ loop-plan-preserved g c =
     let split = c.in-Some.ensures.cases.0 in
     let plans = subst (Each (λ p. IsPlanFor c.loop-plan.engine.catalog p × IsGoodPlan p)) split inv.plans in
     let fits = subst (λ (ps : List Plan). limit_passed core ps ≡ None) split inv.fit in
-    let is = c.is_sound-in-Some.ensures.run in
+    let is = c.invariant_holds-in-Some.ensures.run in
     let free = first_starts core is p plans.0.1 later fits in
     let now = c.in_ok-start_one.ensures in
     let all = inv.all ∙ ap (λ (ps : List Plan). inv.done ++ ps) split in
@@ -64,6 +64,6 @@ returns-in_err-start_one-clause-goes g c =
     let p = c.in-Some.plan in
     let later = into_iter_items c.next.new.self in
     let all = inv.all ∙ ap (λ (ps : List Plan). inv.done ++ ps) c.in-Some.ensures.cases.0 in
-    goes_then g.R.Rack.disk g.R.Rack.faults c.args.plans.items c.args.engine.now c.loop-plan.engine c.start_one.new.engine inv.ready.settled c.is_sound-in-Some.ensures.run.session.one_each
+    goes_then g.R.Rack.disk g.R.Rack.faults c.args.plans.items c.args.engine.now c.loop-plan.engine c.start_one.new.engine inv.ready.settled c.invariant_holds-in-Some.ensures.run.session.one_each
     (g.met.R.Rack.honest c.start_one.new.engine.files.rack) inv.goes
     (c.in_err-start_one.ensures.goes c.args.plans.items (subst (λ ps. IsOneOf ps p) (sym all) (stands_among inv.done later p)))

@@ -1,14 +1,11 @@
 use Rattle.std.proofs.Common.{◌∙◌, arith}
 use Rattle.process_tree.specs.Shape.{shape_of}
-use Rattle.schedule_model.proofs.Recoveries.{fixed_len-most}
-use Rattle.schedule_rules.proofs.Branches.{steps_within, last_within_of, owed_behind_of}
+use Rattle.process_tree.proofs.Fixed.{fixed_le}
+use Rattle.schedule_rules.proofs.Branches.{last_within_of, owed_behind_of}
 use Rattle.schedule_rules.proofs.completion.owed.Goals as goal
 
-pub fixed_len-fixed-requires : goal.fixed_len-fixed-requires
-fixed_len-fixed-requires c = steps_within c.args.plan.now.tree c.requires.good c.args.steps.now c.requires.branch
-
 pub split_at-requires : goal.split_at-requires
-split_at-requires c = let le = fixed_len-most (shape_of c.args.plan.now.tree) c.args.steps.now in omega (arith, c.fixed_len-fixed.ensures)
+split_at-requires c = let le = fixed_le (shape_of c.args.plan.now.tree) c.args.steps.now in omega (arith, c.fixed_len-fixed.ensures)
 
 pub completion-requires : goal.completion-requires
 completion-requires c =

@@ -10,10 +10,10 @@ use Rattle.serve_run.proofs.command.hold.Goals as goal
 pub returns-in-None-clause-held : goal.returns-in-None-clause-held
 returns-in-None-clause-held g c =
     let at : IsBetween g.R.Rack c.complete_all.new.engine = record {
-      machine = c.is_sound-2.ensures.run;
+      machine = c.invariant_holds-2.ensures.run;
       settled = c.complete_all.ensures.ready.settled;
-      read = c.is_sound-2.ensures.read c.complete_all.ensures.ready.settled;
-      each = c.is_sound-2.ensures.each c.complete_all.ensures.ready.settled;
+      read = c.invariant_holds-2.ensures.read c.complete_all.ensures.ready.settled;
+      each = c.invariant_holds-2.ensures.each c.complete_all.ensures.ready.settled;
     } in
     let text = c.deref.ensures.value ∙ c.in-Ok.ensures ∙ ap ready_text c.history.ensures in
     let whole = c.in-None.ensures.whole in
@@ -21,7 +21,7 @@ returns-in-None-clause-held g c =
     held g.S.Source g.K.Sink g.R.Rack g.met.R.Rack.honest c.args.plans.now
     (state_at c.args.source.now c.args.reader.now c.give.new.sink c.complete_all.new.engine [] c.args.first)
     (state_at c.converse.new.source c.converse.new.reader c.converse.new.sink c.converse.new.engine told.0 told.1)
-    c.converse.result at told.2 c.args.engine.now c.args.sink.now c.requires.opened c.is_sound.ensures.run (ap (λ e. e.core) c.complete_all.ensures.engine) refl c.complete_all.ensures.goes
+    c.converse.result at told.2 c.args.engine.now c.args.sink.now c.requires.opened c.invariant_holds.ensures.run (ap (λ e. e.core) c.complete_all.ensures.engine) refl c.complete_all.ensures.goes
     (subst (Appends (g.K.Sink.taken c.args.sink.now) (g.K.Sink.taken c.give.new.sink)) text whole.0) whole.1
 
 pub returns-clause-held : goal.returns-clause-held

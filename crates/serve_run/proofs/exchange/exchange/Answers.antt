@@ -33,7 +33,7 @@ returns-in-Ok-Line-clause-over g c =
 
 pub returns-in-Ok-LongLine-clause-on : goal.returns-in-Ok-LongLine-clause-on
 returns-in-Ok-LongLine-clause-on g c =
-    let at : IsBetween g.R.Rack c.args.engine.now = record { machine = c.is_sound.ensures.run; settled = c.requires.ready.settled; read = c.is_sound.ensures.read c.requires.ready.settled; each = c.is_sound.ensures.each c.requires.ready.settled } in
+    let at : IsBetween g.R.Rack c.args.engine.now = record { machine = c.invariant_holds.ensures.run; settled = c.requires.ready.settled; read = c.invariant_holds.ensures.read c.requires.ready.settled; each = c.invariant_holds.ensures.each c.requires.ready.settled } in
     let next = rw c.in-Ok-LongLine.field-0-is at c.in-Ok-LongLine.ensures.next in
     let still = goes_at_rest g.R.Rack.disk g.R.Rack.faults c.args.plans.now c.args.engine.now at.machine at.each in
     exchanged g.S.Source g.K.Sink g.R.Rack c.args.plans.now c.args.source.now c.next_line.new.source c.args.reader.now c.next_line.new.reader c.args.sink.now c.refuse.new.sink c.args.engine.now c.args.engine.now
@@ -43,7 +43,7 @@ returns-in-Ok-LongLine-clause-on g c =
 
 pub returns-in-Ok-LongLine-clause-over : goal.returns-in-Ok-LongLine-clause-over
 returns-in-Ok-LongLine-clause-over g c =
-    let at : IsBetween g.R.Rack c.args.engine.now = record { machine = c.is_sound.ensures.run; settled = c.requires.ready.settled; read = c.is_sound.ensures.read c.requires.ready.settled; each = c.is_sound.ensures.each c.requires.ready.settled } in
+    let at : IsBetween g.R.Rack c.args.engine.now = record { machine = c.invariant_holds.ensures.run; settled = c.requires.ready.settled; read = c.invariant_holds.ensures.read c.requires.ready.settled; each = c.invariant_holds.ensures.each c.requires.ready.settled } in
     let next = rw c.in-Ok-LongLine.field-0-is at c.in-Ok-LongLine.ensures.next in
     over_amid g.S.Source g.K.Sink g.R.Rack c.args.plans.now c.args.source.now c.next_line.new.source c.args.reader.now c.next_line.new.reader c.args.sink.now c.refuse.new.sink c.args.engine.now c.args.engine.now
     c.args.pieces.now.items c.args.pieces.now.items c.args.number next.0 next.2 c.refuse.result next.1 next.3 c.next_line.ensures.later
@@ -51,14 +51,14 @@ returns-in-Ok-LongLine-clause-over g c =
 
 pub returns-in-Ok-Stop-clause-over : goal.returns-in-Ok-Stop-clause-over
 returns-in-Ok-Stop-clause-over g c =
-    let at : IsBetween g.R.Rack c.args.engine.now = record { machine = c.is_sound.ensures.run; settled = c.requires.ready.settled; read = c.is_sound.ensures.read c.requires.ready.settled; each = c.is_sound.ensures.each c.requires.ready.settled } in
+    let at : IsBetween g.R.Rack c.args.engine.now = record { machine = c.invariant_holds.ensures.run; settled = c.requires.ready.settled; read = c.invariant_holds.ensures.read c.requires.ready.settled; each = c.invariant_holds.ensures.each c.requires.ready.settled } in
     let next = rw c.in-Ok-Stop.field-0-is at c.in-Ok-Stop.ensures.next in
     over_by_stop g.S.Source g.K.Sink g.R.Rack c.args.plans.now c.args.source.now c.next_line.new.source c.args.reader.now c.next_line.new.reader c.args.sink.now c.args.sink.now c.args.engine.now c.args.pieces.now.items c.args.number at
     next.0 next.1 c.next_line.ensures.later next.2 (Appends-nil (g.K.Sink.taken c.args.sink.now))
 
 pub returns-in-Err-clause-over : goal.returns-in-Err-clause-over
 returns-in-Err-clause-over g c =
-    let at : IsBetween g.R.Rack c.args.engine.now = record { machine = c.is_sound.ensures.run; settled = c.requires.ready.settled; read = c.is_sound.ensures.read c.requires.ready.settled; each = c.is_sound.ensures.each c.requires.ready.settled } in
+    let at : IsBetween g.R.Rack c.args.engine.now = record { machine = c.invariant_holds.ensures.run; settled = c.requires.ready.settled; read = c.invariant_holds.ensures.read c.requires.ready.settled; each = c.invariant_holds.ensures.each c.requires.ready.settled } in
     let gave = c.in-Err.ensures.gave in
     over_by_fault g.S.Source g.K.Sink g.R.Rack c.args.plans.now c.args.source.now c.next_line.new.source c.args.reader.now c.next_line.new.reader c.args.sink.now c.tell_fault.new.sink c.args.engine.now c.args.pieces.now.items c.args.number at
     c.in-Err.fault c.tell_fault.result gave.0 gave.1 c.next_line.ensures.later c.in-Err.ensures.fault c.tell_fault.ensures

@@ -18,9 +18,9 @@ loop-rest-init g c =
     record {
       answered = subst (λ ps. HasAnswered cat plans core core ps lines lines c.args.said.now.items) (sym c.new-pieces.ensures.items)
           (subst (λ text. HasAnswered cat plans core core [] lines lines text) (sym c.requires.empty) (answered_none cat plans core lines));
-      goes = goes_none g.R.Rack.disk g.R.Rack.faults plans c.args.engine.now c.is_sound.ensures.run (c.is_sound.ensures.each c.requires.ready.settled);
+      goes = goes_none g.R.Rack.disk g.R.Rack.faults plans c.args.engine.now c.invariant_holds.ensures.run (c.invariant_holds.ensures.each c.requires.ready.settled);
       ready = c.requires.ready;
-      core = c.is_sound.ensures.run;
+      core = c.invariant_holds.ensures.run;
       plans = c.requires.plans;
       handed = subst (AreHandedBy core) (sym c.new-pieces.ensures.items) tt;
       room = c.requires.room;
@@ -47,7 +47,7 @@ loop-rest-preserved g c =
       answered = subst (λ said. HasAnswered cat plans core new.core left lines after said) (sym told.4) (answered_more cat plans core now pieces lines l after text told.0 before told.2 new.core left told.1 here);
       goes = goes_then g.R.Rack.disk g.R.Rack.faults plans c.args.engine.now c.loop-rest.engine new inv.ready.settled inv.core.session.one_each (g.met.R.Rack.honest new.files.rack) inv.goes c.answer_line.ensures.goes;
       ready = c.answer_line.ensures.ready (λ bad. absurd (let is = c.in_default-answer_line.is in cc));
-      core = c.is_sound-in-len1-up.ensures.run;
+      core = c.invariant_holds-in-len1-up.ensures.run;
       plans = subst (λ k. Each (IsPlanFor k) plans) (sym c.answer_line.ensures.goes.catalog) inv.plans;
       handed = c.in_default-answer_line.ensures.handed;
       room = c.answer_line.ensures.room;

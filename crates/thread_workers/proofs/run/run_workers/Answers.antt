@@ -16,12 +16,12 @@ use Rattle.thread_workers.proofs.run.run_workers.Goals as goal
 
 pub returns-in-Err-clause-history : goal.returns-in-Err-clause-history
 returns-in-Err-clause-history g c =
-    let sound : IsOpening g.R.Rack.disk g.B.Resource.meaning g.B.Resource.sort c.args.engine = record { ready = c.requires.ready; core = c.is_sound.ensures.run; each = c.is_sound.ensures.each c.requires.ready.settled } in
+    let sound : IsOpening g.R.Rack.disk g.B.Resource.meaning g.B.Resource.sort c.args.engine = record { ready = c.requires.ready; core = c.invariant_holds.ensures.run; each = c.invariant_holds.ensures.each c.requires.ready.settled } in
     no_call g.R.Rack.disk g.R.Rack.faults g.B.Resource.meaning g.B.Resource.sort g.G.Gate.answers _ _ _ refl sound
 
 pub returns-in-Err-new-clause-history : goal.returns-in-Err-new-clause-history
 returns-in-Err-new-clause-history g c =
-    let sound : IsOpening g.R.Rack.disk g.B.Resource.meaning g.B.Resource.sort c.args.engine = record { ready = c.requires.ready; core = c.is_sound.ensures.run; each = c.is_sound.ensures.each c.requires.ready.settled } in
+    let sound : IsOpening g.R.Rack.disk g.B.Resource.meaning g.B.Resource.sort c.args.engine = record { ready = c.requires.ready; core = c.invariant_holds.ensures.run; each = c.invariant_holds.ensures.each c.requires.ready.settled } in
     no_call g.R.Rack.disk g.R.Rack.faults g.B.Resource.meaning g.B.Resource.sort g.G.Gate.answers _ _ _ (ap (λ w. w.engine) c.in-Err-new.ensures.err) sound
 
 pub close-engine-requires-clause-only : goal.close-engine-requires-clause-only
@@ -33,7 +33,7 @@ close-engine-requires-clause-only g c =
 
 pub outcome_of-outcome-requires : goal.outcome_of-outcome-requires
 outcome_of-outcome-requires g c =
-    let sound : IsOpening g.R.Rack.disk g.B.Resource.meaning g.B.Resource.sort c.args.engine = record { ready = c.requires.ready; core = c.is_sound.ensures.run; each = c.is_sound.ensures.each c.requires.ready.settled } in
+    let sound : IsOpening g.R.Rack.disk g.B.Resource.meaning g.B.Resource.sort c.args.engine = record { ready = c.requires.ready; core = c.invariant_holds.ensures.run; each = c.invariant_holds.ensures.each c.requires.ready.settled } in
     let known = c.take_all_in-seat.ensures.opening ∙ c.give_jobs-seat.ensures.opening ∙ c.in-Ok-new.ensures.seat.0 in
     let e = c.take_all_in-seat.ensures.stopped (omega (arith, c.give_jobs-seat.ensures.len, c.requires.few.0)) in
     (e.0, e.1, outcome_at_end g.R.Rack.disk g.R.Rack.faults g.B.Resource.meaning g.B.Resource.sort e.0 (record { engine = c.args.engine; starved = false }) c.close-engine.result _ _ _ c.close-engine.ensures known sound e.2)
@@ -41,7 +41,7 @@ outcome_of-outcome-requires g c =
 pub returns-clause-history : goal.returns-clause-history
 returns-clause-history g c =
     let o : SharedEngine g.row.R.Denot g.row.B.Denot = record { engine = c.args.engine; starved = false } in
-    let sound : IsOpening g.R.Rack.disk g.B.Resource.meaning g.B.Resource.sort c.args.engine = record { ready = c.requires.ready; core = c.is_sound.ensures.run; each = c.is_sound.ensures.each c.requires.ready.settled } in
+    let sound : IsOpening g.R.Rack.disk g.B.Resource.meaning g.B.Resource.sort c.args.engine = record { ready = c.requires.ready; core = c.invariant_holds.ensures.run; each = c.invariant_holds.ensures.each c.requires.ready.settled } in
     let jobs = c.run_jobs.new.jobs in
     let known = c.take_all_in-seat.ensures.opening ∙ c.give_jobs-seat.ensures.opening ∙ c.in-Ok-new.ensures.seat.0 in
     let none = c.give_jobs-seat.ensures.places ∙ c.in-Ok-new.ensures.seat.2 in
@@ -60,26 +60,26 @@ returns-in-Err-new-clause-fits g c =
 
 pub give_jobs-seat-requires-clause-opened : goal.give_jobs-seat-requires-clause-opened
 give_jobs-seat-requires-clause-opened g c =
-    let sound : IsOpening g.R.Rack.disk g.B.Resource.meaning g.B.Resource.sort c.args.engine = record { ready = c.requires.ready; core = c.is_sound.ensures.run; each = c.is_sound.ensures.each c.requires.ready.settled } in
+    let sound : IsOpening g.R.Rack.disk g.B.Resource.meaning g.B.Resource.sort c.args.engine = record { ready = c.requires.ready; core = c.invariant_holds.ensures.run; each = c.invariant_holds.ensures.each c.requires.ready.settled } in
     record { opening = record { engine = c.args.engine; starved = false }; known = c.in-Ok-new.ensures.seat.0; sound = sound }
 
 pub returns-clause-fits : goal.returns-clause-fits
 returns-clause-fits g c =
-    let sound : IsOpening g.R.Rack.disk g.B.Resource.meaning g.B.Resource.sort c.args.engine = record { ready = c.requires.ready; core = c.is_sound.ensures.run; each = c.is_sound.ensures.each c.requires.ready.settled } in
+    let sound : IsOpening g.R.Rack.disk g.B.Resource.meaning g.B.Resource.sort c.args.engine = record { ready = c.requires.ready; core = c.invariant_holds.ensures.run; each = c.invariant_holds.ensures.each c.requires.ready.settled } in
     let known = c.take_all_in-seat.ensures.opening ∙ c.give_jobs-seat.ensures.opening ∙ c.in-Ok-new.ensures.seat.0 in
     let led = (led_at_end g.R.Rack.disk g.R.Rack.faults g.B.Resource.meaning g.B.Resource.sort (record { engine = c.args.engine; starved = false }) c.close-engine.result _ _ _ c.close-engine.ensures known sound).1 in
     led.fits
 
 pub returns-clause-ready : goal.returns-clause-ready
 returns-clause-ready g c not_fault =
-    let sound : IsOpening g.R.Rack.disk g.B.Resource.meaning g.B.Resource.sort c.args.engine = record { ready = c.requires.ready; core = c.is_sound.ensures.run; each = c.is_sound.ensures.each c.requires.ready.settled } in
+    let sound : IsOpening g.R.Rack.disk g.B.Resource.meaning g.B.Resource.sort c.args.engine = record { ready = c.requires.ready; core = c.invariant_holds.ensures.run; each = c.invariant_holds.ensures.each c.requires.ready.settled } in
     let known = c.take_all_in-seat.ensures.opening ∙ c.give_jobs-seat.ensures.opening ∙ c.in-Ok-new.ensures.seat.0 in
     let led = (led_at_end g.R.Rack.disk g.R.Rack.faults g.B.Resource.meaning g.B.Resource.sort (record { engine = c.args.engine; starved = false }) c.close-engine.result _ _ _ c.close-engine.ensures known sound).1 in
     record { settled = settled_of c.close-engine.result.engine.phase led.rest (c.outcome_of-outcome.ensures.open not_fault); fits = led.fits }
 
 pub returns-clause-fault : goal.returns-clause-fault
 returns-clause-fault g c is_fault =
-    let sound : IsOpening g.R.Rack.disk g.B.Resource.meaning g.B.Resource.sort c.args.engine = record { ready = c.requires.ready; core = c.is_sound.ensures.run; each = c.is_sound.ensures.each c.requires.ready.settled } in
+    let sound : IsOpening g.R.Rack.disk g.B.Resource.meaning g.B.Resource.sort c.args.engine = record { ready = c.requires.ready; core = c.invariant_holds.ensures.run; each = c.invariant_holds.ensures.each c.requires.ready.settled } in
     let known = c.take_all_in-seat.ensures.opening ∙ c.give_jobs-seat.ensures.opening ∙ c.in-Ok-new.ensures.seat.0 in
     let led = (led_at_end g.R.Rack.disk g.R.Rack.faults g.B.Resource.meaning g.B.Resource.sort (record { engine = c.args.engine; starved = false }) c.close-engine.result _ _ _ c.close-engine.ensures known sound).1 in
     let closed = subst (IsOutcome c.close-engine.result.engine) is_fault c.outcome_of-outcome.ensures.outcome in

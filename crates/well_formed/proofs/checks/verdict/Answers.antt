@@ -1,6 +1,6 @@
 use Rattle.std.proofs.Common.{ap, subst, sym, ◌∙◌}
-use Rattle.process_tree.specs.Shape.{shape_of}
-use Rattle.well_formed.specs.Flaws.{shape_by, IsOrderly}
+use Rattle.process_tree.specs.Shape.{shape_by, shape_of}
+use Rattle.well_formed.specs.Flaws.{IsOrderly}
 use Rattle.well_formed.proofs.Told.{orderly}
 use Rattle.well_formed.proofs.checks.verdict.Goals as goal
 

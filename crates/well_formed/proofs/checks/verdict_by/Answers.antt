@@ -1,5 +1,6 @@
 use Rattle.std.proofs.Common.{subst}
-use Rattle.well_formed.specs.Flaws.{shape_by, IsJudged}
+use Rattle.process_tree.specs.Shape.{shape_by}
+use Rattle.well_formed.specs.Flaws.{IsJudged}
 use Rattle.well_formed.proofs.Told.{told_good, told_unreachable, told_stuck}
 use Rattle.well_formed.proofs.checks.verdict_by.Goals as goal
 

@@ -1,6 +1,7 @@
 use Rattle.std.proofs.Common.{take}
 use Rattle.process_tree.specs.Order.{Each}
-use Rattle.well_formed.specs.Flaws.{shape_by, IsSound}
+use Rattle.process_tree.specs.Shape.{shape_by}
+use Rattle.well_formed.specs.Flaws.{IsSound}
 use Rattle.well_formed.proofs.judge.first_flaw.Given as goal
 
 abbrev pub invariant-loop-at : goal.invariant-loop-at

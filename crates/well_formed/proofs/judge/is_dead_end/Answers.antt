@@ -1,7 +1,6 @@
 use Rattle.std.proofs.Common.{sym, ap, ◌∙◌, arith, slice_index_or}
 use Rattle.process_tree.specs.declared.step.StepKind.TheVariants.{C}
-use Rattle.process_tree.specs.Shape.{can_be_refused}
-use Rattle.well_formed.specs.Flaws.{shape_by}
+use Rattle.process_tree.specs.Shape.{shape_by, can_be_refused}
 use Rattle.well_formed.proofs.Judging.{dead_free, dead_sure, dead_looked, fixed_inside}
 use Rattle.well_formed.proofs.Standing.{on_within}
 use Rattle.well_formed.proofs.judge.is_dead_end.Goals as goal

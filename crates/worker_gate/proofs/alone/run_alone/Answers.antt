@@ -7,10 +7,10 @@ use Rattle.worker_gate.proofs.alone.run_alone.Goals as goal
 
 pub turns-init : goal.turns-init
 turns-init g c = record {
-  ran = ran_none g.R.Rack.disk g.R.Rack.faults g.G.Gate.answers (counts_of g.G.Gate c.args.gate.now) c.args.engine.now c.is_sound.ensures.run (c.is_sound.ensures.each c.requires.ready.settled);
+  ran = ran_none g.R.Rack.disk g.R.Rack.faults g.G.Gate.answers (counts_of g.G.Gate c.args.gate.now) c.args.engine.now c.invariant_holds.ensures.run (c.invariant_holds.ensures.each c.requires.ready.settled);
   ready = c.requires.ready;
   idle = c.requires.alone;
-  core = c.is_sound.ensures.run;
+  core = c.invariant_holds.ensures.run;
 }
 
 pub returns-in-Some-clause-ran : goal.returns-in-Some-clause-ran
@@ -23,8 +23,8 @@ pub turns-smaller : goal.turns-smaller
 turns-smaller g c =
     let ran = c.in-None.ensures.ran in
     let same : room_of c.turn.new.engine.core ≡ room_of c.turns.engine.core =
-    room_same c.turns.engine.core c.turn.new.engine.core c.turns.invariant.core c.is_sound-in-None.ensures.run ran.plans (ran.goes []).opening in
-    let most : length c.turn.new.engine.core.kept ≤ room_of c.turn.new.engine.core = within_room c.turn.new.engine.core c.is_sound-in-None.ensures.run in
+    room_same c.turns.engine.core c.turn.new.engine.core c.turns.invariant.core c.invariant_holds-in-None.ensures.run ran.plans (ran.goes []).opening in
+    let most : length c.turn.new.engine.core.kept ≤ room_of c.turn.new.engine.core = within_room c.turn.new.engine.core c.invariant_holds-in-None.ensures.run in
     let more : length c.turns.engine.core.kept < length c.turn.new.engine.core.kept = c.in-None.ensures.more refl in
     omega (arith, same, most, more)
 
@@ -36,7 +36,7 @@ turns-preserved g c =
           so_far.ready.settled so_far.core (g.met.R.Rack.honest c.turn.new.engine.files.rack) so_far.ran c.in-None.ensures.ran;
       ready = c.in-None.ensures.ready (λ other. cc);
       idle = c.in-None.ensures.idle refl;
-      core = c.is_sound-in-None.ensures.run;
+      core = c.invariant_holds-in-None.ensures.run;
     }
 
 pub returns-in-Some-clause-fault : goal.returns-in-Some-clause-fault

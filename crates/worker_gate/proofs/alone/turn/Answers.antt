@@ -19,7 +19,7 @@ returns-in-Piece-clause-ran g c =
     let told = c.in-Piece.ensures in
     let done = c.work.ensures in
     ran_turn g.R.Rack.disk g.R.Rack.faults g.G.Gate.answers (counts_of g.G.Gate c.args.gate.now) (counts_of g.G.Gate c.work.new.gate) c.args.engine.now c.next.new.engine c.work.new.engine c.in-Piece.piece
-    done.ends.outcome c.work.result told.ready.settled c.is_sound.ensures.run (g.met.R.Rack.honest c.work.new.engine.files.rack) told.engine told.reply told.goes done.goes done.ends.finishes done.gate
+    done.ends.outcome c.work.result told.ready.settled c.invariant_holds.ensures.run (g.met.R.Rack.honest c.work.new.engine.files.rack) told.engine told.reply told.goes done.goes done.ends.finishes done.gate
     (λ end. ap g.G.Gate.asked (done.unasked end)) done.asked
 
 pub returns-in-Piece-clause-ready : goal.returns-in-Piece-clause-ready

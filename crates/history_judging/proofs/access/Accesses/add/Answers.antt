@@ -1,4 +1,4 @@
-use Rattle.std.proofs.Common.{◌||◌, sym, ◌∙◌, ap, subst}
+use Rattle.std.proofs.Common.{sym, ◌∙◌, ap}
 use Rattle.std.specs.List.{list_any}
 use Rattle.process_tree.specs.Entries.{access_of}
 use Rattle.process_tree.specs.Conflicts.{do_conflict, same_access}

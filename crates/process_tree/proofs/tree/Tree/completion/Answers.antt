@@ -1,6 +1,6 @@
 use Rattle.std.proofs.Common.{◌≡◌, ℕ, List, ◌++◌, ◌∷◌, [], ◌∙◌, refl, sym, ap, subst, append_assoc}
-use Rattle.process_tree.specs.Shape.{shape_of, branch_to, next_steps, greatest}
-use Rattle.process_tree.specs.Recovery.{place_of, last_after}
+use Rattle.process_tree.specs.Shape.{shape_of, branch_to, next_steps, greatest, last_after}
+use Rattle.process_tree.specs.Recovery.{place_of}
 use Rattle.process_tree.specs.Stands.{IsNext}
 use Rattle.process_tree.proofs.InTurn.{place_step, greatest_is, greatest_next, step_within, next_left, last_place_on, last_on}
 use Rattle.process_tree.proofs.tree.Tree.completion.Goals as goal

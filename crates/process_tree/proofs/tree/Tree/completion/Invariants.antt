@@ -1,7 +1,7 @@
 use Rattle.std.proofs.Common.{◌≡◌, ◌++◌, ◌∷◌, [], length}
 use Rattle.process_tree.specs.Blocks.{outline}
-use Rattle.process_tree.specs.Shape.{shape_of, branch_to, next_steps, greatest}
-use Rattle.process_tree.specs.Recovery.{place_of, last_after}
+use Rattle.process_tree.specs.Shape.{shape_of, branch_to, next_steps, greatest, last_after}
+use Rattle.process_tree.specs.Recovery.{place_of}
 use Rattle.process_tree.specs.Stands.{left_from}
 use Rattle.process_tree.proofs.tree.Tree.completion.Given as goal
 

@@ -5,7 +5,7 @@ use Rattle.history_files.specs.Sound.{IsSound}
 use Rattle.engine_steps.specs.Engines.{AreExactly, full_history}
 use Rattle.engine_steps.specs.declared.engines.Phase.TheVariants as phase
 use Rattle.engine_steps.proofs.ExactFiles.{exactly_each, exactly_now}
-use Rattle.engine_steps.proofs.engines.Engine.is_sound.Goals as goal
+use Rattle.engine_steps.proofs.engines.Engine.invariant_holds.Goals as goal
 
 pub returns-clause-read : goal.returns-clause-read
 returns-clause-read g c =
