@@ -1,5 +1,5 @@
 -- An engine stays ready, and the piece that it hands out was handed out by its core.
-use Rattle.std.proofs.Common.{◌≡◌, ◌∙◌, [], sym, subst}
+use Rattle.std.proofs.Common.{◌≡◌, ◌∙◌, [], refl, sym, subst}
 use Rattle.resource_box.specs.declared.call.Kind.{Kind}
 use Rattle.resource_box.specs.Meaning.{Pairs}
 use Rattle.machine_model.specs.Calls.{next, next_is}
@@ -9,7 +9,9 @@ use Rattle.process_core.specs.Cores.{CoreState, IsCore, IsHandedBy}
 use Rattle.core_tests.proofs.Pieces.{with_chosen}
 use Rattle.history_files.specs.Standing.{EachFits}
 use Rattle.engine_steps.specs.Engines.{EngineState, with_core}
+use Rattle.engine_steps.specs.declared.engines.Phase.{Phase}
 use Rattle.engine_steps.specs.declared.engines.Phase.TheVariants as phase
+use Rattle.engine_runs.specs.Runs.{IsReady as IsReadyToRun}
 use Rattle.engine_tests.specs.Ready.{IsReady}
 
 -- after a request, which touches no file
@@ -28,3 +30,13 @@ ready_started meaning sort old new stores settled ready = record {
 -- the piece of a request for any was handed out
 pub handed_next : (c d : CoreState) (h : Handed) → IsCore d → d ≡ after_call c next → next_is (chosen h) ≡ (answer_in c next).reply → IsHandedBy d h.piece
 handed_next c d h core is replied = (with_chosen c d h [] core is replied tt).0
+
+-- one that isn't closed may be run
+pub ready_for_runs : {R B : Type 0} (meaning : B → Pairs) (sort : B → Kind) (e : EngineState R B) → IsReady meaning sort e → (e.phase ≡ phase.Closed → ⊥)
+    → IsReadyToRun meaning sort e
+ready_for_runs meaning sort e ready open' = record { settled = by_phase e.phase ready.whole open'; fits = ready.fits }
+  where
+    by_phase : (p : Phase) → (p ≡ phase.UnderWay → ⊥) → (p ≡ phase.Closed → ⊥) → p ≡ phase.Settled
+    by_phase phase.Settled whole open' = refl
+    by_phase phase.UnderWay whole open' = absurd (whole refl)
+    by_phase phase.Closed whole open' = absurd (open' refl)

@@ -15,3 +15,5 @@ mod stops;
 mod tests;
 #[cfg(test)]
 mod turns;
+#[cfg(test)]
+mod workers;

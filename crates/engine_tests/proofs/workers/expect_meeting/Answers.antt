@@ -1,0 +1,5 @@
+use Rattle.engine_tests.proofs.Ready.{ready_for_runs}
+use Rattle.engine_tests.proofs.workers.expect_meeting.Goals as goal
+
+pub run_workers-engine-requires-clause-ready : goal.run_workers-engine-requires-clause-ready
+run_workers-engine-requires-clause-ready g c κs within = ready_for_runs g.B.Resource.meaning g.B.Resource.sort c.start_all.new.engine c.in_ok-start_all.ensures c.in-Ok.ensures.open

@@ -1,0 +1,60 @@
+// Two workers at one engine.
+ghost use Rattle.history_files.specs.Boxes.{AreBoxes};
+
+use crate::beginnings::{created, start_all};
+use crate::boxes::boxes;
+use process_disk::Rack;
+use process_engine::Engine;
+use resource_box::Resource;
+use std::alloc::Global;
+use std::process::Abort;
+use std::sync::Wait;
+use std::test::Fail;
+use std::thread::Threads;
+use thread_workers::{MeetingGate, Ran, run_workers};
+use worker_gate::RunOutcome;
+
+// Each of two processes has one step, and does it while the other does its own: else a gate would have refused a pivot.
+const TEXTS: [&[u8]; 2] = [b"process a p x pay 1 5 end", b"process b p u ship 1 1 end"];
+
+// How often a gate looks for the other.
+const LOOKS: u32 = 100_000_000;
+
+// The history has a start, a step and an end of each, and nothing else.
+fn expect_both<H: Abort, R: Rack + Drop, B: Resource>(rt: &H, engine: &Engine<R, B>) {
+    let events = engine.history().events.as_slice();
+    assert_eq!(rt; events.len(), 6, "the history");
+}
+
+/// Two workers, each with a gate that waits for the other, end both processes.
+fn expect_meeting<H: Abort + Threads + Wait + Sync, B: Resource + Send>(
+    rt: &H,
+    alloc: Global,
+    resources: Vec<B>,
+) -> Result<(), Fail>
+    requires { AreBoxes B.sort resources.items }
+{
+    let mut engine = created(alloc, resources)?;
+    start_all(alloc, &mut engine, &TEXTS)?;
+    let Ok(()) = engine.not_closed() else {
+        return Err("closed".into());
+    };
+    let (one, other) = MeetingGate::pair(alloc, LOOKS)?;
+    let gates = vec![in alloc; one, other]?;
+    let Ran {
+        engine,
+        gates,
+        outcome,
+    } = run_workers(rt, alloc, engine, gates);
+    assert_eq!(rt; outcome, RunOutcome::AllEnded, "the outcome");
+    assert_eq!(rt; gates.len(), 2, "the gates");
+    expect_both(rt, &engine);
+    Ok(())
+}
+
+#[test]
+fn two_workers_meet(rt: HostRuntime) -> Result<(), Fail> {
+    let alloc = rt.alloc();
+    let boxes = boxes(alloc)?;
+    expect_meeting(&rt, alloc, boxes)
+}
