@@ -9,14 +9,14 @@ use Rattle.history_files.specs.Creating.{IsDueToFiles, first_used}
 use Rattle.history_files.specs.declared.faults.CreateError.{CreateError}
 use Rattle.history_files.specs.declared.faults.CreateError.TheVariants as create
 use Rattle.process_engine.specs.Fitting.{limit_passed}
-use Rattle.engine_runs.specs.GateAnswers.{AskedGate}
-use Rattle.program_lines.specs.declared.refusal.Refusal.{Refusal}
-use Rattle.program_lines.specs.declared.refusal.Refusal.TheVariants as refusals
-use Rattle.program_lines.specs.declared.status.Status.TheVariants as statuses
+use Rattle.engine_calls.specs.GateAnswers.{AskedGate}
+use Rattle.command_refusals.specs.declared.refusal.Refusal.{Refusal}
+use Rattle.command_refusals.specs.declared.refusal.Refusal.TheVariants as refusals
+use Rattle.command_refusals.specs.declared.status.Status.TheVariants as statuses
 use Rattle.command_input.specs.declared.said.Said.{Said}
 use Rattle.command_input.specs.FilesLeft.{Files}
 use Rattle.command_input.specs.Scenarios.{IsBound}
-use Rattle.process_setup.specs.Init.{AreNotMade, create_refusal}
+use Rattle.init_run.specs.Init.{AreNotMade, create_refusal}
 use Rattle.scenario_run.specs.Completeness.{IsReportThere}
 use Rattle.scenario_run.proofs.NothingWrong.{catalog_of, ill_formed, unbound}
 use Rattle.bulk_run.specs.Bulk.{IsBulkDue, IsBulkOf, IsCutOffAnew, IsPastLimitAnew, SaysBulk}

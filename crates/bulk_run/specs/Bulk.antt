@@ -20,15 +20,15 @@ use Rattle.process_engine.specs.declared.fitting.StartLimit.{StartLimit}
 use Rattle.engine_steps.specs.Engines.{full_history}
 use Rattle.engine_steps.specs.declared.engines.Phase.{Phase}
 use Rattle.engine_steps.specs.declared.engines.Phase.TheVariants.{Settled, Closed}
-use Rattle.engine_runs.specs.Acknowledged.{ComeInTurn, IsOneAhead, events_of}
-use Rattle.engine_runs.specs.GateAnswers.{AskedGate}
-use Rattle.program_lines.specs.declared.refusal.Refusal.{Refusal}
-use Rattle.program_lines.specs.declared.refusal.Refusal.TheVariants.{DiskFault, NoMemory}
-use Rattle.program_lines.specs.declared.status.Status.TheVariants as statuses
+use Rattle.engine_calls.specs.Acknowledged.{ComeInTurn, IsOneAhead, events_of}
+use Rattle.engine_calls.specs.GateAnswers.{AskedGate}
+use Rattle.command_refusals.specs.declared.refusal.Refusal.{Refusal}
+use Rattle.command_refusals.specs.declared.refusal.Refusal.TheVariants.{DiskFault, NoMemory}
+use Rattle.command_refusals.specs.declared.status.Status.TheVariants as statuses
 use Rattle.command_input.specs.declared.said.Said.{Said}
 use Rattle.command_input.specs.FilesLeft.{Files, AreUntouched}
 use Rattle.command_input.specs.Scenarios.{IsBound, IsNotBound}
-use Rattle.process_setup.specs.Init.{AreMade, AreNotMade}
+use Rattle.init_run.specs.Init.{AreMade, AreNotMade}
 use Rattle.scenario_run.specs.Reports.{exhausted_line}
 use Rattle.scenario_run.specs.Run.{HasGone, limit_refusal}
 use Rattle.scenario_run.specs.Scenario.{IsSaidOfNone}

@@ -4,9 +4,9 @@ use Rattle.std.proofs.lemmas.Bool.Decides.{nat_tests}
 use Rattle.process_text.specs.Places.{text_error}
 use Rattle.process_text.specs.declared.error.TextError.{TextError}
 use Rattle.process_text.specs.declared.error.TextError.TheVariants as errors
-use Rattle.program_lines.specs.declared.faults.Quantity.TheVariants as quantities
-use Rattle.program_lines.specs.declared.refusal.Refusal.{Refusal}
-use Rattle.program_lines.specs.declared.refusal.Refusal.TheVariants.{Text, Limit}
+use Rattle.command_refusals.specs.declared.faults.Quantity.TheVariants as quantities
+use Rattle.command_refusals.specs.declared.refusal.Refusal.{Refusal}
+use Rattle.command_refusals.specs.declared.refusal.Refusal.TheVariants.{Text, Limit}
 use Rattle.command_input.specs.Inputs.{Input, most_input, first_refusal, too_long, text_tests, text_refusal, HasNoText, IsRefused}
 
 -- what is known of the text that was read is known of the input

@@ -4,7 +4,7 @@ use Rattle.process_tree.specs.declared.plan.Plan.{Plan}
 use Rattle.process_tree.specs.declared.tree.Named.{Named}
 use Rattle.commute_table.specs.declared.op.Op.{Op}
 use Rattle.commute_table.specs.Binding.{IsPlanOf}
-use Rattle.program_lines.specs.declared.refusal.Refusal.{Refusal}
+use Rattle.command_refusals.specs.declared.refusal.Refusal.{Refusal}
 use Rattle.command_input.specs.Scenarios.{ArePlansOf, AreNoPlans}
 
 module _ (ops : List Op) (all rest later : List Named) (p : Named) (first : rest ≡ p ∷ later) (plan : Plan) (good : IsPlanOf p ops plan) where

@@ -1,11 +1,11 @@
 -- Which refusals come before a command calls the rack.
 use Rattle.std.specs.Prelude.{Bool, true, false}
 use Rattle.process_text.specs.declared.error.TextError.TheVariants as errors
-use Rattle.program_lines.specs.declared.faults.Quantity.TheVariants.{Input, Operations, Processes, Active, Entries}
-use Rattle.program_lines.specs.declared.refusal.Refusal.{Refusal}
-use Rattle.program_lines.specs.declared.refusal.Refusal.TheVariants.{BadWords, Text, Scenario, CatalogDiffers, BadLine, Limit}
-use Rattle.program_lines.specs.declared.refusal.Refusal.TheVariants.{Unfinished, File, BookDiffers, Report, ReadFault, DiskFault}
-use Rattle.program_lines.specs.declared.refusal.Refusal.TheVariants.{Exhausted, NoMemory}
+use Rattle.command_refusals.specs.declared.faults.Quantity.TheVariants.{Input, Operations, Processes, Active, Entries}
+use Rattle.command_refusals.specs.declared.refusal.Refusal.{Refusal}
+use Rattle.command_refusals.specs.declared.refusal.Refusal.TheVariants.{BadWords, Text, Scenario, CatalogDiffers, BadLine, Limit}
+use Rattle.command_refusals.specs.declared.refusal.Refusal.TheVariants.{Unfinished, File, BookDiffers, Report, ReadFault, DiskFault}
+use Rattle.command_refusals.specs.declared.refusal.Refusal.TheVariants.{Exhausted, NoMemory}
 
 -- Those of the words, of the source and of the input alone. Want of memory may come later too.
 abbrev pub comes_before_files : Refusal → Bool

@@ -11,9 +11,9 @@ use Rattle.process_text.specs.Places.{text_error}
 use Rattle.process_text.specs.declared.error.TextError.{TextError}
 use Rattle.process_text.specs.declared.error.TextError.TheVariants as errors
 use Rattle.process_flow.specs.declared.source.Source.{Ghosts as Sources}
-use Rattle.program_lines.specs.declared.faults.Quantity.TheVariants as quantities
-use Rattle.program_lines.specs.declared.refusal.Refusal.{Refusal}
-use Rattle.program_lines.specs.declared.refusal.Refusal.TheVariants.{Text, Limit, ReadFault, NoMemory}
+use Rattle.command_refusals.specs.declared.faults.Quantity.TheVariants as quantities
+use Rattle.command_refusals.specs.declared.refusal.Refusal.{Refusal}
+use Rattle.command_refusals.specs.declared.refusal.Refusal.TheVariants.{Text, Limit, ReadFault, NoMemory}
 use Rattle.command_input.specs.Early.{comes_before_files}
 
 -- the greatest size of an input, in bytes

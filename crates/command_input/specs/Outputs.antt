@@ -3,10 +3,10 @@ use Rattle.std.specs.Prelude.{◌≡◌, ◌<◌, ◌⊎◌, ℕ, List, ◌++◌
 use Rattle.std.specs.Io.KnownBytes.{Appends}
 use Rattle.process_flow.specs.Causes.{Rose}
 use Rattle.process_flow.specs.declared.sink.Sink.{Ghosts as Sinks}
-use Rattle.program_lines.specs.Refusals.{refusal_text}
-use Rattle.program_lines.specs.declared.refusal.Refusal.{Refusal}
-use Rattle.program_lines.specs.declared.status.Status.{Status}
-use Rattle.program_lines.specs.declared.status.Status.TheVariants.{WriteFault}
+use Rattle.command_refusals.specs.Refusals.{refusal_text}
+use Rattle.command_refusals.specs.declared.refusal.Refusal.{Refusal}
+use Rattle.command_refusals.specs.declared.status.Status.{Status}
+use Rattle.command_refusals.specs.declared.status.Status.TheVariants.{WriteFault}
 
 -- a sink at some moment: what it has taken, where it tells, and its count of faults
 pub record Output : Type 0 where

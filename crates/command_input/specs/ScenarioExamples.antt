@@ -11,7 +11,7 @@ use Rattle.commute_table.specs.declared.op.Op.{Op}
 use Rattle.commute_table.specs.declared.op.Verb.TheVariants.{Add}
 use Rattle.commute_table.specs.declared.errors.ScenarioError.TheVariants.{BadToml, BadKey, UnknownOp, SameOp, Ops}
 use Rattle.commute_table.specs.Binding.{numbers_bound}
-use Rattle.program_lines.specs.Refusals.{refusal_text}
+use Rattle.command_refusals.specs.Refusals.{refusal_text}
 use Rattle.command_input.specs.Early.{comes_before_files}
 use Rattle.command_input.specs.Scenarios.{scenario_refusal, IsUnknown}
 

@@ -17,12 +17,12 @@ use Rattle.commute_table.specs.declared.errors.ScenarioError.TheVariants as erro
 use Rattle.commute_table.specs.declared.errors.BindError.TheVariants as binds
 use Rattle.commute_table.specs.Document.{Says, IsAnswer}
 use Rattle.commute_table.specs.Binding.{numbers_bound, IsPlanOf}
-use Rattle.program_lines.specs.declared.faults.Quantity.TheVariants.{Operations}
-use Rattle.program_lines.specs.declared.faults.ScenarioFault.TheVariants.{BadToml, BadKey, UnknownOperation, SameOperation}
-use Rattle.program_lines.specs.declared.refusal.Refusal.{Refusal}
-use Rattle.program_lines.specs.declared.refusal.Refusal.TheVariants as refusals
-use Rattle.program_lines.specs.Shown.{shown_word}
-use Rattle.program_lines.specs.Verdicts.{IsFirstVerdict}
+use Rattle.command_refusals.specs.declared.faults.Quantity.TheVariants.{Operations}
+use Rattle.command_refusals.specs.declared.faults.ScenarioFault.TheVariants.{BadToml, BadKey, UnknownOperation, SameOperation}
+use Rattle.command_refusals.specs.declared.refusal.Refusal.{Refusal}
+use Rattle.command_refusals.specs.declared.refusal.Refusal.TheVariants as refusals
+use Rattle.command_refusals.specs.Shown.{shown_word}
+use Rattle.command_refusals.specs.Verdicts.{IsFirstVerdict}
 use Rattle.command_input.specs.declared.scenario.NoPlans.{NoPlans}
 use Rattle.command_input.specs.declared.scenario.NoPlans.TheVariants.{Refused, IllFormed}
 use Rattle.command_input.specs.Inputs.{text_refusal}

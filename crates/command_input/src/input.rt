@@ -2,10 +2,10 @@
 ghost use Rattle.std.specs.Prelude.{◌≡◌, IfOk, IfErr};
 ghost use Rattle.command_input.specs.Inputs.{input, HasNoText, IsRead, IsRefused, IsWholeText, text_refusal, text_tests};
 
+use command_refusals::{Quantity, Refusal};
 use process_flow::{ReadError, Source, read_all};
 use process_text::{TextError, read};
 use process_tree::Named;
-use program_lines::{Quantity, Refusal};
 use std::alloc::Global;
 
 const MOST_INPUT: u32 = 1048576;

@@ -4,7 +4,7 @@
 //! and `scenario_of` give the catalog and the plans of a scenario, and `good_plans` those of a text of processes, or the first
 //! refusal (`specs/Scenarios`). `tell` writes a text, and `refusal_line` is that of a refusal (`specs/Outputs`). `specs/Early` says
 //! which refusals come before a command calls the rack, and `specs/FilesLeft` in which words commands speak of their files. The
-//! texts of refusals are `program_lines`'.
+//! texts of refusals are `command_refusals`'.
 #![tactic(auto)]
 
 mod input;

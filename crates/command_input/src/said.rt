@@ -1,5 +1,5 @@
 // What a command has to say.
-use program_lines::{Refusal, Status};
+use command_refusals::{Refusal, Status};
 
 /// What a command has to say where it did what it is for.
 #[derive(Drop)]

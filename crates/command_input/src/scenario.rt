@@ -1,6 +1,6 @@
 // The scenario of a command: its catalog and the plans of its processes.
 ghost use Rattle.std.specs.Prelude.{◌≡◌, ◌⊎◌, Ok, IfOk, IfErr};
-ghost use Rattle.program_lines.specs.declared.refusal.Refusal.TheVariants.{NoMemory};
+ghost use Rattle.command_refusals.specs.declared.refusal.Refusal.TheVariants.{NoMemory};
 ghost use Rattle.commute_table.specs.declared.errors.ScenarioError.TheVariants.{BadKey, UnknownOp};
 ghost use Rattle.commute_table.specs.Binding.{IsPlanOf};
 ghost use Rattle.process_text.specs.Words.{words_of};
@@ -12,10 +12,10 @@ ghost use Rattle.command_input.specs.Scenarios.{scenario_refusal, ArePlansOf, Ar
 ghost use Rattle.command_input.specs.Scenarios.{IsNoPlanOf, IsNoScenario, IsNoText, IsNotBound};
 
 use crate::input::text_refusal;
+use command_refusals::{Quantity, Refusal, ScenarioFault, ShownWord, first_verdict};
 use commute_table::{BindError, Catalog, Scenario, ScenarioError, bind, read_scenario};
 use process_text::read;
 use process_tree::{Named, Plan};
-use program_lines::{Quantity, Refusal, ScenarioFault, ShownWord, first_verdict};
 use std::alloc::{AllocError, Global};
 
 /// What a scenario gives a command.

@@ -2,8 +2,8 @@
 ghost use Rattle.std.specs.Prelude.{◌≡◌, ◌≤◌, string_bytes, IfOk};
 ghost use Rattle.command_input.specs.Outputs.{output, refusal_line, IsTold};
 
+use command_refusals::{Refusal, Status};
 use process_flow::{Sink, write_all};
-use program_lines::{Refusal, Status};
 use std::alloc::{AllocError, Global};
 
 /// Writes the text and answers the status, or that of a write fault.

@@ -5,10 +5,10 @@ use Rattle.commute_table.specs.declared.catalog.Catalog.{Catalog}
 use Rattle.machine_model.specs.Replies.{Handed}
 use Rattle.process_core.specs.Cores.{CoreState}
 use Rattle.command_input.specs.Scenarios.{AreGoodPlans}
-use Rattle.session_lines.specs.Pieces.{session_of}
-use Rattle.session_lines.specs.Playing.{play_start}
-use Rattle.session_lines.specs.declared.cut.Cut.{Cut}
-use Rattle.session_lines.specs.declared.cut.Cut.TheVariants.{DiskFault, NoMemory}
+use Rattle.session_play.specs.Pieces.{session_of}
+use Rattle.session_play.specs.Playing.{play_start}
+use Rattle.session_play.specs.declared.cut.Cut.{Cut}
+use Rattle.session_play.specs.declared.cut.Cut.TheVariants.{DiskFault, NoMemory}
 use Rattle.driver_requests.specs.Requests.{request_of}
 use Rattle.driver_requests.specs.declared.request.Request.{Request}
 use Rattle.driver_requests.specs.declared.request.Request.TheVariants.{StartSpelled}

@@ -12,9 +12,9 @@ use Rattle.process_journal.specs.Laws.{beginning}
 use Rattle.history_files.specs.Sound.{IsSound}
 use Rattle.engine_steps.specs.Engines.{EngineState, full_history}
 use Rattle.engine_steps.specs.declared.engines.Phase.{Phase}
-use Rattle.engine_runs.specs.Acknowledged.{ComeInTurn, IsOneAhead, IsOneOf, IsUnderWay}
-use Rattle.engine_runs.specs.Runs.{GoesOn}
-use Rattle.engine_runs.proofs.Goes.{goes_none}
+use Rattle.engine_calls.specs.Acknowledged.{ComeInTurn, IsOneAhead, IsOneOf, IsUnderWay}
+use Rattle.engine_calls.specs.Runs.{GoesOn}
+use Rattle.engine_calls.proofs.Goes.{goes_none}
 
 -- each of the first plans is one of the second
 abbrev pub AreAmong : List Plan → List Plan → Type 0

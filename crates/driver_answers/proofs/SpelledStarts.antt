@@ -13,15 +13,15 @@ use Rattle.machine_model.specs.declared.replies.StartWhy.{StartWhy}
 use Rattle.process_core.specs.Cores.{CoreState, courses_in, moment_of}
 use Rattle.engine_steps.specs.Beginning.{IsPlanFor}
 use Rattle.engine_steps.specs.Engines.{EngineState}
-use Rattle.engine_runs.specs.Acknowledged.{IsOneOf}
+use Rattle.engine_calls.specs.Acknowledged.{IsOneOf}
 use Rattle.command_input.specs.Scenarios.{AreGoodPlans}
 use Rattle.scenario_run.proofs.OneOf.{stands_among}
 use Rattle.scenario_run.proofs.ScenarioPlans.{plans_start}
-use Rattle.session_lines.specs.Answering.{IsAnswered, IsCut}
-use Rattle.session_lines.specs.Pieces.{session_of}
-use Rattle.session_lines.specs.Playing.{play_start, start_unless}
-use Rattle.session_lines.specs.declared.cut.Cut.{Cut}
-use Rattle.session_lines.specs.declared.cut.Cut.TheVariants.{DiskFault, NoMemory}
+use Rattle.session_play.specs.Answering.{IsAnswered, IsCut}
+use Rattle.session_play.specs.Pieces.{session_of}
+use Rattle.session_play.specs.Playing.{play_start, start_unless}
+use Rattle.session_play.specs.declared.cut.Cut.{Cut}
+use Rattle.session_play.specs.declared.cut.Cut.TheVariants.{DiskFault, NoMemory}
 use Rattle.driver_requests.specs.Answers.{bad_line_words}
 use Rattle.driver_answers.specs.Serving.{IsSpelledAnswered}
 

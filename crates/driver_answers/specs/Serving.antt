@@ -10,7 +10,7 @@ use Rattle.machine_model.specs.Replies.{Handed}
 use Rattle.process_core.specs.Cores.{CoreState}
 use Rattle.engine_steps.specs.Engines.{full_history}
 use Rattle.process_report.specs.Lines.{Line as Words}
-use Rattle.program_lines.specs.declared.refusal.Refusal.TheVariants.{NoMemory}
+use Rattle.command_refusals.specs.declared.refusal.Refusal.TheVariants.{NoMemory}
 use Rattle.command_input.specs.declared.scenario.NoPlans.{NoPlans}
 use Rattle.command_input.specs.declared.scenario.NoPlans.TheVariants.{Refused, IllFormed}
 use Rattle.command_input.specs.Outputs.{refusal_line}
@@ -18,11 +18,11 @@ use Rattle.command_input.specs.Scenarios.{AreGoodPlans, AreNoGoodPlans}
 use Rattle.session_text.specs.declared.line.Line.{Line}
 use Rattle.session_text.specs.declared.line.Line.TheVariants.{Start, Admit, Next, Finish, Abort, Show, Stop}
 use Rattle.session_text.specs.Answers.{numbered}
-use Rattle.session_lines.specs.Answering.{IsAnswered, IsCopy}
-use Rattle.session_lines.specs.Pieces.{session_of}
-use Rattle.session_lines.specs.Playing.{SessionState, plan_for, play, play_start}
-use Rattle.session_lines.specs.declared.cut.Cut.{Cut}
-use Rattle.session_lines.specs.declared.cut.Cut.TheVariants as cuts
+use Rattle.session_play.specs.Answering.{IsAnswered, IsCopy}
+use Rattle.session_play.specs.Pieces.{session_of}
+use Rattle.session_play.specs.Playing.{SessionState, plan_for, play, play_start}
+use Rattle.session_play.specs.declared.cut.Cut.{Cut}
+use Rattle.session_play.specs.declared.cut.Cut.TheVariants as cuts
 use Rattle.driver_requests.specs.declared.request.Request.{Request}
 use Rattle.driver_requests.specs.declared.request.Request.TheVariants.{Session, StartSpelled, Pieces, Happened}
 use Rattle.driver_requests.specs.Answers.{bad_line_words, called_piece, framed, happening_words, no_step_words, numbered_lines}

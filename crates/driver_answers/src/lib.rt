@@ -1,7 +1,7 @@
 //! The lines of a driver, one by one: each is answered over an engine.
 //!
 //! `specs/Serving` says what a driver reads for each line and what the line makes of the machine: a line of a session does what it
-//! does there, by `session_lines`. `specs/Happenings` says what became of a step. `answer_line` answers a line, or tells why the
+//! does there, by `session_play`. `specs/Happenings` says what became of a step. `answer_line` answers a line, or tells why the
 //! dialogue ends with it (`Cut`). What lines say and how answers read is `driver_requests`'; lines one after another, and the
 //! command, are `serve_run`'s.
 #![tactic(auto)]
@@ -12,4 +12,4 @@ mod listing;
 mod spelled;
 
 pub use answering::answer_line;
-pub use session_lines::Cut;
+pub use session_play::Cut;

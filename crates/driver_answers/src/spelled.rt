@@ -6,26 +6,26 @@ ghost use Rattle.process_tree.specs.declared.plan.Plan.{Plan as Plan'};
 ghost use Rattle.process_text.specs.Canonical.{line_of};
 ghost use Rattle.engine_steps.specs.Beginning.{IsPlanFor};
 ghost use Rattle.engine_steps.specs.declared.engines.Phase.TheVariants as phase;
-ghost use Rattle.engine_runs.specs.Runs.{GoesOn, IsReady};
+ghost use Rattle.engine_calls.specs.Runs.{GoesOn, IsReady};
 ghost use Rattle.history_files.specs.Standing.{EachFits};
 ghost use Rattle.machine_model.specs.Replies.{Handed};
-ghost use Rattle.engine_runs.specs.Acknowledged.{IsOneOf};
+ghost use Rattle.engine_calls.specs.Acknowledged.{IsOneOf};
 ghost use Rattle.command_input.specs.Scenarios.{AreGoodPlans};
-ghost use Rattle.session_lines.specs.Answering.{IsAnswered, IsCut};
-ghost use Rattle.session_lines.specs.Pieces.{session_of};
-ghost use Rattle.session_lines.specs.Playing.{play_start};
-ghost use Rattle.session_lines.specs.declared.cut.Cut.TheVariants.{DiskFault, NoMemory};
+ghost use Rattle.session_play.specs.Answering.{IsAnswered, IsCut};
+ghost use Rattle.session_play.specs.Pieces.{session_of};
+ghost use Rattle.session_play.specs.Playing.{play_start};
+ghost use Rattle.session_play.specs.declared.cut.Cut.TheVariants.{DiskFault, NoMemory};
 ghost use Rattle.driver_requests.specs.Answers.{bad_line_words};
 ghost use Rattle.driver_answers.specs.Serving.{no_plans_text, IsSpelledAnswered};
 
 use command_input::{NoPlans, good_plans, refusal_line};
+use command_refusals::Refusal;
 use driver_requests::put_bad_line;
 use process_disk::Rack;
 use process_engine::Engine;
 use process_tree::Plan;
-use program_lines::Refusal;
 use resource_box::Resource;
-use session_lines::{Cut, play_plan};
+use session_play::{Cut, play_plan};
 use std::alloc::{AllocError, Global};
 
 /// `bad line N`

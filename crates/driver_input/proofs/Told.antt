@@ -4,9 +4,9 @@ use Rattle.std.specs.Io.KnownBytes.{Consumes}
 use Rattle.std.proofs.KnownBytes.{Consumes-whole}
 use Rattle.trace_verify.specs.Lines.{parts}
 use Rattle.session_text.specs.Sessions.{scenario_of}
-use Rattle.program_lines.specs.declared.faults.Quantity.TheVariants as quantities
-use Rattle.program_lines.specs.declared.refusal.Refusal.{Refusal}
-use Rattle.program_lines.specs.declared.refusal.Refusal.TheVariants as refusals
+use Rattle.command_refusals.specs.declared.faults.Quantity.TheVariants as quantities
+use Rattle.command_refusals.specs.declared.refusal.Refusal.{Refusal}
+use Rattle.command_refusals.specs.declared.refusal.Refusal.TheVariants as refusals
 use Rattle.command_input.specs.Inputs.{Input, most_input}
 use Rattle.driver_input.specs.declared.parts.Part.TheVariants as part
 use Rattle.driver_input.specs.declared.preamble.Preamble.{Preamble}

@@ -3,9 +3,9 @@ use Rattle.std.specs.Prelude.{◌≡◌, ◌⊎◌, ◌≤◌, ◌<◌, ◌+◌,
 use Rattle.std.specs.Io.KnownBytes.{Consumes, IsAtEnd}
 use Rattle.process_flow.specs.Causes.{Rose}
 use Rattle.trace_verify.specs.Lines.{parts}
-use Rattle.program_lines.specs.declared.faults.Quantity.TheVariants as quantities
-use Rattle.program_lines.specs.declared.refusal.Refusal.{Refusal}
-use Rattle.program_lines.specs.declared.refusal.Refusal.TheVariants.{Limit, ReadFault, NoMemory}
+use Rattle.command_refusals.specs.declared.faults.Quantity.TheVariants as quantities
+use Rattle.command_refusals.specs.declared.refusal.Refusal.{Refusal}
+use Rattle.command_refusals.specs.declared.refusal.Refusal.TheVariants.{Limit, ReadFault, NoMemory}
 use Rattle.command_input.specs.Inputs.{Input, most_input}
 use Rattle.session_text.specs.Sessions.{mark_of, scenario_of}
 

@@ -4,13 +4,13 @@ ghost use Rattle.process_flow.specs.Causes.{Rose};
 ghost use Rattle.command_input.specs.Inputs.{most_input};
 ghost use Rattle.line_reader.specs.Taking.{IsEndOf, IsFirstOf};
 ghost use Rattle.line_reader.specs.declared.taken.TakeError.TheVariants as errors;
-ghost use Rattle.program_lines.specs.declared.refusal.Refusal.TheVariants as refusals;
+ghost use Rattle.command_refusals.specs.declared.refusal.Refusal.TheVariants as refusals;
 ghost use Rattle.driver_input.specs.Parts.{IsLastOf, IsPartOf, IsPartTaken};
 
+use command_refusals::Refusal;
 use line_reader::{LineReader, TakeError, Taken};
 use process_flow::Source;
 use process_text::is_word;
-use program_lines::Refusal;
 use std::alloc::{AllocError, Global};
 
 /// The greatest size of a scenario, in bytes.

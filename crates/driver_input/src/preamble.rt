@@ -1,14 +1,14 @@
 // The scenario in front of the lines of a driver.
 ghost use Rattle.std.specs.Prelude.{◌≡◌, ◌≤◌, ◌<◌, [], length, IfOk, IfErr};
 ghost use Rattle.command_input.specs.Inputs.{input, most_input};
-ghost use Rattle.program_lines.specs.declared.faults.Quantity.TheVariants as quantities;
-ghost use Rattle.program_lines.specs.declared.refusal.Refusal.TheVariants as refusals;
+ghost use Rattle.command_refusals.specs.declared.faults.Quantity.TheVariants as quantities;
+ghost use Rattle.command_refusals.specs.declared.refusal.Refusal.TheVariants as refusals;
 ghost use Rattle.driver_input.specs.Preamble.{HasNoScenario, IsScenarioTaken};
 
 use crate::parts::{MOST_INPUT, Part, take_part};
+use command_refusals::{Quantity, Refusal};
 use line_reader::LineReader;
 use process_flow::Source;
-use program_lines::{Quantity, Refusal};
 use std::alloc::Global;
 
 /// A scenario, and the number of the first line behind its mark.

@@ -11,7 +11,7 @@ use Rattle.history_files.specs.Standing.{EachFits}
 use Rattle.engine_steps.specs.Engines.{EngineState, with_core}
 use Rattle.engine_steps.specs.declared.engines.Phase.{Phase}
 use Rattle.engine_steps.specs.declared.engines.Phase.TheVariants as phase
-use Rattle.engine_runs.specs.Runs.{IsReady as IsReadyToRun}
+use Rattle.engine_calls.specs.Runs.{IsReady as IsReadyToRun}
 use Rattle.engine_tests.specs.Ready.{IsReady}
 
 -- after a request, which touches no file

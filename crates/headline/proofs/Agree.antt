@@ -19,7 +19,7 @@ use Rattle.process_journal.specs.Laws.{AreEqualInTurn}
 use Rattle.process_journal.proofs.PlansAlike.{same_courses}
 use Rattle.engine_steps.specs.Engines.{full_history}
 use Rattle.process_top.specs.Worlds.{World}
-use Rattle.engine_runs.specs.Acknowledged.{acknowledged, events_of}
+use Rattle.engine_calls.specs.Acknowledged.{acknowledged, events_of}
 use Rattle.program_words.specs.declared.reading.Command.TheVariants.{Restart}
 use Rattle.headline.specs.Headline.{HoldsAcknowledged, IsAhead, IsBeginningOf, WentOn}
 use Rattle.same_histories.proofs.SameHistories.{same_completed}

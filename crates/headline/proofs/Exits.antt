@@ -1,10 +1,10 @@
 -- At which statuses a call ends that refused, or went on.
 use Rattle.std.proofs.Common.{◌≡◌, ◌⊎◌, ◌∙◌, true, false, inl, inr, ap, subst}
 use Rattle.process_flow.specs.Causes.{Rose}
-use Rattle.program_lines.specs.declared.refusal.Refusal.{Refusal}
-use Rattle.program_lines.specs.declared.refusal.Refusal.TheVariants as refusals
-use Rattle.program_lines.specs.declared.status.Status.{Status}
-use Rattle.program_lines.specs.declared.status.Status.TheVariants.{WriteFault, DiskFault, NoMemory}
+use Rattle.command_refusals.specs.declared.refusal.Refusal.{Refusal}
+use Rattle.command_refusals.specs.declared.refusal.Refusal.TheVariants as refusals
+use Rattle.command_refusals.specs.declared.status.Status.{Status}
+use Rattle.command_refusals.specs.declared.status.Status.TheVariants.{WriteFault, DiskFault, NoMemory}
 use Rattle.process_top.specs.Told.{IsRefusalTold, IsTold, Output}
 use Rattle.process_top.specs.Worlds.{World}
 use Rattle.headline.specs.Headline.{IsRackFault, is_refused_beforehand}

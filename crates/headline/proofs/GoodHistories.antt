@@ -7,7 +7,7 @@ use Rattle.commute_table.specs.declared.catalog.Catalog.{Catalog}
 use Rattle.process_journal.specs.Journals.{IsHistoryUnder}
 use Rattle.process_journal.specs.Laws.{beginning}
 use Rattle.engine_steps.proofs.OpenedEngine.{core_of_history}
-use Rattle.engine_runs.proofs.Beginnings.{continues_none, is_beginning}
+use Rattle.engine_calls.proofs.Beginnings.{continues_none, is_beginning}
 
 -- It is good
 pub good_history : (c : Catalog) (h : History) → IsHistoryUnder c h → IsGood (do_conflict c.conflicts) h.plans h.events

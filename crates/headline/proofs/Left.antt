@@ -14,9 +14,9 @@ use Rattle.program_words.specs.declared.reading.Command.{Command}
 use Rattle.program_words.specs.declared.reading.Command.TheVariants.{Check, Init, Run, Session, Serve, Restart, Show, Verify, Gen, Bulk}
 use Rattle.command_input.specs.Inputs.{Input}
 use Rattle.process_top.specs.Worlds.{World}
-use Rattle.engine_runs.specs.Acknowledged.{ComeInTurn, IsUnderWay, acknowledged, events_of}
+use Rattle.engine_calls.specs.Acknowledged.{ComeInTurn, IsUnderWay, acknowledged, events_of}
 use Rattle.headline.specs.Headline.{HoldsAcknowledged, IsAhead, IsAtEntry, IsBeginningOf, WentOn, WereLeft}
-use Rattle.engine_runs.proofs.Acknowledged.{Holds, held, none_yet, prefix}
+use Rattle.engine_calls.proofs.Acknowledged.{Holds, held, none_yet, prefix}
 use Rattle.same_histories.proofs.SameHistories.{same_itself, same_turned}
 use Rattle.headline.proofs.GoodHistories.{whole_beginning}
 

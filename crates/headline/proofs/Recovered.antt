@@ -20,14 +20,14 @@ use Rattle.history_opening.specs.Laws.{SoundFilesAreOpened}
 use Rattle.history_opening.specs.declared.faults.OpenError.{OpenError}
 use Rattle.engine_steps.specs.declared.engines.Phase.{Phase}
 use Rattle.engine_steps.specs.declared.engines.Phase.TheVariants.{Settled, Closed}
-use Rattle.program_lines.specs.declared.refusal.Refusal.{Refusal}
-use Rattle.program_lines.specs.declared.refusal.Refusal.TheVariants as refusals
-use Rattle.program_lines.specs.declared.status.Status.{Status}
-use Rattle.program_lines.specs.declared.status.Status.TheVariants.{Done, WriteFault, DiskFault, Exhausted, NoMemory}
-use Rattle.program_lines.specs.Statuses.{number_of, IsOneOf}
+use Rattle.command_refusals.specs.declared.refusal.Refusal.{Refusal}
+use Rattle.command_refusals.specs.declared.refusal.Refusal.TheVariants as refusals
+use Rattle.command_refusals.specs.declared.status.Status.{Status}
+use Rattle.command_refusals.specs.declared.status.Status.TheVariants.{Done, WriteFault, DiskFault, Exhausted, NoMemory}
+use Rattle.command_refusals.specs.Statuses.{number_of, IsOneOf}
 use Rattle.command_input.specs.declared.said.Said.{Said}
 use Rattle.scenario_run.specs.Opening.{AreNotOpened, open_refusal}
-use Rattle.engine_runs.specs.GateAnswers.{AskedGate}
+use Rattle.engine_calls.specs.GateAnswers.{AskedGate}
 use Rattle.process_top.specs.Replies.{Reply, checked, created, ended, served, shown, accepted, generated, refused, IsReplyTold}
 use Rattle.process_top.specs.Run.{first_gate}
 use Rattle.process_top.specs.Told.{IsTold}

@@ -28,14 +28,14 @@ use Rattle.engine_steps.specs.Engines.{AreExactly, full_history}
 use Rattle.engine_steps.specs.declared.engines.Phase.{Phase}
 use Rattle.engine_steps.specs.declared.engines.Phase.TheVariants.{Settled}
 use Rattle.process_report.specs.Report.{report_of, report_text}
-use Rattle.engine_runs.specs.GateAnswers.{AskedGate}
+use Rattle.engine_calls.specs.GateAnswers.{AskedGate}
 use Rattle.process_top.specs.Worlds.{BoxState, World}
 use Rattle.restart_run.specs.Boxes.{HaveValuesOf}
-use Rattle.engine_runs.specs.Acknowledged.{acknowledged, events_of}
+use Rattle.engine_calls.specs.Acknowledged.{acknowledged, events_of}
 use Rattle.process_restart.specs.Completing.{IsNextOfCompletion, restart_causes, with_completion}
 use Rattle.process_restart.specs.Restarting.{IsRestart}
 use Rattle.headline.specs.Headline.{IsKnown, IsCompleted}
-use Rattle.engine_runs.proofs.Acknowledged.{Holds, held}
+use Rattle.engine_calls.proofs.Acknowledged.{Holds, held}
 use Rattle.subsystem_store.specs.Laws.{BooksAreReadBack}
 use Rattle.headline.proofs.ExactBooks.{exactly_read}
 use Rattle.headline.proofs.GoodHistories.{good_history, whole_beginning}

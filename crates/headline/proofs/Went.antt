@@ -17,13 +17,13 @@ use Rattle.engine_steps.specs.Opening.{LeftByOpening}
 use Rattle.engine_steps.specs.declared.engines.Phase.{Phase}
 use Rattle.engine_steps.specs.declared.engines.Phase.TheVariants.{Settled}
 use Rattle.engine_steps.proofs.OpenedEngine.{core_of_history}
-use Rattle.engine_runs.proofs.Acknowledged.{in_turn_so}
-use Rattle.engine_runs.proofs.Beginnings.{is_beginning}
-use Rattle.engine_runs.specs.Acknowledged.{ComeInTurn, events_of}
-use Rattle.engine_runs.specs.Opened.{AreKept, AreOnlyOpened}
-use Rattle.program_lines.specs.Statuses.{number_of}
-use Rattle.program_lines.specs.declared.refusal.Refusal.{Refusal}
-use Rattle.program_lines.specs.declared.status.Status.{Status}
+use Rattle.engine_calls.proofs.Acknowledged.{in_turn_so}
+use Rattle.engine_calls.proofs.Beginnings.{is_beginning}
+use Rattle.engine_calls.specs.Acknowledged.{ComeInTurn, events_of}
+use Rattle.engine_calls.specs.Opened.{AreKept, AreOnlyOpened}
+use Rattle.command_refusals.specs.Statuses.{number_of}
+use Rattle.command_refusals.specs.declared.refusal.Refusal.{Refusal}
+use Rattle.command_refusals.specs.declared.status.Status.{Status}
 use Rattle.program_words.specs.declared.reading.Command.{Command}
 use Rattle.command_input.specs.FilesLeft.{AreUntouched}
 use Rattle.scenario_run.specs.Opening.{AreNotOpened, IsNotOpenedFor, open_refusal}

@@ -7,12 +7,12 @@ use Rattle.commute_table.specs.declared.catalog.Catalog.{Catalog}
 use Rattle.process_core.specs.Cores.{CoreState, opened_on}
 use Rattle.engine_steps.specs.declared.engines.Phase.{Phase}
 use Rattle.engine_steps.specs.declared.engines.Phase.TheVariants.{Settled, Closed}
-use Rattle.engine_runs.specs.Acknowledged.{IsOneAhead}
-use Rattle.engine_runs.specs.GateAnswers.{AskedGate}
+use Rattle.engine_calls.specs.Acknowledged.{IsOneAhead}
+use Rattle.engine_calls.specs.GateAnswers.{AskedGate}
 use Rattle.session_text.specs.declared.line.Line.{Line}
-use Rattle.program_lines.specs.Statuses.{number_of}
-use Rattle.program_lines.specs.declared.status.Status.{Status}
-use Rattle.program_lines.specs.declared.status.Status.TheVariants as statuses
+use Rattle.command_refusals.specs.Statuses.{number_of}
+use Rattle.command_refusals.specs.declared.status.Status.{Status}
+use Rattle.command_refusals.specs.declared.status.Status.TheVariants as statuses
 use Rattle.program_words.specs.declared.reading.Command.{Command}
 use Rattle.program_words.specs.declared.reading.Command.TheVariants.{Check, Init, Run, Session, Serve, Restart, Show, Verify, Gen, Bulk}
 use Rattle.command_input.specs.declared.said.Said.{Said}

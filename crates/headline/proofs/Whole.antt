@@ -15,7 +15,7 @@ use Rattle.subsystem_store.specs.Laws.{BooksAreReadBack}
 use Rattle.history_opening.specs.Laws.{SoundFilesAreOpened}
 use Rattle.process_engine.specs.declared.gates.Gate.{Ghosts as Gates}
 use Rattle.resource_box.specs.declared.resource.Resource.{Ghosts as Resources}
-use Rattle.program_lines.specs.Statuses.{number_of}
+use Rattle.command_refusals.specs.Statuses.{number_of}
 use Rattle.program_words.specs.Commands.{asked}
 use Rattle.program_words.specs.declared.reading.Command.{Command}
 use Rattle.program_words.specs.declared.reading.Command.TheVariants.{Check, Init, Run, Session, Serve, Restart, Show, Verify, Gen, Bulk}

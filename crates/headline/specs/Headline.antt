@@ -59,17 +59,17 @@ use Rattle.engine_steps.specs.Engines.{AreExactly, full_history}
 use Rattle.process_engine.specs.declared.gates.Gate.{Ghosts as Gates}
 use Rattle.resource_box.specs.declared.resource.Resource.{Ghosts as Resources}
 use Rattle.process_report.specs.Report.{report_of, report_text}
-use Rattle.program_lines.specs.declared.status.Status.{Status}
-use Rattle.program_lines.specs.declared.status.Status.TheVariants.{Done, BadWords, BadInput, IllFormed, Limit, Unfinished, BadFile}
-use Rattle.program_lines.specs.declared.status.Status.TheVariants.{BookDiffers, ReadFault, WriteFault, DiskFault, Exhausted}
-use Rattle.program_lines.specs.declared.status.Status.TheVariants.{NoMemory}
-use Rattle.program_lines.specs.Statuses.{IsOneOf, number_of}
+use Rattle.command_refusals.specs.declared.status.Status.{Status}
+use Rattle.command_refusals.specs.declared.status.Status.TheVariants.{Done, BadWords, BadInput, IllFormed, Limit, Unfinished, BadFile}
+use Rattle.command_refusals.specs.declared.status.Status.TheVariants.{BookDiffers, ReadFault, WriteFault, DiskFault, Exhausted}
+use Rattle.command_refusals.specs.declared.status.Status.TheVariants.{NoMemory}
+use Rattle.command_refusals.specs.Statuses.{IsOneOf, number_of}
 use Rattle.program_words.specs.Commands.{asked}
 use Rattle.program_words.specs.declared.reading.Command.{Command}
 use Rattle.program_words.specs.declared.reading.Command.TheVariants.{Run, Session, Serve, Restart}
 use Rattle.command_input.specs.Inputs.{Input}
 use Rattle.scenario_run.specs.Reports.{exhausted_line}
-use Rattle.engine_runs.specs.GateAnswers.{AskedGate}
+use Rattle.engine_calls.specs.GateAnswers.{AskedGate}
 use Rattle.scenario_run.specs.Scenario.{IsScenarioRead}
 use Rattle.session_run.specs.Playthrough.{HasPlayed}
 use Rattle.session_run.specs.Session.{IsSessionRead}
@@ -77,8 +77,8 @@ use Rattle.session_text.specs.declared.line.Line.{Line}
 use Rattle.serve_run.specs.Serve.{IsServeRead, IsSpoken}
 use Rattle.process_top.specs.Run.{first_gate}
 use Rattle.process_top.specs.Worlds.{BoxState, World, world}
-use Rattle.engine_runs.specs.Acknowledged.{ComeInTurn, IsUnderWay, acknowledged, events_of}
-use Rattle.engine_runs.specs.Opened.{FromOpening}
+use Rattle.engine_calls.specs.Acknowledged.{ComeInTurn, IsUnderWay, acknowledged, events_of}
+use Rattle.engine_calls.specs.Opened.{FromOpening}
 use Rattle.scenario_run.specs.Run.{HasGone}
 use Rattle.process_restart.specs.Completing.{IsCompleting, IsHeldUpBy, IsNextHistory, restart_causes, with_completion}
 use Rattle.history_files.specs.Effects.{effects}

@@ -11,9 +11,9 @@ use Rattle.history_files.specs.Sound.{IsSound}
 use Rattle.commute_table.specs.declared.catalog.Catalog.{Catalog}
 use Rattle.process_engine.specs.declared.gates.Gate.{Ghosts as Gates}
 use Rattle.resource_box.specs.declared.resource.Resource.{Ghosts as Resources}
-use Rattle.program_lines.specs.declared.refusal.Refusal.{Refusal}
-use Rattle.program_lines.specs.declared.status.Status.{Status}
-use Rattle.program_lines.specs.declared.status.Status.TheVariants.{Done}
+use Rattle.command_refusals.specs.declared.refusal.Refusal.{Refusal}
+use Rattle.command_refusals.specs.declared.status.Status.{Status}
+use Rattle.command_refusals.specs.declared.status.Status.TheVariants.{Done}
 use Rattle.process_top.specs.Commands.{IsDueTo}
 use Rattle.process_top.specs.Init.{IsInitDue}
 use Rattle.process_top.specs.Replies.{Reply, accepted, checked, created, ended, generated, refused, served, shown, IsReplyTold}

@@ -16,8 +16,8 @@ use Rattle.commute_table.specs.declared.catalog.Catalog.{Catalog}
 use Rattle.process_core.specs.Cores.{CoreState}
 use Rattle.process_engine.specs.declared.gates.Gate.{Ghosts as Gates}
 use Rattle.resource_box.specs.declared.resource.Resource.{Ghosts as Resources}
-use Rattle.program_lines.specs.Statuses.{number_of}
-use Rattle.program_lines.specs.declared.status.Status.TheVariants.{Done}
+use Rattle.command_refusals.specs.Statuses.{number_of}
+use Rattle.command_refusals.specs.declared.status.Status.TheVariants.{Done}
 use Rattle.program_words.specs.declared.reading.Command.{Command}
 use Rattle.program_words.specs.declared.reading.Command.TheVariants.{Session}
 use Rattle.headline.specs.Headline.{IsAhead, IsAtEntry, IsCompleted, IsKnown, IsRecovered, IsRestartOn, Outside, StopsAreRestored, WentOn, WereLeft, goes_on}

@@ -4,8 +4,8 @@ use Rattle.process_flow.specs.declared.source.Source.{Ghosts as Sources}
 use Rattle.process_flow.specs.declared.sink.Sink.{Ghosts as Sinks}
 use Rattle.process_disk.specs.declared.rack.Rack.{Ghosts as Racks}
 use Rattle.command_input.specs.FilesLeft.{files}
-use Rattle.program_lines.specs.Statuses.{number_of}
-use Rattle.program_lines.specs.declared.status.Status.TheVariants.{NoMemory}
+use Rattle.command_refusals.specs.Statuses.{number_of}
+use Rattle.command_refusals.specs.declared.status.Status.TheVariants.{NoMemory}
 use Rattle.process_top.specs.Worlds.{World, input, output}
 use Rattle.process_top.specs.Commands.{Answers, first_is_show}
 use Rattle.process_program.specs.Own.{Own, new_own}

@@ -9,11 +9,11 @@ ghost use Rattle.process_program.specs.Own.{boxes_of, empty_boxes};
 ghost use Rattle.process_program.specs.Words.{words_behind};
 
 use crate::own::{OwnBox, new_boxes, new_gates};
+use command_refusals::Status;
 use file_rack::{Access, FileRack, Folder};
 use process_disk::Rack;
 use process_flow::{Sink, Source, StdSink, StdSource};
 use process_top::{Finished, only_reads, top};
-use program_lines::Status;
 use resource_box::Resource;
 use std::alloc::{AllocError, Global};
 use std::env::Args;

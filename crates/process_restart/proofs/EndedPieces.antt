@@ -13,7 +13,7 @@ use Rattle.engine_steps.proofs.SameHistory.{refused_same}
 use Rattle.process_engine.specs.Finishing.{Finishes}
 use Rattle.process_engine.specs.declared.finishing.Finish.{Finish}
 use Rattle.process_engine.specs.declared.finishing.Finish.TheVariants.{Effected, Retry, Failed, Over, Dropped, Exhausted, DiskFault, NoMemory, Closed}
-use Rattle.engine_runs.proofs.GateEnds.{kept_by}
+use Rattle.engine_calls.proofs.GateEnds.{kept_by}
 use Rattle.worker_gate.specs.Running.{failure_of as run_failure}
 use Rattle.process_restart.specs.Completing.{AreInTurn}
 use Rattle.process_restart.specs.declared.completing.Completion.TheVariants as completions

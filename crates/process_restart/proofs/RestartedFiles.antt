@@ -17,12 +17,12 @@ use Rattle.history_files.specs.Sound.{IsSound}
 use Rattle.engine_steps.specs.Engines.{AreExactly, EngineState, full_history}
 use Rattle.engine_steps.specs.declared.engines.Phase.{Phase}
 use Rattle.engine_steps.specs.declared.engines.Phase.TheVariants.{Settled, Closed}
-use Rattle.engine_runs.specs.Acknowledged.{IsOneAhead}
-use Rattle.engine_runs.specs.GateAnswers.{AskedGate}
-use Rattle.engine_runs.specs.Opened.{AreKept}
-use Rattle.engine_runs.specs.Runs.{GoesOn}
-use Rattle.engine_runs.proofs.Acknowledged.{in_turn_so}
-use Rattle.engine_runs.proofs.Opened.{are_kept}
+use Rattle.engine_calls.specs.Acknowledged.{IsOneAhead}
+use Rattle.engine_calls.specs.GateAnswers.{AskedGate}
+use Rattle.engine_calls.specs.Opened.{AreKept}
+use Rattle.engine_calls.specs.Runs.{GoesOn}
+use Rattle.engine_calls.proofs.Acknowledged.{in_turn_so}
+use Rattle.engine_calls.proofs.Opened.{are_kept}
 use Rattle.process_restart.specs.Completing.{IsCompleting, IsNextOfCompletion, IsNextUnderWay, IsOutcome}
 use Rattle.process_restart.specs.Restarting.{AreCleared, IsLater, IsRestart}
 use Rattle.process_restart.specs.declared.completing.Completion.{Completion}

@@ -25,9 +25,9 @@ use Rattle.engine_steps.specs.Engines.{EngineState, IsUnder, full_history, with_
 use Rattle.engine_steps.specs.Opening.{IsOpened}
 use Rattle.engine_steps.specs.declared.engines.Phase.{Phase}
 use Rattle.engine_steps.proofs.SameHistory.{complete_all_same}
-use Rattle.engine_runs.specs.GateAnswers.{AskedGate, IsByGate, kept_since}
-use Rattle.engine_runs.specs.Runs.{IsReady}
-use Rattle.engine_runs.proofs.GateRuns.{kept_is}
+use Rattle.engine_calls.specs.GateAnswers.{AskedGate, IsByGate, kept_since}
+use Rattle.engine_calls.specs.Runs.{IsReady}
+use Rattle.engine_calls.proofs.GateRuns.{kept_is}
 use Rattle.worker_gate.specs.Running.{HasRun}
 use Rattle.worker_gate.proofs.IdleMoments.{moment_with}
 use Rattle.worker_gate.proofs.NothingOut.{opened_idle}

@@ -9,9 +9,9 @@ use Rattle.history_files.specs.Sound.{IsSound}
 use Rattle.engine_steps.specs.Engines.{EngineState, full_history}
 use Rattle.engine_steps.specs.declared.engines.Phase.TheVariants as phase
 use Rattle.process_engine.specs.declared.gates.Answer.{Answer}
-use Rattle.engine_runs.specs.GateAnswers.{GateCounts, count_after, kept_since, steps_handed}
-use Rattle.engine_runs.proofs.GateRuns.{by_gate_none, gate_from, kept_is}
-use Rattle.engine_runs.proofs.Goes.{goes_none}
+use Rattle.engine_calls.specs.GateAnswers.{GateCounts, count_after, kept_since, steps_handed}
+use Rattle.engine_calls.proofs.GateRuns.{by_gate_none, gate_from, kept_is}
+use Rattle.engine_calls.proofs.Goes.{goes_none}
 use Rattle.worker_gate.specs.Running.{IsOfRunning}
 use Rattle.worker_gate.proofs.RanRuns.{OnlyRuns, count-after, only_then, steps-append}
 use Rattle.process_restart.specs.Completing.{AreInTurn}

@@ -22,7 +22,7 @@ use Rattle.machine_model.proofs.CallsKept.{out_runs}
 use Rattle.process_core.specs.Cores.{CoreState, IsCore, IsHandedBy, courses_in, history_of, moment_of, relation}
 use Rattle.engine_steps.specs.Engines.{full_history}
 use Rattle.engine_steps.specs.Pieces.{history_with}
-use Rattle.engine_runs.specs.GateAnswers.{IsHandedAs}
+use Rattle.engine_calls.specs.GateAnswers.{IsHandedAs}
 use Rattle.worker_gate.proofs.IdleMoments.{hand_out, moment_with}
 use Rattle.process_restart.specs.Completing.{IsNextHistory, IsNextUnderWay}
 use Rattle.process_restart.specs.Turns.{IsHandedInTurn}

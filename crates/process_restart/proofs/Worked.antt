@@ -27,11 +27,11 @@ use Rattle.engine_steps.proofs.SameHistory.{admit_same}
 use Rattle.process_engine.specs.Finishing.{Finishes}
 use Rattle.process_engine.specs.declared.finishing.Finish.{Finish}
 use Rattle.process_engine.specs.declared.gates.Answer.{Answer}
-use Rattle.engine_runs.specs.Acknowledged.{IsUnderWay}
-use Rattle.engine_runs.specs.GateAnswers.{GateCounts, IsByGate, IsHandedAs, count_after, kept_since, steps_handed}
-use Rattle.engine_runs.specs.Runs.{GoesOnAlone, IsReady}
-use Rattle.engine_runs.proofs.GateEnds.{kept_by, kept_of}
-use Rattle.engine_runs.proofs.GateRuns.{by_gate_none, gate_from, kept_is}
+use Rattle.engine_calls.specs.Acknowledged.{IsUnderWay}
+use Rattle.engine_calls.specs.GateAnswers.{GateCounts, IsByGate, IsHandedAs, count_after, kept_since, steps_handed}
+use Rattle.engine_calls.specs.Runs.{GoesOnAlone, IsReady}
+use Rattle.engine_calls.proofs.GateEnds.{kept_by, kept_of}
+use Rattle.engine_calls.proofs.GateRuns.{by_gate_none, gate_from, kept_is}
 use Rattle.worker_gate.specs.Running.{IsOfRunning}
 use Rattle.worker_gate.proofs.AloneTurns.{idle_after}
 use Rattle.worker_gate.proofs.IdleMoments.{moment_with}

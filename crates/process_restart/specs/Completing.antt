@@ -21,8 +21,8 @@ use Rattle.process_journal.specs.Laws.{beginning}
 use Rattle.history_files.specs.Sound.{IsSound}
 use Rattle.engine_steps.specs.declared.engines.Phase.{Phase}
 use Rattle.engine_steps.specs.declared.engines.Phase.TheVariants.{Settled, Closed}
-use Rattle.engine_runs.specs.Acknowledged.{IsUnderWay}
-use Rattle.engine_runs.specs.GateAnswers.{AskedGate, kept_since}
+use Rattle.engine_calls.specs.Acknowledged.{IsUnderWay}
+use Rattle.engine_calls.specs.GateAnswers.{AskedGate, kept_since}
 use Rattle.worker_gate.specs.Running.{HasRun}
 use Rattle.process_restart.specs.declared.completing.Completion.{Completion}
 use Rattle.process_restart.specs.declared.completing.Completion.TheVariants.{Ended, Exhausted, DiskFault, NoMemory}

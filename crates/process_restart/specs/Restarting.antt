@@ -17,9 +17,9 @@ use Rattle.engine_steps.specs.Engines.{AreExactly, full_history}
 use Rattle.engine_steps.specs.Opening.{LeftByOpening}
 use Rattle.engine_steps.specs.declared.engines.Phase.{Phase}
 use Rattle.engine_steps.specs.declared.engines.Phase.TheVariants.{Settled, Closed}
-use Rattle.engine_runs.specs.GateAnswers.{AskedGate}
-use Rattle.engine_runs.specs.Opened.{AreKept}
-use Rattle.engine_runs.specs.Runs.{IsReady}
+use Rattle.engine_calls.specs.GateAnswers.{AskedGate}
+use Rattle.engine_calls.specs.Opened.{AreKept}
+use Rattle.engine_calls.specs.Runs.{IsReady}
 use Rattle.process_restart.specs.Completing.{IsCompleting, IsHeldUpBy, IsNextOfCompletion}
 use Rattle.process_restart.specs.declared.restarting.Restarted.{Restarted}
 use Rattle.process_restart.specs.declared.restarting.Restarted.TheVariants.{Ended, Exhausted, Refused}

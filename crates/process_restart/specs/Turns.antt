@@ -14,8 +14,8 @@ use Rattle.process_core.specs.declared.replies.Admit.TheVariants as admits
 use Rattle.engine_steps.specs.Engines.{EngineState, full_history}
 use Rattle.process_engine.specs.declared.finishing.Finish.{Finish}
 use Rattle.process_engine.specs.declared.finishing.Finish.TheVariants as finished
-use Rattle.engine_runs.specs.GateAnswers.{AskedGate, IsByGate, kept_since}
-use Rattle.engine_runs.specs.Runs.{GoesOnAlone, IsReady}
+use Rattle.engine_calls.specs.GateAnswers.{AskedGate, IsByGate, kept_since}
+use Rattle.engine_calls.specs.Runs.{GoesOnAlone, IsReady}
 use Rattle.worker_gate.specs.Running.{IsAskedOnce, IsOfRunning, NothingRuns}
 use Rattle.process_restart.specs.Completing.{AreInTurn, IsHeldUpBy}
 use Rattle.process_restart.specs.declared.completing.Completion.{Completion}

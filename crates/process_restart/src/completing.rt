@@ -4,12 +4,12 @@ ghost use Rattle.process_flow.specs.Causes.{Rose};
 ghost use Rattle.history_files.specs.Standing.{EachFits};
 ghost use Rattle.engine_steps.specs.Engines.{full_history};
 ghost use Rattle.engine_steps.specs.Opening.{IsOpened};
-ghost use Rattle.engine_runs.specs.GateAnswers.{asked};
-ghost use Rattle.engine_runs.specs.Runs.{GoesOnAlone};
+ghost use Rattle.engine_calls.specs.GateAnswers.{asked};
+ghost use Rattle.engine_calls.specs.Runs.{GoesOnAlone};
 ghost use Rattle.process_restart.specs.Completing.{IsCompleting, IsNextUnderWay, IsOutcome};
 ghost use Rattle.process_restart.specs.Turns.{HaveEnded, IsAskedNext, IsAtTurn, RanInTurn, failure_of};
 
-use engine_runs::{admit, complete_all, work};
+use engine_calls::{admit, complete_all, work};
 use process_core::Admit;
 use process_disk::Rack;
 use process_engine::{Engine, Finish, Gate};

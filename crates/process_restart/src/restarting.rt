@@ -2,7 +2,7 @@
 ghost use Rattle.std.specs.Prelude.{◌≡◌};
 ghost use Rattle.history_files.specs.Boxes.{AreBoxes};
 ghost use Rattle.history_files.specs.Standing.{EachFits};
-ghost use Rattle.engine_runs.specs.GateAnswers.{asked};
+ghost use Rattle.engine_calls.specs.GateAnswers.{asked};
 ghost use Rattle.process_restart.specs.Restarting.{AreCleared, HandsBack, IsRestartedAs};
 
 use crate::RestartError;

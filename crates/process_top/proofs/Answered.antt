@@ -3,10 +3,10 @@ use Rattle.std.proofs.Common.{◌≡◌, ◌≤◌, ℕ, List, true, false, Some
 use Rattle.std.specs.Prelude.{⊤}
 use Rattle.program_words.specs.Commands.{asked}
 use Rattle.program_words.specs.declared.reading.Command.TheVariants.{Restart}
-use Rattle.program_lines.specs.Statuses.{number_of}
-use Rattle.program_lines.specs.declared.status.Status.{Status}
-use Rattle.program_lines.specs.declared.status.Status.TheVariants as statuses
-use Rattle.program_lines.specs.declared.refusal.Refusal.{Refusal}
+use Rattle.command_refusals.specs.Statuses.{number_of}
+use Rattle.command_refusals.specs.declared.status.Status.{Status}
+use Rattle.command_refusals.specs.declared.status.Status.TheVariants as statuses
+use Rattle.command_refusals.specs.declared.refusal.Refusal.{Refusal}
 use Rattle.command_input.specs.declared.said.Said.{Said}
 use Rattle.command_input.specs.Early.{comes_before_files}
 use Rattle.process_disk.specs.Disk.{Told}

@@ -7,15 +7,15 @@ use Rattle.trace_verify.specs.declared.verdict.Verified.{Verified}
 use Rattle.trace_verify.specs.Verdicts.{verdict}
 use Rattle.program_words.specs.declared.reading.Command.{Command}
 use Rattle.program_words.specs.declared.reading.Command.TheVariants.{Check, Init, Run, Session, Serve, Restart, Show, Verify, Gen, Bulk}
-use Rattle.program_lines.specs.Statuses.{IsOneOf}
-use Rattle.program_lines.specs.declared.status.Status.{Status}
-use Rattle.program_lines.specs.declared.status.Status.TheVariants.{Done, Exhausted, NoMemory}
-use Rattle.program_lines.specs.declared.faults.ReportFault.{ReportFault}
-use Rattle.program_lines.specs.declared.faults.ReportFault.TheVariants as faults
-use Rattle.program_lines.specs.declared.refusal.Refusal.{Refusal}
-use Rattle.program_lines.specs.declared.refusal.Refusal.TheVariants as refusals
-use Rattle.program_lines.specs.Refusals.{report_status, refusal_status}
-use Rattle.program_lines.specs.Verdicts.{any_fault}
+use Rattle.command_refusals.specs.Statuses.{IsOneOf}
+use Rattle.command_refusals.specs.declared.status.Status.{Status}
+use Rattle.command_refusals.specs.declared.status.Status.TheVariants.{Done, Exhausted, NoMemory}
+use Rattle.command_refusals.specs.declared.faults.ReportFault.{ReportFault}
+use Rattle.command_refusals.specs.declared.faults.ReportFault.TheVariants as faults
+use Rattle.command_refusals.specs.declared.refusal.Refusal.{Refusal}
+use Rattle.command_refusals.specs.declared.refusal.Refusal.TheVariants as refusals
+use Rattle.command_refusals.specs.Refusals.{report_status, refusal_status}
+use Rattle.command_refusals.specs.Verdicts.{any_fault}
 use Rattle.process_top.specs.Worlds.{World, Input, Files}
 use Rattle.command_input.specs.Inputs.{most_input, first_refusal, input_tests, text_tests, IsRefused}
 use Rattle.process_top.specs.Replies.{Reply, checked, created, ended, served, shown, accepted, generated, refused, status_of, IsReplyTold}
@@ -24,7 +24,7 @@ use Rattle.process_top.specs.Said.{HasWorked, IsResultTold}
 use Rattle.process_top.specs.Check.{IsCheckDue, IsCheckComplete}
 use Rattle.process_top.specs.Init.{IsInitDue}
 use Rattle.scenario_run.specs.Completeness.{IsReportThere}
-use Rattle.engine_runs.specs.GateAnswers.{AskedGate}
+use Rattle.engine_calls.specs.GateAnswers.{AskedGate}
 use Rattle.command_input.specs.declared.said.Said.{Said}
 use Rattle.session_run.specs.Completeness.{AreAllAnswered}
 use Rattle.serve_run.specs.declared.command.Ending.TheVariants as endings
@@ -38,8 +38,8 @@ use Rattle.process_top.specs.Gen.{IsGenDue, IsGenComplete}
 use Rattle.process_top.specs.Verify.{verdict_of, verified_status, IsVerifyDue, IsVerifyComplete}
 use Rattle.process_top.specs.Commands.{IsDueTo, IsQuiet, DoesItsWork}
 use Rattle.command_input.proofs.InputRefusals.{is_within}
-use Rattle.process_setup.specs.Init.{IsInitComplete}
-use Rattle.process_setup.proofs.MadeWell.{not_created_quietly}
+use Rattle.init_run.specs.Init.{IsInitComplete}
+use Rattle.init_run.proofs.MadeWell.{not_created_quietly}
 use Rattle.process_top.proofs.Completing.{given, told_well, quietly_refused, text_passes, by_any, not_opened_quietly}
 
 -- a check

@@ -17,12 +17,12 @@ use Rattle.process_journal.specs.Opened.{IsJournalOf}
 use Rattle.process_journal.specs.declared.errors.JournalError.{JournalError}
 use Rattle.process_journal.specs.declared.errors.JournalError.TheVariants as journal
 use Rattle.process_journal.proofs.NeverRefused.{journals_are_opened}
-use Rattle.program_lines.specs.Statuses.{IsOneOf}
-use Rattle.program_lines.specs.declared.status.Status.{Status}
-use Rattle.program_lines.specs.declared.status.Status.TheVariants.{Done, IllFormed, NoMemory}
-use Rattle.program_lines.specs.declared.refusal.Refusal.{Refusal}
-use Rattle.program_lines.specs.declared.refusal.Refusal.TheVariants as refusals
-use Rattle.program_lines.specs.Refusals.{error_status, refusal_status}
+use Rattle.command_refusals.specs.Statuses.{IsOneOf}
+use Rattle.command_refusals.specs.declared.status.Status.{Status}
+use Rattle.command_refusals.specs.declared.status.Status.TheVariants.{Done, IllFormed, NoMemory}
+use Rattle.command_refusals.specs.declared.refusal.Refusal.{Refusal}
+use Rattle.command_refusals.specs.declared.refusal.Refusal.TheVariants as refusals
+use Rattle.command_refusals.specs.Refusals.{error_status, refusal_status}
 use Rattle.command_input.specs.Inputs.{Input, most_input, first_refusal, text_tests, IsRefused}
 use Rattle.command_input.specs.FilesLeft.{Files}
 use Rattle.process_top.specs.Told.{Output, IsTold}

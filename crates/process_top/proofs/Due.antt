@@ -5,9 +5,9 @@ use Rattle.history_opening.specs.declared.faults.OpenError.TheVariants as openin
 use Rattle.commute_table.specs.declared.errors.ScenarioError.TheVariants as scenarios
 use Rattle.program_words.specs.declared.reading.Command.{Command}
 use Rattle.program_words.specs.declared.reading.Command.TheVariants.{Check, Init, Run, Session, Serve, Restart, Show, Verify, Gen, Bulk}
-use Rattle.program_lines.specs.declared.refusal.Refusal.TheVariants.{NoMemory}
+use Rattle.command_refusals.specs.declared.refusal.Refusal.TheVariants.{NoMemory}
 use Rattle.command_input.specs.FilesLeft.{AreUntouched}
-use Rattle.engine_runs.specs.GateAnswers.{AskedGate}
+use Rattle.engine_calls.specs.GateAnswers.{AskedGate}
 use Rattle.process_top.specs.Worlds.{Input, Files}
 use Rattle.process_top.specs.Replies.{refused}
 use Rattle.process_top.specs.Commands.{IsDueTo}

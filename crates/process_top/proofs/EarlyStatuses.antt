@@ -7,12 +7,12 @@ use Rattle.process_journal.specs.declared.errors.JournalError.TheVariants as jou
 use Rattle.program_words.specs.Commands.{asked}
 use Rattle.program_words.specs.declared.reading.Command.{Command}
 use Rattle.program_words.specs.declared.reading.Command.TheVariants.{Check, Init, Run, Session, Serve, Restart, Show, Verify, Gen, Bulk}
-use Rattle.program_lines.specs.Statuses.{number_of}
-use Rattle.program_lines.specs.declared.status.Status.{Status}
-use Rattle.program_lines.specs.declared.status.Status.TheVariants as statuses
-use Rattle.program_lines.specs.declared.refusal.Refusal.{Refusal}
-use Rattle.program_lines.specs.declared.refusal.Refusal.TheVariants as refusals
-use Rattle.program_lines.specs.Refusals.{error_status, refusal_status}
+use Rattle.command_refusals.specs.Statuses.{number_of}
+use Rattle.command_refusals.specs.declared.status.Status.{Status}
+use Rattle.command_refusals.specs.declared.status.Status.TheVariants as statuses
+use Rattle.command_refusals.specs.declared.refusal.Refusal.{Refusal}
+use Rattle.command_refusals.specs.declared.refusal.Refusal.TheVariants as refusals
+use Rattle.command_refusals.specs.Refusals.{error_status, refusal_status}
 use Rattle.command_input.specs.Early.{comes_before_files}
 use Rattle.process_top.specs.Worlds.{World, Input, Files, Output}
 use Rattle.commute_table.specs.declared.errors.ScenarioError.{ScenarioError}
@@ -21,7 +21,7 @@ use Rattle.command_input.specs.Inputs.{HasNoText}
 use Rattle.command_input.specs.Scenarios.{scenario_refusal}
 use Rattle.history_files.specs.declared.faults.CreateError.{CreateError}
 use Rattle.history_files.specs.declared.faults.CreateError.TheVariants as create
-use Rattle.process_setup.specs.Init.{create_refusal, IsCatalogRefused, IsNotCreated}
+use Rattle.init_run.specs.Init.{create_refusal, IsCatalogRefused, IsNotCreated}
 use Rattle.process_top.specs.Show.{journal_refusal}
 use Rattle.process_tree.specs.declared.plan.Plan.{Plan}
 use Rattle.commute_table.specs.declared.catalog.Catalog.{Catalog}
@@ -29,7 +29,7 @@ use Rattle.process_core.specs.Cores.{CoreState, opened_on}
 use Rattle.session_text.specs.declared.line.Line.{Line}
 use Rattle.session_run.specs.Playthrough.{EndsAt}
 use Rattle.session_run.specs.Session.{IsSessionDue as IsSessionFound}
-use Rattle.engine_runs.specs.GateAnswers.{AskedGate}
+use Rattle.engine_calls.specs.GateAnswers.{AskedGate}
 use Rattle.history_opening.specs.declared.faults.OpenError.{OpenError}
 use Rattle.history_opening.specs.declared.faults.OpenError.TheVariants as opening
 use Rattle.restart_run.specs.Restart.{IsRestartFound}

@@ -1,7 +1,7 @@
 -- The first gate is asked.
 use Rattle.std.proofs.Common.{◌≡◌, ◌≤◌, List, [], ◌∷◌, length, slice_set, slice_index_or, sym, ap, arith}
 use Rattle.process_engine.specs.declared.gates.Gate.{Ghosts as Gates}
-use Rattle.engine_runs.specs.GateAnswers.{asked}
+use Rattle.engine_calls.specs.GateAnswers.{asked}
 use Rattle.process_top.specs.Worlds.{gates}
 use Rattle.process_top.specs.Run.{first_gate}
 

@@ -2,12 +2,12 @@
 use Rattle.std.proofs.Common.{◌≡◌}
 use Rattle.process_text.specs.declared.error.TextError.{TextError}
 use Rattle.process_text.specs.declared.error.TextError.TheVariants as texts
-use Rattle.program_lines.specs.Refusals.{error_status, refusal_status, report_status}
-use Rattle.program_lines.specs.declared.faults.ReportFault.{ReportFault}
-use Rattle.program_lines.specs.declared.faults.ReportFault.TheVariants as faults
-use Rattle.program_lines.specs.declared.refusal.Refusal.{Refusal}
-use Rattle.program_lines.specs.declared.refusal.Refusal.TheVariants as refusals
-use Rattle.program_lines.specs.declared.status.Status.TheVariants.{Done}
+use Rattle.command_refusals.specs.Refusals.{error_status, refusal_status, report_status}
+use Rattle.command_refusals.specs.declared.faults.ReportFault.{ReportFault}
+use Rattle.command_refusals.specs.declared.faults.ReportFault.TheVariants as faults
+use Rattle.command_refusals.specs.declared.refusal.Refusal.{Refusal}
+use Rattle.command_refusals.specs.declared.refusal.Refusal.TheVariants as refusals
+use Rattle.command_refusals.specs.declared.status.Status.TheVariants.{Done}
 
 text_undone : (e : TextError) → error_status e ≡ Done → ⊥
 text_undone (texts.BadText line column expected) is = absurd (cc)

@@ -7,11 +7,11 @@ use Rattle.schedule_model.specs.Laws.{IsPlanned}
 use Rattle.process_journal.specs.Journals.{IsHistoryUnder}
 use Rattle.process_journal.specs.declared.errors.JournalError.TheVariants as journal
 use Rattle.process_journal.proofs.GoodPlans.{histories_are_planned}
-use Rattle.program_lines.specs.declared.status.Status.{Status}
-use Rattle.program_lines.specs.declared.status.Status.TheVariants.{Done, IllFormed}
-use Rattle.program_lines.specs.declared.refusal.Refusal.{Refusal}
-use Rattle.program_lines.specs.declared.refusal.Refusal.TheVariants as refusals
-use Rattle.program_lines.specs.Verdicts.{AreLines}
+use Rattle.command_refusals.specs.declared.status.Status.{Status}
+use Rattle.command_refusals.specs.declared.status.Status.TheVariants.{Done, IllFormed}
+use Rattle.command_refusals.specs.declared.refusal.Refusal.{Refusal}
+use Rattle.command_refusals.specs.declared.refusal.Refusal.TheVariants as refusals
+use Rattle.command_refusals.specs.Verdicts.{AreLines}
 use Rattle.command_input.specs.Inputs.{Input, IsRead}
 use Rattle.command_input.specs.FilesLeft.{Files}
 use Rattle.process_top.specs.Replies.{Reply, checked, created, ended, refused, is_refused, status_of, text_of}
@@ -19,8 +19,8 @@ use Rattle.command_input.specs.declared.said.Said.{Said}
 use Rattle.process_top.specs.Said.{EndsBy, Says}
 use Rattle.process_top.specs.Told.{Output}
 use Rattle.process_top.specs.Check.{IsCheckDue}
-use Rattle.process_setup.specs.Init.{IsInitDue as IsInitFound}
-use Rattle.engine_runs.specs.GateAnswers.{AskedGate}
+use Rattle.init_run.specs.Init.{IsInitDue as IsInitFound}
+use Rattle.engine_calls.specs.GateAnswers.{AskedGate}
 use Rattle.scenario_run.specs.Run.{IsRunDue as IsRunFound}
 use Rattle.process_top.specs.Init.{IsInitDue}
 use Rattle.restart_run.specs.Restart.{IsRestartFound}

@@ -1,8 +1,8 @@
 -- A number is that of one status.
 use Rattle.std.proofs.Common.{◌≡◌, List, [], ◌∷◌, slice_index_or, refl, sym, ap, ◌∙◌}
-use Rattle.program_lines.specs.Statuses.{number_of}
-use Rattle.program_lines.specs.declared.status.Status.{Status}
-use Rattle.program_lines.specs.declared.status.Status.TheVariants.{Done, BadWords, BadInput, IllFormed, Limit, Unfinished, BadFile, BookDiffers, ReadFault, WriteFault, DiskFault, Exhausted, NotReduced, NoMemory}
+use Rattle.command_refusals.specs.Statuses.{number_of}
+use Rattle.command_refusals.specs.declared.status.Status.{Status}
+use Rattle.command_refusals.specs.declared.status.Status.TheVariants.{Done, BadWords, BadInput, IllFormed, Limit, Unfinished, BadFile, BookDiffers, ReadFault, WriteFault, DiskFault, Exhausted, NotReduced, NoMemory}
 
 -- the statuses by their numbers
 abbrev statuses : List Status

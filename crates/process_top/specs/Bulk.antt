@@ -3,11 +3,11 @@ use Rattle.std.specs.Prelude.{[], ◌∷◌, List, ℕ, Ok, Err}
 use Rattle.commute_table.specs.declared.catalog.Catalog.{Catalog}
 use Rattle.process_tree.specs.declared.plan.Plan.{Plan}
 use Rattle.scenario_gen.specs.Generated.{generated as scenario}
-use Rattle.program_lines.specs.declared.status.Status.{Status}
-use Rattle.program_lines.specs.declared.status.Status.TheVariants.{Done, Exhausted, NoMemory}
-use Rattle.program_lines.specs.Statuses.{IsOneOf}
+use Rattle.command_refusals.specs.declared.status.Status.{Status}
+use Rattle.command_refusals.specs.declared.status.Status.TheVariants.{Done, Exhausted, NoMemory}
+use Rattle.command_refusals.specs.Statuses.{IsOneOf}
 use Rattle.command_input.specs.FilesLeft.{Files}
-use Rattle.engine_runs.specs.GateAnswers.{AskedGate}
+use Rattle.engine_calls.specs.GateAnswers.{AskedGate}
 use Rattle.bulk_run.specs.Bulk.{IsBulkDue as IsBulkFound}
 use Rattle.bulk_run.specs.Completeness.{AreEmptyFiles, IsScenarioThatFits}
 use Rattle.process_top.specs.Replies.{Reply, ended, refused}

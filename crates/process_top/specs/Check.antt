@@ -3,10 +3,10 @@ use Rattle.std.specs.Prelude.{◌≤◌, List, [], ◌∷◌, length, IfSome}
 use Rattle.process_tree.specs.declared.tree.Named.{Named}
 use Rattle.process_text.specs.Words.{words_of}
 use Rattle.process_text.specs.Grammar.{IsReading}
-use Rattle.program_lines.specs.declared.status.Status.{Status}
-use Rattle.program_lines.specs.declared.status.Status.TheVariants.{Done, IllFormed, NoMemory}
-use Rattle.program_lines.specs.Verdicts.{AreVerdicts}
-use Rattle.program_lines.specs.Statuses.{IsOneOf}
+use Rattle.command_refusals.specs.declared.status.Status.{Status}
+use Rattle.command_refusals.specs.declared.status.Status.TheVariants.{Done, IllFormed, NoMemory}
+use Rattle.command_refusals.specs.Verdicts.{AreVerdicts}
+use Rattle.command_refusals.specs.Statuses.{IsOneOf}
 use Rattle.command_input.specs.Inputs.{Input, most_input, IsRead, IsRefused, text_tests}
 use Rattle.process_top.specs.Replies.{Reply, checked, refused}
 

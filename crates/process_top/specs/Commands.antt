@@ -6,17 +6,17 @@ use Rattle.program_words.specs.declared.reading.Command.{Command}
 use Rattle.program_words.specs.declared.reading.Command.TheVariants.{Check, Init, Run, Session, Serve, Restart, Show, Verify, Gen}
 use Rattle.program_words.specs.declared.reading.Command.TheVariants.{Bulk}
 use Rattle.process_flow.specs.Causes.{Rose}
-use Rattle.program_lines.specs.Statuses.{number_of}
-use Rattle.program_lines.specs.declared.status.Status.{Status}
-use Rattle.program_lines.specs.declared.status.Status.TheVariants.{Done, IllFormed}
-use Rattle.program_lines.specs.declared.refusal.Refusal.TheVariants.{BadWords, NoMemory}
+use Rattle.command_refusals.specs.Statuses.{number_of}
+use Rattle.command_refusals.specs.declared.status.Status.{Status}
+use Rattle.command_refusals.specs.declared.status.Status.TheVariants.{Done, IllFormed}
+use Rattle.command_refusals.specs.declared.refusal.Refusal.TheVariants.{BadWords, NoMemory}
 use Rattle.command_input.specs.Early.{comes_before_files}
 use Rattle.process_disk.specs.Disk.{Told}
-use Rattle.engine_runs.specs.GateAnswers.{AskedGate}
+use Rattle.engine_calls.specs.GateAnswers.{AskedGate}
 use Rattle.restart_run.specs.Boxes.{HaveValuesOf}
 use Rattle.process_top.specs.Worlds.{World, BoxState, GatesState, Input, Files}
 use Rattle.history_files.specs.Boxes.{AreBoxes}
-use Rattle.process_setup.specs.Init.{IsInitComplete}
+use Rattle.init_run.specs.Init.{IsInitComplete}
 use Rattle.command_input.specs.FilesLeft.{AreUntouched, AreLeft}
 use Rattle.process_top.specs.Replies.{Reply, ended, refused, IsReplyTold}
 use Rattle.process_top.specs.Check.{IsCheckDue, IsCheckComplete}

@@ -1,5 +1,5 @@
 -- The command `init`.
-use Rattle.process_setup.specs.Init.{IsCreated, IsNotCreated}
+use Rattle.init_run.specs.Init.{IsCreated, IsNotCreated}
 use Rattle.command_input.specs.Inputs.{Input}
 use Rattle.command_input.specs.FilesLeft.{Files}
 use Rattle.process_top.specs.Replies.{Reply, created, refused}

@@ -5,11 +5,11 @@ use Rattle.process_tree.specs.Termination.{Fault}
 use Rattle.commute_table.specs.declared.catalog.Catalog.{Catalog}
 use Rattle.schedule_model.specs.declared.history.History.{History}
 use Rattle.process_report.specs.Report.{report_text}
-use Rattle.program_lines.specs.declared.status.Status.{Status}
-use Rattle.program_lines.specs.declared.status.Status.TheVariants.{Done, IllFormed}
-use Rattle.program_lines.specs.declared.refusal.Refusal.{Refusal}
-use Rattle.program_lines.specs.Refusals.{refusal_status}
-use Rattle.program_lines.specs.Verdicts.{verdict_lines, any_fault}
+use Rattle.command_refusals.specs.declared.status.Status.{Status}
+use Rattle.command_refusals.specs.declared.status.Status.TheVariants.{Done, IllFormed}
+use Rattle.command_refusals.specs.declared.refusal.Refusal.{Refusal}
+use Rattle.command_refusals.specs.Refusals.{refusal_status}
+use Rattle.command_refusals.specs.Verdicts.{verdict_lines, any_fault}
 use Rattle.command_input.specs.declared.said.Said.{Said}
 use Rattle.process_top.specs.Told.{Output, refusal_line, IsTold, IsRefusalTold}
 

@@ -4,10 +4,10 @@ use Rattle.process_disk.specs.Disk.{Told}
 use Rattle.schedule_model.specs.declared.history.History.{History}
 use Rattle.commute_table.specs.declared.catalog.Catalog.{Catalog}
 use Rattle.history_files.specs.Sound.{IsSound}
-use Rattle.engine_runs.specs.GateAnswers.{AskedGate}
-use Rattle.program_lines.specs.declared.status.Status.{Status}
-use Rattle.program_lines.specs.declared.status.Status.TheVariants.{Done, Exhausted, NoMemory}
-use Rattle.program_lines.specs.Statuses.{IsOneOf}
+use Rattle.engine_calls.specs.GateAnswers.{AskedGate}
+use Rattle.command_refusals.specs.declared.status.Status.{Status}
+use Rattle.command_refusals.specs.declared.status.Status.TheVariants.{Done, Exhausted, NoMemory}
+use Rattle.command_refusals.specs.Statuses.{IsOneOf}
 use Rattle.command_input.specs.FilesLeft.{Files}
 use Rattle.restart_run.specs.Restart.{IsRestartFound}
 use Rattle.process_top.specs.Replies.{Reply, ended, refused}

@@ -3,13 +3,13 @@ use Rattle.std.specs.Prelude.{[], ◌∷◌, List, ℕ, get_or, Ok, Err}
 use Rattle.commute_table.specs.declared.catalog.Catalog.{Catalog}
 use Rattle.process_tree.specs.declared.plan.Plan.{Plan}
 use Rattle.schedule_model.specs.declared.history.History.{History}
-use Rattle.program_lines.specs.declared.status.Status.{Status}
-use Rattle.program_lines.specs.declared.status.Status.TheVariants.{Done, Exhausted, NoMemory}
-use Rattle.program_lines.specs.Statuses.{IsOneOf}
+use Rattle.command_refusals.specs.declared.status.Status.{Status}
+use Rattle.command_refusals.specs.declared.status.Status.TheVariants.{Done, Exhausted, NoMemory}
+use Rattle.command_refusals.specs.Statuses.{IsOneOf}
 use Rattle.command_input.specs.Inputs.{Input}
 use Rattle.command_input.specs.FilesLeft.{Files}
 use Rattle.scenario_run.specs.Completeness.{HasRoomFor, HasScenario}
-use Rattle.engine_runs.specs.GateAnswers.{AskedGate, GateCounts}
+use Rattle.engine_calls.specs.GateAnswers.{AskedGate, GateCounts}
 use Rattle.scenario_run.specs.Run.{IsRunDue as IsRunFound}
 use Rattle.process_top.specs.Worlds.{GatesState}
 use Rattle.process_top.specs.Replies.{Reply, ended, refused}

@@ -1,7 +1,7 @@
 -- What a command has to say.
 use Rattle.std.specs.Prelude.{◌≡◌, ℕ, List, false, Option, Some, Result, Ok, Err, ⊤}
-use Rattle.program_lines.specs.declared.status.Status.{Status}
-use Rattle.program_lines.specs.declared.refusal.Refusal.{Refusal}
+use Rattle.command_refusals.specs.declared.status.Status.{Status}
+use Rattle.command_refusals.specs.declared.refusal.Refusal.{Refusal}
 use Rattle.program_words.specs.declared.reading.Command.{Command}
 use Rattle.program_words.specs.declared.reading.Command.TheVariants.{Run, Session, Serve, Restart, Bulk}
 use Rattle.command_input.specs.declared.said.Said.{Said}

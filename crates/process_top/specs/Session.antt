@@ -4,9 +4,9 @@ use Rattle.process_tree.specs.declared.plan.Plan.{Plan}
 use Rattle.schedule_model.specs.declared.history.History.{History}
 use Rattle.commute_table.specs.declared.catalog.Catalog.{Catalog}
 use Rattle.session_text.specs.declared.line.Line.{Line}
-use Rattle.program_lines.specs.declared.status.Status.{Status}
-use Rattle.program_lines.specs.declared.status.Status.TheVariants.{Done, NoMemory}
-use Rattle.program_lines.specs.Statuses.{IsOneOf}
+use Rattle.command_refusals.specs.declared.status.Status.{Status}
+use Rattle.command_refusals.specs.declared.status.Status.TheVariants.{Done, NoMemory}
+use Rattle.command_refusals.specs.Statuses.{IsOneOf}
 use Rattle.command_input.specs.Inputs.{Input}
 use Rattle.command_input.specs.FilesLeft.{Files}
 use Rattle.scenario_run.specs.Completeness.{AreSoundAndIdle}

@@ -11,12 +11,12 @@ use Rattle.process_journal.specs.declared.errors.JournalError.TheVariants as jou
 use Rattle.process_journal.specs.Journals.{IsHistoryUnder}
 use Rattle.process_journal.specs.Opened.{IsJournalOf}
 use Rattle.process_journal.specs.Reading.{IsDue}
-use Rattle.program_lines.specs.declared.faults.FileFault.TheVariants.{BadHeader, BadRecord, BadHistory}
-use Rattle.program_lines.specs.declared.refusal.Refusal.{Refusal}
-use Rattle.program_lines.specs.declared.refusal.Refusal.TheVariants as refusals
-use Rattle.program_lines.specs.declared.status.Status.{Status}
-use Rattle.program_lines.specs.declared.status.Status.TheVariants.{Done, NoMemory}
-use Rattle.program_lines.specs.Statuses.{IsOneOf}
+use Rattle.command_refusals.specs.declared.faults.FileFault.TheVariants.{BadHeader, BadRecord, BadHistory}
+use Rattle.command_refusals.specs.declared.refusal.Refusal.{Refusal}
+use Rattle.command_refusals.specs.declared.refusal.Refusal.TheVariants as refusals
+use Rattle.command_refusals.specs.declared.status.Status.{Status}
+use Rattle.command_refusals.specs.declared.status.Status.TheVariants.{Done, NoMemory}
+use Rattle.command_refusals.specs.Statuses.{IsOneOf}
 use Rattle.command_input.specs.FilesLeft.{Files}
 use Rattle.process_top.specs.Replies.{Reply, shown, refused}
 

@@ -1,10 +1,10 @@
 -- How a reply is told.
 use Rattle.std.specs.Prelude.{◌≡◌, ◌⊎◌, true}
 pub use Rattle.command_input.specs.Outputs.{Output, output, refusal_line, IsTold}
-use Rattle.program_lines.specs.declared.status.Status.{Status}
-use Rattle.program_lines.specs.declared.refusal.Refusal.{Refusal}
-use Rattle.program_lines.specs.declared.refusal.Refusal.TheVariants.{NoMemory}
-use Rattle.program_lines.specs.Refusals.{refusal_status, needs_memory}
+use Rattle.command_refusals.specs.declared.status.Status.{Status}
+use Rattle.command_refusals.specs.declared.refusal.Refusal.{Refusal}
+use Rattle.command_refusals.specs.declared.refusal.Refusal.TheVariants.{NoMemory}
+use Rattle.command_refusals.specs.Refusals.{refusal_status, needs_memory}
 
 -- a refusal was told
 abbrev pub IsLineTold : Refusal → Output → Output → Status → Type 0

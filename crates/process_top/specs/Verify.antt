@@ -5,12 +5,12 @@ use Rattle.trace_verify.specs.declared.verdict.Verified.{Verified}
 use Rattle.trace_verify.specs.declared.verdict.Verified.TheVariants as verdicts
 use Rattle.trace_verify.specs.Verdicts.{verdict}
 use Rattle.trace_verify.specs.Laws.{Means}
-use Rattle.program_lines.specs.declared.faults.ReportFault.{ReportFault}
-use Rattle.program_lines.specs.declared.faults.ReportFault.TheVariants.{BadText, StepRefused, NotSerial, SerialDiffers}
-use Rattle.program_lines.specs.declared.refusal.Refusal.TheVariants.{Report}
-use Rattle.program_lines.specs.declared.status.Status.{Status}
-use Rattle.program_lines.specs.declared.status.Status.TheVariants.{Done, BadInput, NotReduced, NoMemory}
-use Rattle.program_lines.specs.Statuses.{IsOneOf}
+use Rattle.command_refusals.specs.declared.faults.ReportFault.{ReportFault}
+use Rattle.command_refusals.specs.declared.faults.ReportFault.TheVariants.{BadText, StepRefused, NotSerial, SerialDiffers}
+use Rattle.command_refusals.specs.declared.refusal.Refusal.TheVariants.{Report}
+use Rattle.command_refusals.specs.declared.status.Status.{Status}
+use Rattle.command_refusals.specs.declared.status.Status.TheVariants.{Done, BadInput, NotReduced, NoMemory}
+use Rattle.command_refusals.specs.Statuses.{IsOneOf}
 use Rattle.command_input.specs.Inputs.{Input, most_input, OnInput, IsRefused, input_tests}
 use Rattle.process_top.specs.Replies.{Reply, accepted, refused}
 

@@ -9,7 +9,7 @@ use Rattle.resource_box.specs.declared.call.Kind.{Kind}
 use Rattle.resource_box.specs.declared.resource.Resource.{Ghosts as Resources}
 use Rattle.process_engine.specs.declared.gates.Answer.{Answer}
 use Rattle.process_engine.specs.declared.gates.Gate.{Ghosts as Gates}
-use Rattle.engine_runs.specs.GateAnswers.{GateCounts, counts_of}
+use Rattle.engine_calls.specs.GateAnswers.{GateCounts, counts_of}
 pub use Rattle.command_input.specs.Inputs.{Input, input}
 pub use Rattle.process_top.specs.Told.{Output, output}
 pub use Rattle.command_input.specs.FilesLeft.{Files, files}

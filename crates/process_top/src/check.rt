@@ -4,8 +4,8 @@ ghost use Rattle.process_top.specs.Check.{IsCheckDue};
 ghost use Rattle.process_top.specs.Said.{Says};
 
 use command_input::{Said, processes_of};
+use command_refusals::{Refusal, Status, verdicts};
 use process_flow::Source;
-use program_lines::{Refusal, Status, verdicts};
 use std::alloc::Global;
 
 /// Checks the processes of the source's text.

@@ -1,7 +1,7 @@
 // The front door: answers to lists of words.
 ghost use Rattle.std.specs.Prelude.{◌≡◌, true, false, length, map, string_bytes, IfOk, IfErr, Some, ⊤};
 ghost use Rattle.process_disk.specs.Disk.{Told};
-ghost use Rattle.program_lines.specs.declared.status.Status.TheVariants.{Done, IllFormed};
+ghost use Rattle.command_refusals.specs.declared.status.Status.TheVariants.{Done, IllFormed};
 ghost use Rattle.program_words.specs.Commands.{asked};
 ghost use Rattle.program_words.specs.Forms.{IsInRange};
 ghost use Rattle.program_words.specs.declared.reading.Command.TheVariants.{Restart};
@@ -23,11 +23,11 @@ use crate::told::tell_ending;
 use crate::verify::verify;
 use bulk_run::bulk;
 use command_input::CommandEnd;
+use command_refusals::Refusal;
+use init_run::init;
 use process_disk::Rack;
 use process_engine::{Gate, Parts};
 use process_flow::{Sink, Source};
-use process_setup::init;
-use program_lines::Refusal;
 use program_words::{Command, WordsError, read_words};
 use resource_box::Resource;
 use restart_run::restart;

@@ -4,7 +4,7 @@ ghost use Rattle.process_top.specs.Gen.{IsGenDue};
 ghost use Rattle.process_top.specs.Said.{Says};
 
 use command_input::Said;
-use program_lines::{Refusal, Status};
+use command_refusals::{Refusal, Status};
 use scenario_gen::generate;
 use std::alloc::Global;
 

@@ -8,11 +8,11 @@ ghost use Rattle.process_top.specs.Said.{Says};
 ghost use Rattle.process_top.specs.Show.{journal_refusal, IsNotOpened, IsShown, IsShowDue};
 
 use command_input::Said;
+use command_refusals::{FileFault, Refusal, Status};
 use commute_table::Catalog;
 use process_disk::Rack;
 use process_journal::{Journal, JournalError};
 use process_report::report;
-use program_lines::{FileFault, Refusal, Status};
 use schedule_model::History;
 use std::alloc::Global;
 

@@ -1,13 +1,13 @@
 // Telling what there is to say.
 ghost use Rattle.std.specs.Prelude.{◌≡◌, ◌≤◌, ◌++◌, ◌⊎◌, codes};
-ghost use Rattle.program_lines.specs.declared.refusal.Refusal.TheVariants.{NoMemory};
+ghost use Rattle.command_refusals.specs.declared.refusal.Refusal.TheVariants.{NoMemory};
 ghost use Rattle.serve_run.specs.Serve.{OnEnding};
 ghost use Rattle.process_top.specs.Said.{IsResultTold};
 ghost use Rattle.process_top.specs.Told.{output, IsLineTold, IsRefusalTold};
 
 use command_input::{Said, refusal_line, tell};
+use command_refusals::{Refusal, Status};
 use process_flow::Sink;
-use program_lines::{Refusal, Status};
 use serve_run::Ending;
 use std::alloc::Global;
 

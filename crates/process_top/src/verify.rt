@@ -1,15 +1,15 @@
 // The command `verify`.
 ghost use Rattle.std.specs.Prelude.{◌≡◌, ◌⊎◌, IfErr, OnOk};
 ghost use Rattle.trace_verify.specs.declared.verdict.Verified.TheVariants as verdicts;
-ghost use Rattle.program_lines.specs.declared.faults.ReportFault.{ReportFault};
-ghost use Rattle.program_lines.specs.declared.refusal.Refusal.TheVariants.{Report, NoMemory};
+ghost use Rattle.command_refusals.specs.declared.faults.ReportFault.{ReportFault};
+ghost use Rattle.command_refusals.specs.declared.refusal.Refusal.TheVariants.{Report, NoMemory};
 ghost use Rattle.command_input.specs.Inputs.{input};
 ghost use Rattle.process_top.specs.Said.{Says};
 ghost use Rattle.process_top.specs.Verify.{verdict_of, IsVerifyDue};
 
 use command_input::{Said, text_of};
+use command_refusals::{Refusal, ReportFault, Status};
 use process_flow::Source;
-use program_lines::{Refusal, ReportFault, Status};
 use std::alloc::Global;
 use trace_verify::Verified;
 

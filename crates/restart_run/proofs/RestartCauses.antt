@@ -30,7 +30,7 @@ use Rattle.machine_model.proofs.Snoc.{advance_all-append, goes_on-append}
 use Rattle.process_core.specs.Cores.{CoreState, IsCore, history_of, moment_of, opened_on, relation}
 use Rattle.core_state.proofs.OpenedRows.{active_numbers}
 use Rattle.worker_gate.specs.Running.{IsOfRunning}
-use Rattle.engine_runs.specs.GateAnswers.{AskedGate, kept_since}
+use Rattle.engine_calls.specs.GateAnswers.{AskedGate, kept_since}
 use Rattle.process_restart.specs.Completing.{IsCompleting, restart_causes, restarted_on}
 use Rattle.process_restart.proofs.Begun.{begun_by_restart}
 use Rattle.scenario_run.specs.Reports.{cause_of, causes_in}

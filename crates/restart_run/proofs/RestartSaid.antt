@@ -14,13 +14,13 @@ use Rattle.engine_steps.specs.declared.engines.Phase.{Phase}
 use Rattle.engine_steps.specs.declared.engines.Phase.TheVariants.{Settled}
 use Rattle.process_report.specs.Report.{report_text}
 use Rattle.session_text.specs.Answers.{exhausted_words}
-use Rattle.program_lines.specs.declared.refusal.Refusal.{Refusal}
-use Rattle.program_lines.specs.declared.refusal.Refusal.TheVariants.{NoMemory}
+use Rattle.command_refusals.specs.declared.refusal.Refusal.{Refusal}
+use Rattle.command_refusals.specs.declared.refusal.Refusal.TheVariants.{NoMemory}
 use Rattle.command_input.specs.declared.said.Said.{Said}
 use Rattle.command_input.specs.FilesLeft.{Files}
 use Rattle.scenario_run.specs.Opening.{open_refusal}
 use Rattle.scenario_run.specs.Reports.{report_in}
-use Rattle.engine_runs.specs.GateAnswers.{AskedGate}
+use Rattle.engine_calls.specs.GateAnswers.{AskedGate}
 use Rattle.process_restart.specs.Completing.{IsHeldUpBy, restart_causes, with_completion}
 use Rattle.process_restart.specs.Restarting.{IsCutOffBy, IsNotOpened, IsRestart}
 use Rattle.restart_run.specs.Restart.{IsRestartComplete, IsRestartFound, SaysAll, SaysPart}

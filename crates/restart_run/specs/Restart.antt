@@ -13,15 +13,15 @@ use Rattle.engine_steps.specs.declared.engines.Phase.TheVariants.{Settled, Close
 use Rattle.process_report.specs.Report.{report_text}
 use Rattle.process_text.specs.Canonical.{line_of}
 use Rattle.session_text.specs.Answers.{exhausted_words}
-use Rattle.program_lines.specs.declared.refusal.Refusal.{Refusal}
-use Rattle.program_lines.specs.declared.refusal.Refusal.TheVariants.{DiskFault, NoMemory}
-use Rattle.program_lines.specs.declared.status.Status.TheVariants as statuses
+use Rattle.command_refusals.specs.declared.refusal.Refusal.{Refusal}
+use Rattle.command_refusals.specs.declared.refusal.Refusal.TheVariants.{DiskFault, NoMemory}
+use Rattle.command_refusals.specs.declared.status.Status.TheVariants as statuses
 use Rattle.command_input.specs.declared.said.Said.{Said}
 use Rattle.command_input.specs.FilesLeft.{Files}
 use Rattle.scenario_run.specs.Completeness.{IsReportThere}
 use Rattle.scenario_run.specs.Opening.{AreNotOpened, open_refusal}
 use Rattle.scenario_run.specs.Reports.{exhausted_line, report_in}
-use Rattle.engine_runs.specs.GateAnswers.{AskedGate}
+use Rattle.engine_calls.specs.GateAnswers.{AskedGate}
 use Rattle.process_restart.specs.Completing.{IsHeldUpBy, restart_causes, with_completion}
 use Rattle.process_restart.specs.Restarting.{IsRestart}
 

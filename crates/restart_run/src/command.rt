@@ -2,18 +2,18 @@
 ghost use Rattle.std.specs.Prelude.{◌≡◌, ◌≢◌, ◌≤◌, false, IfOk, IfErr};
 ghost use Rattle.process_disk.specs.Disk.{Told};
 ghost use Rattle.history_files.specs.Boxes.{AreBoxes};
-ghost use Rattle.engine_runs.specs.GateAnswers.{asked};
+ghost use Rattle.engine_calls.specs.GateAnswers.{asked};
 ghost use Rattle.command_input.specs.Early.{comes_before_files};
 ghost use Rattle.command_input.specs.FilesLeft.{files};
 ghost use Rattle.restart_run.specs.Boxes.{HaveValuesOf};
 ghost use Rattle.restart_run.specs.Restart.{IsRestartComplete, IsRestartFound, SaysAll, SaysPart};
 
 use command_input::{CommandEnd, Said};
+use command_refusals::{Refusal, Status};
 use history_opening::sound_files_are_opened;
 use process_disk::Rack;
 use process_engine::{Engine, Gate, Parts};
 use process_restart::Restarted;
-use program_lines::{Refusal, Status};
 use resource_box::Resource;
 use scenario_run::{open_refusal, report_now};
 use session_text::put_exhausted;

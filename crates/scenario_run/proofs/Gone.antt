@@ -13,7 +13,7 @@ use Rattle.process_core.specs.Handing.{with_served}
 use Rattle.engine_steps.specs.Engines.{EngineState, full_history}
 use Rattle.engine_steps.specs.Opening.{IsOpened}
 use Rattle.process_engine.specs.declared.gates.Answer.{Answer}
-use Rattle.engine_runs.specs.GateAnswers.{AreAnswered, AskedGate, GateCounts, count_after, kept_since, steps_handed, unbarred_refusals}
+use Rattle.engine_calls.specs.GateAnswers.{AreAnswered, AskedGate, GateCounts, count_after, kept_since, steps_handed, unbarred_refusals}
 use Rattle.worker_gate.specs.Running.{AreTurns, HasRun, IsOfRunning, RanBy}
 use Rattle.scenario_run.specs.Run.{HasGone}
 use Rattle.scenario_run.specs.Starting.{started_on, with_started}

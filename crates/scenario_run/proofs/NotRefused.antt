@@ -17,9 +17,9 @@ use Rattle.commute_table.specs.declared.errors.ScenarioError.TheVariants as erro
 use Rattle.commute_table.specs.declared.errors.BindError.TheVariants.{UnknownOp}
 use Rattle.commute_table.specs.Binding.{numbers_bound}
 use Rattle.commute_table.specs.Document.{Said, Says, scenario_said}
-use Rattle.program_lines.specs.Verdicts.{IsFirstVerdict}
-use Rattle.program_lines.specs.declared.refusal.Refusal.{Refusal}
-use Rattle.program_lines.specs.declared.refusal.Refusal.TheVariants.{NoMemory}
+use Rattle.command_refusals.specs.Verdicts.{IsFirstVerdict}
+use Rattle.command_refusals.specs.declared.refusal.Refusal.{Refusal}
+use Rattle.command_refusals.specs.declared.refusal.Refusal.TheVariants.{NoMemory}
 use Rattle.command_input.specs.Inputs.{text_refusal}
 use Rattle.command_input.specs.Scenarios.{ArePlansOf, AreNoPlans, IsNoScenario, IsNoText}
 

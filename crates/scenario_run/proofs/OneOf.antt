@@ -4,7 +4,7 @@ use Rattle.std.proofs.lemmas.List.Elements.{Contains-append_right}
 use Rattle.process_tree.specs.Form.{AreEqualPlans}
 use Rattle.process_tree.specs.declared.plan.Plan.{Plan}
 use Rattle.machine_model.proofs.OpenHoldings.{head_contained}
-use Rattle.engine_runs.specs.Acknowledged.{IsOneOf}
+use Rattle.engine_calls.specs.Acknowledged.{IsOneOf}
 
 -- a plan is equal to itself,
 pub equal_plan : (p : Plan) → AreEqualPlans p p

@@ -3,8 +3,8 @@ use Rattle.std.proofs.Common.{[], inl, subst, sym, append-nil}
 use Rattle.schedule_model.specs.declared.history.History.{History}
 use Rattle.commute_table.specs.declared.catalog.Catalog.{Catalog}
 use Rattle.history_files.specs.Sound.{IsSound}
-use Rattle.engine_runs.specs.Opened.{AreOnlyOpened}
-use Rattle.engine_runs.proofs.Beginnings.{OneEach, continues_none, is_beginning}
+use Rattle.engine_calls.specs.Opened.{AreOnlyOpened}
+use Rattle.engine_calls.proofs.Beginnings.{OneEach, continues_none, is_beginning}
 use Rattle.command_input.specs.FilesLeft.{Files}
 use Rattle.scenario_run.specs.Opening.{AreOpenedOn}
 

@@ -14,13 +14,13 @@ use Rattle.process_engine.specs.Fitting.{limit_passed}
 use Rattle.engine_steps.specs.Opening.{IsOpened}
 use Rattle.engine_steps.specs.declared.engines.Phase.{Phase}
 use Rattle.engine_steps.specs.declared.engines.Phase.TheVariants.{Settled, Closed}
-use Rattle.engine_runs.specs.Runs.{GoesOn}
-use Rattle.engine_runs.specs.Acknowledged.{IsOneAhead}
-use Rattle.engine_runs.specs.GateAnswers.{AskedGate}
-use Rattle.engine_runs.specs.Opened.{AreKept, AreOnlyOpened}
-use Rattle.engine_runs.proofs.Beginnings.{OneEach}
-use Rattle.engine_runs.proofs.Opened.{are_kept}
-use Rattle.program_lines.specs.declared.refusal.Refusal.{Refusal}
+use Rattle.engine_calls.specs.Runs.{GoesOn}
+use Rattle.engine_calls.specs.Acknowledged.{IsOneAhead}
+use Rattle.engine_calls.specs.GateAnswers.{AskedGate}
+use Rattle.engine_calls.specs.Opened.{AreKept, AreOnlyOpened}
+use Rattle.engine_calls.proofs.Beginnings.{OneEach}
+use Rattle.engine_calls.proofs.Opened.{are_kept}
+use Rattle.command_refusals.specs.declared.refusal.Refusal.{Refusal}
 use Rattle.command_input.specs.declared.said.Said.{Said}
 use Rattle.command_input.specs.FilesLeft.{files}
 use Rattle.scenario_run.specs.Opening.{AreOpenedOn}

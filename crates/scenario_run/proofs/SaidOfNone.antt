@@ -1,6 +1,6 @@
 -- What is said where no processes were read is due.
 use Rattle.std.proofs.Common.{◌≡◌, Result, Ok, Err, subst, sym}
-use Rattle.program_lines.specs.declared.refusal.Refusal.{Refusal}
+use Rattle.command_refusals.specs.declared.refusal.Refusal.{Refusal}
 use Rattle.command_input.specs.declared.said.Said.{Said}
 use Rattle.command_input.specs.declared.scenario.NoPlans.{NoPlans}
 use Rattle.scenario_run.specs.Scenario.{IsSaidOfNone}

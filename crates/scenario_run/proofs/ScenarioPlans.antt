@@ -13,7 +13,7 @@ use Rattle.commute_table.specs.declared.catalog.Catalog.{Catalog}
 use Rattle.commute_table.specs.declared.op.Op.{Op}
 use Rattle.commute_table.specs.Binding.{IsPlanOf, numbers_bound}
 use Rattle.engine_steps.specs.Beginning.{IsPlanFor}
-use Rattle.program_lines.specs.Verdicts.{IsFirstVerdict}
+use Rattle.command_refusals.specs.Verdicts.{IsFirstVerdict}
 use Rattle.command_input.specs.Scenarios.{ArePlansOf, IsBound}
 
 -- a plan of a process is that of its own name and tree

@@ -4,9 +4,9 @@ use Rattle.process_flow.specs.Causes.{Rose}
 use Rattle.process_tree.specs.declared.plan.Plan.{Plan}
 use Rattle.engine_steps.specs.Engines.{EngineState, full_history}
 use Rattle.engine_steps.specs.declared.engines.Phase.TheVariants.{Settled, Closed}
-use Rattle.engine_runs.specs.GateAnswers.{AskedGate}
-use Rattle.program_lines.specs.declared.refusal.Refusal.{Refusal}
-use Rattle.program_lines.specs.declared.refusal.Refusal.TheVariants.{DiskFault, NoMemory}
+use Rattle.engine_calls.specs.GateAnswers.{AskedGate}
+use Rattle.command_refusals.specs.declared.refusal.Refusal.{Refusal}
+use Rattle.command_refusals.specs.declared.refusal.Refusal.TheVariants.{DiskFault, NoMemory}
 use Rattle.command_input.specs.declared.said.Said.{Said}
 use Rattle.scenario_run.specs.Run.{HasGone}
 use Rattle.scenario_run.specs.Stops.{IsStopped}

@@ -9,9 +9,9 @@ use Rattle.commute_table.specs.declared.catalog.Catalog.{Catalog}
 use Rattle.process_core.specs.Cores.{opened_on}
 use Rattle.history_files.specs.Sound.{IsSound}
 use Rattle.process_engine.specs.Fitting.{limit_passed}
-use Rattle.program_lines.specs.declared.refusal.Refusal.{Refusal}
-use Rattle.program_lines.specs.declared.refusal.Refusal.TheVariants.{NoMemory}
-use Rattle.program_lines.specs.declared.status.Status.TheVariants.{Done, Exhausted}
+use Rattle.command_refusals.specs.declared.refusal.Refusal.{Refusal}
+use Rattle.command_refusals.specs.declared.refusal.Refusal.TheVariants.{NoMemory}
+use Rattle.command_refusals.specs.declared.status.Status.TheVariants.{Done, Exhausted}
 use Rattle.command_input.specs.declared.said.Said.{Said}
 use Rattle.command_input.specs.FilesLeft.{Files}
 use Rattle.command_input.specs.Inputs.{Input, most_input}

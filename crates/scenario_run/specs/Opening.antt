@@ -16,9 +16,9 @@ use Rattle.history_opening.specs.Images.{BecomesSound}
 use Rattle.history_opening.specs.Opening.{IsDueToOpening}
 use Rattle.history_files.specs.Sound.{IsSound}
 use Rattle.engine_steps.specs.Opening.{LeftByOpening}
-use Rattle.program_lines.specs.declared.faults.FileFault.TheVariants.{BadHeader, BadRecord, BadHistory, BadBook}
-use Rattle.program_lines.specs.declared.refusal.Refusal.{Refusal}
-use Rattle.program_lines.specs.declared.refusal.Refusal.TheVariants as refusals
+use Rattle.command_refusals.specs.declared.faults.FileFault.TheVariants.{BadHeader, BadRecord, BadHistory, BadBook}
+use Rattle.command_refusals.specs.declared.refusal.Refusal.{Refusal}
+use Rattle.command_refusals.specs.declared.refusal.Refusal.TheVariants as refusals
 use Rattle.command_input.specs.FilesLeft.{Files}
 
 -- what is told of files that were not opened

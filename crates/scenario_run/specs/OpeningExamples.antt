@@ -6,8 +6,8 @@ use Rattle.commute_table.specs.declared.catalog.Catalog.{Catalog}
 use Rattle.commute_table.specs.declared.op.Verb.TheVariants.{Add, Take}
 use Rattle.commute_table.specs.Bytes.{bytes_of}
 use Rattle.history_opening.specs.declared.faults.OpenError.TheVariants.{BadHistory}
-use Rattle.program_lines.specs.Refusals.{refusal_text}
-use Rattle.program_lines.specs.declared.refusal.Refusal.TheVariants.{CatalogDiffers, Unfinished}
+use Rattle.command_refusals.specs.Refusals.{refusal_text}
+use Rattle.command_refusals.specs.declared.refusal.Refusal.TheVariants.{CatalogDiffers, Unfinished}
 use Rattle.scenario_run.specs.Opening.{first_difference, open_refusal}
 
 -- one operation that conflicts with nothing

@@ -15,14 +15,14 @@ use Rattle.engine_steps.specs.declared.engines.Phase.{Phase}
 use Rattle.engine_steps.specs.declared.engines.Phase.TheVariants.{Settled, Closed}
 use Rattle.process_engine.specs.declared.fitting.StartLimit.{StartLimit}
 use Rattle.process_engine.specs.declared.fitting.StartLimit.TheVariants as limits
-use Rattle.engine_runs.specs.Acknowledged.{IsOneAhead}
-use Rattle.engine_runs.specs.GateAnswers.{AskedGate}
-use Rattle.engine_runs.specs.Opened.{AreKept, AreOnlyOpened}
+use Rattle.engine_calls.specs.Acknowledged.{IsOneAhead}
+use Rattle.engine_calls.specs.GateAnswers.{AskedGate}
+use Rattle.engine_calls.specs.Opened.{AreKept, AreOnlyOpened}
 use Rattle.worker_gate.specs.Running.{AreTurns, HasRun}
-use Rattle.program_lines.specs.declared.faults.Quantity.TheVariants.{Processes, Active, Entries}
-use Rattle.program_lines.specs.declared.refusal.Refusal.{Refusal}
-use Rattle.program_lines.specs.declared.refusal.Refusal.TheVariants.{DiskFault, Limit, NoMemory}
-use Rattle.program_lines.specs.declared.status.Status.TheVariants as statuses
+use Rattle.command_refusals.specs.declared.faults.Quantity.TheVariants.{Processes, Active, Entries}
+use Rattle.command_refusals.specs.declared.refusal.Refusal.{Refusal}
+use Rattle.command_refusals.specs.declared.refusal.Refusal.TheVariants.{DiskFault, Limit, NoMemory}
+use Rattle.command_refusals.specs.declared.status.Status.TheVariants as statuses
 use Rattle.command_input.specs.declared.said.Said.{Said}
 use Rattle.command_input.specs.FilesLeft.{Files, AreUntouched}
 use Rattle.command_input.specs.Inputs.{Input}

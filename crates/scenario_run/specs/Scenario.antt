@@ -2,8 +2,8 @@
 use Rattle.std.specs.Prelude.{◌≡◌, ◌⊎◌, ℕ, List, Result, Ok, Err}
 use Rattle.process_tree.specs.declared.plan.Plan.{Plan}
 use Rattle.commute_table.specs.declared.catalog.Catalog.{Catalog}
-use Rattle.program_lines.specs.declared.refusal.Refusal.{Refusal}
-use Rattle.program_lines.specs.declared.status.Status.TheVariants as statuses
+use Rattle.command_refusals.specs.declared.refusal.Refusal.{Refusal}
+use Rattle.command_refusals.specs.declared.status.Status.TheVariants as statuses
 use Rattle.command_input.specs.declared.said.Said.{Said}
 use Rattle.command_input.specs.declared.scenario.NoPlans.{NoPlans}
 use Rattle.command_input.specs.declared.scenario.NoPlans.TheVariants.{Refused, IllFormed}

@@ -6,9 +6,9 @@ use Rattle.engine_steps.specs.Engines.{EngineState, full_history}
 use Rattle.process_engine.specs.Fitting.{limit_passed}
 use Rattle.engine_steps.specs.declared.engines.Phase.TheVariants.{Settled, Closed}
 use Rattle.process_engine.specs.declared.fitting.StartLimit.{StartLimit}
-use Rattle.program_lines.specs.declared.refusal.Refusal.{Refusal}
-use Rattle.program_lines.specs.declared.refusal.Refusal.TheVariants.{DiskFault, NoMemory}
-use Rattle.engine_runs.specs.GateAnswers.{AskedGate}
+use Rattle.command_refusals.specs.declared.refusal.Refusal.{Refusal}
+use Rattle.command_refusals.specs.declared.refusal.Refusal.TheVariants.{DiskFault, NoMemory}
+use Rattle.engine_calls.specs.GateAnswers.{AskedGate}
 use Rattle.scenario_run.specs.Run.{HasGone, limit_refusal}
 
 -- The processes would pass a limit, and the engine is left as it was; or, once the first of them had started, or all, memory was

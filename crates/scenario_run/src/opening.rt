@@ -13,10 +13,10 @@ ghost use Rattle.command_input.specs.FilesLeft.{files};
 ghost use Rattle.command_input.specs.Early.{comes_before_files};
 ghost use Rattle.scenario_run.specs.Opening.{first_difference, open_refusal, AreOpenedOn, IsNotOpenedFor, IsNotOpenedWith, IsOther};
 
+use command_refusals::{FileFault, Refusal};
 use commute_table::{Catalog, catalog_bytes, no_catalog_begins_another};
 use process_disk::Rack;
 use process_engine::{Engine, OpenError, Parts};
-use program_lines::{FileFault, Refusal};
 use resource_box::Resource;
 use schedule_model::{Event, History};
 use schedule_rules::active;

@@ -5,7 +5,7 @@ ghost use Rattle.machine_model.specs.Replies.{stuck};
 ghost use Rattle.machine_model.specs.CallLaws.{IsStuck};
 ghost use Rattle.process_core.specs.Answers.{answer_in};
 ghost use Rattle.process_core.specs.Cores.{courses_in, moment_of, relation};
-ghost use Rattle.engine_runs.specs.Runs.{IsReady};
+ghost use Rattle.engine_calls.specs.Runs.{IsReady};
 ghost use Rattle.scenario_run.specs.Reports.{causes_in, exhausted_line, report_in, step_due};
 
 use machine_model::Cause;
@@ -60,7 +60,7 @@ pub fn stuck_step<R: Rack + Drop, B: Resource>(engine: &mut Engine<R, B>, i: u32
     ensures left { engine.new ≡ engine.old }
 {
     engine.invariant_holds();
-    match engine_runs::admit(engine, i) {
+    match engine_calls::admit(engine, i) {
         Admit::Exhausted(step) => step,
         _ => unreachable!(),
     }

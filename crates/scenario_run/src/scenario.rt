@@ -5,8 +5,8 @@ ghost use Rattle.command_input.specs.Inputs.{input};
 ghost use Rattle.scenario_run.specs.Scenario.{IsNoScenarioRead, IsSaidOfNone, IsScenarioRead};
 
 use command_input::{Bound, NoPlans, Said, scenario_of, text_of};
+use command_refusals::{Refusal, Status};
 use process_flow::Source;
-use program_lines::{Refusal, Status};
 use std::alloc::Global;
 
 /// The catalog of the source's scenario, and the plans of its processes.

@@ -9,14 +9,14 @@ ghost use Rattle.history_files.specs.Standing.{EachFits};
 ghost use Rattle.engine_steps.specs.Beginning.{IsFree, IsPlanFor};
 ghost use Rattle.process_engine.specs.Fitting.{limit_passed};
 ghost use Rattle.engine_steps.specs.declared.engines.Phase.TheVariants as phase;
-ghost use Rattle.engine_runs.specs.Acknowledged.{IsOneOf};
-ghost use Rattle.engine_runs.specs.Runs.{GoesOn, IsReady};
+ghost use Rattle.engine_calls.specs.Acknowledged.{IsOneOf};
+ghost use Rattle.engine_calls.specs.Runs.{GoesOn, IsReady};
 ghost use Rattle.scenario_run.specs.Starting.{with_started};
 
+use command_refusals::Refusal;
 use process_disk::Rack;
 use process_engine::{Engine, EngineStartWhy};
 use process_tree::Plan;
-use program_lines::Refusal;
 use resource_box::Resource;
 use std::alloc::Global;
 
@@ -39,7 +39,7 @@ fn start_one<R: Rack + Drop, B: Resource>(
     ensures goes { (may_start : List Plan') → IsOneOf may_start plan → GoesOn R.disk R.faults may_start engine.old engine.new }
     ensures fits { EachFits B.meaning B.sort engine.new.files.stores }
 {
-    match engine_runs::start(engine, alloc, plan) {
+    match engine_calls::start(engine, alloc, plan) {
         Ok(_) => Ok(()),
         Err(refused) => match refused.why {
             EngineStartWhy::NoMemory => Err(Refusal::NoMemory),

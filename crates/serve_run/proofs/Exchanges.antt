@@ -9,8 +9,8 @@ use Rattle.process_disk.specs.Disk.{IsHonest, Told}
 use Rattle.process_tree.specs.declared.plan.Plan.{Plan}
 use Rattle.trace_verify.specs.Lines.{cut}
 use Rattle.engine_steps.specs.Engines.{EngineState}
-use Rattle.engine_runs.specs.Runs.{GoesOn}
-use Rattle.engine_runs.proofs.Goes.{goes_none, goes_then}
+use Rattle.engine_calls.specs.Runs.{GoesOn}
+use Rattle.engine_calls.proofs.Goes.{goes_none, goes_then}
 use Rattle.line_reader.proofs.Cuts.{cut-whole}
 use Rattle.driver_answers.proofs.MoreStarts.{goes_wider}
 use Rattle.serve_run.specs.Dialogue.{AreAnswered, AreExchanged, DialogueState, Exchange, IsBetween, IsExchange, bytes_of, driver_state, number_behind, printed_of}

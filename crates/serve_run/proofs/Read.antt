@@ -4,7 +4,7 @@ use Rattle.std.specs.Io.KnownBytes.{Consumes}
 use Rattle.std.proofs.KnownBytes.{Consumes-nil}
 use Rattle.process_tree.specs.declared.plan.Plan.{Plan}
 use Rattle.commute_table.specs.declared.catalog.Catalog.{Catalog}
-use Rattle.program_lines.specs.declared.status.Status.{Status}
+use Rattle.command_refusals.specs.declared.status.Status.{Status}
 use Rattle.command_input.specs.FilesLeft.{Files}
 use Rattle.command_input.specs.Inputs.{Input}
 use Rattle.command_input.specs.Outputs.{Output}

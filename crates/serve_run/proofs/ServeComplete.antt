@@ -11,10 +11,10 @@ use Rattle.history_files.specs.Sound.{IsSound}
 use Rattle.history_opening.specs.Laws.{SoundFilesAreOpened}
 use Rattle.history_opening.specs.declared.faults.OpenError.{OpenError}
 use Rattle.history_opening.specs.declared.faults.OpenError.TheVariants as errors
-use Rattle.program_lines.specs.declared.refusal.Refusal.{Refusal}
-use Rattle.program_lines.specs.declared.refusal.Refusal.TheVariants as refusals
-use Rattle.program_lines.specs.declared.status.Status.{Status}
-use Rattle.program_lines.specs.declared.status.Status.TheVariants as statuses
+use Rattle.command_refusals.specs.declared.refusal.Refusal.{Refusal}
+use Rattle.command_refusals.specs.declared.refusal.Refusal.TheVariants as refusals
+use Rattle.command_refusals.specs.declared.status.Status.{Status}
+use Rattle.command_refusals.specs.declared.status.Status.TheVariants as statuses
 use Rattle.command_input.specs.declared.said.Said.{Said}
 use Rattle.command_input.specs.declared.scenario.NoPlans.TheVariants.{Refused, IllFormed}
 use Rattle.command_input.specs.FilesLeft.{Files}

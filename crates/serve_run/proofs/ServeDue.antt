@@ -15,13 +15,13 @@ use Rattle.history_files.specs.Sound.{IsSound}
 use Rattle.engine_steps.specs.Engines.{EngineState, full_history}
 use Rattle.engine_steps.specs.declared.engines.Phase.{Phase}
 use Rattle.engine_steps.specs.declared.engines.Phase.TheVariants.{Settled}
-use Rattle.engine_runs.specs.Acknowledged.{IsOneAhead}
-use Rattle.engine_runs.specs.Opened.{AreKept, AreOnlyOpened}
-use Rattle.engine_runs.proofs.Opened.{are_kept}
-use Rattle.program_lines.specs.declared.refusal.Refusal.{Refusal}
-use Rattle.program_lines.specs.declared.refusal.Refusal.TheVariants.{NoMemory}
-use Rattle.program_lines.specs.declared.status.Status.{Status}
-use Rattle.program_lines.specs.declared.status.Status.TheVariants.{WriteFault}
+use Rattle.engine_calls.specs.Acknowledged.{IsOneAhead}
+use Rattle.engine_calls.specs.Opened.{AreKept, AreOnlyOpened}
+use Rattle.engine_calls.proofs.Opened.{are_kept}
+use Rattle.command_refusals.specs.declared.refusal.Refusal.{Refusal}
+use Rattle.command_refusals.specs.declared.refusal.Refusal.TheVariants.{NoMemory}
+use Rattle.command_refusals.specs.declared.status.Status.{Status}
+use Rattle.command_refusals.specs.declared.status.Status.TheVariants.{WriteFault}
 use Rattle.command_input.specs.declared.said.Said.{Said}
 use Rattle.command_input.specs.FilesLeft.{files}
 use Rattle.command_input.specs.Inputs.{input}

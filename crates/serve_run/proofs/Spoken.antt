@@ -14,10 +14,10 @@ use Rattle.process_core.specs.Answers.{after_call}
 use Rattle.process_core.specs.Cores.{IsCore}
 use Rattle.engine_steps.specs.Engines.{EngineState, full_history, with_core}
 use Rattle.engine_steps.specs.Opening.{IsOpened}
-use Rattle.engine_runs.specs.Runs.{GoesOn}
-use Rattle.engine_runs.proofs.Goes.{goes_then}
-use Rattle.program_lines.specs.declared.status.Status.{Status}
-use Rattle.program_lines.specs.declared.status.Status.TheVariants.{WriteFault}
+use Rattle.engine_calls.specs.Runs.{GoesOn}
+use Rattle.engine_calls.proofs.Goes.{goes_then}
+use Rattle.command_refusals.specs.declared.status.Status.{Status}
+use Rattle.command_refusals.specs.declared.status.Status.TheVariants.{WriteFault}
 use Rattle.command_input.specs.Outputs.{Output, output, IsTold}
 use Rattle.scenario_run.proofs.RunDue.{rose_later}
 use Rattle.driver_requests.specs.Readiness.{ready_text}

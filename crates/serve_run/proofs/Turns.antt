@@ -12,14 +12,14 @@ use Rattle.machine_model.specs.Replies.{Handed}
 use Rattle.process_core.specs.Cores.{CoreState}
 use Rattle.engine_steps.specs.Engines.{EngineState}
 use Rattle.engine_steps.specs.declared.engines.Phase.TheVariants.{Settled, Closed}
-use Rattle.engine_runs.specs.Runs.{GoesOn}
-use Rattle.engine_runs.proofs.Goes.{goes_none}
-use Rattle.program_lines.specs.declared.status.Status.{Status}
-use Rattle.program_lines.specs.declared.status.Status.TheVariants.{Done, DiskFault, NoMemory, ReadFault, WriteFault}
+use Rattle.engine_calls.specs.Runs.{GoesOn}
+use Rattle.engine_calls.proofs.Goes.{goes_none}
+use Rattle.command_refusals.specs.declared.status.Status.{Status}
+use Rattle.command_refusals.specs.declared.status.Status.TheVariants.{Done, DiskFault, NoMemory, ReadFault, WriteFault}
 use Rattle.command_input.specs.Outputs.{output, IsTold}
 use Rattle.driver_requests.specs.Answers.{bad_line_words}
-use Rattle.session_lines.specs.declared.cut.Cut.{Cut}
-use Rattle.session_lines.specs.declared.cut.Cut.TheVariants as cuts
+use Rattle.session_play.specs.declared.cut.Cut.{Cut}
+use Rattle.session_play.specs.declared.cut.Cut.TheVariants as cuts
 use Rattle.driver_requests.specs.Requests.{request_of}
 use Rattle.driver_answers.specs.Serving.{DriverState, IsLineAnswered, IsLineCut, LeadsTo}
 use Rattle.serve_run.specs.declared.faults.Fault.{Fault}

@@ -18,13 +18,13 @@ use Rattle.history_files.specs.Sound.{IsSound}
 use Rattle.engine_steps.specs.Engines.{EngineState, full_history}
 use Rattle.engine_steps.specs.declared.engines.Phase.{Phase}
 use Rattle.engine_steps.specs.declared.engines.Phase.TheVariants.{Settled, Closed}
-use Rattle.engine_runs.specs.Runs.{GoesOn}
-use Rattle.program_lines.specs.declared.refusal.Refusal.TheVariants as refusals
-use Rattle.program_lines.specs.declared.status.Status.{Status}
-use Rattle.program_lines.specs.declared.status.Status.TheVariants.{Done, DiskFault, NoMemory, ReadFault, WriteFault}
+use Rattle.engine_calls.specs.Runs.{GoesOn}
+use Rattle.command_refusals.specs.declared.refusal.Refusal.TheVariants as refusals
+use Rattle.command_refusals.specs.declared.status.Status.{Status}
+use Rattle.command_refusals.specs.declared.status.Status.TheVariants.{Done, DiskFault, NoMemory, ReadFault, WriteFault}
 use Rattle.command_input.specs.Outputs.{output, refusal_line, IsTold}
-use Rattle.session_lines.specs.declared.cut.Cut.{Cut}
-use Rattle.session_lines.specs.declared.cut.Cut.TheVariants as cuts
+use Rattle.session_play.specs.declared.cut.Cut.{Cut}
+use Rattle.session_play.specs.declared.cut.Cut.TheVariants as cuts
 use Rattle.driver_requests.specs.Answers.{bad_line_words}
 use Rattle.driver_requests.specs.Requests.{request_of}
 use Rattle.driver_answers.specs.Serving.{DriverState, IsLineAnswered, LeadsTo}

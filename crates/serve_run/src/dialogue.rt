@@ -4,17 +4,17 @@ ghost use Rattle.process_tree.specs.Order.{Each};
 ghost use Rattle.machine_model.specs.Replies.{Handed};
 ghost use Rattle.history_files.specs.Standing.{EachFits};
 ghost use Rattle.engine_steps.specs.Beginning.{IsPlanFor};
-ghost use Rattle.engine_runs.specs.Runs.{IsReady};
+ghost use Rattle.engine_calls.specs.Runs.{IsReady};
 ghost use Rattle.serve_run.specs.Dialogue.{state_at, IsDialogue};
 
 use crate::exchange::exchange;
 use crate::faults::{Fault, tell_fault};
+use command_refusals::Status;
 use line_reader::LineReader;
 use process_disk::Rack;
 use process_engine::Engine;
 use process_flow::{Sink, Source};
 use process_tree::Plan;
-use program_lines::Status;
 use resource_box::Resource;
 use std::alloc::Global;
 

@@ -7,9 +7,9 @@ ghost use Rattle.process_tree.specs.declared.plan.Plan.{Plan as Plan'};
 ghost use Rattle.process_text.specs.Canonical.{line_of};
 ghost use Rattle.history_files.specs.Standing.{EachFits};
 ghost use Rattle.engine_steps.specs.Beginning.{IsPlanFor};
-ghost use Rattle.engine_runs.specs.Runs.{GoesOn, IsReady};
-ghost use Rattle.session_lines.specs.Pieces.{AreHandedBy};
-ghost use Rattle.program_lines.specs.declared.status.Status.TheVariants.{NoMemory, WriteFault};
+ghost use Rattle.engine_calls.specs.Runs.{GoesOn, IsReady};
+ghost use Rattle.session_play.specs.Pieces.{AreHandedBy};
+ghost use Rattle.command_refusals.specs.declared.status.Status.TheVariants.{NoMemory, WriteFault};
 ghost use Rattle.command_input.specs.Outputs.{output, IsTold};
 ghost use Rattle.driver_requests.specs.Answers.{bad_line_words};
 ghost use Rattle.driver_answers.specs.Serving.{IsLineAnswered};
@@ -18,6 +18,7 @@ ghost use Rattle.serve_run.specs.Dialogue.{IsExchange, IsOver};
 
 use crate::faults::{Fault, fault_of, tell_fault};
 use crate::taking::{Next, next_line};
+use command_refusals::Status;
 use driver_answers::answer_line;
 use driver_requests::put_bad_line;
 use line_reader::LineReader;
@@ -26,7 +27,6 @@ use process_disk::Rack;
 use process_engine::Engine;
 use process_flow::{Sink, Source, write_all};
 use process_tree::Plan;
-use program_lines::Status;
 use resource_box::Resource;
 use std::alloc::{AllocError, Global};
 

@@ -4,9 +4,9 @@ ghost use Rattle.command_input.specs.Outputs.{output, IsTold};
 ghost use Rattle.serve_run.specs.Dialogue.{fault_line, fault_of, status_of};
 
 use command_input::tell;
+use command_refusals::Status;
 use driver_answers::Cut;
 use process_flow::Sink;
-use program_lines::Status;
 
 /// Why a dialogue ends before its last line. It has a line.
 #[derive(Clone, Copy, Debug, PartialEq, Eq)]

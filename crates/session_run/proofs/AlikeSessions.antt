@@ -32,16 +32,16 @@ use Rattle.engine_steps.specs.Engines.{full_history}
 use Rattle.process_engine.specs.Finishing.{outcome_of}
 use Rattle.engine_steps.specs.Pieces.{act_of, bars_act}
 use Rattle.process_engine.specs.declared.gates.Answer.{Answer as GateAnswer}
-use Rattle.engine_runs.specs.GateAnswers.{is_barred_in}
+use Rattle.engine_calls.specs.GateAnswers.{is_barred_in}
 use Rattle.process_report.specs.Lines.{Line as Words, text_of}
 use Rattle.process_report.specs.Report.{report_text}
 use Rattle.session_text.specs.Answers.{abort_words, admit_words, finish_words, next_lines, no_piece_words, no_process_words, no_refusal_words, not_started_words, started_words}
 use Rattle.session_text.specs.declared.line.Line.{Line}
 use Rattle.session_text.specs.declared.line.Line.TheVariants as lines
-use Rattle.session_lines.specs.Answering.{IsCopy}
+use Rattle.session_play.specs.Answering.{IsCopy}
 use Rattle.session_run.specs.Alike.{AreAlike, AreAlikeSessions, with_plans}
 use Rattle.scenario_run.specs.Reports.{cause_of, causes_in}
-use Rattle.session_lines.specs.Playing.{SessionState, Played, answer_of, called, finish_as, finish_piece, is_at, is_refused_end, just_began, play, play_abort, play_admit, play_next, play_show, play_start, reply_to_next, start_unless, stays, victim_of}
+use Rattle.session_play.specs.Playing.{SessionState, Played, answer_of, called, finish_as, finish_piece, is_at, is_refused_end, just_began, play, play_abort, play_admit, play_next, play_show, play_start, reply_to_next, start_unless, stays, victim_of}
 use Rattle.session_run.proofs.EqualPlans.{admit_same, effect_same, effects_same, equal_count, equal_push, finish_same, next_lines_same, report_same}
 
 -- the machine of a core with these courses in place of its own

@@ -5,14 +5,14 @@ use Rattle.process_tree.specs.declared.plan.Plan.{Plan}
 use Rattle.commute_table.specs.declared.catalog.Catalog.{Catalog}
 use Rattle.machine_model.specs.Replies.{Handed}
 use Rattle.process_core.specs.Cores.{CoreState}
-use Rattle.program_lines.specs.declared.status.Status.TheVariants.{Done}
+use Rattle.command_refusals.specs.declared.status.Status.TheVariants.{Done}
 use Rattle.session_text.specs.declared.line.Line.{Line}
-use Rattle.session_lines.specs.declared.cut.Cut.{Cut}
-use Rattle.session_lines.specs.declared.cut.Cut.TheVariants.{DiskFault, NoMemory}
+use Rattle.session_play.specs.declared.cut.Cut.{Cut}
+use Rattle.session_play.specs.declared.cut.Cut.TheVariants.{DiskFault, NoMemory}
 use Rattle.session_run.specs.Alike.{AreAlike, AreAlikeSessions}
-use Rattle.session_lines.specs.Answering.{IsAnswered, IsCopy, IsCut}
-use Rattle.session_lines.specs.Pieces.{session_of}
-use Rattle.session_lines.specs.Playing.{Played, SessionState, plan_for, play}
+use Rattle.session_play.specs.Answering.{IsAnswered, IsCopy, IsCut}
+use Rattle.session_play.specs.Pieces.{session_of}
+use Rattle.session_play.specs.Playing.{Played, SessionState, plan_for, play}
 use Rattle.session_run.specs.Playthrough.{begun_on, behind, fault_line, play_all, printed_by, status_of, HasAnswered, HasPlayed}
 use Rattle.session_run.proofs.AlikeSessions.{ComeToSame, play_same}
 use Rattle.session_run.proofs.EqualPlans.{equal_plans}

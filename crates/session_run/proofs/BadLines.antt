@@ -2,7 +2,7 @@
 use Rattle.std.proofs.Common.{◌≡◌, ◌∙◌, ℕ, List, Err, inl, inr, refl, sym, subst}
 use Rattle.process_tree.specs.declared.plan.Plan.{Plan}
 use Rattle.commute_table.specs.declared.catalog.Catalog.{Catalog}
-use Rattle.program_lines.specs.declared.refusal.Refusal.{Refusal}
+use Rattle.command_refusals.specs.declared.refusal.Refusal.{Refusal}
 use Rattle.command_input.specs.declared.scenario.NoPlans.{NoPlans}
 use Rattle.command_input.specs.declared.scenario.NoPlans.TheVariants.{Refused, IllFormed}
 use Rattle.command_input.specs.Inputs.{Input, IsWholeText}

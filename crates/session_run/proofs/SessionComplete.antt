@@ -5,10 +5,10 @@ use Rattle.process_tree.specs.declared.plan.Plan.{Plan}
 use Rattle.schedule_model.specs.declared.history.History.{History}
 use Rattle.commute_table.specs.declared.catalog.Catalog.{Catalog}
 use Rattle.history_opening.specs.Laws.{SoundFilesAreOpened}
-use Rattle.program_lines.specs.declared.refusal.Refusal.{Refusal}
-use Rattle.program_lines.specs.declared.refusal.Refusal.TheVariants as refusals
-use Rattle.program_lines.specs.declared.status.Status.{Status}
-use Rattle.program_lines.specs.declared.status.Status.TheVariants as statuses
+use Rattle.command_refusals.specs.declared.refusal.Refusal.{Refusal}
+use Rattle.command_refusals.specs.declared.refusal.Refusal.TheVariants as refusals
+use Rattle.command_refusals.specs.declared.status.Status.{Status}
+use Rattle.command_refusals.specs.declared.status.Status.TheVariants as statuses
 use Rattle.command_input.specs.declared.said.Said.{Said}
 use Rattle.command_input.specs.declared.scenario.NoPlans.TheVariants.{Refused, IllFormed}
 use Rattle.command_input.specs.FilesLeft.{Files}

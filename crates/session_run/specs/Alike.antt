@@ -3,7 +3,7 @@ use Rattle.std.specs.Prelude.{◌≡◌, List}
 use Rattle.process_tree.specs.declared.plan.Plan.{Plan}
 use Rattle.process_core.specs.Cores.{CoreState}
 use Rattle.process_journal.specs.Laws.{AreEqualInTurn}
-use Rattle.session_lines.specs.Playing.{SessionState}
+use Rattle.session_play.specs.Playing.{SessionState}
 
 -- a core with these plans in place of its own
 abbrev pub with_plans : CoreState → List Plan → CoreState

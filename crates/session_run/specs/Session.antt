@@ -8,12 +8,12 @@ use Rattle.commute_table.specs.declared.catalog.Catalog.{Catalog}
 use Rattle.process_core.specs.Cores.{CoreState, IsCore, opened_on}
 use Rattle.engine_steps.specs.declared.engines.Phase.{Phase}
 use Rattle.engine_steps.specs.declared.engines.Phase.TheVariants.{Settled, Closed}
-use Rattle.engine_runs.specs.Acknowledged.{IsOneAhead}
-use Rattle.engine_runs.specs.Opened.{AreKept, AreOnlyOpened}
-use Rattle.program_lines.specs.declared.refusal.Refusal.{Refusal}
-use Rattle.program_lines.specs.declared.refusal.Refusal.TheVariants.{BadLine, NoMemory}
-use Rattle.program_lines.specs.declared.status.Status.{Status}
-use Rattle.program_lines.specs.declared.status.Status.TheVariants as statuses
+use Rattle.engine_calls.specs.Acknowledged.{IsOneAhead}
+use Rattle.engine_calls.specs.Opened.{AreKept, AreOnlyOpened}
+use Rattle.command_refusals.specs.declared.refusal.Refusal.{Refusal}
+use Rattle.command_refusals.specs.declared.refusal.Refusal.TheVariants.{BadLine, NoMemory}
+use Rattle.command_refusals.specs.declared.status.Status.{Status}
+use Rattle.command_refusals.specs.declared.status.Status.TheVariants as statuses
 use Rattle.command_input.specs.declared.said.Said.{Said}
 use Rattle.command_input.specs.declared.scenario.NoPlans.{NoPlans}
 use Rattle.command_input.specs.declared.scenario.NoPlans.TheVariants.{Refused, IllFormed}

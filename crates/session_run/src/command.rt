@@ -7,8 +7,8 @@ ghost use Rattle.process_core.specs.Cores.{IsCore};
 ghost use Rattle.history_files.specs.Boxes.{AreBoxes};
 ghost use Rattle.history_files.specs.Standing.{EachFits};
 ghost use Rattle.engine_steps.specs.Beginning.{IsPlanFor};
-ghost use Rattle.engine_runs.specs.Runs.{GoesOn, IsReady};
-ghost use Rattle.program_lines.specs.declared.status.Status.TheVariants as statuses;
+ghost use Rattle.engine_calls.specs.Runs.{GoesOn, IsReady};
+ghost use Rattle.command_refusals.specs.declared.status.Status.TheVariants as statuses;
 ghost use Rattle.command_input.specs.Early.{comes_before_files};
 ghost use Rattle.command_input.specs.FilesLeft.{files};
 ghost use Rattle.command_input.specs.Inputs.{input};
@@ -18,13 +18,13 @@ ghost use Rattle.session_run.specs.Session.{lines_refusal, phase_by, IsNoSession
 
 use crate::playthrough::{FAULT_ROOM, play_lines};
 use command_input::{Bound, CommandEnd, NoPlans, Said, scenario_of, text_of};
+use command_refusals::{Refusal, Status};
 use commute_table::Catalog;
 use history_opening::sound_files_are_opened;
 use process_disk::Rack;
 use process_engine::{Engine, Parts};
 use process_flow::Source;
 use process_tree::Plan;
-use program_lines::{Refusal, Status};
 use resource_box::Resource;
 use scenario_run::{opened, said_of_none};
 use session_text::{Line, LinesError, divide, read_lines};

@@ -6,20 +6,20 @@ ghost use Rattle.process_tree.specs.declared.plan.Plan.{Plan};
 ghost use Rattle.history_files.specs.Standing.{EachFits};
 ghost use Rattle.engine_steps.specs.Beginning.{IsPlanFor};
 ghost use Rattle.engine_steps.specs.declared.engines.Phase.TheVariants as phase;
-ghost use Rattle.engine_runs.specs.Runs.{GoesOn, IsReady};
-ghost use Rattle.session_lines.specs.Answering.{IsAnswered, IsCopy, IsCut};
-ghost use Rattle.session_lines.specs.Pieces.{session_of, AreHandedBy};
-ghost use Rattle.session_lines.specs.Playing.{plan_for, play};
-ghost use Rattle.session_lines.specs.declared.cut.Cut.TheVariants.{DiskFault};
+ghost use Rattle.engine_calls.specs.Runs.{GoesOn, IsReady};
+ghost use Rattle.session_play.specs.Answering.{IsAnswered, IsCopy, IsCut};
+ghost use Rattle.session_play.specs.Pieces.{session_of, AreHandedBy};
+ghost use Rattle.session_play.specs.Playing.{plan_for, play};
+ghost use Rattle.session_play.specs.declared.cut.Cut.TheVariants.{DiskFault};
 ghost use Rattle.session_run.specs.Playthrough.{fault_line, status_of, HasPlayed};
 
+use command_refusals::Status;
 use process_core::Piece;
 use process_disk::Rack;
 use process_engine::Engine;
 use process_tree::Plan;
-use program_lines::Status;
 use resource_box::Resource;
-use session_lines::{Cut, play_line};
+use session_play::{Cut, play_line};
 use session_text::Line;
 use std::alloc::{AllocError, Global};
 

@@ -27,7 +27,7 @@ use Rattle.process_engine.specs.declared.gates.Answer.TheVariants.{Done, Refused
 use Rattle.process_engine.specs.declared.finishing.Finish.{Finish as EngineFinish}
 use Rattle.process_engine.specs.declared.finishing.Finish.TheVariants.{Effected, Retry, Failed, Over, Dropped, Exhausted, DiskFault, NoMemory, Closed}
 use Rattle.process_engine.proofs.BarredPieces.{reply_by}
-use Rattle.engine_runs.proofs.GateEnds.{by_effect, by_refusal}
+use Rattle.engine_calls.proofs.GateEnds.{by_effect, by_refusal}
 use Rattle.shared_engine.specs.declared.entries.FinishSaid.TheVariants as ended
 use Rattle.shared_engine.specs.declared.entries.TurnEntry.TheVariants.{Finish}
 use Rattle.shared_engine.specs.Entries.{IsEnded, finish_said, outcome_as}

@@ -13,8 +13,8 @@ use Rattle.machine_model.specs.Pieces.{piece_of, refusals}
 use Rattle.machine_model.specs.Replies.{Handed, refuse_by}
 use Rattle.process_core.specs.Answers.{after_call, answer_in}
 use Rattle.process_core.specs.Cores.{CoreState, IsHandedBy, courses_in}
-use Rattle.engine_runs.specs.GateAnswers.{IsHandedAs, kept_before}
-use Rattle.engine_runs.proofs.HandedPieces.{stays_handed}
+use Rattle.engine_calls.specs.GateAnswers.{IsHandedAs, kept_before}
+use Rattle.engine_calls.proofs.HandedPieces.{stays_handed}
 use Rattle.shared_engine.specs.declared.entries.NextSaid.{NextSaid}
 use Rattle.shared_engine.specs.declared.entries.NextSaid.TheVariants as asked
 use Rattle.shared_engine.specs.declared.entries.FinishSaid.{FinishSaid}

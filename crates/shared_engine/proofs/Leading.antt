@@ -20,8 +20,8 @@ use Rattle.process_engine.specs.Finishing.{Finishes, is_barred, outcome_of}
 use Rattle.process_engine.specs.declared.gates.Answer.{Answer}
 use Rattle.process_engine.specs.declared.finishing.Finish.{Finish as EngineFinish}
 use Rattle.process_engine.specs.declared.finishing.Finish.TheVariants as finished
-use Rattle.engine_runs.specs.Runs.{GoesOnAlone, IsReady}
-use Rattle.engine_runs.proofs.Goes.{goes_then}
+use Rattle.engine_calls.specs.Runs.{GoesOnAlone, IsReady}
+use Rattle.engine_calls.proofs.Goes.{goes_then}
 use Rattle.shared_engine.specs.declared.entries.NextSaid.TheVariants as asked
 use Rattle.shared_engine.specs.declared.entries.FinishSaid.TheVariants as ended
 use Rattle.shared_engine.specs.declared.entries.TurnEntry.{TurnEntry}

@@ -13,8 +13,8 @@ use Rattle.history_files.specs.Standing.{EachFits}
 use Rattle.engine_steps.specs.Engines.{EngineState, full_history}
 use Rattle.engine_steps.specs.declared.engines.Phase.{Phase}
 use Rattle.engine_steps.specs.declared.engines.Phase.TheVariants.{Settled, UnderWay, Closed}
-use Rattle.engine_runs.specs.Runs.{GoesOnAlone, IsReady}
-use Rattle.engine_runs.proofs.Goes.{goes_none}
+use Rattle.engine_calls.specs.Runs.{GoesOnAlone, IsReady}
+use Rattle.engine_calls.proofs.Goes.{goes_none}
 use Rattle.shared_engine.specs.declared.entries.TurnEntry.{TurnEntry}
 use Rattle.shared_engine.specs.Progress.{AreTold, progress}
 

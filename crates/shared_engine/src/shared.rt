@@ -4,13 +4,13 @@ ghost use Rattle.machine_model.specs.declared.kept.Work.TheVariants.{End};
 ghost use Rattle.process_core.specs.Cores.{IsHandedBy};
 ghost use Rattle.history_files.specs.Standing.{EachFits};
 ghost use Rattle.engine_steps.specs.Engines.{EngineState};
-ghost use Rattle.engine_runs.specs.GateAnswers.{IsGiven};
+ghost use Rattle.engine_calls.specs.GateAnswers.{IsGiven};
 ghost use Rattle.shared_engine.specs.declared.entries.TurnEntry.TheVariants as entry;
 ghost use Rattle.shared_engine.specs.Entries.{finish_said, lacks_memory, next_said};
 ghost use Rattle.shared_engine.specs.Shared.{AreOf, IsAtRest, StandsFor, opens};
 
 use crate::entries::TurnEntry;
-use engine_runs::{finish, next};
+use engine_calls::{finish, next};
 use history_lock::Held;
 use process_core::{Next, Piece};
 use process_disk::Rack;

@@ -3,7 +3,7 @@ ghost use Rattle.std.specs.Prelude.{◌≡◌, Some, IfOk};
 ghost use Rattle.machine_model.specs.declared.kept.Work.TheVariants.{End};
 ghost use Rattle.process_core.specs.Cores.{IsHandedBy};
 ghost use Rattle.history_lock.specs.Seats.{IsOf, opening, seen};
-ghost use Rattle.engine_runs.specs.GateAnswers.{IsGiven};
+ghost use Rattle.engine_calls.specs.GateAnswers.{IsGiven};
 ghost use Rattle.shared_engine.specs.declared.entries.TurnEntry.TheVariants as entry;
 ghost use Rattle.shared_engine.specs.Entries.{finish_said, next_said};
 ghost use Rattle.shared_engine.specs.Seats.{HasAdded, HasOpened, core_at, knowledge};

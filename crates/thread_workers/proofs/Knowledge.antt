@@ -8,7 +8,7 @@ use Rattle.resource_box.specs.Meaning.{Pairs}
 use Rattle.machine_model.specs.Replies.{Handed}
 use Rattle.process_engine.specs.declared.gates.Answer.{Answer}
 use Rattle.engine_steps.specs.Engines.{EngineState}
-use Rattle.engine_runs.specs.GateAnswers.{IsHandedAs}
+use Rattle.engine_calls.specs.GateAnswers.{IsHandedAs}
 use Rattle.worker_gate.specs.declared.alone.RunOutcome.{RunOutcome}
 use Rattle.history_lock.specs.declared.view.View.{View}
 use Rattle.shared_engine.specs.declared.entries.FinishSaid.{FinishSaid}

@@ -9,7 +9,7 @@ use Rattle.machine_model.specs.Replies.{Handed}
 use Rattle.process_core.specs.Cores.{CoreState}
 use Rattle.process_engine.specs.declared.gates.Answer.{Answer}
 use Rattle.process_engine.specs.declared.gates.Answer.TheVariants.{Done}
-use Rattle.engine_runs.specs.GateAnswers.{IsHandedAs}
+use Rattle.engine_calls.specs.GateAnswers.{IsHandedAs}
 use Rattle.worker_gate.specs.declared.alone.RunOutcome.{RunOutcome}
 use Rattle.worker_gate.specs.declared.alone.RunOutcome.TheVariants.{AllEnded, Stuck, DiskFault, NoMemory}
 use Rattle.history_lock.specs.declared.view.View.{View}

@@ -3,7 +3,7 @@ ghost use Rattle.std.specs.Prelude.{◌≡◌, ◌≢◌, ◌≤◌, Some, vec_l
 ghost use Rattle.process_flow.specs.Causes.{Rose};
 ghost use Rattle.history_files.specs.Standing.{EachFits};
 ghost use Rattle.engine_steps.specs.declared.engines.Phase.TheVariants as phase;
-ghost use Rattle.engine_runs.specs.Runs.{IsReady};
+ghost use Rattle.engine_calls.specs.Runs.{IsReady};
 ghost use Rattle.worker_gate.specs.Running.{IsOutcome};
 ghost use Rattle.thread_workers.specs.History.{IsOneHistory};
 

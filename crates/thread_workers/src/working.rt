@@ -2,7 +2,7 @@
 ghost use Rattle.std.specs.Prelude.{◌≡◌, ℕ, IfSome, Some};
 ghost use Rattle.machine_model.specs.declared.kept.Work.TheVariants.{End};
 ghost use Rattle.process_engine.specs.declared.gates.Answer.{Answer as Answer'};
-ghost use Rattle.engine_runs.specs.GateAnswers.{IsHandedAs};
+ghost use Rattle.engine_calls.specs.GateAnswers.{IsHandedAs};
 ghost use Rattle.history_lock.specs.Seats.{IsOf, opening, places, seen, share};
 ghost use Rattle.shared_engine.specs.declared.entries.TurnEntry.TheVariants as entry;
 ghost use Rattle.shared_engine.specs.Entries.{finish_said};

@@ -29,8 +29,8 @@ use Rattle.process_engine.specs.Finishing.{Finishes}
 use Rattle.process_engine.specs.declared.finishing.Finish.{Finish}
 use Rattle.process_engine.specs.declared.finishing.Finish.TheVariants.{Effected, Retry, Failed, Over, Dropped, Exhausted, DiskFault, NoMemory, Closed}
 use Rattle.process_engine.proofs.BarredPieces.{reply_by}
-use Rattle.engine_runs.specs.Runs.{GoesOn}
-use Rattle.engine_runs.proofs.GateEnds.{kept_by, kept_of}
+use Rattle.engine_calls.specs.Runs.{GoesOn}
+use Rattle.engine_calls.proofs.GateEnds.{kept_by, kept_of}
 use Rattle.worker_gate.specs.Running.{NothingRuns, failure_of}
 use Rattle.worker_gate.specs.declared.alone.RunOutcome.TheVariants as outcomes
 use Rattle.worker_gate.proofs.AloneReplies.{kept_next}

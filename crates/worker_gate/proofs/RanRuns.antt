@@ -30,11 +30,11 @@ use Rattle.engine_steps.specs.declared.engines.Phase.TheVariants as phase
 use Rattle.process_engine.specs.declared.finishing.Finish.{Finish}
 use Rattle.process_engine.specs.declared.finishing.Finish.TheVariants.{Effected, Retry, Failed, Over, Dropped, Exhausted, DiskFault, NoMemory, Closed}
 use Rattle.process_engine.specs.declared.gates.Answer.{Answer}
-use Rattle.engine_runs.specs.GateAnswers.{GateCounts, IsByGate, count_after, is_step_hand, kept_since, steps_handed}
-use Rattle.engine_runs.specs.Runs.{GoesOnAlone}
-use Rattle.engine_runs.proofs.GateEnds.{kept_by, kept_of}
-use Rattle.engine_runs.proofs.GateRuns.{EndsNone, by_gate_none, by_gate_then, gate_from, kept_is}
-use Rattle.engine_runs.proofs.Goes.{goes_none, goes_then}
+use Rattle.engine_calls.specs.GateAnswers.{GateCounts, IsByGate, count_after, is_step_hand, kept_since, steps_handed}
+use Rattle.engine_calls.specs.Runs.{GoesOnAlone}
+use Rattle.engine_calls.proofs.GateEnds.{kept_by, kept_of}
+use Rattle.engine_calls.proofs.GateRuns.{EndsNone, by_gate_none, by_gate_then, gate_from, kept_is}
+use Rattle.engine_calls.proofs.Goes.{goes_none, goes_then}
 use Rattle.worker_gate.specs.Running.{AreTurns, IsAskedOnce, IsOfRunning, IsTurn, RanBy}
 use Rattle.worker_gate.proofs.AloneReplies.{kept_next}
 

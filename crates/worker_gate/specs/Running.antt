@@ -16,8 +16,8 @@ use Rattle.engine_steps.specs.Engines.{EngineState}
 use Rattle.engine_steps.specs.declared.engines.Phase.TheVariants as phase
 use Rattle.process_engine.specs.declared.finishing.Finish.{Finish}
 use Rattle.process_engine.specs.declared.finishing.Finish.TheVariants as finished
-use Rattle.engine_runs.specs.GateAnswers.{AskedGate, IsByGate, count_after, kept_since, steps_handed}
-use Rattle.engine_runs.specs.Runs.{GoesOnAlone}
+use Rattle.engine_calls.specs.GateAnswers.{AskedGate, IsByGate, count_after, kept_since, steps_handed}
+use Rattle.engine_calls.specs.Runs.{GoesOnAlone}
 use Rattle.worker_gate.specs.declared.alone.RunOutcome.{RunOutcome}
 use Rattle.worker_gate.specs.declared.alone.RunOutcome.TheVariants.{AllEnded, Stuck, DiskFault, NoMemory}
 

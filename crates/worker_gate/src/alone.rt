@@ -2,11 +2,11 @@
 ghost use Rattle.std.specs.Prelude.{◌≡◌, ◌≢◌, ◌<◌, length, IfSome, Some, None};
 ghost use Rattle.process_flow.specs.Causes.{Rose};
 ghost use Rattle.history_files.specs.Standing.{EachFits};
-ghost use Rattle.engine_runs.specs.GateAnswers.{asked};
-ghost use Rattle.engine_runs.specs.Runs.{IsReady};
+ghost use Rattle.engine_calls.specs.GateAnswers.{asked};
+ghost use Rattle.engine_calls.specs.Runs.{IsReady};
 ghost use Rattle.worker_gate.specs.Running.{IsOutcome, NothingRuns, RanBy, failure_of};
 
-use engine_runs::{next, work};
+use engine_calls::{next, work};
 use process_core::Next;
 use process_disk::Rack;
 use process_engine::{Engine, Finish, Gate};

@@ -3,7 +3,7 @@ use Rattle.process_disk.specs.Disk.{Same}
 use Rattle.process_disk.proofs.Images.{run_none}
 use Rattle.command_input.specs.FilesLeft.{files}
 use Rattle.command_input.specs.Scenarios.{IsNotBound}
-use Rattle.engine_runs.specs.GateAnswers.{asked}
+use Rattle.engine_calls.specs.GateAnswers.{asked}
 use Rattle.scenario_gen.specs.Generated.{generated}
 use Rattle.scenario_run.proofs.SaidOfNone.{said_of}
 use Rattle.scenario_run.proofs.ScenarioPlans.{bound_few, bound_start}

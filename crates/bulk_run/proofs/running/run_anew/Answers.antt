@@ -2,7 +2,7 @@ use Rattle.std.proofs.Common.{sym, subst, inl}
 use Rattle.process_tree.specs.Order.{Each}
 use Rattle.schedule_model.specs.Laws.{IsGoodPlan}
 use Rattle.engine_steps.specs.Beginning.{IsPlanFor}
-use Rattle.engine_runs.specs.GateAnswers.{asked}
+use Rattle.engine_calls.specs.GateAnswers.{asked}
 use Rattle.bulk_run.proofs.MadeAnew.{is_opened, nobody_active, run_anew_due}
 use Rattle.bulk_run.proofs.running.run_anew.Goals as goal
 

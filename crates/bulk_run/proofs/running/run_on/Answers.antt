@@ -1,8 +1,8 @@
 use Rattle.std.proofs.Common.{◌≡◌, ◌∙◌, [], inl, inr, ⊎_elim}
 use Rattle.engine_steps.specs.declared.engines.Phase.TheVariants.{Settled}
 use Rattle.engine_steps.specs.Engines.{full_history}
-use Rattle.engine_runs.specs.GateAnswers.{asked, counts_of}
-use Rattle.engine_runs.proofs.Goes.{goes_none, goes_then}
+use Rattle.engine_calls.specs.GateAnswers.{asked, counts_of}
+use Rattle.engine_calls.proofs.Goes.{goes_none, goes_then}
 use Rattle.scenario_run.specs.Run.{HasGone}
 use Rattle.scenario_run.proofs.Causes.{so_ok}
 use Rattle.scenario_run.proofs.Gone.{gone_run, gone_started}

@@ -1,7 +1,7 @@
 use Rattle.std.proofs.Common.{List, ◌++◌, length}
 use Rattle.std.specs.Vec.Iter.{into_iter_items}
 use Rattle.process_tree.specs.declared.plan.Plan.{Plan}
-use Rattle.program_lines.specs.declared.refusal.Refusal.{Refusal}
+use Rattle.command_refusals.specs.declared.refusal.Refusal.{Refusal}
 use Rattle.command_input.specs.Scenarios.{ArePlansOf, AreNoPlans}
 use Rattle.command_input.proofs.scenario.plans_of.Given as goal
 

@@ -2,11 +2,11 @@ use Rattle.std.proofs.Common.{◌≡◌, ◌∙◌, ◌⊎◌, List, [], ◌∷�
 use Rattle.process_tree.specs.declared.plan.Plan.{Plan}
 use Rattle.command_input.specs.Scenarios.{AreGoodPlans}
 use Rattle.machine_model.specs.Replies.{Handed}
-use Rattle.session_lines.specs.Pieces.{AreHandedBy, session_of}
-use Rattle.session_lines.specs.Playing.{play_start}
-use Rattle.session_lines.specs.declared.cut.Cut.TheVariants.{DiskFault, NoMemory}
-use Rattle.session_lines.proofs.AskedPieces.{all_stay}
-use Rattle.session_lines.proofs.Outcomes.{err_map, ok_map, on_ok}
+use Rattle.session_play.specs.Pieces.{AreHandedBy, session_of}
+use Rattle.session_play.specs.Playing.{play_start}
+use Rattle.session_play.specs.declared.cut.Cut.TheVariants.{DiskFault, NoMemory}
+use Rattle.session_play.proofs.AskedPieces.{all_stay}
+use Rattle.session_play.proofs.Outcomes.{err_map, ok_map, on_ok}
 use Rattle.driver_requests.specs.Requests.{request_of}
 use Rattle.driver_requests.specs.declared.request.Request.TheVariants.{StartSpelled}
 use Rattle.driver_answers.specs.Serving.{IsLineAnswered, IsLineCut, IsSpelledAnswered}

@@ -1,10 +1,10 @@
 use Rattle.std.proofs.Common.{◌≡◌, ◌∙◌, List, Some, subst}
-use Rattle.engine_runs.proofs.Goes.{goes_none}
+use Rattle.engine_calls.proofs.Goes.{goes_none}
 use Rattle.machine_model.specs.Replies.{Handed}
-use Rattle.session_lines.specs.Answering.{IsAnswered, IsCut}
-use Rattle.session_lines.specs.Pieces.{session_of}
-use Rattle.session_lines.specs.Playing.{play_start}
-use Rattle.session_lines.proofs.Outcomes.{err_map, ok_map}
+use Rattle.session_play.specs.Answering.{IsAnswered, IsCut}
+use Rattle.session_play.specs.Pieces.{session_of}
+use Rattle.session_play.specs.Playing.{play_start}
+use Rattle.session_play.proofs.Outcomes.{err_map, ok_map}
 use Rattle.driver_answers.proofs.spelled.start_named.Goals as goal
 
 pub returns-in_err-name-clause-goes : goal.returns-in_err-name-clause-goes

@@ -3,13 +3,13 @@ use Rattle.process_tree.specs.declared.plan.Plan.{Plan}
 use Rattle.process_text.specs.Canonical.{line_of}
 use Rattle.commute_table.specs.declared.catalog.Catalog.{Catalog}
 use Rattle.command_input.specs.Scenarios.{AreGoodPlans}
-use Rattle.engine_runs.proofs.Goes.{goes_none}
+use Rattle.engine_calls.proofs.Goes.{goes_none}
 use Rattle.machine_model.specs.Replies.{Handed}
-use Rattle.session_lines.specs.Answering.{IsAnswered}
-use Rattle.session_lines.specs.Pieces.{session_of}
-use Rattle.session_lines.specs.Playing.{play_start}
-use Rattle.session_lines.specs.declared.cut.Cut.TheVariants.{DiskFault, NoMemory}
-use Rattle.session_lines.proofs.Outcomes.{err_map, ok_map}
+use Rattle.session_play.specs.Answering.{IsAnswered}
+use Rattle.session_play.specs.Pieces.{session_of}
+use Rattle.session_play.specs.Playing.{play_start}
+use Rattle.session_play.specs.declared.cut.Cut.TheVariants.{DiskFault, NoMemory}
+use Rattle.session_play.proofs.Outcomes.{err_map, ok_map}
 use Rattle.driver_requests.specs.Answers.{bad_line_words}
 use Rattle.driver_answers.specs.Serving.{IsSpelledAnswered}
 use Rattle.driver_answers.proofs.SpelledStarts.{good_start, only_is_one, spelled_cut, spelled_started}

@@ -1,8 +1,8 @@
 use Rattle.std.proofs.Common.{◌≡◌, ◌≤◌, [], ap, length, refl, Some, arith}
 use Rattle.process_core.specs.Room.{room_of}
 use Rattle.engine_steps.specs.Engines.{full_history}
-use Rattle.engine_runs.specs.GateAnswers.{asked, counts_of}
-use Rattle.engine_runs.proofs.Goes.{goes_then}
+use Rattle.engine_calls.specs.GateAnswers.{asked, counts_of}
+use Rattle.engine_calls.proofs.Goes.{goes_then}
 use Rattle.worker_gate.proofs.AloneTurns.{room_same, within_room}
 use Rattle.process_restart.proofs.TurnByTurn.{completed_is, completing, first_turn, next_alike, outcome_alike, plans_are}
 use Rattle.process_restart.proofs.Turns.{turns_none, turns_then}

@@ -1,7 +1,7 @@
 use Rattle.std.proofs.Common.{◌+◌, ◌-◌, length}
 use Rattle.process_core.specs.Cores.{IsCore}
 use Rattle.process_core.specs.Room.{room_of}
-use Rattle.engine_runs.specs.GateAnswers.{asked}
+use Rattle.engine_calls.specs.GateAnswers.{asked}
 use Rattle.process_restart.specs.Turns.{IsAtTurn, RanInTurn}
 use Rattle.process_restart.proofs.completing.complete.Given as goal
 

@@ -2,7 +2,7 @@ use Rattle.std.proofs.Common.{◌∙◌, ◌+◌, ⊎_elim, ap, subst, sym}
 use Rattle.process_core.specs.Cores.{history_of}
 use Rattle.process_core.specs.declared.replies.Admit.TheVariants as admits
 use Rattle.engine_steps.specs.Engines.{EngineState}
-use Rattle.engine_runs.specs.GateAnswers.{counts_of}
+use Rattle.engine_calls.specs.GateAnswers.{counts_of}
 use Rattle.process_restart.specs.Completing.{IsHeldUpBy}
 use Rattle.process_restart.specs.Turns.{IsAsked, IsAtTurn}
 use Rattle.process_restart.proofs.Asked.{asked}

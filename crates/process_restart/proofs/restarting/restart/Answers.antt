@@ -3,7 +3,7 @@ use Rattle.process_restart.specs.declared.completing.Completion.TheVariants as e
 use Rattle.history_opening.specs.declared.faults.OpenError.TheVariants as errors
 use Rattle.engine_steps.specs.Engines.{full_history}
 use Rattle.engine_steps.specs.declared.engines.Phase.TheVariants.{Settled, Closed}
-use Rattle.engine_runs.specs.GateAnswers.{asked}
+use Rattle.engine_calls.specs.GateAnswers.{asked}
 use Rattle.process_restart.specs.Restarting.{IsRestart}
 use Rattle.process_restart.proofs.RestartedFiles.{handed_back, later_then, restart_is}
 use Rattle.process_restart.proofs.restarting.restart.Goals as goal

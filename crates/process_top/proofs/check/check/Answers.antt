@@ -1,6 +1,6 @@
 use Rattle.std.proofs.Common.{rules, ◌≡◌, if◌then◌else◌}
-use Rattle.program_lines.specs.declared.status.Status.TheVariants.{Done, IllFormed}
-use Rattle.program_lines.specs.Verdicts.{AreLines}
+use Rattle.command_refusals.specs.declared.status.Status.TheVariants.{Done, IllFormed}
+use Rattle.command_refusals.specs.Verdicts.{AreLines}
 use Rattle.process_top.proofs.Saying.{check_says}
 use Rattle.process_top.proofs.check.check.Goals as goal
 use Rattle.process_top.proofs.check.check.Goals.{then-any, else-any}

@@ -2,7 +2,7 @@ use Rattle.std.proofs.Common.{◌≡◌, ap}
 use Rattle.std.proofs.lemmas.Result.{IfOk-weaker}
 use Rattle.std.specs.Prelude.{map, string_bytes}
 use Rattle.process_disk.specs.Disk.{Told}
-use Rattle.program_lines.specs.declared.status.Status.TheVariants.{Done}
+use Rattle.command_refusals.specs.declared.status.Status.TheVariants.{Done}
 use Rattle.restart_run.specs.Boxes.{HaveValuesOf}
 use Rattle.process_top.specs.Worlds.{BoxState, boxes, gates, output, world}
 use Rattle.process_top.proofs.BoxKinds.{told_are_boxes}

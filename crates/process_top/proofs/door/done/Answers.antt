@@ -3,17 +3,17 @@ use Rattle.std.specs.Prelude.{Some}
 use Rattle.std.proofs.lemmas.Result.{IfOk-weaker}
 use Rattle.process_disk.specs.Disk.{Told}
 use Rattle.program_words.specs.declared.reading.Command.TheVariants.{Run, Restart, Bulk}
-use Rattle.program_lines.specs.declared.status.Status.TheVariants.{Done}
+use Rattle.command_refusals.specs.declared.status.Status.TheVariants.{Done}
 use Rattle.restart_run.specs.Boxes.{HaveValuesOf}
 use Rattle.command_input.specs.Inputs.{input}
 use Rattle.command_input.specs.FilesLeft.{files}
-use Rattle.engine_runs.specs.GateAnswers.{AskedGate}
+use Rattle.engine_calls.specs.GateAnswers.{AskedGate}
 use Rattle.process_top.specs.Said.{Says}
 use Rattle.process_top.specs.Commands.{IsDueTo}
 use Rattle.process_top.specs.Worlds.{output}
 use Rattle.process_top.proofs.GatesAsked.{first_asked}
 use Rattle.process_top.proofs.Saying.{bulk_says, init_says, restart_says, run_says, says_so, serve_says, session_says}
-use Rattle.process_setup.proofs.FilesMade.{untouched}
+use Rattle.init_run.proofs.FilesMade.{untouched}
 use Rattle.process_top.proofs.door.done.Goals as goal
 
 pub returns-in-Check-clause-due : goal.returns-in-Check-clause-due

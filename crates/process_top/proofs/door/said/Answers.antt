@@ -3,7 +3,7 @@ use Rattle.std.specs.Prelude.{map, string_bytes}
 use Rattle.program_words.specs.Commands.{asked}
 use Rattle.command_input.specs.Inputs.{Input, input}
 use Rattle.command_input.specs.FilesLeft.{Files, files}
-use Rattle.process_setup.proofs.FilesMade.{untouched}
+use Rattle.init_run.proofs.FilesMade.{untouched}
 use Rattle.process_top.proofs.Due.{no_words_due}
 use Rattle.process_top.proofs.door.said.Goals as goal
 

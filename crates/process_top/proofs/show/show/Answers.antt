@@ -1,5 +1,5 @@
 use Rattle.std.proofs.Common.{◌≡◌, rules, Err, refl}
-use Rattle.program_lines.specs.declared.refusal.Refusal.TheVariants.{NoMemory}
+use Rattle.command_refusals.specs.declared.refusal.Refusal.TheVariants.{NoMemory}
 use Rattle.process_top.specs.Replies.{shown}
 use Rattle.command_input.specs.FilesLeft.{files}
 use Rattle.process_top.proofs.Saying.{is_planned, no_memory_shown}

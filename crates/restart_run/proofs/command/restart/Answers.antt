@@ -4,8 +4,8 @@ use Rattle.process_disk.specs.Disk.{Told}
 use Rattle.subsystem_store.specs.Opened.{Opened}
 use Rattle.history_files.specs.Boxes.{AreBoxes}
 use Rattle.engine_steps.specs.Engines.{full_history}
-use Rattle.engine_runs.specs.GateAnswers.{asked}
-use Rattle.program_lines.specs.declared.status.Status.TheVariants.{Done}
+use Rattle.engine_calls.specs.GateAnswers.{asked}
+use Rattle.command_refusals.specs.declared.status.Status.TheVariants.{Done}
 use Rattle.command_input.specs.FilesLeft.{files}
 use Rattle.scenario_run.specs.Opening.{open_refusal}
 use Rattle.restart_run.specs.Boxes.{HaveValuesOf}

@@ -3,7 +3,7 @@ use Rattle.process_disk.specs.Disk.{Same}
 use Rattle.process_disk.proofs.Images.{run_none}
 use Rattle.command_input.specs.FilesLeft.{files}
 use Rattle.command_input.specs.Inputs.{input}
-use Rattle.engine_runs.specs.GateAnswers.{asked}
+use Rattle.engine_calls.specs.GateAnswers.{asked}
 use Rattle.scenario_run.proofs.Complete.{due_is_complete}
 use Rattle.scenario_run.proofs.ScenarioPlans.{bound_few, bound_start}
 use Rattle.scenario_run.specs.Scenario.{IsNoScenarioRead}

@@ -2,7 +2,7 @@ use Rattle.std.proofs.Common.{sym, subst}
 use Rattle.process_tree.specs.Order.{Each}
 use Rattle.schedule_model.specs.Laws.{IsGoodPlan}
 use Rattle.engine_steps.specs.Beginning.{IsPlanFor}
-use Rattle.engine_runs.specs.GateAnswers.{asked}
+use Rattle.engine_calls.specs.GateAnswers.{asked}
 use Rattle.scenario_run.proofs.RunDue.{run_of}
 use Rattle.scenario_run.proofs.running.run_bound.Goals as goal
 

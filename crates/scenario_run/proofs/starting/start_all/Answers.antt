@@ -5,8 +5,8 @@ use Rattle.process_tree.specs.declared.plan.Plan.{Plan}
 use Rattle.schedule_model.specs.Laws.{IsGoodPlan}
 use Rattle.engine_steps.specs.Beginning.{IsPlanFor}
 use Rattle.process_engine.specs.Fitting.{limit_passed}
-use Rattle.engine_runs.specs.Acknowledged.{IsOneOf}
-use Rattle.engine_runs.proofs.Goes.{goes_none, goes_then}
+use Rattle.engine_calls.specs.Acknowledged.{IsOneOf}
+use Rattle.engine_calls.proofs.Goes.{goes_none, goes_then}
 use Rattle.scenario_run.proofs.Fitting.{first_starts, others_fit}
 use Rattle.scenario_run.proofs.OneOf.{stands_among}
 use Rattle.scenario_run.proofs.Starts.{none_started, one_more_started}

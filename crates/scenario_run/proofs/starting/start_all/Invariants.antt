@@ -5,7 +5,7 @@ use Rattle.process_tree.specs.declared.plan.Plan.{Plan}
 use Rattle.schedule_model.specs.Laws.{IsGoodPlan}
 use Rattle.engine_steps.specs.Beginning.{IsPlanFor}
 use Rattle.process_engine.specs.Fitting.{limit_passed}
-use Rattle.engine_runs.specs.Runs.{GoesOn, IsReady}
+use Rattle.engine_calls.specs.Runs.{GoesOn, IsReady}
 use Rattle.scenario_run.specs.Starting.{with_started}
 use Rattle.scenario_run.proofs.starting.start_all.Given as goal
 

@@ -1,6 +1,6 @@
 use Rattle.std.proofs.Common.{◌∙◌, [], ap, refl, subst}
 use Rattle.std.specs.Io.KnownBytes.{Appends}
-use Rattle.program_lines.specs.declared.status.Status.TheVariants.{WriteFault}
+use Rattle.command_refusals.specs.declared.status.Status.TheVariants.{WriteFault}
 use Rattle.command_input.specs.Outputs.{output, IsTold}
 use Rattle.driver_requests.specs.Readiness.{ready_text}
 use Rattle.serve_run.specs.Dialogue.{IsBetween, state_at}

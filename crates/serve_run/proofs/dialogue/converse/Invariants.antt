@@ -1,8 +1,8 @@
 use Rattle.std.proofs.Common.{List, []}
 use Rattle.process_tree.specs.Order.{Each}
 use Rattle.engine_steps.specs.Beginning.{IsPlanFor}
-use Rattle.engine_runs.specs.Runs.{IsReady}
-use Rattle.session_lines.specs.Pieces.{AreHandedBy}
+use Rattle.engine_calls.specs.Runs.{IsReady}
+use Rattle.session_play.specs.Pieces.{AreHandedBy}
 use Rattle.serve_run.specs.Dialogue.{AreExchanged, Exchange, IsBetween, state_at}
 use Rattle.serve_run.proofs.dialogue.converse.Given as goal
 

@@ -1,8 +1,8 @@
 use Rattle.std.proofs.Common.{◌≡◌, ◌∙◌, Err, IfSome, inl, refl, sym, subst}
 use Rattle.process_flow.specs.Causes.{Rose}
-use Rattle.program_lines.specs.declared.status.Status.TheVariants.{WriteFault}
+use Rattle.command_refusals.specs.declared.status.Status.TheVariants.{WriteFault}
 use Rattle.command_input.specs.Outputs.{output, IsTold}
-use Rattle.session_lines.specs.declared.cut.Cut.TheVariants.{DiskFault}
+use Rattle.session_play.specs.declared.cut.Cut.TheVariants.{DiskFault}
 use Rattle.driver_answers.specs.Serving.{DriverState}
 use Rattle.serve_run.specs.Dialogue.{fault_line, status_of}
 use Rattle.serve_run.proofs.Turns.{cut_amid, given_amid}

@@ -1,4 +1,4 @@
-use Rattle.engine_runs.proofs.Goes.{goes_none}
+use Rattle.engine_calls.proofs.Goes.{goes_none}
 use Rattle.session_run.proofs.command.said_on.Goals as goal
 
 pub returns-in_err-reserve-clause-goes : goal.returns-in_err-reserve-clause-goes

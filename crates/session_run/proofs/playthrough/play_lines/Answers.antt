@@ -1,10 +1,10 @@
 use Rattle.std.proofs.Common.{◌∙◌, ◌++◌, ◌-◌, [], length, take, drop, ap, subst, sym}
 use Rattle.process_tree.specs.Order.{Each}
 use Rattle.engine_steps.specs.Beginning.{IsPlanFor}
-use Rattle.engine_runs.proofs.Goes.{goes_none, goes_then}
-use Rattle.session_lines.specs.Answering.{IsAnswered, IsCut}
-use Rattle.session_lines.specs.Pieces.{AreHandedBy, session_of}
-use Rattle.session_lines.specs.Playing.{play}
+use Rattle.engine_calls.proofs.Goes.{goes_none, goes_then}
+use Rattle.session_play.specs.Answering.{IsAnswered, IsCut}
+use Rattle.session_play.specs.Pieces.{AreHandedBy, session_of}
+use Rattle.session_play.specs.Playing.{play}
 use Rattle.session_run.specs.Playthrough.{fault_line, status_of, HasAnswered, HasPlayed}
 use Rattle.session_run.proofs.AnsweredLines.{answered_more, answered_none, parted, played_cut}
 use Rattle.session_run.proofs.playthrough.play_lines.Goals as goal

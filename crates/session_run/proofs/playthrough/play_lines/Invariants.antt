@@ -2,9 +2,9 @@ use Rattle.std.proofs.Common.{◌≤◌, ◌+◌, length, vec_capacity, vec_len}
 use Rattle.process_tree.specs.Order.{Each}
 use Rattle.process_core.specs.Cores.{IsCore}
 use Rattle.engine_steps.specs.Beginning.{IsPlanFor}
-use Rattle.engine_runs.specs.Runs.{GoesOn, IsReady}
+use Rattle.engine_calls.specs.Runs.{GoesOn, IsReady}
 use Rattle.session_run.specs.Playthrough.{HasAnswered}
-use Rattle.session_lines.specs.Pieces.{AreHandedBy}
+use Rattle.session_play.specs.Pieces.{AreHandedBy}
 use Rattle.session_run.proofs.playthrough.play_lines.Given as goal
 
 -- the lines before those that are left are answered

@@ -1,6 +1,6 @@
 use Rattle.std.proofs.Common.{◌∙◌, [], ◌∷◌, ◌++◌, IfOk, ap, sym, subst}
 use Rattle.history_files.specs.Standing.{EachFits}
-use Rattle.engine_runs.specs.GateAnswers.{IsGiven}
+use Rattle.engine_calls.specs.GateAnswers.{IsGiven}
 use Rattle.shared_engine.specs.declared.entries.TurnEntry.TheVariants as entry
 use Rattle.shared_engine.specs.Entries.{next_said}
 use Rattle.shared_engine.specs.Seats.{HasAdded, core_at}

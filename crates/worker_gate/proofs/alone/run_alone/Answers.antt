@@ -1,5 +1,5 @@
 use Rattle.std.proofs.Common.{◌≡◌, ◌<◌, ◌≤◌, Some, [], length, ap, refl, arith}
-use Rattle.engine_runs.specs.GateAnswers.{counts_of}
+use Rattle.engine_calls.specs.GateAnswers.{counts_of}
 use Rattle.process_core.specs.Room.{room_of}
 use Rattle.worker_gate.proofs.AloneTurns.{room_same, within_room}
 use Rattle.worker_gate.proofs.RanRuns.{ran_none, ran_then}

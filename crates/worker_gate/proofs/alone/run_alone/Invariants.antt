@@ -1,8 +1,8 @@
 use Rattle.std.proofs.Common.{◌-◌, length}
 use Rattle.process_core.specs.Cores.{IsCore}
 use Rattle.process_core.specs.Room.{room_of}
-use Rattle.engine_runs.specs.GateAnswers.{asked}
-use Rattle.engine_runs.specs.Runs.{IsReady}
+use Rattle.engine_calls.specs.GateAnswers.{asked}
+use Rattle.engine_calls.specs.Runs.{IsReady}
 use Rattle.worker_gate.specs.Running.{NothingRuns, RanBy}
 use Rattle.worker_gate.proofs.alone.run_alone.Given as goal
 

@@ -6,7 +6,7 @@ use Rattle.engine_steps.specs.Engines.{EngineState}
 use Rattle.worker_gate.specs.declared.alone.RunOutcome.TheVariants.{DiskFault}
 use Rattle.worker_gate.proofs.AloneReplies.{all_have_ended, alone_out, no_wait_alone, stuck_again, stuck_stays}
 use Rattle.worker_gate.proofs.AloneTurns.{idle_after, no_fault}
-use Rattle.engine_runs.specs.GateAnswers.{counts_of}
+use Rattle.engine_calls.specs.GateAnswers.{counts_of}
 use Rattle.worker_gate.proofs.RanRuns.{ran_next, ran_turn}
 use Rattle.worker_gate.proofs.alone.turn.Goals as goal
 

@@ -1,0 +1,18 @@
+use Rattle.std.proofs.Common.{ap}
+use Rattle.machine_model.specs.Calls.{next}
+use Rattle.process_core.specs.Answers.{after_call}
+use Rattle.engine_steps.specs.Engines.{EngineState}
+use Rattle.engine_steps.proofs.SameHistory.{next_same}
+use Rattle.engine_calls.proofs.Ends.{called_goes, still_ready}
+use Rattle.engine_calls.proofs.HandedPieces.{given}
+use Rattle.engine_calls.proofs.calls.next.Goals as goal
+
+pub returns-clause-given : goal.returns-clause-given
+returns-clause-given g c = given c.args.engine.now.core c.next.new.self.core c.invariant_holds-in-Ok.ensures.run c.in-Ok.reply (ap (λ (e : EngineState g.row.R.Denot g.row.B.Denot). e.core) c.in-Ok.ensures.engine) c.in-Ok.ensures.reply
+
+pub returns-clause-goes : goal.returns-clause-goes
+returns-clause-goes g c may_start =
+    called_goes g.R.Rack.disk g.R.Rack.faults may_start c.args.engine.now c.next.new.self c.invariant_holds.ensures.run (c.invariant_holds.ensures.each c.requires.ready.settled) next c.in-Ok.ensures.engine (next_same c.args.engine.now.core)
+
+pub returns-clause-ready : goal.returns-clause-ready
+returns-clause-ready g c = still_ready g.B.Resource.meaning g.B.Resource.sort c.args.engine.now c.next.new.self (after_call c.args.engine.now.core next) c.in-Ok.ensures.engine c.requires.ready

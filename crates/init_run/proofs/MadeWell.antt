@@ -1,0 +1,68 @@
+-- That `init` makes the files where no call failed: every other answer has a cause that isn't there.
+use Rattle.std.proofs.Common.{◌≡◌, ◌≤◌, ◌<◌, ◌⊎◌, ℕ, List, length, Option, Some, None, Ok, Err, refl, sym, ap, subst, ◌∙◌, inl, inr, arith}
+use Rattle.process_flow.specs.Causes.{Rose}
+use Rattle.process_disk.specs.Disk.{Told}
+use Rattle.commute_table.specs.declared.catalog.Catalog.{Catalog}
+use Rattle.commute_table.specs.declared.scenario.Scenario.{Scenario}
+use Rattle.commute_table.specs.declared.errors.ScenarioError.{ScenarioError}
+use Rattle.commute_table.specs.declared.errors.ScenarioError.TheVariants as errors
+use Rattle.commute_table.specs.Document.{Says, IsAnswer, scenario_said}
+use Rattle.history_files.specs.Creating.{first_used, IsDueToFiles}
+use Rattle.history_files.specs.declared.faults.CreateError.{CreateError}
+use Rattle.history_files.specs.declared.faults.CreateError.TheVariants as create
+use Rattle.command_refusals.specs.declared.status.Status.TheVariants.{NoMemory}
+use Rattle.command_refusals.specs.declared.refusal.Refusal.{Refusal}
+use Rattle.command_refusals.specs.declared.refusal.Refusal.TheVariants as refusals
+use Rattle.command_refusals.specs.Refusals.{refusal_status}
+use Rattle.command_input.specs.Inputs.{Input, most_input, HasNoText}
+use Rattle.command_input.specs.FilesLeft.{Files}
+use Rattle.command_input.specs.Scenarios.{scenario_refusal}
+use Rattle.init_run.specs.Init.{create_refusal, HasCatalog, IsCatalogRefused, IsNotCreated}
+
+-- a document says one thing
+says_one : (bytes : List ℕ) (s : Scenario) (e : ScenarioError) → Says bytes (Ok s) → Says bytes (Err e) → ⊥
+says_one bytes s e says other =
+    let same : Some says.0 ≡ Some other.0 = sym says.2 ∙ other.2 in
+    let tables : says.0 ≡ other.0 = cc in
+    let both : Ok s ≡ Err e = sym says.3 ∙ ap scenario_said tables ∙ other.3 in
+    absurd (cc)
+
+-- a scenario is not refused, unless memory is wanting
+no_refusal : (bytes : List ℕ) (s : Scenario) (e : ScenarioError) → Says bytes (Ok s) → IsAnswer bytes (Err e) → refusal_status (scenario_refusal e) ≡ NoMemory
+no_refusal bytes s errors.BadToml says answer =
+    let none : None ≡ Some says.0 = sym (answer says.1) ∙ says.2 in absurd (cc)
+no_refusal bytes s (errors.BadKey k) says answer = absurd (says_one bytes s (errors.BadKey k) says answer)
+no_refusal bytes s (errors.UnknownOp name) says answer = absurd (says_one bytes s (errors.UnknownOp name) says answer)
+no_refusal bytes s (errors.SameOp name) says answer = absurd (says_one bytes s (errors.SameOp name) says answer)
+no_refusal bytes s (errors.Ops n) says answer = absurd (says_one bytes s (errors.Ops n) says answer)
+no_refusal bytes s errors.NoMemory says answer = refl
+
+-- without a fault of the source, a text within the limit comes, or memory is wanting
+no_text_quietly : (r : Refusal) (text : List ℕ) (faults : ℕ) (after : Input) → HasNoText r (record { left = Some text; faults = faults }) after → ¬ Rose faults after.faults → length text ≤ most_input
+    → refusal_status r ≡ NoMemory
+no_text_quietly r text faults after (inl long) quiet within = absurd (omega (arith, long.1, within))
+no_text_quietly r text faults after (inr (inl fault)) quiet within = absurd (quiet fault.1)
+no_text_quietly r text faults after (inr (inr memory)) quiet within = ap refusal_status memory
+
+-- so a scenario's catalog is read
+not_read_quietly : (r : Refusal) (text : List ℕ) (faults : ℕ) (after : Input) (c : Catalog) → IsCatalogRefused r (record { left = Some text; faults = faults }) after → ¬ Rose faults after.faults
+    → length text ≤ most_input → HasCatalog text c → refusal_status r ≡ NoMemory
+not_read_quietly r text faults after c (inl none) quiet within has = no_text_quietly r text faults after none quiet within
+not_read_quietly r text faults after c (inr why) quiet within has =
+    let s : Scenario = record { catalog = c; processes = has.0 } in
+    let refused = why.2 in
+    ap refusal_status refused.1 ∙ no_refusal why.0 s refused.0 (subst (λ (b : List ℕ). Says b (Ok s)) (sym why.1.2) has.1) refused.2
+
+not_made_quietly : (e : CreateError) (before after : ℕ) → IsDueToFiles None e → (e ≡ create.DiskFault → Rose before after) → ¬ Rose before after → refusal_status (create_refusal e) ≡ NoMemory
+not_made_quietly create.DiskFault before after due rose quiet = absurd (quiet (rose refl))
+not_made_quietly (create.NotEmpty q) before after due rose quiet = absurd (cc)
+not_made_quietly create.NoMemory before after due rose quiet = refl
+
+-- the files of a scenario's catalog are made where all are empty, or memory was wanting
+pub not_created_quietly : (r : Refusal) (text : List ℕ) (faults : ℕ) (after : Input) (files files_after : Files) (c : Catalog) → IsNotCreated r (record { left = Some text; faults = faults }) after files files_after
+    → ¬ Rose faults after.faults → ¬ Rose files.faults files_after.faults → length text ≤ most_input → HasCatalog text c → Told files.disk → first_used files.disk.files ≡ None
+    → refusal_status r ≡ NoMemory
+not_created_quietly r text faults after files files_after c (inl why) quiet quiet_files within has told empty = not_read_quietly r text faults after c why.0 quiet within has
+not_created_quietly r text faults after files files_after c (inr why) quiet quiet_files within has told empty =
+    let made = why.1 in
+    ap refusal_status made.1 ∙ not_made_quietly made.0 files.faults files_after.faults (subst (λ (found : Option ℕ). IsDueToFiles found made.0) empty (made.2 told)) made.4 quiet_files

@@ -1,0 +1,82 @@
+-- The command `init`: it makes nine empty files those of the catalog of a scenario, in which nothing has happened. The text of the
+-- scenario's processes isn't looked at.
+use Rattle.std.specs.Prelude.{◌≡◌, ◌⊎◌, ◌≤◌, ℕ, List, [], ◌∷◌, length, None, IfSome, Result, Ok, Err, codes}
+use Rattle.process_flow.specs.Causes.{Rose}
+use Rattle.process_disk.specs.Disk.{Disk, Told}
+use Rattle.process_disk.specs.Images.{EachImage}
+use Rattle.commute_table.specs.declared.catalog.Catalog.{Catalog}
+use Rattle.commute_table.specs.Document.{Says}
+use Rattle.process_journal.specs.Bodies.{no_history}
+use Rattle.history_files.specs.Creating.{first_used, IsDueToFiles, AreLeftUnmade}
+use Rattle.history_files.specs.Sound.{IsSound}
+use Rattle.history_files.specs.declared.faults.CreateError.{CreateError}
+use Rattle.history_files.specs.declared.faults.CreateError.TheVariants as create
+use Rattle.command_refusals.specs.declared.faults.FileFault.TheVariants.{NotEmpty}
+use Rattle.command_refusals.specs.declared.refusal.Refusal.{Refusal}
+use Rattle.command_refusals.specs.declared.refusal.Refusal.TheVariants as refusals
+use Rattle.command_refusals.specs.declared.status.Status.{Status}
+use Rattle.command_refusals.specs.declared.status.Status.TheVariants.{Done, NoMemory}
+use Rattle.command_refusals.specs.Statuses.{IsOneOf}
+use Rattle.command_input.specs.declared.said.Said.{Said}
+use Rattle.command_input.specs.Inputs.{Input, most_input, IsWholeText, HasNoText}
+use Rattle.command_input.specs.FilesLeft.{Files, AreUntouched}
+use Rattle.command_input.specs.Scenarios.{IsNoScenario}
+
+-- the document says a scenario with this catalog, whatever its processes are
+abbrev pub HasCatalog : List ℕ → Catalog → Type 0
+HasCatalog bytes c = (text : List ℕ) × Says bytes (Ok (record { catalog = c; processes = text }))
+
+-- the source was read to its end, and had the document of a scenario with this catalog
+abbrev pub IsCatalogRead : Input → Input → Catalog → Type 0
+IsCatalogRead before after c = (bytes : List ℕ) × IsWholeText before after bytes × HasCatalog bytes c
+
+-- Why no catalog was read: no text came, or else it is no scenario, by its first refusal; or memory was wanting.
+abbrev pub IsCatalogRefused : Refusal → Input → Input → Type 0
+IsCatalogRefused r before after =
+    HasNoText r before after ⊎ ((bytes : List ℕ) × IsWholeText before after bytes × IsNoScenario bytes r)
+
+-- what is told of files that were not made
+abbrev pub create_refusal : CreateError → Refusal
+create_refusal create.DiskFault = refusals.DiskFault
+create_refusal (create.NotEmpty q) = refusals.File (NotEmpty q)
+create_refusal create.NoMemory = refusals.NoMemory
+
+-- The nine files, where they are told, were empty. They are the journal of this catalog and the books of a history without events,
+-- and so is each image of them from then on.
+pub record AreMade (c : Catalog) (before after : Files) : Type 0 where
+  pub empty : Told before.disk → first_used before.disk.files ≡ None
+  pub read : Told before.disk → IsSound c no_history after.disk.files
+  pub each : Told before.disk → EachImage after.disk after.disk.moment (IsSound c no_history)
+
+-- They were not made: this is the first that isn't empty, and they are as they were; or the rack failed; or memory was wanting.
+abbrev pub AreNotMade : Refusal → Files → Files → Type 0
+AreNotMade r before after =
+    (e : CreateError) × (r ≡ create_refusal e) × (Told before.disk → IsDueToFiles (first_used before.disk.files) e)
+    × (Told before.disk → AreLeftUnmade e before.disk after.disk)
+    × (e ≡ create.DiskFault → Rose before.faults after.faults)
+
+-- the line of files that were made, at status 0
+pub record SaysCreated (said : Said) : Type 0 where
+  pub text : said.text.items ≡ codes "created\n"
+  pub status : said.status ≡ Done
+
+-- the files of the scenario's catalog were made
+abbrev pub IsCreated : Input → Input → Files → Files → Type 0
+IsCreated before after files files_after = (c : Catalog) × IsCatalogRead before after c × AreMade c files files_after
+
+-- Why they were not: what is refused first, of the input and then of the files.
+abbrev pub IsNotCreated : Refusal → Input → Input → Files → Files → Type 0
+IsNotCreated r before after files files_after =
+    (IsCatalogRefused r before after × AreUntouched files files_after)
+    ⊎ (((c : Catalog) × IsCatalogRead before after c) × AreNotMade r files files_after)
+
+-- What there is to say: that they were made, or why not.
+abbrev pub IsInitDue : Input → Input → Files → Files → Result Said Refusal → Type 0
+IsInitDue before after files files_after (Ok said) = SaysCreated said × IsCreated before after files files_after
+IsInitDue before after files files_after (Err r) = IsNotCreated r before after files files_after
+
+-- where the input is a scenario and all files are empty, they are made, or memory is wanting
+abbrev pub IsInitComplete : Input → Disk → Status → Type 0
+IsInitComplete input disk status =
+    IfSome input.left (λ text. (c : Catalog) → length text ≤ most_input → HasCatalog text c → Told disk
+    → first_used disk.files ≡ None → IsOneOf status (Done ∷ NoMemory ∷ []))

@@ -1,6 +1,0 @@
-use Rattle.std.proofs.Common.{take}
-use Rattle.program_lines.specs.Verdicts.{AreLines}
-use Rattle.program_lines.proofs.verdict.verdicts.Given as goal
-
-abbrev pub invariant-loop-process : goal.invariant-loop-process
-invariant-loop-process l = AreLines (take l.process-index l.processes) l.any l.text.items

@@ -1,0 +1,36 @@
+-- What the answer to a line does to an engine.
+use Rattle.std.specs.Prelude.{◌≡◌, ◌⊎◌, ⊤, ℕ, List, [], Option, Some, None}
+use Rattle.process_tree.specs.declared.plan.Plan.{Plan}
+use Rattle.process_tree.specs.Form.{AreEqualPlans}
+use Rattle.machine_model.specs.Replies.{Handed}
+use Rattle.machine_model.specs.Moment.{Piece}
+use Rattle.commute_table.specs.declared.catalog.Catalog.{Catalog}
+use Rattle.process_engine.specs.Finishing.{outcome_of}
+use Rattle.process_engine.specs.declared.gates.Answer.{Answer}
+use Rattle.process_core.specs.Cores.{CoreState}
+use Rattle.engine_calls.specs.GateAnswers.{is_barred_in}
+use Rattle.session_play.specs.declared.cut.Cut.{Cut}
+use Rattle.session_play.specs.declared.cut.Cut.TheVariants.{DiskFault, NoMemory}
+use Rattle.session_play.specs.Pieces.{session_of}
+use Rattle.session_play.specs.Playing.{Played, finish_as}
+
+-- The line was answered: it led to this core with these unfinished pieces, and this is printed.
+pub record IsAnswered (p : Played) (core : CoreState) (pieces : List Handed) (text : List ℕ) : Type 0 where
+  pub state : session_of core pieces ≡ p.state
+  pub printed : text ≡ p.printed
+
+-- It was not answered: nothing was kept; or there was no memory to print what it led to.
+abbrev pub IsCut : Cut → Played → CoreState → CoreState → Type 0
+IsCut DiskFault p old new = new ≡ old
+IsCut NoMemory p old new = (new ≡ old) ⊎ (new ≡ p.state.core)
+
+-- a piece is finished with this answer, whatever else is unfinished
+abbrev pub finish_alone : Catalog → CoreState → Piece → Answer → Played
+finish_alone c core p answer = finish_as (record { core = core; unfinished = [] }) p (outcome_of answer (is_barred_in c core p))
+
+-- none of none, or a plan that is equal to this one
+abbrev pub IsCopy : Option Plan → Option Plan → Type 0
+IsCopy None None = ⊤
+IsCopy None (Some q) = ⊥
+IsCopy (Some p) None = ⊥
+IsCopy (Some p) (Some q) = AreEqualPlans p q

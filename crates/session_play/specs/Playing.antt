@@ -1,0 +1,183 @@
+-- What each line of a session makes of the machine, and what is printed of it.
+use Rattle.std.specs.Prelude.{ℕ, ◌+◌, Bool, false, List, [], ◌∷◌, ◌++◌, filter, find, length, map, nat_eq, Option, Some, None}
+use Rattle.std.specs.Prelude.{if◌then◌else◌}
+use Rattle.std.specs.List.{filter_map}
+use Rattle.process_tree.specs.Blocks.{numbers_from}
+use Rattle.process_tree.specs.Making.{same_text}
+use Rattle.process_tree.specs.declared.plan.Plan.{Plan}
+use Rattle.process_tree.specs.declared.play.Outcome.{Outcome}
+use Rattle.process_tree.specs.declared.play.Outcome.TheVariants.{Done, Refused}
+use Rattle.process_text.specs.Canonical.{line_of}
+use Rattle.schedule_model.specs.Course.{course_of}
+use Rattle.schedule_model.specs.Histories.{is_in, starts}
+use Rattle.commute_table.specs.declared.catalog.Catalog.{Catalog}
+use Rattle.machine_model.specs.declared.began.Began.{Began}
+use Rattle.machine_model.specs.declared.kept.Kept.{Kept}
+use Rattle.machine_model.specs.declared.kept.Kept.TheVariants.{Start as HasStarted, Hand, Effect, Refuse, Abort as WasAborted}
+use Rattle.machine_model.specs.declared.kept.Kept.TheVariants.{Victim, Restart}
+use Rattle.machine_model.specs.declared.kept.Work.TheVariants.{End}
+use Rattle.machine_model.specs.declared.replies.StartWhy.{StartWhy}
+use Rattle.machine_model.specs.Advance.{advance_all}
+use Rattle.machine_model.specs.Calls.{Call, admit, next, finish, abort}
+use Rattle.machine_model.specs.Moment.{Piece}
+use Rattle.machine_model.specs.Pieces.{hands, piece_of}
+use Rattle.machine_model.specs.Progress.{same_work}
+use Rattle.machine_model.specs.Replies.{Next as NextReply, admit_reply, all_victims, next_reply, finish_reply, abort_reply}
+use Rattle.machine_model.specs.Runs.{start_refusal}
+use Rattle.process_core.specs.Answers.{after_call, after_start, answer_in}
+use Rattle.process_core.specs.Cores.{CoreState, began_in, courses_in, history_of, moment_of, relation}
+use Rattle.process_engine.specs.Finishing.{outcome_of}
+use Rattle.process_engine.specs.declared.gates.Answer.{Answer}
+use Rattle.process_engine.specs.declared.gates.Answer.TheVariants as answers
+use Rattle.engine_calls.specs.GateAnswers.{is_barred_in}
+use Rattle.process_report.specs.Lines.{Line as Words, text_of}
+use Rattle.session_text.specs.declared.line.Line.{Line}
+use Rattle.session_text.specs.declared.line.Line.TheVariants.{Start, Admit, Next, Finish, Abort, Show, Stop}
+use Rattle.session_text.specs.Answers.{started_words, no_process_words, not_started_words, admit_words, next_lines, finish_words}
+use Rattle.session_text.specs.Answers.{no_piece_words, no_refusal_words, abort_words}
+use Rattle.scenario_run.specs.Reports.{report_in}
+
+-- A session between two lines: the machine, and the numbers of the pieces that a line may still finish, as they were handed out.
+pub record SessionState : Type 0 where
+  pub core : CoreState
+  pub unfinished : List ℕ
+
+-- What a line leads to, and the text that is printed of it.
+pub record Played : Type 0 where
+  pub state : SessionState
+  pub printed : List ℕ
+
+-- nothing changes, and this line is printed
+abbrev pub stays : SessionState → Words → Played
+stays s words = record { state = s; printed = line_of words }
+
+-- the machine goes on with a call that is no start, and a piece that it hands out may be finished
+abbrev pub called : SessionState → Call → SessionState
+called s call = record {
+  core = after_call s.core call;
+  unfinished = s.unfinished ++ map (λ (p : Piece). p.number) (hands (answer_in s.core call).kept);
+}
+
+-- the plan of the process of this name
+abbrev pub plan_named : List Plan → List ℕ → Option Plan
+plan_named plans name = find (λ (p : Plan). same_text p.name name) plans
+
+-- a process of this plan and name starts, unless the machine refuses it
+abbrev pub start_unless : SessionState → List ℕ → Plan → Option StartWhy → Played
+start_unless s name p None = record {
+  state = record { core = after_start s.core p; unfinished = s.unfinished };
+  printed = line_of (started_words (length (starts (history_of s.core)) + 1) name);
+}
+start_unless s name p (Some why) = stays s (not_started_words why)
+
+-- `start NAME`, where the scenario has this plan of that name, or none
+abbrev pub play_start : SessionState → List ℕ → Option Plan → Played
+play_start s name None = stays s (no_process_words name)
+play_start s name (Some p) = start_unless s name p (start_refusal (courses_in s.core) (moment_of s.core) (course_of p))
+
+-- `admit I`
+abbrev pub play_admit : SessionState → ℕ → Played
+play_admit s i = record {
+  state = called s (admit i);
+  printed = line_of (admit_words s.core.plans i (admit_reply (relation s.core) (courses_in s.core) (moment_of s.core) i));
+}
+
+-- the process, if the kept event is that it was chosen as a victim
+abbrev pub victim_of : Kept → Option ℕ
+victim_of (Victim i) = Some i
+victim_of (HasStarted i) = None
+victim_of (Hand piece process step work) = None
+victim_of (Effect n) = None
+victim_of (Refuse n) = None
+victim_of (WasAborted i) = None
+victim_of Restart = None
+
+-- what the machine replies to a request for any piece, once it made its victims
+abbrev pub reply_to_next : CoreState → NextReply
+reply_to_next core =
+    let m = moment_of core in
+    next_reply (relation core) (courses_in core)
+    (advance_all (relation core) (courses_in core) m (all_victims (relation core) (courses_in core) m)) core.served
+
+-- `next`
+abbrev pub play_next : SessionState → Played
+play_next s = record {
+  state = called s next;
+  printed = text_of (next_lines s.core.plans (filter_map victim_of (answer_in s.core next).kept) (reply_to_next s.core));
+}
+
+-- what a line says of the work of a piece
+abbrev pub answer_of : Outcome → Answer
+answer_of Done = answers.Done
+answer_of Refused = answers.Refused
+
+-- these numbers without n, which stands among them once at most
+abbrev pub without : ℕ → List ℕ → List ℕ
+without n [] = []
+without n (k ∷ ks) = if nat_eq k n then ks else k ∷ without n ks
+
+-- a piece that is unfinished is finished; one whose work is done is refused all the same where the values bar it
+abbrev pub finish_as : SessionState → Piece → Outcome → Played
+finish_as s p outcome = record {
+  state = record { core = after_call s.core (finish p.number outcome); unfinished = without p.number s.unfinished };
+  printed =
+      line_of (finish_words s.core.plans p
+      (finish_reply (relation s.core) (courses_in s.core) (moment_of s.core) p.number outcome));
+}
+
+-- it is an end, and told to be refused
+abbrev pub is_refused_end : Piece → Outcome → Bool
+is_refused_end p Done = false
+is_refused_end p Refused = same_work p.work End
+
+-- the same of piece n, if it is unfinished; but an end is not refused
+abbrev pub finish_piece : Catalog → SessionState → ℕ → Outcome → Option Piece → Played
+finish_piece c s n outcome None = stays s (no_piece_words n)
+finish_piece c s n outcome (Some p) =
+    if is_refused_end p outcome then stays s (no_refusal_words p.number)
+    else finish_as s p (outcome_of (answer_of outcome) (is_barred_in c s.core p))
+
+-- `finish N done` or `finish N refused`
+abbrev pub play_finish : Catalog → SessionState → ℕ → Outcome → Played
+play_finish c s n outcome = finish_piece c s n outcome (if is_in n s.unfinished then piece_of s.core.kept n else None)
+
+-- it began at this kept event
+abbrev pub is_at : ℕ → Option Began → Bool
+is_at event None = false
+is_at event (Some began) = nat_eq began.event event
+
+-- the processes that began to complete at the last kept event, ascending
+abbrev pub just_began : CoreState → List ℕ
+just_began core = filter (λ i. is_at (length core.kept) (began_in core i)) (numbers_from 1 (length core.plans))
+
+-- `abort I`
+abbrev pub play_abort : SessionState → ℕ → Played
+play_abort s i = record {
+  state = called s (abort i);
+  printed =
+      line_of (abort_words i (just_began (after_call s.core (abort i))) (abort_reply (courses_in s.core) (moment_of s.core) i));
+}
+
+-- `show`: the report of this moment, with the causes of this session
+abbrev pub play_show : Catalog → SessionState → Played
+play_show c s = record { state = s; printed = report_in c s.core }
+
+-- A line, under this catalog, where the scenario has this plan of the name that it starts.
+abbrev pub play : Catalog → SessionState → Line → Option Plan → Played
+play c s (Start name) plan = play_start s name plan
+play c s (Admit i) plan = play_admit s i
+play c s Next plan = play_next s
+play c s (Finish n outcome) plan = play_finish c s n outcome
+play c s (Abort i) plan = play_abort s i
+play c s Show plan = play_show c s
+play c s Stop plan = record { state = s; printed = [] }
+
+-- the plan that a line takes of these
+abbrev pub plan_for : List Plan → Line → Option Plan
+plan_for plans (Start name) = plan_named plans name
+plan_for plans (Admit i) = None
+plan_for plans Next = None
+plan_for plans (Finish n outcome) = None
+plan_for plans (Abort i) = None
+plan_for plans Show = None
+plan_for plans Stop = None

@@ -1,0 +1,63 @@
+// The lines of a session.
+ghost use Rattle.std.specs.Prelude.{◌≡◌, ◌≢◌, Option, Err, IfOk, IfErr, OnOk};
+ghost use Rattle.process_flow.specs.Causes.{Rose};
+ghost use Rattle.process_tree.specs.Order.{Each};
+ghost use Rattle.process_tree.specs.declared.plan.Plan.{Plan};
+ghost use Rattle.engine_steps.specs.Beginning.{IsPlanFor};
+ghost use Rattle.history_files.specs.Standing.{EachFits};
+ghost use Rattle.engine_steps.specs.declared.engines.Phase.TheVariants as phase;
+ghost use Rattle.engine_calls.specs.Runs.{GoesOn, IsReady};
+ghost use Rattle.session_play.specs.Answering.{IsAnswered, IsCopy, IsCut};
+ghost use Rattle.session_play.specs.Pieces.{session_of, AreHandedBy};
+ghost use Rattle.session_play.specs.Playing.{plan_for, play};
+ghost use Rattle.session_play.specs.declared.cut.Cut.TheVariants.{DiskFault};
+
+use crate::Cut;
+use crate::asking::{play_abort, play_admit, play_next};
+use crate::finishing::play_finish;
+use crate::starting::play_start;
+use process_core::Piece;
+use process_disk::Rack;
+use process_engine::Engine;
+use process_tree::Plan;
+use resource_box::Resource;
+use scenario_run::report_now;
+use session_text::Line;
+use std::alloc::Global;
+
+/// Answers a line with these plans of the scenario.
+pub fn play_line<R: Rack + Drop, B: Resource>(
+    alloc: Global,
+    engine: &mut Engine<R, B>,
+    plans: &[Plan],
+    pieces: &mut Vec<Piece>,
+    line: &Line,
+) -> Result<Vec<u8>, Cut>
+    requires ready { IsReady B.meaning B.sort engine.old }
+    requires plans { Each (IsPlanFor engine.old.catalog) plans.now }
+    requires handed { AreHandedBy engine.old.core pieces.old.items }
+    ensures answered { IfOk result (λ text. (copy : Option Plan) × IsCopy (plan_for plans.now line.now) copy
+        × IsAnswered (play engine.old.catalog
+        (session_of engine.old.core pieces.old.items) line.now copy) engine.new.core pieces.new.items text.items) }
+    ensures handed { OnOk result (AreHandedBy engine.new.core pieces.new.items) }
+    ensures cut { IfErr result (λ cut. (copy : Option Plan) × IsCopy (plan_for plans.now line.now) copy
+        × IsCut cut (play engine.old.catalog
+        (session_of engine.old.core pieces.old.items) line.now copy) engine.old.core engine.new.core) }
+    ensures fault { IfErr result
+        (λ cut. cut ≡ DiskFault → (engine.new.phase ≡ phase.Closed)
+        × Rose (R.faults engine.old.files.rack) (R.faults engine.new.files.rack)) }
+    ensures goes { GoesOn R.disk R.faults plans.now engine.old engine.new }
+    ensures fits { EachFits B.meaning B.sort engine.new.files.stores }
+    ensures ready { result ≢ Err DiskFault → IsReady B.meaning B.sort engine.new }
+{
+    engine.invariant_holds();
+    match line {
+        Line::Start(name) => play_start(alloc, engine, plans, name.bytes()),
+        Line::Admit(i) => play_admit(alloc, engine, pieces, *i),
+        Line::Next => play_next(alloc, engine, pieces),
+        Line::Finish(n, outcome) => play_finish(alloc, engine, pieces, *n, *outcome),
+        Line::Abort(i) => play_abort(alloc, engine, pieces, *i),
+        Line::Show => Ok(report_now(alloc, engine)?),
+        Line::Stop => Ok(Vec::new(alloc)),
+    }
+}

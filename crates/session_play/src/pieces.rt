@@ -1,0 +1,46 @@
+// Pieces that a line may still finish.
+ghost use Rattle.std.specs.Prelude.{◌≡◌, ◌++◌, map, IfErr, OnOk};
+ghost use Rattle.session_play.specs.Pieces.{admitted_pieces, chosen_pieces, number_of, place_in};
+ghost use Rattle.session_play.specs.declared.cut.Cut.TheVariants.{NoMemory};
+
+use crate::Cut;
+use process_core::{Admit, Next, Piece};
+
+/// The place of the piece of this number.
+pub fn place_of(pieces: &[Piece], number: u32) -> Option<usize>
+    ensures { result ≡ place_in number (map number_of pieces.now) }
+{
+    let mut place = 0;
+    let mut rest = pieces;
+    while let [piece, after @ ..] = rest {
+        if piece.number() == number {
+            return Some(place);
+        }
+        place += 1;
+        rest = after;
+    }
+    None
+}
+
+/// Keeps the piece that a request for one of a process is answered with, if it is.
+pub fn keep_admitted(pieces: &mut Vec<Piece>, reply: Admit) -> Result<(), Cut>
+    ensures kept { OnOk result (pieces.new.items ≡ pieces.old.items ++ admitted_pieces reply) }
+    ensures cut { IfErr result (λ cut. cut ≡ NoMemory) }
+{
+    match reply {
+        Admit::Piece(piece) => Ok(pieces.push(piece)?),
+        Admit::Blocked(_) | Admit::Running | Admit::Unknown | Admit::Ended | Admit::Exhausted(_) =>
+            Ok(()),
+    }
+}
+
+/// Keeps the piece that a request for any is answered with, if it is.
+pub fn keep_chosen(pieces: &mut Vec<Piece>, reply: Next) -> Result<(), Cut>
+    ensures kept { OnOk result (pieces.new.items ≡ pieces.old.items ++ chosen_pieces reply) }
+    ensures cut { IfErr result (λ cut. cut ≡ NoMemory) }
+{
+    match reply {
+        Next::Piece(piece) => Ok(pieces.push(piece)?),
+        Next::Wait(_) | Next::AllEnded | Next::Stuck(_) => Ok(()),
+    }
+}
