@@ -9,7 +9,7 @@ use Rattle.schedule_model.specs.Graph.{Arrow}
 use Rattle.hold_tables.specs.Tables.{OpenProcess, running_of}
 use Rattle.process_tree.specs.declared.entry.Entry.{Entry}
 use Rattle.schedule_model.specs.Conflict.{ConflictRelation, conflict}
-use Rattle.hold_tables.specs.Walks.{arrows_by, arrows_from, arrows_to, steps_under_way, IsExtended}
+use Rattle.hold_tables.specs.Walks.{arrows_by, arrows_to, steps_under_way, IsExtended}
 use Rattle.hold_tables.proofs.Extended.{extended_none, one}
 
 -- two entries that conflict make one arrow
@@ -57,11 +57,6 @@ no_arrows rows table x (y ∷ ys) marks none = absurd (omega (arith, none))
 pub no_steps : (rows : List OpenProcess) (table : ConflictRelation) (x : Entry) (rs : List OpenProcess) (marks : List (List Bool)) → length rs ≡ 0 → IsExtended rows (arrows_by table x (steps_under_way rs)) marks marks
 no_steps rows table x [] marks none = nothing rows (arrows_by table x []) marks (λ i k. none_first (nat_eq x.process i))
 no_steps rows table x (r ∷ rs) marks none = absurd (omega (arith, none))
-
--- nor does an empty net
-pub no_net : (rows : List OpenProcess) (table : ConflictRelation) (running es : List Entry) (marks : List (List Bool)) → length es ≡ 0 → IsExtended rows (arrows_from table running es) marks marks
-no_net rows table running [] marks none = nothing rows (arrows_from table running []) marks (λ i k. refl)
-no_net rows table running (e ∷ es) marks none = absurd (omega (arith, none))
 
 -- nor do no entries make any to a later one
 pub none_to : (rows : List OpenProcess) (table : ConflictRelation) (es : List Entry) (e : Entry) (marks : List (List Bool)) → length es ≡ 0 → IsExtended rows (arrows_to table es e) marks marks

@@ -13,16 +13,17 @@ use Rattle.schedule_model.specs.Graph.{Walk, and_then, one_arrow}
 use Rattle.schedule_model.specs.Holdings.{holders, reaches}
 use Rattle.schedule_model.proofs.Legal.{both-left, both-right}
 use Rattle.schedule_model.proofs.Walks.{leads-from_walk, walk-from_leads}
-use Rattle.hold_tables.specs.Tables.{OpenProcess, Tables, has_number, holdings_of, is_open}
+use Rattle.hold_tables.specs.Tables.{OpenProcess, Tables, has_number, holdings_of}
 use Rattle.hold_tables.specs.Changes.{can_come}
 use Rattle.hold_tables.specs.Kept.{AreTidy, IsKnown, are_numbered}
+use Rattle.hold_tables.specs.Arrows.{TellArrows, arrows_in}
 use Rattle.hold_tables.specs.Places.{place_of}
 use Rattle.hold_tables.specs.Walks.{AreRows, IsPlaceTaken, TellWalks, arrows_by, arrows_from, cell, leads_through, place_before, step_of, steps_under_way, told}
 use Rattle.hold_tables.proofs.Arrows.{steps_first}
 use Rattle.hold_tables.proofs.Marks.{before_above, before_below, neither_of, none_at_place, none_in_rows}
 use Rattle.hold_tables.proofs.Opening.{number_of_others, other_processes, others}
 use Rattle.hold_tables.proofs.Reaching.{graph-is, holder-number, number-holder, same_truth}
-use Rattle.hold_tables.proofs.SameGraph.{arrows_in, graph_of, reach_over}
+use Rattle.hold_tables.proofs.SameGraph.{graph_of, reach_over}
 use Rattle.hold_tables.proofs.Tidy.{each_entry, tables}
 use Rattle.hold_tables.proofs.WalkEnds.{open_ends, walk_ends}
 
@@ -186,6 +187,35 @@ rows_left i rows old new once has were count =
     let few = were.1 in
     (omega (arith, less, same, count), omega (arith, less, few))
 
+-- the arrows among the others stay
+pub arrows_left : (i : ℕ) (table : Table) (net : List Entry) (rows : List OpenProcess) → AreTidy (tables table net rows) → (j k : ℕ) → nat_eq j i ≡ false → nat_eq k i ≡ false
+    → arrows_in (tables table (others i net) (other_processes i rows)) j k ≡ arrows_in (tables table net rows) j k
+arrows_left i table net rows tidy j k from to =
+    ap (λ es. arrows_from (do_conflict table) es (others i net) j k) (steps_others i rows (all_own (tables table net rows) tidy)) ∙ arrows_others (do_conflict table) i (steps_under_way rows) net j k from to
+
+-- process i is none of the others
+pub is_other : (i k : ℕ) (rows : List OpenProcess) → has_number k (other_processes i rows) ≡ true → nat_eq k i ≡ false
+is_other i k rows there = by (nat_eq k i) refl
+  where
+    by : (b : Bool) → nat_eq k i ≡ b → nat_eq k i ≡ false
+    by true is = absurd (false≢true (sym (not_among i rows) ∙ ap (λ n. has_number n (other_processes i rows)) (sym (eqb-true k i is)) ∙ there))
+    by false is = is
+
+-- so marks of all arrows, without the place of process i, tell those among the others
+pub dropped_arrows : (i : ℕ) (table : Table) (net : List Entry) (rows : List OpenProcess) (old new : List (List Bool)) → AreTidy (tables table net rows) → has_number i rows ≡ true
+    → TellArrows (tables table net rows) old → IsPlaceTaken (place_of i rows) old new → length new + 1 ≡ length old → TellArrows (tables table (others i net) (other_processes i rows)) new
+dropped_arrows i table net rows old new tidy has tells taken count = record {
+  rows = rows_left i rows old new tidy.numbered has tells.rows count;
+  tell = λ j k here there.
+      let from = is_other i j rows here in
+      let to = is_other i k rows there in
+      taken (place_of j (other_processes i rows)) (place_of k (other_processes i rows))
+      ∙ ap (λ a. cell old a (place_before (place_of i rows) (place_of k (other_processes i rows)))) (place_was i j rows tidy.numbered has from)
+      ∙ ap (cell old (place_of j rows)) (place_was i k rows tidy.numbered has to)
+      ∙ tells.tell j k (sym (number_of_others i j rows from) ∙ here) (sym (number_of_others i k rows to) ∙ there)
+      ∙ sym (arrows_left i table net rows tidy j k from to);
+}
+
 module _ (i : ℕ) (table : Table) (net : List Entry) (rows : List OpenProcess) (old new : List (List Bool)) (tidy_was : AreTidy (tables table net rows))
     (tidy_now : AreTidy (tables table (others i net) (other_processes i rows))) (has : has_number i rows ≡ true) (tells : TellWalks (tables table net rows) old)
     (taken : IsPlaceTaken (place_of i rows) old new) (none : leads_through old (place_of i rows) ≡ false) where
@@ -194,10 +224,6 @@ module _ (i : ℕ) (table : Table) (net : List Entry) (rows : List OpenProcess) 
 
   abbrev now : Tables
   now = tables table (others i net) (other_processes i rows)
-
-  same_arrows : (j k : ℕ) → nat_eq j i ≡ false → nat_eq k i ≡ false → arrows_in now j k ≡ arrows_in was j k
-  same_arrows j k from to =
-      ap (λ es. arrows_from (do_conflict table) es (others i net) j k) (steps_others i rows (all_own was tidy_was)) ∙ arrows_others (do_conflict table) i (steps_under_way rows) net j k from to
 
   -- an arrow is told of
   arrow_told : (j k : ℕ) → arrows_in was j k ≡ true → told rows old j k ≡ true
@@ -221,15 +247,11 @@ module _ (i : ℕ) (table : Table) (net : List Entry) (rows : List OpenProcess) 
           let led = tells.tell j m ends.0 ends.1 ∙ leads-from_walk (graph_of was) (holders (holdings_of was)) walk in
           absurd (false≢true (sym (none_in_rows old (place_of i rows) (place_of j rows) to) ∙ ap (λ n. told rows old j n) (sym same) ∙ led))
 
-  open_other : (k : ℕ) → is_open now k ≡ true → (b : Bool) → nat_eq k i ≡ b → nat_eq k i ≡ false
-  open_other k there true is = absurd (false≢true (sym (not_among i rows) ∙ ap (λ n. has_number n (other_processes i rows)) (sym (eqb-true k i is)) ∙ there))
-  open_other k there false is = is
-
   arrow_left : (j k : ℕ) → nat_eq j i ≡ false → nat_eq k i ≡ false → IsTrue (is_in k (holders (holdings_of was))) → IsTrue (graph_of was j k)
       → IsTrue (is_in k (holders (holdings_of now))) × IsTrue (graph_of now j k)
   arrow_left j k from to among a = (
     holder-number k (others i net) (other_processes i rows) (number_of_others i k rows to ∙ number-holder k net rows among),
-    graph-is now tidy_now j k ∙ same_arrows j k from to ∙ sym (graph-is was tidy_was j k) ∙ a,
+    graph-is now tidy_now j k ∙ arrows_left i table net rows tidy_was j k from to ∙ sym (graph-is was tidy_was j k) ∙ a,
   )
 
   walk_left : {j k : ℕ} → nat_eq j i ≡ false → nat_eq k i ≡ false → Walk (graph_of was) (holders (holdings_of was)) j k → Walk (graph_of now) (holders (holdings_of now)) j k
@@ -244,9 +266,9 @@ module _ (i : ℕ) (table : Table) (net : List Entry) (rows : List OpenProcess) 
       same_truth (reaches (do_conflict table) (holdings_of now) j k) (reaches (do_conflict table) (holdings_of was) j k)
       (reach_over now was tidy_now tidy_was (λ j k there a.
       let ends = open_ends now tidy_now j k a in
-      let from = open_other j ends.0 (nat_eq j i) refl in
-      let to = open_other k there (nat_eq k i) refl in
-      (sym (number_of_others i k rows to) ∙ there, sym (same_arrows j k from to) ∙ a)) j k)
+      let from = is_other i j rows ends.0 in
+      let to = is_other i k rows there in
+      (sym (number_of_others i k rows to) ∙ there, sym (arrows_left i table net rows tidy_was j k from to) ∙ a)) j k)
       (λ is. leads-from_walk (graph_of now) (holders (holdings_of now)) (walk_left from to (walk-from_leads (graph_of was) (holders (holdings_of was)) j k is)))
 
   -- the marks tell where walks lead, with a process less
@@ -255,8 +277,8 @@ module _ (i : ℕ) (table : Table) (net : List Entry) (rows : List OpenProcess) 
       record {
         rows = rows_left i rows old new tidy_was.numbered has tells.rows count;
         tell = λ j k here there.
-            let from = open_other j here (nat_eq j i) refl in
-            let to = open_other k there (nat_eq k i) refl in
+            let from = is_other i j rows here in
+            let to = is_other i k rows there in
             taken (place_of j now.processes) (place_of k now.processes)
             ∙ ap (λ a. cell old a (place_before (place_of i rows) (place_of k now.processes))) (place_was i j rows tidy_was.numbered has from)
             ∙ ap (cell old (place_of j rows)) (place_was i k rows tidy_was.numbered has to)

@@ -1,6 +1,6 @@
 -- Marks of operations: what they tell of those that are held.
 use Rattle.std.proofs.Common.{◌≡◌, ◌⊎◌, inl, inr, ◌<◌, ℕ, Bool, true, false, not, ◌||◌, ◌&&◌, List, [], ◌∷◌, ◌++◌, length, map, slice_index_or, sym, refl, ap, ◌∙◌, subst, arith, Option, Some, None, IfSome}
-use Rattle.std.specs.Prelude.{if◌then◌else◌, nat_eq, nat_lt, replicate, slice_set}
+use Rattle.std.specs.Prelude.{nat_eq, nat_lt, replicate, slice_set}
 use Rattle.std.specs.List.{list_any}
 use Rattle.std.specs.Option.{option_to_list}
 use Rattle.std.proofs.lemmas.List.Folds.{list_any-append}
@@ -13,7 +13,7 @@ use Rattle.process_tree.specs.Order.{Each}
 use Rattle.schedule_model.specs.Conflict.{conflict}
 use Rattle.schedule_model.specs.Histories.{of_process}
 use Rattle.hold_tables.specs.Tables.{OpenProcess, Tables, running_of}
-use Rattle.hold_tables.specs.Changes.{can_come, has_entry, net_after, without_last}
+use Rattle.hold_tables.specs.Changes.{can_come, has_entry, without_last}
 use Rattle.hold_tables.specs.Kept.{AreKnown, AreTidy, IsKnown, IsTidy}
 use Rattle.hold_tables.specs.Operations.{AddsOps, AreKnownOps, CoverOps, IsClearOf, KeepOps, TellOps, all_beside, has_pending, has_slot, is_conflict, may_conflict, may_hold, ops_beside, ops_of, slot_of}
 use Rattle.hold_tables.specs.Walks.{conflicts_with}
@@ -99,39 +99,31 @@ less_slots i k (e ∷ es) is = by (nat_eq e.process i && not (has_entry i es)) r
         either (inl here) rest = or_left (nat_eq (slot_of e.op) k) (has_slot k (ops_of es)) here
         either (inr later) rest = or_right (nat_eq (slot_of e.op) k) (has_slot k (ops_of es)) (rest later)
 
--- what took effect is marked
-pub kept_effect : (table : Table) (i : ℕ) (net : List Entry) (e : Entry) (old new : List Bool) → IsKnown table e → KeepOps table (ops_of net) old
-    → AddsOps (if e.undo then [] else e.op ∷ []) old new → KeepOps table (ops_of (net_after i (Some e) net)) new
-kept_effect table i net e old new known keeps adds = by e.undo refl
-  where
-    by : (b : Bool) → e.undo ≡ b → KeepOps table (ops_of (net_after i (Some e) net)) new
-    by true undo =
-        let same : (k : ℕ) → k < 256 → slice_index_or new k false ≡ slice_index_or old k false = λ k less. adds k less ∙ ap (λ b. has_slot k (if b then [] else e.op ∷ []) || slice_index_or old k false) undo in record {
-          covers = λ k less is. same k less ∙ keeps.covers k less (less_slots i k net (sym (ap (λ b. has_slot k (ops_of (if b then without_last i net else net ++ e ∷ []))) undo) ∙ is));
-          known = λ k less is. keeps.known k less (sym (same k (omega (arith, less))) ∙ is);
-        }
-    by false forward =
-        let more : (k : ℕ) → k < 256 → slice_index_or new k false ≡ ((nat_eq (slot_of e.op) k || false) || slice_index_or old k false) = λ k less. adds k less ∙ ap (λ b. has_slot k (if b then [] else e.op ∷ []) || slice_index_or old k false) forward in record {
-          covers = λ k less is. more k less ∙ marked k (keeps.covers k less)
-              (sym (ap (has_slot k) (ops-append net (e ∷ [])) ∙ list_any-append (λ op. nat_eq (slot_of op) k) (ops_of net) (e.op ∷ []))
-              ∙ sym (ap (λ b. has_slot k (ops_of (if b then without_last i net else net ++ e ∷ []))) forward) ∙ is);
-          known = λ k less is. among k less (keeps.known k less) (sym (more k (omega (arith, less))) ∙ is);
-        }
-      where
-        marked : (k : ℕ) → (has_slot k (ops_of net) ≡ true → slice_index_or old k false ≡ true) → (has_slot k (ops_of net) || (nat_eq (slot_of e.op) k || false)) ≡ true
-            → ((nat_eq (slot_of e.op) k || false) || slice_index_or old k false) ≡ true
-        marked k was both = either (or_cases (has_slot k (ops_of net)) (nat_eq (slot_of e.op) k || false) both)
-          where
-            either : (has_slot k (ops_of net) ≡ true) ⊎ ((nat_eq (slot_of e.op) k || false) ≡ true) → ((nat_eq (slot_of e.op) k || false) || slice_index_or old k false) ≡ true
-            either (inl before) = or_right (nat_eq (slot_of e.op) k || false) (slice_index_or old k false) (was before)
-            either (inr here) = or_left (nat_eq (slot_of e.op) k || false) (slice_index_or old k false) here
+-- what an undo takes away may stay marked
+pub kept_undo : (table : Table) (i : ℕ) (net : List Entry) (marks : List Bool) → KeepOps table (ops_of net) marks → KeepOps table (ops_of (without_last i net)) marks
+kept_undo table i net marks keeps = record { covers = λ k less is. keeps.covers k less (less_slots i k net is); known = keeps.known }
 
-        among : (k : ℕ) → k < 255 → (slice_index_or old k false ≡ true → k < operations_in table) → ((nat_eq (slot_of e.op) k || false) || slice_index_or old k false) ≡ true → k < operations_in table
-        among k less was both = either (or_cases (nat_eq (slot_of e.op) k || false) (slice_index_or old k false) both)
-          where
-            either : ((nat_eq (slot_of e.op) k || false) ≡ true) ⊎ (slice_index_or old k false ≡ true) → k < operations_in table
-            either (inl here) = subst (λ n. n < operations_in table) (own_slot e.op k less (sym (or_none (nat_eq (slot_of e.op) k)) ∙ here)) known
-            either (inr before) = was before
+-- a step that took effect is marked
+pub kept_step : (table : Table) (net : List Entry) (e : Entry) (old new : List Bool) → IsKnown table e → KeepOps table (ops_of net) old → AddsOps (e.op ∷ []) old new → KeepOps table (ops_of (net ++ e ∷ [])) new
+kept_step table net e old new known keeps adds = record {
+  covers = λ k less is. adds k less ∙ marked k (keeps.covers k less) (sym (ap (has_slot k) (ops-append net (e ∷ [])) ∙ list_any-append (λ op. nat_eq (slot_of op) k) (ops_of net) (e.op ∷ [])) ∙ is);
+  known = λ k less is. among k less (keeps.known k less) (sym (adds k (omega (arith, less))) ∙ is);
+}
+  where
+    marked : (k : ℕ) → (has_slot k (ops_of net) ≡ true → slice_index_or old k false ≡ true) → (has_slot k (ops_of net) || (nat_eq (slot_of e.op) k || false)) ≡ true
+        → ((nat_eq (slot_of e.op) k || false) || slice_index_or old k false) ≡ true
+    marked k was both = either (or_cases (has_slot k (ops_of net)) (nat_eq (slot_of e.op) k || false) both)
+      where
+        either : (has_slot k (ops_of net) ≡ true) ⊎ ((nat_eq (slot_of e.op) k || false) ≡ true) → ((nat_eq (slot_of e.op) k || false) || slice_index_or old k false) ≡ true
+        either (inl before) = or_right (nat_eq (slot_of e.op) k || false) (slice_index_or old k false) (was before)
+        either (inr here) = or_left (nat_eq (slot_of e.op) k || false) (slice_index_or old k false) here
+
+    among : (k : ℕ) → k < 255 → (slice_index_or old k false ≡ true → k < operations_in table) → ((nat_eq (slot_of e.op) k || false) || slice_index_or old k false) ≡ true → k < operations_in table
+    among k less was both = either (or_cases (nat_eq (slot_of e.op) k || false) (slice_index_or old k false) both)
+      where
+        either : ((nat_eq (slot_of e.op) k || false) ≡ true) ⊎ (slice_index_or old k false ≡ true) → k < operations_in table
+        either (inl here) = subst (λ n. n < operations_in table) (own_slot e.op k less (sym (or_none (nat_eq (slot_of e.op) k)) ∙ here)) known
+        either (inr before) = was before
 
 known_slot : (count k : ℕ) (ops : List ℕ) → Each (λ op. op < count) ops → k < 255 → has_slot k ops ≡ true → k < count
 known_slot count k [] each less is = absurd (false≢true is)

@@ -20,3 +20,8 @@ pub mod MoreWalks
 pub mod WalkEnds
 pub mod OpenedWalks
 pub mod DroppedWalks
+pub mod Closed
+pub mod MarkedArrows
+pub mod GraphTold
+pub mod GraphStays
+pub mod LastLeads

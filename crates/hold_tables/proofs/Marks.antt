@@ -42,16 +42,6 @@ none_marked n b = by (nat_lt b n) refl
     by true is = get_or-replicate n b false false (ltb-true b n is)
     by false is = let past = ltb-false b n is in get_or_past (replicate n false) b false (rw length-replicate past)
 
--- one row more without marks
-pub one_cleared : (marks : List (List Bool)) (row : List Bool) (at a b : ℕ) → at < length marks → slice_index_or row b false ≡ false
-    → (a < at → cell marks a b ≡ false) → a < at + 1 → cell (slice_set marks at row) a b ≡ false
-one_cleared marks row at a b within none before less = by (nat_eq a at) refl
-  where
-    by : (t : Bool) → nat_eq a at ≡ t → cell (slice_set marks at row) a b ≡ false
-    by true is = ap (λ k. cell (slice_set marks at row) k b) (eqb-true a at is) ∙ ap (λ r. slice_index_or r b false) (get_or-set_same marks at row [] within) ∙ none
-    by false is = let other : a ≢ at = eqb-false a at is in
-        ap (λ r. slice_index_or r b false) (get_or-set_other marks at a row [] other) ∙ before (omega (arith, other, less))
-
 -- neither of two is so
 pub neither_of : (a b : Bool) → (a || b) ≡ false → (a ≡ false) × (b ≡ false)
 neither_of true b none = absurd (false≢true (sym none))

@@ -12,11 +12,12 @@ use Rattle.schedule_model.proofs.Walks.{leads-from_walk, walk-from_leads}
 use Rattle.hold_tables.specs.Tables.{OpenProcess, Tables, has_number, holdings_of, is_open, numbered}
 use Rattle.hold_tables.specs.Changes.{change_numbered, net_after, with_running}
 use Rattle.hold_tables.specs.Kept.{AreTidy}
+use Rattle.hold_tables.specs.Arrows.{arrows_in}
 use Rattle.hold_tables.specs.Places.{place_of}
-use Rattle.hold_tables.specs.Walks.{Implies, IsExtended, IsTransitive, TellWalks, TellWalksBut, arrows_by, arrows_from, arrows_to, cell, step_of, steps_under_way, told}
+use Rattle.hold_tables.specs.Walks.{Implies, IsExtended, IsTransitive, TellWalks, arrows_by, arrows_from, arrows_to, cell, step_of, steps_under_way, told}
 use Rattle.hold_tables.proofs.Arrows.{any_later}
 use Rattle.hold_tables.proofs.Reaching.{graph-is, holder-number, number-holder, same_truth, walk_on}
-use Rattle.hold_tables.proofs.SameGraph.{Follows, arrows_in, graph_of, numbers_of, reach_over, run_tells, same_numbers, split_steps, step_is, undo_no_step}
+use Rattle.hold_tables.proofs.SameGraph.{Follows, graph_of, numbers_of, reach_over, split_steps, step_is}
 use Rattle.hold_tables.proofs.Tidy.{tables}
 use Rattle.hold_tables.proofs.WalksStay.{same_count, same_open, same_places}
 
@@ -86,7 +87,7 @@ or_all : (a b c : Bool) → (a || (b || c)) ≡ ((a || b) || c)
 or_all true b c = refl
 or_all false b c = refl
 
-or_across : (b a f t : Bool) → ((b || a) || (f || t)) ≡ ((b || f) || (a || t))
+pub or_across : (b a f t : Bool) → ((b || a) || (f || t)) ≡ ((b || f) || (a || t))
 or_across true a f t = refl
 or_across false true true t = refl
 or_across false true false t = refl
@@ -104,13 +105,13 @@ any_more p [] e zs = or_last (p e) (list_any p zs)
 any_more p (y ∷ ys) e zs = ap (p y ||◌) (any_more p ys e zs) ∙ or_all (p y) (list_any p (ys ++ zs)) (p e || false)
 
 module _ (table : ConflictRelation) (i k : ℕ) where
-  by_more : (x : Entry) (ys : List Entry) (e : Entry) (zs : List Entry) → arrows_by table x (ys ++ e ∷ zs) i k ≡ (arrows_by table x (ys ++ zs) i k || arrows_by table x (e ∷ []) i k)
+  pub by_more : (x : Entry) (ys : List Entry) (e : Entry) (zs : List Entry) → arrows_by table x (ys ++ e ∷ zs) i k ≡ (arrows_by table x (ys ++ zs) i k || arrows_by table x (e ∷ []) i k)
   by_more x ys e zs =
       ap (nat_eq x.process i &&◌) (any_more (λ y. nat_eq y.process k && conflict table x y) ys e zs)
       ∙ any_later (nat_eq x.process i) (list_any (λ y. nat_eq y.process k && conflict table x y) (ys ++ zs)) ((nat_eq e.process k && conflict table x e) || false)
 
   -- a step more under way
-  under_more : (front : List Entry) (e : Entry) (back es : List Entry) → arrows_from table (front ++ e ∷ back) es i k ≡ (arrows_from table (front ++ back) es i k || arrows_to table es e i k)
+  pub under_more : (front : List Entry) (e : Entry) (back es : List Entry) → arrows_from table (front ++ e ∷ back) es i k ≡ (arrows_from table (front ++ back) es i k || arrows_to table es e i k)
   under_more front e back [] = refl
   under_more front e back (x ∷ es) =
       ap (λ b. b || arrows_from table (front ++ e ∷ back) es i k) (ap (λ ys. arrows_by table x ys i k) (sym (append_assoc es front (e ∷ back))) ∙ by_more x (es ++ front) e back
@@ -119,7 +120,7 @@ module _ (table : ConflictRelation) (i k : ℕ) where
       ∙ or_across (arrows_by table x (es ++ (front ++ back)) i k) (arrows_by table x (e ∷ []) i k) (arrows_from table (front ++ back) es i k) (arrows_to table es e i k)
 
   -- a step that was under way is in the net
-  settled_more : (front : List Entry) (e : Entry) (back es : List Entry)
+  pub settled_more : (front : List Entry) (e : Entry) (back es : List Entry)
       → arrows_from table (front ++ back) (es ++ e ∷ []) i k ≡ (arrows_from table (front ++ e ∷ back) es i k || arrows_by table e (front ++ back) i k)
   settled_more front e back [] = or_none (arrows_by table e (front ++ back) i k)
     where
@@ -137,40 +138,28 @@ module _ (table : ConflictRelation) (i k : ℕ) where
           ∙ ap (λ ys. arrows_by table x ys i k || arrows_by table x (e ∷ []) i k) (sym (append_assoc es front back)) ∙ sym (by_more x (es ++ front) e back)
           ∙ ap (λ ys. arrows_by table x ys i k) (append_assoc es front (e ∷ back))
 
-module _ (i : ℕ) (table : Table) (net : List Entry) (rows : List OpenProcess) (e : Entry) (marks : List (List Bool)) (has : has_number i rows ≡ true) (tidy_was : AreTidy (tables table net rows))
-    (tells : TellWalks (tables table net rows) marks) where
-  -- a step comes under way where nothing was
-  pub run_but : (numbered i rows).running ≡ None → AreTidy (tables table net (change_numbered (with_running (Some e)) i rows)) → e.undo ≡ false
-      → TellWalksBut (tables table net (change_numbered (with_running (Some e)) i rows)) (arrows_to (do_conflict table) net e) marks
-  run_but idle tidy_now forward new extended =
+module _ (i : ℕ) (table : Table) (net : List Entry) (rows : List OpenProcess) (e : Entry) (has : has_number i rows ≡ true) where
+  -- the arrows once a step came under way where nothing was
+  pub run_more : (numbered i rows).running ≡ None → e.undo ≡ false → (j k : ℕ)
+      → arrows_in (tables table net (change_numbered (with_running (Some e)) i rows)) j k ≡ (arrows_in (tables table net rows) j k || arrows_to (do_conflict table) net e j k)
+  run_more idle forward j k =
       let split = split_steps i rows has in
-      more_tells (tables table net rows) (tables table net (change_numbered (with_running (Some e)) i rows)) tidy_was tidy_now (arrows_to (do_conflict table) net e) (same_numbers (Some e) i rows)
-      (λ j k.
       ap (λ es. arrows_from (do_conflict table) es net j k) (split.now (Some e) ∙ ap (λ es. split.front ++ (es ++ split.back)) (step_is e forward))
       ∙ under_more (do_conflict table) j k split.front e split.back net
-      ∙ ap (λ es. arrows_from (do_conflict table) es net j k || arrows_to (do_conflict table) net e j k) (sym (split.was ∙ ap (λ o. split.front ++ (step_of o ++ split.back)) idle)))
-      marks new tells extended
+      ∙ ap (λ es. arrows_from (do_conflict table) es net j k || arrows_to (do_conflict table) net e j k) (sym (split.was ∙ ap (λ o. split.front ++ (step_of o ++ split.back)) idle))
 
-  -- an undo makes no arrow
-  pub run_same : (numbered i rows).running ≡ None → AreTidy (tables table net (change_numbered (with_running (Some e)) i rows)) → e.undo ≡ true
-      → TellWalks (tables table net (change_numbered (with_running (Some e)) i rows)) marks
-  run_same idle tidy_now undo =
-      run_tells i table net rows (Some e) marks has tidy_was tidy_now (rw idle refl) (rw (undo_no_step e undo) refl) tells
-
-  -- a step takes effect
-  pub effect_but : (numbered i rows).running ≡ Some e → AreTidy (tables table (net_after i (Some e) net) (change_numbered (with_running None) i rows)) → e.undo ≡ false
-      → TellWalksBut (tables table (net_after i (Some e) net) (change_numbered (with_running None) i rows)) (arrows_by (do_conflict table) e (steps_under_way (change_numbered (with_running None) i rows))) marks
-  effect_but under tidy_now forward new extended =
+  -- and once a step took effect
+  pub effect_more : (numbered i rows).running ≡ Some e → e.undo ≡ false → (j k : ℕ)
+      → arrows_in (tables table (net_after i (Some e) net) (change_numbered (with_running None) i rows)) j k
+      ≡ (arrows_in (tables table net rows) j k || arrows_by (do_conflict table) e (steps_under_way (change_numbered (with_running None) i rows)) j k)
+  effect_more under forward j k =
       let split = split_steps i rows has in
       let after = change_numbered (with_running None) i rows in
       let now : steps_under_way after ≡ split.front ++ split.back = split.now None in
       let was : steps_under_way rows ≡ split.front ++ e ∷ split.back = split.was ∙ ap (λ o. split.front ++ (step_of o ++ split.back)) under ∙ ap (λ es. split.front ++ (es ++ split.back)) (step_is e forward) in
       let settled : net_after i (Some e) net ≡ net ++ e ∷ [] = rw forward refl in
-      more_tells (tables table net rows) (tables table (net_after i (Some e) net) after) tidy_was tidy_now (arrows_by (do_conflict table) e (steps_under_way after)) (same_numbers None i rows)
-      (λ j k.
       ap (λ es. arrows_from (do_conflict table) (steps_under_way after) es j k) settled
       ∙ ap (λ es. arrows_from (do_conflict table) es (net ++ e ∷ []) j k) now
       ∙ settled_more (do_conflict table) j k split.front e split.back net
       ∙ ap (λ es. arrows_from (do_conflict table) es net j k || arrows_by (do_conflict table) e (split.front ++ split.back) j k) (sym was)
-      ∙ ap (λ es. arrows_from (do_conflict table) (steps_under_way rows) net j k || arrows_by (do_conflict table) e es j k) (sym now))
-      marks new tells extended
+      ∙ ap (λ es. arrows_from (do_conflict table) (steps_under_way rows) net j k || arrows_by (do_conflict table) e es j k) (sym now)

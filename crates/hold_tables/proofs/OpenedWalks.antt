@@ -5,10 +5,12 @@ use Rattle.std.proofs.lemmas.Bool.{eq-eqb, false≢true, ne_eqb, or_left}
 use Rattle.process_tree.specs.declared.entry.Entry.{Entry}
 use Rattle.process_tree.specs.Conflicts.{Table, do_conflict}
 use Rattle.schedule_model.specs.Holdings.{reaches}
-use Rattle.hold_tables.specs.Tables.{OpenProcess, Tables, has_number, holdings_of, holds_nothing, is_open}
+use Rattle.hold_tables.specs.Tables.{OpenProcess, Tables, has_number, holdings_of, holds_nothing}
 use Rattle.hold_tables.specs.Kept.{AreTidy}
 use Rattle.hold_tables.specs.Places.{place_of}
-use Rattle.hold_tables.specs.Walks.{IsUnmarked, TellWalks, arrows_from, cell, step_of, steps_under_way, told}
+use Rattle.schedule_model.specs.Graph.{Arrow}
+use Rattle.hold_tables.specs.Arrows.{TellArrows, arrows_in}
+use Rattle.hold_tables.specs.Walks.{AreRows, IsUnmarked, TellWalks, arrows_from, cell, step_of, steps_under_way, told}
 use Rattle.hold_tables.proofs.Arrows.{steps_first}
 use Rattle.hold_tables.proofs.Extended.{place_within}
 use Rattle.hold_tables.proofs.Marks.{past_unmarked}
@@ -39,63 +41,84 @@ steps_of_more : (i steps : ℕ) (rows : List OpenProcess) → steps_under_way (r
 steps_of_more i steps [] = refl
 steps_of_more i steps (r ∷ rows) = steps_first r (rows ++ holds_nothing i steps ∷ []) ∙ ap (step_of r.running ++◌) (steps_of_more i steps rows) ∙ sym (steps_first r rows)
 
+-- the arrows stay
+pub arrows_of_more : (i steps : ℕ) (table : Table) (net : List Entry) (rows : List OpenProcess) (j k : ℕ)
+    → arrows_in (tables table net (rows ++ holds_nothing i steps ∷ [])) j k ≡ arrows_in (tables table net rows) j k
+arrows_of_more i steps table net rows j k = ap (λ es. arrows_from (do_conflict table) es net j k) (steps_of_more i steps rows)
+
 not_so : (b : Bool) → (b ≡ true → false ≡ true) → b ≡ false
 not_so true denied = absurd (false≢true (denied refl))
 not_so false denied = refl
 
-module _ (i steps : ℕ) (table : Table) (net : List Entry) (rows : List OpenProcess) (old new : List (List Bool)) (tidy_was : AreTidy (tables table net rows))
-    (tidy_now : AreTidy (tables table net (rows ++ holds_nothing i steps ∷ []))) (tells : TellWalks (tables table net rows) old) (unmarked : IsUnmarked (length rows) old new) where
-  abbrev was : Tables
-  was = tables table net rows
+module _ (i steps : ℕ) (rows : List OpenProcess) (old new : List (List Bool)) (count : length old ≡ length rows) (unmarked : IsUnmarked (length rows) old new)
+    (was now : Arrow) (stays : (j k : ℕ) → now j k ≡ was j k) (ends : (j k : ℕ) → was j k ≡ true → (has_number j rows ≡ true) × (has_number k rows ≡ true))
+    (tells : (j k : ℕ) → has_number j rows ≡ true → has_number k rows ≡ true → told rows old j k ≡ was j k) where
+  abbrev after : List OpenProcess
+  after = rows ++ holds_nothing i steps ∷ []
 
-  abbrev now : Tables
-  now = tables table net (rows ++ holds_nothing i steps ∷ [])
-
-  same_arrows : (j k : ℕ) → arrows_from (do_conflict table) (steps_under_way now.processes) net j k ≡ arrows_from (do_conflict table) (steps_under_way rows) net j k
-  same_arrows j k = ap (λ es. arrows_from (do_conflict table) es net j k) (steps_of_more i steps rows)
-
-  -- walks lead where they led
-  reach_stays : (j k : ℕ) → reaches (do_conflict table) (holdings_of now) j k ≡ reaches (do_conflict table) (holdings_of was) j k
-  reach_stays = same_reach now was tidy_now tidy_was
-      (λ j k is a. let arrow = sym (same_arrows j k) ∙ a in ((open_ends was tidy_was j k arrow).1, arrow))
-      (λ j k is a. (number_more k rows (holds_nothing i steps) ∙ or_left (has_number k rows) (nat_eq i k) is, same_arrows j k ∙ a))
-
-  place_new : (k : ℕ) → is_open now k ≡ true → has_number k rows ≡ false → place_of k now.processes ≡ length rows
+  place_new : (k : ℕ) → has_number k after ≡ true → has_number k rows ≡ false → place_of k after ≡ length rows
   place_new k there none = place_more k rows (holds_nothing i steps) none (sym (ap (λ b. b || nat_eq i k) none) ∙ sym (number_more k rows (holds_nothing i steps)) ∙ there)
 
-  told_open : (j k : ℕ) → has_number j rows ≡ true → has_number k rows ≡ true → told now.processes new j k ≡ reaches (do_conflict table) (holdings_of now) j k
+  told_open : (j k : ℕ) → has_number j rows ≡ true → has_number k rows ≡ true → told after new j k ≡ now j k
   told_open j k here there =
       let within = place_within rows k there in
-      ap (λ a. cell new a (place_of k now.processes)) (place_stays j rows (holds_nothing i steps ∷ []) here)
+      ap (λ a. cell new a (place_of k after)) (place_stays j rows (holds_nothing i steps ∷ []) here)
       ∙ ap (cell new (place_of j rows)) (place_stays k rows (holds_nothing i steps ∷ []) there)
       ∙ unmarked (place_of j rows) (place_of k rows)
       ∙ ap (λ b. not b && cell old (place_of j rows) (place_of k rows)) (ne_eqb (place_of k rows) (length rows) (λ same. omega (arith, within, same)))
-      ∙ tells.tell j k here there ∙ sym (reach_stays j k)
+      ∙ tells j k here there ∙ sym (stays j k)
 
-  told_from : (j k : ℕ) → is_open now j ≡ true → has_number j rows ≡ false → told now.processes new j k ≡ reaches (do_conflict table) (holdings_of now) j k
+  told_from : (j k : ℕ) → has_number j after ≡ true → has_number j rows ≡ false → told after new j k ≡ now j k
   told_from j k here none =
-      let count = tells.rows.0 in
-      ap (λ a. cell new a (place_of k now.processes)) (place_new j here none)
-      ∙ unmarked (length rows) (place_of k now.processes)
-      ∙ past_unmarked old (length rows) (length rows) (place_of k now.processes) (omega (arith, count))
-      ∙ sym (reach_stays j k ∙ not_so (reaches (do_conflict table) (holdings_of was) j k) (λ is. sym none ∙ (reach_ends was tidy_was j k is).0))
+      ap (λ a. cell new a (place_of k after)) (place_new j here none)
+      ∙ unmarked (length rows) (place_of k after)
+      ∙ past_unmarked old (length rows) (length rows) (place_of k after) (omega (arith, count))
+      ∙ sym (stays j k ∙ not_so (was j k) (λ is. sym none ∙ (ends j k is).0))
 
-  told_to : (j k : ℕ) → is_open now k ≡ true → has_number k rows ≡ false → told now.processes new j k ≡ reaches (do_conflict table) (holdings_of now) j k
+  told_to : (j k : ℕ) → has_number k after ≡ true → has_number k rows ≡ false → told after new j k ≡ now j k
   told_to j k there none =
-      ap (cell new (place_of j now.processes)) (place_new k there none)
-      ∙ unmarked (place_of j now.processes) (length rows)
-      ∙ ap (λ b. not b && cell old (place_of j now.processes) (length rows)) (eq-eqb (length rows) (length rows) refl)
-      ∙ sym (reach_stays j k ∙ not_so (reaches (do_conflict table) (holdings_of was) j k) (λ is. sym none ∙ (reach_ends was tidy_was j k is).1))
+      ap (cell new (place_of j after)) (place_new k there none)
+      ∙ unmarked (place_of j after) (length rows)
+      ∙ ap (λ b. not b && cell old (place_of j after) (length rows)) (eq-eqb (length rows) (length rows) refl)
+      ∙ sym (stays j k ∙ not_so (was j k) (λ is. sym none ∙ (ends j k is).1))
+
+  -- marks go on telling arrows among open processes, with a process more that has none
+  opened_told : (j k : ℕ) → has_number j after ≡ true → has_number k after ≡ true → told after new j k ≡ now j k
+  opened_told j k here there = by (has_number j rows) (has_number k rows) refl refl
+    where
+      by : (s t : Bool) → has_number j rows ≡ s → has_number k rows ≡ t → told after new j k ≡ now j k
+      by true true first last = told_open j k first last
+      by true false first last = told_to j k there last
+      by false t first last = told_from j k here first
+
+-- a row of marks more
+rows_more : (i steps : ℕ) (rows : List OpenProcess) (new : List (List Bool)) → length rows < 256 → length new ≡ length rows + 1 → AreRows (rows ++ holds_nothing i steps ∷ []) new
+rows_more i steps rows new few count = let longer = length-append rows (holds_nothing i steps ∷ []) in (omega (arith, longer, count), omega (arith, longer, few))
+
+module _ (i steps : ℕ) (table : Table) (net : List Entry) (rows : List OpenProcess) (old new : List (List Bool)) (tidy_was : AreTidy (tables table net rows))
+    (unmarked : IsUnmarked (length rows) old new) (few : length rows < 256) (count : length new ≡ length rows + 1) where
+  abbrev t_was : Tables
+  t_was = tables table net rows
+
+  abbrev t_now : Tables
+  t_now = tables table net (rows ++ holds_nothing i steps ∷ [])
+
+  -- walks lead where they led
+  reach_stays : AreTidy t_now → (j k : ℕ) → reaches (do_conflict table) (holdings_of t_now) j k ≡ reaches (do_conflict table) (holdings_of t_was) j k
+  reach_stays tidy_now = same_reach t_now t_was tidy_now tidy_was
+      (λ j k is a. let arrow = sym (arrows_of_more i steps table net rows j k) ∙ a in ((open_ends t_was tidy_was j k arrow).1, arrow))
+      (λ j k is a. (number_more k rows (holds_nothing i steps) ∙ or_left (has_number k rows) (nat_eq i k) is, arrows_of_more i steps table net rows j k ∙ a))
 
   -- the marks tell where walks lead, with a process more
-  pub opened_tells : length rows < 256 → length new ≡ length rows + 1 → TellWalks now new
-  opened_tells few count = record {
-    rows = (let longer = length-append rows (holds_nothing i steps ∷ []) in (omega (arith, longer, count), omega (arith, longer, few)));
-    tell = λ j k here there. by j k here there (has_number j rows) (has_number k rows) refl refl;
+  pub opened_tells : AreTidy t_now → TellWalks t_was old → TellWalks t_now new
+  opened_tells tidy_now tells = record {
+    rows = rows_more i steps rows new few count;
+    tell = opened_told i steps rows old new tells.rows.0 unmarked (reaches (do_conflict table) (holdings_of t_was)) (reaches (do_conflict table) (holdings_of t_now)) (reach_stays tidy_now) (reach_ends t_was tidy_was) tells.tell;
   }
-    where
-      by : (j k : ℕ) → is_open now j ≡ true → is_open now k ≡ true → (s t : Bool) → has_number j rows ≡ s → has_number k rows ≡ t
-          → told now.processes new j k ≡ reaches (do_conflict table) (holdings_of now) j k
-      by j k here there true true first last = told_open j k first last
-      by j k here there true false first last = told_to j k there last
-      by j k here there false t first last = told_from j k here first
+
+  -- and the arrows
+  pub opened_arrows : TellArrows t_was old → TellArrows t_now new
+  opened_arrows tells = record {
+    rows = rows_more i steps rows new few count;
+    tell = opened_told i steps rows old new tells.rows.0 unmarked (arrows_in t_was) (arrows_in t_now) (arrows_of_more i steps table net rows) (open_ends t_was tidy_was) tells.tell;
+  }

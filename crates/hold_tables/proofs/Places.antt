@@ -98,7 +98,7 @@ each_place P (x ∷ xs) zero d within each = each.0
 each_place P (x ∷ xs) (suc place) d within each = each_place P xs place d (omega arith) each.1
 
 -- a number that stands at a place is there
-number-at : (i : ℕ) (rows : List OpenProcess) (at : ℕ) (d : OpenProcess) → at < length rows → (slice_index_or rows at d).process ≡ i → has_number i rows ≡ true
+pub number-at : (i : ℕ) (rows : List OpenProcess) (at : ℕ) (d : OpenProcess) → at < length rows → (slice_index_or rows at d).process ≡ i → has_number i rows ≡ true
 number-at i [] at d within is = absurd (omega (arith, within))
 number-at i (r ∷ rows) zero d within is = or_left (nat_eq r.process i) (has_number i rows) (eq-eqb r.process i is)
 number-at i (r ∷ rows) (suc at) d within is = or_right (nat_eq r.process i) (has_number i rows) (number-at i rows at d (omega (arith, within)) is)

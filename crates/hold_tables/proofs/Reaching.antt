@@ -9,14 +9,12 @@ use Rattle.process_tree.specs.Order.{Each}
 use Rattle.schedule_model.specs.Histories.{is_in}
 use Rattle.schedule_model.specs.Conflict.{ConflictRelation}
 use Rattle.schedule_model.specs.Holdings.{active_net, arrow, behind, holders, running_steps}
-use Rattle.schedule_model.specs.Graph.{Arrow, Walk, leads, one_arrow, and_then}
+use Rattle.schedule_model.specs.Graph.{Arrow, Walk, one_arrow, and_then}
 use Rattle.schedule_model.proofs.Apart.{Apart}
-use Rattle.schedule_model.proofs.Walks.{leads-from_walk, walk-from_leads}
 use Rattle.hold_tables.specs.Tables.{OpenProcess, Tables, has_number, hold_in, holdings_of, is_open}
 use Rattle.hold_tables.specs.Changes.{can_come}
 use Rattle.hold_tables.specs.Kept.{AreTidy, IsKnown, IsTidy}
-use Rattle.hold_tables.specs.Walks.{AreRows, Implies, IsExtended, IsPlaced, IsPlacedIf, IsTransitive, TellWalks, arrows_by, arrows_from, cell, steps_under_way, told}
-use Rattle.hold_tables.specs.Places.{place_of}
+use Rattle.hold_tables.specs.Walks.{IsPlaced, IsPlacedIf, arrows_by, arrows_from, steps_under_way}
 use Rattle.hold_tables.proofs.Least.{all_running-is}
 use Rattle.hold_tables.proofs.Standing.{behind-rest, net_apart}
 use Rattle.hold_tables.proofs.Tidy.{each_entry}
@@ -78,44 +76,6 @@ same_truth true b there back = sym (there refl)
 same_truth false true there back = back refl
 same_truth false false there back = refl
 
-module _ (t : Tables) (tidy : AreTidy t) (old new : List (List Bool)) (none : (a b : ℕ) → cell old a b ≡ false)
-    (extended : IsExtended t.processes (arrows_from (do_conflict t.conflicts) (steps_under_way t.processes) t.net) old new) where
-  abbrev graph : Arrow
-  graph = arrow (do_conflict t.conflicts) (holdings_of t)
-
-  abbrev led : Arrow
-  led = leads graph (holders (holdings_of t))
-
-  led_on : IsTransitive t.processes led
-  led_on i j k here mid there first then =
-      leads-from_walk graph (holders (holdings_of t)) (walk_on graph (holders (holdings_of t)) (walk-from_leads graph (holders (holdings_of t)) i j first) (walk-from_leads graph (holders (holdings_of t)) j k then))
-
-  led_first : Implies t.processes (arrows_from (do_conflict t.conflicts) (steps_under_way t.processes) t.net) led
-  led_first i k here there a = leads-from_walk graph (holders (holdings_of t)) (one_arrow (holder-number k t.net t.processes there) (graph-is t tidy i k ∙ a))
-
-  told_led : Implies t.processes (told t.processes new) led
-  told_led = extended.least led led_on (λ i k here there is. absurd (false≢true (sym (none (place_of i t.processes) (place_of k t.processes)) ∙ is))) led_first
-
-  -- where a walk leads, the marks tell so
-  walk_told : {i k : ℕ} → is_open t i ≡ true → Walk graph (holders (holdings_of t)) i k → (is_open t k ≡ true) × (told t.processes new i k ≡ true)
-  walk_told {i} {k} here (one_arrow among a) =
-      let there = number-holder k t.net t.processes among in
-      (there, extended.has i k here there (sym (graph-is t tidy i k) ∙ a))
-  walk_told {i} {k} here (and_then {j = j} walk among a) =
-      let there = number-holder k t.net t.processes among in
-      let before = walk_told here walk in (
-        there,
-        extended.transitive (λ a b c x y z is. absurd (false≢true (sym (none (place_of a t.processes) (place_of b t.processes)) ∙ is))) i j k here before.0 there before.1
-            (extended.has j k before.0 there (sym (graph-is t tidy j k) ∙ a)),
-      )
-
-  -- the marks tell where walks lead
-  pub tell_walks : AreRows t.processes old → TellWalks t new
-  tell_walks are = record {
-    rows = (extended.count ∙ are.0, are.1);
-    tell = λ i k here there. same_truth (told t.processes new i k) (led i k) (told_led i k here there) (λ is. (walk_told here (walk-from_leads graph (holders (holdings_of t)) i k is)).1);
-  }
-
 -- both of what is true of each
 each_both : {A : Type 0} (P Q : A → Type 0) (xs : List A) → Each P xs → Each Q xs → Each (λ x. P x × Q x) xs
 each_both P Q [] ps qs = tt
@@ -125,7 +85,8 @@ each_both P Q (x ∷ xs) ps qs = ((ps.0, qs.0), each_both P Q xs ps.1 qs.1)
 pub placed_net : (t : Tables) → AreTidy t → Each (IsPlaced t.conflicts t.processes) t.net
 placed_net t tidy = each_both (IsKnown t.conflicts) (λ e. has_number e.process t.processes ≡ true) t.net tidy.known tidy.of_open
 
-numbers_listed : (rows : List OpenProcess) → Each (λ (r : OpenProcess). has_number r.process rows ≡ true) rows
+-- each process is among them
+pub numbers_listed : (rows : List OpenProcess) → Each (λ (r : OpenProcess). has_number r.process rows ≡ true) rows
 numbers_listed [] = tt
 numbers_listed (r ∷ rows) = (
   or_left (nat_eq r.process r.process) (has_number r.process rows) (eq-eqb r.process r.process refl),

@@ -1,10 +1,10 @@
 -- The conflict graph stays where no entry that comes or goes has an arrow, and the marks go on telling where its walks lead.
 use Rattle.std.proofs.Common.{◌≡◌, ◌≤◌, ◌+◌, add-one, ℕ, Bool, true, false, not, ◌||◌, ◌&&◌, List, [], ◌∷◌, ◌++◌, map, Option, Some, None, sym, refl, ap, ◌∙◌, subst, append_assoc}
-use Rattle.std.specs.Prelude.{IsTrue, nat_eq, if◌then◌else◌, slice_index_or, slice_set}
+use Rattle.std.specs.Prelude.{IsTrue, nat_eq, if◌then◌else◌, slice_index_or}
 use Rattle.std.specs.List.{list_any}
 use Rattle.std.proofs.lemmas.List.{append-nil}
 use Rattle.std.proofs.lemmas.List.Folds.{list_any-append}
-use Rattle.std.proofs.lemmas.Bool.{false≢true}
+use Rattle.std.proofs.lemmas.Bool.{and_parts, false≢true}
 use Rattle.process_tree.specs.declared.entry.Entry.{Entry}
 use Rattle.process_tree.specs.Conflicts.{Table, do_conflict}
 use Rattle.process_tree.specs.Order.{Each}
@@ -18,13 +18,14 @@ use Rattle.schedule_model.proofs.Walks.{leads-from_walk, walk-from_leads}
 use Rattle.hold_tables.specs.Tables.{OpenProcess, Tables, has_number, holdings_of, is_open, numbered}
 use Rattle.hold_tables.specs.Changes.{change_numbered, has_entry, net_after, with_running, without_last}
 use Rattle.hold_tables.specs.Kept.{AreTidy, IsKnown}
+use Rattle.hold_tables.specs.Arrows.{arrows_in, last_leads}
 use Rattle.hold_tables.specs.Places.{last_place, later_place, place_of}
 use Rattle.hold_tables.specs.Walks.{TellWalks, arrows_by, arrows_from, cell, conflicts_with, entry_settled, has_arrows, last_of, one_has_arrows, step_has_arrows, step_of, steps_under_way}
 use Rattle.hold_tables.proofs.Arrows.{none_first, steps_first}
 use Rattle.hold_tables.proofs.Marks.{neither_of}
 use Rattle.hold_tables.proofs.Places.{first_or_none, last_away, no_place}
 use Rattle.hold_tables.proofs.Reaching.{graph-is, holder-number, number-holder, same_truth}
-use Rattle.hold_tables.proofs.Tidy.{row_changed, tables}
+use Rattle.hold_tables.proofs.Tidy.{tables}
 use Rattle.hold_tables.proofs.WalksStay.{same_count, same_open, same_places}
 
 -- an element that doesn't pass makes no difference
@@ -56,7 +57,7 @@ module _ (table : ConflictRelation) (both : IsSymmetric table) where
       let parts = neither_of (conflict table x y) (conflicts_with table ys x) none in
       ap (λ b. b || list_any (λ y. nat_eq y.process k && conflict table x y) ys) (ap (nat_eq y.process k &&◌) parts.0 ∙ none_first (nat_eq y.process k)) ∙ none_later x k ys parts.1
 
-  no_arrow_by : (x : Entry) (ys : List Entry) → conflicts_with table ys x ≡ false → (i k : ℕ) → arrows_by table x ys i k ≡ false
+  pub no_arrow_by : (x : Entry) (ys : List Entry) → conflicts_with table ys x ≡ false → (i k : ℕ) → arrows_by table x ys i k ≡ false
   no_arrow_by x ys none i k = ap (nat_eq x.process i &&◌) (none_later x k ys none) ∙ none_first (nat_eq x.process i)
 
   either : {a b c d : Bool} → a ≡ b → c ≡ d → (a || c) ≡ (b || d)
@@ -100,13 +101,15 @@ module _ (table : ConflictRelation) (both : IsSymmetric table) where
       (net_without running front x back parts.1 under i k)
 
 -- the net before and behind the last entry of process i
-record IsSplit (i : ℕ) (x : Entry) (es : List Entry) : Type 0 where
-  front : List Entry
-  back : List Entry
-  whole : es ≡ front ++ x ∷ back
-  rest : without_last i es ≡ front ++ back
+pub record IsSplit (i : ℕ) (x : Entry) (es : List Entry) : Type 0 where
+  pub front : List Entry
+  pub back : List Entry
+  pub whole : es ≡ front ++ x ∷ back
+  pub rest : without_last i es ≡ front ++ back
+  pub own : nat_eq x.process i ≡ true
+  pub leads : (table : ConflictRelation) (running : List Entry) → last_leads table running i es ≡ (conflicts_with table back x || conflicts_with table running x)
 
-split_last_of : (i : ℕ) (x : Entry) (es : List Entry) → last_of i es ≡ Some x → IsSplit i x es
+pub split_last_of : (i : ℕ) (x : Entry) (es : List Entry) → last_of i es ≡ Some x → IsSplit i x es
 split_last_of i x [] is = absurd cc
 split_last_of i x (e ∷ es) is = by (nat_eq e.process i && not (has_entry i es)) refl (split_last_of i x es)
   where
@@ -114,14 +117,28 @@ split_last_of i x (e ∷ es) is = by (nat_eq e.process i && not (has_entry i es)
     by true test later =
         let found : Some e ≡ Some x = rw test at is in
         let same : e ≡ x = cc in
-        record { front = []; back = es; whole = ap (λ e. e ∷ es) same; rest = rw test refl }
+        record {
+          front = [];
+          back = es;
+          whole = ap (λ e. e ∷ es) same;
+          rest = rw test refl;
+          own = ap (λ (e : Entry). nat_eq e.process i) (sym same) ∙ (and_parts (nat_eq e.process i) (not (has_entry i es)) test).0;
+          leads = λ table running. rw test (ap (λ e. conflicts_with table es e || conflicts_with table running e) same);
+        }
     by false test later =
         let further : last_of i es ≡ Some x = rw test at is in
         let found = later further in
-        record { front = e ∷ found.front; back = found.back; whole = ap (e ∷◌) found.whole; rest = rw test (ap (e ∷◌) found.rest) }
+        record {
+          front = e ∷ found.front;
+          back = found.back;
+          whole = ap (e ∷◌) found.whole;
+          rest = rw test (ap (e ∷◌) found.rest);
+          own = found.own;
+          leads = λ table running. rw test (found.leads table running);
+        }
 
 -- where process i has no last entry, all stay
-no_last : (i : ℕ) (es : List Entry) → last_of i es ≡ None → without_last i es ≡ es
+pub no_last : (i : ℕ) (es : List Entry) → last_of i es ≡ None → without_last i es ≡ es
 no_last i [] none = refl
 no_last i (e ∷ es) none = by (nat_eq e.process i && not (has_entry i es)) refl (no_last i es)
   where
@@ -156,10 +173,6 @@ split_steps i (r ∷ rows) has = by (nat_eq r.process i) refl (split_steps i row
       now = λ o. rw is (steps_first (with_running o r) rows);
     }
     by false is rest = split_later i r rows is (rest (subst (λ b. (b || has_number i rows) ≡ true) is has))
-
--- the arrows that the tables make
-abbrev pub arrows_in : Tables → Arrow
-arrows_in t = arrows_from (do_conflict t.conflicts) (steps_under_way t.processes) t.net
 
 -- each arrow of the one tables is one of the others
 abbrev pub Follows : Tables → Tables → Type 0
@@ -214,18 +227,31 @@ same_numbers o i (r ∷ rows) = by (nat_eq r.process i) refl (same_numbers o i r
     by true is rest = rw is refl
     by false is rest = rw is (ap (r.process ∷◌) rest)
 
--- where neither what was under way nor what is has an arrow, the walks stay
+-- where neither what was under way nor what is has an arrow, the arrows stay
+pub run_arrows : (i : ℕ) (table : Table) (net : List Entry) (rows : List OpenProcess) (o : Option Entry) → has_number i rows ≡ true
+    → step_has_arrows (do_conflict table) net (numbered i rows).running ≡ false → step_has_arrows (do_conflict table) net o ≡ false
+    → (j k : ℕ) → arrows_in (tables table net (change_numbered (with_running o) i rows)) j k ≡ arrows_in (tables table net rows) j k
+run_arrows i table net rows o has was now j k =
+    let split = split_steps i rows has in
+    ap (λ es. arrows_from (do_conflict table) es net j k) (split.now o)
+    ∙ steps_without (do_conflict table) (do_conflict-symmetric table) split.front o split.back net now j k
+    ∙ sym (steps_without (do_conflict table) (do_conflict-symmetric table) split.front (numbered i rows).running split.back net was j k)
+    ∙ ap (λ es. arrows_from (do_conflict table) es net j k) (sym split.was)
+
+-- and so do the walks
 pub run_tells : (i : ℕ) (table : Table) (net : List Entry) (rows : List OpenProcess) (o : Option Entry) (marks : List (List Bool)) → has_number i rows ≡ true
     → AreTidy (tables table net rows) → AreTidy (tables table net (change_numbered (with_running o) i rows))
     → step_has_arrows (do_conflict table) net (numbered i rows).running ≡ false → step_has_arrows (do_conflict table) net o ≡ false
     → TellWalks (tables table net rows) marks → TellWalks (tables table net (change_numbered (with_running o) i rows)) marks
 run_tells i table net rows o marks has tidy_was tidy_now was now tells =
+    same_walks (tables table net rows) (tables table net (change_numbered (with_running o) i rows)) marks tidy_was tidy_now (same_numbers o i rows) (run_arrows i table net rows o has was now) tells
+
+-- an undo leaves the steps that are under way
+pub steps_left : (i : ℕ) (rows : List OpenProcess) (e : Entry) → has_number i rows ≡ true → (numbered i rows).running ≡ Some e → e.undo ≡ true
+    → steps_under_way (change_numbered (with_running None) i rows) ≡ steps_under_way rows
+steps_left i rows e has under undo =
     let split = split_steps i rows has in
-    same_walks (tables table net rows) (tables table net (change_numbered (with_running o) i rows)) marks tidy_was tidy_now (same_numbers o i rows)
-    (λ j k. ap (λ es. arrows_from (do_conflict table) es net j k) (split.now o)
-    ∙ steps_without (do_conflict table) (do_conflict-symmetric table) split.front o split.back net now j k
-    ∙ sym (steps_without (do_conflict table) (do_conflict-symmetric table) split.front (numbered i rows).running split.back net was j k)
-    ∙ ap (λ es. arrows_from (do_conflict table) es net j k) (sym split.was)) tells
+    split.now None ∙ sym (split.was ∙ ap (λ o. split.front ++ (step_of o ++ split.back)) under ∙ ap (λ es. split.front ++ (es ++ split.back)) (undo_no_step e undo))
 
 module _ (i : ℕ) (table : Table) (net : List Entry) (rows : List OpenProcess) (e : Entry) (has : has_number i rows ≡ true) (under : (numbered i rows).running ≡ Some e)
     (none : one_has_arrows (do_conflict table) (steps_under_way rows) net (entry_settled i e net) ≡ false) where
@@ -253,36 +279,24 @@ module _ (i : ℕ) (table : Table) (net : List Entry) (rows : List OpenProcess) 
       ∙ sym (steps_without (do_conflict table) (do_conflict-symmetric table) split.front (Some e) split.back net (ap (λ es. list_any (conflicts_with (do_conflict table) net) es) (step_is e forward) ∙ ap (λ b. b || false) quiet.0) j k)
       ∙ ap (λ es. arrows_from (do_conflict table) es net j k) (sym was)
 
-  -- an undo leaves what is under way
-  steps_stay : e.undo ≡ true → steps_under_way after ≡ steps_under_way rows
-  steps_stay undo =
-      let split = split_steps i rows has in
-      split.now None ∙ sym (split.was ∙ ap (λ o. split.front ++ (step_of o ++ split.back)) under ∙ ap (λ es. split.front ++ (es ++ split.back)) (undo_no_step e undo))
-
   -- and takes an entry from the net
   undo_arrows : e.undo ≡ true → (o : Option Entry) → last_of i net ≡ o → (j k : ℕ)
       → arrows_from (do_conflict table) (steps_under_way after) (without_last i net) j k ≡ arrows_from (do_conflict table) (steps_under_way rows) net j k
   undo_arrows undo None last j k =
-      ap (λ es. arrows_from (do_conflict table) es (without_last i net) j k) (steps_stay undo) ∙ ap (λ es. arrows_from (do_conflict table) (steps_under_way rows) es j k) (no_last i net last)
+      ap (λ es. arrows_from (do_conflict table) es (without_last i net) j k) (steps_left i rows e has under undo) ∙ ap (λ es. arrows_from (do_conflict table) (steps_under_way rows) es j k) (no_last i net last)
   undo_arrows undo (Some x) last j k =
       let quiet = none_settled x (ap (λ b. if b then last_of i net else Some e) undo ∙ last) in
       let split = split_last_of i x net last in
       let parts = none_append (conflict (do_conflict table) x) split.front (x ∷ split.back) (sym (ap (λ es. conflicts_with (do_conflict table) es x) split.whole) ∙ quiet.0) in
       let others = list_any-append (conflict (do_conflict table) x) split.front split.back ∙ ap (λ b. b || list_any (conflict (do_conflict table) x) split.back) parts.0 ∙ (neither_of (conflict (do_conflict table) x x) (conflicts_with (do_conflict table) split.back x) parts.1).1 in
-      ap (λ es. arrows_from (do_conflict table) es (without_last i net) j k) (steps_stay undo)
+      ap (λ es. arrows_from (do_conflict table) es (without_last i net) j k) (steps_left i rows e has under undo)
       ∙ ap (λ es. arrows_from (do_conflict table) (steps_under_way rows) es j k) split.rest
       ∙ sym (net_without (do_conflict table) (do_conflict-symmetric table) (steps_under_way rows) split.front x split.back others quiet.1 j k)
       ∙ ap (λ es. arrows_from (do_conflict table) (steps_under_way rows) es j k) (sym split.whole)
 
-  settled_arrows : (b : Bool) → e.undo ≡ b → (j k : ℕ) → arrows_from (do_conflict table) (steps_under_way after) (net_after i (Some e) net) j k ≡ arrows_from (do_conflict table) (steps_under_way rows) net j k
+  pub settled_arrows : (b : Bool) → e.undo ≡ b → (j k : ℕ) → arrows_from (do_conflict table) (steps_under_way after) (net_after i (Some e) net) j k ≡ arrows_from (do_conflict table) (steps_under_way rows) net j k
   settled_arrows true undo j k = ap (λ b. arrows_from (do_conflict table) (steps_under_way after) (if b then without_last i net else net ++ e ∷ []) j k) undo ∙ undo_arrows undo (last_of i net) refl j k
   settled_arrows false forward j k = ap (λ b. arrows_from (do_conflict table) (steps_under_way after) (if b then without_last i net else net ++ e ∷ []) j k) forward ∙ step_arrows forward j k
-
-  -- where it has no arrow, the walks stay as it takes effect
-  pub effect_tells : (marks : List (List Bool)) → AreTidy (tables table net rows) → AreTidy (tables table (net_after i (Some e) net) after)
-      → TellWalks (tables table net rows) marks → TellWalks (tables table (net_after i (Some e) net) after) marks
-  effect_tells marks tidy_was tidy_now tells =
-      same_walks (tables table net rows) (tables table (net_after i (Some e) net) after) marks tidy_was tidy_now (same_numbers None i rows) (settled_arrows e.undo refl) tells
 
 by_last : (b : Bool) (e : Entry) (found wanted : Option Entry) → found ≡ wanted → (if b && false then Some e else found) ≡ wanted
 by_last true e found wanted is = is
@@ -333,14 +347,3 @@ known_settled table i e x net is known each = by e.undo refl
         let found : Some e ≡ Some x = sym (ap (λ b. if b then last_of i net else Some e) forward) ∙ is in
         let same : e ≡ x = cc in
         subst (IsKnown table) same known
-
--- the same at the row's place
-pub run_stood : (i : ℕ) (table : Table) (net : List Entry) (rows : List OpenProcess) (o : Option Entry) (marks : List (List Bool)) (at : ℕ) (before after : OpenProcess)
-    → has_number i rows ≡ true → at ≡ place_of i rows → before ≡ slice_index_or rows at before → after ≡ with_running o before
-    → AreTidy (tables table net rows) → AreTidy (tables table net (slice_set rows at after))
-    → step_has_arrows (do_conflict table) net (numbered i rows).running ≡ false → step_has_arrows (do_conflict table) net o ≡ false
-    → TellWalks (tables table net rows) marks → TellWalks (tables table net (slice_set rows at after)) marks
-run_stood i table net rows o marks at before after has at_is before_is after_is tidy_was tidy_now was now tells =
-    let same = row_changed (with_running o) i rows at before after has at_is before_is after_is in
-    subst (λ rs. TellWalks (tables table net rs) marks) (sym same)
-    (run_tells i table net rows o marks has tidy_was (subst (λ rs. AreTidy (tables table net rs)) same tidy_now) was now tells)

@@ -15,7 +15,8 @@ use Rattle.hold_tables.specs.Kept.{AreTidy}
 use Rattle.hold_tables.specs.Walks.{IsPlacedIf, arrows_by, arrows_from, step_of, steps_under_way}
 use Rattle.hold_tables.proofs.Arrows.{steps_first}
 use Rattle.hold_tables.proofs.Reaching.{graph-is, placed_running}
-use Rattle.hold_tables.proofs.SameGraph.{arrows_in, graph_of}
+use Rattle.hold_tables.specs.Arrows.{arrows_in}
+use Rattle.hold_tables.proofs.SameGraph.{graph_of}
 use Rattle.hold_tables.proofs.Tidy.{each_entry}
 
 pub each_append : {A : Type 0} (P : A → Type 0) (xs ys : List A) → Each P xs → Each P ys → Each P (xs ++ ys)

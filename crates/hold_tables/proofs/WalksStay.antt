@@ -21,7 +21,7 @@ abbrev pub KeepsRunning : (OpenProcess → OpenProcess) → Type 0
 KeepsRunning f = (r : OpenProcess) → ((f r).process ≡ r.process) × ((f r).running ≡ r.running)
 
 module _ (f : OpenProcess → OpenProcess) (keeps : KeepsRunning f) (i : ℕ) where
-  numbers : (rows : List OpenProcess) → map (λ (r : OpenProcess). r.process) (change_numbered f i rows) ≡ map (λ (r : OpenProcess). r.process) rows
+  pub numbers : (rows : List OpenProcess) → map (λ (r : OpenProcess). r.process) (change_numbered f i rows) ≡ map (λ (r : OpenProcess). r.process) rows
   numbers [] = refl
   numbers (r ∷ rows) = by (nat_eq r.process i) refl (numbers rows)
     where
@@ -30,7 +30,7 @@ module _ (f : OpenProcess → OpenProcess) (keeps : KeepsRunning f) (i : ℕ) wh
       by true is rest = rw is (ap (λ k. k ∷ map (λ (r : OpenProcess). r.process) rows) (keeps r).0)
       by false is rest = rw is (ap (r.process ∷◌) rest)
 
-  under_way : (rows : List OpenProcess) → flat_map running_of (change_numbered f i rows) ≡ flat_map running_of rows
+  pub under_way : (rows : List OpenProcess) → flat_map running_of (change_numbered f i rows) ≡ flat_map running_of rows
   under_way [] = refl
   under_way (r ∷ rows) = by (nat_eq r.process i) refl (under_way rows)
     where
@@ -104,9 +104,3 @@ pub walks_stood : (f : OpenProcess → OpenProcess) (i : ℕ) (table : Table) (n
 walks_stood f i table net rows marks at before after t view opened at_is before_is after_is keeps tells =
     let has : has_number i rows ≡ true = subst (λ t. is_open t i ≡ true) (sym view) opened in
     subst (λ rows. TellWalks (tables table net rows) marks) (sym (row_changed f i rows at before after has at_is before_is after_is)) (walks_stay f i table net rows marks keeps tells)
-
--- what is said of the lists that a slice lends is said of the lists
-pub tell_lent : (table : Table) (net lent_net : List Entry) (rows lent_rows : List OpenProcess) (marks : List (List Bool)) → lent_rows ≡ rows → lent_net ≡ net
-    → TellWalks (tables table lent_net lent_rows) marks → TellWalks (tables table net rows) marks
-tell_lent table net lent_net rows lent_rows marks same_rows same_net tells =
-    subst (λ rs. TellWalks (tables table net rs) marks) same_rows (subst (λ es. TellWalks (tables table es lent_rows) marks) same_net tells)

@@ -6,3 +6,4 @@ pub mod Places
 pub mod Walks
 pub mod Operations
 pub mod Spare
+pub mod Arrows

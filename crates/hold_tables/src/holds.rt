@@ -1,5 +1,5 @@
 // The tables of what the open processes hold.
-ghost use Rattle.std.specs.Prelude.{◌≡◌, ◌<◌, ◌≤◌, ◌+◌, ℕ, List, [], length, true, false, IfOk, OnOk, OnErr, IfSome, None, is_some};
+ghost use Rattle.std.specs.Prelude.{◌≡◌, ◌<◌, ◌≤◌, ◌+◌, ℕ, List, [], length, true, false, IfOk, OnOk, OnErr, IfSome, None, Some, is_some};
 ghost use Rattle.std.specs.Prelude.{slice_index_or, vec_capacity, vec_len};
 ghost use Rattle.process_tree.specs.Blocks.{outline};
 ghost use Rattle.process_tree.specs.Conflicts.{operations_in, do_conflict};
@@ -18,12 +18,15 @@ ghost use Rattle.hold_tables.specs.Places.{all_steps};
 ghost use Rattle.hold_tables.specs.Spare.{IsRoomIn};
 
 use crate::against::{Sought, least_of, least_reserved, least_running};
-use crate::extending::{tell_effect, tell_run, undo_has_arrows};
-use crate::looking::{all_steps, count_of, least_from, place_of, settle};
+use crate::extending::leads_if;
+use crate::graph::{Graph, close_if, tell_gone, tell_run, tell_step};
+use crate::looking::{all_steps, count_of, least_from, place_of, remove_last};
 use crate::operations::{
-    Beside, all_beside, is_clear_beside, is_clear_of, mark_effect, may_hold, ops_of,
+    Beside, all_beside, is_clear_beside, is_clear_of, mark_op, may_hold, ops_of,
 };
-use crate::reach::{MOST, Marks, add_place, leads_through, renew_if, step_has_arrows, take_place};
+use crate::reach::{
+    MOST, Marks, add_place, effect_has_arrows, leads_through, step_has_arrows, take_place,
+};
 use crate::row::Row;
 use crate::spare::Spare;
 use process_tree::{Conflicts, Entry, Plan};
@@ -37,7 +40,7 @@ pub struct Holds {
     conflicts: Conflicts,
     net: Vec<Entry>,
     rows: Vec<Row>,
-    walks: Vec<Marks>,
+    graph: Graph,
     /// What is held beside the net.
     beside: Beside,
     /// The operations of the net entries, and of some that were.
@@ -48,7 +51,7 @@ impl Model for Holds {
     ghost use Rattle.std.specs.Prelude.{vec_capacity};
     ghost use Rattle.hold_tables.specs.Tables.{Tables};
     ghost use Rattle.hold_tables.specs.Kept.{Stands};
-    ghost use Rattle.hold_tables.specs.Walks.{TellWalks};
+    ghost use Rattle.hold_tables.specs.Arrows.{TellGraph};
     ghost use Rattle.hold_tables.specs.Operations.{KeepOps, TellBeside, ops_of};
 
     ghost Value = { Tables };
@@ -56,7 +59,7 @@ impl Model for Holds {
     ghost view = { λ h. record { conflicts = h.conflicts; net = h.net.items; processes = h.rows.items } };
 
     ghost invariant = { λ h. Stands h.conflicts h.net.items h.rows.items (vec_capacity h.net)
-        × TellWalks (record { conflicts = h.conflicts; net = h.net.items; processes = h.rows.items }) h.walks.items
+        × TellGraph (record { conflicts = h.conflicts; net = h.net.items; processes = h.rows.items }) h.graph
         × TellBeside h.rows.items h.beside × KeepOps h.conflicts (ops_of h.net.items) h.in_net };
 }
 
@@ -70,7 +73,10 @@ impl Holds {
             conflicts: c.copy(alloc)?,
             net: Vec::new(alloc),
             rows: Vec::new(alloc),
-            walks: Vec::new(alloc),
+            graph: Graph {
+                arrows: Vec::new(alloc),
+                walks: Vec::new(alloc),
+            },
             beside: all_beside(&[]),
             in_net: ops_of(&[]),
         })
@@ -111,9 +117,11 @@ impl Holds {
         let row = Row::new(process, spare.steps, spare.reserved);
         spare.net.give_to(&mut self.net);
         spare.rows.give_to(&mut self.rows);
-        spare.walks.give_to(&mut self.walks);
+        spare.arrows.give_to(&mut self.graph.arrows);
+        spare.walks.give_to(&mut self.graph.walks);
         self.rows.push_reserved(row);
-        add_place(&mut self.walks);
+        add_place(&mut self.graph.arrows);
+        add_place(&mut self.graph.walks);
         self.beside = all_beside(&self.rows);
     }
 
@@ -126,8 +134,16 @@ impl Holds {
         ensures { self.new ≡ run e self.old }
     {
         let at = place_of(&self.rows, e.process);
+        let changed = step_has_arrows(&self.conflicts, &self.net, &self.in_net, Some(e));
         self.rows[at].run(Some(e));
-        tell_run(&mut self.walks, &self.conflicts, &self.rows, &self.net, e);
+        tell_run(
+            changed,
+            &mut self.graph,
+            &self.conflicts,
+            &self.rows,
+            &self.net,
+            e,
+        );
         self.beside = all_beside(&self.rows);
     }
 
@@ -144,12 +160,14 @@ impl Holds {
             self.rows[at].running(),
         );
         self.rows[at].run(None);
-        renew_if(
+        tell_gone(
             changed,
-            &mut self.walks,
+            false,
+            &mut self.graph,
             &self.conflicts,
             &self.rows,
             &self.net,
+            process,
         );
         self.beside = all_beside(&self.rows);
     }
@@ -164,7 +182,37 @@ impl Holds {
         let Some(e) = self.rows[at].running() else {
             unreachable!();
         };
-        let changed = undo_has_arrows(
+        if e.undo {
+            self.undone(process, e);
+        } else {
+            self.done(process, e);
+        }
+    }
+
+    // The step took effect that is under way in the process.
+    fn done(&mut self, process: u32, e: Entry)
+        requires open { is_open self.old process ≡ true }
+        requires running { (kept_of self.old process).running ≡ Some e }
+        requires step { e.undo ≡ false }
+        ensures { self.new ≡ took_effect process self.old }
+    {
+        let at = place_of(&self.rows, process);
+        self.net.push_reserved(e);
+        self.rows[at].run(None);
+        tell_step(&mut self.graph, &self.conflicts, &self.rows, &self.net, e);
+        self.beside = all_beside(&self.rows);
+        mark_op(&mut self.in_net, e.op);
+    }
+
+    // The undo took effect that is under way in the process.
+    fn undone(&mut self, process: u32, e: Entry)
+        requires open { is_open self.old process ≡ true }
+        requires running { (kept_of self.old process).running ≡ Some e }
+        requires undo { e.undo ≡ true }
+        ensures { self.new ≡ took_effect process self.old }
+    {
+        let at = place_of(&self.rows, process);
+        let changed = effect_has_arrows(
             &self.conflicts,
             &self.rows,
             &self.net,
@@ -172,18 +220,19 @@ impl Holds {
             process,
             e,
         );
-        settle(&mut self.net, process, e);
+        let leads = leads_if(changed, &self.conflicts, &self.rows, &self.net, process);
+        remove_last(&mut self.net, process);
         self.rows[at].run(None);
-        tell_effect(
+        tell_gone(
             changed,
-            &mut self.walks,
+            leads,
+            &mut self.graph,
             &self.conflicts,
             &self.rows,
             &self.net,
-            e,
+            process,
         );
         self.beside = all_beside(&self.rows);
-        mark_effect(&mut self.in_net, e);
     }
 
     /// All net entries that the process has are fixed.
@@ -237,13 +286,14 @@ impl Holds {
         ensures { self.new ≡ dropped process self.old }
     {
         let at = place_of(&self.rows, process);
-        let linked = leads_through(&self.walks, at);
+        let linked = leads_through(&self.graph.walks, at);
         self.net.retain(|e| e.process != process);
         self.rows.retain(|row| row.process() != process);
-        take_place(&mut self.walks, at);
-        renew_if(
+        take_place(&mut self.graph.arrows, at);
+        take_place(&mut self.graph.walks, at);
+        close_if(
             linked,
-            &mut self.walks,
+            &mut self.graph,
             &self.conflicts,
             &self.rows,
             &self.net,
@@ -386,7 +436,7 @@ impl Holds {
         requires to { is_open self.now to ≡ true }
         ensures { result ≡ reaches (do_conflict self.now.conflicts) (holdings_of self.now) from to }
     {
-        self.walks[place_of(&self.rows, from)][place_of(&self.rows, to)]
+        self.graph.walks[place_of(&self.rows, from)][place_of(&self.rows, to)]
     }
 
     /// The least other process, and its step, that holds a net entry, has one under way, or reserves one against the operation on

@@ -110,21 +110,8 @@ pub fn entry_settled(net: &[Entry], process: u32, e: Entry) -> Option<Entry>
     }
 }
 
-/// The net once this took effect in the process.
-pub fn settle(net: &mut Vec<Entry>, process: u32, e: Entry)
-    requires room { e.undo ≡ false → vec_len net.old < vec_capacity net.old }
-    ensures net { net.new.items ≡ net_after process (Some e) net.old.items }
-    ensures capacity { vec_capacity net.new ≡ vec_capacity net.old }
-{
-    if e.undo {
-        remove_last(net, process);
-    } else {
-        net.push_reserved(e);
-    }
-}
-
 /// Takes the last entry of the process away.
-fn remove_last(net: &mut Vec<Entry>, process: u32)
+pub fn remove_last(net: &mut Vec<Entry>, process: u32)
     ensures net { net.new.items ≡ without_last process net.old.items }
     ensures capacity { vec_capacity net.new ≡ vec_capacity net.old }
 {

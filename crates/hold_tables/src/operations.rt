@@ -26,8 +26,8 @@ fn slot_of(op: u16) -> usize
     usize::from(op).min(MOST - 1)
 }
 
-/// Marks an operation.
-fn mark_op(marks: &mut Marks, op: u16)
+/// Marks an operation. What an undo takes away stays marked among those of the net until a process ends.
+pub fn mark_op(marks: &mut Marks, op: u16)
     ensures { AddsOps (op ∷ []) marks.old marks.new }
 {
     marks[slot_of(op)] = true;
@@ -116,15 +116,6 @@ pub fn ops_of(entries: &[Entry]) -> Marks
     let mut marks = [false; MOST];
     mark_entries(&mut marks, entries);
     marks
-}
-
-/// Marks the operation of a step that took effect. What an undo takes away stays marked until a process ends.
-pub fn mark_effect(marks: &mut Marks, e: Entry)
-    ensures { AddsOps (if e.undo then [] else e.op ∷ []) marks.old marks.new }
-{
-    if !e.undo {
-        mark_op(marks, e.op);
-    }
 }
 
 /// Whether steps of two operations may conflict.

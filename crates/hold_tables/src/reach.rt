@@ -25,7 +25,7 @@ pub const MOST: usize = 256;
 pub type Marks = [bool; MOST];
 
 /// Marks what the other has marked.
-fn add(into: &mut Marks, from: &Marks)
+pub fn add(into: &mut Marks, from: &Marks)
     ensures { (d : ℕ) → d < 256 → slice_index_or into.new d false
         ≡ (slice_index_or into.old d false || slice_index_or from.now d false) }
 {
@@ -71,20 +71,6 @@ pub fn follow(marks: &mut [Marks], conflicts: &Conflicts, rows: &[Row], x: Entry
     }
 }
 
-/// The same of all that come later.
-fn follow_all(marks: &mut [Marks], conflicts: &Conflicts, rows: &[Row], x: Entry, later: &[Entry])
-    requires rows { AreDistinctRows rows.now marks.old }
-    requires first { IsPlaced conflicts.now rows.now x }
-    requires later { Each (IsPlaced conflicts.now rows.now) later.now }
-    ensures { IsExtended rows.now (arrows_by (do_conflict conflicts.now) x later.now) marks.old marks.new }
-{
-    let mut rest = later;
-    'entries: while let Some((y, after)) = rest.split_first() {
-        follow(marks, conflicts, rows, x, *y);
-        rest = after;
-    }
-}
-
 /// The same of a step that is under way.
 fn follow_step(
     marks: &mut [Marks],
@@ -119,77 +105,8 @@ pub fn follow_steps(marks: &mut [Marks], conflicts: &Conflicts, rows: &[Row], x:
     }
 }
 
-/// Adds each arrow of the conflict graph.
-fn follow_graph(marks: &mut [Marks], conflicts: &Conflicts, rows: &[Row], net: &[Entry])
-    requires rows { AreDistinctRows rows.now marks.old }
-    requires net { Each (IsPlaced conflicts.now rows.now) net.now }
-    requires running { Each (λ r. IsPlacedIf conflicts.now rows.now r.running) rows.now }
-    ensures { IsExtended rows.now (arrows_from (do_conflict conflicts.now) (steps_under_way rows.now) net.now) marks.old marks.new }
-{
-    let mut rest = net;
-    'entries: while let Some((x, later)) = rest.split_first() {
-        follow_all(marks, conflicts, rows, *x, later);
-        follow_steps(marks, conflicts, rows, *x);
-        rest = later;
-    }
-}
-
-/// Takes the marks of a row away.
-fn erase(row: &mut Marks)
-    ensures { (b : ℕ) → slice_index_or row.new b false ≡ false }
-{
-    *row = [false; MOST];
-}
-
-/// Takes all marks away.
-fn clear(marks: &mut [Marks])
-    ensures { (a b : ℕ) → cell marks.new a b ≡ false }
-{
-    for row in marks.iter_mut() {
-        erase(row);
-    }
-}
-
-/// Marks where walks of the conflict graph lead.
-fn mark(marks: &mut [Marks], conflicts: &Conflicts, rows: &[Row], net: &[Entry])
-    requires rows { AreRows rows.now marks.old }
-    requires tidy { AreTidy (record { conflicts = conflicts.now; net = net.now; processes = rows.now }) }
-    ensures { TellWalks (record { conflicts = conflicts.now; net = net.now; processes = rows.now }) marks.new }
-{
-    clear(marks);
-    follow_graph(marks, conflicts, rows, net);
-}
-
-/// The same of the marks that are kept.
-fn renew(walks: &mut Vec<Marks>, conflicts: &Conflicts, rows: &[Row], net: &[Entry])
-    requires rows { AreRows rows.now walks.old.items }
-    requires tidy { AreTidy (record { conflicts = conflicts.now; net = net.now; processes = rows.now }) }
-    ensures tell { TellWalks (record { conflicts = conflicts.now; net = net.now; processes = rows.now }) walks.new.items }
-{
-    mark(walks, conflicts, rows, net);
-}
-
-/// The same where they may have changed: else the marks stay.
-pub fn renew_if(
-    changed: bool,
-    walks: &mut Vec<Marks>,
-    conflicts: &Conflicts,
-    rows: &[Row],
-    net: &[Entry],
-)
-    requires rows { AreRows rows.now walks.old.items }
-    requires tidy { AreTidy (record { conflicts = conflicts.now; net = net.now; processes = rows.now }) }
-    requires same { changed ≡ false → TellWalks
-        (record { conflicts = conflicts.now; net = net.now; processes = rows.now }) walks.old.items }
-    ensures tell { TellWalks (record { conflicts = conflicts.now; net = net.now; processes = rows.now }) walks.new.items }
-{
-    if changed {
-        renew(walks, conflicts, rows, net);
-    }
-}
-
 /// Whether the entry conflicts with one of these.
-fn conflicts_with(conflicts: &Conflicts, entries: &[Entry], e: Entry) -> bool
+pub fn conflicts_with(conflicts: &Conflicts, entries: &[Entry], e: Entry) -> bool
     requires known { IsKnown conflicts.now e }
     requires each { Each (IsKnown conflicts.now) entries.now }
     ensures { result ≡ conflicts_with (do_conflict conflicts.now) entries.now e }
@@ -233,7 +150,7 @@ pub fn step_has_arrows(
 }
 
 /// Whether the entry conflicts with one of the steps that are under way.
-fn conflicts_with_running(conflicts: &Conflicts, rows: &[Row], e: Entry) -> bool
+pub fn conflicts_with_running(conflicts: &Conflicts, rows: &[Row], e: Entry) -> bool
     requires known { IsKnown conflicts.now e }
     requires running { Each (λ r. IsKnownRunning conflicts.now r.running) rows.now }
     ensures { result ≡ conflicts_with (do_conflict conflicts.now) (steps_under_way rows.now) e }
@@ -302,7 +219,7 @@ fn unmark(row: &mut Marks, place: usize)
 }
 
 /// Takes the marks of a place away in all rows.
-fn unmark_all(marks: &mut [Marks], place: usize)
+pub fn unmark_all(marks: &mut [Marks], place: usize)
     requires { place < 256 }
     ensures { IsUnmarked place marks.old marks.new }
 {

@@ -59,6 +59,7 @@ pub struct Spare {
     pub(crate) reserved: SpareCapacity<(u16, u16, u32)>,
     pub(crate) net: SpareCapacity<Entry>,
     pub(crate) rows: SpareCapacity<Row>,
+    pub(crate) arrows: SpareCapacity<Marks>,
     pub(crate) walks: SpareCapacity<Marks>,
 }
 
@@ -70,7 +71,7 @@ impl Model for Spare {
 
     ghost view = { λ s. record { steps = s.steps; net = s.net; processes = s.rows } };
 
-    ghost invariant = { λ s. (s.steps ≤ s.reserved) × (s.rows ≤ s.walks) };
+    ghost invariant = { λ s. (s.steps ≤ s.reserved) × (s.rows ≤ s.arrows) × (s.rows ≤ s.walks) };
 }
 
 impl Spare {
@@ -83,6 +84,7 @@ impl Spare {
             reserved: SpareCapacity::new(alloc, usize::from(steps))?,
             net: SpareCapacity::new(alloc, net)?,
             rows: SpareCapacity::new(alloc, processes)?,
+            arrows: SpareCapacity::new(alloc, processes)?,
             walks: SpareCapacity::new(alloc, processes)?,
         })
     }

@@ -3,28 +3,28 @@ use Rattle.std.specs.Prelude.{List, slice_set}
 use Rattle.process_tree.specs.Conflicts.{do_conflict}
 use Rattle.hold_tables.specs.Tables.{OpenProcess, Tables, has_number, kept_of, numbered}
 use Rattle.hold_tables.specs.Kept.{AreTidy, IsKnown}
-use Rattle.hold_tables.specs.Walks.{TellWalks, TellWalksBut, arrows_to}
+use Rattle.hold_tables.specs.Walks.{arrows_to, step_has_arrows}
 use Rattle.hold_tables.specs.Operations.{TellBeside}
 use Rattle.hold_tables.specs.Changes.{change_numbered, with_running, can_come}
 use Rattle.schedule_model.specs.Histories.{of_process}
 use Rattle.hold_tables.specs.Places.{place_of}
-use Rattle.hold_tables.proofs.MoreWalks.{run_but, run_same}
+use Rattle.process_tree.specs.declared.entry.Entry.{Entry}
+use Rattle.hold_tables.proofs.GraphStays.{TellBoth, TellBothBut, arrow_of_step, graph_lent, run_both, run_same}
 use Rattle.hold_tables.proofs.Tidy.{is_among, numbers_stay, returned, row_changed, stood, tables}
-use Rattle.hold_tables.proofs.WalksStay.{tell_lent}
 use Rattle.hold_tables.proofs.holds.Holds.run.Goals as goal
 
 pub invariant_of-self : goal.invariant_of-self
 invariant_of-self c = (
   stood (with_running (Some c.args.e)) c.args.e.process c.self.inside.conflicts c.self.inside.net.items c.self.inside.rows.items c.place_of-at.result c.index_mut.result.now c.run.new.self c.args.self.now _ c.self.view_is c.requires.open (c.place_of-at.ensures.place ∙ ap (place_of c.args.e.process) c.deref.ensures.value) c.index_mut.ensures.value c.run.ensures (λ r. (refl, refl))
       (λ tidy own. record { within = tidy.within; once = tidy.once; fixed = tidy.fixed; running = (sym own, subst (λ n. can_come (of_process n c.args.self.now.net) (kept_of c.args.self.now c.args.e.process) c.args.e ≡ true) (sym own) c.requires.may, c.requires.known); reserved = tidy.reserved; fits = tidy.fits }) c.self.invariant.0,
-  tell_lent c.self.inside.conflicts _ _ _ _ c.tell_run.new.walks.items c.deref-2.ensures.value c.deref-3.ensures.value c.tell_run.ensures.tell,
-  subst (λ (rs : List OpenProcess). TellBeside rs c.all_beside-self-inside.result) c.deref-4.ensures.value c.all_beside-self-inside.ensures,
+  graph_lent c.self.inside.conflicts _ _ _ _ c.tell_run.new.graph.arrows.items c.tell_run.new.graph.walks.items c.deref-3.ensures.value c.deref-4.ensures.value c.tell_run.ensures.tell,
+  subst (λ (rs : List OpenProcess). TellBeside rs c.all_beside-self-inside.result) c.deref-5.ensures.value c.all_beside-self-inside.ensures,
   c.self.invariant.3,
 )
 
 pub tell_run-requires-clause-tidy : goal.tell_run-requires-clause-tidy
 tell_run-requires-clause-tidy c =
-    rw (c.deref-2.ensures.value, c.deref-3.ensures.value) (stood (with_running (Some c.args.e)) c.args.e.process c.self.inside.conflicts c.self.inside.net.items c.self.inside.rows.items c.place_of-at.result c.index_mut.result.now c.run.new.self c.args.self.now _ c.self.view_is c.requires.open (c.place_of-at.ensures.place ∙ ap (place_of c.args.e.process) c.deref.ensures.value) c.index_mut.ensures.value c.run.ensures (λ r. (refl, refl))
+    rw (c.deref-3.ensures.value, c.deref-4.ensures.value) (stood (with_running (Some c.args.e)) c.args.e.process c.self.inside.conflicts c.self.inside.net.items c.self.inside.rows.items c.place_of-at.result c.index_mut.result.now c.run.new.self c.args.self.now _ c.self.view_is c.requires.open (c.place_of-at.ensures.place ∙ ap (place_of c.args.e.process) c.deref.ensures.value) c.index_mut.ensures.value c.run.ensures (λ r. (refl, refl))
     (λ tidy own. record { within = tidy.within; once = tidy.once; fixed = tidy.fixed; running = (sym own, subst (λ n. can_come (of_process n c.args.self.now.net) (kept_of c.args.self.now c.args.e.process) c.args.e ≡ true) (sym own) c.requires.may, c.requires.known); reserved = tidy.reserved; fits = tidy.fits }) c.self.invariant.0).0
 
 pub tell_run-requires-clause-placed : goal.tell_run-requires-clause-placed
@@ -36,45 +36,49 @@ tell_run-requires-clause-placed c =
     let place = c.place_of-at.ensures.place ∙ ap (place_of i) c.deref.ensures.value in
     let same : slice_set rows c.place_of-at.result c.run.new.self ≡ change_numbered change i rows = row_changed change i rows c.place_of-at.result c.index_mut.result.now c.run.new.self has place c.index_mut.ensures.value c.run.ensures in
     let known : IsKnown c.self.inside.conflicts c.args.e = subst (λ (t : Tables). IsKnown t.conflicts c.args.e) (sym c.self.view_is) c.requires.known in
-    rw c.deref-2.ensures.value (known, ap (has_number i) same ∙ numbers_stay change i i rows (λ r. (refl, refl)) ∙ has)
+    rw c.deref-3.ensures.value (known, ap (has_number i) same ∙ numbers_stay change i i rows (λ r. (refl, refl)) ∙ has)
 
-pub tell_run-requires-clause-step : goal.tell_run-requires-clause-step
-tell_run-requires-clause-step c =
+pub tell_run-requires-clause-more : goal.tell_run-requires-clause-more
+tell_run-requires-clause-more c =
     let e = c.args.e in
     let i = e.process in
     let change = with_running (Some e) in
     let table = c.self.inside.conflicts in
     let net = c.self.inside.net.items in
     let rows = c.self.inside.rows.items in
-    let walks = c.self.inside.walks.items in
+    let arrows = c.self.inside.graph.arrows.items in
+    let walks = c.self.inside.graph.walks.items in
     let has = is_among i table net rows c.args.self.now c.self.view_is c.requires.open in
     let place = c.place_of-at.ensures.place ∙ ap (place_of i) c.deref.ensures.value in
     let same : slice_set rows c.place_of-at.result c.run.new.self ≡ change_numbered change i rows = row_changed change i rows c.place_of-at.result c.index_mut.result.now c.run.new.self has place c.index_mut.ensures.value c.run.ensures in
     let idle : (numbered i rows).running ≡ None = ap (λ (t : Tables). (kept_of t i).running) c.self.view_is ∙ c.requires.none in
     let tidy : AreTidy (tables table net (slice_set rows c.place_of-at.result c.run.new.self)) =
-    rw (c.deref-2.ensures.value, c.deref-3.ensures.value) at (tell_run-requires-clause-tidy c) in
-    rw (c.deref-2.ensures.value, c.deref-3.ensures.value) (λ forward.
-    subst (λ (rs : List OpenProcess). TellWalksBut (tables table net rs) (arrows_to (do_conflict table) net e) walks) (sym same)
-    (run_but i table net rows e walks has c.self.invariant.0.0 c.self.invariant.1 idle (subst (λ (rs : List OpenProcess). AreTidy (tables table net rs)) same tidy) forward))
+    rw (c.deref-3.ensures.value, c.deref-4.ensures.value) at (tell_run-requires-clause-tidy c) in
+    rw (c.deref-3.ensures.value, c.deref-4.ensures.value) (λ changed.
+    subst (λ (rs : List OpenProcess). TellBothBut (tables table net rs) (arrows_to (do_conflict table) net e) arrows walks) (sym same)
+    (run_both i table net rows arrows walks has c.self.invariant.0.0 c.self.invariant.1 e idle (subst (λ (rs : List OpenProcess). AreTidy (tables table net rs)) same tidy)
+    (arrow_of_step table net e (sym (ap (λ (es : List Entry). step_has_arrows (do_conflict table) es (Some e)) c.deref-2.ensures.value) ∙ sym c.step_has_arrows-changed.ensures ∙ changed))))
 
-pub tell_run-requires-clause-undo : goal.tell_run-requires-clause-undo
-tell_run-requires-clause-undo c =
+pub tell_run-requires-clause-same : goal.tell_run-requires-clause-same
+tell_run-requires-clause-same c =
     let e = c.args.e in
     let i = e.process in
     let change = with_running (Some e) in
     let table = c.self.inside.conflicts in
     let net = c.self.inside.net.items in
     let rows = c.self.inside.rows.items in
-    let walks = c.self.inside.walks.items in
+    let arrows = c.self.inside.graph.arrows.items in
+    let walks = c.self.inside.graph.walks.items in
     let has = is_among i table net rows c.args.self.now c.self.view_is c.requires.open in
     let place = c.place_of-at.ensures.place ∙ ap (place_of i) c.deref.ensures.value in
     let same : slice_set rows c.place_of-at.result c.run.new.self ≡ change_numbered change i rows = row_changed change i rows c.place_of-at.result c.index_mut.result.now c.run.new.self has place c.index_mut.ensures.value c.run.ensures in
     let idle : (numbered i rows).running ≡ None = ap (λ (t : Tables). (kept_of t i).running) c.self.view_is ∙ c.requires.none in
     let tidy : AreTidy (tables table net (slice_set rows c.place_of-at.result c.run.new.self)) =
-    rw (c.deref-2.ensures.value, c.deref-3.ensures.value) at (tell_run-requires-clause-tidy c) in
-    rw (c.deref-2.ensures.value, c.deref-3.ensures.value) (λ undo.
-    subst (λ (rs : List OpenProcess). TellWalks (tables table net rs) walks) (sym same)
-    (run_same i table net rows e walks has c.self.invariant.0.0 c.self.invariant.1 idle (subst (λ (rs : List OpenProcess). AreTidy (tables table net rs)) same tidy) undo))
+    rw (c.deref-3.ensures.value, c.deref-4.ensures.value) at (tell_run-requires-clause-tidy c) in
+    rw (c.deref-3.ensures.value, c.deref-4.ensures.value) (λ none.
+    subst (λ (rs : List OpenProcess). TellBoth (tables table net rs) arrows walks) (sym same)
+    (run_same i table net rows arrows walks has c.self.invariant.0.0 c.self.invariant.1 (Some e) (subst (λ (rs : List OpenProcess). AreTidy (tables table net rs)) same tidy) (ap (step_has_arrows (do_conflict table) net) idle)
+    (sym (ap (λ (es : List Entry). step_has_arrows (do_conflict table) es (Some e)) c.deref-2.ensures.value) ∙ sym c.step_has_arrows-changed.ensures ∙ none)))
 
 pub returns : goal.returns
 returns c =

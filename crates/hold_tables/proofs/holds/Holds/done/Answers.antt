@@ -1,0 +1,99 @@
+use Rattle.std.proofs.Common.{◌≡◌, refl, ap, ◌∙◌, ◌++◌, ◌∷◌, [], List, Some, None, subst, sym, arith}
+use Rattle.process_tree.specs.declared.entry.Entry.{Entry}
+use Rattle.hold_tables.specs.Tables.{OpenProcess, Tables, kept_of, numbered}
+use Rattle.hold_tables.specs.Changes.{net_after, with_running}
+use Rattle.hold_tables.specs.Operations.{KeepOps, TellBeside, ops_of}
+use Rattle.hold_tables.specs.Places.{place_of}
+use Rattle.hold_tables.specs.Walks.{IsPlaced, IsPlacedIf}
+use Rattle.hold_tables.proofs.Effects.{effect_returned, effect_stands, step_stands}
+use Rattle.hold_tables.proofs.GraphStays.{done_both, graph_lent}
+use Rattle.hold_tables.proofs.HeldOps.{kept_step}
+use Rattle.hold_tables.proofs.Reaching.{placed_running}
+use Rattle.hold_tables.proofs.Tidy.{each_numbered, is_among, numbers_stay, row_changed, tables}
+use Rattle.hold_tables.proofs.holds.Holds.done.Goals as goal
+
+pub push_reserved-requires : goal.push_reserved-requires
+push_reserved-requires c =
+    let i = c.args.process in
+    let rows = c.self.inside.rows.items in
+    let has = is_among i c.self.inside.conflicts c.self.inside.net.items rows c.args.self.now c.self.view_is c.requires.open in
+    let under : (numbered i rows).running ≡ Some c.args.e = ap (λ (t : Tables). (kept_of t i).running) c.self.view_is ∙ c.requires.running in
+    let room = (step_stands i c.self.inside.conflicts c.self.inside.net.items rows _ c.args.e c.requires.step has under c.self.invariant.0).0 in
+    omega (arith, room, c.self.inside.net.ok.0)
+
+pub invariant_of-self : goal.invariant_of-self
+invariant_of-self c =
+    let i = c.args.process in
+    let e = c.args.e in
+    let table = c.self.inside.conflicts in
+    let net = c.self.inside.net.items in
+    let rows = c.self.inside.rows.items in
+    let has = is_among i table net rows c.args.self.now c.self.view_is c.requires.open in
+    let under : (numbered i rows).running ≡ Some e = ap (λ (t : Tables). (kept_of t i).running) c.self.view_is ∙ c.requires.running in
+    let place = c.place_of-at.ensures.place ∙ ap (place_of i) c.deref.ensures.value in
+    let changed = row_changed (with_running None) i rows c.place_of-at.result c.index_mut.result.now c.run.new.self has place c.index_mut.ensures.value c.run.ensures in
+    let settled : net_after i (Some e) net ≡ net ++ e ∷ [] = rw c.requires.step refl in
+    let is : IsPlaced table rows e = subst (IsPlacedIf table rows) under (each_numbered (λ (r : OpenProcess). IsPlacedIf table rows r.running) i rows has (placed_running (tables table net rows) c.self.invariant.0.0)).0 in (
+      rw (c.push_reserved.ensures.items, c.push_reserved.ensures.capacity, changed, ← settled) (effect_stands i table net rows _ e has under c.self.invariant.0),
+      graph_lent table _ _ _ _ c.tell_step.new.graph.arrows.items c.tell_step.new.graph.walks.items c.deref-2.ensures.value c.deref-3.ensures.value c.tell_step.ensures.tell,
+      subst (λ (rs : List OpenProcess). TellBeside rs c.all_beside-self-inside.result) c.deref-4.ensures.value c.all_beside-self-inside.ensures,
+      subst (λ (es : List Entry). KeepOps table (ops_of es) c.mark_op.new.marks) (sym c.push_reserved.ensures.items)
+          (kept_step table net e c.self.inside.in_net c.mark_op.new.marks is.0 c.self.invariant.3 c.mark_op.ensures),
+    )
+
+pub tell_step-requires-clause-tidy : goal.tell_step-requires-clause-tidy
+tell_step-requires-clause-tidy c =
+    let i = c.args.process in
+    let e = c.args.e in
+    let table = c.self.inside.conflicts in
+    let net = c.self.inside.net.items in
+    let rows = c.self.inside.rows.items in
+    let has = is_among i table net rows c.args.self.now c.self.view_is c.requires.open in
+    let under : (numbered i rows).running ≡ Some e = ap (λ (t : Tables). (kept_of t i).running) c.self.view_is ∙ c.requires.running in
+    let place = c.place_of-at.ensures.place ∙ ap (place_of i) c.deref.ensures.value in
+    let changed = row_changed (with_running None) i rows c.place_of-at.result c.index_mut.result.now c.run.new.self has place c.index_mut.ensures.value c.run.ensures in
+    let settled : net_after i (Some e) net ≡ net ++ e ∷ [] = rw c.requires.step refl in
+    rw (c.deref-2.ensures.value, c.deref-3.ensures.value, c.push_reserved.ensures.items, changed, ← settled) (effect_stands i table net rows _ e has under c.self.invariant.0).0
+
+pub tell_step-requires-clause-placed : goal.tell_step-requires-clause-placed
+tell_step-requires-clause-placed c =
+    let i = c.args.process in
+    let e = c.args.e in
+    let table = c.self.inside.conflicts in
+    let net = c.self.inside.net.items in
+    let rows = c.self.inside.rows.items in
+    let has = is_among i table net rows c.args.self.now c.self.view_is c.requires.open in
+    let under : (numbered i rows).running ≡ Some e = ap (λ (t : Tables). (kept_of t i).running) c.self.view_is ∙ c.requires.running in
+    let place = c.place_of-at.ensures.place ∙ ap (place_of i) c.deref.ensures.value in
+    let changed = row_changed (with_running None) i rows c.place_of-at.result c.index_mut.result.now c.run.new.self has place c.index_mut.ensures.value c.run.ensures in
+    let is : IsPlaced table rows e = subst (IsPlacedIf table rows) under (each_numbered (λ (r : OpenProcess). IsPlacedIf table rows r.running) i rows has (placed_running (tables table net rows) c.self.invariant.0.0)).0 in
+    rw (c.deref-2.ensures.value, changed) (is.0, numbers_stay (with_running None) i e.process rows (λ r. (refl, refl)) ∙ is.1)
+
+pub tell_step-requires-clause-more : goal.tell_step-requires-clause-more
+tell_step-requires-clause-more c =
+    let i = c.args.process in
+    let e = c.args.e in
+    let table = c.self.inside.conflicts in
+    let net = c.self.inside.net.items in
+    let rows = c.self.inside.rows.items in
+    let has = is_among i table net rows c.args.self.now c.self.view_is c.requires.open in
+    let under : (numbered i rows).running ≡ Some e = ap (λ (t : Tables). (kept_of t i).running) c.self.view_is ∙ c.requires.running in
+    let place = c.place_of-at.ensures.place ∙ ap (place_of i) c.deref.ensures.value in
+    let changed = row_changed (with_running None) i rows c.place_of-at.result c.index_mut.result.now c.run.new.self has place c.index_mut.ensures.value c.run.ensures in
+    let settled : net_after i (Some e) net ≡ net ++ e ∷ [] = rw c.requires.step refl in
+    rw (c.deref-2.ensures.value, c.deref-3.ensures.value, c.push_reserved.ensures.items, changed, ← settled)
+    (done_both i table net rows c.self.inside.graph.arrows.items c.self.inside.graph.walks.items has c.self.invariant.0.0 c.self.invariant.1 e under (effect_stands i table net rows _ e has under c.self.invariant.0).0 c.requires.step)
+
+pub returns : goal.returns
+returns c =
+    let i = c.args.process in
+    let e = c.args.e in
+    let table = c.self.inside.conflicts in
+    let net = c.self.inside.net.items in
+    let rows = c.self.inside.rows.items in
+    let has = is_among i table net rows c.args.self.now c.self.view_is c.requires.open in
+    let under : (numbered i rows).running ≡ Some e = ap (λ (t : Tables). (kept_of t i).running) c.self.view_is ∙ c.requires.running in
+    let place = c.place_of-at.ensures.place ∙ ap (place_of i) c.deref.ensures.value in
+    let changed = row_changed (with_running None) i rows c.place_of-at.result c.index_mut.result.now c.run.new.self has place c.index_mut.ensures.value c.run.ensures in
+    let settled : net_after i (Some e) net ≡ net ++ e ∷ [] = rw c.requires.step refl in
+    effect_returned i table net rows e c.push_reserved.new.self.items _ c.args.self.now c.self.view_is under (c.push_reserved.ensures.items ∙ sym settled) changed

@@ -1,0 +1,17 @@
+use Rattle.std.proofs.Common.{List, Bool, length}
+use Rattle.process_tree.specs.Conflicts.{do_conflict}
+use Rattle.process_tree.specs.Order.{Each}
+use Rattle.hold_tables.specs.Tables.{OpenProcess}
+use Rattle.hold_tables.specs.Arrows.{IsMarked, arrows_to_each, only_to}
+use Rattle.hold_tables.specs.Walks.{AreDistinctRows, IsPlacedIf, steps_under_way}
+use Rattle.hold_tables.proofs.marking.mark_under_way.Given as goal
+
+abbrev pub invariant-rows : goal.invariant-rows
+invariant-rows l =
+    AreDistinctRows l.rows l.arrows
+    × Each (λ (r : OpenProcess). IsPlacedIf l.conflicts l.rows r.running) l.rest
+    × ((new : List (List Bool)) → IsMarked l.rows (only_to l.process (arrows_to_each (do_conflict l.conflicts) l.net (steps_under_way l.rest))) l.arrows new
+    → IsMarked l.rows (only_to l.process (arrows_to_each (do_conflict l.conflicts) l.net (steps_under_way l.rows))) l.fn.arrows new)
+
+abbrev pub decreases-rows : goal.decreases-rows
+decreases-rows l = length l.rest
