@@ -5,4 +5,6 @@ pub mod Logs
 mod Plain
 pub mod Reading
 mod Retracting
+pub mod Staging
+pub mod StagedImages
 pub mod Standing

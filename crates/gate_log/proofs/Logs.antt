@@ -1,5 +1,5 @@
 -- Records, and the files that are logs.
-use Rattle.std.proofs.Common.{◌≡◌, ℕ, ◌+◌, ◌*◌, ◌^◌, ◌<◌, ◌≤◌, List, [], ◌∷◌, ◌++◌, length, take, get_or, ◌-◌, Option, None, Some, IfSome, All, refl, sym, ◌∙◌, ap, subst, arith, add-one, append_assoc, length-append}
+use Rattle.std.proofs.Common.{◌≡◌, ◌≢◌, ℕ, ◌+◌, ◌*◌, ◌^◌, ◌<◌, ◌≤◌, List, [], ◌∷◌, ◌++◌, length, take, get_or, ◌-◌, Option, None, Some, IfSome, All, refl, sym, ◌∙◌, ap, subst, arith, add-one, append_assoc, length-append}
 use Rattle.std.proofs.lemmas.List.{append-nil, take_at}
 use Rattle.std.proofs.lemmas.List.Elements.{All-head, All-tail, All-take}
 use Rattle.gate_log.specs.LogFile.{AreRecords, header, records_size, end_of, last_size}
@@ -74,3 +74,22 @@ last_at (body ∷ []) d some = refl
 last_at (first ∷ next ∷ bodies) d some =
     let place : length (first ∷ next ∷ bodies) - 1 ≡ (length (next ∷ bodies) - 1) + 1 = omega arith in
     last_at (next ∷ bodies) d (omega arith) ∙ rw (place, add-one) refl
+
+-- what several bodies at once leave for the last
+pub room_with : (last : Option ℕ) (bodies : List (List ℕ)) (end count size number : ℕ) → last ≡ last_size bodies → size ≡ records_size bodies → number ≡ length bodies → size ≤ 65538 → 8 ≤ end → end ≤ 8 + 65538 * count
+    → IfSome last (λ last. (11 + last ≤ end + size) × (1 ≤ count + number) × (end + size + 65535 ≤ 8 + 65538 * (count + number) + last))
+room_with None bodies end count size number is size_is number_is within some room = tt
+room_with (Some last) bodies end count size number is size_is number_is within some room =
+    let (before, body, all, same) = last_of bodies last (sym is) in
+    let sum : size ≡ records_size before + (3 + last) = omega (arith, size_is, ap records_size all, records_size-push before body, same) in
+    let many : number ≡ length before + 1 = omega (arith, number_is, ap length all, length-append before (body ∷ [])) in
+    by_first before sum many
+  where
+    by_first : (before : List (List ℕ)) → size ≡ records_size before + (3 + last) → number ≡ length before + 1 → (11 + last ≤ end + size) × (1 ≤ count + number) × (end + size + 65535 ≤ 8 + 65538 * (count + number) + last)
+    by_first [] sum many = (omega (arith, sum, some), omega (arith, many), omega (arith, sum, many, room))
+    by_first (first ∷ before) sum many = (omega (arith, sum, some), omega (arith, many), omega (arith, within, many, room))
+
+-- and that they fit
+pub end_with : (bodies : List (List ℕ)) (end count size number : ℕ) → bodies ≢ [] → number ≡ length bodies → size ≤ 65538 → end ≤ 8 + 65538 * count → end + size ≤ 8 + 65538 * (count + number)
+end_with [] end count size number some is within room = absurd (some refl)
+end_with (body ∷ bodies) end count size number some is within room = omega (arith, is, within, room)

@@ -1,11 +1,12 @@
 -- What a log's writes make of a file that it wrote.
-use Rattle.std.proofs.Common.{◌≡◌, ℕ, ◌+◌, ◌<◌, List, [], ◌∷◌, ◌++◌, length, drop, refl, sym, ◌∙◌, ap, subst, arith, append_assoc, append-nil, length-append}
+use Rattle.std.proofs.Common.{◌≡◌, ◌≢◌, ℕ, ◌+◌, ◌<◌, List, [], ◌∷◌, ◌++◌, length, drop, refl, sym, ◌∙◌, ap, subst, arith, append_assoc, append-nil, length-append}
 use Rattle.std.proofs.lemmas.List.{drop_all}
 use Rattle.std.proofs.lemmas.Grind.{flat_map-append}
 use Rattle.std.specs.List.{flat_map}
 use Rattle.process_disk.specs.Disk.{FileSet, Disk, IsHonest, file_of, put, written}
 use Rattle.gate_log.specs.LogFile.{header, framed, plain_log, records_size, end_of}
 use Rattle.gate_log.specs.Standing.{LogState, StandsFor}
+use Rattle.gate_log.specs.Staging.{plain_records}
 use Rattle.gate_log.proofs.Crash.{Round, back, through, written_at}
 use Rattle.gate_log.proofs.Appending.{RecordDone, file_of_put, nine_files}
 
@@ -24,52 +25,57 @@ plain_gate q bodies file is = record { length_is = omega (arith, plain_size bodi
 regroup : (before record' : List ℕ) → ((before ++ 0 ∷ []) ++ (record' ++ 0 ∷ [])) ++ [] ≡ before ++ 0 ∷ (record' ++ 0 ∷ [])
 regroup before record' = simp (append_assoc, append-nil)
 
--- a record written behind it
-plain_staged : (q : ℕ) (bodies : List (List ℕ)) (body file : List ℕ) → file ≡ plain_log q bodies
-    → written file (end_of bodies + 1) (framed body ++ 0 ∷ []) ≡ (header q ++ flat_map record_of bodies) ++ 0 ∷ (framed body ++ 0 ∷ [])
-plain_staged q bodies body file is =
+-- records written behind it, the first without its gate
+plain_behind : (q : ℕ) (bodies : List (List ℕ)) (tail file : List ℕ) → file ≡ plain_log q bodies → written file (end_of bodies + 1) (tail ++ 0 ∷ []) ≡ (header q ++ flat_map record_of bodies) ++ 0 ∷ (tail ++ 0 ∷ [])
+plain_behind q bodies tail file is =
     let before = header q ++ flat_map record_of bodies in
-    let bytes = framed body ++ 0 ∷ [] in
+    let bytes = tail ++ 0 ∷ [] in
     let end = end_of bodies in
     let gate = plain_gate q bodies file is in
     let size : length file ≡ end + 1 = omega (arith, ap length gate.is, gate.length_is, length-append before (0 ∷ [])) in
     let none : drop (end + 1 + length bytes) file ≡ [] = drop_all (end + 1 + length bytes) file (omega (arith, size)) in
     ap (λ (l : List ℕ). l ++ bytes ++ drop (end + 1 + length bytes) file) (through end before 0 [] file gate)
     ∙ ap (λ (l : List ℕ). (before ++ 0 ∷ []) ++ bytes ++ l) none
-    ∙ regroup before (framed body)
+    ∙ regroup before tail
 
 regroup_last : (head records record' : List ℕ) → (head ++ records) ++ (1 ∷ []) ++ (record' ++ 0 ∷ []) ≡ head ++ (records ++ 1 ∷ record') ++ 0 ∷ []
 regroup_last head records record' = simp append_assoc
 
-last_one : (q : ℕ) (bodies : List (List ℕ)) (body : List ℕ) → (header q ++ flat_map record_of bodies) ++ (1 ∷ []) ++ (framed body ++ 0 ∷ []) ≡ plain_log q (bodies ++ body ∷ [])
-last_one q bodies body =
-    let records = flat_map record_of bodies in
-    let one : flat_map record_of (bodies ++ body ∷ []) ≡ records ++ record_of body = flat_map-append record_of bodies (body ∷ []) ∙ ap (λ (r : List ℕ). records ++ r) (append-nil (record_of body)) in
-    regroup_last (header q) records (framed body) ∙ ap (λ (l : List ℕ). header q ++ l ++ 0 ∷ []) (sym one)
+last_ones : (q : ℕ) (bodies : List (List ℕ)) (body : List ℕ) (more : List (List ℕ))
+    → (header q ++ flat_map record_of bodies) ++ (1 ∷ []) ++ ((framed body ++ flat_map record_of more) ++ 0 ∷ []) ≡ plain_log q (bodies ++ body ∷ more)
+last_ones q bodies body more =
+    regroup_last (header q) (flat_map record_of bodies) (framed body ++ flat_map record_of more) ∙ ap (λ (l : List ℕ). header q ++ l ++ 0 ∷ []) (sym (flat_map-append record_of bodies (body ∷ more)))
 
--- and its gate opened
-plain_opened : (q : ℕ) (bodies : List (List ℕ)) (body file : List ℕ) → file ≡ (header q ++ flat_map record_of bodies) ++ 0 ∷ (framed body ++ 0 ∷ []) → written file (end_of bodies) (1 ∷ []) ≡ plain_log q (bodies ++ body ∷ [])
-plain_opened q bodies body file is =
+-- and the first gate opened
+plain_opened : (q : ℕ) (bodies : List (List ℕ)) (body : List ℕ) (more : List (List ℕ)) (file : List ℕ) → file ≡ (header q ++ flat_map record_of bodies) ++ 0 ∷ ((framed body ++ flat_map record_of more) ++ 0 ∷ [])
+    → written file (end_of bodies) (1 ∷ []) ≡ plain_log q (bodies ++ body ∷ more)
+plain_opened q bodies body more file is =
     let before = header q ++ flat_map record_of bodies in
-    let rest = framed body ++ 0 ∷ [] in
+    let rest = (framed body ++ flat_map record_of more) ++ 0 ∷ [] in
     let gate : Round (end_of bodies) before 0 rest file = record { length_is = omega (arith, plain_size bodies, length-append (header q) (flat_map record_of bodies)); is = is } in
     written_at (end_of bodies) before 0 rest file (1 ∷ []) gate
     ∙ ap (λ (l : List ℕ). before ++ (1 ∷ []) ++ l) (back (end_of bodies) before 0 rest file gate)
-    ∙ last_one q bodies body
+    ∙ last_ones q bodies body more
 
--- what an append makes of a file that a log wrote
+-- what several records and their first gate make of a file that a log wrote
+pub plain_with : (q end : ℕ) (bodies more : List (List ℕ)) (old mid new : Disk) → IsHonest old → IsHonest mid → q < 9 → end ≡ end_of bodies → more ≢ []
+    → mid.files ≡ put old.files q (end + 1) (drop 1 (plain_records more)) → new.files ≡ put mid.files q end (1 ∷ []) → file_of old.files q ≡ plain_log q bodies → file_of new.files q ≡ plain_log q (bodies ++ more)
+plain_with q end bodies [] old mid new honest honest_mid below at some first second plain = absurd (some refl)
+plain_with q end bodies (body ∷ more) old mid new honest honest_mid below at some first second plain =
+    let tail = framed body ++ flat_map record_of more in
+    let put_records : mid.files ≡ put old.files q (end_of bodies + 1) (tail ++ 0 ∷ []) = subst (λ e. mid.files ≡ put old.files q (e + 1) (tail ++ 0 ∷ [])) at first in
+    let put_gate : new.files ≡ put mid.files q (end_of bodies) (1 ∷ []) = subst (λ e. new.files ≡ put mid.files q e (1 ∷ [])) at second in
+    let staged : file_of mid.files q ≡ (header q ++ flat_map record_of bodies) ++ 0 ∷ (tail ++ 0 ∷ []) =
+    ap (λ (files : FileSet). file_of files q) put_records ∙ file_of_put old.files q (end_of bodies + 1) (tail ++ 0 ∷ []) (omega (arith, nine_files old honest)) ∙ plain_behind q bodies tail (file_of old.files q) plain in
+    ap (λ (files : FileSet). file_of files q) put_gate ∙ file_of_put mid.files q (end_of bodies) (1 ∷ []) (omega (arith, nine_files mid honest_mid)) ∙ plain_opened q bodies body more (file_of mid.files q) staged
+
+-- what an append makes of it
 pub plain_appended : (log : LogState) (bodies : List (List ℕ)) (body bytes gate : List ℕ) (old mid new : Disk) → IsHonest old → IsHonest mid → log.file < 9 → StandsFor log bodies old → RecordDone log body bytes old mid
     → gate ≡ 1 ∷ [] → new.files ≡ put mid.files log.file log.end gate → file_of old.files log.file ≡ plain_log log.file bodies → file_of new.files log.file ≡ plain_log log.file (bodies ++ body ∷ [])
 plain_appended log bodies body bytes gate old mid new honest honest_mid below stands done gate_is is plain =
-    let q = log.file in
-    let record_bytes = framed body ++ 0 ∷ [] in
-    let put_record : mid.files ≡ put old.files q (end_of bodies + 1) record_bytes =
-    subst (λ end. mid.files ≡ put old.files q (end + 1) record_bytes) stands.end (subst (λ (bs : List ℕ). mid.files ≡ put old.files q (log.end + 1) bs) done.bytes_are done.written) in
-    let staged : file_of mid.files q ≡ (header q ++ flat_map record_of bodies) ++ 0 ∷ record_bytes =
-    ap (λ (files : FileSet). file_of files q) put_record ∙ file_of_put old.files q (end_of bodies + 1) record_bytes (omega (arith, nine_files old honest)) ∙ plain_staged q bodies body (file_of old.files q) plain in
-    let put_gate : new.files ≡ put mid.files q (end_of bodies) (1 ∷ []) =
-    subst (λ end. new.files ≡ put mid.files q end (1 ∷ [])) stands.end (subst (λ (bs : List ℕ). new.files ≡ put mid.files q log.end bs) gate_is is) in
-    ap (λ (files : FileSet). file_of files q) put_gate ∙ file_of_put mid.files q (end_of bodies) (1 ∷ []) (omega (arith, nine_files mid honest_mid)) ∙ plain_opened q bodies body (file_of mid.files q) staged
+    let alone : bytes ≡ drop 1 (plain_records (body ∷ [])) = done.bytes_are ∙ ap (λ (l : List ℕ). l ++ 0 ∷ []) (sym (append-nil (framed body))) in
+    let first : mid.files ≡ put old.files log.file (log.end + 1) (drop 1 (plain_records (body ∷ []))) = subst (λ (bs : List ℕ). mid.files ≡ put old.files log.file (log.end + 1) bs) alone done.written in
+    plain_with log.file log.end bodies (body ∷ []) old mid new honest honest_mid below stands.end (λ none. cc) first (subst (λ (bs : List ℕ). new.files ≡ put mid.files log.file log.end bs) gate_is is) plain
 
 -- what the first write makes of an empty file
 pub plain_created : (q : ℕ) (bytes : List ℕ) (old new : Disk) → IsHonest old → q < 9 → file_of old.files q ≡ [] → bytes ≡ header q ++ 0 ∷ [] → new.files ≡ put old.files q 0 bytes → file_of new.files q ≡ plain_log q []

@@ -7,13 +7,14 @@ use Rattle.gate_log.specs.LogFile.{IsLog, end_of, last_size}
 use Rattle.gate_log.specs.declared.errors.LogError.{LogError}
 use Rattle.gate_log.specs.declared.errors.LogError.TheVariants.{DiskFault, BadHeader, BadRecord, NoMemory}
 
--- What a log is seen as: its file, how many records it has, where its closed gate stands, and how many bytes the last body has,
--- while it can be retracted.
+-- What a log is seen as: its file, how many records it has, where its closed gate stands, how many bytes the last body has, while
+-- it can be retracted, and the bodies that are staged.
 pub record LogState : Type 0 where
   pub file : ℕ
   pub count : ℕ
   pub end : ℕ
   pub last : Option ℕ
+  pub staged : List (List ℕ)
 
 -- the last body can be retracted
 abbrev pub CanRetract : LogState → Type 0

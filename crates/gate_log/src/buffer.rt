@@ -54,10 +54,12 @@ impl Buffer {
     }
 }
 
-fn frame(buffer: &mut [u8], body: &[u8]) -> usize
+/// Puts an open gate, a body behind its length, and a closed gate at the front, and says how many bytes they are.
+pub fn frame(buffer: &mut [u8], body: &[u8]) -> usize
     requires body { length body.now < 2 ^ 16 }
-    requires room { length buffer.old ≡ 65539 }
+    requires room { length body.now + 4 ≤ length buffer.old }
     ensures size { result ≡ length body.now + 4 }
+    ensures same { length buffer.new ≡ length buffer.old }
     ensures bytes { take result buffer.new ≡ 1 ∷ framed body.now ++ 0 ∷ [] }
 {
     let size = body.len();

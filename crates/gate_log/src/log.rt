@@ -1,16 +1,20 @@
 // An open log.
 ghost use Rattle.std.specs.Prelude.{◌≡◌, ◌≢◌, ◌<◌, ◌≤◌, ◌+◌, ◌*◌, ◌^◌, ◌++◌, ◌∷◌, [], ℕ, List, length, None, IfOk, IfErr, OnOk};
-ghost use Rattle.std.specs.Prelude.{OnErr, IsErrOf, IsTrue, ◌↔◌};
+ghost use Rattle.std.specs.Prelude.{OnErr, IsErrOf, IsTrue, drop, ◌↔◌};
 ghost use Rattle.process_flow.specs.Causes.{Rose, HasCause};
-ghost use Rattle.process_disk.specs.Disk.{Told, TornIn, file_of};
+ghost use Rattle.process_disk.specs.Disk.{Told, TornIn, file_of, put};
 ghost use Rattle.process_disk.specs.Images.{EachImage, RunBy, OthersAsBefore, AllAsBefore};
-ghost use Rattle.gate_log.specs.LogFile.{read_log, plain_log, last_size};
-ghost use Rattle.gate_log.specs.Standing.{StandsFor, IsOpen, LogsBeforeOrWith, OpensAs, CanRetract};
+ghost use Rattle.gate_log.specs.LogFile.{read_log, plain_log, records_size, last_size};
+ghost use Rattle.gate_log.specs.Standing.{StandsFor, IsOpen, Logs, LogsBeforeOrWith, OpensAs, CanRetract};
+ghost use Rattle.gate_log.specs.Staging.{plain_records, staging, with_staged, LogsBeforeOrWithAll, AreWritten, AreOnDisk, IsOpened};
+ghost use Rattle.gate_log.specs.Staging.{MayOpen};
 ghost use Rattle.gate_log.specs.declared.errors.LogError.TheVariants.{NoMemory};
 
 use crate::buffer::Buffer;
 use crate::device::{whole_file, write_and_sync};
 use crate::records::{after_header, bodies_in, first_bytes, last_size};
+use crate::shared_sync::{sync, write};
+use crate::staged::Staged;
 use crate::{Body, DiskFault, LogError};
 use process_disk::Rack;
 use std::alloc::Global;
@@ -26,18 +30,20 @@ pub struct Log {
     // how many bytes the last body has, while it can be retracted
     last: Option<u32>,
     buffer: Buffer,
+    staged: Staged,
 }
 
 impl Model for Log {
-    ghost use Rattle.std.specs.Prelude.{◌<◌, ◌≤◌, ◌+◌, ◌*◌, IfSome};
+    ghost use Rattle.std.specs.Prelude.{◌<◌, ◌≤◌, ◌+◌, ◌*◌, length, IfSome};
     ghost use Rattle.gate_log.specs.Standing.{LogState};
 
     ghost Value = { LogState };
 
-    ghost view = { λ log. record { file = log.file; count = log.count; end = log.end; last = log.last } };
+    ghost view = { λ log. record { file = log.file; count = log.count; end = log.end; last = log.last; staged = log.staged } };
 
     ghost invariant = { λ log. (log.file < 9) × (log.count ≤ 65536) × (log.end ≤ 8 + 65538 * log.count) × (8 ≤ log.end)
-        × IfSome log.last (λ size. (11 + size ≤ log.end) × (1 ≤ log.count) × (log.end + 65535 ≤ 8 + 65538 * log.count + size)) };
+        × IfSome log.last (λ size. (11 + size ≤ log.end) × (1 ≤ log.count) × (log.end + 65535 ≤ 8 + 65538 * log.count + size))
+        × (log.count + length log.staged ≤ 65536) };
 }
 
 impl Log {
@@ -48,6 +54,7 @@ impl Log {
         ensures stands { Told (R.disk rack.old) → IfOk result (λ log. StandsFor log [] (R.disk rack.new)) }
         ensures bytes { Told (R.disk rack.old) → IfOk result (λ _. file_of (R.disk rack.new).files file ≡ plain_log file []) }
         ensures log { IfOk result (λ log. (log.file ≡ file) × (log.count ≡ 0)) }
+        ensures unstaged { IfOk result (λ log. log.staged ≡ []) }
         ensures others { Told (R.disk rack.old) → OthersAsBefore file (R.disk rack.old) (R.disk rack.new) }
         // Whatever it answers, at most the nine bytes of an empty log were written.
         ensures run { Told (R.disk rack.old) → RunBy (TornIn file 0 9) (R.disk rack.old) (R.disk rack.new) }
@@ -60,6 +67,7 @@ impl Log {
             (λ e. e ≢ NoMemory → (e ≡ LogError.DiskFault) × Rose (R.faults rack.old) (R.faults rack.new)) }
     {
         let buffer = Buffer::new(alloc)?;
+        let staged = Staged::new(alloc)?;
         write_and_sync(rack, file, 0, &first_bytes(file))?;
         Ok(Log {
             file,
@@ -67,6 +75,7 @@ impl Log {
             end: 8,
             last: None,
             buffer,
+            staged,
         })
     }
 
@@ -82,6 +91,7 @@ impl Log {
         ensures log { IfOk result (λ opened. (opened.0.file ≡ file) × (opened.0.count ≡ length opened.1.items)) }
         ensures few { IfOk result (λ opened. length opened.1.items ≤ 65536) }
         ensures last { IfOk result (λ opened. opened.0.last ≡ last_size opened.1.items) }
+        ensures unstaged { IfOk result (λ opened. opened.0.staged ≡ []) }
         ensures all { Told (R.disk rack.old) → AllAsBefore (R.disk rack.old) (R.disk rack.new) }
         ensures tells { (R.disk rack.new).tells ≡ (R.disk rack.old).tells }
         ensures later { R.faults rack.old ≤ R.faults rack.new }
@@ -89,6 +99,7 @@ impl Log {
         ensures fault { IsErrOf result LogError.DiskFault → Rose (R.faults rack.old) (R.faults rack.new) }
     {
         let buffer = Buffer::new(alloc)?;
+        let staged = Staged::new(alloc)?;
         rack.sync()?;
         let bytes = whole_file(alloc, rack, file)?;
         let read = match after_header(&bytes, file) {
@@ -101,6 +112,7 @@ impl Log {
             end: 8 + read.size as u64,
             last: last_size(&read.bodies),
             buffer,
+            staged,
         };
         Ok((log, read.bodies))
     }
@@ -128,6 +140,8 @@ impl Log {
         ensures others { Told (R.disk rack.old) → OthersAsBefore self.old.file (R.disk rack.old) (R.disk rack.new) }
         ensures ok { OnOk result ((self.new.file ≡ self.old.file) × (self.new.count ≡ self.old.count + 1)) }
         ensures last { OnOk result (CanRetract self.new) }
+        // What was staged is let go.
+        ensures unstaged { OnOk result (self.new.staged ≡ []) }
         ensures err { OnErr result (self.new ≡ self.old) }
         ensures tells { (R.disk rack.new).tells ≡ (R.disk rack.old).tells }
         ensures cause { HasCause (R.faults rack.old) (R.faults rack.new) result }
@@ -139,7 +153,129 @@ impl Log {
         self.end += size as u64 - 1;
         self.count += 1;
         self.last = Some(body.len() as u32);
+        self.staged.clear();
         Ok(())
+    }
+
+    /// Adds a body to those that `append_staged` will append. The log stands for the same list.
+    pub fn stage(&mut self, body: &[u8])
+        requires size { records_size self.old.staged + (3 + length body.now) ≤ 65538 }
+        requires room { self.old.count + length self.old.staged < 65536 }
+        ensures { self.new ≡ staging self.old body.now }
+    {
+        self.staged.add(body);
+    }
+
+    /// Writes what is staged behind the closed gate, and syncs nothing. A crash leaves the list as it was.
+    pub fn write_staged<R: Rack>(&self, rack: &mut R) -> Result<(), DiskFault>
+        requires staged { self.now.staged ≢ [] }
+        requires open { Told (R.disk rack.old) → IsOpen self.now (R.disk rack.old) }
+        ensures written { Told (R.disk rack.old) → (bodies : List (List ℕ)) → StandsFor self.now bodies (R.disk rack.old) →
+            OnOk result (AreWritten self.now bodies (R.disk rack.new)) }
+        ensures bytes { Told (R.disk rack.old) → OnOk result ((R.disk rack.new).files ≡
+            put (R.disk rack.old).files self.now.file (self.now.end + 1) (drop 1 (plain_records self.now.staged))) }
+        ensures any_moment { Told (R.disk rack.old) → (bodies : List (List ℕ)) → StandsFor self.now bodies (R.disk rack.old) →
+            EachImage (R.disk rack.new) (R.disk rack.old).moment (Logs self.now.file bodies) }
+        ensures others { Told (R.disk rack.old) → OthersAsBefore self.now.file (R.disk rack.old) (R.disk rack.new) }
+        ensures tells { (R.disk rack.new).tells ≡ (R.disk rack.old).tells }
+        ensures cause { HasCause (R.faults rack.old) (R.faults rack.new) result }
+        ensures quiet { OnOk result (R.faults rack.new ≡ R.faults rack.old) }
+    {
+        write(rack, self.file, self.end + 1, self.staged.behind_gate())
+    }
+
+    /// Opens the closed gate, when what is staged is on the disk behind it, and syncs nothing. A crash leaves the list before or
+    /// with all that is staged.
+    pub fn open_gate<R: Rack>(&self, rack: &mut R) -> Result<(), DiskFault>
+        requires on_disk { Told (R.disk rack.old) → MayOpen self.now (R.disk rack.old) }
+        ensures opened { Told (R.disk rack.old) → (bodies : List (List ℕ)) → AreOnDisk self.now bodies (R.disk rack.old) →
+            OnOk result (IsOpened self.now bodies (R.disk rack.new)) }
+        ensures bytes { Told (R.disk rack.old) → OnOk result ((R.disk rack.new).files ≡
+            put (R.disk rack.old).files self.now.file self.now.end (1 ∷ [])) }
+        ensures any_moment { Told (R.disk rack.old) → (bodies : List (List ℕ)) → AreOnDisk self.now bodies (R.disk rack.old) →
+            EachImage (R.disk rack.new) (R.disk rack.old).moment (LogsBeforeOrWithAll self.now.file bodies self.now.staged) }
+        ensures others { Told (R.disk rack.old) → OthersAsBefore self.now.file (R.disk rack.old) (R.disk rack.new) }
+        ensures tells { (R.disk rack.new).tells ≡ (R.disk rack.old).tells }
+        ensures cause { HasCause (R.faults rack.old) (R.faults rack.new) result }
+        ensures quiet { OnOk result (R.faults rack.new ≡ R.faults rack.old) }
+    {
+        write(rack, self.file, self.end, &[1])
+    }
+
+    /// Counts what is staged among the bodies, once its gate is open on the disk.
+    pub fn take_staged(&mut self)
+        requires staged { self.old.staged ≢ [] }
+        ensures { self.new ≡ with_staged self.old }
+    {
+        self.end += self.staged.size() as u64;
+        self.count += self.staged.count();
+        self.last = self.staged.last();
+        self.staged.clear();
+    }
+
+    /// Appends all that is staged. A crash leaves the list before or with all of it.
+    pub fn append_staged<R: Rack>(&mut self, rack: &mut R) -> Result<(), DiskFault>
+        requires staged { self.old.staged ≢ [] }
+        requires open { Told (R.disk rack.old) → IsOpen self.old (R.disk rack.old) }
+        ensures acknowledged { Told (R.disk rack.old) → (bodies : List (List ℕ)) → StandsFor self.old bodies (R.disk rack.old) →
+            OnOk result (StandsFor self.new (bodies ++ self.old.staged) (R.disk rack.new)) }
+        // A file as a log writes it stays so.
+        ensures bytes { Told (R.disk rack.old) → (bodies : List (List ℕ)) → StandsFor self.old bodies (R.disk rack.old) →
+            file_of (R.disk rack.old).files self.old.file ≡ plain_log self.old.file bodies →
+            OnOk result (file_of (R.disk rack.new).files self.old.file ≡ plain_log self.old.file (bodies ++ self.old.staged)) }
+        ensures any_moment { Told (R.disk rack.old) → (bodies : List (List ℕ)) → StandsFor self.old bodies (R.disk rack.old) →
+            EachImage (R.disk rack.new) (R.disk rack.old).moment (LogsBeforeOrWithAll self.old.file bodies self.old.staged) }
+        ensures others { Told (R.disk rack.old) → OthersAsBefore self.old.file (R.disk rack.old) (R.disk rack.new) }
+        ensures ok { OnOk result (self.new ≡ with_staged self.old) }
+        ensures last { OnOk result (CanRetract self.new) }
+        ensures err { OnErr result (self.new ≡ self.old) }
+        ensures tells { (R.disk rack.new).tells ≡ (R.disk rack.old).tells }
+        ensures cause { HasCause (R.faults rack.old) (R.faults rack.new) result }
+        ensures quiet { OnOk result (R.faults rack.new ≡ R.faults rack.old) }
+    {
+        let _ = &self.file;
+        self.put_on_disk(rack)?;
+        self.open_on_disk(rack)?;
+        self.take_staged();
+        Ok(())
+    }
+
+    // Writes what is staged, and waits until it is on the disk.
+    fn put_on_disk<R: Rack>(&self, rack: &mut R) -> Result<(), DiskFault>
+        requires staged { self.now.staged ≢ [] }
+        requires open { Told (R.disk rack.old) → IsOpen self.now (R.disk rack.old) }
+        ensures on_disk { Told (R.disk rack.old) → (bodies : List (List ℕ)) → StandsFor self.now bodies (R.disk rack.old) →
+            OnOk result (AreOnDisk self.now bodies (R.disk rack.new)) }
+        ensures may { Told (R.disk rack.old) → OnOk result (MayOpen self.now (R.disk rack.new)) }
+        ensures bytes { Told (R.disk rack.old) → OnOk result ((R.disk rack.new).files ≡
+            put (R.disk rack.old).files self.now.file (self.now.end + 1) (drop 1 (plain_records self.now.staged))) }
+        ensures any_moment { Told (R.disk rack.old) → (bodies : List (List ℕ)) → StandsFor self.now bodies (R.disk rack.old) →
+            EachImage (R.disk rack.new) (R.disk rack.old).moment (Logs self.now.file bodies) }
+        ensures others { Told (R.disk rack.old) → OthersAsBefore self.now.file (R.disk rack.old) (R.disk rack.new) }
+        ensures tells { (R.disk rack.new).tells ≡ (R.disk rack.old).tells }
+        ensures cause { HasCause (R.faults rack.old) (R.faults rack.new) result }
+        ensures quiet { OnOk result (R.faults rack.new ≡ R.faults rack.old) }
+    {
+        self.write_staged(rack)?;
+        sync(rack)
+    }
+
+    // Opens the closed gate, and waits until that is on the disk.
+    fn open_on_disk<R: Rack>(&self, rack: &mut R) -> Result<(), DiskFault>
+        requires on_disk { Told (R.disk rack.old) → MayOpen self.now (R.disk rack.old) }
+        ensures stands { Told (R.disk rack.old) → (bodies : List (List ℕ)) → AreOnDisk self.now bodies (R.disk rack.old) →
+            OnOk result (StandsFor (with_staged self.now) (bodies ++ self.now.staged) (R.disk rack.new)) }
+        ensures bytes { Told (R.disk rack.old) → OnOk result ((R.disk rack.new).files ≡
+            put (R.disk rack.old).files self.now.file self.now.end (1 ∷ [])) }
+        ensures any_moment { Told (R.disk rack.old) → (bodies : List (List ℕ)) → AreOnDisk self.now bodies (R.disk rack.old) →
+            EachImage (R.disk rack.new) (R.disk rack.old).moment (LogsBeforeOrWithAll self.now.file bodies self.now.staged) }
+        ensures others { Told (R.disk rack.old) → OthersAsBefore self.now.file (R.disk rack.old) (R.disk rack.new) }
+        ensures tells { (R.disk rack.new).tells ≡ (R.disk rack.old).tells }
+        ensures cause { HasCause (R.faults rack.old) (R.faults rack.new) result }
+        ensures quiet { OnOk result (R.faults rack.new ≡ R.faults rack.old) }
+    {
+        self.open_gate(rack)?;
+        sync(rack)
     }
 
     /// Whether the last body can be retracted: after an `append`, and after an `open` that found a record, until a `retract`.
@@ -162,6 +298,7 @@ impl Log {
         ensures others { Told (R.disk rack.old) → OthersAsBefore self.old.file (R.disk rack.old) (R.disk rack.new) }
         ensures ok { OnOk result
             ((self.new.file ≡ self.old.file) × (self.new.count + 1 ≡ self.old.count) × (self.new.last ≡ None)) }
+        ensures unstaged { OnOk result (self.new.staged ≡ []) }
         ensures err { OnErr result (self.new ≡ self.old) }
         ensures tells { (R.disk rack.new).tells ≡ (R.disk rack.old).tells }
         ensures cause { HasCause (R.faults rack.old) (R.faults rack.new) result }
@@ -174,6 +311,7 @@ impl Log {
         self.end = gate;
         self.count -= 1;
         self.last = None;
+        self.staged.clear();
         Ok(())
     }
 }

@@ -105,4 +105,5 @@ invariant_of-self-2 g c =
       omega (arith, was.2, size, c.requires.size),
       omega (arith, was.3),
       (omega (arith, was.3, size), omega arith, omega (arith, was.2, size)),
+      omega (arith, room, ap length c.clear.ensures),
     )

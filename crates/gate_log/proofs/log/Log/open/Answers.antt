@@ -29,4 +29,5 @@ invariant_of-log g c =
       omega (arith, c.len.ensures, read.bound),
       omega arith,
       last_room c.last_size.result bodies c.in_ok-read-in-Some.read.size c.len.result (c.last_size.ensures.size ∙ ap last_size c.deref-2.ensures.value) read.size (omega (arith, c.len.ensures)) read.short,
+      omega (arith, c.len.ensures, read.count, ap length c.in_ok-staged.ensures),
     )
