@@ -1,5 +1,5 @@
 -- A record more at the end of a journal.
-use Rattle.std.proofs.Common.{◌≡◌, List, [], ◌∷◌, ◌++◌, length, append-nil, refl, ap, ◌∙◌, sym, arith}
+use Rattle.std.proofs.Common.{◌≡◌, List, [], ◌∷◌, ◌++◌, ℕ, length, map, append-nil, append_assoc, refl, ap, ◌∙◌, sym, subst, arith}
 use Rattle.process_tree.specs.declared.plan.Plan.{Plan}
 use Rattle.schedule_model.specs.declared.event.Event.{Event}
 use Rattle.schedule_model.specs.declared.event.Event.TheVariants.{Start, Act, End}
@@ -13,7 +13,7 @@ use Rattle.journal_records.specs.declared.record.Record.TheVariants as records
 use Rattle.journal_records.specs.Bytes.{setup_bytes, start_bytes, bytes_of}
 use Rattle.process_journal.specs.Plans.{text_of}
 use Rattle.process_journal.specs.Bodies.{event_body, event_bodies, journal_bodies, no_history}
-use Rattle.process_journal.specs.Journals.{IsHistoryUnder, IsMadeBy}
+use Rattle.process_journal.specs.Journals.{IsHistoryUnder, IsMadeBy, AreMadeBy}
 
 -- the bodies of an event more; where as many plans stand before as processes started, it takes the next
 pub bodies-push : (plans more : List Plan) (h : List Event) (e : Event) → length plans ≡ length (starts h) → event_bodies (plans ++ more) (h ++ e ∷ []) ≡ event_bodies plans h ++ event_body more e ∷ []
@@ -41,3 +41,16 @@ bodies_made c (records.End i) h after good is = ap (journal_bodies c) is ∙ ap 
 -- a journal may have no history
 pub none_is_good : (c : Catalog) → IsCatalog c → IsHistoryUnder c no_history
 none_is_good c is = record { catalog = is; plans = tt; one_each = refl; fits = tt; allowed = refl }
+
+-- what several records make of a history is one that a journal may have,
+pub are_good : (c : Catalog) (rs : List Record) (h after : History) → IsHistoryUnder c h → AreMadeBy c rs h after → IsHistoryUnder c after
+are_good c [] h after good is = subst (IsHistoryUnder c) (sym is) good
+are_good c (r ∷ rs) h after good (next, made, next_good, more) = are_good c rs next after next_good more
+
+-- and has their bytes as the last bodies
+pub bodies_made_all : (c : Catalog) (rs : List Record) (h after : History) → IsHistoryUnder c h → AreMadeBy c rs h after → journal_bodies c after ≡ journal_bodies c h ++ map bytes_of rs
+bodies_made_all c [] h after good is = ap (journal_bodies c) is ∙ sym (append-nil (journal_bodies c h))
+bodies_made_all c (r ∷ rs) h after good (next, made, next_good, more) =
+    bodies_made_all c rs next after next_good more
+    ∙ ap (λ (bs : List (List ℕ)). bs ++ map bytes_of rs) (bodies_made c r h next good made)
+    ∙ append_assoc (journal_bodies c h) (bytes_of r ∷ []) (map bytes_of rs)

@@ -1,5 +1,5 @@
 -- Which histories a journal may have, and what a record makes of one.
-use Rattle.std.specs.Prelude.{◌≡◌, ◌<◌, ◌^◌, Bool, ◌&&◌, IsTrue, length}
+use Rattle.std.specs.Prelude.{◌≡◌, ◌<◌, ◌^◌, Bool, ◌&&◌, IsTrue, List, [], ◌∷◌, length}
 use Rattle.process_tree.specs.Conflicts.{do_conflict}
 use Rattle.process_tree.specs.Order.{Each}
 use Rattle.process_tree.specs.declared.plan.Plan.{Plan}
@@ -42,3 +42,8 @@ IsMadeBy c (records.Setup catalog) h after = ⊥
 IsMadeBy c (records.Start i text) h after = (p : Plan) × IsPlanOfText c text p × (after ≡ with_start h i p)
 IsMadeBy c (records.Act e) h after = after ≡ with_event h (Act e)
 IsMadeBy c (records.End i) h after = after ≡ with_event h (End i)
+
+-- what several records make of it, one after another; a journal may have each history on the way
+abbrev pub AreMadeBy : Catalog → List Record → History → History → Type 0
+AreMadeBy c [] h after = after ≡ h
+AreMadeBy c (r ∷ rs) h after = (next : History) × IsMadeBy c r h next × IsHistoryUnder c next × AreMadeBy c rs next after

@@ -1,12 +1,13 @@
 -- What an open journal stands for, on a disk that tells.
-use Rattle.std.specs.Prelude.{◌⊎◌}
+use Rattle.std.specs.Prelude.{◌≡◌, ◌⊎◌, List, map}
 use Rattle.process_disk.specs.Disk.{Disk, FileSet}
 use Rattle.gate_log.specs.Standing.{LogState, Logs, StandsFor}
 use Rattle.schedule_model.specs.declared.history.History.{History}
 use Rattle.commute_table.specs.declared.catalog.Catalog.{Catalog}
 use Rattle.journal_records.specs.declared.record.Record.{Record}
+use Rattle.journal_records.specs.Bytes.{bytes_of}
 use Rattle.process_journal.specs.Bodies.{journal_bodies}
-use Rattle.process_journal.specs.Journals.{IsHistoryUnder, IsMadeBy}
+use Rattle.process_journal.specs.Journals.{IsHistoryUnder, IsMadeBy, AreMadeBy}
 
 -- file 0 of the set is the journal of this catalog and history
 abbrev pub IsJournalOf : Catalog → History → FileSet → Type 0
@@ -30,3 +31,13 @@ pub record GoesOn (journal : LogState) (r : Record) (disk : Disk) : Type 0 where
   pub stands : Stands journal catalog before disk
   pub made : IsMadeBy catalog r before after
   pub may : IsHistoryUnder catalog after
+
+-- The journal stands for a history of which the records that are staged make one that the journal may have.
+pub record GoesOnStaged (journal : LogState) (disk : Disk) : Type 0 where
+  pub catalog : Catalog
+  pub before : History
+  pub after : History
+  pub stands : Stands journal catalog before disk
+  pub records : List Record
+  pub staged : journal.staged ≡ map bytes_of records
+  pub made : AreMadeBy catalog records before after

@@ -1,21 +1,23 @@
 // An open journal.
 ghost use Rattle.std.specs.Prelude.{◌≡◌, ◌≢◌, ◌<◌, ◌≤◌, ◌+◌, ◌^◌, ◌++◌, ◌∷◌, [], ℕ, List, length, IfOk, IfErr, OnOk, OnErr};
-ghost use Rattle.std.specs.Prelude.{IsErrOf};
+ghost use Rattle.std.specs.Prelude.{IsErrOf, map};
 ghost use Rattle.process_flow.specs.Causes.{Rose, HasCause};
 ghost use Rattle.process_disk.specs.Disk.{Told, file_of};
 ghost use Rattle.process_disk.specs.Images.{EachImage, OthersAsBefore, AllAsBefore};
-ghost use Rattle.gate_log.specs.LogFile.{plain_log, read_log};
+ghost use Rattle.gate_log.specs.LogFile.{plain_log, read_log, records_size};
 ghost use Rattle.gate_log.specs.Standing.{StandsFor, IsOpen, LogsBeforeOrWith};
+ghost use Rattle.gate_log.specs.Staging.{staging, with_staged};
 ghost use Rattle.schedule_model.specs.declared.history.History.{History};
 ghost use Rattle.commute_table.specs.declared.catalog.Catalog.{Catalog};
 ghost use Rattle.commute_table.specs.Operations.{IsCatalog};
 ghost use Rattle.commute_table.specs.Bytes.{bytes_of as catalog_of};
 ghost use Rattle.journal_records.specs.Bytes.{bytes_of};
+ghost use Rattle.journal_records.specs.declared.record.Record.{Record};
 ghost use Rattle.journal_records.specs.declared.record.Record.TheVariants.{Setup};
 ghost use Rattle.process_journal.specs.Bodies.{journal_bodies, no_history};
-ghost use Rattle.process_journal.specs.Journals.{IsHistoryUnder, IsMadeBy};
+ghost use Rattle.process_journal.specs.Journals.{IsHistoryUnder, IsMadeBy, AreMadeBy};
 ghost use Rattle.process_journal.specs.Reading.{OpensAs};
-ghost use Rattle.process_journal.specs.Opened.{Stands, GoesOn, IsJournalOfEither};
+ghost use Rattle.process_journal.specs.Opened.{Stands, GoesOn, GoesOnStaged, IsJournalOfEither};
 ghost use Rattle.process_journal.specs.declared.errors.JournalError.TheVariants.{NoMemory};
 
 use crate::reading::read_bodies;
@@ -77,6 +79,7 @@ impl Journal {
         ensures bytes { Told (R.disk rack.old) → IfOk result
             (λ _. file_of (R.disk rack.new).files 0 ≡ plain_log 0 (journal_bodies catalog.now no_history)) }
         ensures journal { IfOk result (λ journal. (journal.file ≡ 0) × (journal.count ≡ 1)) }
+        ensures unstaged { IfOk result (λ journal. journal.staged ≡ []) }
         ensures others { Told (R.disk rack.old) → OthersAsBefore 0 (R.disk rack.old) (R.disk rack.new) }
         ensures unwritten { IfErr result (λ e. e ≡ NoMemory → rack.new ≡ rack.old) }
         ensures tells { (R.disk rack.new).tells ≡ (R.disk rack.old).tells }
@@ -104,6 +107,7 @@ impl Journal {
         ensures history { IfOk result (λ opened. IsHistoryUnder opened.1 opened.2) }
         ensures journal { IfOk result
             (λ opened. (opened.0.file ≡ 0) × (opened.0.count ≡ length (journal_bodies opened.1 opened.2))) }
+        ensures unstaged { IfOk result (λ opened. opened.0.staged ≡ []) }
         ensures all { Told (R.disk rack.old) → AllAsBefore (R.disk rack.old) (R.disk rack.new) }
         ensures tells { (R.disk rack.new).tells ≡ (R.disk rack.old).tells }
         ensures later { R.faults rack.old ≤ R.faults rack.new }
@@ -140,12 +144,48 @@ impl Journal {
             file_of (R.disk rack.old).files 0 ≡ plain_log 0 (journal_bodies c h) → OnOk result (file_of (R.disk rack.new).files 0 ≡ plain_log 0 (journal_bodies c after)) }
         ensures others { Told (R.disk rack.old) → OthersAsBefore 0 (R.disk rack.old) (R.disk rack.new) }
         ensures ok { OnOk result ((self.new.file ≡ self.old.file) × (self.new.count ≡ self.old.count + 1)) }
+        // What was staged is let go.
+        ensures unstaged { OnOk result (self.new.staged ≡ []) }
         ensures err { OnErr result (self.new ≡ self.old) }
         ensures tells { (R.disk rack.new).tells ≡ (R.disk rack.old).tells }
         ensures cause { HasCause (R.faults rack.old) (R.faults rack.new) result }
         ensures quiet { OnOk result (R.faults rack.new ≡ R.faults rack.old) }
     {
         self.add(rack, entry)
+    }
+
+    /// Adds a record to those that `append_staged` will append. The journal stands for the same history.
+    pub fn stage(&mut self, entry: &Record)
+        requires size { records_size self.old.staged + (3 + length (bytes_of entry.now)) ≤ 65538 }
+        requires room { self.old.count + length self.old.staged < 65536 }
+        ensures { self.new ≡ staging self.old (bytes_of entry.now) }
+    {
+        let size = write(entry, &mut self.buffer);
+        self.log.stage(&self.buffer[..size]);
+    }
+
+    /// Appends all records that are staged. A crash leaves the history before or with all of them.
+    pub fn append_staged<R: Rack>(&mut self, rack: &mut R) -> Result<(), DiskFault>
+        requires staged { self.old.staged ≢ [] }
+        requires goes_on { Told (R.disk rack.old) → GoesOnStaged self.old (R.disk rack.old) }
+        ensures acknowledged { Told (R.disk rack.old) → (c : Catalog) (h after : History) (rs : List Record)
+            → Stands self.old c h (R.disk rack.old) → self.old.staged ≡ map bytes_of rs → AreMadeBy c rs h after →
+            OnOk result (Stands self.new c after (R.disk rack.new)) }
+        ensures any_moment { Told (R.disk rack.old) → (c : Catalog) (h after : History) (rs : List Record)
+            → Stands self.old c h (R.disk rack.old) → self.old.staged ≡ map bytes_of rs → AreMadeBy c rs h after →
+            EachImage (R.disk rack.new) (R.disk rack.old).moment (IsJournalOfEither c h after) }
+        // A file as a journal writes it stays so.
+        ensures bytes { Told (R.disk rack.old) → (c : Catalog) (h after : History) (rs : List Record)
+            → Stands self.old c h (R.disk rack.old) → self.old.staged ≡ map bytes_of rs → AreMadeBy c rs h after →
+            file_of (R.disk rack.old).files 0 ≡ plain_log 0 (journal_bodies c h) → OnOk result (file_of (R.disk rack.new).files 0 ≡ plain_log 0 (journal_bodies c after)) }
+        ensures others { Told (R.disk rack.old) → OthersAsBefore 0 (R.disk rack.old) (R.disk rack.new) }
+        ensures ok { OnOk result (self.new ≡ with_staged self.old) }
+        ensures err { OnErr result (self.new ≡ self.old) }
+        ensures tells { (R.disk rack.new).tells ≡ (R.disk rack.old).tells }
+        ensures cause { HasCause (R.faults rack.old) (R.faults rack.new) result }
+        ensures quiet { OnOk result (R.faults rack.new ≡ R.faults rack.old) }
+    {
+        self.log.append_staged(rack)
     }
 
     // Appends the bytes of a record.
@@ -163,6 +203,7 @@ impl Journal {
         ensures others { Told (R.disk rack.old) → OthersAsBefore self.old.file (R.disk rack.old) (R.disk rack.new) }
         ensures file { self.old.file ≡ 0 }
         ensures ok { OnOk result ((self.new.file ≡ self.old.file) × (self.new.count ≡ self.old.count + 1)) }
+        ensures unstaged { OnOk result (self.new.staged ≡ []) }
         ensures err { OnErr result (self.new ≡ self.old) }
         ensures tells { (R.disk rack.new).tells ≡ (R.disk rack.old).tells }
         ensures cause { HasCause (R.faults rack.old) (R.faults rack.new) result }
