@@ -18,14 +18,25 @@ use Rattle.subsystem_store.specs.Opened.{Account, Fits}
 pub fits_still : {B : Type 0} (meaning : B → Pairs) (sort : B → Kind) (a new : Account B) → Fits meaning sort a → new.kind ≡ a.kind → new.book ≡ a.book → sort new.resource ≡ sort a.resource
     → ((key : ℕ) → value_at (meaning new.resource).items key ≡ value_at (meaning a.resource).items key)
     → ((key : ℕ) → has_key (meaning a.resource).items key ≡ true → has_key (meaning new.resource).items key ≡ true)
-    → IfSome new.doubt (λ (e : Effect). IsTrue (has_key (meaning new.resource).items e.call.key)) → Fits meaning sort new
-fits_still meaning sort a new fits kind book sorts same keeps doubt = record {
+    → IfSome new.doubt (λ (e : Effect). IsTrue (has_key (meaning new.resource).items e.call.key)) → IfSome new.ready (λ (key : ℕ). IsTrue (has_key (meaning new.resource).items key)) → Fits meaning sort new
+fits_still meaning sort a new fits kind book sorts same keeps doubt room = record {
   kind = sorts ∙ fits.kind ∙ sym kind;
   values = λ key. same key ∙ fits.values key ∙ ap (λ (v : List (ℕ × ℤ)). value_at v key) (ap (λ k. values k a.book) (sym kind) ∙ ap (values new.kind) (sym book));
   ready = All-same (λ (e : Effect). has_key (meaning new.resource).items e.call.key ≡ true) new.book a.book book
       (All-weaker (λ (e : Effect). has_key (meaning a.resource).items e.call.key ≡ true) (λ (e : Effect). has_key (meaning new.resource).items e.call.key ≡ true) (λ e has. keeps e.call.key has) a.book fits.ready);
   doubt_ready = doubt;
+  room = room;
 }
+
+-- what is kept of the pair of the effect in doubt
+pub doubt_kept : (had has : ℕ → Type 0) (o : Option Effect) → ((key : ℕ) → had key → has key) → IfSome o (λ e. had e.call.key) → IfSome o (λ e. has e.call.key)
+doubt_kept had has None keeps room = tt
+doubt_kept had has (Some e) keeps room = keeps e.call.key room
+
+-- what is kept of one key's pair
+pub room_kept : (had has : ℕ → Type 0) (o : Option ℕ) → ((key : ℕ) → had key → has key) → IfSome o had → IfSome o has
+room_kept had has None keeps room = tt
+room_kept had has (Some key) keeps room = keeps key room
 
 -- Two maps that read alike do so when the same is set at a key.
 pub alike_set : (one two : List (ℕ × ℤ)) (key : ℕ) (v w : ℤ) → v ≡ w → ((k : ℕ) → value_at one k ≡ value_at two k) → (k : ℕ) → value_at (with_value one key v) k ≡ value_at (with_value two key w) k
@@ -76,9 +87,9 @@ has_settled kind s e key had = by e.undo (take_last e s.undoable)
 
 -- A box that fits, after an effect of which it has the key.
 pub fits_after : {B : Type 0} (meaning : B → Pairs) (sort : B → Kind) (a new : Account B) (us : List Undoable) (e : Effect) → Fits meaning sort a → us ≡ (settled a.kind a.book).undoable
-    → new.kind ≡ a.kind → new.book ≡ a.book ++ e ∷ [] → new.doubt ≡ None → sort new.resource ≡ sort a.resource → has_key (meaning a.resource).items e.call.key ≡ true
+    → new.kind ≡ a.kind → new.book ≡ a.book ++ e ∷ [] → new.doubt ≡ None → new.ready ≡ a.ready → sort new.resource ≡ sort a.resource → has_key (meaning a.resource).items e.call.key ≡ true
     → (meaning new.resource).items ≡ (settle (sort a.resource) (beside (meaning a.resource).items us) e).pairs → Fits meaning sort new
-fits_after {B} meaning sort a new us e fits undoable kind book doubt sorts has changed =
+fits_after {B} meaning sort a new us e fits undoable kind book doubt ready sorts has changed =
     let old = beside (meaning a.resource).items us in
     let alike : Alike old (settled a.kind a.book) = record { undoable = undoable; values = fits.values } in
     let of_kind : (meaning new.resource).items ≡ (settle a.kind old e).pairs = subst (λ k. (meaning new.resource).items ≡ (settle k old e).pairs) fits.kind changed in
@@ -92,6 +103,8 @@ fits_after {B} meaning sort a new us e fits undoable kind book doubt sorts has c
       values = λ key. ap (λ (ps : List (ℕ × ℤ)). value_at ps key) of_kind ∙ after.values key ∙ sym (ap (λ (ps : List (ℕ × ℤ)). value_at ps key) all);
       ready = All-same Has new.book (a.book ++ e ∷ []) book (All-push Has a.book e (All-weaker Had Has (λ f had. keeps f.call.key had) a.book fits.ready) (keeps e.call.key has));
       doubt_ready = subst (λ (o : Option Effect). IfSome o Has) (sym doubt) tt;
+      room = subst (λ (o : Option ℕ). IfSome o (λ key. has_key (meaning new.resource).items key ≡ true)) (sym ready)
+          (room_kept (λ key. has_key (meaning a.resource).items key ≡ true) (λ key. has_key (meaning new.resource).items key ≡ true) a.ready keeps fits.room);
     }
 
 -- and what may be undone after it

@@ -7,4 +7,5 @@ pub mod Matching
 pub mod Opened
 pub mod Order
 pub mod Room
+pub mod Staged
 pub mod Values

@@ -9,12 +9,14 @@ use Rattle.subsystem_store.specs.Values.{values}
 use Rattle.subsystem_store.specs.Bodies.{store_bodies}
 use Rattle.subsystem_store.specs.Order.{Book}
 
--- What an account is seen as: the kind of its box, the box, the committed effects in order, and the one in doubt.
+-- What an account is seen as: the kind of its box, the box, the committed effects in order, the one in doubt, and the key at which
+-- there is room for one more.
 pub record Account (B : Type 0) : Type 0 where
   pub kind : Kind
   pub resource : B
   pub book : List Effect
   pub doubt : Option Effect
+  pub ready : Option ℕ
 
 -- The box has the kind and the values of the book, and a pair of each key at which an effect may still be applied or undone.
 pub record Fits {B : Type 0} (meaning : B → Pairs) (sort : B → Kind) (a : Account B) : Type 0 where
@@ -22,6 +24,7 @@ pub record Fits {B : Type 0} (meaning : B → Pairs) (sort : B → Kind) (a : Ac
   pub values : (key : ℕ) → value_at (meaning a.resource).items key ≡ value_at (values a.kind a.book) key
   pub ready : All (λ (e : Effect). IsTrue (has_key (meaning a.resource).items e.call.key)) a.book
   pub doubt_ready : IfSome a.doubt (λ (e : Effect). IsTrue (has_key (meaning a.resource).items e.call.key))
+  pub room : IfSome a.ready (λ (key : ℕ). IsTrue (has_key (meaning a.resource).items key))
 
 -- the book of an account, with what is in doubt
 abbrev pub book_of : {B : Type 0} → Account B → Book
@@ -34,10 +37,11 @@ pub record Opened (B : Type 0) : Type 0 where
   pub resource : B
   pub book : List Effect
   pub doubt : Option Effect
+  pub ready : Option ℕ
 
 -- the account of a store
 abbrev pub account_of : {B : Type 0} → Opened B → Account B
-account_of s = record { kind = s.kind; resource = s.resource; book = s.book; doubt = s.doubt }
+account_of s = record { kind = s.kind; resource = s.resource; book = s.book; doubt = s.doubt; ready = s.ready }
 
 -- The store's file is the log of its book and of what is in doubt, and so is each image of that file from now on.
 abbrev pub Stands : {B : Type 0} → Opened B → Disk → Type 0

@@ -16,3 +16,13 @@ undos_of (Some e) = if e.undo then 0 else 1
 abbrev pub records_of : ℕ → Option Effect → ℕ
 records_of committed None = 2 * committed
 records_of committed (Some e) = 2 * committed + 1
+
+-- places that are kept for the effect at a key and its undo
+abbrev pub places_of : Option ℕ → ℕ
+places_of None = 0
+places_of (Some key) = 2
+
+-- and among the forward effects that aren't undone
+abbrev pub undo_places : Option ℕ → ℕ
+undo_places None = 0
+undo_places (Some key) = 1

@@ -1,7 +1,7 @@
 // A box, its book, and what may be undone.
 ghost use Rattle.std.specs.Prelude.{◌≡◌, ◌≢◌, ◌<◌, ◌≤◌, ◌+◌, ◌++◌, ◌∷◌, [], List, ℕ, length, None, Some, true, false, not, ◌||◌};
-ghost use Rattle.std.specs.Prelude.{◌&&◌, nat_le, Ok, Err, IfOk, IfErr, OnOk, OnErr, IsOk, IsTrue, vec_len, vec_capacity, IsSome};
-ghost use Rattle.std.specs.Prelude.{IfSome, option_copied, is_some, is_none, ◌-◌, if◌then◌else◌};
+ghost use Rattle.std.specs.Prelude.{◌&&◌, ◌⊎◌, nat_le, Ok, Err, IfOk, IfErr, OnOk, OnErr, IsOk, IsTrue, vec_len, vec_capacity, IsSome};
+ghost use Rattle.std.specs.Prelude.{IfSome, ◌↔◌, option_copied, is_some, is_none, ◌-◌, if◌then◌else◌};
 ghost use Rattle.resource_box.specs.Meaning.{Pairs, value_at, has_key};
 ghost use Rattle.resource_box.specs.Table.{bars};
 ghost use Rattle.subsystem_store.specs.Values.{values, take_last, can_undo, settle, undone, beside};
@@ -29,21 +29,29 @@ pub struct Account<B: Drop> {
     // the forward effects that are not undone, with the values before them
     undoable: Vec<Undoable>,
     doubt: Option<Effect>,
+    // the key at which there is room for one effect more
+    ready: Option<u32>,
 }
 
 impl<B: Drop> Model for Account<B> {
     ghost use Rattle.std.specs.Prelude.{◌≡◌, ◌≤◌, ◌+◌, length, vec_capacity, IfSome, true};
     ghost use Rattle.subsystem_store.specs.Opened.{Account};
     ghost use Rattle.subsystem_store.specs.Values.{settled, can_undo};
-    ghost use Rattle.subsystem_store.specs.Room.{room_of, undos_of};
+    ghost use Rattle.subsystem_store.specs.Room.{room_of, undos_of, places_of, undo_places};
 
     ghost Value = { Account B };
 
-    ghost view = { λ a. record { kind = a.kind; resource = a.resource; book = a.book.items; doubt = a.doubt } };
+    ghost view = { λ a. record {
+      kind = a.kind;
+      resource = a.resource;
+      book = a.book.items;
+      doubt = a.doubt;
+      ready = a.ready;
+    } };
 
     ghost invariant = { λ a. (a.undoable.items ≡ (settled a.kind a.book.items).undoable)
-        × (length a.book.items + length a.undoable.items + room_of a.doubt ≤ vec_capacity a.book)
-        × (length a.undoable.items + undos_of a.doubt ≤ vec_capacity a.undoable)
+        × (length a.book.items + length a.undoable.items + room_of a.doubt + places_of a.ready ≤ vec_capacity a.book)
+        × (length a.undoable.items + undos_of a.doubt + undo_places a.ready ≤ vec_capacity a.undoable)
         × IfSome a.doubt (λ e. e.undo ≡ true → can_undo a.kind a.book.items e ≡ true) };
 }
 
@@ -62,6 +70,7 @@ impl<B: Resource> Account<B> {
             book: Vec::new(alloc),
             undoable: Vec::new(alloc),
             doubt: None,
+            ready: None,
         }
     }
 
@@ -100,6 +109,30 @@ impl<B: Resource> Account<B> {
         !effect.undo && self.resource.bars(&effect.call)
     }
 
+    /// Makes room for an effect at a key and for its undo.
+    pub fn make_room(&mut self, key: u32) -> Result<(), AllocError>
+        requires fits { Fits B.meaning B.sort self.old }
+        ensures fits { Fits B.meaning B.sort self.new }
+        ensures same { (self.new.kind ≡ self.old.kind) × (self.new.book ≡ self.old.book) × (self.new.doubt ≡ self.old.doubt) }
+        ensures ok { OnOk result (self.new.ready ≡ Some key) }
+        ensures err { OnErr result (self.new.ready ≡ self.old.ready) }
+        ensures sort { B.sort self.new.resource ≡ B.sort self.old.resource }
+    {
+        reserve(&mut self.book, &mut self.undoable)?;
+        self.resource.ready(key)?;
+        self.ready = Some(key);
+        Ok(())
+    }
+
+    fn is_ready(&self, key: u32) -> bool
+        ensures { IsTrue result ↔ (self.now.ready ≡ Some key) }
+    {
+        match self.ready {
+            Some(other) => other == key,
+            None => false,
+        }
+    }
+
     /// Takes an effect in doubt, with the room that it and its undo need.
     pub fn hold(&mut self, effect: Effect) -> Result<(), AllocError>
         requires fits { Fits B.meaning B.sort self.old }
@@ -110,16 +143,48 @@ impl<B: Resource> Account<B> {
         ensures ok { OnOk result (self.new.doubt ≡ Some effect) }
         ensures err { OnErr result (self.new.doubt ≡ None) }
         ensures undo { effect.undo ≡ true → IsOk result }
+        ensures room { self.old.ready ≡ Some effect.call.key → IsOk result }
         ensures sort { B.sort self.new.resource ≡ B.sort self.old.resource }
     {
         if effect.undo {
             self.doubt = Some(effect);
             return Ok(());
         }
-        reserve(&mut self.book, &mut self.undoable)?;
-        self.resource.ready(effect.call.key)?;
-        self.doubt = Some(effect);
+        if !self.is_ready(effect.call.key) {
+            self.make_room(effect.call.key)?;
+        }
+        self.use_room(effect);
         Ok(())
+    }
+
+    /// The same, of an undo or where there is room.
+    pub fn hold_ready(&mut self, effect: Effect)
+        requires fits { Fits B.meaning B.sort self.old }
+        requires settled { self.old.doubt ≡ None }
+        requires follows { may_follow self.old.kind self.old.book effect ≡ true }
+        requires room { (effect.undo ≡ true) ⊎ (self.old.ready ≡ Some effect.call.key) }
+        ensures fits { Fits B.meaning B.sort self.new }
+        ensures same { (self.new.kind ≡ self.old.kind) × (self.new.book ≡ self.old.book) }
+        ensures doubt { self.new.doubt ≡ Some effect }
+    {
+        match self.hold(effect) {
+            Ok(()) => {}
+            Err(_) => unreachable!(),
+        }
+    }
+
+    // Takes an effect in doubt in the room that is ready for it.
+    fn use_room(&mut self, effect: Effect)
+        requires fits { Fits B.meaning B.sort self.old }
+        requires settled { self.old.doubt ≡ None }
+        requires ready { self.old.ready ≡ Some effect.call.key }
+        requires forward { effect.undo ≡ false }
+        ensures fits { Fits B.meaning B.sort self.new }
+        ensures same { (self.new.kind ≡ self.old.kind) × (self.new.book ≡ self.old.book) × (self.new.resource ≡ self.old.resource) }
+        ensures doubt { self.new.doubt ≡ Some effect }
+    {
+        self.ready = None;
+        self.doubt = Some(effect);
     }
 
     /// Takes the records of these bodies, in order.
@@ -246,6 +311,7 @@ impl<B: Resource> Account<B> {
         requires fits { Fits B.meaning B.sort self.old }
         ensures fits { Fits B.meaning B.sort self.new }
         ensures same { (self.new.kind ≡ self.old.kind) × (self.new.book ≡ self.old.book) × (self.new.doubt ≡ None) }
+        ensures ready { self.new.ready ≡ self.old.ready }
     {
         self.doubt = None;
     }
@@ -259,6 +325,7 @@ impl<B: Resource> Account<B> {
         ensures sort { B.sort self.new.resource ≡ B.sort self.old.resource }
         ensures book { IfSome self.old.doubt (λ e. self.new.book ≡ self.old.book ++ e ∷ []) }
         ensures settled { self.new.doubt ≡ None }
+        ensures ready { self.new.ready ≡ self.old.ready }
     {
         let Some(effect) = self.doubt else {
             unreachable!();
@@ -289,17 +356,17 @@ impl<B: Drop> Account<B> {
     }
 }
 
-// Room for an effect, for its undo, and for the undos of the others.
+// Room for an effect in doubt and for one more, for the undos of both, and for those of the others.
 fn reserve(book: &mut Vec<Effect>, undoable: &mut Vec<Undoable>) -> Result<(), AllocError>
     requires few { vec_len undoable.old ≤ vec_capacity book.old }
     ensures same { (book.new.items ≡ book.old.items) × (undoable.new.items ≡ undoable.old.items) }
     ensures keeps { (vec_capacity book.old ≤ vec_capacity book.new) × (vec_capacity undoable.old ≤ vec_capacity undoable.new) }
     ensures room { OnOk result
-        ((vec_len book.new + vec_len undoable.new + 2 ≤ vec_capacity book.new)
-        × (vec_len undoable.new + 1 ≤ vec_capacity undoable.new)) }
+        ((vec_len book.new + vec_len undoable.new + 4 ≤ vec_capacity book.new)
+        × (vec_len undoable.new + 2 ≤ vec_capacity undoable.new)) }
 {
-    book.reserve(undoable.len() + 2)?;
-    undoable.reserve(1)
+    book.reserve(undoable.len() + 4)?;
+    undoable.reserve(2)
 }
 
 // Changes the box by an effect, and what may be undone.

@@ -5,6 +5,9 @@
 //! says which bytes stand for each record, `specs/Order` in which order they come and what is refused of a file first,
 //! `specs/Opened` what an open store stands for, and `specs/Laws` which books a store may have; each is read back as that book.
 //! The layer above decides what becomes of an effect that is in doubt.
+//!
+//! A prepare and a commit can also be taken by parts that sync nothing, so that several stores share their syncs (`specs/Staged`);
+//! `make_room` has taken before what memory that needs.
 #![tactic(auto)]
 
 mod account;

@@ -7,12 +7,14 @@ ghost use Rattle.process_disk.specs.Images.{EachImage, OthersAsBefore, AllAsBefo
 ghost use Rattle.resource_box.specs.Meaning.{value_at};
 ghost use Rattle.resource_box.specs.Table.{bars};
 ghost use Rattle.subsystem_store.specs.declared.effect.Effect.{Effect};
-ghost use Rattle.subsystem_store.specs.Bodies.{is_amount};
+ghost use Rattle.gate_log.specs.Staging.{staging, with_staged};
+ghost use Rattle.subsystem_store.specs.Bodies.{is_amount, prepared_bytes, committed_bytes};
 ghost use Rattle.subsystem_store.specs.Values.{values};
 ghost use Rattle.subsystem_store.specs.Order.{may_follow, read_store};
 ghost use Rattle.subsystem_store.specs.Laws.{IsGoodBook};
 ghost use Rattle.subsystem_store.specs.Answers.{OpensAs, doubt_after};
 ghost use Rattle.subsystem_store.specs.Opened.{Opened, Fits, Stands, account_of, IsStoreOf, IsStoreOfEither};
+ghost use Rattle.subsystem_store.specs.Staged.{IsWritten, IsOnDisk, HasOpened};
 
 use crate::account::Account;
 use crate::bodies::{committed_bytes, prepared_bytes};
@@ -20,7 +22,7 @@ use crate::{Effect, Prepare, StoreError, StoreRefused};
 use gate_log::{DiskFault, Log};
 use process_disk::Rack;
 use resource_box::Resource;
-use std::alloc::Global;
+use std::alloc::{AllocError, Global};
 use std::marker::Model;
 
 /// A subsystem's effects in a file, and their values in a box. After a `DiskFault` it is opened again before any other call.
@@ -44,6 +46,7 @@ impl<B: Drop> Model for Store<B> {
       resource = s.account.resource;
       book = s.account.book;
       doubt = s.account.doubt;
+      ready = s.account.ready;
     } };
 
     ghost invariant = { λ s. (s.log.count ≡ records_of (length s.account.book) s.account.doubt)
@@ -131,6 +134,7 @@ impl<B: Resource> Store<B> {
             ((if effect.undo then false else bars self.old.kind effect.call
             (value_at (values self.old.kind self.old.book) effect.call.key)) ≡ true) }
         ensures undo { effect.undo ≡ true → (result ≡ Prepare.Prepared) ⊎ (result ≡ Prepare.DiskFault) }
+        ensures room { self.old.ready ≡ Some effect.call.key → result ≢ Prepare.NoMemory }
         ensures untouched { ((result ≡ Prepare.Barred) ⊎ (result ≡ Prepare.NoMemory))
             → (rack.new ≡ rack.old) × (self.new.log ≡ self.old.log) }
         ensures same { (self.new.log.file ≡ self.old.log.file) × (self.new.kind ≡ self.old.kind) × (self.new.book ≡ self.old.book) }
@@ -165,6 +169,7 @@ impl<B: Resource> Store<B> {
         ensures fits { Fits B.meaning B.sort (account_of self.new) }
         ensures ok { OnOk result ((self.new.doubt ≡ None) × IfSome self.old.doubt (λ e. self.new.book ≡ self.old.book ++ e ∷ [])) }
         ensures err { OnErr result ((self.new.book ≡ self.old.book) × (self.new.doubt ≡ self.old.doubt)) }
+        ensures ready { self.new.ready ≡ self.old.ready }
         ensures same { (self.new.log.file ≡ self.old.log.file) × (self.new.kind ≡ self.old.kind) }
         ensures others { Told (R.disk rack.old) → OthersAsBefore self.old.log.file (R.disk rack.old) (R.disk rack.new) }
         ensures tells { (R.disk rack.new).tells ≡ (R.disk rack.old).tells }
@@ -190,6 +195,7 @@ impl<B: Resource> Store<B> {
         ensures fits { Fits B.meaning B.sort (account_of self.new) }
         ensures ok { OnOk result (self.new.doubt ≡ None) }
         ensures err { OnErr result (self.new.doubt ≡ self.old.doubt) }
+        ensures ready { self.new.ready ≡ self.old.ready }
         ensures same { (self.new.log.file ≡ self.old.log.file) × (self.new.kind ≡ self.old.kind) × (self.new.book ≡ self.old.book) }
         ensures others { Told (R.disk rack.old) → OthersAsBefore self.old.log.file (R.disk rack.old) (R.disk rack.new) }
         ensures tells { (R.disk rack.new).tells ≡ (R.disk rack.old).tells }
@@ -198,6 +204,122 @@ impl<B: Resource> Store<B> {
         self.log.retract(rack)?;
         self.account.release();
         Ok(())
+    }
+
+    /// Whether the values bar an effect. An undo is never barred.
+    pub fn bars(&self, effect: &Effect) -> bool
+        requires fits { Fits B.meaning B.sort (account_of self.now) }
+        ensures { result ≡ (if effect.now.undo then false
+            else bars self.now.kind effect.now.call (value_at (values self.now.kind self.now.book) effect.now.call.key)) }
+    {
+        self.account.bars(effect)
+    }
+
+    /// Makes room for the next effect at a key, so that preparing it needs no memory.
+    pub fn make_room(&mut self, key: u32) -> Result<(), AllocError>
+        requires fits { Fits B.meaning B.sort (account_of self.old) }
+        ensures fits { Fits B.meaning B.sort (account_of self.new) }
+        ensures ok { OnOk result (self.new.ready ≡ Some key) }
+        ensures err { OnErr result (self.new.ready ≡ self.old.ready) }
+        ensures same { (self.new.log ≡ self.old.log) × (self.new.kind ≡ self.old.kind)
+            × (self.new.book ≡ self.old.book) × (self.new.doubt ≡ self.old.doubt) }
+    {
+        self.account.make_room(key)
+    }
+
+    /// Stages the record that prepares an effect. The store stands for the same book.
+    pub fn stage_prepare(&mut self, effect: &Effect)
+        requires settled { self.old.doubt ≡ None }
+        requires few { length self.old.book < 16384 }
+        requires unstaged { self.old.log.staged ≡ [] }
+        ensures log { self.new.log ≡ staging self.old.log (prepared_bytes effect.now) }
+        ensures same { account_of self.new ≡ account_of self.old }
+    {
+        self.log.stage(&prepared_bytes(effect));
+    }
+
+    /// Stages the record that commits the effect in doubt. It stays in doubt.
+    pub fn stage_commit(&mut self)
+        requires doubt { IsSome self.old.doubt }
+        requires unstaged { self.old.log.staged ≡ [] }
+        ensures log { (e : Effect) → self.old.doubt ≡ Some e → self.new.log ≡ staging self.old.log (committed_bytes e.number) }
+        ensures same { account_of self.new ≡ account_of self.old }
+    {
+        let number = self.number_in_doubt();
+        self.log.stage(&committed_bytes(number));
+    }
+
+    fn number_in_doubt(&self) -> u32
+        requires doubt { IsSome self.now.doubt }
+        ensures { (e : Effect) → self.now.doubt ≡ Some e → result ≡ e.number }
+    {
+        match self.account.in_doubt() {
+            Some(effect) => effect.number,
+            None => unreachable!(),
+        }
+    }
+
+    /// Writes the staged record behind the closed gate, and syncs nothing. A crash leaves the store as it was.
+    pub fn write_staged<R: Rack>(&self, rack: &mut R) -> Result<(), DiskFault>
+        requires staged { self.now.log.staged ≢ [] }
+        requires stands { Told (R.disk rack.old) → Stands self.now (R.disk rack.old) }
+        ensures written { Told (R.disk rack.old) → OnOk result (IsWritten self.now (R.disk rack.new)) }
+        ensures any_moment { Told (R.disk rack.old) →
+            EachImage (R.disk rack.new) (R.disk rack.old).moment (IsStoreOf self.now.log.file self.now.book self.now.doubt) }
+        ensures others { Told (R.disk rack.old) → OthersAsBefore self.now.log.file (R.disk rack.old) (R.disk rack.new) }
+        ensures tells { (R.disk rack.new).tells ≡ (R.disk rack.old).tells }
+        ensures cause { HasCause (R.faults rack.old) (R.faults rack.new) result }
+    {
+        self.log.write_staged(rack)
+    }
+
+    /// Opens the gate of the staged record, when it is on the disk, and syncs nothing. A crash leaves the store before or with it.
+    pub fn open_gate<R: Rack>(&self, rack: &mut R) -> Result<(), DiskFault>
+        requires on_disk { Told (R.disk rack.old) → IsOnDisk self.now (R.disk rack.old) }
+        ensures opened { Told (R.disk rack.old) → OnOk result (HasOpened self.now (R.disk rack.new)) }
+        ensures prepared { Told (R.disk rack.old) → (e : Effect) → self.now.doubt ≡ None
+            → self.now.log.staged ≡ prepared_bytes e ∷ [] →
+            EachImage (R.disk rack.new) (R.disk rack.old).moment (IsStoreOfEither self.now.log.file (self.now.book, None) (self.now.book, Some e)) }
+        ensures committed { Told (R.disk rack.old) → (e : Effect) → self.now.doubt ≡ Some e
+            → self.now.log.staged ≡ committed_bytes e.number ∷ [] →
+            EachImage (R.disk rack.new) (R.disk rack.old).moment (IsStoreOfEither self.now.log.file (self.now.book, Some e) (self.now.book ++ e ∷ [], None)) }
+        ensures others { Told (R.disk rack.old) → OthersAsBefore self.now.log.file (R.disk rack.old) (R.disk rack.new) }
+        ensures tells { (R.disk rack.new).tells ≡ (R.disk rack.old).tells }
+        ensures cause { HasCause (R.faults rack.old) (R.faults rack.new) result }
+    {
+        self.log.open_gate(rack)
+    }
+
+    /// Takes an effect in doubt, once the gate of the record that prepares it is open on the disk. It needs no memory.
+    pub fn take_prepared(&mut self, effect: Effect)
+        requires settled { self.old.doubt ≡ None }
+        requires few { length self.old.book < 16384 }
+        requires follows { may_follow self.old.kind self.old.book effect ≡ true }
+        requires fits { Fits B.meaning B.sort (account_of self.old) }
+        requires staged { self.old.log.staged ≡ prepared_bytes effect ∷ [] }
+        requires room { (effect.undo ≡ true) ⊎ (self.old.ready ≡ Some effect.call.key) }
+        ensures log { self.new.log ≡ with_staged self.old.log }
+        ensures fits { Fits B.meaning B.sort (account_of self.new) }
+        ensures doubt { self.new.doubt ≡ Some effect }
+        ensures same { (self.new.kind ≡ self.old.kind) × (self.new.book ≡ self.old.book) }
+    {
+        self.account.hold_ready(effect);
+        self.log.take_staged();
+    }
+
+    /// Takes the effect in doubt among the committed ones, once the gate of the record that commits it is open on the disk.
+    pub fn take_committed(&mut self)
+        requires doubt { IsSome self.old.doubt }
+        requires fits { Fits B.meaning B.sort (account_of self.old) }
+        requires staged { IfSome self.old.doubt (λ e. self.old.log.staged ≡ committed_bytes e.number ∷ []) }
+        ensures log { self.new.log ≡ with_staged self.old.log }
+        ensures fits { Fits B.meaning B.sort (account_of self.new) }
+        ensures doubt { self.new.doubt ≡ None }
+        ensures book { IfSome self.old.doubt (λ e. self.new.book ≡ self.old.book ++ e ∷ []) }
+        ensures same { self.new.kind ≡ self.old.kind }
+    {
+        self.account.commit();
+        self.log.take_staged();
     }
 
     /// The value at a key.

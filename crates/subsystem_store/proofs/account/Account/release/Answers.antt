@@ -7,4 +7,5 @@ pub returns-clause-fits : goal.returns-clause-fits
 returns-clause-fits g c =
     let meaning = g.B.Resource.meaning in
     let sort = g.B.Resource.sort in
-    fits_still meaning sort _ _ (subst (Fits meaning sort) (sym c.self.view_is) c.requires.fits) refl refl refl (λ key. refl) (λ key had. had) tt
+    let fits = subst (Fits meaning sort) (sym c.self.view_is) c.requires.fits in
+    fits_still meaning sort _ _ fits refl refl refl (λ key. refl) (λ key had. had) tt fits.room

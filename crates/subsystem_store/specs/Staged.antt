@@ -1,0 +1,17 @@
+-- What a store is while the record of one call is staged.
+use Rattle.process_disk.specs.Disk.{Disk}
+use Rattle.gate_log.specs.Staging.{AreWritten, AreOnDisk, IsOpened}
+use Rattle.subsystem_store.specs.Bodies.{store_bodies}
+use Rattle.subsystem_store.specs.Opened.{Opened}
+
+-- the record is written behind the closed gate of its file; the store still stands for its book
+abbrev pub IsWritten : {B : Type 0} → Opened B → Disk → Type 0
+IsWritten s disk = AreWritten s.log (store_bodies s.book s.doubt) disk
+
+-- it is on the disk there
+abbrev pub IsOnDisk : {B : Type 0} → Opened B → Disk → Type 0
+IsOnDisk s disk = AreOnDisk s.log (store_bodies s.book s.doubt) disk
+
+-- its gate is open, which a crash may still undo
+abbrev pub HasOpened : {B : Type 0} → Opened B → Disk → Type 0
+HasOpened s disk = IsOpened s.log (store_bodies s.book s.doubt) disk
