@@ -1,6 +1,6 @@
 -- What several bodies at once make of a log's file.
 use Rattle.std.proofs.Common.{◌≡◌, ◌≢◌, ◌⊎◌, inl, inr, ℕ, ◌+◌, ◌%◌, ◌/◌, ◌<◌, ◌≤◌, List, [], ◌∷◌, ◌++◌, length, take, drop, get_or, refl, sym, ◌∙◌, ap, subst, arith, append_assoc, length-append, take-append-drop}
-use Rattle.std.specs.Prelude.{IsSome}
+use Rattle.std.specs.Prelude.{IsSome, IsTrue, is_some, ◌↔◌, Bool, true, Option}
 use Rattle.std.specs.List.{flat_map}
 use Rattle.std.proofs.lemmas.List.{drop_more, length-take-le}
 use Rattle.std.proofs.lemmas.Bool.{cases_eq}
@@ -127,3 +127,11 @@ pub some_last : (bodies : List (List ℕ)) → bodies ≢ [] → IsSome (last_si
 some_last [] some = absurd (some refl)
 some_last (body ∷ []) some = refl
 some_last (body ∷ next ∷ bodies) some = some_last (next ∷ bodies) (λ none. cc)
+
+-- a body is staged where the last has a size
+pub has_last : (bodies : List (List ℕ)) (b : Bool) (last : Option ℕ) → b ≡ is_some last → last ≡ last_size bodies → IsTrue b ↔ (bodies ≢ [])
+has_last bodies b last is of = (λ told none. no_last bodies none (sym (is ∙ ap is_some of) ∙ told), λ some. is ∙ ap is_some of ∙ some_last bodies some)
+  where
+    no_last : (bodies : List (List ℕ)) → bodies ≡ [] → is_some (last_size bodies) ≡ true → ⊥
+    no_last [] none told = absurd cc
+    no_last (body ∷ bodies) none told = absurd cc

@@ -166,6 +166,13 @@ impl Log {
         self.staged.add(body);
     }
 
+    /// Whether a body is staged.
+    pub fn has_staged(&self) -> bool
+        ensures { IsTrue result ↔ (self.now.staged ≢ []) }
+    {
+        self.staged.last().is_some()
+    }
+
     /// Writes what is staged behind the closed gate, and syncs nothing. A crash leaves the list as it was.
     pub fn write_staged<R: Rack>(&self, rack: &mut R) -> Result<(), DiskFault>
         requires staged { self.now.staged ≢ [] }

@@ -5,6 +5,10 @@ use Rattle.std.proofs.lemmas.Option.{none-some}
 use Rattle.std.proofs.lemmas.Bool.Decides.{eqb_tells}
 use Rattle.process_disk.specs.Disk.{FileSet, file_of}
 use Rattle.history_files.specs.Creating.{first_used_from, has_byte}
+use Rattle.process_disk.specs.Disk.{Disk}
+use Rattle.history_files.specs.Creating.{AreLeftUnmade, first_used}
+use Rattle.history_files.specs.declared.faults.CreateError.{CreateError}
+use Rattle.history_files.specs.declared.faults.CreateError.TheVariants.{DiskFault, NotEmpty, NoMemory}
 
 -- a file has a byte, or none
 is_used : (file : List ℕ) → 0 < length file → has_byte file ≡ true
@@ -47,3 +51,9 @@ none_used zero q files none k from within = absurd (omega (arith, from, within))
 none_used (suc n) q files none k from within =
     let first = empty_first (file_of files q) q (first_used_from n (q + 1) files) none in
     first_or_other q k from (λ here. ap (file_of files) (sym here) ∙ first.0) (λ there. none_used n (q + 1) files first.1 k there (omega (arith, within)))
+
+-- where no file has a byte, a refusal that names no file leaves what it may
+pub unused_left : (why : CreateError) (old new : Disk) {F : Type 0} → (why ≢ NoMemory → (why ≡ DiskFault) × F) → first_used old.files ≡ None → AreLeftUnmade why old new
+unused_left DiskFault old new refused none = inr none
+unused_left (NotEmpty q) old new refused none = let fault : NotEmpty q ≡ DiskFault = (refused (λ same. absurd cc)).0 in absurd cc
+unused_left NoMemory old new refused none = inr none

@@ -1,8 +1,12 @@
 -- What a store is while the record of one call is staged.
-use Rattle.process_disk.specs.Disk.{Disk}
-use Rattle.gate_log.specs.Staging.{AreWritten, AreOnDisk, IsOpened}
+use Rattle.process_disk.specs.Disk.{Disk, FileSet}
+use Rattle.gate_log.specs.Staging.{AreWritten, AreOnDisk, IsOpened, LogsBeforeOrWithAll}
 use Rattle.subsystem_store.specs.Bodies.{store_bodies}
 use Rattle.subsystem_store.specs.Opened.{Opened}
+
+-- the store is as before, or with the record that is staged
+abbrev pub IsBeforeOrWith : {B : Type 0} → Opened B → FileSet → Type 0
+IsBeforeOrWith s files = LogsBeforeOrWithAll s.log.file (store_bodies s.book s.doubt) s.log.staged files
 
 -- the record is written behind the closed gate of its file; the store still stands for its book
 abbrev pub IsWritten : {B : Type 0} → Opened B → Disk → Type 0

@@ -1,6 +1,6 @@
 // An open store.
 ghost use Rattle.std.specs.Prelude.{◌≡◌, ◌≢◌, ◌↔◌, ◌⊎◌, ◌<◌, ◌≤◌, ◌+◌, ◌++◌, ◌∷◌, [], List, ℕ, length, None, Some, true, false};
-ghost use Rattle.std.specs.Prelude.{OnOk, OnErr, IfOk, IfErr, IfSome, IsSome, if◌then◌else◌, option_copied};
+ghost use Rattle.std.specs.Prelude.{OnOk, OnErr, IfOk, IfErr, IfSome, IsSome, IsTrue, if◌then◌else◌, option_copied};
 ghost use Rattle.process_flow.specs.Causes.{Rose, HasCause};
 ghost use Rattle.process_disk.specs.Disk.{Told, file_of};
 ghost use Rattle.process_disk.specs.Images.{EachImage, OthersAsBefore, AllAsBefore};
@@ -14,7 +14,7 @@ ghost use Rattle.subsystem_store.specs.Order.{may_follow, read_store};
 ghost use Rattle.subsystem_store.specs.Laws.{IsGoodBook};
 ghost use Rattle.subsystem_store.specs.Answers.{OpensAs, doubt_after};
 ghost use Rattle.subsystem_store.specs.Opened.{Opened, Fits, Stands, account_of, IsStoreOf, IsStoreOfEither};
-ghost use Rattle.subsystem_store.specs.Staged.{IsWritten, IsOnDisk, HasOpened};
+ghost use Rattle.subsystem_store.specs.Staged.{IsWritten, IsOnDisk, HasOpened, IsBeforeOrWith};
 
 use crate::account::Account;
 use crate::bodies::{committed_bytes, prepared_bytes};
@@ -259,6 +259,13 @@ impl<B: Resource> Store<B> {
         }
     }
 
+    /// Whether a record is staged.
+    pub fn has_staged(&self) -> bool
+        ensures { IsTrue result ↔ (self.now.log.staged ≢ []) }
+    {
+        self.log.has_staged()
+    }
+
     /// Writes the staged record behind the closed gate, and syncs nothing. A crash leaves the store as it was.
     pub fn write_staged<R: Rack>(&self, rack: &mut R) -> Result<(), DiskFault>
         requires staged { self.now.log.staged ≢ [] }
@@ -277,6 +284,7 @@ impl<B: Resource> Store<B> {
     pub fn open_gate<R: Rack>(&self, rack: &mut R) -> Result<(), DiskFault>
         requires on_disk { Told (R.disk rack.old) → IsOnDisk self.now (R.disk rack.old) }
         ensures opened { Told (R.disk rack.old) → OnOk result (HasOpened self.now (R.disk rack.new)) }
+        ensures any_moment { Told (R.disk rack.old) → EachImage (R.disk rack.new) (R.disk rack.old).moment (IsBeforeOrWith self.now) }
         ensures prepared { Told (R.disk rack.old) → (e : Effect) → self.now.doubt ≡ None
             → self.now.log.staged ≡ prepared_bytes e ∷ [] →
             EachImage (R.disk rack.new) (R.disk rack.old).moment (IsStoreOfEither self.now.log.file (self.now.book, None) (self.now.book, Some e)) }

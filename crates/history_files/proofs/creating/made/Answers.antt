@@ -6,7 +6,7 @@ use Rattle.process_disk.proofs.Images.{follow_then}
 use Rattle.process_journal.specs.Bodies.{journal_bodies, no_history}
 use Rattle.history_files.proofs.Clearing.{map_reverse}
 use Rattle.history_files.proofs.MadeStores.{follow_thrice}
-use Rattle.history_files.proofs.UsedFiles.{none_used}
+use Rattle.history_files.proofs.UsedFiles.{none_used, unused_left}
 use Rattle.history_files.proofs.Unused.{stand_unused, unused_are_good}
 use Rattle.history_files.proofs.creating.made.Goals as goal
 
@@ -67,3 +67,7 @@ returns-in-Ok-make_stores-clause-follow g c told =
     follow_thrice (g.R.Rack.disk c.args.rack.now) (g.R.Rack.disk c.first_used.new.rack) (g.R.Rack.disk c.create.new.rack) (g.R.Rack.disk c.make_stores.new.rack)
     (g.met.R.Rack.honest c.create.new.rack told_made) (g.met.R.Rack.honest c.make_stores.new.rack (c.in-Ok-make_stores.ensures.tells ∙ told_made))
     (c.in-Ok-None.ensures.all told).follow (c.in-Ok-create.ensures.others told_first).follow (c.in-Ok-make_stores.ensures.follow told_made)
+
+pub returns-in-Err-make_stores-clause-left : goal.returns-in-Err-make_stores-clause-left
+returns-in-Err-make_stores-clause-left g c told =
+    unused_left c.in-Err-make_stores.why (g.R.Rack.disk c.args.rack.now) (g.R.Rack.disk c.make_stores.new.rack) c.in-Err-make_stores.ensures.refused (sym (c.in-Ok-None.ensures.found told) ∙ c.in-Ok-None.field-0-is)
