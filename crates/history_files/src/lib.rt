@@ -3,7 +3,8 @@
 //! `specs/Effects` says which effects a history has on a subsystem, `specs/Sound` which files are sound for a history, and
 //! `specs/Standing` for which history files stand. `Files` makes nine empty files stand for no history (`create`), and takes the
 //! steps of an event: an effect is prepared, the event is recorded, and the effect is committed (`end_doubt`). Of each step a
-//! clause says what a crash within it leaves; several events are recorded together by `record_staged`. `are_sound` leads from `Stand` to sound images. `history_opening` opens nine files
+//! clause says what a crash within it leaves; several events are recorded together by `record_staged`. `are_sound` leads from
+//! `Stand` to sound images. `history_opening` opens nine files
 //! and makes `Files` of what it reads (`Files::new`); an effect that is left in doubt it commits or takes back by `end_doubt`, as
 //! the history says. Which event comes next is decided by the layer above.
 #![tactic(auto)]

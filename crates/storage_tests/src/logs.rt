@@ -184,6 +184,45 @@ fn a_stop_within_a_call_leaves_the_list_before_or_after_it(rt: HostRuntime) -> R
     stop(&rt, alloc, &rack, &RETRACTS)
 }
 
+// A stop within the four calls that append three staged bodies, calls 2 to 5, and how many bodies it leaves.
+const STAGED: [(u32, u32, u8, u32); 14] = [
+    (2, 0, 0x00, 0),
+    (2, 0, 0xff, 0),
+    (2, 5, 0x01, 0),
+    (2, 18, 0x01, 0),
+    (3, 0, 0x01, 0),
+    (3, 9, 0xff, 0),
+    (3, 18, 0x01, 0),
+    (4, 0, 0x00, 0),
+    (4, 0, 0x01, 3),
+    (4, 1, 0x00, 3),
+    (5, 0, 0x00, 0),
+    (5, 0, 0xff, 3),
+    (5, 1, 0x00, 3),
+    (5, 1, 0xff, 3),
+];
+
+#[test]
+fn a_stop_leaves_all_staged_bodies_or_none(rt: HostRuntime) -> Result<(), Fail> {
+    let alloc = rt.alloc();
+    let mut rack = MemoryRack::new(alloc, Vec::new(alloc))?;
+    let mut log = Log::create(alloc, &mut rack, 3)?;
+    log.stage(b"hi");
+    log.stage(b"");
+    log.stage(b"abc");
+    log.append_staged(&mut rack)?;
+    assert_eq!(rt; rack.calls(), 6);
+    assert_eq!(rt; log.count(), 3);
+    assert!(rt; log.can_retract());
+    stop(&rt, alloc, &rack, &STAGED)?;
+    let mut buf = [0; 40];
+    assert_eq!(rt; rack.read(3, 0, &mut buf), Ok(23));
+    assert_eq!(rt; &buf[8..13], &FILE[8..13]);
+    assert_eq!(rt; &buf[13..16], b"\x01\x00\x00".as_slice());
+    assert_eq!(rt; &buf[16..23], &FILE[16..]);
+    Ok(())
+}
+
 #[test]
 fn a_body_is_appended_in_the_place_of_one_taken_back(rt: HostRuntime) -> Result<(), Fail> {
     let alloc = rt.alloc();
