@@ -12,7 +12,8 @@ use Rattle.machine_model.specs.Moment.{Piece}
 use Rattle.machine_model.specs.Pieces.{piece_of, refusals}
 use Rattle.machine_model.specs.Replies.{Handed, refuse_by}
 use Rattle.process_core.specs.Answers.{after_call, answer_in}
-use Rattle.process_core.specs.Cores.{CoreState, IsHandedBy, courses_in}
+use Rattle.machine_model.proofs.TidyMoments.{piece_of-more}
+use Rattle.process_core.specs.Cores.{CoreState, courses_in}
 use Rattle.engine_calls.specs.GateAnswers.{IsHandedAs, kept_before}
 use Rattle.engine_calls.proofs.HandedPieces.{stays_handed}
 use Rattle.shared_engine.specs.declared.entries.NextSaid.{NextSaid}
@@ -22,6 +23,7 @@ use Rattle.shared_engine.specs.declared.entries.FinishSaid.TheVariants as ended
 use Rattle.shared_engine.specs.declared.entries.TurnEntry.{TurnEntry}
 use Rattle.shared_engine.specs.declared.entries.TurnEntry.TheVariants.{Next, Finish}
 use Rattle.shared_engine.specs.Progress.{AreTold, Progress, after, after_all, after_finish, after_next}
+use Rattle.shared_engine.specs.Tallies.{IsOfHanded, gate_asked, is_worked_on}
 
 -- a core keeps more, and none started
 pub record Grows (c d : CoreState) : Type 0 where
@@ -97,7 +99,7 @@ before_more n (Victim j ∷ ks) js p there = ap (λ xs. Victim j ∷ xs) (before
 before_more n (Restart ∷ ks) js p there = ap (λ xs. Restart ∷ xs) (before_more n ks js p there)
 
 -- A piece that was handed out with what is told of it stays so.
-handed_grows : (c d : CoreState) (h : Handed) → Grows c d → IsHandedAs c h → IsHandedAs d h
+pub handed_grows : (c d : CoreState) (h : Handed) → Grows c d → IsHandedAs c h → IsHandedAs d h
 handed_grows c d h grows is =
     let p = h.piece in
     let before : kept_before p.number d.kept ≡ kept_before p.number c.kept = ap (kept_before p.number) grows.kept ∙ before_more p.number c.kept grows.added p is.handed in
@@ -108,12 +110,29 @@ handed_grows c d h grows is =
           ∙ is.told);
     }
 
+-- and so does what entries lead to, as more entries come
+pub grows_later : (p : Progress) (es more : List TurnEntry) → Grows (after_all p es).core (after_all p (es ++ more)).core
+grows_later p es more = subst (λ (q : Progress). Grows (after_all p es).core q.core) (sym (after_all-append p es more)) (grows_all (after_all p es) more)
+
+-- what a request handed out is still handed out
+pub requested_grows : (c d : CoreState) → Grows c d → (e : TurnEntry) → IsOfHanded c e → IsOfHanded d e
+requested_grows c d grows (Next (asked.Piece n)) is = (is.0, ap (λ ks. piece_of ks n) grows.kept ∙ piece_of-more c.kept grows.added n is.0 is.1)
+requested_grows c d grows (Next (asked.Wait w)) is = tt
+requested_grows c d grows (Next asked.AllEnded) is = tt
+requested_grows c d grows (Next (asked.Stuck i)) is = tt
+requested_grows c d grows (Next (asked.Closed k)) is = tt
+requested_grows c d grows (Finish n a reply) is = tt
+
+-- and is the same piece
+pub asked_grows : (c d : CoreState) → Grows c d → (e : TurnEntry) → IsOfHanded c e → gate_asked d e ≡ gate_asked c e
+asked_grows c d grows (Next (asked.Piece n)) is = ap (λ o. if is_worked_on o then 1 else 0) (ap (λ ks. piece_of ks n) grows.kept ∙ piece_of-more c.kept grows.added n is.0 is.1 ∙ sym is.1)
+asked_grows c d grows (Next (asked.Wait w)) is = refl
+asked_grows c d grows (Next asked.AllEnded) is = refl
+asked_grows c d grows (Next (asked.Stuck i)) is = refl
+asked_grows c d grows (Next (asked.Closed k)) is = refl
+asked_grows c d grows (Finish n a reply) is = refl
+
+-- A piece that was handed out with what is told of it is so later.
 pub handed_later : (p : Progress) (es more : List TurnEntry) (h : Handed) → IsHandedAs (after_all p es).core h → IsHandedAs (after_all p (es ++ more)).core h
 handed_later p es more h is =
     subst (λ (q : Progress). IsHandedAs q.core h) (sym (after_all-append p es more)) (handed_grows (after_all p es).core (after_all (after_all p es) more).core h (grows_all (after_all p es) more) is)
-
--- So does one of which nothing is told.
-pub handed_by_later : (p : Progress) (es more : List TurnEntry) (h : Piece) → IsHandedBy (after_all p es).core h → IsHandedBy (after_all p (es ++ more)).core h
-handed_by_later p es more h is =
-    let grows = grows_all (after_all p es) more in
-    subst (λ (q : Progress). IsHandedBy q.core h) (sym (after_all-append p es more)) (stays_handed (after_all p es).core (after_all (after_all p es) more).core grows.added grows.kept h is)

@@ -3,3 +3,4 @@ pub mod HandedLater
 pub mod Leading
 pub mod MadeTurns
 pub mod NextTurns
+pub mod Tallies

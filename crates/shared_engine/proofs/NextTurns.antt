@@ -17,7 +17,7 @@ use Rattle.shared_engine.specs.declared.entries.TurnEntry.TheVariants.{Next}
 use Rattle.shared_engine.specs.Entries.{IsAsked, said_of}
 use Rattle.shared_engine.specs.Progress.{AreTold, IsTold, Progress, after, after_next, board_of}
 
-abbrev reply_in : Reply → NextReply → NextReply
+abbrev pub reply_in : Reply → NextReply → NextReply
 reply_in (next_is r) other = r
 reply_in r other = other
 

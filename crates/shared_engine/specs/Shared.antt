@@ -17,6 +17,7 @@ use Rattle.engine_calls.specs.Runs.{GoesOnAlone, IsReady}
 use Rattle.engine_calls.proofs.Goes.{goes_none}
 use Rattle.shared_engine.specs.declared.entries.TurnEntry.{TurnEntry}
 use Rattle.shared_engine.specs.Progress.{AreTold, progress}
+use Rattle.shared_engine.specs.Tallies.{IsByEntries, by_none}
 
 -- no piece is half done
 abbrev pub IsAtRest : Phase → Type 0
@@ -38,7 +39,8 @@ pub record IsOpening {R B : Type 0} (disk : R → Disk) (meaning : B → Pairs) 
       (IsSound o.catalog (full_history o.core))
 
 -- These entries led from one engine to another: each is the machine's turn at its place; the engine went on meanwhile, and asked
--- for no start; each box has the values of its book; and it is closed only where a call of the rack failed.
+-- for no start; each box has the values of its book; it is closed only where a call of the rack failed; and what was kept is by
+-- the answers that the entries tell of.
 pub record AreOf {R B : Type 0} (disk : R → Disk) (faults : R → ℕ) (meaning : B → Pairs) (sort : B → Kind) (o : EngineState R B)
     (entries : List TurnEntry) (x : EngineState R B) : Type 0 where
   pub told : AreTold (subsystem_of o.catalog.ops) (progress o) entries (progress x)
@@ -46,6 +48,7 @@ pub record AreOf {R B : Type 0} (disk : R → Disk) (faults : R → ℕ) (meanin
   pub fits : EachFits meaning sort x.files.stores
   pub rest : IsAtRest x.phase
   pub fault : IfClosed x.phase (Rose (faults o.files.rack) (faults x.files.rack))
+  pub by_entries : IsByEntries o.catalog o.core x.core entries
 
 -- an engine stands for an opening one and these entries, if that may be an opening
 abbrev pub StandsFor : {R B : Type 0} → (R → Disk) → (R → ℕ) → (B → Pairs) → (B → Kind) → EngineState R B → List TurnEntry
@@ -62,4 +65,5 @@ opens disk faults meaning sort o is = record {
   fits = is.ready.fits;
   rest = subst IsAtRest (sym is.ready.settled) tt;
   fault = subst (λ p. IfClosed p (Rose (faults o.files.rack) (faults o.files.rack))) (sym is.ready.settled) tt;
+  by_entries = by_none o.catalog o.core;
 }

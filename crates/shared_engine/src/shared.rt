@@ -1,10 +1,9 @@
 // The engine in a desk.
 ghost use Rattle.std.specs.Prelude.{◌≡◌, List, [], ◌∷◌, ◌++◌, ◌||◌, IfOk};
 ghost use Rattle.machine_model.specs.declared.kept.Work.TheVariants.{End};
-ghost use Rattle.process_core.specs.Cores.{IsHandedBy};
 ghost use Rattle.history_files.specs.Standing.{EachFits};
 ghost use Rattle.engine_steps.specs.Engines.{EngineState};
-ghost use Rattle.engine_calls.specs.GateAnswers.{IsGiven};
+ghost use Rattle.engine_calls.specs.GateAnswers.{IsGiven, IsHandedAs};
 ghost use Rattle.shared_engine.specs.declared.entries.TurnEntry.TheVariants as entry;
 ghost use Rattle.shared_engine.specs.Entries.{finish_said, lacks_memory, next_said};
 ghost use Rattle.shared_engine.specs.Shared.{AreOf, IsAtRest, StandsFor, opens};
@@ -45,7 +44,7 @@ impl<R: Rack + Drop, B: Resource> SharedEngine<R, B> {
     pub fn finish(&mut self, piece: Piece, answer: Answer) -> Finish
         requires rest { IsAtRest self.old.engine.phase }
         requires fits { EachFits B.meaning B.sort self.old.engine.files.stores }
-        requires handed { IsHandedBy self.old.engine.core piece.piece }
+        requires handed { IsHandedAs self.old.engine.core piece }
         requires end { piece.piece.work ≡ End → answer ≡ Answer.Done }
         ensures leads { (o : EngineState R B) (es : List TurnEntry) → AreOf R.disk R.faults B.meaning B.sort o es self.old.engine
             → AreOf R.disk R.faults B.meaning B.sort o

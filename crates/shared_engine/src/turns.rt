@@ -1,9 +1,8 @@
 // The two turns of a thread at a shared engine.
 ghost use Rattle.std.specs.Prelude.{◌≡◌, Some, IfOk};
 ghost use Rattle.machine_model.specs.declared.kept.Work.TheVariants.{End};
-ghost use Rattle.process_core.specs.Cores.{IsHandedBy};
 ghost use Rattle.history_lock.specs.Seats.{IsOf, opening, seen};
-ghost use Rattle.engine_calls.specs.GateAnswers.{IsGiven};
+ghost use Rattle.engine_calls.specs.GateAnswers.{IsGiven, IsHandedAs};
 ghost use Rattle.shared_engine.specs.declared.entries.TurnEntry.TheVariants as entry;
 ghost use Rattle.shared_engine.specs.Entries.{finish_said, next_said};
 ghost use Rattle.shared_engine.specs.Seats.{HasAdded, HasOpened, core_at, knowledge};
@@ -58,7 +57,7 @@ pub fn tell<H: Wait, R: Rack + Drop, B: Resource>(
 ) -> (Seat<SharedEngine<R, B>>, Finish)
     requires desk { IsOf desk.now seat }
     requires opened { HasOpened R.disk B.meaning B.sort (knowledge seat) }
-    requires handed { (o : SharedEngine R B) → opening seat ≡ Some o → IsHandedBy (core_at o.engine (seen seat)) piece.piece }
+    requires handed { (o : SharedEngine R B) → opening seat ≡ Some o → IsHandedAs (core_at o.engine (seen seat)) piece }
     requires end { piece.piece.work ≡ End → answer ≡ Answer.Done }
     ensures desk { IsOf desk.now result.0 }
     ensures turn { HasAdded (entry.Finish piece.piece.number answer (finish_said result.1)) (knowledge seat) (knowledge result.0) }

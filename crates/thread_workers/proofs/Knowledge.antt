@@ -1,16 +1,23 @@
 -- What a worker's seat knows after a turn.
-use Rattle.std.proofs.Common.{◌≡◌, ◌∙◌, ◌<◌, ◌≤◌, ℕ, ◌+◌, List, [], ◌∷◌, ◌++◌, length, unwrap_or, Option as Maybe, Some, refl, sym, ap, subst, arith, append_assoc}
+use Rattle.std.proofs.Common.{◌≡◌, ◌⊎◌, inl, inr, ⊎_elim, ◌∙◌, ◌<◌, ◌≤◌, ℕ, ◌+◌, ◌-◌, ◌^◌, List, [], ◌∷◌, ◌++◌, length, unwrap_or, Option as Maybe, Some, Result, Ok, Err, IfOk, refl, sym, ap, subst, arith, append_assoc}
 use Rattle.std.proofs.lemmas.List.{length-append}
 use Rattle.process_disk.specs.Disk.{Disk}
 use Rattle.process_tree.proofs.Every.{Each-append, Each-weaker}
 use Rattle.resource_box.specs.declared.call.Kind.{Kind}
 use Rattle.resource_box.specs.Meaning.{Pairs}
 use Rattle.machine_model.specs.Replies.{Handed}
+use Rattle.process_core.specs.Cores.{CoreState}
+use Rattle.process_core.specs.declared.replies.Next.{Next as CoreNext}
+use Rattle.process_core.specs.declared.replies.Next.TheVariants as core
 use Rattle.process_engine.specs.declared.gates.Answer.{Answer}
+use Rattle.process_engine.specs.declared.gates.Answer.TheVariants.{Done, Refused}
 use Rattle.engine_steps.specs.Engines.{EngineState}
-use Rattle.engine_calls.specs.GateAnswers.{IsHandedAs}
+use Rattle.engine_steps.specs.declared.engines.Closed.{Closed as IsShut}
+use Rattle.engine_calls.specs.GateAnswers.{GateCounts, IsGiven, IsHandedAs, count_after}
 use Rattle.worker_gate.specs.declared.alone.RunOutcome.{RunOutcome}
+use Rattle.worker_gate.proofs.RanRuns.{count-after}
 use Rattle.history_lock.specs.declared.view.View.{View}
+use Rattle.history_lock.proofs.Sums.{weigh-append}
 use Rattle.shared_engine.specs.declared.entries.FinishSaid.{FinishSaid}
 use Rattle.shared_engine.specs.declared.entries.TurnEntry.{TurnEntry}
 use Rattle.shared_engine.specs.declared.entries.TurnEntry.TheVariants.{Next, Finish}
@@ -18,8 +25,11 @@ use Rattle.shared_engine.specs.declared.shared.SharedEngine.{SharedEngine}
 use Rattle.shared_engine.specs.Progress.{progress}
 use Rattle.shared_engine.specs.Seats.{HasAdded, HasOpened, core_at}
 use Rattle.shared_engine.specs.Shared.{IsOpening}
-use Rattle.shared_engine.proofs.HandedLater.{handed_later}
-use Rattle.thread_workers.specs.Workers.{AreWorked, GoesUp, HasStopped, IsAnswerTo, IsWorked, Stops, WorkerKnows}
+use Rattle.shared_engine.specs.Entries.{next_said}
+use Rattle.shared_engine.specs.Tallies.{IsAnswerTo, IsOfHanded, gate_asked, gate_refused}
+use Rattle.shared_engine.proofs.Tallies.{asked_given, given_handed}
+use Rattle.shared_engine.proofs.HandedLater.{asked_grows, grows_later, handed_later, requested_grows}
+use Rattle.thread_workers.specs.Workers.{AreWorked, GoesUp, HasAnswered, HasStopped, IsTally, IsWorked, Stops, WorkerKnows, asks_for, asks_in}
 
 pub goes_up-snoc : {X : Type 0} (low high n top : ℕ) (x : X) (ps : List (ℕ × X)) → GoesUp low ps high → high < n → n ≤ top → GoesUp low (ps ++ (n, x) ∷ []) top
 goes_up-snoc low high n top x [] up l m = (omega (arith, up, l), m)
@@ -27,12 +37,78 @@ goes_up-snoc low high n top x (p ∷ ps) up l m = (up.0, goes_up-snoc p.0 high n
 
 module _ {R B : Type 0} (answers : Handed → Maybe Answer) (o : EngineState R B) (es more : List TurnEntry) where
   still_worked : (e : TurnEntry) → IsWorked answers (core_at o es) e → IsWorked answers (core_at o (es ++ more)) e
-  still_worked (Next said) is = tt
+  still_worked (Next said) is = requested_grows (core_at o es) (core_at o (es ++ more)) (grows_later (progress o) es more) (Next said) is
   still_worked (Finish n answer reply) is = (is.0, is.1, handed_later (progress o) es more is.0 is.2, is.3)
 
   -- who worked has still worked, as more is kept
   pub worked_later : (ps : List (ℕ × TurnEntry)) → AreWorked answers (core_at o es) ps → AreWorked answers (core_at o (es ++ more)) ps
   worked_later ps are = Each-weaker (λ p. IsWorked answers (core_at o es) p.1) (λ p. IsWorked answers (core_at o (es ++ more)) p.1) (λ p is. still_worked p.1 is) ps are
+
+  asks_later : (ps : List (ℕ × TurnEntry)) → AreWorked answers (core_at o es) ps → asks_in (core_at o (es ++ more)) ps ≡ asks_in (core_at o es) ps
+  asks_later [] are = refl
+  asks_later (p ∷ ps) are = let first = ask_later p.1 are.0 in let rest = asks_later ps are.1 in omega (arith, first, rest)
+    where
+      ask_later : (e : TurnEntry) → IsWorked answers (core_at o es) e → gate_asked (core_at o (es ++ more)) e ≡ gate_asked (core_at o es) e
+      ask_later (Next said) is = asked_grows (core_at o es) (core_at o (es ++ more)) (grows_later (progress o) es more) (Next said) is
+      ask_later (Finish n a reply) is = refl
+
+  -- nor does the tally change
+  pub tally_later : (owed : ℕ) (ps : List (ℕ × TurnEntry)) (before after : GateCounts) → AreWorked answers (core_at o es) ps → IsTally owed (core_at o es) ps before after
+      → IsTally owed (core_at o (es ++ more)) ps before after
+  tally_later owed ps before after are tally = record { times = tally.times; got = asks_later ps are ∙ tally.got; asked = tally.asked; counted = tally.counted; later = tally.later }
+
+-- a gate that was not asked
+pub tally_none : (c : CoreState) (count : GateCounts) → IsTally 0 c [] count count
+tally_none c count = record { times = 0; got = refl; asked = refl; counted = λ low. omega arith; later = omega arith }
+
+-- what one more entry adds to a tally
+module _ (c : CoreState) (ps : List (ℕ × TurnEntry)) (n : ℕ) (e : TurnEntry) (before now : GateCounts) where
+  -- a request, of which the gate is still to be asked for what it handed out
+  pub tally_next : (owed : ℕ) → gate_asked c e ≡ owed → gate_refused e ≡ 0 → IsTally 0 c ps before now → IsTally owed c (ps ++ (n, e) ∷ []) before now
+  tally_next owed asks none tally =
+      let got = weigh-append (λ m f. gate_asked c f) ps ((n, e) ∷ []) in
+      let told = weigh-append (λ m f. gate_refused f) ps ((n, e) ∷ []) in
+      record {
+        times = tally.times;
+        got = omega (arith, got, asks, tally.got);
+        asked = tally.asked;
+        counted = λ low. let counted = tally.counted low in omega (arith, counted, told, none);
+        later = tally.later;
+      }
+
+  -- the end of a piece, for which the gate was asked
+  pub tally_finish : (d : Handed) (a : Answer) (later : GateCounts) → gate_asked c e ≡ 0 → gate_refused e ≤ 1 → (gate_refused e ≡ 0) ⊎ (a ≡ Refused) → HasAnswered d a now later
+      → IsTally (asks_for d) c ps before now → IsTally 0 c (ps ++ (n, e) ∷ []) before later
+  tally_finish d a later none one only answered tally =
+      let got = weigh-append (λ m f. gate_asked c f) ps ((n, e) ∷ []) in
+      let told = weigh-append (λ m f. gate_refused f) ps ((n, e) ∷ []) in
+      record {
+        times = tally.times + asks_for d;
+        got = omega (arith, got, none, tally.got);
+        asked = answered.asked ∙ (ap (λ k. count_after k (asks_for d)) tally.asked ∙ sym (count-after before.asked tally.times (asks_for d)));
+        counted = λ low.
+            let low_now : now.refusals < 2 ^ 64 - 1 = omega (arith, low, answered.later) in
+            let counted = tally.counted low_now in
+            ⊎_elim (λ nothing. omega (arith, counted, told, nothing, answered.later)) (λ refuses. let rose = answered.counted refuses in omega (arith, counted, told, one, rose, low)) only;
+        later = omega (arith, tally.later, answered.later);
+      }
+
+-- the end of a piece counts as a refusal where its work was refused
+pub refused_or_not : (n : ℕ) (a : Answer) (reply : FinishSaid) → (gate_refused (Finish n a reply) ≡ 0) ⊎ (a ≡ Refused)
+refused_or_not n Done reply = inl refl
+refused_or_not n Refused reply = inr refl
+
+pub refused_at_most : (n : ℕ) (a : Answer) (reply : FinishSaid) → gate_refused (Finish n a reply) ≤ 1
+refused_at_most n Done reply = omega arith
+refused_at_most n Refused reply = omega arith
+
+-- how often the gate is to be asked for what a request got
+abbrev pub owed_by : Result CoreNext IsShut → ℕ
+owed_by (Ok (core.Piece d)) = asks_for d
+owed_by (Ok (core.Wait w)) = 0
+owed_by (Ok core.AllEnded) = 0
+owed_by (Ok (core.Stuck i)) = 0
+owed_by (Err e) = 0
 
 module _ {R B : Type 0} (disk : R → Disk) (meaning : B → Pairs) (sort : B → Kind) where
   -- whatever state the seat says the desk was opened with, that is an opening
@@ -44,23 +120,50 @@ module _ {R B : Type 0} (disk : R → Disk) (meaning : B → Pairs) (sort : B �
   opened_still v w same opened = record { opening = opened.opening; known = same ∙ opened.known; sound = opened.sound }
 
   module _ (answers : Handed → Maybe Answer) where
-    -- A turn adds an entry that was worked.
-    pub knows_added : (e : TurnEntry) (v w : View (SharedEngine R B) TurnEntry) (knows : WorkerKnows disk meaning sort answers v) → HasAdded e v w
-        → IsWorked answers (core_at knows.opened.opening.engine w.seen) e → WorkerKnows disk meaning sort answers w
-    knows_added e v w knows added worked =
+    -- A turn adds an entry that was worked, by which the tally changes.
+    pub knows_added : (e : TurnEntry) (owed owed' : ℕ) (begun before now : GateCounts) (v w : View (SharedEngine R B) TurnEntry) (knows : WorkerKnows disk meaning sort answers owed begun before v) → HasAdded e v w
+        → IsWorked answers (core_at knows.opened.opening.engine w.seen) e
+        → ((n : ℕ) → IsTally owed (core_at knows.opened.opening.engine w.seen) v.places begun before → IsTally owed' (core_at knows.opened.opening.engine w.seen) (v.places ++ (n, e) ∷ []) begun now)
+        → WorkerKnows disk meaning sort answers owed' begun now w
+    knows_added e owed owed' begun before now v w knows added worked changes =
         let o = knows.opened.opening.engine in
         let n = length (v.seen ++ added.meanwhile) + 1 in
         let long : length w.seen ≡ n = ap length added.seen ∙ length-append (v.seen ++ added.meanwhile) (e ∷ []) in
         let more : length (v.seen ++ added.meanwhile) ≡ length v.seen + length added.meanwhile = length-append v.seen added.meanwhile in
         let behind : w.seen ≡ v.seen ++ (added.meanwhile ++ e ∷ []) = added.seen ∙ append_assoc v.seen added.meanwhile (e ∷ []) in
-        let before : AreWorked answers (core_at o w.seen) v.places = subst (λ es. AreWorked answers (core_at o es) v.places) (sym behind) (worked_later answers o v.seen (added.meanwhile ++ e ∷ []) v.places knows.worked) in
+        let tally : IsTally owed (core_at o w.seen) v.places begun before =
+        subst (λ es. IsTally owed (core_at o es) v.places begun before) (sym behind) (tally_later answers o v.seen (added.meanwhile ++ e ∷ []) owed v.places begun before knows.worked knows.tally) in
+        let still : AreWorked answers (core_at o w.seen) v.places = subst (λ es. AreWorked answers (core_at o es) v.places) (sym behind) (worked_later answers o v.seen (added.meanwhile ++ e ∷ []) v.places knows.worked) in
         record {
           opened = opened_still v w added.opening knows.opened;
           order = subst (λ (ps : List (ℕ × TurnEntry)). GoesUp 0 ps (length w.seen)) (sym added.places)
               (goes_up-snoc 0 (length v.seen) n (length w.seen) e v.places knows.order (omega (arith, more)) (omega (arith, long)));
           worked = subst (AreWorked answers (core_at o w.seen)) (sym added.places)
-              (Each-append (λ p. IsWorked answers (core_at o w.seen) p.1) v.places ((n, e) ∷ []) before (worked, tt));
+              (Each-append (λ p. IsWorked answers (core_at o w.seen) p.1) v.places ((n, e) ∷ []) still (worked, tt));
+          tally = subst (λ ps. IsTally owed' (core_at o w.seen) ps begun now) (sym added.places) (changes n tally);
         }
+
+    asked_so : (c : CoreState) (r : Result CoreNext IsShut) → IfOk r (IsGiven c) → IsOfHanded c (Next (next_said r))
+    asked_so c (Ok r) given = given_handed c r given
+    asked_so c (Err e) given = tt
+
+    owed_so : (c : CoreState) (r : Result CoreNext IsShut) → IfOk r (IsGiven c) → gate_asked c (Next (next_said r)) ≡ owed_by r
+    owed_so c (Ok (core.Piece d)) given = asked_given c d given
+    owed_so c (Ok (core.Wait w)) given = refl
+    owed_so c (Ok core.AllEnded) given = refl
+    owed_so c (Ok (core.Stuck i)) given = refl
+    owed_so c (Err e) given = refl
+
+    -- After a request the gate is still to be asked for what that got.
+    pub knows_asked : (r : Result CoreNext IsShut) (owed : ℕ) (begun now : GateCounts) (v w : View (SharedEngine R B) TurnEntry) → owed_by r ≡ owed → HasAdded (Next (next_said r)) v w
+        → ((o : SharedEngine R B) → v.opening ≡ Some o → IsOpening disk meaning sort o.engine → IfOk r (IsGiven (core_at o.engine w.seen)))
+        → WorkerKnows disk meaning sort answers 0 begun now v → WorkerKnows disk meaning sort answers owed begun now w
+    knows_asked r owed begun now v w owes added handed knows =
+        let opened = knows.opened in
+        let c = core_at opened.opening.engine w.seen in
+        let given = handed opened.opening opened.known opened.sound in
+        let e = Next (next_said r) in
+        knows_added e 0 owed begun now now v w knows added (asked_so c r given) (λ n tally. tally_next c v.places n e begun now owed (owed_so c r given ∙ owes) refl tally)
 
     -- The end of a piece that the seat had got, by what came of its work, was worked.
     pub finish_worked : (d : Handed) (a : Answer) (reply : FinishSaid) (v w : View (SharedEngine R B) TurnEntry) (o : EngineState R B) → HasAdded (Finish d.piece.number a reply) v w
@@ -71,11 +174,12 @@ module _ {R B : Type 0} (disk : R → Disk) (meaning : B → Pairs) (sort : B �
         (d, refl, subst (λ es. IsHandedAs (core_at o es) d) (sym behind) (handed_later (progress o) v.seen (added.meanwhile ++ e ∷ []) d handed), answered)
 
     -- a seat with no entry of its own yet
-    pub knows_new : (v : View (SharedEngine R B) TurnEntry) → HasOpened disk meaning sort v → v.places ≡ [] → WorkerKnows disk meaning sort answers v
-    knows_new v opened none = record {
+    pub knows_new : (count : GateCounts) (v : View (SharedEngine R B) TurnEntry) → HasOpened disk meaning sort v → v.places ≡ [] → WorkerKnows disk meaning sort answers 0 count count v
+    knows_new count v opened none = record {
       opened = opened;
       order = subst (λ (ps : List (ℕ × TurnEntry)). GoesUp 0 ps (length v.seen)) (sym none) (omega arith);
       worked = subst (AreWorked answers (core_at opened.opening.engine v.seen)) (sym none) tt;
+      tally = subst (λ ps. IsTally 0 (core_at opened.opening.engine v.seen) ps count count) (sym none) (tally_none (core_at opened.opening.engine v.seen) count);
     }
 
 module _ {R B : Type 0} where

@@ -5,3 +5,4 @@ pub mod Lists
 pub mod Reported
 pub mod StillTrue
 pub mod WholeRun
+pub mod ByHistory

@@ -1,6 +1,5 @@
 -- What the whole run leaves.
-use Rattle.std.proofs.Common.{◌≡◌, ◌∙◌, ℕ, zero, suc, List, [], ◌∷◌, ◌++◌, length, map, sym, refl, ap, subst, arith, Option as Maybe, Some, None, unwrap_or, IfSome}
-use Rattle.std.proofs.lemmas.List.{length-map}
+use Rattle.std.proofs.Common.{◌≡◌, ◌∙◌, ℕ, suc, List, [], ◌∷◌, ◌++◌, length, map, append_assoc, append-nil, sym, refl, ap, subst, subst₂, Option as Maybe, Some, None, unwrap_or, IfSome}
 use Rattle.atomic_table.specs.Seated.{TableId}
 use Rattle.process_disk.specs.Disk.{Disk}
 use Rattle.process_tree.specs.Order.{Each}
@@ -9,13 +8,16 @@ use Rattle.resource_box.specs.Meaning.{Pairs}
 use Rattle.machine_model.specs.Replies.{Handed}
 use Rattle.history_files.specs.Effects.{subsystem_of}
 use Rattle.engine_steps.specs.Engines.{EngineState}
+use Rattle.process_core.specs.Cores.{CoreState}
 use Rattle.process_engine.specs.declared.gates.Answer.{Answer}
+use Rattle.process_engine.specs.declared.gates.Gate.{Ghosts as Gates}
+use Rattle.engine_calls.specs.GateAnswers.{GateCounts, counts_of}
 use Rattle.worker_gate.specs.declared.alone.RunOutcome.{RunOutcome}
+use Rattle.worker_gate.specs.ManyGates.{asked_gates}
 use Rattle.worker_gate.specs.Running.{IsOutcome}
 use Rattle.history_lock.specs.Rule.{IsWhole}
 use Rattle.history_lock.specs.Weights.{weigh, AllStand}
 use Rattle.history_lock.specs.declared.held.Held.{Ghosts as Helds}
-use Rattle.history_lock.proofs.Sums.{weigh-append}
 use Rattle.shared_engine.specs.declared.entries.TurnEntry.{TurnEntry}
 use Rattle.shared_engine.specs.declared.shared.SharedEngine.{SharedEngine}
 use Rattle.shared_engine.specs.Progress.{progress}
@@ -23,93 +25,162 @@ use Rattle.shared_engine.specs.Seats.{core_at}
 use Rattle.shared_engine.specs.Shared.{AreOf, IsOpening, StandsFor, opens}
 use Rattle.shared_engine.proofs.MadeTurns.{core_is}
 use Rattle.thread_workers.specs.declared.crew.Job.{Job}
-use Rattle.thread_workers.specs.History.{AreOfWorker, ComesInOrder, IsOneHistory, flat}
-use Rattle.thread_workers.specs.Jobs.{IsDone, all_places, job_opening, job_places, job_seen, or_else}
-use Rattle.thread_workers.specs.Workers.{AreWorked, GoesUp, HasStopped, IsBeginning}
-use Rattle.thread_workers.proofs.Knowledge.{worked_later}
-use Rattle.thread_workers.proofs.Lists.{has_entry, stand_both}
+use Rattle.thread_workers.specs.History.{AreOfWorker, AreTallied, ComesInOrder, IsOneHistory, flat}
+use Rattle.thread_workers.specs.Jobs.{HaveRun, IsDone, IsDoneSince, all_calls, all_gates, all_places, job_opening, job_places, job_seen, or_else}
+use Rattle.thread_workers.specs.Workers.{AreWorked, GoesUp, HasStopped, IsBeginning, IsTally}
+use Rattle.thread_workers.proofs.Knowledge.{tally_later, tally_none, worked_later}
+use Rattle.thread_workers.proofs.Lists.{each-snoc, has_entry, stand_both}
 use Rattle.thread_workers.proofs.StillTrue.{outcome_is, running_core, stays_over}
 
 in_order : {X : Type 0} (low high : ℕ) (ps : List (ℕ × X)) → GoesUp low ps high → ComesInOrder low ps
 in_order low high [] up = tt
 in_order low high (p ∷ ps) up = (up.0, in_order p.0 high ps up.1)
 
--- no calls of so many workers
-abbrev nothing_done : {X : Type 0} → ℕ → List (List X)
-nothing_done zero = []
-nothing_done (suc n) = [] ∷ nothing_done n
+map-snoc : {A C : Type 0} (f : A → C) (xs : List A) (x : A) → map f (xs ++ x ∷ []) ≡ map f xs ++ f x ∷ []
+map-snoc f [] x = refl
+map-snoc f (y ∷ ys) x = ap (λ l. f y ∷ l) (map-snoc f ys x)
 
-nobody_less : (n : ℕ) → length (nothing_done {X = ℕ × TurnEntry} n) ≡ n
-nobody_less zero = refl
-nobody_less (suc n) = ap suc (nobody_less n)
+flat-snoc : {A : Type 0} (xss : List (List A)) (xs : List A) → flat (xss ++ xs ∷ []) ≡ flat xss ++ xs
+flat-snoc [] xs = append-nil xs
+flat-snoc (ys ∷ yss) xs = ap (λ l. ys ++ l) (flat-snoc yss xs) ∙ sym (append_assoc ys (flat yss) xs)
 
-module _ {R B : Type 0} (disk : R → Disk) (faults : R → ℕ) (meaning : B → Pairs) (sort : B → Kind) (answers : Handed → Maybe Answer) where
-  nothing_each : (o : EngineState R B) (n : ℕ) → Each (AreOfWorker answers o.core []) (nothing_done n)
-  nothing_each o zero = tt
-  nothing_each o (suc n) = ((tt, tt, tt), nothing_each o n)
+-- the tallies of workers, one behind others
+tallied-snoc : (c : CoreState) (own : List (ℕ × TurnEntry)) (b a : GateCounts) (calls : List (List (ℕ × TurnEntry))) (before after : List GateCounts) → AreTallied c calls before after → IsTally 0 c own b a
+    → AreTallied c (calls ++ own ∷ []) (before ++ b ∷ []) (after ++ a ∷ [])
+tallied-snoc c own b a [] [] [] are is = (is, tt)
+tallied-snoc c own b a (x ∷ xs) (y ∷ ys) (z ∷ zs) are is = (are.0, tallied-snoc c own b a xs ys zs are.1 is)
+tallied-snoc c own b a [] [] (z ∷ zs) are is = absurd are
+tallied-snoc c own b a [] (y ∷ ys) [] are is = absurd are
+tallied-snoc c own b a [] (y ∷ ys) (z ∷ zs) are is = absurd are
+tallied-snoc c own b a (x ∷ xs) [] [] are is = absurd are
+tallied-snoc c own b a (x ∷ xs) [] (z ∷ zs) are is = absurd are
+tallied-snoc c own b a (x ∷ xs) (y ∷ ys) [] are is = absurd are
 
-  nothing_weighs : (n : ℕ) (h : ℕ → TurnEntry → ℕ) → weigh h (flat (nothing_done n)) ≡ 0
-  nothing_weighs zero h = refl
-  nothing_weighs (suc n) h = nothing_weighs n h
+as_many : (c : CoreState) (calls : List (List (ℕ × TurnEntry))) (before after : List GateCounts) → AreTallied c calls before after → length calls ≡ length before
+as_many c [] [] [] are = refl
+as_many c (x ∷ xs) (y ∷ ys) (z ∷ zs) are = ap suc (as_many c xs ys zs are.1)
+as_many c [] [] (z ∷ zs) are = absurd are
+as_many c [] (y ∷ ys) [] are = absurd are
+as_many c [] (y ∷ ys) (z ∷ zs) are = absurd are
+as_many c (x ∷ xs) [] [] are = absurd are
+as_many c (x ∷ xs) [] (z ∷ zs) are = absurd are
+as_many c (x ∷ xs) (y ∷ ys) [] are = absurd are
 
-  -- With no call the engine is as it was.
-  pub no_call : (n : ℕ) (o x : EngineState R B) → x ≡ o → IsOpening disk meaning sort o → IsOneHistory disk faults meaning sort answers n o x
-  no_call n o x is sound = subst (IsOneHistory disk faults meaning sort answers n o) (sym is) (record {
-    history = [];
-    led = opens disk faults meaning sort o sound;
-    calls = nothing_done n;
-    workers = nobody_less n;
-    each = nothing_each o n;
-    once = nothing_weighs n;
-  })
+-- no calls, for each of these gates
+abbrev nothing_done : {X G : Type 0} → List G → List (List X)
+nothing_done [] = []
+nothing_done (gate ∷ gates) = [] ∷ nothing_done gates
 
-module _ {R B G : Type 0} {h : Helds (SharedEngine R B) TurnEntry} (disk : R → Disk) (faults : R → ℕ) (meaning : B → Pairs) (sort : B → Kind) (answers : Handed → Maybe Answer) (desk : TableId) where
-  weighs : (jobs : List (Job (SharedEngine R B) G TurnEntry h)) (f : ℕ → TurnEntry → ℕ) → weigh f (flat (map job_places jobs)) ≡ weigh f (all_places jobs)
-  weighs [] f = refl
-  weighs (job ∷ jobs) f = omega (arith, weigh-append f (job_places job) (flat (map job_places jobs)), weigh-append f (all_places jobs) (job_places job), weighs jobs f)
+module _ {R B G : Type 0} (disk : R → Disk) (faults : R → ℕ) (meaning : B → Pairs) (sort : B → Kind) (ghosts : Gates G) where
+  nothing_each : (o : EngineState R B) (gates : List G) → Each (AreOfWorker ghosts.answers o.core []) (nothing_done gates)
+  nothing_each o [] = tt
+  nothing_each o (gate ∷ gates) = ((tt, tt, tt), nothing_each o gates)
+
+  nothing_weighs : (gates : List G) (h : ℕ → TurnEntry → ℕ) → weigh h (flat (nothing_done gates)) ≡ 0
+  nothing_weighs [] h = refl
+  nothing_weighs (gate ∷ gates) h = nothing_weighs gates h
+
+  nothing_tallied : (c : CoreState) (gates : List G) → AreTallied c (nothing_done gates) (map (counts_of ghosts) gates) (map (counts_of ghosts) gates)
+  nothing_tallied c [] = tt
+  nothing_tallied c (gate ∷ gates) = (tally_none c (counts_of ghosts gate), nothing_tallied c gates)
+
+  -- With no call the engine is as it was, and so are the gates.
+  pub no_call : (gates : List G) (o x : EngineState R B) → x ≡ o → IsOpening disk meaning sort o → IsOneHistory disk faults meaning sort (asked_gates ghosts gates gates) o x
+  no_call gates o x is sound =
+      let counts = map (counts_of ghosts) gates in
+      subst (IsOneHistory disk faults meaning sort (asked_gates ghosts gates gates) o) (sym is) (record {
+        history = [];
+        led = opens disk faults meaning sort o sound;
+        calls = nothing_done gates;
+        workers = as_many o.core (nothing_done gates) counts counts (nothing_tallied o.core gates);
+        each = nothing_each o gates;
+        tallies = nothing_tallied o.core gates;
+        once = nothing_weighs gates;
+      })
+
+module _ {R B G : Type 0} {h : Helds (SharedEngine R B) TurnEntry} (disk : R → Disk) (faults : R → ℕ) (meaning : B → Pairs) (sort : B → Kind) (answers : Handed → Maybe Answer) (counts : G → GateCounts) (desk : TableId) where
+  flat_calls : (jobs : List (Job (SharedEngine R B) G TurnEntry h)) → flat (all_calls jobs) ≡ all_places jobs
+  flat_calls [] = refl
+  flat_calls (job ∷ jobs) = flat-snoc (all_calls jobs) (job_places job) ∙ ap (λ l. l ++ job_places job) (flat_calls jobs)
 
   module _ (o x : SharedEngine R B) (seen more : List TurnEntry) (led : AreOf disk faults meaning sort o.engine (seen ++ more) x.engine) where
-    -- a job's worker worked, as all of the history shows it
-    worker_did : (job : Job (SharedEngine R B) G TurnEntry h) → IsDone disk meaning sort answers desk job → job_opening job ≡ Some o → IsBeginning (job_seen job) seen → AllStand (seen ++ more) (job_places job)
-        → AreOfWorker answers x.engine.core (seen ++ more) (job_places job)
-    worker_did job done opening begins stand =
-        let knows = done.5 in
-        let here : job_places job ≡ done.0.place.me.0.places = ap (or_else (λ s. s.place.me.0.places) []) done.2 in
-        let saw : job_seen job ≡ done.0.place.me.0.seen = ap (or_else (λ s. s.place.me.0.seen) []) done.2 in
-        let known = sym knows.opened.known ∙ (sym (ap (or_else (λ s. s.place.me.0.opening) None) done.2) ∙ opening) in
-        let same : knows.opened.opening ≡ o = ap (λ m. unwrap_or m o) known in
-        let at_seat = subst (λ (z : SharedEngine R B). AreWorked answers (core_at z.engine done.0.place.me.0.seen) done.0.place.me.0.places) same knows.worked in
-        let at_job = subst (λ es. AreWorked answers (core_at o.engine es) done.0.place.me.0.places) (sym saw) at_seat in
-        let at_seen = subst (λ es. AreWorked answers (core_at o.engine es) done.0.place.me.0.places) begins.1 (worked_later answers o.engine (job_seen job) begins.0 done.0.place.me.0.places at_job) in
-        let at_end = worked_later answers o.engine seen more done.0.place.me.0.places at_seen in
-        let at_core = subst (λ c. AreWorked answers c done.0.place.me.0.places) (sym (core_is disk faults meaning sort o.engine x.engine (seen ++ more) led)) at_end in (
-          stand,
-          subst (λ (ps : List (ℕ × TurnEntry)). ComesInOrder 0 ps) (sym here) (in_order 0 (length done.0.place.me.0.seen) done.0.place.me.0.places knows.order),
-          subst (AreWorked answers x.engine.core) (sym here) at_core,
-        )
+    -- what a worker did and what its gate counted, as all of the history shows it
+    module _ (begun : GateCounts) (job : Job (SharedEngine R B) G TurnEntry h) (done : IsDoneSince disk meaning sort answers counts desk begun job) (opening : job_opening job ≡ Some o) (begins : IsBeginning (job_seen job) seen) where
+      abbrev own : List (ℕ × TurnEntry)
+      own = done.0.place.me.0.places
 
-    each_did : (jobs : List (Job (SharedEngine R B) G TurnEntry h)) → Each (IsDone disk meaning sort answers desk) jobs → Each (λ j. job_opening j ≡ Some o) jobs → Each (λ j. IsBeginning (job_seen j) seen) jobs
-        → AllStand (seen ++ more) (all_places jobs) → Each (AreOfWorker answers x.engine.core (seen ++ more)) (map job_places jobs)
+      here : job_places job ≡ own
+      here = ap (or_else (λ s. s.place.me.0.places) []) done.2
+
+      saw : job_seen job ≡ done.0.place.me.0.seen
+      saw = ap (or_else (λ s. s.place.me.0.seen) []) done.2
+
+      same : done.5.opened.opening ≡ o
+      same = ap (λ m. unwrap_or m o) (sym done.5.opened.known ∙ (sym (ap (or_else (λ s. s.place.me.0.opening) None) done.2) ∙ opening))
+
+      worked_at : AreWorked answers (core_at o.engine (job_seen job)) own
+      worked_at = subst (λ es. AreWorked answers (core_at o.engine es) own) (sym saw) (subst (λ (z : SharedEngine R B). AreWorked answers (core_at z.engine done.0.place.me.0.seen) own) same done.5.worked)
+
+      worked_seen : AreWorked answers (core_at o.engine seen) own
+      worked_seen = subst (λ es. AreWorked answers (core_at o.engine es) own) begins.1 (worked_later answers o.engine (job_seen job) begins.0 own worked_at)
+
+      core : x.engine.core ≡ core_at o.engine (seen ++ more)
+      core = core_is disk faults meaning sort o.engine x.engine (seen ++ more) led
+
+      worker_did : AllStand (seen ++ more) (job_places job) → AreOfWorker answers x.engine.core (seen ++ more) (job_places job)
+      worker_did stand = (
+        stand,
+        subst (λ (ps : List (ℕ × TurnEntry)). ComesInOrder 0 ps) (sym here) (in_order 0 (length done.0.place.me.0.seen) own done.5.order),
+        subst (AreWorked answers x.engine.core) (sym here) (subst (λ c. AreWorked answers c own) (sym core) (worked_later answers o.engine seen more own worked_seen)),
+      )
+
+      worker_tally : IsTally 0 x.engine.core (job_places job) begun (counts job.gate)
+      worker_tally =
+          let count = counts job.gate in
+          let at = subst (λ es. IsTally 0 (core_at o.engine es) own begun count) (sym saw) (subst (λ (z : SharedEngine R B). IsTally 0 (core_at z.engine done.0.place.me.0.seen) own begun count) same done.5.tally) in
+          let at_seen = subst (λ es. IsTally 0 (core_at o.engine es) own begun count) begins.1 (tally_later answers o.engine (job_seen job) begins.0 0 own begun count worked_at at) in
+          let at_end = tally_later answers o.engine seen more 0 own begun count worked_seen at_seen in
+          subst (λ ps. IsTally 0 x.engine.core ps begun count) (sym here) (subst (λ c. IsTally 0 c own begun count) (sym core) at_end)
+
+    each_did : (jobs : List (Job (SharedEngine R B) G TurnEntry h)) → Each (IsDone disk meaning sort answers counts desk) jobs → Each (λ j. job_opening j ≡ Some o) jobs → Each (λ j. IsBeginning (job_seen j) seen) jobs
+        → AllStand (seen ++ more) (all_places jobs) → Each (AreOfWorker answers x.engine.core (seen ++ more)) (all_calls jobs)
     each_did [] done opening begins stand = tt
     each_did (job ∷ jobs) done opening begins stand =
         let both = stand_both (seen ++ more) (all_places jobs) (job_places job) stand in
-        (worker_did job done.0 opening.0 begins.0 both.1, each_did jobs done.1 opening.1 begins.1 both.0)
+        each-snoc (AreOfWorker answers x.engine.core (seen ++ more)) (all_calls jobs) (job_places job) (each_did jobs done.1 opening.1 begins.1 both.0) (worker_did done.0.0 job done.0.1 opening.0 begins.0 both.1)
 
-  -- What all workers did is one history.
-  pub one_history : (jobs : List (Job (SharedEngine R B) G TurnEntry h)) (n : ℕ) (o x : SharedEngine R B) (first : Maybe (SharedEngine R B)) (seen : List TurnEntry) (places : List (ℕ × TurnEntry))
-      → IsWhole (λ (w : SharedEngine R B) (es : List TurnEntry) (z : SharedEngine R B). StandsFor disk faults meaning sort w.engine es z.engine) first seen places x → first ≡ Some o → IsOpening disk meaning sort o.engine
-      → places ≡ all_places jobs → Each (IsDone disk meaning sort answers desk) jobs → Each (λ j. job_opening j ≡ Some o) jobs → Each (λ j. IsBeginning (job_seen j) seen) jobs → length jobs ≡ n
-      → IsOneHistory disk faults meaning sort answers n o.engine x.engine
-  one_history jobs n o x first seen places whole known sound all done opening begins long =
-      let led = subst (λ (m : Maybe (SharedEngine R B)). IfSome m (λ z. StandsFor disk faults meaning sort z.engine (seen ++ whole.0) x.engine)) known whole.1 sound in
-      record {
-        history = seen ++ whole.0;
-        led = led;
-        calls = map job_places jobs;
-        workers = length-map jobs job_places ∙ long;
-        each = each_did o x seen whole.0 led jobs done opening begins (subst (AllStand (seen ++ whole.0)) all whole.2);
-        once = λ f. weighs jobs f ∙ (sym (ap (weigh f) all) ∙ whole.3 f);
-      }
+    tallied : (befores jobs : List (Job (SharedEngine R B) G TurnEntry h)) → HaveRun disk meaning sort answers counts desk befores jobs → Each (λ j. job_opening j ≡ Some o) jobs
+        → Each (λ j. IsBeginning (job_seen j) seen) jobs → AreTallied x.engine.core (all_calls jobs) (map counts (all_gates befores)) (map counts (all_gates jobs))
+    tallied [] [] ran opening begins = tt
+    tallied [] (job ∷ jobs) ran opening begins = absurd ran
+    tallied (b ∷ bs) [] ran opening begins = absurd ran
+    tallied (b ∷ bs) (job ∷ jobs) ran opening begins =
+        let rest = tallied bs jobs ran.1 opening.1 begins.1 in
+        let own = worker_tally (counts b.gate) job ran.0.0 opening.0 begins.0 in
+        let all = tallied-snoc x.engine.core (job_places job) (counts b.gate) (counts job.gate) (all_calls jobs) (map counts (all_gates bs)) (map counts (all_gates jobs)) rest own in
+        subst₂ (AreTallied x.engine.core (all_calls jobs ++ job_places job ∷ [])) (sym (map-snoc counts (all_gates bs) b.gate)) (sym (map-snoc counts (all_gates jobs) job.gate)) all
+
+-- What all workers did is one history.
+pub one_history : {R B G : Type 0} {h : Helds (SharedEngine R B) TurnEntry} (disk : R → Disk) (faults : R → ℕ) (meaning : B → Pairs) (sort : B → Kind) (ghosts : Gates G) (desk : TableId)
+    (befores jobs : List (Job (SharedEngine R B) G TurnEntry h)) (gates gates_after : List G) (o x : SharedEngine R B) (first : Maybe (SharedEngine R B)) (seen : List TurnEntry) (places : List (ℕ × TurnEntry))
+    → IsWhole (λ (w : SharedEngine R B) (es : List TurnEntry) (z : SharedEngine R B). StandsFor disk faults meaning sort w.engine es z.engine) first seen places x → first ≡ Some o → IsOpening disk meaning sort o.engine
+    → places ≡ all_places jobs → Each (IsDone disk meaning sort ghosts.answers (counts_of ghosts) desk) jobs → Each (λ j. job_opening j ≡ Some o) jobs → Each (λ j. IsBeginning (job_seen j) seen) jobs
+    → HaveRun disk meaning sort ghosts.answers (counts_of ghosts) desk befores jobs → all_gates befores ≡ gates → gates_after ≡ all_gates jobs
+    → IsOneHistory disk faults meaning sort (asked_gates ghosts gates gates_after) o.engine x.engine
+one_history {R} {B} disk faults meaning sort ghosts desk befores jobs gates gates_after o x first seen places whole known sound all done opening begins ran given back =
+    let answers = ghosts.answers in
+    let counts = counts_of ghosts in
+    let led = subst (λ (m : Maybe (SharedEngine R B)). IfSome m (λ z. StandsFor disk faults meaning sort z.engine (seen ++ whole.0) x.engine)) known whole.1 sound in
+    let tallies = subst₂ (λ b a. AreTallied x.engine.core (all_calls jobs) (map counts b) (map counts a)) given (sym back) (tallied disk faults meaning sort answers counts desk o x seen whole.0 led befores jobs ran opening begins) in
+    record {
+      history = seen ++ whole.0;
+      led = led;
+      calls = all_calls jobs;
+      workers = as_many x.engine.core (all_calls jobs) (map counts gates) (map counts gates_after) tallies;
+      each = each_did disk faults meaning sort answers counts desk o x seen whole.0 led jobs done opening begins (subst (AllStand (seen ++ whole.0)) all whole.2);
+      tallies = tallies;
+      once = λ f. ap (weigh f) (flat_calls disk faults meaning sort answers counts desk jobs ∙ sym all) ∙ whole.3 f;
+    }
 
 -- How a worker stopped is so of the engine that comes back.
 pub outcome_at_end : {R B : Type 0} (disk : R → Disk) (faults : R → ℕ) (meaning : B → Pairs) (sort : B → Kind) (outcome : RunOutcome) (o x : SharedEngine R B) (first : Maybe (SharedEngine R B)) (seen : List TurnEntry)

@@ -8,10 +8,12 @@ use Rattle.machine_model.specs.Replies.{Handed}
 use Rattle.process_core.specs.Cores.{CoreState}
 use Rattle.engine_steps.specs.Engines.{EngineState}
 use Rattle.process_engine.specs.declared.gates.Answer.{Answer}
+use Rattle.engine_calls.specs.GateAnswers.{GateCounts}
+use Rattle.worker_gate.specs.ManyGates.{AskedGates}
 use Rattle.history_lock.specs.Weights.{weigh, weigh_from, AllStand}
 use Rattle.shared_engine.specs.declared.entries.TurnEntry.{TurnEntry}
 use Rattle.shared_engine.specs.Shared.{AreOf}
-use Rattle.thread_workers.specs.Workers.{AreWorked}
+use Rattle.thread_workers.specs.Workers.{AreWorked, IsTally}
 
 -- the lists one after another
 abbrev pub flat : {A : Type 0} → List (List A) → List A
@@ -28,15 +30,22 @@ ComesInOrder low (p ∷ ps) = (low < p.0) × ComesInOrder p.0 ps
 abbrev pub AreOfWorker : (Handed → Option Answer) → CoreState → List TurnEntry → List (ℕ × TurnEntry) → Type 0
 AreOfWorker answers c history calls = AllStand history calls × ComesInOrder 0 calls × AreWorked answers c calls
 
--- One list of calls led from one engine to another, and each of its places is that of a call which one of so many workers made,
--- once.
+-- the gate of each worker has its counts by the worker's calls
+abbrev pub AreTallied : CoreState → List (List (ℕ × TurnEntry)) → List GateCounts → List GateCounts → Type 0
+AreTallied c [] [] [] = ⊤
+AreTallied c (own ∷ calls) (b ∷ before) (a ∷ after) = IsTally 0 c own b a × AreTallied c calls before after
+AreTallied c calls before after = ⊥
+
+-- One list of calls led from one engine to another, and each of its places is that of a call which one of the workers made, once.
+-- Each worker has one of the gates, in their order.
 pub record IsOneHistory {R B : Type 0} (disk : R → Disk) (faults : R → ℕ) (meaning : B → Pairs) (sort : B → Kind)
-    (answers : Handed → Option Answer) (count : ℕ) (o x : EngineState R B) : Type 0 where
+    (gates : AskedGates) (o x : EngineState R B) : Type 0 where
   pub history : List TurnEntry
   pub led : AreOf disk faults meaning sort o history x
   -- the calls of each worker
   pub calls : List (List (ℕ × TurnEntry))
-  pub workers : length calls ≡ count
-  pub each : Each (AreOfWorker answers x.core history) calls
+  pub workers : length calls ≡ length gates.before
+  pub each : Each (AreOfWorker gates.answers x.core history) calls
+  pub tallies : AreTallied x.core calls gates.before gates.after
   -- however places and entries are weighed, the calls of all workers weigh what the history weighs
   pub once : (h : ℕ → TurnEntry → ℕ) → weigh h (flat calls) ≡ weigh_from h 0 history

@@ -1,11 +1,12 @@
 -- The jobs of workers: a gate, a seat, and in the end why its worker stopped.
-use Rattle.std.specs.Prelude.{◌≡◌, ℕ, List, [], ◌∷◌, ◌++◌, Option, Some, None}
+use Rattle.std.specs.Prelude.{◌≡◌, ⊤, ℕ, List, [], ◌∷◌, ◌++◌, Option, Some, None}
 use Rattle.atomic_table.specs.Seated.{TableId}
 use Rattle.process_disk.specs.Disk.{Disk}
 use Rattle.resource_box.specs.declared.call.Kind.{Kind}
 use Rattle.resource_box.specs.Meaning.{Pairs}
 use Rattle.machine_model.specs.Replies.{Handed}
 use Rattle.process_engine.specs.declared.gates.Answer.{Answer}
+use Rattle.engine_calls.specs.GateAnswers.{GateCounts}
 use Rattle.worker_gate.specs.declared.alone.RunOutcome.{RunOutcome}
 use Rattle.history_lock.specs.declared.desk.Seat.{Seat}
 use Rattle.history_lock.specs.declared.held.Held.{Ghosts as Helds}
@@ -42,23 +43,45 @@ module _ {R B G : Type 0} {h : Helds (SharedEngine R B) TurnEntry} where
   all_places [] = []
   all_places (job ∷ jobs) = all_places jobs ++ job_places job
 
+  -- the same, a list for each job
+  abbrev pub all_calls : List (Job (SharedEngine R B) G TurnEntry h) → List (List (ℕ × TurnEntry))
+  all_calls [] = []
+  all_calls (job ∷ jobs) = all_calls jobs ++ job_places job ∷ []
+
+  -- the gates of all jobs, that of the last job first
+  abbrev pub all_gates : List (Job (SharedEngine R B) G TurnEntry h) → List G
+  all_gates [] = []
+  all_gates (job ∷ jobs) = all_gates jobs ++ job.gate ∷ []
+
 module _ {R B G : Type 0} {h : Helds (SharedEngine R B) TurnEntry} (disk : R → Disk) (meaning : B → Pairs) (sort : B → Kind)
-    (answers : Handed → Option Answer) (desk : TableId) where
+    (answers : Handed → Option Answer) (counts : G → GateCounts) (desk : TableId) where
   -- the job has a seat of the desk, for a worker with such a gate
   abbrev pub IsReady : Job (SharedEngine R B) G TurnEntry h → Type 0
   IsReady job =
       (s : Seat (SharedEngine R B) TurnEntry h) × (job.seat ≡ Some s) × (desk_of s ≡ desk)
-      × WorkerKnows disk meaning sort answers (knowledge s)
+      × WorkerKnows disk meaning sort answers 0 (counts job.gate) (counts job.gate) (knowledge s)
+
+  -- its worker has stopped, whose gate had these counts when it began
+  abbrev pub IsDoneSince : GateCounts → Job (SharedEngine R B) G TurnEntry h → Type 0
+  IsDoneSince begun job =
+      (s : Seat (SharedEngine R B) TurnEntry h) × (outcome : RunOutcome) × (job.seat ≡ Some s) × (job.ended ≡ Some outcome)
+      × (desk_of s ≡ desk) × WorkerKnows disk meaning sort answers 0 begun (counts job.gate) (knowledge s)
+      × HasStopped outcome (places s)
 
   -- its worker has stopped
   abbrev pub IsDone : Job (SharedEngine R B) G TurnEntry h → Type 0
-  IsDone job =
-      (s : Seat (SharedEngine R B) TurnEntry h) × (outcome : RunOutcome) × (job.seat ≡ Some s) × (job.ended ≡ Some outcome)
-      × (desk_of s ≡ desk) × WorkerKnows disk meaning sort answers (knowledge s) × HasStopped outcome (places s)
+  IsDone job = (begun : GateCounts) × IsDoneSince begun job
 
   -- its worker made its rounds, and stopped; the seat is of the same desk, and has the share that it had
   abbrev pub HasRun : Job (SharedEngine R B) G TurnEntry h → Job (SharedEngine R B) G TurnEntry h → Type 0
-  HasRun before after = IsDone after × (job_share after ≡ job_share before) × (job_opening after ≡ job_opening before)
+  HasRun before after =
+      IsDoneSince (counts before.gate) after × (job_share after ≡ job_share before) × (job_opening after ≡ job_opening before)
+
+  -- so it is of each of these jobs, one by one
+  abbrev pub HaveRun : List (Job (SharedEngine R B) G TurnEntry h) → List (Job (SharedEngine R B) G TurnEntry h) → Type 0
+  HaveRun [] [] = ⊤
+  HaveRun (b ∷ before) (a ∷ after) = HasRun b a × HaveRun before after
+  HaveRun before after = ⊥
 
 -- some worker stopped so, by one of these entries
 abbrev pub IsStoppedBy : Option RunOutcome → List (ℕ × TurnEntry) → Type 0

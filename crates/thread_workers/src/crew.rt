@@ -2,9 +2,10 @@
 ghost use Rattle.std.specs.Prelude.{◌≡◌, length, Option};
 ghost use Rattle.std.specs.Thread.{IsSync};
 ghost use Rattle.process_tree.specs.Order.{Each};
+ghost use Rattle.engine_calls.specs.GateAnswers.{counts_of};
 ghost use Rattle.history_lock.specs.Seats.{id};
 ghost use Rattle.history_lock.specs.Weights.{total};
-ghost use Rattle.thread_workers.specs.Jobs.{HasRun, IsDone, IsReady, job_opening, job_share};
+ghost use Rattle.thread_workers.specs.Jobs.{HasRun, HaveRun, IsDone, IsReady, job_opening, job_share};
 
 use crate::rounds::rounds;
 use history_lock::{Desk, Held, Seat};
@@ -28,8 +29,8 @@ fn run_job<H: Wait, R: Rack + Drop, B: Resource, G: Gate>(
     desk: &Desk<SharedEngine<R, B>>,
     job: &mut Job<SharedEngine<R, B>, G>,
 )
-    requires { IsReady R.disk B.meaning B.sort G.answers (id desk.now) job.old }
-    ensures { HasRun R.disk B.meaning B.sort G.answers (id desk.now) job.old job.new }
+    requires { IsReady R.disk B.meaning B.sort G.answers (counts_of G.Gate) (id desk.now) job.old }
+    ensures { HasRun R.disk B.meaning B.sort G.answers (counts_of G.Gate) (id desk.now) job.old job.new }
 {
     if let Some(seat) = job.seat.take() {
         let (seat, outcome) = rounds(rt, desk, seat, &mut job.gate);
@@ -45,8 +46,9 @@ pub fn run_jobs<
     B: Resource + Send,
     G: Gate + Send,
 >(rt: &H, desk: &Desk<SharedEngine<R, B>>, jobs: &mut [Job<SharedEngine<R, B>, G>])
-    requires { Each (IsReady R.disk B.meaning B.sort G.answers (id desk.now)) jobs.old }
-    ensures done { Each (IsDone R.disk B.meaning B.sort G.answers (id desk.now)) jobs.new }
+    requires { Each (IsReady R.disk B.meaning B.sort G.answers (counts_of G.Gate) (id desk.now)) jobs.old }
+    ensures ran { HaveRun R.disk B.meaning B.sort G.answers (counts_of G.Gate) (id desk.now) jobs.old jobs.new }
+    ensures done { Each (IsDone R.disk B.meaning B.sort G.answers (counts_of G.Gate) (id desk.now)) jobs.new }
     ensures share { total job_share jobs.new ≡ total job_share jobs.old }
     ensures openings { (first : Option (SharedEngine R B)) → Each (λ j. job_opening j ≡ first) jobs.old
         → Each (λ j. job_opening j ≡ first) jobs.new }
@@ -57,8 +59,8 @@ pub fn run_jobs<
         jobs,
         16,
         &|_, job: &mut Job<SharedEngine<R, B>, G>|
-            requires { IsSync H.row × IsReady R.disk B.meaning B.sort G.answers (id desk.now) job.now }
-            ensures { HasRun R.disk B.meaning B.sort G.answers (id desk.entry.now) job.entry.now job.exit.now }
+            requires { IsSync H.row × IsReady R.disk B.meaning B.sort G.answers (counts_of G.Gate) (id desk.now) job.now }
+            ensures { HasRun R.disk B.meaning B.sort G.answers (counts_of G.Gate) (id desk.entry.now) job.entry.now job.exit.now }
         { run_job(rt, desk, job) },
     );
 }

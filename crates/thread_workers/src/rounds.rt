@@ -1,7 +1,8 @@
 // The rounds of one worker.
 ghost use Rattle.std.specs.Prelude.{◌≡◌, IfSome};
+ghost use Rattle.engine_calls.specs.GateAnswers.{GateCounts, counts_of};
 ghost use Rattle.history_lock.specs.Seats.{IsOf, opening, places, share};
-ghost use Rattle.shared_engine.specs.Seats.{knowledge};
+ghost use Rattle.shared_engine.specs.Seats.{HasOpened, knowledge};
 ghost use Rattle.thread_workers.specs.Workers.{HasStopped, WorkerKnows};
 
 use crate::working::work;
@@ -37,10 +38,12 @@ fn round<H: Wait, R: Rack + Drop, B: Resource, G: Gate>(
     gate: &mut G,
 ) -> (Seat<SharedEngine<R, B>>, Option<RunOutcome>)
     requires desk { IsOf desk.now seat }
-    requires knows { WorkerKnows R.disk B.meaning B.sort G.answers (knowledge seat) }
+    requires opened { HasOpened R.disk B.meaning B.sort (knowledge seat) }
     ensures desk { IsOf desk.now result.0 }
     ensures keeps { (opening result.0 ≡ opening seat) × (share result.0 ≡ share seat) }
-    ensures knows { WorkerKnows R.disk B.meaning B.sort G.answers (knowledge result.0) }
+    ensures knows { (begun : GateCounts)
+        → WorkerKnows R.disk B.meaning B.sort G.answers 0 begun (counts_of G.Gate gate.old) (knowledge seat)
+        → WorkerKnows R.disk B.meaning B.sort G.answers 0 begun (counts_of G.Gate gate.new) (knowledge result.0) }
     ensures stopped { IfSome result.1 (λ o. HasStopped o (places result.0)) }
 {
     let (seat, reply, pause) = ask(rt, desk, seat);
@@ -61,10 +64,12 @@ pub fn rounds<H: Wait, R: Rack + Drop, B: Resource, G: Gate>(
     gate: &mut G,
 ) -> (Seat<SharedEngine<R, B>>, RunOutcome)
     requires desk { IsOf desk.now seat }
-    requires knows { WorkerKnows R.disk B.meaning B.sort G.answers (knowledge seat) }
+    requires knows { WorkerKnows R.disk B.meaning B.sort G.answers 0 (counts_of G.Gate gate.old) (counts_of G.Gate gate.old)
+        (knowledge seat) }
     ensures desk { IsOf desk.now result.0 }
     ensures keeps { (opening result.0 ≡ opening seat) × (share result.0 ≡ share seat) }
-    ensures knows { WorkerKnows R.disk B.meaning B.sort G.answers (knowledge result.0) }
+    ensures knows { WorkerKnows R.disk B.meaning B.sort G.answers 0 (counts_of G.Gate gate.old) (counts_of G.Gate gate.new)
+        (knowledge result.0) }
     ensures stopped { HasStopped result.1 (places result.0) }
 {
     let mut seat = seat;

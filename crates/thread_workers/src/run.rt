@@ -1,9 +1,10 @@
 // The whole run.
-ghost use Rattle.std.specs.Prelude.{◌≡◌, ◌≢◌, ◌≤◌, Some, vec_len};
+ghost use Rattle.std.specs.Prelude.{◌≡◌, ◌≢◌, ◌≤◌, Some, vec_capacity, vec_len};
 ghost use Rattle.process_flow.specs.Causes.{Rose};
 ghost use Rattle.history_files.specs.Standing.{EachFits};
 ghost use Rattle.engine_steps.specs.declared.engines.Phase.TheVariants as phase;
 ghost use Rattle.engine_calls.specs.Runs.{IsReady};
+ghost use Rattle.worker_gate.specs.ManyGates.{asked_gates};
 ghost use Rattle.worker_gate.specs.Running.{IsOutcome};
 ghost use Rattle.thread_workers.specs.History.{IsOneHistory};
 
@@ -43,7 +44,7 @@ fn outcome_of<R: Rack + Drop, B: Resource>(
 }
 
 /// Runs the processes of a settled engine by as many workers as there are gates, until all processes have ended or one is stuck, or
-/// a call fails. It may wait. As many gates come back.
+/// a call fails. It may wait. The gates come back in their order; each of them worked for one worker.
 pub fn run_workers<
     H: Threads + Wait + Sync,
     R: Rack + Drop + Send,
@@ -52,8 +53,9 @@ pub fn run_workers<
 >(rt: &H, alloc: Global, engine: Engine<R, B>, gates: Vec<G>) -> Ran<R, B, G>
     requires few { (1 ≤ vec_len gates) × (vec_len gates ≤ 16) }
     requires ready { IsReady B.meaning B.sort engine }
-    ensures gates { vec_len result.gates ≡ vec_len gates }
-    ensures history { IsOneHistory R.disk R.faults B.meaning B.sort G.answers (vec_len gates) engine result.engine }
+    ensures gates { (vec_len result.gates ≡ vec_len gates) × (vec_capacity gates ≤ vec_capacity result.gates) }
+    ensures history { IsOneHistory R.disk R.faults B.meaning B.sort (asked_gates G.Gate gates.items result.gates.items) engine
+        result.engine }
     ensures outcome { IsOutcome result.engine result.outcome }
     ensures fault { result.outcome ≡ RunOutcome.DiskFault → Rose (R.faults engine.files.rack) (R.faults result.engine.files.rack) }
     ensures ready { result.outcome ≢ RunOutcome.DiskFault → IsReady B.meaning B.sort result.engine }

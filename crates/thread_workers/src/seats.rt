@@ -1,10 +1,12 @@
 // A seat for each worker, and all of them in one again.
 ghost use Rattle.std.specs.Prelude.{◌≡◌, ◌+◌, ◌-◌, ◌/◌, ◌^◌, ◌<◌, ◌≤◌, [], ◌∷◌, ◌++◌, vec_len, vec_capacity};
 ghost use Rattle.process_tree.specs.Order.{Each};
+ghost use Rattle.engine_calls.specs.GateAnswers.{counts_of};
 ghost use Rattle.history_lock.specs.Seats.{IsOf, id, opening, places, seen, share};
 ghost use Rattle.history_lock.specs.Weights.{total};
 ghost use Rattle.shared_engine.specs.Seats.{HasOpened, knowledge};
-ghost use Rattle.thread_workers.specs.Jobs.{IsDone, IsReady, IsStoppedBy, all_places, job_opening, job_places, job_seen, job_share};
+ghost use Rattle.thread_workers.specs.Jobs.{IsDone, IsReady, IsStoppedBy, all_gates, all_places, job_opening, job_places};
+ghost use Rattle.thread_workers.specs.Jobs.{job_seen, job_share};
 ghost use Rattle.thread_workers.specs.Workers.{HasStopped, IsBeginning};
 
 use crate::crew::Job;
@@ -30,8 +32,9 @@ fn give_job<R: Rack + Drop, B: Resource, G: Gate>(
     ensures opening { opening result ≡ opening seat }
     ensures places { places result ≡ places seat }
     ensures share { share result ≡ share seat - share seat / 2 }
-    ensures job { (j : _) × (jobs.new.items ≡ jobs.old.items ++ j ∷ []) × IsReady R.disk B.meaning B.sort G.answers (id desk.now) j
-        × (job_share j ≡ share seat / 2) × (job_opening j ≡ opening seat) }
+    ensures job { (j : _) × (jobs.new.items ≡ jobs.old.items ++ j ∷ [])
+        × IsReady R.disk B.meaning B.sort G.answers (counts_of G.Gate) (id desk.now) j
+        × (j.gate ≡ gate) × (job_share j ≡ share seat / 2) × (job_opening j ≡ opening seat) }
     ensures len { vec_len jobs.new ≡ vec_len jobs.old + 1 }
     ensures capacity { vec_capacity jobs.old ≤ vec_capacity jobs.new }
 {
@@ -62,10 +65,11 @@ pub fn give_jobs<R: Rack + Drop, B: Resource, G: Gate>(
     ensures opening { opening result ≡ opening seat }
     ensures places { places result ≡ places seat }
     ensures share { share result + total job_share jobs.new.items ≡ share seat }
-    ensures jobs { Each (IsReady R.disk B.meaning B.sort G.answers (id desk.now)) jobs.new.items }
+    ensures jobs { Each (IsReady R.disk B.meaning B.sort G.answers (counts_of G.Gate) (id desk.now)) jobs.new.items }
     ensures openings { Each (λ j. job_opening j ≡ opening seat) jobs.new.items }
     ensures len { vec_len jobs.new ≡ vec_len gates.old }
-    ensures gates { (vec_len gates.new ≡ 0) × (vec_capacity gates.new ≡ vec_capacity gates.old) }
+    ensures gates { (vec_len gates.new ≡ 0) × (vec_capacity gates.new ≡ vec_capacity gates.old)
+        × (all_gates jobs.new.items ≡ gates.old.items) }
 {
     let mut seat = seat;
     while let Some(gate) = gates.pop() {
@@ -82,7 +86,7 @@ fn take_in<R: Rack + Drop, B: Resource, G: Gate>(
     gates: &mut Vec<G>,
 ) -> (Seat<SharedEngine<R, B>>, RunOutcome)
     requires desk { IsOf desk.now seat }
-    requires done { IsDone R.disk B.meaning B.sort G.answers (id desk.now) job }
+    requires done { IsDone R.disk B.meaning B.sort G.answers (counts_of G.Gate) (id desk.now) job }
     requires room { vec_len gates.old < vec_capacity gates.old }
     ensures desk { IsOf desk.now result.0 }
     ensures opening { opening result.0 ≡ opening seat }
@@ -90,7 +94,8 @@ fn take_in<R: Rack + Drop, B: Resource, G: Gate>(
     ensures places { places result.0 ≡ places seat ++ job_places job }
     ensures share { share result.0 ≡ share seat + job_share job }
     ensures stopped { HasStopped result.1 (job_places job) }
-    ensures gates { (vec_len gates.new ≡ vec_len gates.old + 1) × (vec_capacity gates.old ≤ vec_capacity gates.new) }
+    ensures gates { (vec_len gates.new ≡ vec_len gates.old + 1) × (vec_capacity gates.old ≤ vec_capacity gates.new)
+        × (gates.new.items ≡ gates.old.items ++ job.gate ∷ []) }
 {
     let Job {
         gate,
@@ -115,7 +120,7 @@ pub fn take_all_in<R: Rack + Drop, B: Resource, G: Gate>(
     gates: &mut Vec<G>,
 ) -> (Seat<SharedEngine<R, B>>, Option<RunOutcome>)
     requires desk { IsOf desk.now seat }
-    requires done { Each (IsDone R.disk B.meaning B.sort G.answers (id desk.now)) jobs.items }
+    requires done { Each (IsDone R.disk B.meaning B.sort G.answers (counts_of G.Gate) (id desk.now)) jobs.items }
     requires room { vec_len gates.old + vec_len jobs ≤ vec_capacity gates.old }
     ensures desk { IsOf desk.now result.0 }
     ensures opening { opening result.0 ≡ opening seat }
@@ -123,7 +128,8 @@ pub fn take_all_in<R: Rack + Drop, B: Resource, G: Gate>(
     ensures places { places result.0 ≡ places seat ++ all_places jobs.items }
     ensures share { share result.0 ≡ share seat + total job_share jobs.items }
     ensures stopped { 1 ≤ vec_len jobs → IsStoppedBy result.1 (places result.0) }
-    ensures gates { vec_len gates.new ≡ vec_len gates.old + vec_len jobs }
+    ensures gates { (vec_len gates.new ≡ vec_len gates.old + vec_len jobs) × (vec_capacity gates.old ≤ vec_capacity gates.new)
+        × (gates.new.items ≡ gates.old.items ++ all_gates jobs.items) }
 {
     let mut all = seat;
     let mut first = None;

@@ -3,3 +3,4 @@ pub mod IdleMoments
 pub mod AloneReplies
 pub mod AloneTurns
 pub mod RanRuns
+pub mod ManyCalls

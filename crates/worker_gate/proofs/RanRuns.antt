@@ -49,7 +49,7 @@ module _ (P : Kept → Type 0) where
       (λ i. victims_each each table courses n (advance table courses m (Victim i))) (victim_of table courses m)
 
   -- what a request for any piece keeps is victims and the hand of a piece
-  next_each : ((i : ℕ) → P (Victim i)) → ((d : Handed) → P (Hand d.piece.number d.piece.process d.piece.step d.piece.work)) → (c : CoreState) (r : Next)
+  pub next_each : ((i : ℕ) → P (Victim i)) → ((d : Handed) → P (Hand d.piece.number d.piece.process d.piece.step d.piece.work)) → (c : CoreState) (r : Next)
       → Each P (all_victims (relation c) (courses_in c) (moment_of c) ++ next_kept r)
   next_each victim hand c r = Each-append P (all_victims (relation c) (courses_in c) (moment_of c)) (next_kept r)
       (victims_each victim (relation c) (courses_in c) (length (active (moment_of c).events)) (moment_of c)) (by r)

@@ -1,11 +1,11 @@
 use Rattle.std.proofs.Common.{◌∙◌, ap, sym, subst, subst₂}
-use Rattle.process_core.specs.Cores.{IsHandedBy}
 use Rattle.history_files.specs.Standing.{EachFits}
+use Rattle.engine_calls.specs.GateAnswers.{IsHandedAs}
 use Rattle.shared_engine.specs.declared.entries.TurnEntry.TheVariants as entry
 use Rattle.shared_engine.specs.Progress.{progress}
 use Rattle.shared_engine.specs.Seats.{HasAdded, core_at}
 use Rattle.shared_engine.specs.Shared.{IsAtRest}
-use Rattle.shared_engine.proofs.HandedLater.{handed_by_later}
+use Rattle.shared_engine.proofs.HandedLater.{handed_later}
 use Rattle.shared_engine.proofs.MadeTurns.{added_by, core_is, turn_stands}
 use Rattle.shared_engine.proofs.turns.tell.Goals as goal
 
@@ -30,13 +30,13 @@ finish-reply-requires-clause-handed g c =
     let turn = c.turn-turn.result in
     let opened = c.requires.opened in
     let o = opened.opening.engine in
-    let p = c.args.piece.piece in
+    let p = c.args.piece in
     let seen = c.args.seat.place.me.0.seen in
     let are = turn_stands g.R.Rack.disk g.R.Rack.faults g.B.Resource.meaning g.B.Resource.sort turn.place.me.0.opening opened.opening turn.state turn.place.me.0.seen c.turn-turn.ensures.stands
     (c.turn-turn.ensures.keeps.0 ∙ opened.known) opened.sound in
     let here = core_is g.R.Rack.disk g.R.Rack.faults g.B.Resource.meaning g.B.Resource.sort o turn.state.engine turn.place.me.0.seen are ∙ ap (core_at o) c.turn-turn.ensures.seen.1 in
-    let later = handed_by_later (progress o) seen c.turn-turn.ensures.seen.0 p (c.requires.handed opened.opening opened.known) in
-    subst (λ w. IsHandedBy w.engine.core p) (sym c.state.ensures.value) (subst (λ k. IsHandedBy k p) (sym here) later)
+    let later = handed_later (progress o) seen c.turn-turn.ensures.seen.0 p (c.requires.handed opened.opening opened.known) in
+    subst (λ w. IsHandedAs w.engine.core p) (sym c.state.ensures.value) (subst (λ k. IsHandedAs k p) (sym here) later)
 
 pub returns-clause-turn : goal.returns-clause-turn
 returns-clause-turn g c =

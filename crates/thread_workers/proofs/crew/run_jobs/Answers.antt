@@ -1,5 +1,7 @@
-use Rattle.std.proofs.Common.{◌≡◌, ◌∙◌, rules, sym, subst, subst₂, arith}
+use Rattle.std.proofs.Common.{◌≡◌, ◌∙◌, rules, sym, subst, subst₂, arith, get_or}
+use Rattle.engine_calls.specs.GateAnswers.{counts_of}
 use Rattle.thread_workers.specs.Jobs.{HasRun, IsDone, IsReady, job_opening, job_share}
+use Rattle.thread_workers.proofs.Jobs.{ran_from}
 use Rattle.thread_workers.proofs.Lists.{each_at, each_from, totals_same}
 use denote.Exit.{no}
 use denote.Param.{param}
@@ -28,7 +30,7 @@ for_each_mut-requires-sync-F g c κs within =
 
 pub for_each_mut-requires-clause-accepts : goal.for_each_mut-requires-clause-accepts
 for_each_mut-requires-clause-accepts g c κs within = λ i p h e.
-    let P = IsReady g.R.Rack.disk g.B.Resource.meaning g.B.Resource.sort g.G.Gate.answers c.args.desk.now.table.shared.table_id in
+    let P = IsReady g.R.Rack.disk g.B.Resource.meaning g.B.Resource.sort g.G.Gate.answers (counts_of g.G.Gate) c.args.desk.now.table.shared.table_id in
     (search rules, subst P (sym e) (each_at P c.args.jobs.now i p.now h c.requires))
 
 pub returns-clause-done : goal.returns-clause-done
@@ -38,9 +40,22 @@ returns-clause-done g c =
     let sort = g.B.Resource.sort in
     let answers = g.G.Gate.answers in
     let desk = c.args.desk.now.table.shared.table_id in
-    each_from (IsDone disk meaning sort answers desk) c.for_each_mut.new.s (λ i d h.
+    let counts = counts_of g.G.Gate in
+    each_from (IsDone disk meaning sort answers counts desk) c.for_each_mut.new.s (λ i d h.
     let at = (c.for_each_mut.ensures i d (omega (arith, h, c.for_each_mut.auto.s))).1 in
-    (subst₂ (HasRun disk meaning sort answers desk) at.argument_is at.left at.call).0)
+    (counts (get_or c.args.jobs.now i d).gate, (subst₂ (HasRun disk meaning sort answers counts desk) at.argument_is at.left at.call).0))
+
+pub returns-clause-ran : goal.returns-clause-ran
+returns-clause-ran g c =
+    let disk = g.R.Rack.disk in
+    let meaning = g.B.Resource.meaning in
+    let sort = g.B.Resource.sort in
+    let answers = g.G.Gate.answers in
+    let desk = c.args.desk.now.table.shared.table_id in
+    let counts = counts_of g.G.Gate in
+    ran_from disk meaning sort answers counts desk c.args.jobs.now c.for_each_mut.new.s (omega (arith, c.for_each_mut.auto.s)) (λ i d h.
+    let at = (c.for_each_mut.ensures i d h).1 in
+    subst₂ (HasRun disk meaning sort answers counts desk) at.argument_is at.left at.call)
 
 pub returns-clause-share : goal.returns-clause-share
 returns-clause-share g c =
@@ -51,7 +66,7 @@ returns-clause-share g c =
     let desk = c.args.desk.now.table.shared.table_id in
     totals_same job_share c.args.jobs.now c.for_each_mut.new.s (omega (arith, c.for_each_mut.auto.s)) (λ i d h.
     let at = (c.for_each_mut.ensures i d h).1 in
-    (subst₂ (HasRun disk meaning sort answers desk) at.argument_is at.left at.call).1)
+    (subst₂ (HasRun disk meaning sort answers (counts_of g.G.Gate) desk) at.argument_is at.left at.call).1)
 
 pub returns-clause-openings : goal.returns-clause-openings
 returns-clause-openings g c first all =
@@ -62,4 +77,4 @@ returns-clause-openings g c first all =
     let desk = c.args.desk.now.table.shared.table_id in
     each_from (λ j. job_opening j ≡ first) c.for_each_mut.new.s (λ i d h.
     let at = (c.for_each_mut.ensures i d (omega (arith, h, c.for_each_mut.auto.s))).1 in
-    (subst₂ (HasRun disk meaning sort answers desk) at.argument_is at.left at.call).2 ∙ each_at (λ j. job_opening j ≡ first) c.args.jobs.now i d (omega (arith, h, c.for_each_mut.auto.s)) all)
+    (subst₂ (HasRun disk meaning sort answers (counts_of g.G.Gate) desk) at.argument_is at.left at.call).2 ∙ each_at (λ j. job_opening j ≡ first) c.args.jobs.now i d (omega (arith, h, c.for_each_mut.auto.s)) all)

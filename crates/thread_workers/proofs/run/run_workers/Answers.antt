@@ -8,21 +8,21 @@ use Rattle.engine_steps.specs.Engines.{EngineState}
 use Rattle.worker_gate.specs.Running.{IsOutcome}
 use Rattle.shared_engine.specs.Shared.{IfClosed, IsOpening}
 use Rattle.shared_engine.proofs.Leading.{settled_of}
-use Rattle.thread_workers.specs.Jobs.{all_places, job_opening, job_seen, job_share}
+use Rattle.thread_workers.specs.Jobs.{all_gates, all_places, job_opening, job_seen, job_share}
 use Rattle.thread_workers.specs.Workers.{IsBeginning}
-use Rattle.thread_workers.proofs.Lists.{take_whole}
+use Rattle.thread_workers.proofs.Lists.{none_left, take_whole}
 use Rattle.thread_workers.proofs.WholeRun.{no_call, one_history, outcome_at_end, led_at_end}
 use Rattle.thread_workers.proofs.run.run_workers.Goals as goal
 
 pub returns-in-Err-clause-history : goal.returns-in-Err-clause-history
 returns-in-Err-clause-history g c =
     let sound : IsOpening g.R.Rack.disk g.B.Resource.meaning g.B.Resource.sort c.args.engine = record { ready = c.requires.ready; core = c.invariant_holds.ensures.run; each = c.invariant_holds.ensures.each c.requires.ready.settled } in
-    no_call g.R.Rack.disk g.R.Rack.faults g.B.Resource.meaning g.B.Resource.sort g.G.Gate.answers _ _ _ refl sound
+    no_call g.R.Rack.disk g.R.Rack.faults g.B.Resource.meaning g.B.Resource.sort g.G.Gate _ _ _ refl sound
 
 pub returns-in-Err-new-clause-history : goal.returns-in-Err-new-clause-history
 returns-in-Err-new-clause-history g c =
     let sound : IsOpening g.R.Rack.disk g.B.Resource.meaning g.B.Resource.sort c.args.engine = record { ready = c.requires.ready; core = c.invariant_holds.ensures.run; each = c.invariant_holds.ensures.each c.requires.ready.settled } in
-    no_call g.R.Rack.disk g.R.Rack.faults g.B.Resource.meaning g.B.Resource.sort g.G.Gate.answers _ _ _ (ap (λ w. w.engine) c.in-Err-new.ensures.err) sound
+    no_call g.R.Rack.disk g.R.Rack.faults g.B.Resource.meaning g.B.Resource.sort g.G.Gate _ _ _ (ap (λ w. w.engine) c.in-Err-new.ensures.err) sound
 
 pub close-engine-requires-clause-only : goal.close-engine-requires-clause-only
 close-engine-requires-clause-only g c =
@@ -51,8 +51,11 @@ returns-clause-history g c =
     let begins = subst (Each (λ j. IsBeginning (job_seen j) c.take_all_in-seat.result.0.place.me.0.seen)) same c.take_all_in-seat.ensures.begins in
     let given = subst (λ m. Each (λ j. job_opening j ≡ m) c.give_jobs-seat.new.jobs.items) c.in-Ok-new.ensures.seat.0 c.give_jobs-seat.ensures.openings in
     let openings = c.run_jobs.ensures.openings (Some o) (subst (Each (λ j. job_opening j ≡ Some o)) (sym c.deref_mut.ensures.value) given) in
-    one_history g.R.Rack.disk g.R.Rack.faults g.B.Resource.meaning g.B.Resource.sort g.G.Gate.answers _ jobs _ o c.close-engine.result _ _ _ c.close-engine.ensures known sound all c.run_jobs.ensures.done openings begins
-    (long ∙ c.give_jobs-seat.ensures.len)
+    let empty = none_left c.give_jobs-seat.new.gates.items (omega (arith, c.give_jobs-seat.ensures.gates.0, c.give_jobs-seat.new.gates.ok)) in
+    let back = c.take_all_in-seat.ensures.gates.2 ∙ (ap (λ js. c.give_jobs-seat.new.gates.items ++ all_gates js) same ∙ ap (λ gs. gs ++ all_gates jobs) empty) in
+    let gave = ap all_gates c.deref_mut.ensures.value ∙ c.give_jobs-seat.ensures.gates.2 in
+    one_history g.R.Rack.disk g.R.Rack.faults g.B.Resource.meaning g.B.Resource.sort g.G.Gate _ c.deref_mut.result.now jobs _ _ o c.close-engine.result _ _ _ c.close-engine.ensures known sound all c.run_jobs.ensures.done
+    openings begins c.run_jobs.ensures.ran gave back
 
 pub returns-in-Err-new-clause-fits : goal.returns-in-Err-new-clause-fits
 returns-in-Err-new-clause-fits g c =

@@ -1,27 +1,29 @@
+use Rattle.std.proofs.Common.{refl}
 use Rattle.thread_workers.specs.Workers.{HasStopped}
 use Rattle.shared_engine.specs.declared.entries.TurnEntry.TheVariants.{Finish}
 use Rattle.shared_engine.specs.Entries.{finish_said}
 use Rattle.shared_engine.proofs.MadeTurns.{if_map}
-use Rattle.thread_workers.specs.Workers.{Stops}
-use Rattle.thread_workers.proofs.Knowledge.{finish_worked, knows_added, stopped_by}
+use Rattle.engine_calls.specs.GateAnswers.{counts_of}
+use Rattle.shared_engine.specs.Seats.{core_at}
+use Rattle.thread_workers.specs.Workers.{Stops, asks_for}
+use Rattle.thread_workers.proofs.Knowledge.{finish_worked, knows_added, refused_at_most, refused_or_not, stopped_by, tally_finish}
 use Rattle.thread_workers.proofs.working.work.Goals as goal
 
-pub tell-seat-requires-clause-opened : goal.tell-seat-requires-clause-opened
-tell-seat-requires-clause-opened g c = c.requires.knows.opened
-
-pub tell-seat-requires-clause-handed : goal.tell-seat-requires-clause-handed
-tell-seat-requires-clause-handed g c = λ o known. (c.requires.handed o known).handed
-
 pub returns-clause-knows : goal.returns-clause-knows
-returns-clause-knows g c =
-    let knows = c.requires.knows in
+returns-clause-knows g c begun knows =
     let opened = knows.opened in
+    let d = c.args.piece in
     let v = c.args.seat.place.me.0 in
     let w = c.tell-seat.result.0.place.me.0 in
     let a = c.answer_to-answer.result in
     let said = finish_said c.tell-seat.result.1 in
-    knows_added g.R.Rack.disk g.B.Resource.meaning g.B.Resource.sort g.G.Gate.answers (Finish c.args.piece.piece.number a said) v w knows c.tell-seat.ensures.turn
-    (finish_worked g.R.Rack.disk g.B.Resource.meaning g.B.Resource.sort g.G.Gate.answers c.args.piece a said v w opened.opening.engine c.tell-seat.ensures.turn (c.requires.handed opened.opening opened.known) c.answer_to-answer.ensures)
+    let e = Finish d.piece.number a said in
+    let before = counts_of g.G.Gate c.args.gate.now in
+    let after = counts_of g.G.Gate c.answer_to-answer.new.gate in
+    let core = core_at opened.opening.engine w.seen in
+    knows_added g.R.Rack.disk g.B.Resource.meaning g.B.Resource.sort g.G.Gate.answers e (asks_for d) 0 begun before after v w knows c.tell-seat.ensures.turn
+    (finish_worked g.R.Rack.disk g.B.Resource.meaning g.B.Resource.sort g.G.Gate.answers d a said v w opened.opening.engine c.tell-seat.ensures.turn (c.requires.handed opened.opening opened.known) c.answer_to-answer.ensures.told)
+    (λ n tally. tally_finish core v.places n e begun before d a after refl (refused_at_most d.piece.number a said) (refused_or_not d.piece.number a said) c.answer_to-answer.ensures.counts tally)
 
 pub returns-clause-stopped : goal.returns-clause-stopped
 returns-clause-stopped g c =

@@ -1,6 +1,6 @@
 use Rattle.std.proofs.Common.{◌≢◌, ◌∙◌, Some, [], ap, refl, subst, sym}
 use Rattle.std.specs.Option.{option_map}
-use Rattle.machine_model.specs.Replies.{all_ended, chosen, stuck}
+use Rattle.machine_model.specs.Replies.{all_ended, stuck}
 use Rattle.process_core.specs.Rotation.{waiting_of}
 use Rattle.engine_steps.specs.Engines.{EngineState}
 use Rattle.worker_gate.specs.declared.alone.RunOutcome.TheVariants.{DiskFault}

@@ -11,5 +11,5 @@ returns-clause-leads g c o es led =
     let x = c.args.self.now.engine in
     let end = c.finish-reply.ensures in
     finish_leads g.R.Rack.disk g.R.Rack.faults g.B.Resource.meaning g.B.Resource.sort o x c.finish-reply.new.engine es led
-    (settled_of x.phase c.requires.rest c.in_default.ensures.open) c.invariant_holds.ensures.run (g.met.R.Rack.honest c.finish-reply.new.engine.files.rack) c.args.piece c.args.answer c.requires.handed c.finish-reply.result
+    (settled_of x.phase c.requires.rest c.in_default.ensures.open) c.invariant_holds.ensures.run (g.met.R.Rack.honest c.finish-reply.new.engine.files.rack) c.args.piece c.args.answer c.requires.handed c.requires.end c.finish-reply.result
     end.finishes end.goes end.ready end.fits end.fault

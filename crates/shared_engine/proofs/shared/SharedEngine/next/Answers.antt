@@ -10,4 +10,4 @@ returns-clause-leads g c o es led =
     let x = c.args.self.now.engine in
     let asked = c.next.ensures in
     next_leads g.R.Rack.disk g.R.Rack.faults g.B.Resource.meaning g.B.Resource.sort o x c.next.new.engine es led
-    (settled_of x.phase c.requires.rest c.in_default.ensures.open) c.invariant_holds.ensures.run (g.met.R.Rack.honest c.next.new.engine.files.rack) c.next.result asked.reply asked.engine asked.goes asked.ready
+    (settled_of x.phase c.requires.rest c.in_default.ensures.open) c.invariant_holds.ensures.run (g.met.R.Rack.honest c.next.new.engine.files.rack) c.next.result asked.reply asked.engine asked.given asked.goes asked.ready
