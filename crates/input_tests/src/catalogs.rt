@@ -4,7 +4,8 @@ ghost use Rattle.commute_table.specs.Operations.{IsCatalog};
 use commute_table::{
     BindError, Catalog, CatalogError, bind, catalog_bytes, read_catalog, read_scenario,
 };
-use process_tree::{Block, Name, Named, Operations, Plan, Step, StepKind, Steps, Tail, Tree};
+use process_text::read;
+use process_tree::{Name, Named, Operations, Plan};
 use std::alloc::Global;
 use std::test::Fail;
 
@@ -237,33 +238,10 @@ fn bytes_are_refused_at_the_first_that_no_catalog_has(rt: HostRuntime) -> Result
     Ok(())
 }
 
-fn step(alloc: Global, name: &str, op: &str) -> Result<Step, Fail> {
-    Ok(Step {
-        kind: StepKind::C,
-        name: Name::new(alloc, name.as_bytes())?,
-        op: Name::new(alloc, op.as_bytes())?,
-        key: 1,
-        amount: 5,
-        tries: 3,
-        undo_tries: 3,
-        refuse: 0,
-        undo_refuse: 0,
-    })
-}
-
-// A process of two steps with these operations.
-fn process(alloc: Global, first: &str, second: &str) -> Result<Named, Fail> {
-    let mut steps = Vec::new(alloc);
-    steps.push(step(alloc, "x", first)?)?;
-    steps.push(step(alloc, "y", second)?)?;
-    let root = Block {
-        steps: Steps::new(steps),
-        tail: Tail::End,
-    };
-    Ok(Named {
-        name: Name::new(alloc, b"a")?,
-        tree: Tree::build(alloc, root)?,
-    })
+// The process of a text.
+fn process(alloc: Global, text: &[u8]) -> Result<Named, Fail> {
+    let mut processes = read(alloc, text).ok().ok_or("no text of processes")?;
+    Ok(processes.pop().ok_or("no process")?)
 }
 
 // The numbers of a process's operations, in a copy of its plan.
@@ -290,9 +268,11 @@ fn unknown_of(bound: Result<Plan, BindError>) -> Option<Name> {
 #[test]
 fn a_process_is_bound_or_its_first_unknown_operation_is_told(rt: HostRuntime) -> Result<(), Fail> {
     let alloc = rt.alloc();
-    let numbers = numbers_of(alloc, process(alloc, "mail", "take")?)?;
+    let mailed = process(alloc, b"process a c x mail 1 5 c y take 1 5 end")?;
+    let numbers = numbers_of(alloc, mailed)?;
     assert_eq!(rt; numbers.as_slice(), [8, 1].as_slice());
-    let name = unknown_in(alloc, process(alloc, "fly", "run")?)?.ok_or("no unknown operation")?;
+    let flown = process(alloc, b"process a c x fly 1 5 c y run 1 5 end")?;
+    let name = unknown_in(alloc, flown)?.ok_or("no unknown operation")?;
     assert_eq!(rt; name.bytes(), b"fly".as_slice());
     Ok(())
 }

@@ -14,110 +14,138 @@ fn words_of(alloc: Global, line: &str) -> Result<Vec<String>, AllocError> {
     Ok(words)
 }
 
-fn generated(number: u64, count: u32) -> Command {
-    Command::Gen { number, count }
-}
-
-fn run_anew(number: u64, count: u32) -> Command {
-    Command::Bulk { number, count }
-}
+// Lines, and what is asked for.
+const COMMANDS: [(&str, Result<Command, WordsError>); 36] = [
+    ("check", Ok(Command::Check)),
+    ("init", Ok(Command::Init)),
+    ("run", Ok(Command::Run)),
+    ("session", Ok(Command::Session)),
+    ("serve", Ok(Command::Serve)),
+    ("show", Ok(Command::Show)),
+    ("verify", Ok(Command::Verify)),
+    ("check --", Ok(Command::Check)),
+    ("", Err(WordsError::BadWords)),
+    ("Check", Err(WordsError::BadWords)),
+    ("check check", Err(WordsError::BadWords)),
+    ("check --help", Err(WordsError::BadWords)),
+    ("check -h", Err(WordsError::BadWords)),
+    ("show --version", Err(WordsError::BadWords)),
+    ("show -V", Err(WordsError::BadWords)),
+    ("init init", Err(WordsError::BadWords)),
+    ("session 4", Err(WordsError::BadWords)),
+    ("serve 4", Err(WordsError::BadWords)),
+    ("run 4", Err(WordsError::BadWords)),
+    ("run --workers 4", Err(WordsError::BadWords)),
+    ("run -- 4", Err(WordsError::BadWords)),
+    (
+        "gen 1 1",
+        Ok(Command::Gen {
+            number: 1,
+            count: 1,
+        }),
+    ),
+    (
+        "gen 0 256",
+        Ok(Command::Gen {
+            number: 0,
+            count: 256,
+        }),
+    ),
+    (
+        "gen -- 7 08",
+        Ok(Command::Gen {
+            number: 7,
+            count: 8,
+        }),
+    ),
+    ("gen", Err(WordsError::BadWords)),
+    ("gen 1", Err(WordsError::BadWords)),
+    ("gen 0 0", Err(WordsError::BadWords)),
+    ("gen 1 257", Err(WordsError::BadWords)),
+    ("gen 1 1 1", Err(WordsError::BadWords)),
+    (
+        "bulk 1 1",
+        Ok(Command::Bulk {
+            number: 1,
+            count: 1,
+        }),
+    ),
+    (
+        "bulk 0 256",
+        Ok(Command::Bulk {
+            number: 0,
+            count: 256,
+        }),
+    ),
+    ("bulk", Err(WordsError::BadWords)),
+    ("bulk 1 257", Err(WordsError::BadWords)),
+    ("help", Err(WordsError::BadWords)),
+    ("--help", Err(WordsError::BadWords)),
+    ("-- check", Err(WordsError::BadWords)),
+];
 
 #[test]
 fn words_are_read_as_commands(rt: HostRuntime) -> Result<(), Fail> {
     let alloc = rt.alloc();
-    let rows = [
-        ("check", Ok(Command::Check)),
-        ("init", Ok(Command::Init)),
-        ("run", Ok(Command::Run)),
-        ("session", Ok(Command::Session)),
-        ("serve", Ok(Command::Serve)),
-        ("show", Ok(Command::Show)),
-        ("verify", Ok(Command::Verify)),
-        ("check --", Ok(Command::Check)),
-        ("", Err(WordsError::BadWords)),
-        ("Check", Err(WordsError::BadWords)),
-        ("check check", Err(WordsError::BadWords)),
-        ("check --help", Err(WordsError::BadWords)),
-        ("check -h", Err(WordsError::BadWords)),
-        ("show --version", Err(WordsError::BadWords)),
-        ("show -V", Err(WordsError::BadWords)),
-        ("init init", Err(WordsError::BadWords)),
-        ("session 4", Err(WordsError::BadWords)),
-        ("serve 4", Err(WordsError::BadWords)),
-        ("run 4", Err(WordsError::BadWords)),
-        ("run --workers 4", Err(WordsError::BadWords)),
-        ("run -- 4", Err(WordsError::BadWords)),
-        ("gen 1 1", Ok(generated(1, 1))),
-        ("gen 0 256", Ok(generated(0, 256))),
-        ("gen -- 7 08", Ok(generated(7, 8))),
-        ("gen", Err(WordsError::BadWords)),
-        ("gen 1", Err(WordsError::BadWords)),
-        ("gen 0 0", Err(WordsError::BadWords)),
-        ("gen 1 257", Err(WordsError::BadWords)),
-        ("gen 1 1 1", Err(WordsError::BadWords)),
-        ("bulk 1 1", Ok(run_anew(1, 1))),
-        ("bulk 0 256", Ok(run_anew(0, 256))),
-        ("bulk", Err(WordsError::BadWords)),
-        ("bulk 1 257", Err(WordsError::BadWords)),
-        ("help", Err(WordsError::BadWords)),
-        ("--help", Err(WordsError::BadWords)),
-        ("-- check", Err(WordsError::BadWords)),
-    ];
-    for (line, expected) in rows {
+    for (line, expected) in &COMMANDS {
         let words = words_of(alloc, line)?;
-        assert_eq!(rt; read_words(alloc, &words), expected);
+        assert_eq!(rt; read_words(alloc, &words), *expected);
     }
     Ok(())
 }
+
+// Words behind `run`, and the number of workers.
+const WORKERS: [(&str, Result<u32, WordsError>); 16] = [
+    ("", Ok(1)),
+    ("--workers 1", Ok(1)),
+    ("--workers 16", Ok(16)),
+    ("--workers=4", Ok(4)),
+    ("--workers 04", Ok(4)),
+    ("--workers +4", Ok(4)),
+    ("--", Ok(1)),
+    ("4", Err(WordsError::BadWords)),
+    ("--workers", Err(WordsError::BadWords)),
+    ("--workers 0", Err(WordsError::BadWords)),
+    ("--workers 17", Err(WordsError::BadWords)),
+    ("--workers -1", Err(WordsError::BadWords)),
+    ("--workers four", Err(WordsError::BadWords)),
+    ("--workers 4 --workers 4", Err(WordsError::BadWords)),
+    ("--worker 4", Err(WordsError::BadWords)),
+    ("--help", Err(WordsError::BadWords)),
+];
 
 #[test]
 fn workers_are_read(rt: HostRuntime) -> Result<(), Fail> {
     let alloc = rt.alloc();
-    let rows = [
-        ("", Ok(1)),
-        ("--workers 1", Ok(1)),
-        ("--workers 16", Ok(16)),
-        ("--workers=4", Ok(4)),
-        ("--workers 04", Ok(4)),
-        ("--workers +4", Ok(4)),
-        ("--", Ok(1)),
-        ("4", Err(WordsError::BadWords)),
-        ("--workers", Err(WordsError::BadWords)),
-        ("--workers 0", Err(WordsError::BadWords)),
-        ("--workers 17", Err(WordsError::BadWords)),
-        ("--workers -1", Err(WordsError::BadWords)),
-        ("--workers four", Err(WordsError::BadWords)),
-        ("--workers 4 --workers 4", Err(WordsError::BadWords)),
-        ("--worker 4", Err(WordsError::BadWords)),
-        ("--help", Err(WordsError::BadWords)),
-    ];
-    for (line, expected) in rows {
+    for (line, expected) in &WORKERS {
         let words = words_of(alloc, line)?;
-        assert_eq!(rt; read_workers(alloc, "run", &words), expected);
+        assert_eq!(rt; read_workers(alloc, "run", &words), *expected);
     }
     Ok(())
 }
 
+// Words behind `gen`, and the two numbers.
+const NUMBERS: [(&str, Result<(u64, u32), WordsError>); 12] = [
+    ("0 1", Ok((0, 1))),
+    ("18446744073709551615 256", Ok((18446744073709551615, 256))),
+    ("+7 -- 08", Ok((7, 8))),
+    ("", Err(WordsError::BadWords)),
+    ("1", Err(WordsError::BadWords)),
+    ("1 0", Err(WordsError::BadWords)),
+    ("1 257", Err(WordsError::BadWords)),
+    ("-1 1", Err(WordsError::BadWords)),
+    ("1 -1", Err(WordsError::BadWords)),
+    ("18446744073709551616 1", Err(WordsError::BadWords)),
+    ("1 2 3", Err(WordsError::BadWords)),
+    ("--help", Err(WordsError::BadWords)),
+];
+
 #[test]
 fn a_number_and_a_count_are_read(rt: HostRuntime) -> Result<(), Fail> {
     let alloc = rt.alloc();
-    let rows = [
-        ("0 1", Ok((0, 1))),
-        ("18446744073709551615 256", Ok((18446744073709551615, 256))),
-        ("+7 -- 08", Ok((7, 8))),
-        ("", Err(WordsError::BadWords)),
-        ("1", Err(WordsError::BadWords)),
-        ("1 0", Err(WordsError::BadWords)),
-        ("1 257", Err(WordsError::BadWords)),
-        ("-1 1", Err(WordsError::BadWords)),
-        ("1 -1", Err(WordsError::BadWords)),
-        ("18446744073709551616 1", Err(WordsError::BadWords)),
-        ("1 2 3", Err(WordsError::BadWords)),
-        ("--help", Err(WordsError::BadWords)),
-    ];
-    for (line, expected) in rows {
+    for (line, expected) in &NUMBERS {
         let words = words_of(alloc, line)?;
-        assert_eq!(rt; read_number_and_count(alloc, "gen", &words), expected);
+        assert_eq!(rt; read_number_and_count(alloc, "gen", &words), *expected);
     }
     Ok(())
 }
