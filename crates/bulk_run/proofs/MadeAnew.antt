@@ -31,7 +31,7 @@ use Rattle.command_input.specs.FilesLeft.{files}
 use Rattle.init_run.specs.Init.{AreMade}
 use Rattle.scenario_run.specs.Run.{HasGone}
 use Rattle.scenario_run.specs.Stops.{IsStopped}
-use Rattle.scenario_run.proofs.RunDue.{rose_later}
+use Rattle.history_opening.proofs.Rising.{rose_later}
 use Rattle.bulk_run.specs.Bulk.{AreMadeAndKept, IsBulkOf, SaysBulk}
 
 -- an engine in which nothing has happened

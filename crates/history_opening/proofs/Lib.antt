@@ -1,3 +1,4 @@
+pub mod Rising
 pub mod Differing
 pub mod SettledStores
 pub mod Opened

@@ -25,15 +25,9 @@ use Rattle.command_input.specs.declared.said.Said.{Said}
 use Rattle.command_input.specs.FilesLeft.{files}
 use Rattle.scenario_run.specs.Opening.{AreOpenedOn}
 use Rattle.scenario_run.specs.Run.{HasGone, IsRunOf, SaysRun}
+use Rattle.history_opening.proofs.Rising.{rose_later}
 use Rattle.scenario_run.specs.Stops.{IsStopped}
 use Rattle.scenario_run.proofs.OnlyOpened.{only_opened}
-
-rose_by : (a b c n : ℕ) → a ≤ b → min (b + 1) n ≤ c → min (a + 1) n ≤ c
-rose_by a b c n low rose = omega arith
-
--- a count that rose since a later moment rose since an earlier one
-pub rose_later : (a b c : ℕ) → a ≤ b → Rose b c → Rose a c
-rose_later a b c low rose = rose_by a b c (2 ^ 64 - 1) low rose
 
 module _ {R B : Type 0} (r : Racks R) (honest : (rack : R) → Told (r.disk rack) → IsHonest (r.disk rack)) (gate : AskedGate) (entry back : R) (opening now : EngineState R B) (plans : List Plan)
     (is : IsOpened opening) (one_each : OneEach (full_history opening.core)) (tells : (r.disk opening.files.rack).tells ≡ (r.disk entry).tells) (later : r.faults entry ≤ r.faults opening.files.rack)

@@ -10,7 +10,7 @@ use Rattle.command_refusals.specs.declared.refusal.Refusal.TheVariants.{DiskFaul
 use Rattle.command_input.specs.declared.said.Said.{Said}
 use Rattle.scenario_run.specs.Run.{HasGone}
 use Rattle.scenario_run.specs.Stops.{IsStopped}
-use Rattle.scenario_run.proofs.RunDue.{rose_later}
+use Rattle.history_opening.proofs.Rising.{rose_later}
 
 module _ {R B : Type 0} (faults : R → ℕ) (gate : AskedGate) (old mid now : EngineState R B) (plans : List Plan) (later : faults old.files.rack ≤ faults mid.files.rack)
     (gone : HasGone gate old.catalog (full_history old.core) plans now.core) where

@@ -8,7 +8,7 @@ use Rattle.command_refusals.specs.declared.status.Status.{Status}
 use Rattle.command_input.specs.FilesLeft.{Files}
 use Rattle.command_input.specs.Inputs.{Input}
 use Rattle.command_input.specs.Outputs.{Output}
-use Rattle.scenario_run.proofs.RunDue.{rose_later}
+use Rattle.history_opening.proofs.Rising.{rose_later}
 use Rattle.serve_run.specs.declared.command.Ending.{Ending}
 use Rattle.serve_run.specs.declared.command.Ending.TheVariants.{Told, Due}
 use Rattle.serve_run.specs.Serve.{IsHeldOn, IsScene, IsServeDue, IsServeRead, IsServed}

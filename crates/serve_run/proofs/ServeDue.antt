@@ -28,7 +28,7 @@ use Rattle.command_input.specs.Inputs.{input}
 use Rattle.command_input.specs.Outputs.{output, IsTold}
 use Rattle.scenario_run.specs.Opening.{AreOpenedOn}
 use Rattle.scenario_run.proofs.OnlyOpened.{only_opened}
-use Rattle.scenario_run.proofs.RunDue.{rose_later}
+use Rattle.history_opening.proofs.Rising.{rose_later}
 use Rattle.driver_requests.specs.Readiness.{ready_text}
 use Rattle.serve_run.specs.declared.command.Ending.{Ending}
 use Rattle.serve_run.specs.declared.command.Ending.TheVariants.{Told, Due}

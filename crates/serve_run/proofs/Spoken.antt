@@ -19,7 +19,7 @@ use Rattle.engine_calls.proofs.Goes.{goes_then}
 use Rattle.command_refusals.specs.declared.status.Status.{Status}
 use Rattle.command_refusals.specs.declared.status.Status.TheVariants.{WriteFault}
 use Rattle.command_input.specs.Outputs.{Output, output, IsTold}
-use Rattle.scenario_run.proofs.RunDue.{rose_later}
+use Rattle.history_opening.proofs.Rising.{rose_later}
 use Rattle.driver_requests.specs.Readiness.{ready_text}
 use Rattle.serve_run.specs.Dialogue.{DialogueState, EndsWith, HasConversed, IsBetween, IsDialogue, bytes_of, driver_state, printed_of}
 use Rattle.serve_run.specs.Serve.{IsHeld, begun_on}

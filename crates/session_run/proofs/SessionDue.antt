@@ -29,7 +29,7 @@ use Rattle.session_text.specs.declared.line.Line.{Line}
 use Rattle.session_run.specs.Playthrough.{HasPlayed}
 use Rattle.session_run.specs.Session.{IsNotBegun, IsPlayedOn, IsSession, phase_by}
 use Rattle.scenario_run.proofs.OnlyOpened.{only_opened}
-use Rattle.scenario_run.proofs.RunDue.{rose_later}
+use Rattle.history_opening.proofs.Rising.{rose_later}
 
 module _ {R B : Type 0} (plans : List Plan) (r : Racks R) (honest : (rack : R) → Told (r.disk rack) → IsHonest (r.disk rack)) (entry : R) (opening now : EngineState R B)
     (begun : IsCore opening.core) (is_opened : IsOpened opening) (idle : active (history_of opening.core) ≡ []) (tells : (r.disk opening.files.rack).tells ≡ (r.disk entry).tells)

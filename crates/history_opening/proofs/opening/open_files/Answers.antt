@@ -1,4 +1,5 @@
 use Rattle.std.proofs.Common.{◌∙◌, inr, refl, sym, subst}
+use Rattle.process_flow.specs.Causes.{Rose}
 use Rattle.process_disk.specs.Disk.{Told}
 use Rattle.process_disk.specs.Images.{AllAsBefore, ImagesFollow}
 use Rattle.process_disk.proofs.Images.{follow_then}
@@ -8,6 +9,7 @@ use Rattle.history_opening.specs.Images.{LeftByRefusal}
 use Rattle.history_opening.specs.declared.faults.OpenError.TheVariants.{DiskFault as Fault}
 use Rattle.history_opening.proofs.FewActs.{acts_counted}
 use Rattle.history_opening.proofs.Opened.{becomes_sound, sound_at_start}
+use Rattle.history_opening.proofs.Rising.{rose_later}
 use Rattle.history_opening.proofs.opening.open_files.Goals as goal
 
 pub settle_all-requires-clause-fits : goal.settle_all-requires-clause-fits
@@ -72,3 +74,10 @@ returns-in-Err-settle_all-clause-follow_back g c told =
     (g.met.R.Rack.honest c.settle_all.new.files.rack (c.in-Err-settle_all.ensures.tells ∙ told_mid))
     (subst (λ f. AllAsBefore (g.R.Rack.disk c.args.parts.rack) (g.R.Rack.disk f.rack)) (sym c.new-files.ensures) (c.in-Ok.ensures.all told)).follow
     (c.in-Err-settle_all.ensures.follow told_mid))
+
+pub returns-in-Err-settle_all-clause-fault : goal.returns-in-Err-settle_all-clause-fault
+returns-in-Err-settle_all-clause-fault g c same =
+    let rose = c.in-Err-settle_all.ensures.cause refl in
+    let later = c.in-Ok.ensures.later in
+    let risen = rose_later (g.R.Rack.faults c.args.parts.rack) (g.R.Rack.faults c.read_sound.new.rack) (g.R.Rack.faults c.settle_all.new.files.rack) later (subst (λ f. Rose (g.R.Rack.faults f.rack) (g.R.Rack.faults c.settle_all.new.files.rack)) c.new-files.ensures rose) in
+    subst (λ r. Rose (g.R.Rack.faults c.args.parts.rack) (g.R.Rack.faults r)) (sym c.into_cleared.ensures.rack) risen
