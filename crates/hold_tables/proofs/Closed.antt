@@ -1,7 +1,7 @@
 -- Marks that are closed are where walks lead.
 use Rattle.std.proofs.Common.{◌≡◌, ◌<◌, ◌≤◌, ◌⊎◌, inl, inr, ℕ, Bool, true, false, ◌||◌, ◌&&◌, List, [], ◌∷◌, length, slice_index_or, sym, refl, ap, ◌∙◌, subst, arith, ◌+◌}
 use Rattle.std.specs.Bool.{⊤}
-use Rattle.std.specs.Prelude.{nat_eq}
+use Rattle.std.specs.Prelude.{nat_eq, nat_lt}
 use Rattle.std.proofs.lemmas.Bool.{or_cases, or_left, or_right, and_parts, and_from, eqb-true, eqb-false}
 use Rattle.process_tree.specs.Conflicts.{do_conflict}
 use Rattle.process_tree.specs.Order.{Each}
@@ -12,10 +12,12 @@ use Rattle.hold_tables.specs.Tables.{OpenProcess, Tables, holdings_of, holds_not
 use Rattle.hold_tables.specs.Kept.{AreTidy}
 use Rattle.hold_tables.specs.Places.{place_of}
 use Rattle.hold_tables.specs.Walks.{TellWalks, cell, told}
-use Rattle.hold_tables.specs.Arrows.{IsClosed, IsPassed, TellArrows, arrows_in}
+use Rattle.hold_tables.specs.Counts.{TellCounts, arrow_at, count_at}
+use Rattle.hold_tables.specs.Arrows.{IsClosed, IsPassed, arrows_in}
 use Rattle.hold_tables.proofs.Extended.{place_within}
 use Rattle.hold_tables.proofs.Places.{at_place, number-at, place-is}
 use Rattle.hold_tables.proofs.Tidy.{each_numbered}
+use Rattle.hold_tables.proofs.Pairs.{arrow_counted}
 use Rattle.hold_tables.proofs.Reaching.{graph-is, holder-number, number-holder, same_truth, walk_on}
 use Rattle.hold_tables.proofs.SameGraph.{graph_of}
 
@@ -38,7 +40,7 @@ none_passed marks = record {
   least = λ led on within. within;
 }
 
-pub all_passed : (n : ℕ) (old new : List (List Bool)) → length old ≤ n → IsPassedUpTo n old new → IsClosed old new
+pub all_passed : (n : ℕ) (old new : List (List Bool)) → length old ≤ n → IsPassedUpTo n old new → IsClosed (length old) (cell old) new
 all_passed n old new all is = record {
   count = is.count;
   more = is.more;
@@ -119,7 +121,18 @@ module _ (n : ℕ) (old mid new : List (List Bool)) (few : length old ≤ 256) (
       kept led on inside a b from to (inl here) = before.least led on inside a b from to here
       kept led on inside a b from to (inr both) = on a n b from at to (before.least led on inside a n from at both.0) (before.least led on inside n b at to both.1)
 
-module _ (t : Tables) (tidy : AreTidy t) (arrows walks : List (List Bool)) (tells : TellArrows t arrows) (closed : IsClosed arrows walks) where
+-- marks that are closed over the marks of arrows are closed over the arrows
+pub closed_over : (n : ℕ) (arrow : Arrow) (mid new : List (List Bool)) → length mid ≡ n → ((a b : ℕ) → a < n → b < n → cell mid a b ≡ arrow a b) → IsClosed (length mid) (cell mid) new → IsClosed n arrow new
+closed_over n arrow mid new count same closed =
+    let is = subst (λ m. IsClosed m (cell mid) new) count closed in
+    record {
+      count = is.count;
+      more = λ a b from to a_is. is.more a b from to (same a b from to ∙ a_is);
+      through = is.through;
+      least = λ led on within. is.least led on (λ a b from to marked. within a b from to (sym (same a b from to) ∙ marked));
+    }
+
+module _ (t : Tables) (tidy : AreTidy t) (counts : List (List ℕ)) (walks : List (List Bool)) (tells : TellCounts t counts) (closed : IsClosed (length counts) (arrow_at counts) walks) where
   -- the number of the process at a place
   abbrev number_at : ℕ → ℕ
   number_at a = (slice_index_or t.processes a (holds_nothing 0 0)).process
@@ -127,19 +140,19 @@ module _ (t : Tables) (tidy : AreTidy t) (arrows walks : List (List Bool)) (tell
   abbrev led : Arrow
   led i k = reaches (do_conflict t.conflicts) (holdings_of t) i k
 
-  rows_of : length arrows ≡ length t.processes
+  rows_of : length counts ≡ length t.processes
   rows_of = tells.rows.0
 
-  placed : (a : ℕ) → a < length arrows → a < length t.processes
+  placed : (a : ℕ) → a < length counts → a < length t.processes
   placed a within = let same = rows_of in omega (arith, same, within)
 
-  open_at : (a : ℕ) → a < length arrows → is_open t (number_at a) ≡ true
+  open_at : (a : ℕ) → a < length counts → is_open t (number_at a) ≡ true
   open_at a within = number-at (number_at a) t.processes a (holds_nothing 0 0) (placed a within) refl
 
-  place_at : (a : ℕ) → a < length arrows → a ≡ place_of (number_at a) t.processes
+  place_at : (a : ℕ) → a < length counts → a ≡ place_of (number_at a) t.processes
   place_at a within = place-is (number_at a) t.processes a (holds_nothing 0 0) tidy.numbered (placed a within) refl
 
-  within_rows : (i : ℕ) → is_open t i ≡ true → place_of i t.processes < length arrows
+  within_rows : (i : ℕ) → is_open t i ≡ true → place_of i t.processes < length counts
   within_rows i here = let less = place_within t.processes i here in let same = rows_of in omega (arith, less, same)
 
   number_of : (i : ℕ) → is_open t i ≡ true → number_at (place_of i t.processes) ≡ i
@@ -158,11 +171,11 @@ module _ (t : Tables) (tidy : AreTidy t) (arrows walks : List (List Bool)) (tell
       (walk-from_leads (graph_of t) (holders (holdings_of t)) i j first) (walk-from_leads (graph_of t) (holders (holdings_of t)) j k second))
 
   -- what is marked at two places is where a walk leads
-  marked_led : (a b : ℕ) → a < length arrows → b < length arrows → cell walks a b ≡ true → led (number_at a) (number_at b) ≡ true
+  marked_led : (a b : ℕ) → a < length counts → b < length counts → cell walks a b ≡ true → led (number_at a) (number_at b) ≡ true
   marked_led = closed.least (λ a b. led (number_at a) (number_at b)) (λ a m b from mid to. led_on (number_at a) (number_at m) (number_at b))
       (λ a b from to is. arrow_led (number_at a) (number_at b) (open_at b to)
-      (sym (tells.tell (number_at a) (number_at b) (open_at a from) (open_at b to))
-      ∙ ap (λ n. cell arrows n (place_of (number_at b) t.processes)) (sym (place_at a from)) ∙ ap (cell arrows a) (sym (place_at b to)) ∙ is))
+      (sym (arrow_counted t (number_at a) (number_at b)) ∙ ap (nat_lt 0) (sym (tells.tell (number_at a) (number_at b) (open_at a from) (open_at b to))
+      ∙ ap (λ n. count_at counts n (place_of (number_at b) t.processes)) (sym (place_at a from)) ∙ ap (count_at counts a) (sym (place_at b to))) ∙ is))
 
   told_led : (i k : ℕ) → is_open t i ≡ true → is_open t k ≡ true → told t.processes walks i k ≡ true → led i k ≡ true
   told_led i k here there is =
@@ -170,7 +183,7 @@ module _ (t : Tables) (tidy : AreTidy t) (arrows walks : List (List Bool)) (tell
       (marked_led (place_of i t.processes) (place_of k t.processes) (within_rows i here) (within_rows k there) is))
 
   arrow_told : (j k : ℕ) → is_open t j ≡ true → is_open t k ≡ true → arrows_in t j k ≡ true → told t.processes walks j k ≡ true
-  arrow_told j k here there a = closed.more (place_of j t.processes) (place_of k t.processes) (within_rows j here) (within_rows k there) (tells.tell j k here there ∙ a)
+  arrow_told j k here there a = closed.more (place_of j t.processes) (place_of k t.processes) (within_rows j here) (within_rows k there) (ap (nat_lt 0) (tells.tell j k here there) ∙ arrow_counted t j k ∙ a)
 
   walk_told : {i k : ℕ} → is_open t i ≡ true → Walk (graph_of t) (holders (holdings_of t)) i k → (is_open t k ≡ true) × (told t.processes walks i k ≡ true)
   walk_told {i} {k} here (one_arrow among a) =

@@ -7,7 +7,7 @@ use Rattle.std.proofs.lemmas.List.Elements.{filter-append}
 use Rattle.process_tree.specs.declared.entry.Entry.{Entry}
 use Rattle.process_tree.specs.Conflicts.{Table, do_conflict}
 use Rattle.process_tree.specs.Order.{Each}
-use Rattle.schedule_model.specs.Conflict.{ConflictRelation, conflict}
+use Rattle.schedule_model.specs.Conflict.{ConflictRelation}
 use Rattle.schedule_model.specs.Histories.{is_in, of_process}
 use Rattle.schedule_model.specs.Graph.{Walk, and_then, one_arrow}
 use Rattle.schedule_model.specs.Holdings.{holders, reaches}
@@ -16,12 +16,16 @@ use Rattle.schedule_model.proofs.Walks.{leads-from_walk, walk-from_leads}
 use Rattle.hold_tables.specs.Tables.{OpenProcess, Tables, has_number, holdings_of}
 use Rattle.hold_tables.specs.Changes.{can_come}
 use Rattle.hold_tables.specs.Kept.{AreTidy, IsKnown, are_numbered}
-use Rattle.hold_tables.specs.Arrows.{TellArrows, arrows_in}
+use Rattle.hold_tables.specs.Arrows.{arrows_in}
+use Rattle.hold_tables.specs.Cells.{IsPlaceTaken, place_before}
+use Rattle.hold_tables.specs.Counts.{TellCounts, count_at, pair, pairs_by, pairs_from, pairs_in}
 use Rattle.hold_tables.specs.Places.{place_of}
-use Rattle.hold_tables.specs.Walks.{AreRows, IsPlaceTaken, TellWalks, arrows_by, arrows_from, cell, leads_through, place_before, step_of, steps_under_way, told}
+use Rattle.hold_tables.specs.Walks.{AreRows, TellWalks, cell, leads_through, step_of, steps_under_way, told}
 use Rattle.hold_tables.proofs.Arrows.{steps_first}
-use Rattle.hold_tables.proofs.Marks.{before_above, before_below, neither_of, none_at_place, none_in_rows}
+use Rattle.hold_tables.proofs.Cells.{before_above, before_below}
+use Rattle.hold_tables.proofs.Marks.{neither_of, none_at_place, none_in_rows}
 use Rattle.hold_tables.proofs.Opening.{number_of_others, other_processes, others}
+use Rattle.hold_tables.proofs.Pairs.{arrow_counted, other_by, other_last}
 use Rattle.hold_tables.proofs.Reaching.{graph-is, holder-number, number-holder, same_truth}
 use Rattle.hold_tables.proofs.SameGraph.{graph_of, reach_over}
 use Rattle.hold_tables.proofs.Tidy.{each_entry, tables}
@@ -38,41 +42,33 @@ keep_head i e es is = ap (λ b. if not b then e ∷ others i es else others i es
 apart : (n i k : ℕ) → nat_eq n i ≡ true → nat_eq k i ≡ false → nat_eq n k ≡ false
 apart n i k is other = ne_eqb n k (λ same. eqb-false k i other (sym same ∙ eqb-true n i is))
 
-module _ (table : ConflictRelation) (i : ℕ) where
-  -- the entries of process i make no difference to arrows to another
-  any_other : (x : Entry) (k : ℕ) (ys : List Entry) → nat_eq k i ≡ false → list_any (λ y. nat_eq y.process k && conflict table x y) (others i ys) ≡ list_any (λ y. nat_eq y.process k && conflict table x y) ys
-  any_other x k [] other = refl
-  any_other x k (y ∷ ys) other = by (nat_eq y.process i) refl (any_other x k ys other)
+module _ (table : ConflictRelation) (i j k : ℕ) (to : nat_eq k i ≡ false) where
+  -- the entries of process i make no difference to pairs with another
+  pairs_by_others : (x : Entry) (ys : List Entry) → pairs_by table x (others i ys) j k ≡ pairs_by table x ys j k
+  pairs_by_others x [] = refl
+  pairs_by_others x (y ∷ ys) = by (nat_eq y.process i) refl (pairs_by_others x ys)
     where
-      by : (b : Bool) → nat_eq y.process i ≡ b → list_any (λ y. nat_eq y.process k && conflict table x y) (others i ys) ≡ list_any (λ y. nat_eq y.process k && conflict table x y) ys
-          → list_any (λ y. nat_eq y.process k && conflict table x y) (others i (y ∷ ys)) ≡ list_any (λ y. nat_eq y.process k && conflict table x y) (y ∷ ys)
-      by true is rest =
-          ap (list_any (λ y. nat_eq y.process k && conflict table x y)) (drop_head i y ys is) ∙ rest
-          ∙ sym (ap (λ b. (b && conflict table x y) || list_any (λ y. nat_eq y.process k && conflict table x y) ys) (apart y.process i k is other))
-      by false is rest =
-          ap (list_any (λ y. nat_eq y.process k && conflict table x y)) (keep_head i y ys is) ∙ ap ((nat_eq y.process k && conflict table x y) ||◌) rest
+      by : (b : Bool) → nat_eq y.process i ≡ b → pairs_by table x (others i ys) j k ≡ pairs_by table x ys j k → pairs_by table x (others i (y ∷ ys)) j k ≡ pairs_by table x (y ∷ ys) j k
+      by true is rest = let none = other_last table j k x y (apart y.process i k is to) in ap (λ es. pairs_by table x es j k) (drop_head i y ys is) ∙ (omega (arith, none, rest))
+      by false is rest = ap (λ es. pairs_by table x es j k) (keep_head i y ys is) ∙ ap (pair table x y j k +◌) rest
 
-  arrows_by_others : (x : Entry) (es running : List Entry) (j k : ℕ) → nat_eq k i ≡ false → arrows_by table x (others i es ++ others i running) j k ≡ arrows_by table x (es ++ running) j k
-  arrows_by_others x es running j k other =
-      ap (λ ys. arrows_by table x ys j k) (sym (filter-append (λ (e : Entry). not (nat_eq e.process i)) es running)) ∙ ap (nat_eq x.process j &&◌) (any_other x k (es ++ running) other)
-
-  -- nor do they to arrows between others
-  arrows_others : (running es : List Entry) (j k : ℕ) → nat_eq j i ≡ false → nat_eq k i ≡ false → arrows_from table (others i running) (others i es) j k ≡ arrows_from table running es j k
-  arrows_others running [] j k from to = refl
-  arrows_others running (x ∷ es) j k from to = by (nat_eq x.process i) refl (arrows_others running es j k from to)
+  -- nor do they to pairs of others
+  pairs_others : nat_eq j i ≡ false → (running es : List Entry) → pairs_from table (others i running) (others i es) j k ≡ pairs_from table running es j k
+  pairs_others from running [] = refl
+  pairs_others from running (x ∷ es) = by (nat_eq x.process i) refl (pairs_others from running es)
     where
-      by : (b : Bool) → nat_eq x.process i ≡ b → arrows_from table (others i running) (others i es) j k ≡ arrows_from table running es j k
-          → arrows_from table (others i running) (others i (x ∷ es)) j k ≡ arrows_from table running (x ∷ es) j k
+      by : (b : Bool) → nat_eq x.process i ≡ b → pairs_from table (others i running) (others i es) j k ≡ pairs_from table running es j k
+          → pairs_from table (others i running) (others i (x ∷ es)) j k ≡ pairs_from table running (x ∷ es) j k
       by true is rest =
-          ap (λ ys. arrows_from table (others i running) ys j k) (drop_head i x es is) ∙ rest
-          ∙ sym (ap (λ b. (b && list_any (λ y. nat_eq y.process k && conflict table x y) (es ++ running)) || arrows_from table running es j k) (apart x.process i j is from))
+          let none = other_by table j k x (es ++ running) (apart x.process i j is from) in
+          ap (λ ys. pairs_from table (others i running) ys j k) (drop_head i x es is) ∙ (omega (arith, none, rest))
       by false is rest =
-          ap (λ ys. arrows_from table (others i running) ys j k) (keep_head i x es is)
-          ∙ ap (λ b. b || arrows_from table (others i running) (others i es) j k) (arrows_by_others x es running j k to)
-          ∙ ap (arrows_by table x (es ++ running) j k ||◌) rest
+          let head : pairs_by table x (others i es ++ others i running) j k ≡ pairs_by table x (es ++ running) j k =
+          ap (λ ys. pairs_by table x ys j k) (sym (filter-append (λ (e : Entry). not (nat_eq e.process i)) es running)) ∙ pairs_by_others x (es ++ running) in
+          ap (λ ys. pairs_from table (others i running) ys j k) (keep_head i x es is) ∙ (omega (arith, head, rest))
 
 -- what is under way in a process is its own
-abbrev IsOwn : OpenProcess → Type 0
+abbrev pub IsOwn : OpenProcess → Type 0
 IsOwn r = IfSome r.running (λ e. e.process ≡ r.process)
 
 own_step : (i : ℕ) (n : ℕ) (o : Option Entry) → IfSome o (λ e. e.process ≡ n) → nat_eq n i ≡ true → others i (step_of o) ≡ []
@@ -112,7 +108,7 @@ own_running : (table : Table) (es : List Entry) (r : OpenProcess) (o : Option En
 own_running table es r None is = tt
 own_running table es r (Some e) is = is.0
 
-all_own : (t : Tables) → AreTidy t → Each IsOwn t.processes
+pub all_own : (t : Tables) → AreTidy t → Each IsOwn t.processes
 all_own t tidy = each_entry t.processes (λ (r : OpenProcess) is. own_running t.conflicts (of_process r.process t.net) r r.running is.running) tidy.tidy
 
 -- a process that isn't there is not dropped
@@ -179,7 +175,7 @@ place_was i j (r ∷ rows) once has other = by (nat_eq r.process i) refl (place_
         ∙ kept (nat_eq r.process j) refl (rest (subst (λ b. (b || has_number i rows) ≡ true) is has) other)
 
 -- and a row of marks less for it
-pub rows_left : (i : ℕ) (rows : List OpenProcess) (old new : List (List Bool)) → are_numbered rows ≡ true → has_number i rows ≡ true → AreRows rows old → length new + 1 ≡ length old
+pub rows_left : {A : Type 0} (i : ℕ) (rows : List OpenProcess) (old new : List A) → are_numbered rows ≡ true → has_number i rows ≡ true → AreRows rows old → length new + 1 ≡ length old
     → AreRows (other_processes i rows) new
 rows_left i rows old new once has were count =
     let less = one_less_row i rows once has in
@@ -187,11 +183,17 @@ rows_left i rows old new once has were count =
     let few = were.1 in
     (omega (arith, less, same, count), omega (arith, less, few))
 
--- the arrows among the others stay
+-- the pairs among the others stay
+pub pairs_left : (i : ℕ) (table : Table) (net : List Entry) (rows : List OpenProcess) → AreTidy (tables table net rows) → (j k : ℕ) → nat_eq j i ≡ false → nat_eq k i ≡ false
+    → pairs_in (tables table (others i net) (other_processes i rows)) j k ≡ pairs_in (tables table net rows) j k
+pairs_left i table net rows tidy j k from to =
+    ap (λ es. pairs_from (do_conflict table) es (others i net) j k) (steps_others i rows (all_own (tables table net rows) tidy)) ∙ pairs_others (do_conflict table) i j k to from (steps_under_way rows) net
+
+-- and so do the arrows
 pub arrows_left : (i : ℕ) (table : Table) (net : List Entry) (rows : List OpenProcess) → AreTidy (tables table net rows) → (j k : ℕ) → nat_eq j i ≡ false → nat_eq k i ≡ false
     → arrows_in (tables table (others i net) (other_processes i rows)) j k ≡ arrows_in (tables table net rows) j k
 arrows_left i table net rows tidy j k from to =
-    ap (λ es. arrows_from (do_conflict table) es (others i net) j k) (steps_others i rows (all_own (tables table net rows) tidy)) ∙ arrows_others (do_conflict table) i (steps_under_way rows) net j k from to
+    sym (arrow_counted (tables table (others i net) (other_processes i rows)) j k) ∙ ap (nat_lt 0) (pairs_left i table net rows tidy j k from to) ∙ arrow_counted (tables table net rows) j k
 
 -- process i is none of the others
 pub is_other : (i k : ℕ) (rows : List OpenProcess) → has_number k (other_processes i rows) ≡ true → nat_eq k i ≡ false
@@ -201,24 +203,24 @@ is_other i k rows there = by (nat_eq k i) refl
     by true is = absurd (false≢true (sym (not_among i rows) ∙ ap (λ n. has_number n (other_processes i rows)) (sym (eqb-true k i is)) ∙ there))
     by false is = is
 
--- so marks of all arrows, without the place of process i, tell those among the others
-pub dropped_arrows : (i : ℕ) (table : Table) (net : List Entry) (rows : List OpenProcess) (old new : List (List Bool)) → AreTidy (tables table net rows) → has_number i rows ≡ true
-    → TellArrows (tables table net rows) old → IsPlaceTaken (place_of i rows) old new → length new + 1 ≡ length old → TellArrows (tables table (others i net) (other_processes i rows)) new
-dropped_arrows i table net rows old new tidy has tells taken count = record {
+-- so counts of all pairs, without the place of process i, tell those among the others
+pub dropped_counts : (i : ℕ) (table : Table) (net : List Entry) (rows : List OpenProcess) (old new : List (List ℕ)) → AreTidy (tables table net rows) → has_number i rows ≡ true
+    → TellCounts (tables table net rows) old → IsPlaceTaken 0 (place_of i rows) old new → length new + 1 ≡ length old → TellCounts (tables table (others i net) (other_processes i rows)) new
+dropped_counts i table net rows old new tidy has tells taken count = record {
   rows = rows_left i rows old new tidy.numbered has tells.rows count;
   tell = λ j k here there.
       let from = is_other i j rows here in
       let to = is_other i k rows there in
       taken (place_of j (other_processes i rows)) (place_of k (other_processes i rows))
-      ∙ ap (λ a. cell old a (place_before (place_of i rows) (place_of k (other_processes i rows)))) (place_was i j rows tidy.numbered has from)
-      ∙ ap (cell old (place_of j rows)) (place_was i k rows tidy.numbered has to)
+      ∙ ap (λ a. count_at old a (place_before (place_of i rows) (place_of k (other_processes i rows)))) (place_was i j rows tidy.numbered has from)
+      ∙ ap (count_at old (place_of j rows)) (place_was i k rows tidy.numbered has to)
       ∙ tells.tell j k (sym (number_of_others i j rows from) ∙ here) (sym (number_of_others i k rows to) ∙ there)
-      ∙ sym (arrows_left i table net rows tidy j k from to);
+      ∙ sym (pairs_left i table net rows tidy j k from to);
 }
 
 module _ (i : ℕ) (table : Table) (net : List Entry) (rows : List OpenProcess) (old new : List (List Bool)) (tidy_was : AreTidy (tables table net rows))
     (tidy_now : AreTidy (tables table (others i net) (other_processes i rows))) (has : has_number i rows ≡ true) (tells : TellWalks (tables table net rows) old)
-    (taken : IsPlaceTaken (place_of i rows) old new) (none : leads_through old (place_of i rows) ≡ false) where
+    (taken : IsPlaceTaken false (place_of i rows) old new) (none : leads_through old (place_of i rows) ≡ false) where
   abbrev was : Tables
   was = tables table net rows
 

@@ -46,6 +46,7 @@ tidy_step table es r e forward under tidy =
       running = tt;
       reserved = tidy.reserved;
       fits = tidy.fits;
+      small = tidy.small;
     }
 
 -- an undo that comes under way is of an entry more than are fixed
@@ -68,6 +69,7 @@ tidy_undo table es r e undo under tidy =
       running = tt;
       reserved = tidy.reserved;
       fits = tidy.fits;
+      small = tidy.small;
     }
 
 keeps : KeepsPlan (with_running None)
@@ -172,6 +174,7 @@ tidy_fixed table es r forward tidy = record {
   running = fixed_running table es r (length es) r.running forward tidy.running;
   reserved = tidy.reserved;
   fits = tidy.fits;
+  small = tidy.small;
 }
 
 -- a process has no more entries than steps

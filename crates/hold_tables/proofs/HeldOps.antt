@@ -17,7 +17,8 @@ use Rattle.hold_tables.specs.Changes.{can_come, has_entry, without_last}
 use Rattle.hold_tables.specs.Kept.{AreKnown, AreTidy, IsKnown, IsTidy}
 use Rattle.hold_tables.specs.Operations.{AddsOps, AreKnownOps, CoverOps, IsClearOf, KeepOps, TellOps, all_beside, has_pending, has_slot, is_conflict, may_conflict, may_hold, ops_beside, ops_of, slot_of}
 use Rattle.hold_tables.specs.Walks.{conflicts_with}
-use Rattle.hold_tables.proofs.Marks.{neither_of, none_marked, one_marked}
+use Rattle.hold_tables.proofs.Cells.{none_in_row}
+use Rattle.hold_tables.proofs.Marks.{neither_of, one_marked}
 
 or_none : (a : Bool) → (a || false) ≡ a
 or_none true = refl
@@ -72,7 +73,7 @@ no_entries (e ∷ es) marks none = absurd (omega (arith, none))
 
 -- what is added to no marks is all that is marked
 pub told_fresh : (ops : List ℕ) (n : ℕ) (new : List Bool) → AddsOps ops (replicate n false) new → TellOps ops new
-told_fresh ops n new adds k less = adds k less ∙ ap (has_slot k ops ||◌) (none_marked n k) ∙ or_none (has_slot k ops)
+told_fresh ops n new adds k less = adds k less ∙ ap (has_slot k ops ||◌) (none_in_row false n k) ∙ or_none (has_slot k ops)
 
 ops-append : (xs ys : List Entry) → ops_of (xs ++ ys) ≡ ops_of xs ++ ops_of ys
 ops-append [] ys = refl

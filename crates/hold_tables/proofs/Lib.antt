@@ -9,6 +9,7 @@ pub mod Opening
 pub mod Least
 pub mod Standing
 pub mod Reaching
+pub mod Cells
 pub mod Marks
 pub mod HeldOps
 pub mod Extended
@@ -21,7 +22,8 @@ pub mod WalkEnds
 pub mod OpenedWalks
 pub mod DroppedWalks
 pub mod Closed
-pub mod MarkedArrows
-pub mod GraphTold
+pub mod Pairs
+pub mod PairBounds
+pub mod Counted
+pub mod LastPairs
 pub mod GraphStays
-pub mod LastLeads

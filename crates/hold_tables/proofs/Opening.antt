@@ -1,5 +1,5 @@
 -- A process opens, and a process is dropped: the tables stand.
-use Rattle.std.proofs.Common.{◌≡◌, ℕ, ◌+◌, ◌≤◌, Bool, true, false, not, ◌||◌, List, [], ◌∷◌, ◌++◌, length, sym, refl, ap, ◌∙◌, subst, arith}
+use Rattle.std.proofs.Common.{◌≡◌, ℕ, ◌+◌, ◌≤◌, ◌<◌, Bool, true, false, not, ◌||◌, List, [], ◌∷◌, ◌++◌, length, sym, refl, ap, ◌∙◌, subst, arith}
 use Rattle.std.specs.Prelude.{nat_eq, filter, if◌then◌else◌}
 use Rattle.std.specs.List.{IsDistinct}
 use Rattle.std.proofs.lemmas.Bool.{eqb-true, eqb-false, ne_eqb, not-true, or_left}
@@ -53,9 +53,9 @@ none_of_closed i rows (e ∷ net) closed each = by (nat_eq e.process i) refl (no
     by true is rest = absurd (let no : false ≡ true = sym closed ∙ subst (λ k. has_number k rows ≡ true) (eqb-true e.process i is) each.0 in cc)
     by false is rest = rw is rest
 
-tidy_nothing : (table : Table) (i steps : ℕ) → IsTidyAmong table [] (holds_nothing i steps)
+tidy_nothing : (table : Table) (i steps : ℕ) → steps < 65536 → IsTidyAmong table [] (holds_nothing i steps)
 unfolding IsDistinct
-tidy_nothing table i steps = record { within = tt; once = tt; fixed = omega arith; running = tt; reserved = tt; fits = omega arith }
+tidy_nothing table i steps small = record { within = tt; once = tt; fixed = omega arith; running = tt; reserved = tt; fits = omega arith; small = small }
 
 room_more : (net : List Entry) (rows : List OpenProcess) (r : OpenProcess) → room_for_all net (rows ++ r ∷ []) ≡ room_for_all net rows + room_for net r
 room_more net [] r = omega arith
@@ -66,9 +66,9 @@ room_at_most net [] = omega arith
 room_at_most net (r ∷ rows) = let rest = room_at_most net rows in omega (arith, rest)
 
 -- a process opens where the net has room for all steps
-pub open_stands : (i steps : ℕ) (table : Table) (net : List Entry) (rows : List OpenProcess) (capacity after : ℕ) → has_number i rows ≡ false
+pub open_stands : (i steps : ℕ) (table : Table) (net : List Entry) (rows : List OpenProcess) (capacity after : ℕ) → has_number i rows ≡ false → steps < 65536
     → length net + (all_steps rows + steps) ≤ after → Stands table net rows capacity → Stands table net (rows ++ holds_nothing i steps ∷ []) after
-open_stands i steps table net rows capacity after closed room (tidy, was) =
+open_stands i steps table net rows capacity after closed small room (tidy, was) =
     let new = holds_nothing i steps in
     let more = room_more net rows new in
     let most = room_at_most net rows in
@@ -77,7 +77,7 @@ open_stands i steps table net rows capacity after closed room (tidy, was) =
         numbered = numbered_more rows new closed tidy.numbered;
         of_open = each_entry net (λ e is. number_more e.process rows new ∙ or_left (has_number e.process rows) (nat_eq i e.process) is) tidy.of_open;
         known = tidy.known;
-        tidy = each_more (IsTidy table net) rows new tidy.tidy (subst (λ es. IsTidyAmong table es new) (sym own) (tidy_nothing table i steps));
+        tidy = each_more (IsTidy table net) rows new tidy.tidy (subst (λ es. IsTidyAmong table es new) (sym own) (tidy_nothing table i steps small));
       },
       omega (arith, more, most, room),
     )

@@ -25,8 +25,8 @@ abbrev pub are_numbered : List OpenProcess → Bool
 are_numbered [] = true
 are_numbered (r ∷ rows) = not (has_number r.process rows) && are_numbered rows
 
--- a process with these net entries: each is of a step of its plan, no step stands twice, as many as are fixed are there, what is
--- under way is its own and may be, and the table has each operation
+-- a process with these net entries: each is of a step of its plan, which has few enough, no step stands twice, as many as are
+-- fixed are there, what is under way is its own and may be, and the table has each operation
 pub record IsTidyAmong (table : Table) (es : List Entry) (r : OpenProcess) : Type 0 where
   pub within : Each (λ e. e.step < r.steps) es
   pub once : IsDistinct nat_eq (steps_of es)
@@ -34,6 +34,7 @@ pub record IsTidyAmong (table : Table) (es : List Entry) (r : OpenProcess) : Typ
   pub running : IfSome r.running (λ e. (e.process ≡ r.process) × (can_come es r e ≡ true) × IsKnown table e)
   pub reserved : AreKnown table r.reserved
   pub fits : length r.reserved ≤ r.steps
+  pub small : r.steps < 65536
 
 -- the same among the net entries of all
 abbrev pub IsTidy : Table → List Entry → OpenProcess → Type 0

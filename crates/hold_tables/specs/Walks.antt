@@ -1,6 +1,6 @@
 -- Walks: what is kept of where walks of the conflict graph lead.
-use Rattle.std.specs.Prelude.{◌≡◌, ◌≤◌, ◌<◌, ◌+◌, nat_lt, ℕ, Bool, true, false, not, ◌&&◌, ◌||◌, List, [], ◌∷◌, ◌++◌, length}
-use Rattle.std.specs.Prelude.{filter, flat_map, nat_eq, slice_index_or, IfSome, if◌then◌else◌, Option, Some, None}
+use Rattle.std.specs.Prelude.{◌≡◌, ◌≤◌, ◌<◌, ℕ, Bool, true, false, not, ◌&&◌, ◌||◌, List, [], ◌∷◌, ◌++◌, length}
+use Rattle.std.specs.Prelude.{filter, flat_map, nat_eq, slice_index_or, IfSome, Option}
 use Rattle.std.specs.List.{list_any}
 use Rattle.std.specs.Option.{option_to_list}
 use Rattle.process_tree.specs.declared.entry.Entry.{Entry}
@@ -9,13 +9,13 @@ use Rattle.schedule_model.specs.Conflict.{ConflictRelation, conflict}
 use Rattle.schedule_model.specs.Graph.{Arrow}
 use Rattle.schedule_model.specs.Holdings.{reaches}
 use Rattle.hold_tables.specs.Tables.{Tables, OpenProcess, has_number, holdings_of, is_open, running_of}
-use Rattle.hold_tables.specs.Changes.{has_entry}
+use Rattle.hold_tables.specs.Cells.{cell_or}
 use Rattle.hold_tables.specs.Kept.{IsKnown, are_numbered}
 use Rattle.hold_tables.specs.Places.{place_of}
 
 -- rows of marks: whether the row at place a has a mark at place b
 abbrev pub cell : List (List Bool) → ℕ → ℕ → Bool
-cell marks a b = slice_index_or (slice_index_or marks a []) b false
+cell marks a b = cell_or false marks a b
 
 -- a place is this one, or is marked
 abbrev pub is_or : Bool → ℕ → ℕ → Bool
@@ -27,22 +27,6 @@ IsJoined a b old new =
     (length new ≡ length old)
     × ((c d : ℕ) → c < length old → d < 256 → cell new c d
     ≡ (cell old c d || (is_or (cell old c a) c a && is_or (cell old b d) d b)))
-
--- the marks of place p are taken away in each row
-abbrev pub IsUnmarked : ℕ → List (List Bool) → List (List Bool) → Type 0
-IsUnmarked p old new = (a b : ℕ) → cell new a b ≡ (not (nat_eq b p) && cell old a b)
-
--- the place that stood at place b before place p was taken out
-abbrev pub place_before : ℕ → ℕ → ℕ
-place_before p b = if nat_lt b p then b else b + 1
-
--- the marks of place p are taken out of each row, and those behind them move up
-abbrev pub IsTakenOut : ℕ → List (List Bool) → List (List Bool) → Type 0
-IsTakenOut p old new = (a b : ℕ) → cell new a b ≡ cell old a (place_before p b)
-
--- place p is taken out, and those behind it move up
-abbrev pub IsPlaceTaken : ℕ → List (List Bool) → List (List Bool) → Type 0
-IsPlaceTaken p old new = (a b : ℕ) → cell new a b ≡ cell old (place_before p a) (place_before p b)
 
 -- whether the marks tell of a walk from place p and of one to it
 abbrev pub leads_through : List (List Bool) → ℕ → Bool
@@ -99,24 +83,6 @@ conflicts_with table es e = list_any (conflict table e) es
 abbrev pub step_has_arrows : ConflictRelation → List Entry → Option Entry → Bool
 step_has_arrows table net running = list_any (conflicts_with table net) (step_of running)
 
--- whether an entry conflicts with a net entry or with one of these under way: then it makes an arrow in the net
-abbrev pub has_arrows : ConflictRelation → List Entry → List Entry → Entry → Bool
-has_arrows table running net e = conflicts_with table net e || conflicts_with table running e
-
--- whether this entry, if there is one, makes an arrow in the net
-abbrev pub one_has_arrows : ConflictRelation → List Entry → List Entry → Option Entry → Bool
-one_has_arrows table running net entry = list_any (has_arrows table running net) (option_to_list entry)
-
--- the last entry of process i
-abbrev pub last_of : ℕ → List Entry → Option Entry
-last_of i [] = None
-last_of i (e ∷ es) = if nat_eq e.process i && not (has_entry i es) then Some e else last_of i es
-
--- the entry that comes into the net or goes from it as this takes effect in process i: a step, or the last one of its process
--- where it is an undo
-abbrev pub entry_settled : ℕ → Entry → List Entry → Option Entry
-entry_settled i e net = if e.undo then last_of i net else Some e
-
 -- an entry of one of these processes, and of an operation of the table
 abbrev pub IsPlaced : Table → List OpenProcess → Entry → Type 0
 IsPlaced table rows e = IsKnown table e × (has_number e.process rows ≡ true)
@@ -126,11 +92,11 @@ abbrev pub IsPlacedIf : Table → List OpenProcess → Option Entry → Type 0
 IsPlacedIf table rows running = IfSome running (IsPlaced table rows)
 
 -- there is a row for each of these processes, of which there are few enough
-abbrev pub AreRows : List OpenProcess → List (List Bool) → Type 0
+abbrev pub AreRows : {A : Type 0} → List OpenProcess → List A → Type 0
 AreRows rows marks = (length marks ≡ length rows) × (length rows ≤ 256)
 
 -- and no number stands twice
-abbrev pub AreDistinctRows : List OpenProcess → List (List Bool) → Type 0
+abbrev pub AreDistinctRows : {A : Type 0} → List OpenProcess → List A → Type 0
 AreDistinctRows rows marks = (length marks ≡ length rows) × (length rows ≤ 256) × (are_numbered rows ≡ true)
 
 -- the marks tell where walks of the conflict graph lead

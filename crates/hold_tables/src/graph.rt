@@ -1,23 +1,22 @@
-// The conflict graph of the open processes, by their places: its arrows, and where its walks lead.
-ghost use Rattle.std.specs.Prelude.{◌≡◌, ◌<◌, ◌≤◌, ◌+◌, ◌||◌, ◌&&◌, ◌∷◌, [], ℕ, length, false, true, nat_eq, slice_index_or};
-ghost use Rattle.std.specs.Prelude.{vec_capacity, vec_len};
+// The conflict graph of the open processes, by their places: the pairs that make its arrows, and where its walks lead.
+ghost use Rattle.std.specs.Prelude.{◌≡◌, ◌<◌, ◌≤◌, ℕ, length, false, true, nat_lt, slice_index_or};
 ghost use Rattle.process_tree.specs.Conflicts.{do_conflict};
-ghost use Rattle.process_tree.specs.Order.{Each};
-ghost use Rattle.hold_tables.specs.Tables.{has_number};
-ghost use Rattle.hold_tables.specs.Kept.{AreTidy, IsKnown, IsKnownRunning};
-ghost use Rattle.hold_tables.specs.Walks.{AreRows, IsPlaced, TellWalks, TellWalksBut, arrows_by, arrows_to, steps_under_way};
-ghost use Rattle.hold_tables.specs.Arrows.{IsClosed, IsPassed, TellArrows, TellArrowsBut, TellArrowsPast, TellGraph, TellGraphBut};
+ghost use Rattle.hold_tables.specs.Kept.{AreTidy};
+ghost use Rattle.hold_tables.specs.Counts.{TellCounts, TellCountsBut, arrow_at, pairs_by, pairs_to};
+ghost use Rattle.hold_tables.specs.Walks.{AreRows, IsPlaced, TellWalks, TellWalksBut, arrows_by, arrows_to, cell, steps_under_way};
+ghost use Rattle.hold_tables.specs.Arrows.{AreMarked, IsClosed, IsPassed, TellGraph, TellGraphBut};
 
+use crate::counting::{Counts, count_steps, count_to};
 use crate::extending::follow_to;
-use crate::marking::{mark_anew, mark_steps, mark_to};
+use crate::place_rows::MOST;
 use crate::reach::{Marks, add, follow_steps};
 use crate::row::Row;
 use process_tree::{Conflicts, Entry};
 
-/// A row of marks for each place: the arrows from it, and the places to which a walk of one or more arrows leads.
+/// A row for each place: how many pairs of entries make the arrow from it to each, and to which a walk of one or more arrows leads.
 #[derive(Drop)]
 pub struct Graph {
-    pub arrows: Vec<Marks>,
+    pub counts: Vec<Counts>,
     pub walks: Vec<Marks>,
 }
 
@@ -38,55 +37,69 @@ fn pass(walks: &mut [Marks], place: usize)
 /// Marks where walks lead, where the arrows are marked.
 fn close(walks: &mut [Marks])
     requires few { length walks.old ≤ 256 }
-    ensures { IsClosed walks.old walks.new }
+    ensures { IsClosed (length walks.old) (cell walks.old) walks.new }
 {
     for place in 0..walks.len() {
         pass(walks, place);
     }
 }
 
-/// The same of the marks that are kept.
-fn close_walks(walks: &mut Vec<Marks>, arrows: &[Marks])
-    requires count { length walks.old.items ≡ length arrows.now }
-    requires few { length arrows.now ≤ 256 }
-    ensures { IsClosed arrows.now walks.new.items }
+/// Marks the arrows of a place: the places for which it counts pairs.
+fn mark_row(row: &mut Marks, counts: &Counts)
+    ensures { (b : ℕ) → b < 256 → slice_index_or row.new b false ≡ nat_lt 0 (slice_index_or counts.now b 0) }
 {
-    walks.copy_from_slice(arrows);
-    close(walks);
-}
-
-/// Finds anew where walks lead if arrows went: else the marks stay.
-pub fn close_if(
-    changed: bool,
-    graph: &mut Graph,
-    conflicts: &Conflicts,
-    rows: &[Row],
-    net: &[Entry],
-)
-    requires tidy { AreTidy (record { conflicts = conflicts.now; net = net.now; processes = rows.now }) }
-    requires arrows { TellArrows (record { conflicts = conflicts.now; net = net.now; processes = rows.now }) graph.old.arrows.items }
-    requires rows { AreRows rows.now graph.old.walks.items }
-    requires same { changed ≡ false → TellWalks
-        (record { conflicts = conflicts.now; net = net.now; processes = rows.now }) graph.old.walks.items }
-    ensures tell { TellGraph (record { conflicts = conflicts.now; net = net.now; processes = rows.now }) graph.new }
-{
-    if changed {
-        close_walks(&mut graph.walks, &graph.arrows);
+    for place in 0..MOST {
+        row[place] = counts[place] > 0;
     }
 }
 
-/// Marks the arrows to a step that came under way, which were left out.
-fn mark_run(arrows: &mut Vec<Marks>, conflicts: &Conflicts, rows: &[Row], net: &[Entry], e: Entry)
-    requires tidy { AreTidy (record { conflicts = conflicts.now; net = net.now; processes = rows.now }) }
-    requires placed { IsPlaced conflicts.now rows.now e }
-    requires but { TellArrowsBut (record { conflicts = conflicts.now; net = net.now; processes = rows.now })
-        (arrows_to (do_conflict conflicts.now) net.now e) arrows.old.items }
-    ensures tell { TellArrows (record { conflicts = conflicts.now; net = net.now; processes = rows.now }) arrows.new.items }
+/// The same of each place.
+fn mark_arrows(walks: &mut [Marks], counts: &[Counts])
+    requires count { length walks.old ≡ length counts.now }
+    ensures { AreMarked counts.now walks.new }
 {
-    mark_to(arrows, conflicts, rows, net, e);
+    for place in 0..walks.len() {
+        mark_row(&mut walks[place], &counts[place]);
+    }
 }
 
-/// Adds them to where walks lead.
+/// Marks where walks lead, by the arrows for which pairs are counted.
+fn close_walks(walks: &mut Vec<Marks>, counts: &[Counts])
+    requires count { length walks.old.items ≡ length counts.now }
+    requires few { length counts.now ≤ 256 }
+    ensures { IsClosed (length counts.now) (arrow_at counts.now) walks.new.items }
+{
+    mark_arrows(walks, counts);
+    close(walks);
+}
+
+/// Finds anew where walks lead if arrows are gone: else the marks stay.
+pub fn close_if(gone: bool, graph: &mut Graph, conflicts: &Conflicts, rows: &[Row], net: &[Entry])
+    requires tidy { AreTidy (record { conflicts = conflicts.now; net = net.now; processes = rows.now }) }
+    requires counts { TellCounts
+        (record { conflicts = conflicts.now; net = net.now; processes = rows.now }) graph.old.counts.items }
+    requires rows { AreRows rows.now graph.old.walks.items }
+    requires same { gone ≡ false → TellWalks
+        (record { conflicts = conflicts.now; net = net.now; processes = rows.now }) graph.old.walks.items }
+    ensures tell { TellGraph (record { conflicts = conflicts.now; net = net.now; processes = rows.now }) graph.new }
+{
+    if gone {
+        close_walks(&mut graph.walks, &graph.counts);
+    }
+}
+
+/// Counts the pairs with a step that came under way, which were left out.
+fn count_run(counts: &mut Vec<Counts>, conflicts: &Conflicts, rows: &[Row], net: &[Entry], e: Entry)
+    requires tidy { AreTidy (record { conflicts = conflicts.now; net = net.now; processes = rows.now }) }
+    requires placed { IsPlaced conflicts.now rows.now e }
+    requires but { TellCountsBut (record { conflicts = conflicts.now; net = net.now; processes = rows.now })
+        (pairs_to (do_conflict conflicts.now) net.now e) counts.old.items }
+    ensures tell { TellCounts (record { conflicts = conflicts.now; net = net.now; processes = rows.now }) counts.new.items }
+{
+    count_to(counts, conflicts, rows, net, e);
+}
+
+/// Adds the arrows to it to where walks lead.
 fn follow_run(walks: &mut Vec<Marks>, conflicts: &Conflicts, rows: &[Row], net: &[Entry], e: Entry)
     requires tidy { AreTidy (record { conflicts = conflicts.now; net = net.now; processes = rows.now }) }
     requires rows { AreRows rows.now walks.old.items }
@@ -98,7 +111,7 @@ fn follow_run(walks: &mut Vec<Marks>, conflicts: &Conflicts, rows: &[Row], net: 
     follow_to(walks, conflicts, rows, net, e);
 }
 
-/// What is kept once this is under way, if it makes an arrow.
+/// What is kept once this is under way, if it makes arrows.
 pub fn tell_run(
     changed: bool,
     graph: &mut Graph,
@@ -111,29 +124,35 @@ pub fn tell_run(
     requires rows { AreRows rows.now graph.old.walks.items }
     requires placed { IsPlaced conflicts.now rows.now e }
     requires more { changed ≡ true → TellGraphBut (record { conflicts = conflicts.now; net = net.now; processes = rows.now })
-        (arrows_to (do_conflict conflicts.now) net.now e) graph.old }
+        (pairs_to (do_conflict conflicts.now) net.now e) (arrows_to (do_conflict conflicts.now) net.now e) graph.old }
     requires same { changed ≡ false → TellGraph
         (record { conflicts = conflicts.now; net = net.now; processes = rows.now }) graph.old }
     ensures tell { TellGraph (record { conflicts = conflicts.now; net = net.now; processes = rows.now }) graph.new }
 {
     if changed {
-        mark_run(&mut graph.arrows, conflicts, rows, net, e);
+        count_run(&mut graph.counts, conflicts, rows, net, e);
         follow_run(&mut graph.walks, conflicts, rows, net, e);
     }
 }
 
-/// Marks the arrows from a step that took effect to those that are under way, which were left out.
-fn mark_done(arrows: &mut Vec<Marks>, conflicts: &Conflicts, rows: &[Row], net: &[Entry], e: Entry)
+/// Counts the pairs of a step that took effect with those that are under way, which were left out.
+fn count_done(
+    counts: &mut Vec<Counts>,
+    conflicts: &Conflicts,
+    rows: &[Row],
+    net: &[Entry],
+    e: Entry,
+)
     requires tidy { AreTidy (record { conflicts = conflicts.now; net = net.now; processes = rows.now }) }
     requires placed { IsPlaced conflicts.now rows.now e }
-    requires but { TellArrowsBut (record { conflicts = conflicts.now; net = net.now; processes = rows.now })
-        (arrows_by (do_conflict conflicts.now) e (steps_under_way rows.now)) arrows.old.items }
-    ensures tell { TellArrows (record { conflicts = conflicts.now; net = net.now; processes = rows.now }) arrows.new.items }
+    requires but { TellCountsBut (record { conflicts = conflicts.now; net = net.now; processes = rows.now })
+        (pairs_by (do_conflict conflicts.now) e (steps_under_way rows.now)) counts.old.items }
+    ensures tell { TellCounts (record { conflicts = conflicts.now; net = net.now; processes = rows.now }) counts.new.items }
 {
-    mark_steps(arrows, conflicts, rows, e);
+    count_steps(counts, conflicts, rows, e);
 }
 
-/// Adds them to where walks lead.
+/// Adds the arrows from it to where walks lead.
 fn follow_done(walks: &mut Vec<Marks>, conflicts: &Conflicts, rows: &[Row], net: &[Entry], e: Entry)
     requires tidy { AreTidy (record { conflicts = conflicts.now; net = net.now; processes = rows.now }) }
     requires rows { AreRows rows.now walks.old.items }
@@ -151,71 +170,10 @@ pub fn tell_step(graph: &mut Graph, conflicts: &Conflicts, rows: &[Row], net: &[
     requires rows { AreRows rows.now graph.old.walks.items }
     requires placed { IsPlaced conflicts.now rows.now e }
     requires more { TellGraphBut (record { conflicts = conflicts.now; net = net.now; processes = rows.now })
+        (pairs_by (do_conflict conflicts.now) e (steps_under_way rows.now))
         (arrows_by (do_conflict conflicts.now) e (steps_under_way rows.now)) graph.old }
     ensures tell { TellGraph (record { conflicts = conflicts.now; net = net.now; processes = rows.now }) graph.new }
 {
-    mark_done(&mut graph.arrows, conflicts, rows, net, e);
+    count_done(&mut graph.counts, conflicts, rows, net, e);
     follow_done(&mut graph.walks, conflicts, rows, net, e);
-}
-
-/// Marks the arrows to each process anew.
-fn mark_all_anew(arrows: &mut [Marks], conflicts: &Conflicts, rows: &[Row], net: &[Entry])
-    requires tidy { AreTidy (record { conflicts = conflicts.now; net = net.now; processes = rows.now }) }
-    requires rows { AreRows rows.now arrows.old }
-    ensures { TellArrows (record { conflicts = conflicts.now; net = net.now; processes = rows.now }) arrows.new }
-{
-    let mut rest = rows;
-    'rows: while let Some((row, after)) = rest.split_first() {
-        mark_anew(arrows, conflicts, rows, net, row.process());
-        rest = after;
-    }
-}
-
-/// Marks the arrows to a process anew; and those to all, if an entry that went had arrows to others.
-fn mark_gone(
-    leads: bool,
-    arrows: &mut Vec<Marks>,
-    conflicts: &Conflicts,
-    rows: &[Row],
-    net: &[Entry],
-    process: u32,
-)
-    requires tidy { AreTidy (record { conflicts = conflicts.now; net = net.now; processes = rows.now }) }
-    requires open { has_number process rows.now ≡ true }
-    requires rows { AreRows rows.now arrows.old.items }
-    requires past { leads ≡ false
-        → TellArrowsPast (record { conflicts = conflicts.now; net = net.now; processes = rows.now }) process arrows.old.items }
-    ensures { TellArrows (record { conflicts = conflicts.now; net = net.now; processes = rows.now }) arrows.new.items }
-{
-    if leads {
-        mark_all_anew(arrows, conflicts, rows, net);
-    } else {
-        mark_anew(arrows, conflicts, rows, net, process);
-    }
-}
-
-/// What is kept once an entry of a process went, if it had arrows, and if some of them led to others.
-pub fn tell_gone(
-    changed: bool,
-    leads: bool,
-    graph: &mut Graph,
-    conflicts: &Conflicts,
-    rows: &[Row],
-    net: &[Entry],
-    process: u32,
-)
-    requires tidy { AreTidy (record { conflicts = conflicts.now; net = net.now; processes = rows.now }) }
-    requires open { has_number process rows.now ≡ true }
-    requires arrow_rows { AreRows rows.now graph.old.arrows.items }
-    requires walk_rows { AreRows rows.now graph.old.walks.items }
-    requires past { changed ≡ true → leads ≡ false → TellArrowsPast
-        (record { conflicts = conflicts.now; net = net.now; processes = rows.now }) process graph.old.arrows.items }
-    requires same { changed ≡ false → TellGraph
-        (record { conflicts = conflicts.now; net = net.now; processes = rows.now }) graph.old }
-    ensures tell { TellGraph (record { conflicts = conflicts.now; net = net.now; processes = rows.now }) graph.new }
-{
-    if changed {
-        mark_gone(leads, &mut graph.arrows, conflicts, rows, net, process);
-        close_walks(&mut graph.walks, &graph.arrows);
-    }
 }

@@ -18,17 +18,16 @@ ghost use Rattle.hold_tables.specs.Places.{all_steps};
 ghost use Rattle.hold_tables.specs.Spare.{IsRoomIn};
 
 use crate::against::{Sought, least_of, least_reserved, least_running};
-use crate::extending::leads_if;
-use crate::graph::{Graph, close_if, tell_gone, tell_run, tell_step};
+use crate::graph::{Graph, close_if, tell_run, tell_step};
 use crate::looking::{all_steps, count_of, least_from, place_of, remove_last};
 use crate::operations::{
     Beside, all_beside, is_clear_beside, is_clear_of, mark_op, may_hold, ops_of,
 };
-use crate::reach::{
-    MOST, Marks, add_place, effect_has_arrows, leads_through, step_has_arrows, take_place,
-};
+use crate::place_rows::{MOST, add_place, take_place};
+use crate::reach::{Marks, leads_through, step_has_arrows};
 use crate::row::Row;
 use crate::spare::Spare;
+use crate::uncounting::{uncount_last, uncount_running};
 use process_tree::{Conflicts, Entry, Plan};
 use std::alloc::{AllocError, Global};
 use std::marker::Model;
@@ -74,7 +73,7 @@ impl Holds {
             net: Vec::new(alloc),
             rows: Vec::new(alloc),
             graph: Graph {
-                arrows: Vec::new(alloc),
+                counts: Vec::new(alloc),
                 walks: Vec::new(alloc),
             },
             beside: all_beside(&[]),
@@ -117,11 +116,11 @@ impl Holds {
         let row = Row::new(process, spare.steps, spare.reserved);
         spare.net.give_to(&mut self.net);
         spare.rows.give_to(&mut self.rows);
-        spare.arrows.give_to(&mut self.graph.arrows);
+        spare.counts.give_to(&mut self.graph.counts);
         spare.walks.give_to(&mut self.graph.walks);
         self.rows.push_reserved(row);
-        add_place(&mut self.graph.arrows);
-        add_place(&mut self.graph.walks);
+        add_place(&mut self.graph.counts, 0);
+        add_place(&mut self.graph.walks, false);
         self.beside = all_beside(&self.rows);
     }
 
@@ -153,21 +152,20 @@ impl Holds {
         ensures { self.new ≡ stopped process self.old }
     {
         let at = place_of(&self.rows, process);
-        let changed = step_has_arrows(
+        let gone = uncount_running(
+            &mut self.graph.counts,
             &self.conflicts,
+            &self.rows,
             &self.net,
-            &self.in_net,
             self.rows[at].running(),
         );
         self.rows[at].run(None);
-        tell_gone(
-            changed,
-            false,
+        close_if(
+            gone,
             &mut self.graph,
             &self.conflicts,
             &self.rows,
             &self.net,
-            process,
         );
         self.beside = all_beside(&self.rows);
     }
@@ -183,7 +181,7 @@ impl Holds {
             unreachable!();
         };
         if e.undo {
-            self.undone(process, e);
+            self.undone(process);
         } else {
             self.done(process, e);
         }
@@ -205,32 +203,27 @@ impl Holds {
     }
 
     // The undo took effect that is under way in the process.
-    fn undone(&mut self, process: u32, e: Entry)
+    fn undone(&mut self, process: u32)
         requires open { is_open self.old process ≡ true }
-        requires running { (kept_of self.old process).running ≡ Some e }
-        requires undo { e.undo ≡ true }
+        requires undo { undoes (kept_of self.old process).running ≡ true }
         ensures { self.new ≡ took_effect process self.old }
     {
         let at = place_of(&self.rows, process);
-        let changed = effect_has_arrows(
+        let gone = uncount_last(
+            &mut self.graph.counts,
             &self.conflicts,
             &self.rows,
             &self.net,
-            &self.in_net,
             process,
-            e,
         );
-        let leads = leads_if(changed, &self.conflicts, &self.rows, &self.net, process);
         remove_last(&mut self.net, process);
         self.rows[at].run(None);
-        tell_gone(
-            changed,
-            leads,
+        close_if(
+            gone,
             &mut self.graph,
             &self.conflicts,
             &self.rows,
             &self.net,
-            process,
         );
         self.beside = all_beside(&self.rows);
     }
@@ -289,8 +282,8 @@ impl Holds {
         let linked = leads_through(&self.graph.walks, at);
         self.net.retain(|e| e.process != process);
         self.rows.retain(|row| row.process() != process);
-        take_place(&mut self.graph.arrows, at);
-        take_place(&mut self.graph.walks, at);
+        take_place(&mut self.graph.counts, at, 0);
+        take_place(&mut self.graph.walks, at, false);
         close_if(
             linked,
             &mut self.graph,

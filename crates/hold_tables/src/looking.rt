@@ -8,7 +8,6 @@ ghost use Rattle.hold_tables.specs.Kept.{are_numbered};
 ghost use Rattle.hold_tables.specs.Places.{place_of, last_place, all_steps};
 ghost use Rattle.hold_tables.specs.Changes.{net_after, without_last};
 ghost use Rattle.hold_tables.specs.Reading.{lesser_number, least_from};
-ghost use Rattle.hold_tables.specs.Walks.{entry_settled, last_of};
 
 use crate::row::Row;
 use process_tree::Entry;
@@ -87,27 +86,6 @@ pub fn all_steps(rows: &[Row]) -> Option<usize>
         rest = after;
     }
     Some(steps)
-}
-
-/// The last entry of the process.
-fn last_of(net: &[Entry], process: u32) -> Option<Entry>
-    ensures { result ≡ last_of process net.now }
-{
-    match last_place(net, process) {
-        Some(place) => Some(net[place]),
-        None => None,
-    }
-}
-
-/// The entry that comes into the net or goes from it as this takes effect in the process.
-pub fn entry_settled(net: &[Entry], process: u32, e: Entry) -> Option<Entry>
-    ensures { result ≡ entry_settled process e net.now }
-{
-    if e.undo {
-        last_of(net, process)
-    } else {
-        Some(e)
-    }
 }
 
 /// Takes the last entry of the process away.

@@ -1,25 +1,19 @@
 // Where walks of the conflict graph lead, by the places of the processes.
-ghost use Rattle.std.specs.Prelude.{◌≡◌, ◌<◌, ◌≤◌, ◌+◌, ◌||◌, ◌&&◌, ◌∷◌, [], ℕ, length, false, nat_eq, not, filter, slice_index_or};
-ghost use Rattle.std.specs.Prelude.{vec_capacity, vec_len};
+ghost use Rattle.std.specs.Prelude.{◌≡◌, ◌<◌, ◌≤◌, ◌||◌, ◌∷◌, [], ℕ, length, false, not, filter, slice_index_or};
 ghost use Rattle.std.specs.List.{list_any};
 ghost use Rattle.std.specs.Option.{option_to_list};
 ghost use Rattle.process_tree.specs.Conflicts.{do_conflict};
 ghost use Rattle.process_tree.specs.Order.{Each};
 ghost use Rattle.hold_tables.specs.Operations.{KeepOps, ops_of};
-ghost use Rattle.hold_tables.specs.Places.{place_of};
-ghost use Rattle.hold_tables.specs.Kept.{AreTidy, IsKnown, IsKnownRunning};
-ghost use Rattle.hold_tables.specs.Walks.{AreDistinctRows, AreRows, IsExtended, IsJoined, IsPlaced, IsPlaceTaken, IsPlacedIf};
-ghost use Rattle.hold_tables.specs.Walks.{IsTakenOut, IsUnmarked, TellWalks, arrows_by, arrows_from, cell, conflicts_with};
-ghost use Rattle.hold_tables.specs.Walks.{entry_settled, has_arrows, leads_through, one_has_arrows, place_before, step_has_arrows};
-ghost use Rattle.hold_tables.specs.Walks.{step_of, steps_under_way};
+ghost use Rattle.hold_tables.specs.Kept.{IsKnown, IsKnownRunning};
+ghost use Rattle.hold_tables.specs.Walks.{AreDistinctRows, IsExtended, IsJoined, IsPlaced, IsPlacedIf, arrows_by, conflicts_with};
+ghost use Rattle.hold_tables.specs.Walks.{leads_through, step_has_arrows, steps_under_way};
 
-use crate::looking::{entry_settled, place_of};
+use crate::looking::place_of;
 use crate::operations::is_clear_of;
+use crate::place_rows::MOST;
 use crate::row::Row;
 use process_tree::{Conflicts, Entry};
-
-/// How many processes may be open.
-pub const MOST: usize = 256;
 
 /// Which places are marked.
 pub type Marks = [bool; MOST];
@@ -149,106 +143,6 @@ pub fn step_has_arrows(
     }
 }
 
-/// Whether the entry conflicts with one of the steps that are under way.
-pub fn conflicts_with_running(conflicts: &Conflicts, rows: &[Row], e: Entry) -> bool
-    requires known { IsKnown conflicts.now e }
-    requires running { Each (λ r. IsKnownRunning conflicts.now r.running) rows.now }
-    ensures { result ≡ conflicts_with (do_conflict conflicts.now) (steps_under_way rows.now) e }
-{
-    let mut rest = rows;
-    while let [row, after @ ..] = rest {
-        if conflicts_with_step(conflicts, row.running(), e) {
-            return true;
-        }
-        rest = after;
-    }
-    false
-}
-
-/// Whether the entry conflicts with what is under way in a process, if it is a step.
-fn conflicts_with_step(conflicts: &Conflicts, running: Option<Entry>, e: Entry) -> bool
-    requires known { IsKnown conflicts.now e }
-    requires running { IsKnownRunning conflicts.now running }
-    ensures { result ≡ conflicts_with (do_conflict conflicts.now) (step_of running) e }
-{
-    match running {
-        Some(other) if !other.undo => conflicts.between(e, other),
-        _ => false,
-    }
-}
-
-/// Whether the entry conflicts with a net entry or with a step that is under way: in the net it makes an arrow.
-fn has_arrows(conflicts: &Conflicts, rows: &[Row], net: &[Entry], in_net: &Marks, e: Entry) -> bool
-    requires known { IsKnown conflicts.now e }
-    requires net { Each (IsKnown conflicts.now) net.now }
-    requires marks { KeepOps conflicts.now (ops_of net.now) in_net.now }
-    requires running { Each (λ r. IsKnownRunning conflicts.now r.running) rows.now }
-    ensures { result ≡ has_arrows (do_conflict conflicts.now) (steps_under_way rows.now) net.now e }
-{
-    conflicts_in_net(conflicts, net, in_net, e) || conflicts_with_running(conflicts, rows, e)
-}
-
-/// Whether arrows come or go as this takes effect in the process: those of a step, or of the last entry, which an undo takes away.
-pub fn effect_has_arrows(
-    conflicts: &Conflicts,
-    rows: &[Row],
-    net: &[Entry],
-    in_net: &Marks,
-    process: u32,
-    e: Entry,
-) -> bool
-    requires known { IsKnown conflicts.now e }
-    requires net { Each (IsKnown conflicts.now) net.now }
-    requires marks { KeepOps conflicts.now (ops_of net.now) in_net.now }
-    requires running { Each (λ r. IsKnownRunning conflicts.now r.running) rows.now }
-    ensures { result ≡ one_has_arrows (do_conflict conflicts.now) (steps_under_way rows.now) net.now
-        (entry_settled process e net.now) }
-{
-    match entry_settled(net, process, e) {
-        Some(settled) => has_arrows(conflicts, rows, net, in_net, settled),
-        None => false,
-    }
-}
-
-/// Takes the mark of a place away.
-fn unmark(row: &mut Marks, place: usize)
-    requires { place < 256 }
-    ensures { (b : ℕ) → slice_index_or row.new b false ≡ (not (nat_eq b place) && slice_index_or row.old b false) }
-{
-    row[place] = false;
-}
-
-/// Takes the marks of a place away in all rows.
-pub fn unmark_all(marks: &mut [Marks], place: usize)
-    requires { place < 256 }
-    ensures { IsUnmarked place marks.old marks.new }
-{
-    for row in marks.iter_mut() {
-        unmark(row, place);
-    }
-}
-
-/// The same of the marks that are kept.
-fn unmark_place(walks: &mut Vec<Marks>, place: usize)
-    requires { place < 256 }
-    ensures marks { IsUnmarked place walks.old.items walks.new.items }
-    ensures count { length walks.new.items ≡ length walks.old.items }
-    ensures capacity { vec_capacity walks.new ≡ vec_capacity walks.old }
-{
-    unmark_all(walks, place);
-}
-
-/// Adds a place to which no walk leads, and none from it.
-pub fn add_place(walks: &mut Vec<Marks>)
-    requires few { length walks.old.items < 256 }
-    requires room { vec_len walks.old < vec_capacity walks.old }
-    ensures marks { IsUnmarked (length walks.old.items) walks.old.items walks.new.items }
-    ensures count { length walks.new.items ≡ length walks.old.items + 1 }
-{
-    unmark_place(walks, walks.len());
-    walks.push_reserved([false; MOST]);
-}
-
 /// Whether one of these is marked.
 fn is_some_marked(marks: &[bool]) -> bool
     ensures { result ≡ list_any (λ mark. mark) marks.now }
@@ -285,45 +179,4 @@ pub fn leads_through(marks: &[Marks], place: usize) -> bool
     ensures { result ≡ leads_through marks.now place }
 {
     is_some_marked(&marks[place]) && is_marked_in_some(marks, place)
-}
-
-/// Takes the mark of a place out, and moves up those behind it.
-fn take_out(row: &mut Marks, place: usize)
-    requires { place < 256 }
-    ensures { (b : ℕ) → slice_index_or row.new b false ≡ slice_index_or row.old (place_before place b) false }
-{
-    for to in place..MOST - 1 {
-        row[to] = row[to + 1];
-    }
-    row[MOST - 1] = false;
-}
-
-/// The same in all rows.
-fn take_out_all(marks: &mut [Marks], place: usize)
-    requires { place < 256 }
-    ensures { IsTakenOut place marks.old marks.new }
-{
-    for row in marks.iter_mut() {
-        take_out(row, place);
-    }
-}
-
-/// The same of the marks that are kept.
-fn take_out_place(walks: &mut Vec<Marks>, place: usize)
-    requires { place < 256 }
-    ensures marks { IsTakenOut place walks.old.items walks.new.items }
-    ensures count { length walks.new.items ≡ length walks.old.items }
-{
-    take_out_all(walks, place);
-}
-
-/// Takes a place out: its row, and its mark in each other row.
-pub fn take_place(walks: &mut Vec<Marks>, place: usize)
-    requires within { place < length walks.old.items }
-    requires few { length walks.old.items ≤ 256 }
-    ensures marks { IsPlaceTaken place walks.old.items walks.new.items }
-    ensures count { length walks.new.items + 1 ≡ length walks.old.items }
-{
-    walks.remove(place);
-    take_out_place(walks, place);
 }

@@ -1,5 +1,5 @@
 // What is kept of one open process.
-ghost use Rattle.std.specs.Prelude.{◌≡◌, ◌≤◌, length, vec_capacity};
+ghost use Rattle.std.specs.Prelude.{◌≡◌, ◌≤◌, ◌<◌, length, vec_capacity};
 ghost use Rattle.hold_tables.specs.Tables.{holds_nothing};
 ghost use Rattle.hold_tables.specs.Changes.{with_running, with_fixed, with_first_reserved, with_reserved, with_pending};
 
@@ -40,7 +40,8 @@ impl Row {
     /// A process that holds nothing, with this room for reserved steps.
     pub fn new(process: u32, steps: u16, reserved: SpareCapacity<(u16, u16, u32)>) -> Row
         requires { steps ≤ reserved }
-        ensures { result ≡ holds_nothing process steps }
+        ensures row { result ≡ holds_nothing process steps }
+        ensures small { steps < 65536 }
     {
         Row {
             process,

@@ -3,6 +3,7 @@ use Rattle.std.specs.Prelude.{List, slice_set}
 use Rattle.process_tree.specs.Conflicts.{do_conflict}
 use Rattle.hold_tables.specs.Tables.{OpenProcess, Tables, has_number, kept_of, numbered}
 use Rattle.hold_tables.specs.Kept.{AreTidy, IsKnown}
+use Rattle.hold_tables.specs.Counts.{pairs_to}
 use Rattle.hold_tables.specs.Walks.{arrows_to, step_has_arrows}
 use Rattle.hold_tables.specs.Operations.{TellBeside}
 use Rattle.hold_tables.specs.Changes.{change_numbered, with_running, can_come}
@@ -16,8 +17,8 @@ use Rattle.hold_tables.proofs.holds.Holds.run.Goals as goal
 pub invariant_of-self : goal.invariant_of-self
 invariant_of-self c = (
   stood (with_running (Some c.args.e)) c.args.e.process c.self.inside.conflicts c.self.inside.net.items c.self.inside.rows.items c.place_of-at.result c.index_mut.result.now c.run.new.self c.args.self.now _ c.self.view_is c.requires.open (c.place_of-at.ensures.place ∙ ap (place_of c.args.e.process) c.deref.ensures.value) c.index_mut.ensures.value c.run.ensures (λ r. (refl, refl))
-      (λ tidy own. record { within = tidy.within; once = tidy.once; fixed = tidy.fixed; running = (sym own, subst (λ n. can_come (of_process n c.args.self.now.net) (kept_of c.args.self.now c.args.e.process) c.args.e ≡ true) (sym own) c.requires.may, c.requires.known); reserved = tidy.reserved; fits = tidy.fits }) c.self.invariant.0,
-  graph_lent c.self.inside.conflicts _ _ _ _ c.tell_run.new.graph.arrows.items c.tell_run.new.graph.walks.items c.deref-3.ensures.value c.deref-4.ensures.value c.tell_run.ensures.tell,
+      (λ tidy own. record { within = tidy.within; once = tidy.once; fixed = tidy.fixed; running = (sym own, subst (λ n. can_come (of_process n c.args.self.now.net) (kept_of c.args.self.now c.args.e.process) c.args.e ≡ true) (sym own) c.requires.may, c.requires.known); reserved = tidy.reserved; fits = tidy.fits; small = tidy.small }) c.self.invariant.0,
+  graph_lent c.self.inside.conflicts _ _ _ _ c.tell_run.new.graph.counts.items c.tell_run.new.graph.walks.items c.deref-3.ensures.value c.deref-4.ensures.value c.tell_run.ensures.tell,
   subst (λ (rs : List OpenProcess). TellBeside rs c.all_beside-self-inside.result) c.deref-5.ensures.value c.all_beside-self-inside.ensures,
   c.self.invariant.3,
 )
@@ -25,7 +26,7 @@ invariant_of-self c = (
 pub tell_run-requires-clause-tidy : goal.tell_run-requires-clause-tidy
 tell_run-requires-clause-tidy c =
     rw (c.deref-3.ensures.value, c.deref-4.ensures.value) (stood (with_running (Some c.args.e)) c.args.e.process c.self.inside.conflicts c.self.inside.net.items c.self.inside.rows.items c.place_of-at.result c.index_mut.result.now c.run.new.self c.args.self.now _ c.self.view_is c.requires.open (c.place_of-at.ensures.place ∙ ap (place_of c.args.e.process) c.deref.ensures.value) c.index_mut.ensures.value c.run.ensures (λ r. (refl, refl))
-    (λ tidy own. record { within = tidy.within; once = tidy.once; fixed = tidy.fixed; running = (sym own, subst (λ n. can_come (of_process n c.args.self.now.net) (kept_of c.args.self.now c.args.e.process) c.args.e ≡ true) (sym own) c.requires.may, c.requires.known); reserved = tidy.reserved; fits = tidy.fits }) c.self.invariant.0).0
+    (λ tidy own. record { within = tidy.within; once = tidy.once; fixed = tidy.fixed; running = (sym own, subst (λ n. can_come (of_process n c.args.self.now.net) (kept_of c.args.self.now c.args.e.process) c.args.e ≡ true) (sym own) c.requires.may, c.requires.known); reserved = tidy.reserved; fits = tidy.fits; small = tidy.small }) c.self.invariant.0).0
 
 pub tell_run-requires-clause-placed : goal.tell_run-requires-clause-placed
 tell_run-requires-clause-placed c =
@@ -46,7 +47,7 @@ tell_run-requires-clause-more c =
     let table = c.self.inside.conflicts in
     let net = c.self.inside.net.items in
     let rows = c.self.inside.rows.items in
-    let arrows = c.self.inside.graph.arrows.items in
+    let counts = c.self.inside.graph.counts.items in
     let walks = c.self.inside.graph.walks.items in
     let has = is_among i table net rows c.args.self.now c.self.view_is c.requires.open in
     let place = c.place_of-at.ensures.place ∙ ap (place_of i) c.deref.ensures.value in
@@ -55,8 +56,8 @@ tell_run-requires-clause-more c =
     let tidy : AreTidy (tables table net (slice_set rows c.place_of-at.result c.run.new.self)) =
     rw (c.deref-3.ensures.value, c.deref-4.ensures.value) at (tell_run-requires-clause-tidy c) in
     rw (c.deref-3.ensures.value, c.deref-4.ensures.value) (λ changed.
-    subst (λ (rs : List OpenProcess). TellBothBut (tables table net rs) (arrows_to (do_conflict table) net e) arrows walks) (sym same)
-    (run_both i table net rows arrows walks has c.self.invariant.0.0 c.self.invariant.1 e idle (subst (λ (rs : List OpenProcess). AreTidy (tables table net rs)) same tidy)
+    subst (λ (rs : List OpenProcess). TellBothBut (tables table net rs) (pairs_to (do_conflict table) net e) (arrows_to (do_conflict table) net e) counts walks) (sym same)
+    (run_both i table net rows has counts walks c.self.invariant.0.0 c.self.invariant.1 e idle (subst (λ (rs : List OpenProcess). AreTidy (tables table net rs)) same tidy)
     (arrow_of_step table net e (sym (ap (λ (es : List Entry). step_has_arrows (do_conflict table) es (Some e)) c.deref-2.ensures.value) ∙ sym c.step_has_arrows-changed.ensures ∙ changed))))
 
 pub tell_run-requires-clause-same : goal.tell_run-requires-clause-same
@@ -67,7 +68,7 @@ tell_run-requires-clause-same c =
     let table = c.self.inside.conflicts in
     let net = c.self.inside.net.items in
     let rows = c.self.inside.rows.items in
-    let arrows = c.self.inside.graph.arrows.items in
+    let counts = c.self.inside.graph.counts.items in
     let walks = c.self.inside.graph.walks.items in
     let has = is_among i table net rows c.args.self.now c.self.view_is c.requires.open in
     let place = c.place_of-at.ensures.place ∙ ap (place_of i) c.deref.ensures.value in
@@ -76,8 +77,8 @@ tell_run-requires-clause-same c =
     let tidy : AreTidy (tables table net (slice_set rows c.place_of-at.result c.run.new.self)) =
     rw (c.deref-3.ensures.value, c.deref-4.ensures.value) at (tell_run-requires-clause-tidy c) in
     rw (c.deref-3.ensures.value, c.deref-4.ensures.value) (λ none.
-    subst (λ (rs : List OpenProcess). TellBoth (tables table net rs) arrows walks) (sym same)
-    (run_same i table net rows arrows walks has c.self.invariant.0.0 c.self.invariant.1 (Some e) (subst (λ (rs : List OpenProcess). AreTidy (tables table net rs)) same tidy) (ap (step_has_arrows (do_conflict table) net) idle)
+    subst (λ (rs : List OpenProcess). TellBoth (tables table net rs) counts walks) (sym same)
+    (run_same i table net rows has counts walks c.self.invariant.0.0 c.self.invariant.1 e idle (subst (λ (rs : List OpenProcess). AreTidy (tables table net rs)) same tidy)
     (sym (ap (λ (es : List Entry). step_has_arrows (do_conflict table) es (Some e)) c.deref-2.ensures.value) ∙ sym c.step_has_arrows-changed.ensures ∙ none)))
 
 pub returns : goal.returns
