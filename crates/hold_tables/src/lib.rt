@@ -14,6 +14,7 @@ mod counting;
 mod extending;
 mod graph;
 mod holds;
+mod holds_read;
 mod looking;
 mod operations;
 mod place_rows;
