@@ -3,11 +3,17 @@ use Rattle.std.proofs.Common.{◌≡◌, ◌≤◌, ◌+◌, ℕ, zero, suc, Boo
 use Rattle.std.specs.Prelude.{if◌then◌else◌, nat_eq, remove}
 use Rattle.process_tree.specs.declared.entry.Entry.{Entry}
 use Rattle.process_tree.specs.Order.{Each}
-use Rattle.schedule_model.specs.Conflict.{ConflictRelation}
+use Rattle.process_tree.specs.Conflicts.{Table, do_conflict}
+use Rattle.process_tree.proofs.Tables.{do_conflict-symmetric}
+use Rattle.schedule_model.specs.Conflict.{ConflictRelation, conflict}
+use Rattle.hold_tables.specs.Walks.{conflicts_with}
 use Rattle.hold_tables.specs.Changes.{has_entry, without_last}
 use Rattle.hold_tables.specs.Counts.{pairs_by, pairs_from, pairs_of_entry, pairs_of_last}
 use Rattle.hold_tables.specs.Places.{last_place}
-use Rattle.hold_tables.proofs.Pairs.{by_append, net_more}
+use Rattle.hold_tables.proofs.Marks.{neither_of}
+use Rattle.hold_tables.proofs.Pairs.{by_append, net_more, no_conflict, none_to}
+use Rattle.std.specs.List.{list_any}
+use Rattle.std.proofs.lemmas.List.Folds.{list_any-append}
 use Rattle.hold_tables.proofs.Places.{last_away}
 
 -- a list is what stands before a place, and the rest
@@ -72,3 +78,21 @@ module _ (table : ConflictRelation) (running : List Entry) (i j k : ℕ) where
   -- with them, what is left is all
   pub with_last : (es : List Entry) → pairs_from table running es j k ≡ pairs_from table running (without_last i es) j k + pairs_of_last table running i es j k
   with_last es = let less = fewer es in omega (arith, less)
+
+none_behind : (table : Table) (x : Entry) (ys : List Entry) → conflicts_with (do_conflict table) ys x ≡ false → (i k : ℕ) → pairs_by (do_conflict table) x ys i k ≡ 0
+none_behind table x [] none i k = refl
+none_behind table x (y ∷ ys) none i k =
+    let parts = neither_of (conflict (do_conflict table) x y) (conflicts_with (do_conflict table) ys x) none in
+    let first = no_conflict (do_conflict table) i k x y parts.0 in
+    let rest = none_behind table x ys parts.1 i k in
+    omega (arith, first, rest)
+
+-- an entry that conflicts with none of the net makes pairs with what is under way alone
+pub quiet_entry : (table : Table) (running front : List Entry) (x : Entry) (back : List Entry) → conflicts_with (do_conflict table) (front ++ x ∷ back) x ≡ false → (i k : ℕ)
+    → pairs_of_entry (do_conflict table) running front x back i k ≡ pairs_by (do_conflict table) x running i k
+quiet_entry table running front x back none i k =
+    let p = conflict (do_conflict table) x in
+    let parts = neither_of (list_any p front) (list_any p (x ∷ back)) (sym (list_any-append p front (x ∷ back)) ∙ none) in
+    let first = none_to (do_conflict table) i k (do_conflict-symmetric table) front x parts.0 in
+    let last = none_behind table x back (neither_of (p x) (list_any p back) parts.1).1 i k in
+    omega (arith, first, last)

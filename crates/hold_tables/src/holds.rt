@@ -204,6 +204,7 @@ impl Holds {
             &self.conflicts,
             &self.rows,
             &self.net,
+            &self.in_net,
             process,
         );
         remove_last(&mut self.net, process);

@@ -24,9 +24,7 @@ pub fn add(into: &mut Marks, from: &Marks)
         ≡ (slice_index_or into.old d false || slice_index_or from.now d false) }
 {
     for place in 0..MOST {
-        if from[place] {
-            into[place] = true;
-        }
+        into[place] |= from[place];
     }
 }
 

@@ -1,14 +1,17 @@
 // Pairs of entries that go, taken off the counts, and whether an arrow goes with them.
-ghost use Rattle.std.specs.Prelude.{◌≡◌, ◌<◌, ◌+◌, ◌||◌, ℕ, false, nat_eq, slice_index_or};
+ghost use Rattle.std.specs.Prelude.{◌≡◌, ◌<◌, ◌+◌, ◌||◌, ◌∷◌, ◌++◌, ℕ, false, nat_eq, slice_index_or};
 ghost use Rattle.process_tree.specs.Conflicts.{do_conflict};
 ghost use Rattle.process_tree.specs.Order.{Each};
 ghost use Rattle.hold_tables.specs.Kept.{AreTidy};
+ghost use Rattle.hold_tables.specs.Operations.{KeepOps, ops_of};
 ghost use Rattle.hold_tables.specs.Counts.{AreCounted, IsUncounted, TellCounts, one_if, pair, pairs_by, pairs_of_entry};
 ghost use Rattle.hold_tables.specs.Counts.{pairs_of_last, pairs_to, pairs_to_step};
 ghost use Rattle.hold_tables.specs.Walks.{AreDistinctRows, IsPlaced, IsPlacedIf, step_of, steps_under_way};
 
 use crate::counting::Counts;
 use crate::looking::{last_place, place_of};
+use crate::operations::is_clear_of;
+use crate::reach::Marks;
 use crate::row::Row;
 use process_tree::{Conflicts, Entry};
 
@@ -185,14 +188,44 @@ fn uncount_entry(
     either(before, either(behind, under))
 }
 
+/// The same. The operations of the net are marked, so that an entry which conflicts with none is found at once.
+fn uncount_marked(
+    counts: &mut [Counts],
+    conflicts: &Conflicts,
+    rows: &[Row],
+    in_net: &Marks,
+    front: &[Entry],
+    x: Entry,
+    back: &[Entry],
+) -> bool
+    requires rows { AreDistinctRows rows.now counts.old }
+    requires entry { IsPlaced conflicts.now rows.now x }
+    requires before { Each (IsPlaced conflicts.now rows.now) front.now }
+    requires behind { Each (IsPlaced conflicts.now rows.now) back.now }
+    requires under { Each (λ r. IsPlacedIf conflicts.now rows.now r.running) rows.now }
+    requires marks { KeepOps conflicts.now (ops_of (front.now ++ x ∷ back.now)) in_net.now }
+    requires among { AreCounted rows.now
+        (pairs_of_entry (do_conflict conflicts.now) (steps_under_way rows.now) front.now x back.now) counts.old }
+    ensures { IsUncounted rows.now (pairs_of_entry (do_conflict conflicts.now) (steps_under_way rows.now) front.now x back.now)
+        result counts.old counts.new }
+{
+    if is_clear_of(conflicts, in_net, x.op) {
+        uncount_steps(counts, conflicts, rows, x)
+    } else {
+        uncount_entry(counts, conflicts, rows, front, x, back)
+    }
+}
+
 /// Takes off the pairs that go with the last entry of the process: whether an arrow is gone.
 pub fn uncount_last(
     counts: &mut [Counts],
     conflicts: &Conflicts,
     rows: &[Row],
     net: &[Entry],
+    in_net: &Marks,
     process: u32,
 ) -> bool
+    requires marks { KeepOps conflicts.now (ops_of net.now) in_net.now }
     requires tidy { AreTidy (record { conflicts = conflicts.now; net = net.now; processes = rows.now }) }
     requires counts { TellCounts (record { conflicts = conflicts.now; net = net.now; processes = rows.now }) counts.old }
     ensures { IsUncounted rows.now (pairs_of_last (do_conflict conflicts.now) (steps_under_way rows.now) process net.now)
@@ -203,7 +236,7 @@ pub fn uncount_last(
     };
     let (front, rest) = net.split_at(place);
     match rest.split_first() {
-        Some((x, back)) => uncount_entry(counts, conflicts, rows, front, *x, back),
+        Some((x, back)) => uncount_marked(counts, conflicts, rows, in_net, front, *x, back),
         None => false,
     }
 }

@@ -3,6 +3,7 @@ use Rattle.std.proofs.lemmas.List.{length-drop}
 use Rattle.process_tree.specs.declared.entry.Entry.{Entry}
 use Rattle.process_tree.specs.Conflicts.{do_conflict}
 use Rattle.process_tree.specs.Order.{Each}
+use Rattle.hold_tables.specs.Operations.{KeepOps, ops_of}
 use Rattle.hold_tables.specs.Walks.{IsPlaced, steps_under_way}
 use Rattle.hold_tables.proofs.Counted.{uncounted_none, uncounted_same}
 use Rattle.hold_tables.proofs.LastPairs.{each_parts, last_pairs, last_parts, no_last_pairs, with_last}
@@ -21,8 +22,8 @@ returns-in_default c =
 pub split_at-requires : goal.split_at-requires
 split_at-requires c = let within = (last_away c.args.process c.args.net.now c.in-Some.place (sym c.last_place.ensures ∙ c.in-Some.is)).0 in omega (arith, within)
 
-pub uncount_entry-requires-clause-before : goal.uncount_entry-requires-clause-before
-uncount_entry-requires-clause-before c =
+pub uncount_marked-requires-clause-before : goal.uncount_marked-requires-clause-before
+uncount_marked-requires-clause-before c =
     let P = IsPlaced c.args.conflicts.now c.args.rows.now in
     let front = c.split_at.result.0.now in
     let x = c.in-Some-split_first.x.now in
@@ -30,8 +31,8 @@ uncount_entry-requires-clause-before c =
     let parts = last_parts c.args.process c.args.net.now c.in-Some.place front c.split_at.result.1.now x back (sym c.last_place.ensures ∙ c.in-Some.is) c.split_at.ensures.front c.split_at.ensures.back c.in-Some-split_first.ensures.cases.0 in
     (each_parts P front x back (subst (λ (es : List Entry). Each P es) parts.0 (placed_net (tables c.args.conflicts.now c.args.net.now c.args.rows.now) c.requires.tidy))).0
 
-pub uncount_entry-requires-clause-behind : goal.uncount_entry-requires-clause-behind
-uncount_entry-requires-clause-behind c =
+pub uncount_marked-requires-clause-behind : goal.uncount_marked-requires-clause-behind
+uncount_marked-requires-clause-behind c =
     let P = IsPlaced c.args.conflicts.now c.args.rows.now in
     let front = c.split_at.result.0.now in
     let x = c.in-Some-split_first.x.now in
@@ -39,8 +40,8 @@ uncount_entry-requires-clause-behind c =
     let parts = last_parts c.args.process c.args.net.now c.in-Some.place front c.split_at.result.1.now x back (sym c.last_place.ensures ∙ c.in-Some.is) c.split_at.ensures.front c.split_at.ensures.back c.in-Some-split_first.ensures.cases.0 in
     (each_parts P front x back (subst (λ (es : List Entry). Each P es) parts.0 (placed_net (tables c.args.conflicts.now c.args.net.now c.args.rows.now) c.requires.tidy))).2
 
-pub uncount_entry-requires-clause-entry : goal.uncount_entry-requires-clause-entry
-uncount_entry-requires-clause-entry c =
+pub uncount_marked-requires-clause-entry : goal.uncount_marked-requires-clause-entry
+uncount_marked-requires-clause-entry c =
     let P = IsPlaced c.args.conflicts.now c.args.rows.now in
     let front = c.split_at.result.0.now in
     let x = c.in-Some-split_first.x.now in
@@ -48,11 +49,19 @@ uncount_entry-requires-clause-entry c =
     let parts = last_parts c.args.process c.args.net.now c.in-Some.place front c.split_at.result.1.now x back (sym c.last_place.ensures ∙ c.in-Some.is) c.split_at.ensures.front c.split_at.ensures.back c.in-Some-split_first.ensures.cases.0 in
     (each_parts P front x back (subst (λ (es : List Entry). Each P es) parts.0 (placed_net (tables c.args.conflicts.now c.args.net.now c.args.rows.now) c.requires.tidy))).1
 
-pub uncount_entry-requires-clause-under : goal.uncount_entry-requires-clause-under
-uncount_entry-requires-clause-under c = placed_running (tables c.args.conflicts.now c.args.net.now c.args.rows.now) c.requires.tidy
+pub uncount_marked-requires-clause-marks : goal.uncount_marked-requires-clause-marks
+uncount_marked-requires-clause-marks c =
+    let front = c.split_at.result.0.now in
+    let x = c.in-Some-split_first.x.now in
+    let back = c.in-Some-split_first.back.now in
+    let parts = last_parts c.args.process c.args.net.now c.in-Some.place front c.split_at.result.1.now x back (sym c.last_place.ensures ∙ c.in-Some.is) c.split_at.ensures.front c.split_at.ensures.back c.in-Some-split_first.ensures.cases.0 in
+    subst (λ (es : List Entry). KeepOps c.args.conflicts.now (ops_of es) c.args.in_net.now) parts.0 c.requires.marks
 
-pub uncount_entry-requires-clause-among : goal.uncount_entry-requires-clause-among
-uncount_entry-requires-clause-among c i k here there =
+pub uncount_marked-requires-clause-under : goal.uncount_marked-requires-clause-under
+uncount_marked-requires-clause-under c = placed_running (tables c.args.conflicts.now c.args.net.now c.args.rows.now) c.requires.tidy
+
+pub uncount_marked-requires-clause-among : goal.uncount_marked-requires-clause-among
+uncount_marked-requires-clause-among c i k here there =
     let p = c.args.process in
     let net = c.args.net.now in
     let table = do_conflict c.args.conflicts.now in
@@ -74,8 +83,8 @@ returns-in-Some-split_first c =
     let x = c.in-Some-split_first.x.now in
     let back = c.in-Some-split_first.back.now in
     let parts = last_parts p net c.in-Some.place front c.split_at.result.1.now x back (sym c.last_place.ensures ∙ c.in-Some.is) c.split_at.ensures.front c.split_at.ensures.back c.in-Some-split_first.ensures.cases.0 in
-    uncounted_same c.args.rows.now _ _ c.uncount_entry.result c.args.counts.now c.uncount_entry.new.counts
-    (λ j k. sym (last_pairs (do_conflict c.args.conflicts.now) (steps_under_way c.args.rows.now) p j k net front x back parts.0 parts.1)) c.uncount_entry.ensures
+    uncounted_same c.args.rows.now _ _ c.uncount_marked.result c.args.counts.now c.uncount_marked.new.counts
+    (λ j k. sym (last_pairs (do_conflict c.args.conflicts.now) (steps_under_way c.args.rows.now) p j k net front x back parts.0 parts.1)) c.uncount_marked.ensures
 
 pub returns-in-None : goal.returns-in-None
 returns-in-None c =
