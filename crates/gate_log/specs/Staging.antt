@@ -28,6 +28,10 @@ staging log body = record {
   staged = log.staged ++ body ∷ [];
 }
 
+-- the log with nothing staged
+abbrev pub unstaged : LogState → LogState
+unstaged log = record { file = log.file; count = log.count; end = log.end; last = log.last; staged = [] }
+
 -- the log with all that was staged in its list
 abbrev pub with_staged : LogState → LogState
 with_staged log = record {

@@ -6,8 +6,8 @@ ghost use Rattle.process_disk.specs.Disk.{Told, TornIn, file_of, put};
 ghost use Rattle.process_disk.specs.Images.{EachImage, RunBy, OthersAsBefore, AllAsBefore};
 ghost use Rattle.gate_log.specs.LogFile.{read_log, plain_log, records_size, last_size};
 ghost use Rattle.gate_log.specs.Standing.{StandsFor, IsOpen, Logs, LogsBeforeOrWith, OpensAs, CanRetract};
-ghost use Rattle.gate_log.specs.Staging.{plain_records, staging, with_staged, LogsBeforeOrWithAll, AreWritten, AreOnDisk, IsOpened};
-ghost use Rattle.gate_log.specs.Staging.{MayOpen};
+ghost use Rattle.gate_log.specs.Staging.{plain_records, staging, unstaged, with_staged, LogsBeforeOrWithAll, AreWritten};
+ghost use Rattle.gate_log.specs.Staging.{AreOnDisk, IsOpened, MayOpen};
 ghost use Rattle.gate_log.specs.declared.errors.LogError.TheVariants.{NoMemory};
 
 use crate::buffer::Buffer;
@@ -164,6 +164,13 @@ impl Log {
         ensures { self.new ≡ staging self.old body.now }
     {
         self.staged.add(body);
+    }
+
+    /// Lets go what is staged.
+    pub fn unstage(&mut self)
+        ensures { self.new ≡ unstaged self.old }
+    {
+        self.staged.clear();
     }
 
     /// Whether a body is staged.
