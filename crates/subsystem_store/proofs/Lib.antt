@@ -5,4 +5,4 @@ mod GoodBooks
 mod Places
 mod Records
 mod Reading
-mod StoreFiles
+pub mod StoreFiles

@@ -7,7 +7,7 @@ ghost use Rattle.process_disk.specs.Images.{EachImage, OthersAsBefore, AllAsBefo
 ghost use Rattle.resource_box.specs.Meaning.{value_at};
 ghost use Rattle.resource_box.specs.Table.{bars};
 ghost use Rattle.subsystem_store.specs.declared.effect.Effect.{Effect};
-ghost use Rattle.gate_log.specs.Staging.{staging, with_staged};
+ghost use Rattle.gate_log.specs.Staging.{staging, unstaged, with_staged};
 ghost use Rattle.subsystem_store.specs.Bodies.{is_amount, prepared_bytes, committed_bytes};
 ghost use Rattle.subsystem_store.specs.Values.{values};
 ghost use Rattle.subsystem_store.specs.Order.{may_follow, read_store};
@@ -227,25 +227,34 @@ impl<B: Resource> Store<B> {
         self.account.make_room(key)
     }
 
-    /// Stages the record that prepares an effect. The store stands for the same book.
+    /// Lets go what is staged.
+    pub fn unstage(&mut self)
+        ensures log { self.new.log ≡ unstaged self.old.log }
+        ensures same { account_of self.new ≡ account_of self.old }
+    {
+        self.log.unstage();
+    }
+
+    /// Stages the record that prepares an effect, and nothing else. The store stands for the same book.
     pub fn stage_prepare(&mut self, effect: &Effect)
         requires settled { self.old.doubt ≡ None }
         requires few { length self.old.book < 16384 }
-        requires unstaged { self.old.log.staged ≡ [] }
-        ensures log { self.new.log ≡ staging self.old.log (prepared_bytes effect.now) }
+        ensures log { self.new.log ≡ staging (unstaged self.old.log) (prepared_bytes effect.now) }
         ensures same { account_of self.new ≡ account_of self.old }
     {
+        self.log.unstage();
         self.log.stage(&prepared_bytes(effect));
     }
 
-    /// Stages the record that commits the effect in doubt. It stays in doubt.
+    /// Stages the record that commits the effect in doubt, and nothing else. The effect stays in doubt.
     pub fn stage_commit(&mut self)
         requires doubt { IsSome self.old.doubt }
-        requires unstaged { self.old.log.staged ≡ [] }
-        ensures log { (e : Effect) → self.old.doubt ≡ Some e → self.new.log ≡ staging self.old.log (committed_bytes e.number) }
+        ensures log { (e : Effect) → self.old.doubt ≡ Some e
+            → self.new.log ≡ staging (unstaged self.old.log) (committed_bytes e.number) }
         ensures same { account_of self.new ≡ account_of self.old }
     {
         let number = self.number_in_doubt();
+        self.log.unstage();
         self.log.stage(&committed_bytes(number));
     }
 
