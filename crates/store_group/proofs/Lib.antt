@@ -1,0 +1,5 @@
+pub mod Beside
+pub mod InOrder
+mod InTurn
+mod Synced
+mod Taken

@@ -1,0 +1,175 @@
+// The effects of a group in their stores: prepared together, and committed together.
+ghost use Rattle.std.specs.Prelude.{IfSome, OnErr, OnOk, ◌≡◌};
+ghost use Rattle.process_flow.specs.Causes.{HasCause};
+ghost use Rattle.process_disk.specs.Disk.{Told};
+ghost use Rattle.process_disk.specs.Images.{EachImage, RunBy};
+ghost use Rattle.subsystem_store.specs.Opened.{Fits, account_of};
+ghost use Rattle.store_group.specs.Groups.{OfEach, AreInOrder, AllStand, SameButStores};
+ghost use Rattle.store_group.specs.Events.{effect_for, BecomeEach, IsUnchanged, MayPrepare, MayPrepareEach, IsPrepared, IsCommitted};
+ghost use Rattle.store_group.specs.Events.{AreBeforeOrPrepared, AreBeforeOrCommitted, StagesEffect, StagesCommit, TakesEffect};
+ghost use Rattle.store_group.specs.Events.{TakesCommit, MayTake, MayTakeEach, MayTakeCommit};
+
+use crate::put_on_disk;
+use gate_log::DiskFault;
+use process_disk::Rack;
+use resource_box::Resource;
+use subsystem_store::{Effect, Store};
+
+// The effect at a place.
+fn effect_for(effects: &[Option<Effect>], place: usize) -> Option<Effect>
+    ensures { result ≡ effect_for effects.now place }
+{
+    match effects.get(place) {
+        Some(found) => *found,
+        None => None,
+    }
+}
+
+// Stages an effect, if there is one, and nothing else.
+fn stage_effect<B: Resource>(store: &mut Store<B>, effect: Option<Effect>)
+    requires may { IfSome effect (MayPrepare store.old) }
+    ensures { StagesEffect effect store.old store.new }
+{
+    match effect {
+        Some(effect) => store.stage_prepare(&effect),
+        None => store.unstage(),
+    }
+}
+
+// Takes a staged effect, if there is one.
+fn take_effect<B: Resource>(store: &mut Store<B>, effect: Option<Effect>)
+    requires may { IfSome effect (MayTake store.old) }
+    requires fits { Fits B.meaning B.sort (account_of store.old) }
+    ensures takes { TakesEffect effect store.old store.new }
+    ensures fits { Fits B.meaning B.sort (account_of store.new) }
+{
+    if let Some(effect) = effect {
+        store.take_prepared(effect);
+    }
+}
+
+// Stages the commit of what is in doubt, if anything is, and nothing else.
+fn stage_commit<B: Resource>(store: &mut Store<B>)
+    ensures { StagesCommit store.old store.new }
+{
+    if store.in_doubt().is_some() {
+        store.stage_commit();
+    } else {
+        store.unstage();
+    }
+}
+
+// Takes the staged commit of what is in doubt, if anything is.
+fn take_commit<B: Resource>(store: &mut Store<B>)
+    requires may { MayTakeCommit store.old }
+    requires fits { Fits B.meaning B.sort (account_of store.old) }
+    ensures takes { TakesCommit store.old store.new }
+    ensures fits { Fits B.meaning B.sort (account_of store.new) }
+{
+    if store.in_doubt().is_some() {
+        store.take_committed();
+    }
+}
+
+// Stages the effect at each place in the store there.
+fn stage_effects<B: Resource>(stores: &mut Vec<Store<B>>, effects: &[Option<Effect>])
+    requires may { MayPrepareEach effects.now stores.old.items }
+    ensures { BecomeEach (λ q s t. StagesEffect (effect_for effects.now q) s t) stores.old.items stores.new.items }
+{
+    let mut place = 0;
+    while place < stores.len() {
+        stage_effect(&mut stores[place], effect_for(effects, place));
+        place += 1;
+    }
+}
+
+// Takes the staged effect at each place in the store there.
+fn take_effects<B: Resource>(stores: &mut Vec<Store<B>>, effects: &[Option<Effect>])
+    requires may { MayTakeEach effects.now stores.old.items }
+    requires fits { OfEach (λ s. Fits B.meaning B.sort (account_of s)) stores.old.items }
+    ensures takes { BecomeEach (λ q s t. TakesEffect (effect_for effects.now q) s t) stores.old.items stores.new.items }
+    ensures fits { OfEach (λ s. Fits B.meaning B.sort (account_of s)) stores.new.items }
+{
+    let mut place = 0;
+    while place < stores.len() {
+        take_effect(&mut stores[place], effect_for(effects, place));
+        place += 1;
+    }
+}
+
+// Stages the commit of what is in doubt in each store.
+fn stage_commits<B: Resource>(stores: &mut Vec<Store<B>>)
+    ensures { BecomeEach (λ q s t. StagesCommit s t) stores.old.items stores.new.items }
+{
+    let mut place = 0;
+    while place < stores.len() {
+        stage_commit(&mut stores[place]);
+        place += 1;
+    }
+}
+
+// Takes the staged commit in each store.
+fn take_commits<B: Resource>(stores: &mut Vec<Store<B>>)
+    requires may { OfEach MayTakeCommit stores.old.items }
+    requires fits { OfEach (λ s. Fits B.meaning B.sort (account_of s)) stores.old.items }
+    ensures takes { BecomeEach (λ q s t. TakesCommit s t) stores.old.items stores.new.items }
+    ensures fits { OfEach (λ s. Fits B.meaning B.sort (account_of s)) stores.new.items }
+{
+    let mut place = 0;
+    while place < stores.len() {
+        take_commit(&mut stores[place]);
+        place += 1;
+    }
+}
+
+/// Prepares the effect at each place in the store there, if there is one, with two syncs for all. A crash leaves each store as it
+/// was or with its effect in doubt, whichever the others are. It takes no memory.
+pub fn prepare_each<R: Rack, B: Resource>(
+    stores: &mut Vec<Store<B>>,
+    rack: &mut R,
+    effects: &[Option<Effect>],
+) -> Result<(), DiskFault>
+    requires order { AreInOrder stores.old.items }
+    requires may { MayPrepareEach effects.now stores.old.items }
+    requires fits { OfEach (λ s. Fits B.meaning B.sort (account_of s)) stores.old.items }
+    requires stand { Told (R.disk rack.old) → AllStand stores.old.items (R.disk rack.old) }
+    ensures acknowledged { Told (R.disk rack.old) → OnOk result (AllStand stores.new.items (R.disk rack.new)) }
+    ensures any_moment { Told (R.disk rack.old)
+        → EachImage (R.disk rack.new) (R.disk rack.old).moment (AreBeforeOrPrepared effects.now stores.old.items) }
+    ensures others { Told (R.disk rack.old) → RunBy (SameButStores stores.old.items) (R.disk rack.old) (R.disk rack.new) }
+    ensures ok { OnOk result (BecomeEach (λ q s t. IsPrepared (effect_for effects.now q) s t) stores.old.items stores.new.items) }
+    ensures err { OnErr result (BecomeEach (λ q s t. IsUnchanged s t) stores.old.items stores.new.items) }
+    ensures fits { OfEach (λ s. Fits B.meaning B.sort (account_of s)) stores.new.items }
+    ensures tells { (R.disk rack.new).tells ≡ (R.disk rack.old).tells }
+    ensures cause { HasCause (R.faults rack.old) (R.faults rack.new) result }
+{
+    stage_effects(stores, effects);
+    put_on_disk(stores, rack)?;
+    take_effects(stores, effects);
+    Ok(())
+}
+
+/// Commits what is in doubt in each store, with two syncs for all. A crash leaves each store as it was or with its effect among
+/// the committed ones, whichever the others are.
+pub fn commit_each<R: Rack, B: Resource>(
+    stores: &mut Vec<Store<B>>,
+    rack: &mut R,
+) -> Result<(), DiskFault>
+    requires order { AreInOrder stores.old.items }
+    requires fits { OfEach (λ s. Fits B.meaning B.sort (account_of s)) stores.old.items }
+    requires stand { Told (R.disk rack.old) → AllStand stores.old.items (R.disk rack.old) }
+    ensures acknowledged { Told (R.disk rack.old) → OnOk result (AllStand stores.new.items (R.disk rack.new)) }
+    ensures any_moment { Told (R.disk rack.old)
+        → EachImage (R.disk rack.new) (R.disk rack.old).moment (AreBeforeOrCommitted stores.old.items) }
+    ensures others { Told (R.disk rack.old) → RunBy (SameButStores stores.old.items) (R.disk rack.old) (R.disk rack.new) }
+    ensures ok { OnOk result (BecomeEach (λ q s t. IsCommitted s t) stores.old.items stores.new.items) }
+    ensures err { OnErr result (BecomeEach (λ q s t. IsUnchanged s t) stores.old.items stores.new.items) }
+    ensures fits { OfEach (λ s. Fits B.meaning B.sort (account_of s)) stores.new.items }
+    ensures tells { (R.disk rack.new).tells ≡ (R.disk rack.old).tells }
+    ensures cause { HasCause (R.faults rack.old) (R.faults rack.new) result }
+{
+    stage_commits(stores);
+    put_on_disk(stores, rack)?;
+    take_commits(stores);
+    Ok(())
+}

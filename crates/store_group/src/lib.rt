@@ -1,0 +1,16 @@
+//! Stores that share their syncs: what is staged in each of them comes onto the disk together.
+//!
+//! A sync of a rack is of all files written since the last. So what is staged in several stores is written behind their gates,
+//! synced once, then the gates are opened, and synced once (`put_on_disk`): two syncs however many stores there are. A crash
+//! leaves each store as it was or with all that is staged in it, whichever the others are (`specs/Groups`). The layer above
+//! knows that any of these is sound for its history.
+//!
+//! `prepare_each` prepares an effect in each of several stores so, and `commit_each` commits what is in doubt in each
+//! (`specs/Events`).
+#![tactic(auto)]
+
+mod disk;
+mod events;
+
+pub use disk::put_on_disk;
+pub use events::{commit_each, prepare_each};
