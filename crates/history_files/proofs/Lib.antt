@@ -22,3 +22,5 @@ pub mod Undoables
 pub mod StandingSteps
 pub mod MayBePrepared
 pub mod BoxKinds
+pub mod Groups
+pub mod GroupBooks

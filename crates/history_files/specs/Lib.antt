@@ -2,6 +2,7 @@ pub mod Boxes
 pub mod Creating
 pub mod Effects
 mod Examples
+pub mod Groups
 pub mod Images
 pub mod Laws
 pub mod Sound

@@ -1,4 +1,4 @@
-// The record of several events at once.
+// The steps of several events at once: prepared, recorded, committed.
 ghost use Rattle.std.specs.Prelude.{◌≢◌, ◌≤◌, ◌≡◌, ◌<◌, ◌+◌, [], List, length, map, OnOk, OnErr};
 ghost use Rattle.process_flow.specs.Causes.{HasCause};
 ghost use Rattle.process_disk.specs.Disk.{Told};
@@ -11,16 +11,70 @@ ghost use Rattle.journal_records.specs.declared.record.Record.{Record};
 ghost use Rattle.journal_records.specs.Bytes.{bytes_of};
 ghost use Rattle.process_journal.specs.Journals.{AreMadeBy};
 ghost use Rattle.process_journal.specs.Opened.{GoesOnStaged};
-ghost use Rattle.history_files.specs.Sound.{IsSoundForEither};
-ghost use Rattle.history_files.specs.Standing.{Stand, ComeTo};
+ghost use Rattle.history_files.specs.Sound.{IsSound, IsSoundForEither};
+ghost use Rattle.history_files.specs.Standing.{Stand, ComeTo, EachFits, AreGoodBooks};
+ghost use Rattle.store_group.specs.Events.{BecomeEach, IsPrepared, IsCommitted, MayPrepareEach, effect_for};
+ghost use Rattle.history_files.specs.Groups.{FitEach, LacksEach, HasEachDoubt};
 
 use crate::Files;
 use gate_log::DiskFault;
 use process_disk::Rack;
 use process_journal::Record;
 use resource_box::Resource;
+use store_group::{commit_each, prepare_each};
+use subsystem_store::{Effect, calls_make_good_books};
 
 impl<R: Rack + Drop, B: Resource> Files<R, B> {
+    /// Prepares the effect at each place, which the history lacks, in the store of that subsystem, with two syncs for all. A crash
+    /// leaves files that are sound for the history, whichever effects are prepared in them.
+    pub fn prepare_staged(&mut self, group: &[Option<Effect>]) -> Result<(), DiskFault>
+        requires fits { EachFits B.meaning B.sort self.old.stores }
+        requires may_come { MayPrepareEach group.now self.old.stores }
+        requires bytes { FitEach group.now }
+        requires stand { Told (R.disk self.old.rack) → (c : Catalog) × (h : History)
+            × Stand c h self.old.journal self.old.stores (R.disk self.old.rack) }
+        ensures acknowledged { Told (R.disk self.old.rack) → (c : Catalog) (h : History)
+            → Stand c h self.old.journal self.old.stores (R.disk self.old.rack) →
+            LacksEach c.ops h group.now → OnOk result (Stand c h self.new.journal self.new.stores (R.disk self.new.rack)) }
+        ensures any_moment { Told (R.disk self.old.rack) → (c : Catalog) (h : History)
+            → Stand c h self.old.journal self.old.stores (R.disk self.old.rack) →
+            LacksEach c.ops h group.now → EachImage (R.disk self.new.rack) (R.disk self.old.rack).moment (IsSound c h) }
+        ensures follow { Told (R.disk self.old.rack) → ImagesFollow (R.disk self.old.rack) (R.disk self.new.rack) }
+        ensures fits { EachFits B.meaning B.sort self.new.stores }
+        ensures good { AreGoodBooks self.old.stores → AreGoodBooks self.new.stores }
+        ensures journal { self.new.journal ≡ self.old.journal }
+        ensures ok { OnOk result (BecomeEach (λ q s t. IsPrepared (effect_for group.now q) s t) self.old.stores self.new.stores) }
+        ensures tells { (R.disk self.new.rack).tells ≡ (R.disk self.old.rack).tells }
+        ensures cause { HasCause (R.faults self.old.rack) (R.faults self.new.rack) result }
+    {
+        calls_make_good_books();
+        prepare_each(&mut self.stores, &mut self.rack, group)
+    }
+
+    /// Commits each effect that is in doubt, which the history has, with two syncs for all. A crash leaves files that are sound for
+    /// the history, whichever effects are committed in them.
+    pub fn commit_staged(&mut self) -> Result<(), DiskFault>
+        requires fits { EachFits B.meaning B.sort self.old.stores }
+        requires stand { Told (R.disk self.old.rack) → (c : Catalog) × (h : History)
+            × Stand c h self.old.journal self.old.stores (R.disk self.old.rack) }
+        ensures acknowledged { Told (R.disk self.old.rack) → (c : Catalog) (h : History)
+            → Stand c h self.old.journal self.old.stores (R.disk self.old.rack) →
+            HasEachDoubt c.ops h self.old.stores → OnOk result (Stand c h self.new.journal self.new.stores (R.disk self.new.rack)) }
+        ensures any_moment { Told (R.disk self.old.rack) → (c : Catalog) (h : History)
+            → Stand c h self.old.journal self.old.stores (R.disk self.old.rack) →
+            HasEachDoubt c.ops h self.old.stores → EachImage (R.disk self.new.rack) (R.disk self.old.rack).moment (IsSound c h) }
+        ensures follow { Told (R.disk self.old.rack) → ImagesFollow (R.disk self.old.rack) (R.disk self.new.rack) }
+        ensures fits { EachFits B.meaning B.sort self.new.stores }
+        ensures good { AreGoodBooks self.old.stores → AreGoodBooks self.new.stores }
+        ensures journal { self.new.journal ≡ self.old.journal }
+        ensures ok { OnOk result (BecomeEach (λ q s t. IsCommitted s t) self.old.stores self.new.stores) }
+        ensures tells { (R.disk self.new.rack).tells ≡ (R.disk self.old.rack).tells }
+        ensures cause { HasCause (R.faults self.old.rack) (R.faults self.new.rack) result }
+    {
+        calls_make_good_books();
+        commit_each(&mut self.stores, &mut self.rack)
+    }
+
     /// Adds a record to those that `record_staged` will add. It makes no call of the rack.
     pub fn stage_record(&mut self, entry: &Record)
         requires size { records_size self.old.journal.staged + (3 + length (bytes_of entry.now)) ≤ 65538 }

@@ -1,5 +1,6 @@
 // What is proved of the effects of histories: each function says it, and does nothing.
 ghost use Rattle.history_files.specs.Laws.{ActsAddTheirEffect, EndsAddNone, StartsAddNone, NextEffectsMayBePrepared};
+ghost use Rattle.history_files.specs.Groups.{GroupsComeTo, GroupsAreSettled};
 ghost use Rattle.history_files.specs.Laws.{PreparedComeTo, CommittedAreSettled, BarredAreSettled};
 
 /// An act adds its effect to those of the history on its subsystem, and neither a start nor an end adds any.
@@ -20,4 +21,11 @@ pub fn books_come_to_acts<B: Drop>()
     ensures prepared { PreparedComeTo B }
     ensures committed { CommittedAreSettled B }
     ensures barred { BarredAreSettled B }
+{}
+
+/// Once the effects of a group are prepared, the books come to the effects of the history with all its events, which has them;
+/// committed, they have those effects.
+pub fn books_come_to_groups<B: Drop>()
+    ensures prepared { GroupsComeTo B }
+    ensures committed { GroupsAreSettled B }
 {}
