@@ -4,7 +4,7 @@ ghost use Rattle.process_flow.specs.Causes.{HasCause};
 ghost use Rattle.process_disk.specs.Disk.{Told};
 ghost use Rattle.process_disk.specs.Images.{EachImage, ImagesFollow};
 ghost use Rattle.gate_log.specs.LogFile.{records_size};
-ghost use Rattle.gate_log.specs.Staging.{staging, with_staged};
+ghost use Rattle.gate_log.specs.Staging.{staging, unstaged, with_staged};
 ghost use Rattle.schedule_model.specs.declared.history.History.{History};
 ghost use Rattle.commute_table.specs.declared.catalog.Catalog.{Catalog};
 ghost use Rattle.journal_records.specs.declared.record.Record.{Record};
@@ -83,6 +83,14 @@ impl<R: Rack + Drop, B: Resource> Files<R, B> {
         ensures same { (self.new.stores ≡ self.old.stores) × (self.new.rack ≡ self.old.rack) }
     {
         self.journal.stage(entry);
+    }
+
+    /// Lets go the staged records, as those of a group that was not recorded. It makes no call of the rack.
+    pub fn unstage_records(&mut self)
+        ensures journal { self.new.journal ≡ unstaged self.old.journal }
+        ensures same { (self.new.stores ≡ self.old.stores) × (self.new.rack ≡ self.old.rack) }
+    {
+        self.journal.unstage();
     }
 
     /// Adds all staged records to the journal. A crash leaves files that are sound for the history before them or with all of them.

@@ -6,7 +6,7 @@ ghost use Rattle.process_disk.specs.Disk.{Told, file_of};
 ghost use Rattle.process_disk.specs.Images.{EachImage, OthersAsBefore, AllAsBefore};
 ghost use Rattle.gate_log.specs.LogFile.{plain_log, read_log, records_size};
 ghost use Rattle.gate_log.specs.Standing.{StandsFor, IsOpen, LogsBeforeOrWith};
-ghost use Rattle.gate_log.specs.Staging.{staging, with_staged};
+ghost use Rattle.gate_log.specs.Staging.{staging, unstaged, with_staged};
 ghost use Rattle.schedule_model.specs.declared.history.History.{History};
 ghost use Rattle.commute_table.specs.declared.catalog.Catalog.{Catalog};
 ghost use Rattle.commute_table.specs.Operations.{IsCatalog};
@@ -162,6 +162,13 @@ impl Journal {
     {
         let size = write(entry, &mut self.buffer);
         self.log.stage(&self.buffer[..size]);
+    }
+
+    /// Lets go what is staged.
+    pub fn unstage(&mut self)
+        ensures { self.new ≡ unstaged self.old }
+    {
+        self.log.unstage();
     }
 
     /// Appends all records that are staged. A crash leaves the history before or with all of them.
