@@ -29,7 +29,7 @@ use Rattle.command_refusals.specs.declared.refusal.Refusal.{Refusal}
 use Rattle.command_input.specs.declared.said.Said.{Said}
 use Rattle.command_input.specs.FilesLeft.{files}
 use Rattle.init_run.specs.Init.{AreMade}
-use Rattle.scenario_run.specs.Run.{HasGone}
+use Rattle.scenario_run.specs.Run.{HasGone, one_gate}
 use Rattle.scenario_run.specs.Stops.{IsStopped}
 use Rattle.history_opening.proofs.Rising.{rose_later}
 use Rattle.bulk_run.specs.Bulk.{AreMadeAndKept, IsBulkOf, SaysBulk}
@@ -114,10 +114,10 @@ module _ {R B : Type 0} (r : Racks R) (honest : (rack : R) → Told (r.disk rack
             (subst (λ h. EachImage settled settled.moment (IsSound opening.catalog h)) (no_history_yet d opening new) (made_each (told_settled told)));
       })
 
-  gone_anew : (started : List Plan) → HasGone gate opening.catalog (full_history opening.core) started now.core → HasGone gate d no_history started now.core
-  gone_anew started gone = subst (λ c. HasGone gate c no_history started now.core) new.catalog (subst (λ h. HasGone gate opening.catalog h started now.core) (no_history_yet d opening new) gone)
+  gone_anew : (started : List Plan) → HasGone (one_gate gate) opening.catalog (full_history opening.core) started now.core → HasGone (one_gate gate) d no_history started now.core
+  gone_anew started gone = subst (λ c. HasGone (one_gate gate) c no_history started now.core) new.catalog (subst (λ h. HasGone (one_gate gate) opening.catalog h started now.core) (no_history_yet d opening new) gone)
 
-  stopped : (x : Refusal) → IsStopped gate r.faults opening now plans x → IsBulkOf gate d plans (files r entry) (files r back) (Err x)
+  stopped : (x : Refusal) → IsStopped (one_gate gate) r.faults opening now plans x → IsBulkOf gate d plans (files r entry) (files r back) (Err x)
   stopped x (inl (limit, said, passed, same)) =
       inr (inl (limit, said, subst (λ (core : CoreState). limit_passed core plans ≡ Some limit) new.core passed, made_still same))
   stopped x (inr (started, rest, all, gone, inl (said, on))) = inr (inr (started, rest, now.core, all, inl (said, (gone_anew started gone, kept_on Settled on))))
@@ -134,7 +134,7 @@ module _ {R B : Type 0} (r : Racks R) (honest : (rack : R) → Told (r.disk rack
         ),
       ))
 
-  pub run_anew_due : (found : Result Said Refusal) → IfOk found (λ s. HasGone gate opening.catalog (full_history opening.core) plans now.core × (now.phase ≡ Settled) × SaysBulk now.core s)
-      → IfErr found (IsStopped gate r.faults opening now plans) → IsBulkOf gate d plans (files r entry) (files r back) found
+  pub run_anew_due : (found : Result Said Refusal) → IfOk found (λ s. HasGone (one_gate gate) opening.catalog (full_history opening.core) plans now.core × (now.phase ≡ Settled) × SaysBulk now.core s)
+      → IfErr found (IsStopped (one_gate gate) r.faults opening now plans) → IsBulkOf gate d plans (files r entry) (files r back) found
   run_anew_due (Ok s) ran why = (now.core, (gone_anew plans ran.0, kept_on Settled ran.1), ran.2)
   run_anew_due (Err x) ran why = stopped x why

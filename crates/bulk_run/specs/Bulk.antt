@@ -30,7 +30,7 @@ use Rattle.command_input.specs.FilesLeft.{Files, AreUntouched}
 use Rattle.command_input.specs.Scenarios.{IsBound, IsNotBound}
 use Rattle.init_run.specs.Init.{AreMade, AreNotMade}
 use Rattle.scenario_run.specs.Reports.{exhausted_line}
-use Rattle.scenario_run.specs.Run.{HasGone, limit_refusal}
+use Rattle.scenario_run.specs.Run.{HasGone, limit_refusal, one_gate}
 use Rattle.scenario_run.specs.Scenario.{IsSaidOfNone}
 use Rattle.bulk_run.specs.Summary.{summary_line, summary_of}
 
@@ -56,7 +56,7 @@ pub record AreMadeAndKept (c : Catalog) (now : CoreState) (IsAhead : FileSet →
 -- started, in this order, and since then all were only run, by the gate.
 abbrev pub IsRunAnew : AskedGate → Catalog → List Plan → List Plan → CoreState → Phase → Files → Files → Type 0
 IsRunAnew gate c plans started now on before after =
-    HasGone gate c no_history started now × AreMadeAndKept c now (IsOneAhead c plans now on) on before.disk after.disk
+    HasGone (one_gate gate) c no_history started now × AreMadeAndKept c now (IsOneAhead c plans now on) on before.disk after.disk
 
 -- The files were made, and the processes don't all fit within the limits: nothing was kept.
 abbrev pub IsPastLimitAnew : Catalog → List Plan → Files → Files → Refusal → Type 0

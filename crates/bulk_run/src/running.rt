@@ -19,7 +19,7 @@ ghost use Rattle.command_input.specs.Early.{comes_before_files};
 ghost use Rattle.command_input.specs.FilesLeft.{files};
 ghost use Rattle.command_input.specs.Scenarios.{IsBound, IsNotBound};
 ghost use Rattle.scenario_gen.specs.Generated.{generated};
-ghost use Rattle.scenario_run.specs.Run.{HasGone};
+ghost use Rattle.scenario_run.specs.Run.{HasGone, one_gate};
 ghost use Rattle.scenario_run.specs.Stops.{IsStopped};
 ghost use Rattle.bulk_run.specs.Bulk.{IsBulkDue, IsBulkOf, SaysBulk};
 ghost use Rattle.bulk_run.specs.Completeness.{IsBulkComplete};
@@ -82,9 +82,10 @@ fn run_on<R: Rack + Drop, B: Resource, G: Gate>(
     requires few { length plans.items ≤ 256 }
     ensures goes { GoesOn R.disk R.faults plans.items engine.old engine.new }
     ensures ran { IfOk result
-        (λ s. HasGone (asked G.Gate gate.old gate.new) engine.old.catalog (full_history engine.old.core) plans.items engine.new.core
-        × (engine.new.phase ≡ phase.Settled) × SaysBulk engine.new.core s) }
-    ensures refused { IfErr result (λ r. IsStopped (asked G.Gate gate.old gate.new) R.faults engine.old engine.new plans.items r) }
+        (λ s. HasGone (one_gate (asked G.Gate gate.old gate.new)) engine.old.catalog (full_history engine.old.core) plans.items
+        engine.new.core × (engine.new.phase ≡ phase.Settled) × SaysBulk engine.new.core s) }
+    ensures refused { IfErr result
+        (λ r. IsStopped (one_gate (asked G.Gate gate.old gate.new)) R.faults engine.old engine.new plans.items r) }
     ensures fits { EachFits B.meaning B.sort engine.new.files.stores }
 {
     engine.invariant_holds();

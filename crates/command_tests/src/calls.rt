@@ -7,6 +7,8 @@ use process_flow::{MemorySink, MemorySource};
 use process_program::{new_boxes, new_gates};
 use process_top::{Finished, top};
 use std::alloc::{AllocError, Global};
+use std::sync::Wait;
+use std::thread::Threads;
 
 /// Words, each of them owned.
 pub fn words_of(alloc: Global, words: &[&str]) -> Result<Vec<String>, AllocError> {
@@ -18,7 +20,7 @@ pub fn words_of(alloc: Global, words: &[&str]) -> Result<Vec<String>, AllocError
 }
 
 // The status of `top` over a source, a sink, a rack and gates, and the rack after it.
-fn answered<H, G: Gate + Drop>(
+fn answered<H: Threads + Wait + Sync, G: Gate + Drop + Send>(
     rt: &H,
     alloc: Global,
     words: &[String],
@@ -71,7 +73,7 @@ pub struct Told {
 }
 
 /// What `top` answers to a call over this rack, with these gates.
-pub fn answer_with<H, G: Gate + Drop>(
+pub fn answer_with<H: Threads + Wait + Sync, G: Gate + Drop + Send>(
     rt: &H,
     alloc: Global,
     call: Call<'_>,
@@ -88,7 +90,7 @@ pub fn answer_with<H, G: Gate + Drop>(
 }
 
 /// What `top` answers to a call over this rack, with the program's own gates.
-pub fn answer_to<H>(
+pub fn answer_to<H: Threads + Wait + Sync>(
     rt: &H,
     alloc: Global,
     call: Call<'_>,

@@ -3,9 +3,11 @@ use crate::calls::{Call, answer_to, empty, plain_call};
 use process_disk::MemoryRack;
 use std::alloc::{AllocError, Global};
 use std::process::Abort;
+use std::sync::Wait;
+use std::thread::Threads;
 
 /// A call on a rack has this status and this whole output. The answer is the rack after it.
-pub fn expect_call<H: Abort>(
+pub fn expect_call<H: Abort + Threads + Wait + Sync>(
     rt: &H,
     alloc: Global,
     call: Call<'_>,
@@ -20,7 +22,7 @@ pub fn expect_call<H: Abort>(
 }
 
 /// The same of words and an input.
-pub fn expect_on<H: Abort>(
+pub fn expect_on<H: Abort + Threads + Wait + Sync>(
     rt: &H,
     alloc: Global,
     words: &[&str],
@@ -33,7 +35,7 @@ pub fn expect_on<H: Abort>(
 }
 
 /// Words and an input have this status and this output on a fresh rack.
-pub fn expect<H: Abort>(
+pub fn expect<H: Abort + Threads + Wait + Sync>(
     rt: &H,
     alloc: Global,
     words: &[&str],

@@ -10,10 +10,11 @@ use process_flow::{MemorySink, MemorySource};
 use process_program::{Ended, program};
 use std::alloc::Global;
 use std::fmt::Write;
-use std::fs::File;
 use std::process::{Abort, ExitCode};
 use std::rt::{Env, Files};
+use std::sync::Wait;
 use std::test::Fail;
+use std::thread::Threads;
 use std::{env, fs, io};
 
 // An empty folder of its own for a test.
@@ -49,7 +50,7 @@ fn expect_code(rt: &impl Abort, alloc: Global, found: ExitCode, code: u8) -> Res
 }
 
 // The program answers so over a folder. The answer is the rack that it leaves.
-fn expect_on<H: Abort, D: Folder + Drop>(
+fn expect_on<H: Abort + Threads + Wait + Sync, D: Folder + Drop + Send>(
     rt: &H,
     alloc: Global,
     call: Call<'_>,
@@ -64,19 +65,6 @@ fn expect_on<H: Abort, D: Folder + Drop>(
     expect_code(rt, alloc, code, call.code)?;
     assert_eq!(rt; sink.bytes(), call.output);
     Ok(rack)
-}
-
-// The program answers so over the files of the current folder, call by call.
-fn expect_all<'a, R: Files<File = File> + Alloc + Abort>(
-    rt: &'a R,
-    alloc: Global,
-    calls: &[Call<'_>],
-) -> Result<(), Fail> {
-    for call in calls {
-        let rack = expect_on(rt, alloc, *call, SystemFolder::new(rt))?;
-        drop(rack);
-    }
-    Ok(())
 }
 
 const RUN: Call<'static> = Call {
@@ -132,18 +120,25 @@ fn a_second_program_on_the_folder_changes_nothing(rt: HostRuntime) -> Result<(),
     let mut first = FileRack::new(&rt);
     let mut log = Log::create(alloc, &mut first, 0)?;
     let before = fs::read(&rt, "tps.0")?;
-    expect_all(&rt, alloc, &BESIDE)?;
+    for call in &BESIDE {
+        drop(expect_on(&rt, alloc, *call, SystemFolder::new(&rt))?);
+    }
     let after = fs::read(&rt, "tps.0")?;
     assert_eq!(rt; after.as_slice(), before.as_slice());
     log.append(&mut first, b"first")?;
     drop(first);
-    expect_all(&rt, alloc, &[RUN_ON_ANOTHER_LOG])?;
+    let folder = SystemFolder::new(&rt);
+    drop(expect_on(&rt, alloc, RUN_ON_ANOTHER_LOG, folder)?);
     leave(&rt, "second")?;
     Ok(())
 }
 
 // A run in which so many bytes go in a transfer at most writes the same journal.
-fn expect_journal(rt: &impl Abort, alloc: Global, most: u8) -> Result<(), Fail> {
+fn expect_journal<H: Abort + Threads + Wait + Sync>(
+    rt: &H,
+    alloc: Global,
+    most: u8,
+) -> Result<(), Fail> {
     let rack = MemoryRack::new(alloc, Vec::new(alloc))?;
     let made = expect_on(rt, alloc, MAKE_TEXT, MemoryFolder::new(rack, most))?;
     let mut rack = expect_on(rt, alloc, RUN, MemoryFolder::new(made.folder.rack, most))?;
@@ -172,8 +167,8 @@ const FAILED: Call<'static> = Call {
 };
 
 // The rack after a run, of which these calls fail.
-fn run_over(
-    rt: &impl Abort,
+fn run_over<H: Abort + Threads + Wait + Sync>(
+    rt: &H,
     alloc: Global,
     fails: &[u32],
     run: Call<'_>,

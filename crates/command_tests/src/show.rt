@@ -4,7 +4,9 @@ use crate::expected::expect_on;
 use process_disk::MemoryRack;
 use std::alloc::{AllocError, Global};
 use std::process::Abort;
+use std::sync::Wait;
 use std::test::Fail;
+use std::thread::Threads;
 
 /// A scenario of one operation, and of one process of two steps.
 pub const TEXT: &[u8] = b"version = 1\nprocesses = \"process a c x add 1 5 c y add 1 6 end\"\n\
@@ -20,7 +22,7 @@ pub const TWO_STEPS_KEPT: &[u8] = b"tpsl\x01\x00\x00\x00\
     \x00";
 
 // What is shown of a rack, and the rack after it.
-fn show_on<H: Abort>(
+fn show_on<H: Abort + Threads + Wait + Sync>(
     rt: &H,
     alloc: Global,
     rack: MemoryRack,
@@ -31,7 +33,10 @@ fn show_on<H: Abort>(
 }
 
 // A rack on which that scenario was run.
-fn run_before<H: Abort>(rt: &H, alloc: Global) -> Result<MemoryRack, AllocError> {
+fn run_before<H: Abort + Threads + Wait + Sync>(
+    rt: &H,
+    alloc: Global,
+) -> Result<MemoryRack, AllocError> {
     let rack = empty(alloc, &[])?;
     let rack = expect_on(rt, alloc, &["init"], TEXT, rack, 0, b"created\n")?;
     expect_on(rt, alloc, &["run"], TEXT, rack, 0, SHOWN)
@@ -76,7 +81,7 @@ fn beginning(rt: &impl Abort, records: usize) -> &'static [u8] {
 }
 
 // What is shown of what a stop leaves.
-fn shown_after<H: Abort>(
+fn shown_after<H: Abort + Threads + Wait + Sync>(
     rt: &H,
     alloc: Global,
     whole: &MemoryRack,

@@ -27,7 +27,7 @@ under_way plans now k (inr start) = (_, ap (λ h. h.events) start.3)
 
 pub ahead_events : (o : Option Command) (before after : Input) (c : Catalog) (h : History) (now : CoreState) (k : History) → IsAhead o before after c h now k
     → (e : Event) × (k.events ≡ history_of now ++ e ∷ [])
-ahead_events (Some Run) before after c h now k ahead = under_way ahead.0 now k ahead.2
+ahead_events (Some (Run workers)) before after c h now k ahead = under_way ahead.0 now k ahead.2
 ahead_events (Some Session) before after c h now k ahead = under_way ahead.0 now k ahead.3
 ahead_events (Some Serve) before after c h now k (plans, first, taken, read, spelled, ahead) = under_way (plans ++ spelled) now k ahead
 ahead_events (Some Restart) before after c h now k ahead = (ahead.event, ap (λ h. h.events) ahead.is)

@@ -29,7 +29,7 @@ use Rattle.command_input.specs.declared.said.Said.{Said}
 use Rattle.scenario_run.specs.Opening.{AreNotOpened, open_refusal}
 use Rattle.engine_calls.specs.GateAnswers.{AskedGate}
 use Rattle.process_top.specs.Replies.{Reply, checked, created, ended, served, shown, accepted, generated, refused, IsReplyTold}
-use Rattle.process_top.specs.Run.{first_gate}
+use Rattle.process_top.specs.Run.{first_gate, gates_asked}
 use Rattle.process_top.specs.Told.{IsTold}
 use Rattle.process_top.specs.Worlds.{BoxState, World}
 use Rattle.process_top.proofs.StatusNumbers.{same_status}
@@ -89,7 +89,7 @@ module _ {S K R : Type 0} (c : Catalog) (h : History) (MayBeAhead : History → 
   )
 
   -- it said what it did
-  by_text : (k : History) (core : CoreState) (s : Said) → IsRestart (first_gate again.gates last.gates) c k core Settled again.files.disk last.files.disk → SaysRestart c k core s
+  by_text : (k : History) (core : CoreState) (s : Said) → IsRestart (first_gate (gates_asked again.gates last.gates)) c k core Settled again.files.disk last.files.disk → SaysRestart c k core s
       → IsTold s.status s.text.items again.output last.output on.answered.status → Came
   by_text k core s made says told = (
     k,
@@ -99,7 +99,7 @@ module _ {S K R : Type 0} (c : Catalog) (h : History) (MayBeAhead : History → 
       ends = ⊎_elim (λ out. ⊎_elim (λ whole. inl (out.0 ∙ whole.0)) (λ up. inr (inl (out.0 ∙ up.2))) says) (λ failed. inr (inr (inl failed.0))) told;
       done = λ is. ⊎_elim
           (λ out. ⊎_elim
-          (λ whole. restored (first_gate again.gates last.gates) c k core again last made on.known whole.1 (subst (Appends again.output.taken last.output.taken) whole.2 out.1) (values is) books)
+          (λ whole. restored (first_gate (gates_asked again.gates last.gates)) c k core again last made on.known whole.1 (subst (Appends again.output.taken last.output.taken) whole.2 out.1) (values is) books)
           (λ up. absurd (let a = out.0 in let b = up.2 in cc))
           says)
           (λ failed. absurd (let a = failed.0 in cc))
@@ -124,7 +124,7 @@ module _ {S K R : Type 0} (c : Catalog) (h : History) (MayBeAhead : History → 
   )
     where
       images : EachImage last.files.disk again.files.disk.moment (IsWithin c k.events (with_completion k))
-      images = restart_images (first_gate again.gates last.gates) c k core Settled again.files.disk last.files.disk made on.known honest
+      images = restart_images (first_gate (gates_asked again.gates last.gates)) c k core Settled again.files.disk last.files.disk made on.known honest
 
       values : on.answered.status ≡ Done → HaveValuesOf (λ (b : BoxState). b.values) last.files.disk.files last.boxes
       values is = on.answered.values on.asks is (subst (λ b. b ≡ true) (sym on.answered.left.tells) on.known.told)
@@ -169,7 +169,7 @@ module _ {S K R : Type 0} (c : Catalog) (h : History) (MayBeAhead : History → 
       by (inr settled) = let so = becoming settled.1.catalog settled.1.history settled.1.sound settled.1.becomes in cut_off settled.1.history so.0 so.1 cut
 
   abbrev gate : AskedGate
-  gate = first_gate again.gates last.gates
+  gate = first_gate (gates_asked again.gates last.gates)
 
   -- a restart of another catalog is of this one
   of_catalog : (d : Catalog) (k : History) (core : CoreState) (on' : Phase) → IsRestart gate d k core on' again.files.disk last.files.disk → d ≡ c
@@ -206,7 +206,7 @@ module _ {S K R : Type 0} (c : Catalog) (h : History) (MayBeAhead : History → 
 
   pub came_of : Came
   came_of = by_reply on.answered.reply
-      (subst (λ o. IsDueTo o gate again.input last.input again.files last.files on.answered.reply) on.asks on.answered.due) on.answered.told
+      (subst (λ o. IsDueTo o (gates_asked again.gates last.gates) again.input last.input again.files last.files on.answered.reply) on.asks on.answered.due) on.answered.told
 
   -- what was left holds, whatever is read of it
   begins_as : (read : History) → IsSameHistory g read → IsBeginningOf MayBeAhead now read

@@ -27,7 +27,7 @@ use Rattle.command_refusals.specs.declared.status.Status.{Status}
 use Rattle.program_words.specs.declared.reading.Command.{Command}
 use Rattle.command_input.specs.FilesLeft.{AreUntouched}
 use Rattle.scenario_run.specs.Opening.{AreNotOpened, IsNotOpenedFor, open_refusal}
-use Rattle.process_top.specs.Run.{first_gate}
+use Rattle.process_top.specs.Run.{gates_asked}
 use Rattle.process_top.specs.Told.{IsRefusalTold}
 use Rattle.process_top.specs.Worlds.{World}
 use Rattle.headline.specs.Headline.{CameBy, IsAhead, FailsInDialogue, IsAtEntry, IsRackFault, LeavesFiles, WentOn, is_refused_beforehand}
@@ -125,7 +125,7 @@ module _ {S K R : Type 0} (o : Option Command) (c : Catalog) (h : History) (befo
 
   -- the engine went on
   pub kept : (d : Catalog) (k : History) (now : CoreState) (Ahead : FileSet → Type 0) (on : Phase) → (are : AreKept d k now Ahead on before.files.disk after.files.disk) → IsCore now
-      → (now ≡ opened_on d.conflicts k.plans k.events) ⊎ CameBy o (first_gate before.gates after.gates) before.input after.input d k now
+      → (now ≡ opened_on d.conflicts k.plans k.events) ⊎ CameBy o (gates_asked before.gates after.gates) before.input after.input d k now
       → ((files : FileSet) → Ahead files → (j : History) × IsAhead o before.input after.input d k now j × IsSound d j files)
       → (¬ IsRackFault status before after → on ≡ Settled) → NoneBeforehand are.came → Went
   kept d k now Ahead on are core by so settles none =

@@ -8,7 +8,7 @@ use Rattle.process_core.specs.Cores.{CoreState, opened_on}
 use Rattle.engine_steps.specs.declared.engines.Phase.{Phase}
 use Rattle.engine_steps.specs.declared.engines.Phase.TheVariants.{Settled, Closed}
 use Rattle.engine_calls.specs.Acknowledged.{IsOneAhead}
-use Rattle.engine_calls.specs.GateAnswers.{AskedGate}
+use Rattle.worker_gate.specs.ManyGates.{AskedGates}
 use Rattle.session_text.specs.declared.line.Line.{Line}
 use Rattle.command_refusals.specs.Statuses.{number_of}
 use Rattle.command_refusals.specs.declared.status.Status.{Status}
@@ -30,7 +30,7 @@ use Rattle.restart_run.specs.Restart.{SaysRestart}
 use Rattle.process_top.specs.Commands.{IsDueTo}
 use Rattle.process_top.specs.Replies.{Reply, checked, created, ended, served, shown, accepted, generated, refused, IsReplyTold}
 use Rattle.process_top.specs.Restart.{IsRestartDue}
-use Rattle.process_top.specs.Run.{IsRunDue, first_gate}
+use Rattle.process_top.specs.Run.{IsRunDue, first_gate, first_gates, gates_asked}
 use Rattle.process_top.specs.Said.{IsResultTold}
 use Rattle.process_top.specs.Serve.{IsServeDue}
 use Rattle.process_top.specs.Session.{IsSessionDue}
@@ -42,8 +42,8 @@ use Rattle.headline.proofs.Went.{Went, kept, nothing, not_opened, not_opened_for
 
 module _ {S K R : Type 0} (c : Catalog) (h : History) (before after : World S K R) (entry : IsAtEntry c h before.files.disk)
     (number : ℕ) (status : Status) (numbered : number ≡ number_of status) (known : Told after.files.disk) (honest : IsHonest after.files.disk) where
-  abbrev gate : AskedGate
-  gate = first_gate before.gates after.gates
+  abbrev gates : AskedGates
+  gates = gates_asked before.gates after.gates
 
   abbrev Of : Command → Type 0
   Of command = Went (Some command) c h before after entry number status numbered known honest
@@ -55,40 +55,41 @@ module _ {S K R : Type 0} (c : Catalog) (h : History) (before after : World S K 
   Settles on = ¬ IsRackFault status before after → on ≡ Settled
 
   -- `run`,
-  run_on : (d : Catalog) (plans : List Plan) → IsScenarioRead before.input after.input d plans → (k : History) (started rest : List Plan) (now : CoreState) (on : Phase) → plans ≡ started ++ rest
-      → IsRun gate d k plans started now on before.files after.files → Settles on → IsLate → Of Run
-  run_on d plans read k started rest now on are run settles late =
-      kept (Some Run) c h before after entry number status numbered known honest d k now (IsOneAhead d plans now on) on run.1 run.0.run.machine (inr (plans, started, rest, read, are, run.0))
-      (λ files ahead. (ahead.1.0, (plans, read, ahead.1.1), ahead.1.2)) settles (λ early reads. absurd (late early))
+  module _ (workers : ℕ) where
+    run_on : (d : Catalog) (plans : List Plan) → IsScenarioRead before.input after.input d plans → (k : History) (started rest : List Plan) (now : CoreState) (on : Phase) → plans ≡ started ++ rest
+        → IsRun (first_gates workers gates) d k plans started now on before.files after.files → Settles on → IsLate → Of (Run workers)
+    run_on d plans read k started rest now on are run settles late =
+        kept (Some (Run workers)) c h before after entry number status numbered known honest d k now (IsOneAhead d plans now on) on run.1 run.0.run.machine (inr (plans, started, rest, read, are, run.0))
+        (λ files ahead. (ahead.1.0, (plans, read, ahead.1.1), ahead.1.2)) settles (λ early reads. absurd (late early))
 
-  run_late : (d : Catalog) (now : CoreState) (s : Said) → SaysRun d now s → IsTold s.status s.text.items before.output after.output status → IsLate
-  run_late d now s (inl all) out = said_late s.status status before.output after.output s.text.items out (ap is_refused_beforehand all.0)
-  run_late d now s (inr stuck) out = said_late s.status status before.output after.output s.text.items out (ap is_refused_beforehand stuck.1)
+    run_late : (d : Catalog) (now : CoreState) (s : Said) → SaysRun d now s → IsTold s.status s.text.items before.output after.output status → IsLate
+    run_late d now s (inl all) out = said_late s.status status before.output after.output s.text.items out (ap is_refused_beforehand all.0)
+    run_late d now s (inr stuck) out = said_late s.status status before.output after.output s.text.items out (ap is_refused_beforehand stuck.1)
 
-  run_of : (d : Catalog) (plans : List Plan) → IsScenarioRead before.input after.input d plans → (found : _) → IsRunOf gate d plans before.files after.files found
-      → IsResultTold found before.output after.output status → Of Run
-  run_of d plans read (Ok s) (k, now, run, says) out = run_on d plans read k plans [] now Settled (sym (append-nil plans)) run (λ well. refl) (run_late d now s says out)
-  run_of d plans read (Err r) (inl closed) out = not_opened_for (Some Run) c h before after entry number status numbered known honest d r closed out
-  run_of d plans read (Err r) (inr (inl past)) out = nothing (Some Run) c h before after entry number status numbered known honest d past.0 past.4
-  run_of d plans read (Err r) (inr (inr (k, started, rest, now, are, inl (memory, run)))) out =
-      run_on d plans read k started rest now Settled are run (λ well. refl) (cut_late status (told_cut r before.output after.output status (inr memory) out))
-  run_of d plans read (Err r) (inr (inr (k, started, rest, now, are, inr (fault, run, rose)))) out =
-      run_on d plans read k started rest now Closed are run (λ well. absurd (well (refused_fault before after r status fault rose out)))
-      (cut_late status (told_cut r before.output after.output status (inl fault) out))
+    run_of : (d : Catalog) (plans : List Plan) → IsScenarioRead before.input after.input d plans → (found : _) → IsRunOf (first_gates workers gates) d plans before.files after.files found
+        → IsResultTold found before.output after.output status → Of (Run workers)
+    run_of d plans read (Ok s) (k, now, run, says) out = run_on d plans read k plans [] now Settled (sym (append-nil plans)) run (λ well. refl) (run_late d now s says out)
+    run_of d plans read (Err r) (inl closed) out = not_opened_for (Some (Run workers)) c h before after entry number status numbered known honest d r closed out
+    run_of d plans read (Err r) (inr (inl past)) out = nothing (Some (Run workers)) c h before after entry number status numbered known honest d past.0 past.4
+    run_of d plans read (Err r) (inr (inr (k, started, rest, now, are, inl (memory, run)))) out =
+        run_on d plans read k started rest now Settled are run (λ well. refl) (cut_late status (told_cut r before.output after.output status (inr memory) out))
+    run_of d plans read (Err r) (inr (inr (k, started, rest, now, are, inr (fault, run, rose)))) out =
+        run_on d plans read k started rest now Closed are run (λ well. absurd (well (refused_fault before after r status fault rose out)))
+        (cut_late status (told_cut r before.output after.output status (inl fault) out))
 
-  run_found : (found : _) → IsRunFound gate before.input after.input before.files after.files found → IsResultTold found before.output after.output status → Of Run
-  run_found found (inl none) out = untouched (Some Run) c h before after entry number status numbered known honest none.1
-  run_found found (inr (d, plans, read, run)) out = run_of d plans read found run out
+    run_found : (found : _) → IsRunFound (first_gates workers gates) before.input after.input before.files after.files found → IsResultTold found before.output after.output status → Of (Run workers)
+    run_found found (inl none) out = untouched (Some (Run workers)) c h before after entry number status numbered known honest none.1
+    run_found found (inr (d, plans, read, run)) out = run_of d plans read found run out
 
-  run_due : (reply : Reply) → IsRunDue gate before.input after.input before.files after.files reply → IsReplyTold reply before.output after.output status → Of Run
-  run_due (ended s) due out = run_found (Ok s) due out
-  run_due (refused r) due out = run_found (Err r) due out
-  run_due (checked ps vs) due out = absurd due
-  run_due created due out = absurd due
-  run_due (served text at) due out = absurd due
-  run_due (shown d k) due out = absurd due
-  run_due accepted due out = absurd due
-  run_due (generated text) due out = absurd due
+    run_due : (reply : Reply) → IsRunDue (first_gates workers gates) before.input after.input before.files after.files reply → IsReplyTold reply before.output after.output status → Of (Run workers)
+    run_due (ended s) due out = run_found (Ok s) due out
+    run_due (refused r) due out = run_found (Err r) due out
+    run_due (checked ps vs) due out = absurd due
+    run_due created due out = absurd due
+    run_due (served text at) due out = absurd due
+    run_due (shown d k) due out = absurd due
+    run_due accepted due out = absurd due
+    run_due (generated text) due out = absurd due
 
   -- `session`,
   abbrev Ended : Status → Type 0
@@ -208,7 +209,7 @@ module _ {S K R : Type 0} (c : Catalog) (h : History) (before after : World S K 
   serve_due (generated text) due out = absurd due
 
   -- and `restart`.
-  restart_on : (d : Catalog) (k : History) (now : CoreState) (on : Phase) → IsRestart gate d k now on before.files.disk after.files.disk → Settles on → IsLate → Of Restart
+  restart_on : (d : Catalog) (k : History) (now : CoreState) (on : Phase) → IsRestart (first_gate gates) d k now on before.files.disk after.files.disk → Settles on → IsLate → Of Restart
   restart_on d k now on made settles late =
       kept (Some Restart) c h before after entry number status numbered known honest d k now (IsNextOfCompletion d k now on) on made.kept made.completing.run.machine (inr made.completing)
       (λ files ahead. (ahead.1.0, ahead.1.1, ahead.1.2)) settles (λ early reads. absurd (late early))
@@ -217,7 +218,7 @@ module _ {S K R : Type 0} (c : Catalog) (h : History) (before after : World S K 
   restart_late d k now s (inl all) out = said_late s.status status before.output after.output s.text.items out (ap is_refused_beforehand all.0)
   restart_late d k now s (inr part) out = said_late s.status status before.output after.output s.text.items out (ap is_refused_beforehand part.2)
 
-  restart_due : (reply : Reply) → IsRestartDue gate before.files after.files reply → IsReplyTold reply before.output after.output status → Of Restart
+  restart_due : (reply : Reply) → IsRestartDue (first_gate gates) before.files after.files reply → IsReplyTold reply before.output after.output status → Of Restart
   restart_due (ended s) (d, k, now, made, says) out = restart_on d k now Settled made (λ well. refl) (restart_late d k now s says out)
   restart_due (refused r) (inl (e, is, why)) out = not_opened (Some Restart) c h before after entry number status numbered known honest e r is why out
   restart_due (refused r) (inr (d, k, now, inl (memory, made))) out =
@@ -233,9 +234,9 @@ module _ {S K R : Type 0} (c : Catalog) (h : History) (before after : World S K 
   restart_due (generated text) due out = absurd due
 
   -- Whatever words asked for one of them.
-  pub went_by : (o : Option Command) → goes_on o ≡ true → (reply : Reply) → IsDueTo o gate before.input after.input before.files after.files reply
+  pub went_by : (o : Option Command) → goes_on o ≡ true → (reply : Reply) → IsDueTo o gates before.input after.input before.files after.files reply
       → IsReplyTold reply before.output after.output status → Went o c h before after entry number status numbered known honest
-  went_by (Some Run) goes reply due out = run_due reply due out
+  went_by (Some (Run workers)) goes reply due out = run_due workers reply due out
   went_by (Some Session) goes reply due out = session_due reply due out
   went_by (Some Serve) goes reply due out = serve_due reply due out
   went_by (Some Restart) goes reply due out = restart_due reply due out

@@ -49,7 +49,7 @@ module _ {S K R B G : Type 0} (sources : Sources S) (sinks : Sinks K) (racks : R
         restarts_agree c h (good_history c h entry.created.history) (see before) (see after) now came went moment read begins holds
     agree (Some Check) now came went moment read begins holds is = absurd cc
     agree (Some Init) now came went moment read begins holds is = absurd cc
-    agree (Some Run) now came went moment read begins holds is = absurd cc
+    agree (Some (Run workers)) now came went moment read begins holds is = absurd cc
     agree (Some Session) now came went moment read begins holds is = absurd cc
     agree (Some Serve) now came went moment read begins holds is = absurd cc
     agree (Some Show) now came went moment read begins holds is = absurd cc

@@ -70,12 +70,13 @@ use Rattle.program_words.specs.declared.reading.Command.TheVariants.{Run, Sessio
 use Rattle.command_input.specs.Inputs.{Input}
 use Rattle.scenario_run.specs.Reports.{exhausted_line}
 use Rattle.engine_calls.specs.GateAnswers.{AskedGate}
+use Rattle.worker_gate.specs.ManyGates.{AskedGates}
 use Rattle.scenario_run.specs.Scenario.{IsScenarioRead}
 use Rattle.session_run.specs.Playthrough.{HasPlayed}
 use Rattle.session_run.specs.Session.{IsSessionRead}
 use Rattle.session_text.specs.declared.line.Line.{Line}
 use Rattle.serve_run.specs.Serve.{IsServeRead, IsSpoken}
-use Rattle.process_top.specs.Run.{first_gate}
+use Rattle.process_top.specs.Run.{first_gate, first_gates, gates_asked}
 use Rattle.process_top.specs.Worlds.{BoxState, World, world}
 use Rattle.engine_calls.specs.Acknowledged.{ComeInTurn, IsUnderWay, acknowledged, events_of}
 use Rattle.engine_calls.specs.Opened.{FromOpening}
@@ -89,33 +90,34 @@ use Rattle.process_top.specs.Commands.{Answers, IsQuiet}
 
 -- the command opens an engine and goes on with it
 abbrev pub goes_on : Option Command → Bool
-goes_on (Some Run) = true
+goes_on (Some (Run workers)) = true
 goes_on (Some Session) = true
 goes_on (Some Serve) = true
 goes_on (Some Restart) = true
 goes_on o = false
 
 -- The machine that opened on this history came to this one as the command says: by processes of the scenario, which started in its
--- order, and what the gate answers; by lines of the session; by lines of a driver, once whoever was active had begun to complete;
+-- order, and what the gates answer; by lines of the session; by lines of a driver, once whoever was active had begun to complete;
 -- or by what completes the history.
-abbrev pub CameBy : Option Command → AskedGate → Input → Input → Catalog → History → CoreState → Type 0
-CameBy (Some Run) gate before after c h now =
+abbrev pub CameBy : Option Command → AskedGates → Input → Input → Catalog → History → CoreState → Type 0
+CameBy (Some (Run workers)) gates before after c h now =
     (plans started rest : List Plan) × IsScenarioRead before after c plans × (plans ≡ started ++ rest)
-    × HasGone gate c h started now
-CameBy (Some Session) gate before after c h now =
+    × HasGone (first_gates workers gates) c h started now
+CameBy (Some Session) gates before after c h now =
     (plans : List Plan) × (lines : List Line) × (text : List ℕ) × (status : Status)
     × IsSessionRead before after c plans lines × (active h.events ≡ [])
     × HasPlayed c plans (opened_on c.conflicts h.plans h.events) now lines text status
-CameBy (Some Serve) gate before after c h now =
+CameBy (Some Serve) gates before after c h now =
     (plans : List Plan) × (first : ℕ) × (taken answers : List ℕ) × (status : Status)
     × IsServeRead before after c plans first taken × IsSpoken c plans h first now taken after.left answers status
-CameBy (Some Restart) gate before after c h now = IsCompleting gate c h now
-CameBy o gate before after c h now = ⊥
+CameBy (Some Restart) gates before after c h now = IsCompleting (first_gate gates) c h now
+CameBy o gates before after c h now = ⊥
 
 -- The history of the machine with the event that may have been under way: of a piece that is out, of a start of the scenario's, or
 -- the next of the completion. In a dialogue it may be the start of another plan too, as a line may spell one out.
 abbrev pub IsAhead : Option Command → Input → Input → Catalog → History → CoreState → History → Type 0
-IsAhead (Some Run) before after c h now k = (plans : List Plan) × IsScenarioRead before after c plans × IsUnderWay plans now k
+IsAhead (Some (Run workers)) before after c h now k =
+    (plans : List Plan) × IsScenarioRead before after c plans × IsUnderWay plans now k
 IsAhead (Some Session) before after c h now k =
     (plans : List Plan) × (lines : List Line) × IsSessionRead before after c plans lines × IsUnderWay plans now k
 IsAhead (Some Serve) before after c h now k =
@@ -133,7 +135,7 @@ pub record WentOn {S K R : Type 0} (o : Option Command) (c : Catalog) (h : Histo
   pub machine : IsCore now
   pub begins : opened ≡ beginning (full_history now) opened.events
   pub by : (now ≡ opened_on c.conflicts opened.plans opened.events)
-      ⊎ CameBy o (first_gate before.gates after.gates) before.input after.input c opened now
+      ⊎ CameBy o (gates_asked before.gates after.gates) before.input after.input c opened now
   pub events : history_of now ≡ h.events ++ events_of came
   pub in_turn : FromOpening (λ t. ComeInTurn c (full_history now)
       (λ files. (k : History) × IsAhead o before.input after.input c opened now k
@@ -234,7 +236,7 @@ pub record IsRecovered {S K R : Type 0} (c : Catalog) (h : History) (MayBeAhead 
   pub status : Status
   pub numbered : number ≡ number_of status
   pub one_of : IsOneOf status (Done ∷ WriteFault ∷ DiskFault ∷ Exhausted ∷ NoMemory ∷ [])
-  pub well : NothingIsExhausted (first_gate again.gates last.gates) c read → number ≢ number_of NoMemory
+  pub well : NothingIsExhausted (first_gate (gates_asked again.gates last.gates)) c read → number ≢ number_of NoMemory
       → IsQuiet (asked words) again last → status ≡ Done
 
 -- What `restart` makes of the history that it read, and what it prints of it.
@@ -277,7 +279,7 @@ pub record IsRestored {S K R : Type 0} (c : Catalog) (h : History) (MayBeAhead :
 -- schedule, and the report of it is printed with a line that names the process whose turn it is.
 pub record IsHeldUp {S K R : Type 0} (c : Catalog) (read : History) (again last : World S K R) : Type 0 where
   pub now : CoreState
-  pub completing : IsCompleting (first_gate again.gates last.gates) c read now
+  pub completing : IsCompleting (first_gate (gates_asked again.gates last.gates)) c read now
   pub process : ℕ
   pub step : ℕ
   pub exhausted : IsHeldUpBy now process step
@@ -332,7 +334,7 @@ module _ {S K R B G : Type 0} (sources : Sources S) (sinks : Sinks K) (racks : R
     pub restarted : IsRestartOn left words (seen again) (seen last) number
     -- no retriable and no undo is refused or barred as often as its tries
     pub willing : (read : History) → IsSound c read left
-        → NothingIsExhausted (first_gate (seen again).gates (seen last).gates) c read
+        → NothingIsExhausted (first_gate (gates_asked (seen again).gates (seen last).gates)) c read
     -- memory is found
     pub memory : number ≢ number_of NoMemory
     -- no device fails during the restart, and the sink takes the text

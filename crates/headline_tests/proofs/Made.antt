@@ -17,7 +17,7 @@ use Rattle.command_refusals.specs.declared.status.Status.TheVariants.{Done}
 use Rattle.process_top.specs.Commands.{IsDueTo}
 use Rattle.process_top.specs.Init.{IsInitDue}
 use Rattle.process_top.specs.Replies.{Reply, accepted, checked, created, ended, generated, refused, served, shown, IsReplyTold}
-use Rattle.process_top.specs.Run.{first_gate}
+use Rattle.process_top.specs.Run.{gates_asked}
 use Rattle.process_top.specs.Told.{IsRefusalTold, Output}
 use Rattle.process_top.specs.Worlds.{World}
 use Rattle.process_top.proofs.RefusedStatuses.{refused_undone}
@@ -55,7 +55,7 @@ module _ {S K R B G : Type 0} (sources : Sources S) (sinks : Sinks K) (racks : R
       let old = see sources sinks racks resources workers call.before in
       let new = see sources sinks racks resources workers call.after in
       let answers = call.answered in
-      let due = subst (λ o. IsDueTo o (first_gate old.gates new.gates) old.input new.input old.files new.files answers.reply) init_asked answers.due in
+      let due = subst (λ o. IsDueTo o (gates_asked old.gates new.gates) old.input new.input old.files new.files answers.reply) init_asked answers.due in
       let made = made_by old new (subst (λ r. Told (racks.disk r)) (sym call.on) told) answers.status (same_status answers.status Done (sym answers.numbered ∙ zero)) answers.reply due answers.told in
       (made.0, subst (λ r. IsSound made.0 no_history (racks.disk r).files) call.leaves made.1)
 

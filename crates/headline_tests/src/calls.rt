@@ -6,9 +6,11 @@ use process_disk::{MemoryRack, Rack};
 use process_engine::Gate;
 use process_flow::{MemorySink, MemorySource, Sink, Source};
 use process_program::{OwnBox, new_boxes};
-use process_top::{Finished, answer};
+use process_top::{Finished, top};
 use resource_box::Resource;
 use std::alloc::{AllocError, Global};
+use std::sync::Wait;
+use std::thread::Threads;
 use worker_gate::ScriptGate;
 
 /// What is answered.
@@ -39,7 +41,8 @@ fn one_word(alloc: Global, word: &str) -> Result<Vec<String>, AllocError>
 }
 
 /// What is answered on one word and an input over a rack, with new boxes, and gates that refuse nothing.
-pub fn answered(
+pub fn answered<H: Threads + Wait + Sync>(
+    rt: &H,
     alloc: Global,
     word: &str,
     text: &[u8],
@@ -53,7 +56,8 @@ pub fn answered(
     let gates = willing_gates(alloc)?;
     let mut source = MemorySource::new(text.to_vec(alloc)?, Vec::new(alloc));
     let mut sink = MemorySink::new(alloc, Vec::new(alloc));
-    let finished = answer(
+    let finished = top(
+        rt,
         alloc,
         &words,
         &mut source,

@@ -4,7 +4,9 @@ use crate::stopped_and_restarted;
 use process_flow::MemorySink;
 use std::alloc::{AllocError, Global};
 use std::process::Abort;
+use std::sync::Wait;
 use std::test::Fail;
+use std::thread::Threads;
 
 const SCENARIO: &[u8] = b"version = 1\n\
     conflicts = [[\"add\", \"take\"], [\"take\", \"take\"]]\n\
@@ -42,7 +44,7 @@ fn place_of(sink: &MemorySink) -> usize {
 
 // Stops the session within each of its calls in turn, with this many bytes kept and this fill. Each restart ends well, with the
 // report of one beginning, and none of a shorter one than the restart before. The answer is the place of the last one.
-fn stopped_in_each_call<H: Abort>(
+fn stopped_in_each_call<H: Abort + Threads + Wait + Sync>(
     rt: &H,
     alloc: Global,
     keep: u32,
@@ -52,7 +54,8 @@ fn stopped_in_each_call<H: Abort>(
     session.extend_from_slice(LINES)?;
     let mut last = 0;
     for call in 0..1000_u32 {
-        let Some(told) = stopped_and_restarted(alloc, SCENARIO, &session, call, keep, fill)? else {
+        let Some(told) = stopped_and_restarted(rt, alloc, SCENARIO, &session, call, keep, fill)?
+        else {
             return Ok(last);
         };
         let place = place_of(&told.sink);

@@ -15,6 +15,8 @@ use process_flow::{MemorySink, MemorySource, Sink, Source};
 use process_program::OwnBox;
 use resource_box::Resource;
 use std::alloc::{AllocError, Global};
+use std::sync::Wait;
+use std::thread::Threads;
 use worker_gate::ScriptGate;
 
 // The rack of these files, as nobody has called it: what a stop leaves within a call that only looks, once all is synced.
@@ -36,11 +38,16 @@ fn switched_off(alloc: Global, rack: MemoryRack) -> Result<Option<MemoryRack>, A
 }
 
 // A rack that files were made on, of a scenario's catalog.
-fn made(alloc: Global, scenario: &[u8]) -> Result<Option<MemoryRack>, AllocError>
+fn made<H: Threads + Wait + Sync>(
+    rt: &H,
+    alloc: Global,
+    scenario: &[u8],
+) -> Result<Option<MemoryRack>, AllocError>
     ensures entry { IfOk result (λ o. IfSome o (λ rack. (c : Catalog) × IsAtEntry c no_history (disk_of (memory rack)))) }
     ensures uncalled { IfOk result (λ o. IfSome o (λ rack. (memory rack).made ≡ [])) }
 {
     let told = answered(
+        rt,
         alloc,
         "init",
         scenario,
@@ -54,7 +61,8 @@ fn made(alloc: Global, scenario: &[u8]) -> Result<Option<MemoryRack>, AllocError
 
 /// What `restart` answers on what is left of a session on new files of a scenario's catalog, which is stopped within one of its
 /// calls of the rack: what was not synced holds its first bytes, and else this fill.
-pub fn stopped_and_restarted(
+pub fn stopped_and_restarted<H: Threads + Wait + Sync>(
+    rt: &H,
     alloc: Global,
     scenario: &[u8],
     session: &[u8],
@@ -66,13 +74,13 @@ pub fn stopped_and_restarted(
         ⟦<MemoryRack as Rack>⟧ ⟦<OwnBox as Resource>⟧ ⟦<ScriptGate as Gate>⟧ t.status t.sink)) }
 {
     stops_are_restored::<MemorySource, MemorySink, MemoryRack, OwnBox, ScriptGate>();
-    let Some(rack) = made(alloc, scenario)? else {
+    let Some(rack) = made(rt, alloc, scenario)? else {
         return Ok(None);
     };
-    let played = answered(alloc, "session", session, rack)?;
+    let played = answered(rt, alloc, "session", session, rack)?;
     if u64::from(call) >= played.rack.calls() {
         return Ok(None);
     }
     let left = played.rack.stopped(alloc, call, keep, fill)?;
-    Ok(Some(answered(alloc, "restart", b"", left)?))
+    Ok(Some(answered(rt, alloc, "restart", b"", left)?))
 }

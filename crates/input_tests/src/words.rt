@@ -18,7 +18,7 @@ fn words_of(alloc: Global, line: &str) -> Result<Vec<String>, AllocError> {
 const COMMANDS: [(&str, Result<Command, WordsError>); 36] = [
     ("check", Ok(Command::Check)),
     ("init", Ok(Command::Init)),
-    ("run", Ok(Command::Run)),
+    ("run", Ok(Command::Run { workers: 1 })),
     ("session", Ok(Command::Session)),
     ("serve", Ok(Command::Serve)),
     ("show", Ok(Command::Show)),
@@ -35,7 +35,7 @@ const COMMANDS: [(&str, Result<Command, WordsError>); 36] = [
     ("session 4", Err(WordsError::BadWords)),
     ("serve 4", Err(WordsError::BadWords)),
     ("run 4", Err(WordsError::BadWords)),
-    ("run --workers 4", Err(WordsError::BadWords)),
+    ("run --workers 4", Ok(Command::Run { workers: 4 })),
     ("run -- 4", Err(WordsError::BadWords)),
     (
         "gen 1 1",

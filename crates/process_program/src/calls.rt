@@ -20,6 +20,8 @@ use std::env::Args;
 use std::io;
 use std::io::{Read, Write};
 use std::process::ExitCode;
+use std::sync::Wait;
+use std::thread::Threads;
 use worker_gate::PlainGate;
 
 /// What a call of the program ends with, and the rack that it leaves.
@@ -77,7 +79,7 @@ fn made_ready(alloc: Global, args: io::Result<Args>) -> Result<Ready, AllocError
 }
 
 /// Answers the words behind the first over a source, a sink and the files of a folder, by the code that is the status.
-pub fn program<H, S: Source, K: Sink, D: Folder + Drop>(
+pub fn program<H: Threads + Wait + Sync, S: Source, K: Sink, D: Folder + Drop + Send>(
     rt: &H,
     alloc: Global,
     args: io::Result<Args>,
@@ -120,14 +122,12 @@ pub fn program<H, S: Source, K: Sink, D: Folder + Drop>(
 }
 
 /// The same over what the system gives: its words, streams, and a folder, which are given up at the end.
-pub fn program_of_system<H, R: Read + Drop, W: Write + Drop, D: Folder + Drop>(
-    rt: &H,
-    alloc: Global,
-    args: io::Result<Args>,
-    input: R,
-    output: W,
-    folder: D,
-) -> ExitCode
+pub fn program_of_system<
+    H: Threads + Wait + Sync,
+    R: Read + Drop,
+    W: Write + Drop,
+    D: Folder + Drop + Send,
+>(rt: &H, alloc: Global, args: io::Result<Args>, input: R, output: W, folder: D) -> ExitCode
     requires new { D.access folder ≡ Access.Unentered }
     ensures ends { (source : _) × (sink : _) × (rack : _)
         × EndsSo ⟦<StdSource<R> as Source>⟧ ⟦<StdSink<W> as Sink>⟧ ⟦<FileRack<D> as Rack>⟧

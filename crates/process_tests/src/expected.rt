@@ -3,9 +3,11 @@ use command_tests::calls::{answer_to, plain_call};
 use process_disk::MemoryRack;
 use std::alloc::{AllocError, Global};
 use std::process::Abort;
+use std::sync::Wait;
+use std::thread::Threads;
 
 /// Words and an input on a rack have this status and this whole output. The answer is the rack after them.
-pub fn expect_on<H: Abort>(
+pub fn expect_on<H: Abort + Threads + Wait + Sync>(
     rt: &H,
     alloc: Global,
     words: &[&str],

@@ -1,7 +1,7 @@
 -- What was said on words and told is an answer to them.
-use Rattle.std.proofs.Common.{◌≡◌, ◌≤◌, ℕ, List, true, false, Some, Result, Ok, Err, IfOk, IfErr, refl, sym, subst, ◌∙◌, inl, inr}
+use Rattle.std.proofs.Common.{◌≡◌, ◌≤◌, ℕ, List, true, false, Option, Some, Result, Ok, Err, IfOk, IfErr, refl, sym, subst, ◌∙◌, inl, inr}
 use Rattle.std.specs.Prelude.{⊤}
-use Rattle.program_words.specs.Commands.{asked}
+use Rattle.program_words.specs.declared.reading.Command.{Command}
 use Rattle.program_words.specs.declared.reading.Command.TheVariants.{Restart}
 use Rattle.command_refusals.specs.Statuses.{number_of}
 use Rattle.command_refusals.specs.declared.status.Status.{Status}
@@ -20,8 +20,8 @@ use Rattle.command_input.specs.FilesLeft.{AreLeft}
 use Rattle.process_top.specs.Replies.{Reply, checked, created, ended, served, shown, accepted, generated, refused, is_refused, status_of, text_of, IsReplyTold}
 use Rattle.process_top.specs.Told.{Output, IsRefusalTold, IsTold}
 use Rattle.process_top.specs.Said.{EndsBy, Says, HasWorked, IsResultTold}
-use Rattle.process_top.specs.Run.{first_gate}
-use Rattle.process_top.specs.Commands.{uses_files, uses_boxes, asks_gate, reads_input, is_early, is_verdict, AreOthersAsBefore, IsDueTo, Answers}
+use Rattle.process_top.specs.Run.{gates_asked}
+use Rattle.process_top.specs.Commands.{uses_files, uses_boxes, asks_gate, reads_input, is_early, is_verdict, most_gates, AnswersTo, AreOthersAsBefore, IsDueTo}
 use Rattle.process_top.proofs.Complete.{Worked, done_or_wanting, worked_due, worked_held}
 use Rattle.process_top.proofs.RefusedStatuses.{refused_undone}
 
@@ -58,24 +58,24 @@ said_told reply said old new at isnt text status told = by_reply reply isnt
     by_reply (generated text) isnt told = told
     by_reply (refused r) isnt told = absurd (cc)
 
-module _ {S K R : Type 0} (words : List (List ℕ)) (before after : World S K R) (number : ℕ) (at : Status) (numbered : number ≡ number_of at) (left : AreLeft before.files after.files)
-    (boxes : AreBoxes (λ b. b.kind) after.boxes) (kept : uses_boxes (asked words) ≡ false → after.boxes ≡ before.boxes) (gates : AreOthersAsBefore before.gates after.gates)
-    (unasked : asks_gate (asked words) ≡ false → after.gates ≡ before.gates) (untouched : uses_files (asked words) ≡ false → after.rack ≡ before.rack)
-    (unread : reads_input (asked words) ≡ false → after.source ≡ before.source) where
+module _ {S K R : Type 0} (o : Option Command) (before after : World S K R) (number : ℕ) (at : Status) (numbered : number ≡ number_of at) (left : AreLeft before.files after.files)
+    (boxes : AreBoxes (λ b. b.kind) after.boxes) (kept : uses_boxes o ≡ false → after.boxes ≡ before.boxes) (gates : AreOthersAsBefore (most_gates o) before.gates after.gates)
+    (unasked : asks_gate o ≡ false → after.gates ≡ before.gates) (untouched : uses_files o ≡ false → after.rack ≡ before.rack)
+    (unread : reads_input o ≡ false → after.source ≡ before.source) where
   -- what a restart leaves in the boxes, at the status of one that did its work
   abbrev HaveBookValues : Type 0
-  HaveBookValues = asked words ≡ Some Restart → at ≡ statuses.Done → Told after.files.disk → HaveValuesOf (λ (b : BoxState). b.values) after.files.disk.files after.boxes
+  HaveBookValues = o ≡ Some Restart → at ≡ statuses.Done → Told after.files.disk → HaveValuesOf (λ (b : BoxState). b.values) after.files.disk.files after.boxes
 
   -- a reply that was due and told
-  answered_by : (reply : Reply) → IsDueTo (asked words) (first_gate before.gates after.gates) before.input after.input before.files after.files reply → IsReplyTold reply before.output after.output at
-      → Worked (asked words) before after at → (is_early reply ≡ true → after.rack ≡ before.rack) → HaveBookValues → Answers words before after number
+  answered_by : (reply : Reply) → IsDueTo o (gates_asked before.gates after.gates) before.input after.input before.files after.files reply → IsReplyTold reply before.output after.output at
+      → Worked o before after at → (is_early reply ≡ true → after.rack ≡ before.rack) → HaveBookValues → AnswersTo o before after number
   answered_by reply due told worked early values = record {
     status = at;
     numbered = numbered;
     reply = reply;
     due = due;
     told = told;
-    complete = λ quiet. done_or_wanting (asked words) (first_gate before.gates after.gates) before after at reply due told worked quiet;
+    complete = λ quiet. done_or_wanting o (gates_asked before.gates after.gates) before after at reply due told worked quiet;
     left = left;
     boxes = boxes;
     kept = kept;
@@ -110,36 +110,36 @@ module _ {S K R : Type 0} (words : List (List ℕ)) (before after : World S K R)
   said_done said (inr failed) is = absurd (let write = failed.0 in cc)
 
   abbrev IsDue : Reply → Type 0
-  IsDue = IsDueTo (asked words) (first_gate before.gates after.gates) before.input after.input before.files after.files
+  IsDue = IsDueTo o (gates_asked before.gates after.gates) before.input after.input before.files after.files
 
   abbrev HaveBookValuesAt : Said → Type 0
   HaveBookValuesAt s = s.status ≡ statuses.Done → Told after.files.disk → HaveValuesOf (λ (b : BoxState). b.values) after.files.disk.files after.boxes
 
   abbrev WorkedTo : Output → Ending → Type 0
-  WorkedTo out ending = HasWorked (asked words) before.input after.input before.files after.files before.output out ending
+  WorkedTo out ending = HasWorked o before.input after.input before.files after.files before.output out ending
 
   -- what a command found, said and told
-  result_is_answered : (result : Result Said Refusal) → Says IsDue result → IsResultTold result before.output after.output at → before.output.faults ≤ after.output.faults
+  pub result_is_answered : (result : Result Said Refusal) → Says IsDue result → IsResultTold result before.output after.output at → before.output.faults ≤ after.output.faults
       → WorkedTo before.output (endings.Due result) → IfErr result (λ r. comes_before_files r ≡ true → after.rack ≡ before.rack)
-      → IfOk result (λ s. s.status ≡ statuses.IllFormed → after.rack ≡ before.rack) → (asked words ≡ Some Restart → IfOk result HaveBookValuesAt) → Answers words before after number
+      → IfOk result (λ s. s.status ≡ statuses.IllFormed → after.rack ≡ before.rack) → (o ≡ Some Restart → IfOk result HaveBookValuesAt) → AnswersTo o before after number
   result_is_answered (Ok said) says told later has early verdict values =
-      answered_by says.0 says.2 (said_told says.0 said before.output after.output at says.1 says.3 says.4 told) (worked_due (asked words) before after (Ok said) at has told later)
+      answered_by says.0 says.2 (said_told says.0 said before.output after.output at says.1 says.3 says.4 told) (worked_due o before after (Ok said) at has told later)
       (said_early says.0 said.status says.1 says.4 verdict) (λ asks is known. values asks (said_done said told is) known)
   result_is_answered (Err r) says told later has early verdict values =
-      answered_by (refused r) says told (worked_due (asked words) before after (Err r) at has told later) early (λ asks is known. absurd (never_done r told is))
+      answered_by (refused r) says told (worked_due o before after (Err r) at has told later) early (λ asks is known. absurd (never_done r told is))
 
   -- a dialogue that was held and told
   held_is_answered : (text : List ℕ) (status : Status) → IsDue (served text status) → IsTold status text before.output after.output at → WorkedTo after.output (endings.Told at)
-      → ¬ asked words ≡ Some Restart → Answers words before after number
+      → ¬ o ≡ Some Restart → AnswersTo o before after number
   held_is_answered text status due told has none =
-      answered_by (served text status) due told (worked_held (asked words) before after text status at due has) (λ early. absurd cc) (λ asks is known. absurd (none asks))
+      answered_by (served text status) due told (worked_held o before after text status at due has) (λ early. absurd cc) (λ asks is known. absurd (none asks))
 
   -- what a command came to, and what was told of it then
   pub ending_is_answered : (out : Output) (ending : Ending) → EndsBy IsDue before.output out ending
       → OnEnding (λ s. (at ≡ s) × (after.output ≡ out)) (λ found. IsResultTold found out after.output at) ending → out.faults ≤ after.output.faults → WorkedTo out ending
       → OnEnding (λ _. ⊤) (λ found. IfErr found (λ r. comes_before_files r ≡ true → after.rack ≡ before.rack)) ending
       → OnEnding (λ _. ⊤) (λ found. IfOk found (λ s. s.status ≡ statuses.IllFormed → after.rack ≡ before.rack)) ending
-      → (asked words ≡ Some Restart → OnEnding (λ _. ⊥) (λ found. IfOk found HaveBookValuesAt) ending) → Answers words before after number
+      → (o ≡ Some Restart → OnEnding (λ _. ⊥) (λ found. IfOk found HaveBookValuesAt) ending) → AnswersTo o before after number
   ending_is_answered out (endings.Told s) (text, status, due, said) told later has early verdict values =
       let same : s ≡ at = sym told.0 in
       let put : out ≡ after.output = sym told.1 in
@@ -153,3 +153,7 @@ module _ {S K R : Type 0} (words : List (List ℕ)) (before after : World S K R)
 pub due_so : {P Q : Result Said Refusal → Type 0} → ((found : Result Said Refusal) → P found → Q found) → (ending : Ending) → OnEnding (λ _. ⊥) P ending → OnEnding (λ _. ⊥) Q ending
 due_so so (endings.Told status) has = has
 due_so so (endings.Due found) has = so found has
+
+-- what is answered to one is answered to the same
+pub answers_as : {S K R : Type 0} (o p : Option Command) (before after : World S K R) (number : ℕ) → p ≡ o → AnswersTo o before after number → AnswersTo p before after number
+answers_as o p before after number same answered = subst (λ q. AnswersTo q before after number) (sym same) answered

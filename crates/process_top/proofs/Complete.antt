@@ -24,11 +24,11 @@ use Rattle.process_top.specs.Said.{HasWorked, IsResultTold}
 use Rattle.process_top.specs.Check.{IsCheckDue, IsCheckComplete}
 use Rattle.process_top.specs.Init.{IsInitDue}
 use Rattle.scenario_run.specs.Completeness.{IsReportThere}
-use Rattle.engine_calls.specs.GateAnswers.{AskedGate}
+use Rattle.worker_gate.specs.ManyGates.{AskedGates}
 use Rattle.command_input.specs.declared.said.Said.{Said}
 use Rattle.session_run.specs.Completeness.{AreAllAnswered}
 use Rattle.serve_run.specs.declared.command.Ending.TheVariants as endings
-use Rattle.process_top.specs.Run.{first_gate, IsRunComplete}
+use Rattle.process_top.specs.Run.{gates_asked, IsRunComplete}
 use Rattle.process_top.specs.Restart.{IsRestartComplete}
 use Rattle.process_top.specs.Bulk.{IsBulkComplete}
 use Rattle.process_top.specs.Serve.{IsServeComplete}
@@ -110,7 +110,7 @@ never_rose old new later quiet rose = quiet (le_trans rose later)
 
 -- what is promised of the work of a command over an engine is promised of the status at which that was told
 abbrev pub Worked : {S K R : Type 0} → Option Command → World S K R → World S K R → Status → Type 0
-Worked (Some Run) before after status = IsQuiet (Some Run) before after → IsRunComplete before.input before.files status
+Worked (Some (Run workers)) before after status = IsQuiet (Some (Run workers)) before after → IsRunComplete before.input before.files status
 Worked (Some Session) before after status = IsQuiet (Some Session) before after → IsSessionComplete before.input before.files status
 Worked (Some Serve) before after status = IsQuiet (Some Serve) before after → IsServeComplete before.input before.files status
 Worked (Some Restart) before after status = IsQuiet (Some Restart) before after → IsRestartComplete before.files status
@@ -124,7 +124,7 @@ pub worked_due : {S K R : Type 0} (o : Option Command) (before after : World S K
 worked_due None before after found status has told later = tt
 worked_due (Some Check) before after found status has told later = tt
 worked_due (Some Init) before after found status has told later = tt
-worked_due (Some Run) before after found status has told later = λ quiet bytes c plans h scenario room.
+worked_due (Some (Run workers)) before after found status has told later = λ quiet bytes c plans h scenario room.
     told_report found before.output after.output status (has bytes c plans h scenario room (record { source = quiet.input refl; rack = quiet.files refl })) told quiet.output
 worked_due (Some Session) before after found status has told later = λ quiet bytes c plans lines h text files.
     session_status found before.output after.output status (has bytes c plans lines h text files (record { source = quiet.input refl; rack = quiet.files refl })) told quiet.output
@@ -141,12 +141,12 @@ worked_due (Some (Bulk number count)) before after found status has told later =
 
 -- of a dialogue that was held, which no other command does
 pub worked_held : {S K R : Type 0} (o : Option Command) (before after : World S K R) (text : List ℕ) (at status : Status)
-    → IsDueTo o (first_gate before.gates after.gates) before.input after.input before.files after.files (served text at)
+    → IsDueTo o (gates_asked before.gates after.gates) before.input after.input before.files after.files (served text at)
     → HasWorked o before.input after.input before.files after.files before.output after.output (endings.Told status) → Worked o before after status
 worked_held None before after text at status due has = tt
 worked_held (Some Check) before after text at status due has = tt
 worked_held (Some Init) before after text at status due has = tt
-worked_held (Some Run) before after text at status due has = absurd due
+worked_held (Some (Run workers)) before after text at status due has = absurd due
 worked_held (Some Session) before after text at status due has = absurd due
 worked_held (Some Serve) before after text at status due has = λ quiet bytes c plans h scene known sound.
     well_held status (has bytes c plans h scene known sound (record { source = quiet.input refl; rack = quiet.files refl }) quiet.output)
@@ -231,20 +231,20 @@ gen_done number count (shown c h) status due is = absurd due
 gen_done number count accepted status due is = absurd due
 
 -- each command
-done_by : {S K R : Type 0} (o : Option Command) (gate : AskedGate) (before after : World S K R) (status : Status) (reply : Reply) → IsDueTo o gate before.input after.input before.files after.files reply
+done_by : {S K R : Type 0} (o : Option Command) (gates : AskedGates) (before after : World S K R) (status : Status) (reply : Reply) → IsDueTo o gates before.input after.input before.files after.files reply
     → status ≡ status_of reply → Worked o before after status → IsQuiet o before after → DoesItsWork o before.input before.files status
-done_by None gate before after status reply due is worked quiet = tt
-done_by (Some Check) gate before after status reply due is worked quiet = check_done before.input.left before.input.faults after.input reply status due.0 is (quiet.input refl)
-done_by (Some Init) gate before after status reply due is worked quiet =
+done_by None gates before after status reply due is worked quiet = tt
+done_by (Some Check) gates before after status reply due is worked quiet = check_done before.input.left before.input.faults after.input reply status due.0 is (quiet.input refl)
+done_by (Some Init) gates before after status reply due is worked quiet =
     init_done before.input.left before.input.faults after.input before.files after.files reply status due is (quiet.input refl) (quiet.files refl)
-done_by (Some Run) gate before after status reply due is worked quiet = worked quiet
-done_by (Some Session) gate before after status reply due is worked quiet = worked quiet
-done_by (Some Serve) gate before after status reply due is worked quiet = worked quiet
-done_by (Some Restart) gate before after status reply due is worked quiet = worked quiet
-done_by (Some Show) gate before after status reply due is worked quiet = show_done before.files after.files reply status due.0 is (quiet.files refl)
-done_by (Some Verify) gate before after status reply due is worked quiet = verify_done before.input.left before.input.faults after.input reply status due.0 is (quiet.input refl)
-done_by (Some (Gen number count)) gate before after status reply due is worked quiet = gen_done number count reply status due.0 is
-done_by (Some (Bulk number count)) gate before after status reply due is worked quiet = worked quiet
+done_by (Some (Run workers)) gates before after status reply due is worked quiet = worked quiet
+done_by (Some Session) gates before after status reply due is worked quiet = worked quiet
+done_by (Some Serve) gates before after status reply due is worked quiet = worked quiet
+done_by (Some Restart) gates before after status reply due is worked quiet = worked quiet
+done_by (Some Show) gates before after status reply due is worked quiet = show_done before.files after.files reply status due.0 is (quiet.files refl)
+done_by (Some Verify) gates before after status reply due is worked quiet = verify_done before.input.left before.input.faults after.input reply status due.0 is (quiet.input refl)
+done_by (Some (Gen number count)) gates before after status reply due is worked quiet = gen_done number count reply status due.0 is
+done_by (Some (Bulk number count)) gates before after status reply due is worked quiet = worked quiet
 
 -- at want of memory each does what may be wanted of it
 given_memory : (left : Option (List ℕ)) (P : List ℕ → Type 0) → ((text : List ℕ) → P text) → IfSome left P
@@ -255,7 +255,7 @@ wanting : (o : Option Command) (input : Input) (files : Files) (status : Status)
 wanting None input files status is = tt
 wanting (Some Check) input files status is = given_memory input.left _ (λ text ps within reading. inr (inr (inl is)))
 wanting (Some Init) input files status is = given_memory input.left _ (λ text c within has told empty. inr (inl is))
-wanting (Some Run) input files status is = λ bytes c plans h scenario room. inr (inr (inl is))
+wanting (Some (Run workers)) input files status is = λ bytes c plans h scenario room. inr (inr (inl is))
 wanting (Some Session) input files status is = λ bytes c plans lines h text room. inr (inl is)
 wanting (Some Serve) input files status is = λ bytes c plans h scene told sound. inr (inl is)
 wanting (Some Restart) input files status is = λ c h told sound. inr (inr (inl is))
@@ -276,7 +276,7 @@ status_told (shown c h) old new status told quiet = inl (told_well _ _ old new s
 status_told accepted old new status told quiet = inl (told_well _ _ old new status told quiet)
 status_told (generated text) old new status told quiet = inl (told_well _ _ old new status told quiet)
 
-pub done_or_wanting : {S K R : Type 0} (o : Option Command) (gate : AskedGate) (before after : World S K R) (status : Status) (reply : Reply) → IsDueTo o gate before.input after.input before.files after.files reply
+pub done_or_wanting : {S K R : Type 0} (o : Option Command) (gates : AskedGates) (before after : World S K R) (status : Status) (reply : Reply) → IsDueTo o gates before.input after.input before.files after.files reply
     → IsReplyTold reply before.output after.output status → Worked o before after status → IsQuiet o before after → DoesItsWork o before.input before.files status
-done_or_wanting o gate before after status reply due told worked quiet =
-    ⊎_elim (λ is. done_by o gate before after status reply due is worked quiet) (λ is. wanting o before.input before.files status is) (status_told reply before.output after.output status told quiet.output)
+done_or_wanting o gates before after status reply due told worked quiet =
+    ⊎_elim (λ is. done_by o gates before after status reply due is worked quiet) (λ is. wanting o before.input before.files status is) (status_told reply before.output after.output status told quiet.output)

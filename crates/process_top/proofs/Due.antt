@@ -7,21 +7,21 @@ use Rattle.program_words.specs.declared.reading.Command.{Command}
 use Rattle.program_words.specs.declared.reading.Command.TheVariants.{Check, Init, Run, Session, Serve, Restart, Show, Verify, Gen, Bulk}
 use Rattle.command_refusals.specs.declared.refusal.Refusal.TheVariants.{NoMemory}
 use Rattle.command_input.specs.FilesLeft.{AreUntouched}
-use Rattle.engine_calls.specs.GateAnswers.{AskedGate}
+use Rattle.worker_gate.specs.ManyGates.{AskedGates}
 use Rattle.process_top.specs.Worlds.{Input, Files}
 use Rattle.process_top.specs.Replies.{refused}
 use Rattle.process_top.specs.Commands.{IsDueTo}
 
-pub no_words_due : (o : Option Command) (gate : AskedGate) (before after : Input) (files files_after : Files) → AreUntouched files files_after → IsDueTo o gate before after files files_after (refused NoMemory)
-no_words_due None gate before after files files_after untouched = (inr refl, untouched)
-no_words_due (Some Check) gate before after files files_after untouched = (tt, untouched)
-no_words_due (Some Init) gate before after files files_after untouched = inl (inl (inr (inr refl)), untouched)
-no_words_due (Some Run) gate before after files files_after untouched = inl (inl (inr (inr refl)), untouched)
-no_words_due (Some Session) gate before after files files_after untouched = inl (inl (inr (inr refl)), untouched)
-no_words_due (Some Serve) gate before after files files_after untouched = inl (inl (inr (inr refl)), untouched)
-no_words_due (Some Restart) gate before after files files_after untouched =
+pub no_words_due : (o : Option Command) (gates : AskedGates) (before after : Input) (files files_after : Files) → AreUntouched files files_after → IsDueTo o gates before after files files_after (refused NoMemory)
+no_words_due None gates before after files files_after untouched = (inr refl, untouched)
+no_words_due (Some Check) gates before after files files_after untouched = (tt, untouched)
+no_words_due (Some Init) gates before after files files_after untouched = inl (inl (inr (inr refl)), untouched)
+no_words_due (Some (Run workers)) gates before after files files_after untouched = inl (inl (inr (inr refl)), untouched)
+no_words_due (Some Session) gates before after files files_after untouched = inl (inl (inr (inr refl)), untouched)
+no_words_due (Some Serve) gates before after files files_after untouched = inl (inl (inr (inr refl)), untouched)
+no_words_due (Some Restart) gates before after files files_after untouched =
     inl (opening.NoMemory, refl, record { due = λ told. inl refl; left = λ told. inl (inl (untouched told)); fault = λ is. absurd (cc) })
-no_words_due (Some Show) gate before after files files_after untouched = ((journal.NoMemory, refl, λ told. tt, λ is. absurd (cc)), untouched)
-no_words_due (Some Verify) gate before after files files_after untouched = (tt, untouched)
-no_words_due (Some (Gen number count)) gate before after files files_after untouched = (refl, untouched)
-no_words_due (Some (Bulk number count)) gate before after files files_after untouched = inl (inl (scenarios.NoMemory, refl, tt), untouched)
+no_words_due (Some Show) gates before after files files_after untouched = ((journal.NoMemory, refl, λ told. tt, λ is. absurd (cc)), untouched)
+no_words_due (Some Verify) gates before after files files_after untouched = (tt, untouched)
+no_words_due (Some (Gen number count)) gates before after files files_after untouched = (refl, untouched)
+no_words_due (Some (Bulk number count)) gates before after files files_after untouched = inl (inl (scenarios.NoMemory, refl, tt), untouched)

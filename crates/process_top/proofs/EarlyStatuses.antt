@@ -30,6 +30,7 @@ use Rattle.session_text.specs.declared.line.Line.{Line}
 use Rattle.session_run.specs.Playthrough.{EndsAt}
 use Rattle.session_run.specs.Session.{IsSessionDue as IsSessionFound}
 use Rattle.engine_calls.specs.GateAnswers.{AskedGate}
+use Rattle.worker_gate.specs.ManyGates.{AskedGates}
 use Rattle.history_opening.specs.declared.faults.OpenError.{OpenError}
 use Rattle.history_opening.specs.declared.faults.OpenError.TheVariants as opening
 use Rattle.restart_run.specs.Restart.{IsRestartFound}
@@ -44,7 +45,7 @@ use Rattle.driver_answers.specs.Serving.{DriverState}
 use Rattle.serve_run.specs.Dialogue.{EndsWith, number_behind}
 use Rattle.serve_run.specs.Serve.{IsNotServed, IsServeTold, IsSpoken}
 use Rattle.schedule_model.specs.declared.history.History.{History}
-use Rattle.process_top.specs.Run.{first_gate}
+use Rattle.process_top.specs.Run.{first_gate, first_gates, gates_asked}
 use Rattle.process_top.specs.Replies.{Reply, checked, created, ended, served, shown, accepted, generated, refused, status_of, IsReplyTold}
 use Rattle.process_top.specs.Told.{IsTold}
 use Rattle.process_top.specs.Commands.{uses_files, is_early, is_verdict, IsDueTo, Answers}
@@ -123,7 +124,7 @@ is_early_in_dialogue status = false
 
 -- those that do so at this one: `run`, `session` and `serve` read the catalog of the files too, and `run` and `bulk` how much they have
 abbrev pub is_early_for : Option Command → Status → Bool
-is_early_for (Some Run) s = is_always_early s
+is_early_for (Some (Run workers)) s = is_always_early s
 is_early_for (Some Session) s = is_always_early s
 is_early_for (Some Serve) s = is_early_in_dialogue s
 is_early_for (Some (Bulk number count)) s = is_always_early s
@@ -152,10 +153,10 @@ always_refusal (refusals.Exhausted i step) is = absurd (cc)
 always_refusal refusals.NoMemory is = absurd (cc)
 
 -- of what a run has to say only a verdict has such a status
-always_said : (gate : AskedGate) (before after : Input) (files files_after : Files) (said : Said) → IsRunFound gate before after files files_after (Ok said) → is_always_early said.status ≡ true
+always_said : (gates : AskedGates) (before after : Input) (files files_after : Files) (said : Said) → IsRunFound gates before after files files_after (Ok said) → is_always_early said.status ≡ true
     → is_verdict said.status ≡ true
-always_said gate before after files files_after said (inl none) is = subst (λ (s : Status). is_verdict s ≡ true) (sym none.0.0) refl
-always_said gate before after files files_after said (inr run) is = by_report run.3.3
+always_said gates before after files files_after said (inl none) is = subst (λ (s : Status). is_verdict s ≡ true) (sym none.0.0) refl
+always_said gates before after files files_after said (inr run) is = by_report run.3.3
   where
     by_report : SaysRun run.0 run.3.1 said → is_verdict said.status ≡ true
     by_report (inl all) =
@@ -258,76 +259,76 @@ late_restart gate files files_after r (inr (c, h, now, inl cut)) is = late_refus
 late_restart gate files files_after r (inr (c, h, now, inr cut)) is = late_refusal r refusals.DiskFault cut.0 refl is
 
 module _ {S K R : Type 0} (before after : World S K R) where
-  by_command : (o : Option Command) (gate : AskedGate) (reply : Reply) → IsDueTo o gate before.input after.input before.files after.files reply → (uses_files o ≡ false → after.rack ≡ before.rack)
+  by_command : (o : Option Command) (gates : AskedGates) (reply : Reply) → IsDueTo o gates before.input after.input before.files after.files reply → (uses_files o ≡ false → after.rack ≡ before.rack)
       → (is_early reply ≡ true → after.rack ≡ before.rack) → is_early_for o (status_of reply) ≡ true → after.rack ≡ before.rack
-  by_command None gate reply due untouched early is = untouched refl
-  by_command (Some Check) gate reply due untouched early is = untouched refl
-  by_command (Some Verify) gate reply due untouched early is = untouched refl
-  by_command (Some (Gen number count)) gate reply due untouched early is = untouched refl
-  by_command (Some Init) gate created due untouched early is = absurd (cc)
-  by_command (Some Init) gate (refused r) due untouched early is = early (early_init r before.input after.input before.files after.files due is)
-  by_command (Some Init) gate (checked ps vs) due untouched early is = absurd due
-  by_command (Some Init) gate (ended said) due untouched early is = absurd due
-  by_command (Some Init) gate (served text at) due untouched early is = absurd due
-  by_command (Some Init) gate (shown c h) due untouched early is = absurd due
-  by_command (Some Init) gate accepted due untouched early is = absurd due
-  by_command (Some Init) gate (generated text) due untouched early is = absurd due
-  by_command (Some Run) gate (ended said) due untouched early is = early (always_said gate before.input after.input before.files after.files said due is)
-  by_command (Some Run) gate (refused r) due untouched early is = early (always_refusal r is)
-  by_command (Some Run) gate (checked ps vs) due untouched early is = absurd due
-  by_command (Some Run) gate created due untouched early is = absurd due
-  by_command (Some Run) gate (served text at) due untouched early is = absurd due
-  by_command (Some Run) gate (shown c h) due untouched early is = absurd due
-  by_command (Some Run) gate accepted due untouched early is = absurd due
-  by_command (Some Run) gate (generated text) due untouched early is = absurd due
-  by_command (Some Session) gate (ended said) due untouched early is = early (session_said before.input after.input before.files after.files said due is)
-  by_command (Some Session) gate (refused r) due untouched early is = early (always_refusal r is)
-  by_command (Some Session) gate (checked ps vs) due untouched early is = absurd due
-  by_command (Some Session) gate created due untouched early is = absurd due
-  by_command (Some Session) gate (served text at) due untouched early is = absurd due
-  by_command (Some Session) gate (shown c h) due untouched early is = absurd due
-  by_command (Some Session) gate accepted due untouched early is = absurd due
-  by_command (Some Session) gate (generated text) due untouched early is = absurd due
-  by_command (Some Serve) gate (served text at) due untouched early is = absurd (late_serve before.input after.input before.files after.files text at due is)
-  by_command (Some Serve) gate (ended said) due untouched early is = early (serve_said before.input after.input before.files after.files said due is)
-  by_command (Some Serve) gate (refused r) due untouched early is = early (always_refusal r (dialogue_always (refusal_status r) is))
-  by_command (Some Serve) gate (checked ps vs) due untouched early is = absurd due
-  by_command (Some Serve) gate created due untouched early is = absurd due
-  by_command (Some Serve) gate (shown c h) due untouched early is = absurd due
-  by_command (Some Serve) gate accepted due untouched early is = absurd due
-  by_command (Some Serve) gate (generated text) due untouched early is = absurd due
-  by_command (Some Restart) gate (ended said) due untouched early is = absurd (late_restart_said gate before.files after.files said due is)
-  by_command (Some Restart) gate (refused r) due untouched early is = absurd (late_restart gate before.files after.files r due is)
-  by_command (Some Restart) gate (checked ps vs) due untouched early is = absurd due
-  by_command (Some Restart) gate created due untouched early is = absurd due
-  by_command (Some Restart) gate (served text at) due untouched early is = absurd due
-  by_command (Some Restart) gate (shown c h) due untouched early is = absurd due
-  by_command (Some Restart) gate accepted due untouched early is = absurd due
-  by_command (Some Restart) gate (generated text) due untouched early is = absurd due
-  by_command (Some (Bulk number count)) gate (ended said) due untouched early is = early (bulk_said gate (scenario number count) before.files after.files said due is)
-  by_command (Some (Bulk number count)) gate (refused r) due untouched early is = early (always_refusal r is)
-  by_command (Some (Bulk number count)) gate (checked ps vs) due untouched early is = absurd due
-  by_command (Some (Bulk number count)) gate created due untouched early is = absurd due
-  by_command (Some (Bulk number count)) gate (served text at) due untouched early is = absurd due
-  by_command (Some (Bulk number count)) gate (shown c h) due untouched early is = absurd due
-  by_command (Some (Bulk number count)) gate accepted due untouched early is = absurd due
-  by_command (Some (Bulk number count)) gate (generated text) due untouched early is = absurd due
-  by_command (Some Show) gate (served text at) due untouched early is = absurd due.0
-  by_command (Some Show) gate (shown c h) due untouched early is = absurd (cc)
-  by_command (Some Show) gate (refused r) due untouched early is =
+  by_command None gates reply due untouched early is = untouched refl
+  by_command (Some Check) gates reply due untouched early is = untouched refl
+  by_command (Some Verify) gates reply due untouched early is = untouched refl
+  by_command (Some (Gen number count)) gates reply due untouched early is = untouched refl
+  by_command (Some Init) gates created due untouched early is = absurd (cc)
+  by_command (Some Init) gates (refused r) due untouched early is = early (early_init r before.input after.input before.files after.files due is)
+  by_command (Some Init) gates (checked ps vs) due untouched early is = absurd due
+  by_command (Some Init) gates (ended said) due untouched early is = absurd due
+  by_command (Some Init) gates (served text at) due untouched early is = absurd due
+  by_command (Some Init) gates (shown c h) due untouched early is = absurd due
+  by_command (Some Init) gates accepted due untouched early is = absurd due
+  by_command (Some Init) gates (generated text) due untouched early is = absurd due
+  by_command (Some (Run workers)) gates (ended said) due untouched early is = early (always_said (first_gates workers gates) before.input after.input before.files after.files said due is)
+  by_command (Some (Run workers)) gates (refused r) due untouched early is = early (always_refusal r is)
+  by_command (Some (Run workers)) gates (checked ps vs) due untouched early is = absurd due
+  by_command (Some (Run workers)) gates created due untouched early is = absurd due
+  by_command (Some (Run workers)) gates (served text at) due untouched early is = absurd due
+  by_command (Some (Run workers)) gates (shown c h) due untouched early is = absurd due
+  by_command (Some (Run workers)) gates accepted due untouched early is = absurd due
+  by_command (Some (Run workers)) gates (generated text) due untouched early is = absurd due
+  by_command (Some Session) gates (ended said) due untouched early is = early (session_said before.input after.input before.files after.files said due is)
+  by_command (Some Session) gates (refused r) due untouched early is = early (always_refusal r is)
+  by_command (Some Session) gates (checked ps vs) due untouched early is = absurd due
+  by_command (Some Session) gates created due untouched early is = absurd due
+  by_command (Some Session) gates (served text at) due untouched early is = absurd due
+  by_command (Some Session) gates (shown c h) due untouched early is = absurd due
+  by_command (Some Session) gates accepted due untouched early is = absurd due
+  by_command (Some Session) gates (generated text) due untouched early is = absurd due
+  by_command (Some Serve) gates (served text at) due untouched early is = absurd (late_serve before.input after.input before.files after.files text at due is)
+  by_command (Some Serve) gates (ended said) due untouched early is = early (serve_said before.input after.input before.files after.files said due is)
+  by_command (Some Serve) gates (refused r) due untouched early is = early (always_refusal r (dialogue_always (refusal_status r) is))
+  by_command (Some Serve) gates (checked ps vs) due untouched early is = absurd due
+  by_command (Some Serve) gates created due untouched early is = absurd due
+  by_command (Some Serve) gates (shown c h) due untouched early is = absurd due
+  by_command (Some Serve) gates accepted due untouched early is = absurd due
+  by_command (Some Serve) gates (generated text) due untouched early is = absurd due
+  by_command (Some Restart) gates (ended said) due untouched early is = absurd (late_restart_said (first_gate gates) before.files after.files said due is)
+  by_command (Some Restart) gates (refused r) due untouched early is = absurd (late_restart (first_gate gates) before.files after.files r due is)
+  by_command (Some Restart) gates (checked ps vs) due untouched early is = absurd due
+  by_command (Some Restart) gates created due untouched early is = absurd due
+  by_command (Some Restart) gates (served text at) due untouched early is = absurd due
+  by_command (Some Restart) gates (shown c h) due untouched early is = absurd due
+  by_command (Some Restart) gates accepted due untouched early is = absurd due
+  by_command (Some Restart) gates (generated text) due untouched early is = absurd due
+  by_command (Some (Bulk number count)) gates (ended said) due untouched early is = early (bulk_said (first_gate gates) (scenario number count) before.files after.files said due is)
+  by_command (Some (Bulk number count)) gates (refused r) due untouched early is = early (always_refusal r is)
+  by_command (Some (Bulk number count)) gates (checked ps vs) due untouched early is = absurd due
+  by_command (Some (Bulk number count)) gates created due untouched early is = absurd due
+  by_command (Some (Bulk number count)) gates (served text at) due untouched early is = absurd due
+  by_command (Some (Bulk number count)) gates (shown c h) due untouched early is = absurd due
+  by_command (Some (Bulk number count)) gates accepted due untouched early is = absurd due
+  by_command (Some (Bulk number count)) gates (generated text) due untouched early is = absurd due
+  by_command (Some Show) gates (served text at) due untouched early is = absurd due.0
+  by_command (Some Show) gates (shown c h) due untouched early is = absurd (cc)
+  by_command (Some Show) gates (refused r) due untouched early is =
       let wrong : false ≡ true = sym (late_journal due.0.0) ∙ ap (λ (e : Refusal). is_early_status (refusal_status e)) (sym due.0.1) ∙ is in absurd (cc)
-  by_command (Some Show) gate (checked ps vs) due untouched early is = absurd due.0
-  by_command (Some Show) gate created due untouched early is = absurd due.0
-  by_command (Some Show) gate (ended said) due untouched early is = absurd due.0
-  by_command (Some Show) gate accepted due untouched early is = absurd due.0
-  by_command (Some Show) gate (generated text) due untouched early is = absurd due.0
+  by_command (Some Show) gates (checked ps vs) due untouched early is = absurd due.0
+  by_command (Some Show) gates created due untouched early is = absurd due.0
+  by_command (Some Show) gates (ended said) due untouched early is = absurd due.0
+  by_command (Some Show) gates accepted due untouched early is = absurd due.0
+  by_command (Some Show) gates (generated text) due untouched early is = absurd due.0
 
   -- neither a write fault nor want of memory is such a status
   late_for : (o : Option Command) → (is_early_for o statuses.WriteFault ≡ false) × (is_early_for o statuses.NoMemory ≡ false)
   late_for None = (refl, refl)
   late_for (Some Check) = (refl, refl)
   late_for (Some Init) = (refl, refl)
-  late_for (Some Run) = (refl, refl)
+  late_for (Some (Run workers)) = (refl, refl)
   late_for (Some Session) = (refl, refl)
   late_for (Some Serve) = (refl, refl)
   late_for (Some Restart) = (refl, refl)
@@ -356,4 +357,4 @@ module _ {S K R : Type 0} (before after : World S K R) where
   pub early_status_leaves : (words : List (List ℕ)) (number : ℕ) (s : Status) → Answers words before after number → is_early_for (asked words) s ≡ true → number ≡ number_of s → after.rack ≡ before.rack
   early_status_leaves words number s answers is numbered =
       let same : answers.status ≡ s = same_status answers.status s (sym answers.numbered ∙ numbered) in
-      by_command (asked words) (first_gate before.gates after.gates) answers.reply answers.due answers.untouched answers.early (by_reply (asked words) s answers.reply before.output after.output answers.status answers.told same is)
+      by_command (asked words) (gates_asked before.gates after.gates) answers.reply answers.due answers.untouched answers.early (by_reply (asked words) s answers.reply before.output after.output answers.status answers.told same is)

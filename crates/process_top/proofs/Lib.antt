@@ -1,11 +1,14 @@
+pub mod AtOnce
 pub mod Due
 pub mod Completing
 pub mod Complete
 pub mod Saying
 pub mod BoxKinds
 pub mod BoxValues
+pub mod FirstGates
 pub mod GatesAsked
 pub mod RefusedStatuses
 pub mod Answered
 pub mod StatusNumbers
+pub mod Unread
 pub mod EarlyStatuses

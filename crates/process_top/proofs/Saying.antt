@@ -21,6 +21,7 @@ use Rattle.process_top.specs.Told.{Output}
 use Rattle.process_top.specs.Check.{IsCheckDue}
 use Rattle.init_run.specs.Init.{IsInitDue as IsInitFound}
 use Rattle.engine_calls.specs.GateAnswers.{AskedGate}
+use Rattle.worker_gate.specs.ManyGates.{AskedGates}
 use Rattle.scenario_run.specs.Run.{IsRunDue as IsRunFound}
 use Rattle.process_top.specs.Init.{IsInitDue}
 use Rattle.restart_run.specs.Restart.{IsRestartFound}
@@ -56,10 +57,10 @@ pub is_planned : (c : Catalog) (h : History) → IsHistoryUnder c h → IsPlanne
 is_planned c h good = subst (λ (n : ℕ). IsPlanned n h.plans h.events) good.catalog.of_all (histories_are_planned c h good)
 
 -- what a run found is said
-pub run_says : (gate : AskedGate) (before after : Input) (files files_after : Files) (found : Result Said Refusal) → IsRunFound gate before after files files_after found
-    → Says (IsRunDue gate before after files files_after) found
-run_says gate before after files files_after (Ok said) due = (ended said, refl, due, refl, refl)
-run_says gate before after files files_after (Err r) due = due
+pub run_says : (gates : AskedGates) (before after : Input) (files files_after : Files) (found : Result Said Refusal) → IsRunFound gates before after files files_after found
+    → Says (IsRunDue gates before after files files_after) found
+run_says gates before after files files_after (Ok said) due = (ended said, refl, due, refl, refl)
+run_says gates before after files files_after (Err r) due = due
 
 -- and so is what a session found
 pub session_says : (before after : Input) (files files_after : Files) (found : Result Said Refusal) → IsSessionFound before after files files_after found → Says (IsSessionDue before after files files_after) found

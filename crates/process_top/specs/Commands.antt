@@ -5,14 +5,17 @@ use Rattle.program_words.specs.Commands.{asked}
 use Rattle.program_words.specs.declared.reading.Command.{Command}
 use Rattle.program_words.specs.declared.reading.Command.TheVariants.{Check, Init, Run, Session, Serve, Restart, Show, Verify, Gen}
 use Rattle.program_words.specs.declared.reading.Command.TheVariants.{Bulk}
+use Rattle.program_words.specs.declared.refusals.WordsError.{WordsError}
+use Rattle.program_words.specs.declared.refusals.WordsError.TheVariants as errors
 use Rattle.process_flow.specs.Causes.{Rose}
 use Rattle.command_refusals.specs.Statuses.{number_of}
 use Rattle.command_refusals.specs.declared.status.Status.{Status}
 use Rattle.command_refusals.specs.declared.status.Status.TheVariants.{Done, IllFormed}
+use Rattle.command_refusals.specs.declared.refusal.Refusal.{Refusal}
 use Rattle.command_refusals.specs.declared.refusal.Refusal.TheVariants.{BadWords, NoMemory}
 use Rattle.command_input.specs.Early.{comes_before_files}
 use Rattle.process_disk.specs.Disk.{Told}
-use Rattle.engine_calls.specs.GateAnswers.{AskedGate}
+use Rattle.worker_gate.specs.ManyGates.{AskedGates}
 use Rattle.restart_run.specs.Boxes.{HaveValuesOf}
 use Rattle.process_top.specs.Worlds.{World, BoxState, GatesState, Input, Files}
 use Rattle.history_files.specs.Boxes.{AreBoxes}
@@ -21,7 +24,7 @@ use Rattle.command_input.specs.FilesLeft.{AreUntouched, AreLeft}
 use Rattle.process_top.specs.Replies.{Reply, ended, refused, IsReplyTold}
 use Rattle.process_top.specs.Check.{IsCheckDue, IsCheckComplete}
 use Rattle.process_top.specs.Init.{IsInitDue}
-use Rattle.process_top.specs.Run.{first_gate, IsRunDue, IsRunComplete}
+use Rattle.process_top.specs.Run.{first_gate, first_gates, gates_asked, IsRunDue, IsRunComplete}
 use Rattle.process_top.specs.Session.{IsSessionDue, IsSessionComplete}
 use Rattle.process_top.specs.Serve.{IsServeDue, IsServeComplete}
 use Rattle.process_top.specs.Restart.{IsRestartDue, IsRestartComplete}
@@ -30,29 +33,31 @@ use Rattle.process_top.specs.Verify.{IsVerifyDue, IsVerifyComplete}
 use Rattle.process_top.specs.Gen.{IsGenDue, IsGenComplete}
 use Rattle.process_top.specs.Bulk.{IsBulkDue, IsBulkComplete}
 
--- what may be due to a command, which may ask the first gate; to words that ask for none, that they are bad, or that memory was
--- wanting for them
-abbrev pub IsDueTo : Option Command → AskedGate → Input → Input → Files → Files → Reply → Type 0
-IsDueTo None gate before after files files_after reply =
+-- what may be due to a command, which may ask the first gate, and `run` the first of them; to words that ask for none, that they
+-- are bad, or that memory was wanting for them
+abbrev pub IsDueTo : Option Command → AskedGates → Input → Input → Files → Files → Reply → Type 0
+IsDueTo None gates before after files files_after reply =
     ((reply ≡ refused BadWords) ⊎ (reply ≡ refused NoMemory)) × AreUntouched files files_after
-IsDueTo (Some Check) gate before after files files_after reply = IsCheckDue before after reply × AreUntouched files files_after
-IsDueTo (Some Init) gate before after files files_after reply = IsInitDue before after files files_after reply
-IsDueTo (Some Run) gate before after files files_after reply = IsRunDue gate before after files files_after reply
-IsDueTo (Some Session) gate before after files files_after reply = IsSessionDue before after files files_after reply
-IsDueTo (Some Serve) gate before after files files_after reply = IsServeDue before after files files_after reply
-IsDueTo (Some Restart) gate before after files files_after reply = IsRestartDue gate files files_after reply
-IsDueTo (Some Show) gate before after files files_after reply = IsShowDue files files_after reply × AreUntouched files files_after
-IsDueTo (Some Verify) gate before after files files_after reply = IsVerifyDue before after reply × AreUntouched files files_after
-IsDueTo (Some (Gen number count)) gate before after files files_after reply =
+IsDueTo (Some Check) gates before after files files_after reply = IsCheckDue before after reply × AreUntouched files files_after
+IsDueTo (Some Init) gates before after files files_after reply = IsInitDue before after files files_after reply
+IsDueTo (Some (Run workers)) gates before after files files_after reply =
+    IsRunDue (first_gates workers gates) before after files files_after reply
+IsDueTo (Some Session) gates before after files files_after reply = IsSessionDue before after files files_after reply
+IsDueTo (Some Serve) gates before after files files_after reply = IsServeDue before after files files_after reply
+IsDueTo (Some Restart) gates before after files files_after reply = IsRestartDue (first_gate gates) files files_after reply
+IsDueTo (Some Show) gates before after files files_after reply = IsShowDue files files_after reply × AreUntouched files files_after
+IsDueTo (Some Verify) gates before after files files_after reply = IsVerifyDue before after reply × AreUntouched files files_after
+IsDueTo (Some (Gen number count)) gates before after files files_after reply =
     IsGenDue number count reply × AreUntouched files files_after
-IsDueTo (Some (Bulk number count)) gate before after files files_after reply = IsBulkDue gate number count files files_after reply
+IsDueTo (Some (Bulk number count)) gates before after files files_after reply =
+    IsBulkDue (first_gate gates) number count files files_after reply
 
 -- what a command does where nothing fails
 abbrev pub DoesItsWork : Option Command → Input → Files → Status → Type 0
 DoesItsWork None input files status = ⊤
 DoesItsWork (Some Check) input files status = IsCheckComplete input status
 DoesItsWork (Some Init) input files status = IsInitComplete input files.disk status
-DoesItsWork (Some Run) input files status = IsRunComplete input files status
+DoesItsWork (Some (Run workers)) input files status = IsRunComplete input files status
 DoesItsWork (Some Session) input files status = IsSessionComplete input files status
 DoesItsWork (Some Serve) input files status = IsServeComplete input files status
 DoesItsWork (Some Restart) input files status = IsRestartComplete files status
@@ -66,7 +71,7 @@ abbrev pub reads_input : Option Command → Bool
 reads_input None = false
 reads_input (Some Check) = true
 reads_input (Some Init) = true
-reads_input (Some Run) = true
+reads_input (Some (Run workers)) = true
 reads_input (Some Session) = true
 reads_input (Some Serve) = true
 reads_input (Some Restart) = false
@@ -80,7 +85,7 @@ abbrev pub uses_files : Option Command → Bool
 uses_files None = false
 uses_files (Some Check) = false
 uses_files (Some Init) = true
-uses_files (Some Run) = true
+uses_files (Some (Run workers)) = true
 uses_files (Some Session) = true
 uses_files (Some Serve) = true
 uses_files (Some Restart) = true
@@ -94,7 +99,7 @@ abbrev pub uses_boxes : Option Command → Bool
 uses_boxes None = false
 uses_boxes (Some Check) = false
 uses_boxes (Some Init) = true
-uses_boxes (Some Run) = true
+uses_boxes (Some (Run workers)) = true
 uses_boxes (Some Session) = true
 uses_boxes (Some Serve) = true
 uses_boxes (Some Restart) = true
@@ -114,7 +119,7 @@ abbrev pub asks_gate : Option Command → Bool
 asks_gate None = false
 asks_gate (Some Check) = false
 asks_gate (Some Init) = false
-asks_gate (Some Run) = true
+asks_gate (Some (Run workers)) = true
 asks_gate (Some Session) = false
 asks_gate (Some Serve) = false
 asks_gate (Some Restart) = true
@@ -123,11 +128,31 @@ asks_gate (Some Verify) = false
 asks_gate (Some (Gen number count)) = false
 asks_gate (Some (Bulk number count)) = true
 
--- all gates but the first are as they were
-pub record AreOthersAsBefore (before after : GatesState) : Type 0 where
+-- how many of the gates a command may ask: `run` one for each worker, each other command the first
+abbrev pub most_gates : Option Command → ℕ
+most_gates (Some (Run workers)) = workers
+most_gates o = 1
+
+-- all gates but the first so many are as they were
+pub record AreOthersAsBefore (first : ℕ) (before after : GatesState) : Type 0 where
   pub answers : after.answers ≡ before.answers
   pub count : length after.counts ≡ length before.counts
-  pub others : drop 1 after.counts ≡ drop 1 before.counts
+  pub others : drop first after.counts ≡ drop first before.counts
+
+-- with how many workers a command runs, if it waits for workers
+abbrev pub workers_in : Command → Option ℕ
+workers_in (Run workers) = Some workers
+workers_in command = None
+
+-- what is told of words that give no command
+abbrev pub words_refusal : WordsError → Refusal
+words_refusal errors.BadWords = BadWords
+words_refusal errors.NoMemory = NoMemory
+
+-- `run` waits for its workers, so where a call may not wait its words ask for nothing
+abbrev pub at_once : Option Command → Option Command
+at_once (Some (Run workers)) = None
+at_once o = o
 
 -- the status of verdicts
 abbrev pub is_verdict : Status → Bool
@@ -140,36 +165,44 @@ is_early (refused r) = comes_before_files r
 is_early (ended said) = is_verdict said.status
 is_early reply = false
 
--- On these words, from this world to that one, at this status, this was answered.
-pub record Answers {S K R : Type 0} (words : List (List ℕ)) (before after : World S K R) (number : ℕ) : Type 0 where
+-- To a command, from this world to that one, at this status, this was answered.
+pub record AnswersTo {S K R : Type 0} (command : Option Command) (before after : World S K R) (number : ℕ) : Type 0 where
   -- the call ended at this status, of which that is the number
   pub status : Status
   pub numbered : number ≡ number_of status
   -- this was to be said, and it was due
   pub reply : Reply
-  pub due : IsDueTo (asked words) (first_gate before.gates after.gates) before.input after.input before.files after.files reply
+  pub due : IsDueTo command (gates_asked before.gates after.gates) before.input after.input before.files after.files reply
   -- it was told: its text went out, and the status is its own, or that of want of memory for its line; or the sink failed, and the
   -- status is that of a write fault
   pub told : IsReplyTold reply before.output after.output status
   -- where no call failed, the command did what it is for, or memory is wanting
-  pub complete : IsQuiet (asked words) before after → DoesItsWork (asked words) before.input before.files status
+  pub complete : IsQuiet command before after → DoesItsWork command before.input before.files status
   -- the rack tells as before, and its count of faults didn't fall
   pub left : AreLeft before.files after.files
   -- the boxes are those of the eight subsystems again, and a command that needs none leaves their values
   pub boxes : AreBoxes (λ b. b.kind) after.boxes
-  pub kept : uses_boxes (asked words) ≡ false → after.boxes ≡ before.boxes
+  pub kept : uses_boxes command ≡ false → after.boxes ≡ before.boxes
   -- a restart that did its work leaves in each the values of its book
-  pub values : asked words ≡ Some Restart → status ≡ Done → Told after.files.disk
+  pub values : command ≡ Some Restart → status ≡ Done → Told after.files.disk
       → HaveValuesOf (λ (b : BoxState). b.values) after.files.disk.files after.boxes
-  -- only the first gate may be asked, and a command that asks none leaves it as it is
-  pub gates : AreOthersAsBefore before.gates after.gates
-  pub unasked : asks_gate (asked words) ≡ false → after.gates ≡ before.gates
+  -- only the first gates may be asked, as many as the command may ask, and a command that asks none leaves all as they are
+  pub gates : AreOthersAsBefore (most_gates command) before.gates after.gates
+  pub unasked : asks_gate command ≡ false → after.gates ≡ before.gates
   -- a command that needs no files leaves the rack as it is, whatever it tells
-  pub untouched : uses_files (asked words) ≡ false → after.rack ≡ before.rack
+  pub untouched : uses_files command ≡ false → after.rack ≡ before.rack
   -- a command that needs no input leaves the source as it is
-  pub unread : reads_input (asked words) ≡ false → after.source ≡ before.source
+  pub unread : reads_input command ≡ false → after.source ≡ before.source
   -- what is said before the rack is called leaves it as it is, whatever it tells
   pub early : is_early reply ≡ true → after.rack ≡ before.rack
+
+-- On these words, this was answered.
+abbrev pub Answers : {S K R : Type 0} → List (List ℕ) → World S K R → World S K R → ℕ → Type 0
+Answers words = AnswersTo (asked words)
+
+-- The same of a call that may not wait.
+abbrev pub AnswersAtOnce : {S K R : Type 0} → List (List ℕ) → World S K R → World S K R → ℕ → Type 0
+AnswersAtOnce words = AnswersTo (at_once (asked words))
 
 -- the first word is `show`
 abbrev pub first_is_show : List (List ℕ) → Bool

@@ -1,5 +1,5 @@
 -- The command `run`.
-use Rattle.std.specs.Prelude.{[], ◌∷◌, List, ℕ, get_or, Ok, Err}
+use Rattle.std.specs.Prelude.{[], ◌∷◌, List, ℕ, get_or, take, Ok, Err}
 use Rattle.commute_table.specs.declared.catalog.Catalog.{Catalog}
 use Rattle.process_tree.specs.declared.plan.Plan.{Plan}
 use Rattle.schedule_model.specs.declared.history.History.{History}
@@ -10,6 +10,7 @@ use Rattle.command_input.specs.Inputs.{Input}
 use Rattle.command_input.specs.FilesLeft.{Files}
 use Rattle.scenario_run.specs.Completeness.{HasRoomFor, HasScenario}
 use Rattle.engine_calls.specs.GateAnswers.{AskedGate, GateCounts}
+use Rattle.worker_gate.specs.ManyGates.{AskedGates}
 use Rattle.scenario_run.specs.Run.{IsRunDue as IsRunFound}
 use Rattle.process_top.specs.Worlds.{GatesState}
 use Rattle.process_top.specs.Replies.{Reply, ended, refused}
@@ -18,17 +19,26 @@ use Rattle.process_top.specs.Replies.{Reply, ended, refused}
 abbrev pub never_asked : GateCounts
 never_asked = record { asked = 0; refusals = 0 }
 
--- the first gate, before and after
-abbrev pub first_gate : GatesState → GatesState → AskedGate
-first_gate before after =
-    record { answers = before.answers; before = get_or before.counts 0 never_asked; after = get_or after.counts 0 never_asked }
+-- the gates of a call, before and after
+abbrev pub gates_asked : GatesState → GatesState → AskedGates
+gates_asked before after = record { answers = before.answers; before = before.counts; after = after.counts }
+
+-- the first so many of them
+abbrev pub first_gates : ℕ → AskedGates → AskedGates
+first_gates count gates =
+    record { answers = gates.answers; before = take count gates.before; after = take count gates.after }
+
+-- the first
+abbrev pub first_gate : AskedGates → AskedGate
+first_gate gates =
+    record { answers = gates.answers; before = get_or gates.before 0 never_asked; after = get_or gates.after 0 never_asked }
 
 -- the report of the history once all processes of the scenario have ended, or one is stuck; or the verdict line of the first
 -- process that isn't well-formed; or what is refused
-abbrev pub IsRunDue : AskedGate → Input → Input → Files → Files → Reply → Type 0
-IsRunDue gate before after files files_after (ended said) = IsRunFound gate before after files files_after (Ok said)
-IsRunDue gate before after files files_after (refused r) = IsRunFound gate before after files files_after (Err r)
-IsRunDue gate before after files files_after reply = ⊥
+abbrev pub IsRunDue : AskedGates → Input → Input → Files → Files → Reply → Type 0
+IsRunDue gates before after files files_after (ended said) = IsRunFound gates before after files files_after (Ok said)
+IsRunDue gates before after files files_after (refused r) = IsRunFound gates before after files files_after (Err r)
+IsRunDue gates before after files files_after reply = ⊥
 
 -- Where the input is a scenario and the files have room for it, the report is there: all processes have ended, or one is stuck; or
 -- memory is wanting.

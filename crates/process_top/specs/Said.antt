@@ -38,7 +38,7 @@ IsResultTold (Err r) before after ended = IsRefusalTold r before after ended
 
 -- what is promised of the work of a command over an engine, where nothing fails
 abbrev pub HasWorked : Option Command → Input → Input → Files → Files → Output → Output → Ending → Type 0
-HasWorked (Some Run) before after files files_after out out_after ending =
+HasWorked (Some (Run workers)) before after files files_after out out_after ending =
     OnEnding (λ at. ⊤) (IsRunComplete before after files files_after) ending
 HasWorked (Some Session) before after files files_after out out_after ending =
     OnEnding (λ at. ⊤) (IsSessionComplete before after files files_after) ending

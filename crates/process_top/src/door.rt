@@ -1,29 +1,31 @@
 // The front door: answers to lists of words.
-ghost use Rattle.std.specs.Prelude.{◌≡◌, true, false, length, map, string_bytes, IfOk, IfErr, Some, ⊤};
+ghost use Rattle.std.specs.Prelude.{◌≡◌, ◌≤◌, true, false, length, map, string_bytes, IfOk, IfErr, Option, Some, None, ⊤};
 ghost use Rattle.process_disk.specs.Disk.{Told};
+ghost use Rattle.command_refusals.specs.Statuses.{number_of};
 ghost use Rattle.command_refusals.specs.declared.status.Status.TheVariants.{Done, IllFormed};
-ghost use Rattle.program_words.specs.Commands.{asked};
 ghost use Rattle.program_words.specs.Forms.{IsInRange};
-ghost use Rattle.program_words.specs.declared.reading.Command.TheVariants.{Restart};
+ghost use Rattle.program_words.specs.declared.reading.Command.TheVariants.{Restart, Run};
 ghost use Rattle.history_files.specs.Boxes.{AreBoxes};
 ghost use Rattle.command_input.specs.FilesLeft.{AreLeft};
 ghost use Rattle.command_input.specs.Early.{comes_before_files};
 ghost use Rattle.restart_run.specs.Boxes.{HaveValuesOf};
-ghost use Rattle.process_top.specs.Run.{first_gate};
+ghost use Rattle.process_top.specs.Run.{gates_asked};
 ghost use Rattle.serve_run.specs.Serve.{OnEnding};
-ghost use Rattle.process_top.specs.Said.{EndsBy, HasWorked};
+ghost use Rattle.process_top.specs.Said.{EndsBy, HasWorked, IsResultTold};
 ghost use Rattle.process_top.specs.Worlds.{files, input, output, world, gates as told_gates};
-ghost use Rattle.process_top.specs.Commands.{asks_gate, first_is_show, reads_input, uses_boxes, uses_files, Answers};
-ghost use Rattle.process_top.specs.Commands.{AreOthersAsBefore, IsDueTo};
+ghost use Rattle.process_top.specs.Commands.{asks_gate, at_once, first_is_show, reads_input, uses_boxes, uses_files};
+ghost use Rattle.process_top.specs.Commands.{Answers, AnswersAtOnce, AnswersTo, AreOthersAsBefore, IsDueTo, words_refusal};
+ghost use Rattle.process_top.specs.Commands.{workers_in};
 
 use crate::check::check;
 use crate::generating::scenario;
+use crate::running::run_by_first;
 use crate::show::show;
 use crate::told::tell_ending;
 use crate::verify::verify;
 use bulk_run::bulk;
 use command_input::CommandEnd;
-use command_refusals::Refusal;
+use command_refusals::{Refusal, Status};
 use init_run::init;
 use process_disk::Rack;
 use process_engine::{Gate, Parts};
@@ -31,10 +33,12 @@ use process_flow::{Sink, Source};
 use program_words::{Command, WordsError, read_words};
 use resource_box::Resource;
 use restart_run::restart;
-use scenario_run::run;
+use scenario_run::RunEnd;
 use serve_run::{Ending, Served, serve};
 use session_run::session;
 use std::alloc::Global;
+use std::sync::Wait;
+use std::thread::Threads;
 
 /// Whether a list of words can only read files: its first word is `show`.
 pub fn only_reads(words: &[String]) -> bool
@@ -65,7 +69,7 @@ fn unsaid<P: Drop>(end: CommandEnd<P>) -> Served<P>
     }
 }
 
-// How a command ends.
+// How a command ends that doesn't wait. `run` does, so its words are bad here.
 fn done<S: Source, K: Sink, R: Rack + Drop, B: Resource, G: Gate>(
     alloc: Global,
     command: Command,
@@ -77,25 +81,25 @@ fn done<S: Source, K: Sink, R: Rack + Drop, B: Resource, G: Gate>(
     requires range { IsInRange command }
     requires boxes { AreBoxes B.sort parts.resources.items }
     requires gates { length gates.old.items ≡ 16 }
-    ensures due { EndsBy (IsDueTo (Some command)
-        (first_gate (told_gates G.Gate gates.old.items) (told_gates G.Gate gates.new.items))
+    ensures due { EndsBy (IsDueTo (at_once (Some command))
+        (gates_asked (told_gates G.Gate gates.old.items) (told_gates G.Gate gates.new.items))
         (input S.Source source.old) (input S.Source source.new) (files R.Rack parts.rack) (files R.Rack result.parts.rack))
         (output K.Sink sink.old) (output K.Sink sink.new) result.ending }
-    ensures worked { HasWorked (Some command) (input S.Source source.old) (input S.Source source.new) (files R.Rack parts.rack)
-        (files R.Rack result.parts.rack)
+    ensures worked { HasWorked (at_once (Some command)) (input S.Source source.old) (input S.Source source.new)
+        (files R.Rack parts.rack) (files R.Rack result.parts.rack)
         (output K.Sink sink.old) (output K.Sink sink.new) result.ending }
     ensures left { AreLeft (files R.Rack parts.rack) (files R.Rack result.parts.rack) }
     ensures boxes { AreBoxes B.sort result.parts.resources.items }
-    ensures kept { uses_boxes (Some command) ≡ false → result.parts.resources ≡ parts.resources }
-    ensures gates { AreOthersAsBefore (told_gates G.Gate gates.old.items) (told_gates G.Gate gates.new.items) }
-    ensures unasked { asks_gate (Some command) ≡ false → gates.new.items ≡ gates.old.items }
-    ensures untouched { uses_files (Some command) ≡ false → result.parts.rack ≡ parts.rack }
-    ensures unread { reads_input (Some command) ≡ false → source.new ≡ source.old }
+    ensures kept { uses_boxes (at_once (Some command)) ≡ false → result.parts.resources ≡ parts.resources }
+    ensures gates { AreOthersAsBefore 1 (told_gates G.Gate gates.old.items) (told_gates G.Gate gates.new.items) }
+    ensures unasked { asks_gate (at_once (Some command)) ≡ false → gates.new.items ≡ gates.old.items }
+    ensures untouched { uses_files (at_once (Some command)) ≡ false → result.parts.rack ≡ parts.rack }
+    ensures unread { reads_input (at_once (Some command)) ≡ false → source.new ≡ source.old }
     ensures early { OnEnding (λ _. ⊤)
         (λ found. IfErr found (λ r. comes_before_files r ≡ true → result.parts.rack ≡ parts.rack)) result.ending }
     ensures verdict { OnEnding (λ _. ⊤)
         (λ found. IfOk found (λ s. s.status ≡ IllFormed → result.parts.rack ≡ parts.rack)) result.ending }
-    ensures values { Some command ≡ Some Restart → OnEnding (λ _. ⊥)
+    ensures values { at_once (Some command) ≡ Some Restart → OnEnding (λ _. ⊥)
         (λ found. IfOk found (λ s. s.status ≡ Done → Told (R.disk result.parts.rack)
         → HaveValuesOf (λ b. (B.meaning b).items) (R.disk result.parts.rack).files result.parts.resources.items)) result.ending }
 {
@@ -105,7 +109,10 @@ fn done<S: Source, K: Sink, R: Rack + Drop, B: Resource, G: Gate>(
             ending: Ending::Due(check(alloc, source)),
         },
         Command::Init => unsaid(init(alloc, source, parts)),
-        Command::Run => unsaid(run(alloc, source, parts, &mut gates[0])),
+        Command::Run { .. } => Served {
+            parts,
+            ending: Ending::Due(Err(Refusal::BadWords)),
+        },
         Command::Session => unsaid(session(alloc, source, parts)),
         Command::Serve => serve(alloc, source, sink, parts),
         Command::Restart => unsaid(restart(alloc, parts, &mut gates[0])),
@@ -131,53 +138,90 @@ fn done<S: Source, K: Sink, R: Rack + Drop, B: Resource, G: Gate>(
     }
 }
 
-// What there is to say on a list of words.
-fn said<S: Source, K: Sink, R: Rack + Drop, B: Resource, G: Gate>(
+// Tells how a command ended.
+fn tell_served<K: Sink, R: Rack + Drop, B: Resource, G>(
     alloc: Global,
-    words: &[String],
-    source: &mut S,
     sink: &mut K,
-    parts: Parts<R, B>,
-    gates: &mut Vec<G>,
-) -> Served<Parts<R, B>>
-    requires boxes { AreBoxes B.sort parts.resources.items }
-    requires gates { length gates.old.items ≡ 16 }
-    ensures due { EndsBy (IsDueTo (asked (map string_bytes words.now))
-        (first_gate (told_gates G.Gate gates.old.items) (told_gates G.Gate gates.new.items))
-        (input S.Source source.old) (input S.Source source.new) (files R.Rack parts.rack) (files R.Rack result.parts.rack))
-        (output K.Sink sink.old) (output K.Sink sink.new) result.ending }
-    ensures worked { HasWorked (asked (map string_bytes words.now)) (input S.Source source.old) (input S.Source source.new)
-        (files R.Rack parts.rack) (files R.Rack result.parts.rack)
-        (output K.Sink sink.old) (output K.Sink sink.new) result.ending }
-    ensures left { AreLeft (files R.Rack parts.rack) (files R.Rack result.parts.rack) }
-    ensures boxes { AreBoxes B.sort result.parts.resources.items }
-    ensures kept { uses_boxes (asked (map string_bytes words.now)) ≡ false → result.parts.resources ≡ parts.resources }
-    ensures gates { AreOthersAsBefore (told_gates G.Gate gates.old.items) (told_gates G.Gate gates.new.items) }
-    ensures unasked { asks_gate (asked (map string_bytes words.now)) ≡ false → gates.new.items ≡ gates.old.items }
-    ensures untouched { uses_files (asked (map string_bytes words.now)) ≡ false → result.parts.rack ≡ parts.rack }
-    ensures unread { reads_input (asked (map string_bytes words.now)) ≡ false → source.new ≡ source.old }
-    ensures early { OnEnding (λ _. ⊤)
-        (λ found. IfErr found (λ r. comes_before_files r ≡ true → result.parts.rack ≡ parts.rack)) result.ending }
-    ensures verdict { OnEnding (λ _. ⊤)
-        (λ found. IfOk found (λ s. s.status ≡ IllFormed → result.parts.rack ≡ parts.rack)) result.ending }
-    ensures values { asked (map string_bytes words.now) ≡ Some Restart
-        → OnEnding (λ _. ⊥) (λ found. IfOk found (λ s. s.status ≡ Done → Told (R.disk result.parts.rack)
-        → HaveValuesOf (λ b. (B.meaning b).items) (R.disk result.parts.rack).files result.parts.resources.items)) result.ending }
+    served: Served<Parts<R, B>>,
+    gates: Vec<G>,
+) -> Finished<R, G, B>
+    ensures rack { result.rack ≡ served.parts.rack }
+    ensures resources { result.resources ≡ served.parts.resources }
+    ensures gates { result.gates ≡ gates }
+    ensures told { (at : Status) × (result.status ≡ number_of at)
+        × OnEnding (λ s. (at ≡ s) × (output K.Sink sink.new ≡ output K.Sink sink.old))
+        (λ found. IsResultTold found (output K.Sink sink.old) (output K.Sink sink.new) at) served.ending }
+    ensures later { K.faults sink.old ≤ K.faults sink.new }
 {
-    match read_words(alloc, words) {
-        Ok(command) => done(alloc, command, source, sink, parts, gates),
-        Err(WordsError::BadWords) => Served {
-            parts,
-            ending: Ending::Due(Err(Refusal::BadWords)),
-        },
-        Err(WordsError::NoMemory) => Served {
-            parts,
-            ending: Ending::Due(Err(Refusal::NoMemory)),
-        },
+    let Served { parts, ending } = served;
+    let status = tell_ending(alloc, sink, &ending);
+    let Parts { rack, resources } = parts;
+    Finished {
+        status: status.number(),
+        rack,
+        resources,
+        gates,
     }
 }
 
-/// Answers a list of words over a source, a sink, a rack, the boxes of eight subsystems and sixteen gates.
+// What is told of words that give no command.
+fn words_refusal(why: WordsError) -> Refusal
+    ensures { result ≡ words_refusal why }
+{
+    match why {
+        WordsError::BadWords => Refusal::BadWords,
+        WordsError::NoMemory => Refusal::NoMemory,
+    }
+}
+
+// Answers words that ask for nothing, or for which memory is wanting.
+fn unread<S: Source, K: Sink, R: Rack + Drop, B: Resource, G: Gate>(
+    alloc: Global,
+    why: WordsError,
+    source: &mut S,
+    sink: &mut K,
+    rack: R,
+    resources: Vec<B>,
+    gates: Vec<G>,
+) -> Finished<R, G, B>
+    requires boxes { AreBoxes B.sort resources.items }
+    ensures { (command : Option Command) → (why ≡ WordsError.BadWords → command ≡ None) → AnswersTo command
+        (world S.Source K.Sink R.Rack B.Resource G.Gate source.old sink.old rack resources.items gates.items)
+        (world S.Source K.Sink R.Rack B.Resource G.Gate source.new sink.new result.rack result.resources.items result.gates.items) result.status }
+{
+    let _ = source;
+    let served = Served {
+        parts: Parts { rack, resources },
+        ending: Ending::Due(Err(words_refusal(why))),
+    };
+    tell_served(alloc, sink, served, gates)
+}
+
+// Answers to a command that doesn't wait.
+fn answer_to<S: Source, K: Sink, R: Rack + Drop, B: Resource, G: Gate>(
+    alloc: Global,
+    command: Command,
+    source: &mut S,
+    sink: &mut K,
+    rack: R,
+    resources: Vec<B>,
+    gates: Vec<G>,
+) -> Finished<R, G, B>
+    requires range { IsInRange command }
+    requires boxes { AreBoxes B.sort resources.items }
+    requires gates { length gates.items ≡ 16 }
+    ensures { AnswersTo (at_once (Some command))
+        (world S.Source K.Sink R.Rack B.Resource G.Gate source.old sink.old rack resources.items gates.items)
+        (world S.Source K.Sink R.Rack B.Resource G.Gate source.new sink.new result.rack result.resources.items result.gates.items) result.status }
+{
+    let mut gates = gates;
+    let parts = Parts { rack, resources };
+    let served = done(alloc, command, source, sink, parts, &mut gates);
+    tell_served(alloc, sink, served, gates)
+}
+
+/// Answers a list of words over a source, a sink, a rack, the boxes of eight subsystems and sixteen gates. It doesn't wait, so
+/// `run` is bad words to it.
 pub fn answer<S: Source, K: Sink, R: Rack + Drop, B: Resource, G: Gate>(
     alloc: Global,
     words: &[String],
@@ -190,26 +234,74 @@ pub fn answer<S: Source, K: Sink, R: Rack + Drop, B: Resource, G: Gate>(
     requires boxes { AreBoxes B.sort resources.items }
     requires gates { length gates.items ≡ 16 }
     // On these words, from this world to that one, at this status, this was answered.
-    ensures { Answers (map string_bytes words.now)
+    ensures { AnswersAtOnce (map string_bytes words.now)
         (world S.Source K.Sink R.Rack B.Resource G.Gate source.old sink.old rack resources.items gates.items)
         (world S.Source K.Sink R.Rack B.Resource G.Gate source.new sink.new result.rack result.resources.items result.gates.items) result.status }
 {
-    let mut gates = gates;
-    let parts = Parts { rack, resources };
-    let Served { parts, ending } = said(alloc, words, source, sink, parts, &mut gates);
-    let status = tell_ending(alloc, sink, &ending);
-    let Parts { rack, resources } = parts;
-    Finished {
-        status: status.number(),
-        rack,
-        resources,
-        gates,
+    match read_words(alloc, words) {
+        Ok(command) => answer_to(alloc, command, source, sink, rack, resources, gates),
+        Err(why) => unread(alloc, why, source, sink, rack, resources, gates),
     }
 }
 
-/// Answers a list of words, as `answer` does.
-pub fn top<H, S: Source, K: Sink, R: Rack + Drop, B: Resource, G: Gate>(
-    _rt: &H,
+// With how many workers a command runs, if it waits for workers.
+fn workers_of(command: Command) -> Option<u32>
+    ensures { result ≡ workers_in command }
+{
+    match command {
+        Command::Run { workers } => Some(workers),
+        _ => None,
+    }
+}
+
+// Answers to `run` with so many workers.
+fn answer_run<
+    H: Threads + Wait + Sync,
+    S: Source,
+    K: Sink,
+    R: Rack + Drop + Send,
+    B: Resource + Send,
+    G: Gate + Send,
+>(
+    rt: &H,
+    alloc: Global,
+    workers: u32,
+    source: &mut S,
+    sink: &mut K,
+    rack: R,
+    resources: Vec<B>,
+    gates: Vec<G>,
+) -> Finished<R, G, B>
+    requires workers { (1 ≤ workers) × (workers ≤ 16) }
+    requires boxes { AreBoxes B.sort resources.items }
+    requires gates { length gates.items ≡ 16 }
+    ensures { AnswersTo (Some (Run workers))
+        (world S.Source K.Sink R.Rack B.Resource G.Gate source.old sink.old rack resources.items gates.items)
+        (world S.Source K.Sink R.Rack B.Resource G.Gate source.new sink.new result.rack result.resources.items result.gates.items) result.status }
+{
+    let parts = Parts { rack, resources };
+    let RunEnd {
+        parts,
+        gates,
+        found,
+    } = run_by_first(rt, alloc, workers, source, parts, gates);
+    let served = Served {
+        parts,
+        ending: Ending::Due(found),
+    };
+    tell_served(alloc, sink, served, gates)
+}
+
+/// Answers a list of words, as `answer` does, and `run` too, whose workers wait for one another.
+pub fn top<
+    H: Threads + Wait + Sync,
+    S: Source,
+    K: Sink,
+    R: Rack + Drop + Send,
+    B: Resource + Send,
+    G: Gate + Send,
+>(
+    rt: &H,
     alloc: Global,
     words: &[String],
     source: &mut S,
@@ -225,5 +317,12 @@ pub fn top<H, S: Source, K: Sink, R: Rack + Drop, B: Resource, G: Gate>(
         (world S.Source K.Sink R.Rack B.Resource G.Gate source.old sink.old rack resources.items gates.items)
         (world S.Source K.Sink R.Rack B.Resource G.Gate source.new sink.new result.rack result.resources.items result.gates.items) result.status }
 {
-    answer(alloc, words, source, sink, rack, resources, gates)
+    let command = match read_words(alloc, words) {
+        Ok(command) => command,
+        Err(why) => return unread(alloc, why, source, sink, rack, resources, gates),
+    };
+    match workers_of(command) {
+        Some(workers) => answer_run(rt, alloc, workers, source, sink, rack, resources, gates),
+        None => answer_to(alloc, command, source, sink, rack, resources, gates),
+    }
 }

@@ -81,7 +81,8 @@ plain_written name c = ap (option_map (λ (_ : ⊤). c)) (taken_by (fault_of (pl
 pub form_asked : (c : Command) (words : List Text) → IsCommandForm c words → asked words ≡ Some c
 form_asked command.Check words is = ap asked is ∙ plain_written (codes "check") command.Check
 form_asked command.Init words is = ap asked is ∙ plain_written (codes "init") command.Init
-form_asked command.Run words is = ap asked is ∙ plain_written (codes "run") command.Run
+form_asked (command.Run workers) words (rest, is, form) =
+    ap asked is ∙ ap (option_map (λ (n : ℕ). command.Run n)) (workers_form_asked (codes "run") workers rest form)
 form_asked command.Session words is = ap asked is ∙ plain_written (codes "session") command.Session
 form_asked command.Serve words is = ap asked is ∙ plain_written (codes "serve") command.Serve
 form_asked command.Restart words is = ap asked is ∙ plain_written (codes "restart") command.Restart

@@ -2,7 +2,7 @@
 use Rattle.std.specs.Prelude.{List, [], ◌∷◌, Option, None, option_and_then, option_map, codes}
 use Rattle.clap.specs.Walk.{Text}
 use Rattle.program_words.specs.Apps.{plain_app}
-use Rattle.program_words.specs.Asked.{nothing_asked, numbers_asked}
+use Rattle.program_words.specs.Asked.{nothing_asked, numbers_asked, workers_asked}
 use Rattle.program_words.specs.Names.{named}
 use Rattle.program_words.specs.declared.names.Name.{Name}
 use Rattle.program_words.specs.declared.names.Name.TheVariants as name
@@ -17,7 +17,7 @@ plain_asked word found rest = option_map (λ _. found) (nothing_asked (plain_app
 abbrev pub asked_after : Name → List Text → Option Command
 asked_after name.Check rest = plain_asked (codes "check") command.Check rest
 asked_after name.Init rest = plain_asked (codes "init") command.Init rest
-asked_after name.Run rest = plain_asked (codes "run") command.Run rest
+asked_after name.Run rest = option_map (λ workers. command.Run workers) (workers_asked (codes "run") rest)
 asked_after name.Session rest = plain_asked (codes "session") command.Session rest
 asked_after name.Serve rest = plain_asked (codes "serve") command.Serve rest
 asked_after name.Restart rest = plain_asked (codes "restart") command.Restart rest

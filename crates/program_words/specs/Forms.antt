@@ -23,7 +23,7 @@ IsNamed name words = words ≡ name ∷ []
 abbrev pub IsCommandForm : Command → List Text → Type 0
 IsCommandForm command.Check words = IsNamed (codes "check") words
 IsCommandForm command.Init words = IsNamed (codes "init") words
-IsCommandForm command.Run words = IsNamed (codes "run") words
+IsCommandForm (command.Run workers) words = (rest : List Text) × (words ≡ codes "run" ∷ rest) × IsWorkersForm workers rest
 IsCommandForm command.Session words = IsNamed (codes "session") words
 IsCommandForm command.Serve words = IsNamed (codes "serve") words
 IsCommandForm command.Restart words = IsNamed (codes "restart") words
@@ -33,8 +33,9 @@ IsCommandForm (command.Gen number count) words = (rest : List Text) × (words �
 IsCommandForm (command.Bulk number count) words =
     (rest : List Text) × (words ≡ codes "bulk" ∷ rest) × IsNumbersForm number count rest
 
--- COUNT is from 1 to 256
+-- COUNT is from 1 to 256, and there are 1 to 16 workers
 abbrev pub IsInRange : Command → Type 0
+IsInRange (command.Run workers) = (1 ≤ workers) × (workers ≤ 16)
 IsInRange (command.Gen number count) = (1 ≤ count) × (count ≤ 256)
 IsInRange (command.Bulk number count) = (1 ≤ count) × (count ≤ 256)
 IsInRange c = ⊤

@@ -1,8 +1,7 @@
 //! Reads the words after the program's name into a command. `clap` decides on the words behind a command's name, so a faulty
 //! command line is exactly one that `clap` refuses. The contracts cite `specs/Commands`: the command that words ask for, or none.
 //!
-//! Commands are read by `read_words`, with NUMBER and COUNT where they take them. The option `--workers`, which comes with its
-//! command, has a reader of its own: `read_workers`.
+//! Commands are read by `read_words`, with NUMBER and COUNT, or the option `--workers`, where they take them.
 #![tactic(auto)]
 
 mod arguments;

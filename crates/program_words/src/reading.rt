@@ -8,6 +8,7 @@ use crate::arguments::read_no_argument;
 use crate::names::{Name, name_of};
 use crate::numbers::read_number_and_count;
 use crate::refusals::WordsError;
+use crate::workers::read_workers;
 use std::alloc::Global;
 
 /// What the program is asked to do.
@@ -15,7 +16,7 @@ use std::alloc::Global;
 pub enum Command {
     Check,
     Init,
-    Run,
+    Run { workers: u32 },
     Session,
     Serve,
     Restart,
@@ -58,8 +59,8 @@ fn read_after(alloc: Global, name: Name, rest: &[String]) -> Result<Command, Wor
             Ok(Command::Init)
         }
         Name::Run => {
-            read_no_argument(alloc, "run", rest)?;
-            Ok(Command::Run)
+            let workers = read_workers(alloc, "run", rest)?;
+            Ok(Command::Run { workers })
         }
         Name::Session => {
             read_no_argument(alloc, "session", rest)?;

@@ -1,5 +1,5 @@
 //! The option `--workers`.
-ghost use Rattle.std.specs.Prelude.{◌≡◌, ◌⊎◌, ℕ, Ok, Err, map, string_bytes};
+ghost use Rattle.std.specs.Prelude.{◌≡◌, ◌⊎◌, ◌≤◌, ℕ, Ok, Err, IfOk, map, string_bytes};
 ghost use Rattle.program_words.specs.Asked.{Answers, workers_asked};
 ghost use Rattle.program_words.specs.Forms.{IsWorkersForm};
 
@@ -8,13 +8,14 @@ use clap::{Arg, ArgAction, Command, value_parser};
 use std::alloc::Global;
 
 /// Reads the words after the name of a command that takes the option `--workers`, one whole number from 1 to 16, and 1 where it
-/// isn't given. `run` takes it once there are worker threads.
+/// isn't given.
 pub fn read_workers(alloc: Global, name: &str, rest: &[String]) -> Result<u32, WordsError>
     // Ok has the number that `clap` finds. The words are bad exactly where `clap` finds a fault in them.
     ensures asked { Answers (workers_asked name.now (map string_bytes rest.now)) result }
     // A number in range, written without a leading zero, is taken, and no word is 1, unless memory is wanting.
     ensures complete { (workers : ℕ) → IsWorkersForm workers (map string_bytes rest.now)
         → (result ≡ Ok workers) ⊎ (result ≡ Err WordsError.NoMemory) }
+    ensures range { IfOk result (λ workers. (1 ≤ workers) × (workers ≤ 16)) }
 {
     let workers = Arg::new(alloc, "workers")
         .long("workers")

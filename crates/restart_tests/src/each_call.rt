@@ -8,7 +8,9 @@ use command_tests::scenarios::scenario;
 use process_disk::MemoryRack;
 use std::alloc::{AllocError, Global};
 use std::process::Abort;
+use std::sync::Wait;
 use std::test::Fail;
+use std::thread::Threads;
 
 // One that goes on behind its commit point, and one that takes of what it added and is refused then.
 const PROCESSES: &[u8] =
@@ -58,7 +60,7 @@ fn count_of(text: &[u8], word: &[u8]) -> usize {
 }
 
 // What a call prints on this rack at status 0, and the rack after it.
-fn printed<H: Abort>(
+fn printed<H: Abort + Threads + Wait + Sync>(
     rt: &H,
     alloc: Global,
     word: &str,
@@ -72,7 +74,11 @@ fn printed<H: Abort>(
 
 // A restart ends all, its report is accepted, and another one says the same. The answer is how many starts and steps the history
 // has.
-fn expect_restored<H: Abort>(rt: &H, alloc: Global, rack: MemoryRack) -> Result<usize, AllocError> {
+fn expect_restored<H: Abort + Threads + Wait + Sync>(
+    rt: &H,
+    alloc: Global,
+    rack: MemoryRack,
+) -> Result<usize, AllocError> {
     let (first, rack) = printed(rt, alloc, "restart", b"", rack)?;
     let (verdict, rack) = printed(rt, alloc, "verify", &first, rack)?;
     assert!(rt; verdict.as_slice() == b"accepted\n".as_slice());
@@ -89,7 +95,7 @@ fn happened(report: &[u8]) -> usize {
 }
 
 // Stops within one device call: none leaves less than the one that keeps nothing, and this leaves no less than what was before.
-fn expect_stops_within<H: Abort>(
+fn expect_stops_within<H: Abort + Threads + Wait + Sync>(
     rt: &H,
     alloc: Global,
     whole: &MemoryRack,
@@ -108,7 +114,10 @@ fn expect_stops_within<H: Abort>(
 }
 
 // The rack behind a run of the two, and the number of its first call.
-fn run_whole<H: Abort>(rt: &H, alloc: Global) -> Result<(MemoryRack, u32), Fail> {
+fn run_whole<H: Abort + Threads + Wait + Sync>(
+    rt: &H,
+    alloc: Global,
+) -> Result<(MemoryRack, u32), Fail> {
     let rack = made(rt, alloc, &[])?;
     let first = u32::try_from(rack.calls())?;
     let text = scenario(alloc, PROCESSES, b"")?;
@@ -145,7 +154,11 @@ fn each_call_of_a_run_fails_once(rt: HostRuntime) -> Result<(), Fail> {
 }
 
 // The rack behind the session, of which this call fails.
-fn left<H: Abort>(rt: &H, alloc: Global, fails: &[u32]) -> Result<MemoryRack, Fail> {
+fn left<H: Abort + Threads + Wait + Sync>(
+    rt: &H,
+    alloc: Global,
+    fails: &[u32],
+) -> Result<MemoryRack, Fail> {
     let text = scenario(alloc, PROCESSES, LINES)?;
     let rack = made(rt, alloc, fails)?;
     Ok(expect_on(rt, alloc, "session", &text, rack, 0, ANSWERS)?)
@@ -166,7 +179,12 @@ fn each_call_of_a_restart_fails_once(rt: HostRuntime) -> Result<(), Fail> {
 }
 
 // A run of which this read fails: nothing has happened. Whether it made that read.
-fn reads_so_often<H: Abort>(rt: &H, alloc: Global, text: &[u8], read: u32) -> Result<bool, Fail> {
+fn reads_so_often<H: Abort + Threads + Wait + Sync>(
+    rt: &H,
+    alloc: Global,
+    text: &[u8],
+    read: u32,
+) -> Result<bool, Fail> {
     let rack = made(rt, alloc, &[])?;
     let calls = rack.calls();
     let call = Call {
@@ -184,7 +202,7 @@ fn reads_so_often<H: Abort>(rt: &H, alloc: Global, text: &[u8], read: u32) -> Re
 }
 
 // A run of which this write fails: what went out is a beginning of the report, and all has happened. Whether it made that write.
-fn writes_so_often<H: Abort>(
+fn writes_so_often<H: Abort + Threads + Wait + Sync>(
     rt: &H,
     alloc: Global,
     text: &[u8],

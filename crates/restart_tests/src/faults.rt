@@ -4,7 +4,9 @@ use command_tests::scenarios::scenario;
 use process_disk::MemoryRack;
 use std::alloc::Global;
 use std::process::Abort;
+use std::sync::Wait;
 use std::test::Fail;
+use std::thread::Threads;
 
 const PURCHASE: &[u8] = b"process a c x add 1 5 p y pay 1 5 end\n";
 
@@ -19,7 +21,7 @@ const TAKEN_BACK: [Call; 1] = [(
 )];
 
 // The calls of a rack up to the piece that is handed out.
-fn calls_before<H: Abort>(rt: &H, alloc: Global) -> Result<u32, Fail> {
+fn calls_before<H: Abort + Threads + Wait + Sync>(rt: &H, alloc: Global) -> Result<u32, Fail> {
     let lines = scenario(alloc, PURCHASE, b"%%\nstart a\nadmit 1\n")?;
     let answers = b"started 1 a\npiece 1: do 1.x\n";
     let rack = made(rt, alloc, &[])?;
@@ -28,7 +30,7 @@ fn calls_before<H: Abort>(rt: &H, alloc: Global) -> Result<u32, Fail> {
 }
 
 // The rack behind a session of which the last sync of a piece's prepare fails.
-fn faulty<H: Abort>(rt: &H, alloc: Global) -> Result<MemoryRack, Fail> {
+fn faulty<H: Abort + Threads + Wait + Sync>(rt: &H, alloc: Global) -> Result<MemoryRack, Fail> {
     let fails = [calls_before(rt, alloc)?.wrapping_add(3)];
     let lines = scenario(
         alloc,

@@ -6,7 +6,9 @@ use command_tests::calls::{answer_with, plain_call};
 use process_disk::MemoryRack;
 use std::alloc::{AllocError, Global};
 use std::process::Abort;
+use std::sync::Wait;
 use std::test::Fail;
+use std::thread::Threads;
 use worker_gate::ScriptGate;
 
 // A step that is owed, and an undo, which the program's own gates refuse as often as they may be tried: in each restart anew.
@@ -71,7 +73,7 @@ fn willing_gates(alloc: Global) -> Result<Vec<ScriptGate>, AllocError>
 }
 
 // With gates that refuse nothing a restart has this output, and all is done.
-fn expect_done<H: Abort>(
+fn expect_done<H: Abort + Threads + Wait + Sync>(
     rt: &H,
     alloc: Global,
     rack: MemoryRack,

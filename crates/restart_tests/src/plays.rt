@@ -4,6 +4,8 @@ use command_tests::scenarios::scenario;
 use process_disk::MemoryRack;
 use std::alloc::{AllocError, Global};
 use std::process::Abort;
+use std::sync::Wait;
+use std::thread::Threads;
 
 /// A call: its word, the processes of its scenario, what stands behind the scenario, its status and its output.
 pub type Call = (
@@ -15,7 +17,7 @@ pub type Call = (
 );
 
 /// A word and an input on a rack have this status and this whole output. The answer is the rack after them.
-pub fn expect_on<H: Abort>(
+pub fn expect_on<H: Abort + Threads + Wait + Sync>(
     rt: &H,
     alloc: Global,
     word: &str,
@@ -31,7 +33,7 @@ pub fn expect_on<H: Abort>(
 }
 
 /// These calls in order on this rack; the rack after them.
-pub fn played<H: Abort>(
+pub fn played<H: Abort + Threads + Wait + Sync>(
     rt: &H,
     alloc: Global,
     rack: MemoryRack,
@@ -46,7 +48,11 @@ pub fn played<H: Abort>(
 }
 
 /// Nine files that were made for the scenario of nine operations, on a rack of which these calls fail.
-pub fn made<H: Abort>(rt: &H, alloc: Global, fails: &[u32]) -> Result<MemoryRack, AllocError> {
+pub fn made<H: Abort + Threads + Wait + Sync>(
+    rt: &H,
+    alloc: Global,
+    fails: &[u32],
+) -> Result<MemoryRack, AllocError> {
     let input = scenario(alloc, b"", b"")?;
     expect_on(
         rt,
@@ -60,7 +66,7 @@ pub fn made<H: Abort>(rt: &H, alloc: Global, fails: &[u32]) -> Result<MemoryRack
 }
 
 /// These calls in order on nine files that were made before; the rack after them.
-pub fn played_anew<H: Abort>(
+pub fn played_anew<H: Abort + Threads + Wait + Sync>(
     rt: &H,
     alloc: Global,
     calls: &[Call],

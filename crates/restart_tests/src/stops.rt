@@ -5,7 +5,9 @@ use command_tests::scenarios::scenario;
 use process_disk::{MemoryRack, Rack};
 use std::alloc::{AllocError, Global};
 use std::process::Abort;
+use std::sync::Wait;
 use std::test::Fail;
+use std::thread::Threads;
 
 // A last line of a session, its answer, and a stop within that device call of it.
 #[derive(Clone, Copy)]
@@ -96,7 +98,7 @@ const KEPT: Case = Case {
 const KEEPS: [(u32, u8); 2] = [(0, 0x07), (3, 0xff)];
 
 // The rack behind the session of the case, with one line more.
-fn session<H: Abort>(
+fn session<H: Abort + Threads + Wait + Sync>(
     rt: &H,
     alloc: Global,
     case: &Case,
@@ -112,7 +114,7 @@ fn session<H: Abort>(
 }
 
 // What a stop within that device call behind so many others leaves.
-fn left_by_stop<H: Abort>(
+fn left_by_stop<H: Abort + Threads + Wait + Sync>(
     rt: &H,
     alloc: Global,
     case: &Case,
@@ -126,7 +128,11 @@ fn left_by_stop<H: Abort>(
 }
 
 // What the session leaves.
-fn left<H: Abort>(rt: &H, alloc: Global, case: &Case) -> Result<MemoryRack, Fail> {
+fn left<H: Abort + Threads + Wait + Sync>(
+    rt: &H,
+    alloc: Global,
+    case: &Case,
+) -> Result<MemoryRack, Fail> {
     let rack = session(rt, alloc, case, b"", b"")?;
     match case.stop {
         None => Ok(rack),
@@ -147,7 +153,7 @@ fn report(alloc: Global, case: &Case, ended: usize) -> Result<Vec<u8>, AllocErro
 }
 
 // What is said of a restart behind a stop within one of another, and the rack then.
-fn restarted<H: Abort>(
+fn restarted<H: Abort + Threads + Wait + Sync>(
     rt: &H,
     alloc: Global,
     whole: &MemoryRack,
@@ -163,7 +169,7 @@ fn restarted<H: Abort>(
 }
 
 // Another restart says that all had ended before.
-fn expect_all_ended<H: Abort>(
+fn expect_all_ended<H: Abort + Threads + Wait + Sync>(
     rt: &H,
     alloc: Global,
     case: &Case,
@@ -175,7 +181,7 @@ fn expect_all_ended<H: Abort>(
 }
 
 // A stop that keeps nothing of what isn't synced: so many of those that were active had ended, as before or one more.
-fn expect_none_kept<H: Abort>(
+fn expect_none_kept<H: Abort + Threads + Wait + Sync>(
     rt: &H,
     alloc: Global,
     case: &Case,
@@ -195,7 +201,7 @@ fn expect_none_kept<H: Abort>(
 }
 
 // Other stops within that call: so many of those that were active had ended, or one more.
-fn expect_some_kept<H: Abort>(
+fn expect_some_kept<H: Abort + Threads + Wait + Sync>(
     rt: &H,
     alloc: Global,
     case: &Case,
@@ -214,7 +220,11 @@ fn expect_some_kept<H: Abort>(
 }
 
 // A stop within any device call of the restart: another restart ends with the same history.
-fn expect_stops<H: Abort>(rt: &H, alloc: Global, case: &Case) -> Result<(), Fail> {
+fn expect_stops<H: Abort + Threads + Wait + Sync>(
+    rt: &H,
+    alloc: Global,
+    case: &Case,
+) -> Result<(), Fail> {
     let rack = left(rt, alloc, case)?;
     let first = u32::try_from(rack.calls())?;
     let wanted = report(alloc, case, 0)?;

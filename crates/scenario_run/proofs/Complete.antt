@@ -14,7 +14,7 @@ use Rattle.commute_table.specs.declared.catalog.Catalog.{Catalog}
 use Rattle.process_core.specs.Cores.{opened_on}
 use Rattle.process_journal.specs.Laws.{AreEqualInTurn}
 use Rattle.history_opening.specs.Laws.{SoundFilesAreOpened}
-use Rattle.engine_calls.specs.GateAnswers.{AskedGate}
+use Rattle.worker_gate.specs.ManyGates.{AskedGates}
 use Rattle.process_engine.specs.Fitting.{first_passed, limit_passed, need_of}
 use Rattle.command_refusals.specs.declared.refusal.Refusal.{Refusal}
 use Rattle.command_refusals.specs.declared.refusal.Refusal.TheVariants as refusals
@@ -40,7 +40,7 @@ same_courses [] (q ∷ qs) are = absurd are
 same_courses (p ∷ ps) [] are = absurd are
 same_courses (p ∷ ps) (q ∷ qs) are = ap (λ c. c ∷ courses_of ps) (same_course p q are.0) ∙ ap (λ cs. course_of q ∷ cs) (same_courses ps qs are.1)
 
-module _ (alloc : Global) (gate : AskedGate) (before after : Input) (files files_after : Files) (bytes : List ℕ) (c : Catalog) (plans : List Plan) (h : History)
+module _ (alloc : Global) (gates : AskedGates) (before after : Input) (files files_after : Files) (bytes : List ℕ) (c : Catalog) (plans : List Plan) (h : History)
     (has : HasScenario before bytes c plans) (room : HasRoomFor bytes c h files) (quiet : NothingFailed before after files files_after) (opened : SoundFilesAreOpened) where
   text_is : (text : List ℕ) → IsWholeText before after text → text ≡ bytes
   text_is = whole_is before after files files_after bytes has.told has.within quiet
@@ -73,30 +73,30 @@ module _ (alloc : Global) (gate : AskedGate) (before after : Input) (files files
       cc)
 
   -- and the run isn't cut off
-  not_cut : (ps : List Plan) (r : Refusal) → IsCutOff gate c ps files files_after r → r ≡ refusals.NoMemory
+  not_cut : (ps : List Plan) (r : Refusal) → IsCutOff gates c ps files files_after r → r ≡ refusals.NoMemory
   not_cut ps r (k, started, rest, now, are, inl memory) = memory.0
   not_cut ps r (k, started, rest, now, are, inr fault) = absurd (quiet.rack fault.2)
 
-  refused : (d : Catalog) (ps : List Plan) (r : Refusal) → IsScenarioRead before after d ps → IsRunOf gate d ps files files_after (Err r) → r ≡ refusals.NoMemory
-  refused d ps r read why = by_why (subst (λ e. IsRunOf gate e ps files files_after (Err r)) (read_bound d ps read).0 why)
+  refused : (d : Catalog) (ps : List Plan) (r : Refusal) → IsScenarioRead before after d ps → IsRunOf gates d ps files files_after (Err r) → r ≡ refusals.NoMemory
+  refused d ps r read why = by_why (subst (λ e. IsRunOf gates e ps files files_after (Err r)) (read_bound d ps read).0 why)
     where
-      by_why : IsRunOf gate c ps files files_after (Err r) → r ≡ refusals.NoMemory
+      by_why : IsRunOf gates c ps files files_after (Err r) → r ≡ refusals.NoMemory
       by_why (inl why') = unopened c h before after files files_after room.rest quiet opened r why'
       by_why (inr (inl past)) = not_past ps (read_bound d ps read).1 r past
       by_why (inr (inr cut)) = not_cut ps r cut
 
-  said : (d : Catalog) (ps : List Plan) (s : Said) → IsRunOf gate d ps files files_after (Ok s) → IsReportThere (Ok s)
+  said : (d : Catalog) (ps : List Plan) (s : Said) → IsRunOf gates d ps files files_after (Ok s) → IsReportThere (Ok s)
   said d ps s (k, now, run, inl done) = inl done.0
   said d ps s (k, now, run, inr stuck) = inr stuck.1
 
-  pub report_there : (found : Result Said Refusal) → IsRunDue gate before after files files_after found → IsReportThere found
+  pub report_there : (found : Result Said Refusal) → IsRunDue gates before after files files_after found → IsReportThere found
   report_there (Ok s) (inl ill) = absurd (not_ill s.text ill.0.1)
   report_there (Ok s) (inr (d, ps, read, ran)) = said d ps s ran
   report_there (Err r) (inl unread) = not_read r unread.0
   report_there (Err r) (inr (d, ps, read, why)) = refused d ps r read why
 
 -- So it is whatever is due.
-pub due_is_complete : (alloc : Global) (gate : AskedGate) (before after : Input) (files files_after : Files) (found : Result Said Refusal) → SoundFilesAreOpened
-    → IsRunDue gate before after files files_after found → IsRunComplete before after files files_after found
-due_is_complete alloc gate before after files files_after found opened due bytes c plans h has room quiet =
-    report_there alloc gate before after files files_after bytes c plans h has room quiet opened found due
+pub due_is_complete : (alloc : Global) (gates : AskedGates) (before after : Input) (files files_after : Files) (found : Result Said Refusal) → SoundFilesAreOpened
+    → IsRunDue gates before after files files_after found → IsRunComplete before after files files_after found
+due_is_complete alloc gates before after files files_after found opened due bytes c plans h has room quiet =
+    report_there alloc gates before after files files_after bytes c plans h has room quiet opened found due

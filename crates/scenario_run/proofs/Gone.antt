@@ -1,5 +1,5 @@
 -- How a machine has gone that opened on a history: some processes started, and then all were run.
-use Rattle.std.proofs.Common.{◌≡◌, ◌∙◌, ℕ, List, [], ◌++◌, drop, length, Option, refl, ap, sym, subst, append-nil, arith}
+use Rattle.std.proofs.Common.{◌≡◌, ◌∙◌, ℕ, List, [], ◌∷◌, ◌++◌, drop, length, Option, refl, ap, sym, subst, append-nil, arith}
 use Rattle.std.proofs.Math.Seq.{drop-append_seam}
 use Rattle.process_disk.specs.Disk.{Disk}
 use Rattle.process_tree.specs.Order.{Each}
@@ -13,9 +13,11 @@ use Rattle.process_core.specs.Handing.{with_served}
 use Rattle.engine_steps.specs.Engines.{EngineState, full_history}
 use Rattle.engine_steps.specs.Opening.{IsOpened}
 use Rattle.process_engine.specs.declared.gates.Answer.{Answer}
-use Rattle.engine_calls.specs.GateAnswers.{AreAnswered, AskedGate, GateCounts, count_after, kept_since, steps_handed, unbarred_refusals}
-use Rattle.worker_gate.specs.Running.{AreTurns, HasRun, IsOfRunning, RanBy}
-use Rattle.scenario_run.specs.Run.{HasGone}
+use Rattle.engine_calls.specs.GateAnswers.{AreAnswered, AskedGate, GateCounts, kept_since, steps_handed, unbarred_refusals}
+use Rattle.worker_gate.specs.ManyGates.{AreAskedInAll, AreTurnsOfOne, AskedGates, RanByGates, WasRunByGates}
+use Rattle.worker_gate.specs.Running.{IsOfRunning, RanBy}
+use Rattle.worker_gate.proofs.ManyCalls.{ran_by_one, turns_of_one}
+use Rattle.scenario_run.specs.Run.{HasGone, one_gate}
 use Rattle.scenario_run.specs.Starting.{started_on, with_started}
 
 -- behind a list stands what was put there
@@ -26,13 +28,18 @@ drop_front front last all is = ap (drop (length front)) is ∙ drop-append_seam 
 since_itself : (core : CoreState) → kept_since core core ≡ []
 since_itself core = drop_front core.kept [] core.kept (sym (append-nil core.kept))
 
--- the gate of a call that didn't ask it
-abbrev pub unasked : (Handed → Option Answer) → GateCounts → AskedGate
-unasked answers n = record { answers = answers; before = n; after = n }
+-- the gates of a call that asked none
+abbrev pub unasked : (Handed → Option Answer) → List GateCounts → AskedGates
+unasked answers counts = record { answers = answers; before = counts; after = counts }
 
--- a machine has run by no turn
-run_none : (answers : Handed → Option Answer) (n : GateCounts) (c : Catalog) (core : CoreState) → IsCore core → core.conflicts ≡ c.conflicts → HasRun (unasked answers n) c core core
-run_none answers n c core is table =
+asked_none : (counts : List GateCounts) → AreAskedInAll 0 counts counts
+asked_none [] = refl
+asked_none (count ∷ counts) = (0, 0, refl, refl, omega arith, asked_none counts)
+
+-- a machine has run by no call
+run_none : (answers : Handed → Option Answer) (counts : List GateCounts) (c : Catalog) (core : CoreState) → IsCore core → core.conflicts ≡ c.conflicts
+    → WasRunByGates (unasked answers counts) c core core
+run_none answers counts c core is table =
     let none = since_itself core in
     record {
       machine = is;
@@ -41,18 +48,20 @@ run_none answers n c core is table =
       plans = refl;
       kept = sym (ap (λ ks. core.kept ++ ks) none ∙ append-nil core.kept);
       running = subst (Each IsOfRunning) (sym none) tt;
-      by_gate = record {
+      by_gates = record {
         answered = subst (AreAnswered answers c (with_served core 0)) (sym none) tt;
-        counted = λ small. omega (arith, ap (unbarred_refusals c (with_served core 0)) none);
-        later = omega arith;
+        counted = λ low. omega (arith, ap (unbarred_refusals c (with_served core 0)) none);
+        asked = subst (λ ks. AreAskedInAll (steps_handed ks) counts counts) (sym none) (asked_none counts);
       };
-      asked_once = sym (ap (λ ks. count_after n.asked (steps_handed ks)) none);
+      cores = [];
+      calls = refl;
+      alone = λ one. ([], refl);
     }
 
--- it has, and by its turns, where an engine was only run
-run_by : {R B : Type 0} (disk : R → Disk) (faults : R → ℕ) (gate : AskedGate) (old new : EngineState R B) → IsCore new.core → old.core.conflicts ≡ old.catalog.conflicts → RanBy disk faults gate old new
-    → HasRun gate old.catalog old.core new.core
-run_by disk faults gate old new core table ran =
+-- it has where an engine was only run
+run_by : {R B : Type 0} (disk : R → Disk) (faults : R → ℕ) (gates : AskedGates) (old new : EngineState R B) → IsCore new.core → old.core.conflicts ≡ old.catalog.conflicts → RanByGates disk faults gates old new
+    → AreTurnsOfOne gates old.core new.core → WasRunByGates gates old.catalog old.core new.core
+run_by disk faults gates old new core table ran turns =
     let goes = ran.goes [] in
     record {
       machine = core;
@@ -61,8 +70,10 @@ run_by disk faults gate old new core table ran =
       plans = ran.plans;
       kept = goes.kept ∙ ap (λ ks. old.core.kept ++ ks) (sym (drop_front old.core.kept goes.added new.core.kept goes.kept));
       running = ran.running;
-      by_gate = ran.by_gate;
-      asked_once = ran.asked_once;
+      by_gates = ran.by_gates;
+      cores = ran.cores;
+      calls = ran.calls;
+      alone = turns;
     }
 
 module _ {R B : Type 0} (opening : EngineState R B) (opened : IsOpened opening) (idle : active (history_of opening.core) ≡ []) (started : List Plan) where
@@ -76,22 +87,27 @@ module _ {R B : Type 0} (opening : EngineState R B) (opened : IsOpened opening) 
   on_is mid is = is ∙ ap (λ core. with_started core started) opened.core
 
   -- Once they have started and nothing more,
-  pub gone_started : (answers : Handed → Option Answer) (n : GateCounts) (now : CoreState) → IsCore now → now ≡ with_started opening.core started
-      → HasGone (unasked answers n) opening.catalog h started now
-  gone_started answers n now core is =
+  pub gone_started : (answers : Handed → Option Answer) (counts : List GateCounts) (now : CoreState) → IsCore now → now ≡ with_started opening.core started
+      → HasGone (unasked answers counts) opening.catalog h started now
+  gone_started answers counts now core is =
       let same = on_is now is in
-      subst (HasGone (unasked answers n) opening.catalog h started) (sym same)
-      (record { idle = idle; run = run_none answers n opening.catalog on (subst IsCore same core) refl; cores = []; turns = refl })
+      subst (HasGone (unasked answers counts) opening.catalog h started) (sym same)
+      (record { idle = idle; run = run_none answers counts opening.catalog on (subst IsCore same core) refl })
 
   -- and once they were run too.
-  pub gone_run : (disk : R → Disk) (faults : R → ℕ) (gate : AskedGate) (mid now : EngineState R B) → IsCore now.core → mid.catalog ≡ opening.catalog → mid.core ≡ with_started opening.core started
-      → RanBy disk faults gate mid now → HasGone gate opening.catalog h started now.core
-  gone_run disk faults gate mid now core catalog is ran =
+  pub gone_run : (disk : R → Disk) (faults : R → ℕ) (gates : AskedGates) (mid now : EngineState R B) → IsCore now.core → mid.catalog ≡ opening.catalog → mid.core ≡ with_started opening.core started
+      → RanByGates disk faults gates mid now → AreTurnsOfOne gates mid.core now.core → HasGone gates opening.catalog h started now.core
+  gone_run disk faults gates mid now core catalog is ran turns =
       let same = on_is mid.core is in
       let table = ap (λ (c : CoreState). c.conflicts) same ∙ ap (λ (c : Catalog). c.conflicts) (sym catalog) in
       record {
         idle = idle;
-        run = subst (λ c. HasRun gate c on now.core) catalog (subst (λ core. HasRun gate mid.catalog core now.core) same (run_by disk faults gate mid now core table ran));
-        cores = ran.cores;
-        turns = subst (λ core. AreTurns ran.cores core now.core) same ran.turns;
+        run = subst (λ c. WasRunByGates gates c on now.core) catalog
+            (subst (λ core. WasRunByGates gates mid.catalog core now.core) same (run_by disk faults gates mid now core table ran turns));
       }
+
+  -- So it is of one gate, by which a thread ran them.
+  pub gone_run_by_one : (disk : R → Disk) (faults : R → ℕ) (gate : AskedGate) (mid now : EngineState R B) → IsCore now.core → mid.catalog ≡ opening.catalog
+      → mid.core ≡ with_started opening.core started → RanBy disk faults gate mid now → HasGone (one_gate gate) opening.catalog h started now.core
+  gone_run_by_one disk faults gate mid now core catalog is ran =
+      gone_run disk faults (one_gate gate) mid now core catalog is (ran_by_one disk faults gate mid now ran) (turns_of_one disk faults gate mid now ran)

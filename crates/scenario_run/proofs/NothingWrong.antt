@@ -1,5 +1,5 @@
 -- A scenario, a source and files in which nothing is wrong are refused for want of memory alone.
-use Rattle.std.proofs.Common.{◌≡◌, ◌⊎◌, ◌<◌, ◌≤◌, ◌∙◌, ℕ, List, length, Some, None, IfSome, Ok, Err, inl, inr, refl, ap, sym, subst, arith}
+use Rattle.std.proofs.Common.{◌≡◌, ◌⊎◌, ◌<◌, ◌≤◌, ◌∙◌, ℕ, List, length, Some, None, IfSome, Ok, Err, inl, inr, ap, sym, subst, arith}
 use Rattle.std.specs.declared.alloc.Global.{Global}
 use Rattle.process_disk.specs.Disk.{FileSet, file_of}
 use Rattle.process_tree.specs.Shape.{first_of}

@@ -1,5 +1,5 @@
 -- No catalog differs from itself: what is refused of it is want of memory.
-use Rattle.std.proofs.Common.{◌≡◌, ℕ, List, Some, None, refl}
+use Rattle.std.proofs.Common.{◌≡◌, Some, refl}
 use Rattle.commute_table.specs.declared.catalog.Catalog.{Catalog}
 use Rattle.commute_table.specs.Bytes.{bytes_of}
 use Rattle.command_refusals.specs.declared.refusal.Refusal.{Refusal}

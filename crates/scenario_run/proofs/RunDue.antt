@@ -1,5 +1,5 @@
 -- What there is to say of a run is due.
-use Rattle.std.proofs.Common.{◌≡◌, ◌∙◌, ◌≤◌, ℕ, ◌+◌, ◌-◌, ◌^◌, min, List, Some, Result, Ok, Err, IfOk, IfErr, inl, inr, ap, sym, subst, arith}
+use Rattle.std.proofs.Common.{◌≡◌, ◌∙◌, ◌≤◌, List, Some, Result, Ok, Err, IfOk, IfErr, inl, inr, ap, sym, subst}
 use Rattle.process_flow.specs.Causes.{Rose}
 use Rattle.process_disk.specs.declared.rack.Rack.{Ghosts as Racks}
 use Rattle.process_disk.specs.Disk.{IsHonest, Told}
@@ -16,7 +16,7 @@ use Rattle.engine_steps.specs.declared.engines.Phase.{Phase}
 use Rattle.engine_steps.specs.declared.engines.Phase.TheVariants.{Settled, Closed}
 use Rattle.engine_calls.specs.Runs.{GoesOn}
 use Rattle.engine_calls.specs.Acknowledged.{IsOneAhead}
-use Rattle.engine_calls.specs.GateAnswers.{AskedGate}
+use Rattle.worker_gate.specs.ManyGates.{AskedGates}
 use Rattle.engine_calls.specs.Opened.{AreKept, AreOnlyOpened}
 use Rattle.engine_calls.proofs.Beginnings.{OneEach}
 use Rattle.engine_calls.proofs.Opened.{are_kept}
@@ -29,7 +29,7 @@ use Rattle.history_opening.proofs.Rising.{rose_later}
 use Rattle.scenario_run.specs.Stops.{IsStopped}
 use Rattle.scenario_run.proofs.OnlyOpened.{only_opened}
 
-module _ {R B : Type 0} (r : Racks R) (honest : (rack : R) → Told (r.disk rack) → IsHonest (r.disk rack)) (gate : AskedGate) (entry back : R) (opening now : EngineState R B) (plans : List Plan)
+module _ {R B : Type 0} (r : Racks R) (honest : (rack : R) → Told (r.disk rack) → IsHonest (r.disk rack)) (gates : AskedGates) (entry back : R) (opening now : EngineState R B) (plans : List Plan)
     (is : IsOpened opening) (one_each : OneEach (full_history opening.core)) (tells : (r.disk opening.files.rack).tells ≡ (r.disk entry).tells) (later : r.faults entry ≤ r.faults opening.files.rack)
     (opened : AreOpenedOn opening.catalog (full_history opening.core) (files r entry) (files r opening.files.rack)) (goes : GoesOn r.disk r.faults plans opening now)
     (read : now.phase ≡ Settled → Told (r.disk now.files.rack) → IsSound now.catalog (full_history now.core) (r.disk now.files.rack).files)
@@ -55,7 +55,7 @@ module _ {R B : Type 0} (r : Racks R) (honest : (rack : R) → Told (r.disk rack
   kept_still same = subst (λ rack. AreOnlyOpened c h (r.disk entry) (r.disk rack)) (sym (handed ∙ ap (λ (e : EngineState R B). e.files.rack) same))
       (only_opened c h (files r entry) (files r opening.files.rack) one_each opened)
 
-  stopped : (x : Refusal) → IsStopped gate r.faults opening now plans x → IsRunOf gate c plans (files r entry) (files r back) (Err x)
+  stopped : (x : Refusal) → IsStopped gates r.faults opening now plans x → IsRunOf gates c plans (files r entry) (files r back) (Err x)
   stopped x (inl (limit, said, passed, same)) =
       inr (inl (h, limit, said, subst (λ (core : CoreState). limit_passed core plans ≡ Some limit) is.core passed, kept_still same))
   stopped x (inr (started, rest, all, gone, inl (said, on))) = inr (inr (h, started, rest, now.core, all, inl (said, (gone, kept_on Settled on))))
@@ -73,12 +73,12 @@ module _ {R B : Type 0} (r : Racks R) (honest : (rack : R) → Told (r.disk rack
         ),
       ))
 
-  run_of_opening : (found : Result Said Refusal) → IfOk found (λ s. HasGone gate c h plans now.core × (now.phase ≡ Settled) × SaysRun c now.core s) → IfErr found (IsStopped gate r.faults opening now plans)
-      → IsRunOf gate c plans (files r entry) (files r back) found
+  run_of_opening : (found : Result Said Refusal) → IfOk found (λ s. HasGone gates c h plans now.core × (now.phase ≡ Settled) × SaysRun c now.core s) → IfErr found (IsStopped gates r.faults opening now plans)
+      → IsRunOf gates c plans (files r entry) (files r back) found
   run_of_opening (Ok s) ran why = (h, now.core, (ran.0, kept_on Settled ran.1), ran.2)
   run_of_opening (Err x) ran why = stopped x why
 
   -- by the catalog for which the engine was opened
-  pub run_of : (d : Catalog) (found : Result Said Refusal) → c ≡ d → IfOk found (λ s. HasGone gate c h plans now.core × (now.phase ≡ Settled) × SaysRun c now.core s)
-      → IfErr found (IsStopped gate r.faults opening now plans) → IsRunOf gate d plans (files r entry) (files r back) found
-  run_of d found same ran why = subst (λ e. IsRunOf gate e plans (files r entry) (files r back) found) same (run_of_opening found ran why)
+  pub run_of : (d : Catalog) (found : Result Said Refusal) → c ≡ d → IfOk found (λ s. HasGone gates c h plans now.core × (now.phase ≡ Settled) × SaysRun c now.core s)
+      → IfErr found (IsStopped gates r.faults opening now plans) → IsRunOf gates d plans (files r entry) (files r back) found
+  run_of d found same ran why = subst (λ e. IsRunOf gates e plans (files r entry) (files r back) found) same (run_of_opening found ran why)

@@ -1,25 +1,44 @@
 -- Why a run stopped once all its processes had started.
-use Rattle.std.proofs.Common.{◌≡◌, ◌⊎◌, ◌≤◌, ℕ, List, [], Result, Ok, Err, IfErr, inl, inr, append-nil, sym}
+use Rattle.std.proofs.Common.{◌≡◌, ◌⊎◌, ◌∙◌, ◌≤◌, ℕ, false, List, [], Result, Ok, Err, IfErr, inl, inr, ap, refl, append-nil, sym}
 use Rattle.process_flow.specs.Causes.{Rose}
 use Rattle.process_tree.specs.declared.plan.Plan.{Plan}
 use Rattle.engine_steps.specs.Engines.{EngineState, full_history}
 use Rattle.engine_steps.specs.declared.engines.Phase.TheVariants.{Settled, Closed}
-use Rattle.engine_calls.specs.GateAnswers.{AskedGate}
+use Rattle.process_engine.specs.declared.fitting.StartLimit.{StartLimit}
+use Rattle.process_engine.specs.declared.fitting.StartLimit.TheVariants as limits
+use Rattle.worker_gate.specs.ManyGates.{AskedGates}
 use Rattle.command_refusals.specs.declared.refusal.Refusal.{Refusal}
 use Rattle.command_refusals.specs.declared.refusal.Refusal.TheVariants.{DiskFault, NoMemory}
 use Rattle.command_input.specs.declared.said.Said.{Said}
-use Rattle.scenario_run.specs.Run.{HasGone}
+use Rattle.command_input.specs.Early.{comes_before_files}
+use Rattle.scenario_run.specs.Run.{HasGone, limit_refusal}
 use Rattle.scenario_run.specs.Stops.{IsStopped}
 use Rattle.history_opening.proofs.Rising.{rose_later}
 
-module _ {R B : Type 0} (faults : R → ℕ) (gate : AskedGate) (old mid now : EngineState R B) (plans : List Plan) (later : faults old.files.rack ≤ faults mid.files.rack)
-    (gone : HasGone gate old.catalog (full_history old.core) plans now.core) where
+module _ {R B : Type 0} (faults : R → ℕ) (gates : AskedGates) (old mid now : EngineState R B) (plans : List Plan) (later : faults old.files.rack ≤ faults mid.files.rack)
+    (gone : HasGone gates old.catalog (full_history old.core) plans now.core) where
   -- memory was wanting, or a call of the rack failed and the engine is closed
   abbrev IsCut : Refusal → Type 0
   IsCut r = ((r ≡ NoMemory) × (now.phase ≡ Settled)) ⊎ ((r ≡ DiskFault) × (now.phase ≡ Closed) × Rose (faults mid.files.rack) (faults now.files.rack))
 
-  pub all_started : (found : Result Said Refusal) → IfErr found IsCut → IfErr found (IsStopped gate faults old now plans)
+  pub all_started : (found : Result Said Refusal) → IfErr found IsCut → IfErr found (IsStopped gates faults old now plans)
   all_started (Ok said) cut = tt
   all_started (Err r) (inl memory) = inr (plans, [], sym (append-nil plans), gone, inl memory)
   all_started (Err r) (inr (fault, on, rose)) =
       inr (plans, [], sym (append-nil plans), gone, inr (fault, on, rose_later (faults old.files.rack) (faults mid.files.rack) (faults now.files.rack) later rose))
+
+-- whatever stopped it comes after the files were opened
+late_stop : {R B : Type 0} (gates : AskedGates) (faults : R → ℕ) (old new : EngineState R B) (plans : List Plan) (r : Refusal) → IsStopped gates faults old new plans r → comes_before_files r ≡ false
+late_stop gates faults old new plans r (inl (limit, is, past, same)) = ap comes_before_files is ∙ late_limit limit
+  where
+    late_limit : (limit : StartLimit) → comes_before_files (limit_refusal limit) ≡ false
+    late_limit (limits.Processes n) = refl
+    late_limit (limits.Active n) = refl
+    late_limit (limits.Entries n) = refl
+late_stop gates faults old new plans r (inr (started, rest, all, gone, inl memory)) = ap comes_before_files memory.0
+late_stop gates faults old new plans r (inr (started, rest, all, gone, inr fault)) = ap comes_before_files fault.0
+
+pub stops_are_late : {R B : Type 0} (gates : AskedGates) (faults : R → ℕ) (old new : EngineState R B) (plans : List Plan) (found : Result Said Refusal) → IfErr found (λ r. IsStopped gates faults old new plans r)
+    → IfErr found (λ r. comes_before_files r ≡ false)
+stops_are_late gates faults old new plans (Ok said) stopped = tt
+stops_are_late gates faults old new plans (Err r) stopped = late_stop gates faults old new plans r stopped

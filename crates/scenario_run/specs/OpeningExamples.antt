@@ -1,5 +1,5 @@
 -- Worked refusals of openings, each of which holds by computing.
-use Rattle.std.specs.Prelude.{◌≡◌, refl, [], ◌∷◌, Some, None, true, false, codes}
+use Rattle.std.specs.Prelude.{◌≡◌, refl, [], ◌∷◌, Some, None, codes}
 use Rattle.std.specs.Fmt.{digits}
 use Rattle.process_tree.specs.declared.conflicts.Mode.TheVariants.{Never, Always}
 use Rattle.commute_table.specs.declared.catalog.Catalog.{Catalog}

@@ -1,6 +1,6 @@
 -- The command `run`: the processes of a scenario start in the order of its text, on files that are opened for it, and then they are
 -- run.
-use Rattle.std.specs.Prelude.{◌≡◌, ◌⊎◌, ℕ, List, [], ◌++◌, Some, Result, Ok, Err}
+use Rattle.std.specs.Prelude.{◌≡◌, ◌⊎◌, ℕ, List, [], ◌∷◌, ◌++◌, Some, Result, Ok, Err}
 use Rattle.process_flow.specs.Causes.{Rose}
 use Rattle.process_tree.specs.declared.plan.Plan.{Plan}
 use Rattle.schedule_model.specs.declared.history.History.{History}
@@ -18,7 +18,7 @@ use Rattle.process_engine.specs.declared.fitting.StartLimit.TheVariants as limit
 use Rattle.engine_calls.specs.Acknowledged.{IsOneAhead}
 use Rattle.engine_calls.specs.GateAnswers.{AskedGate}
 use Rattle.engine_calls.specs.Opened.{AreKept, AreOnlyOpened}
-use Rattle.worker_gate.specs.Running.{AreTurns, HasRun}
+use Rattle.worker_gate.specs.ManyGates.{AskedGates, WasRunByGates}
 use Rattle.command_refusals.specs.declared.faults.Quantity.TheVariants.{Processes, Active, Entries}
 use Rattle.command_refusals.specs.declared.refusal.Refusal.{Refusal}
 use Rattle.command_refusals.specs.declared.refusal.Refusal.TheVariants.{DiskFault, Limit, NoMemory}
@@ -31,18 +31,21 @@ use Rattle.scenario_run.specs.Reports.{exhausted_line, report_in}
 use Rattle.scenario_run.specs.Scenario.{IsNoScenarioRead, IsSaidOfNone, IsScenarioRead}
 use Rattle.scenario_run.specs.Starting.{started_on}
 
+-- one gate as the gates of a run
+abbrev pub one_gate : AskedGate → AskedGates
+one_gate gate = record { answers = gate.answers; before = gate.before ∷ []; after = gate.after ∷ [] }
+
 -- The machine opened on this history, in which no process is active. Processes of these plans started, in this order, and since
--- then all were only run: a piece was handed out and ended, or not, turn after turn.
-pub record HasGone (gate : AskedGate) (c : Catalog) (h : History) (started : List Plan) (now : CoreState) : Type 0 where
+-- then all were only run, by these gates: by one in turns, each of which hands out a piece and ends it, or not; by several in calls
+-- of their workers.
+pub record HasGone (gates : AskedGates) (c : Catalog) (h : History) (started : List Plan) (now : CoreState) : Type 0 where
   pub idle : active h.events ≡ []
-  pub run : HasRun gate c (started_on c h started) now
-  pub cores : List CoreState
-  pub turns : AreTurns cores (started_on c h started) now
+  pub run : WasRunByGates gates c (started_on c h started) now
 
 -- A run on files of this history, up to now.
-abbrev pub IsRun : AskedGate → Catalog → History → List Plan → List Plan → CoreState → Phase → Files → Files → Type 0
-IsRun gate c h plans started now on before after =
-    HasGone gate c h started now × AreKept c h now (IsOneAhead c plans now on) on before.disk after.disk
+abbrev pub IsRun : AskedGates → Catalog → History → List Plan → List Plan → CoreState → Phase → Files → Files → Type 0
+IsRun gates c h plans started now on before after =
+    HasGone gates c h started now × AreKept c h now (IsOneAhead c plans now on) on before.disk after.disk
 
 -- what is told of a limit that the processes of a scenario would pass
 abbrev pub limit_refusal : StartLimit → Refusal
@@ -58,11 +61,11 @@ IsPastLimit c plans before after r =
     × AreOnlyOpened c h before.disk after.disk
 
 -- A run was cut off once the first of the processes had started, or all: a call of the rack failed, or memory was wanting.
-abbrev pub IsCutOff : AskedGate → Catalog → List Plan → Files → Files → Refusal → Type 0
-IsCutOff gate c plans before after r =
+abbrev pub IsCutOff : AskedGates → Catalog → List Plan → Files → Files → Refusal → Type 0
+IsCutOff gates c plans before after r =
     (h : History) × (started rest : List Plan) × (now : CoreState) × (plans ≡ started ++ rest)
-    × (((r ≡ NoMemory) × IsRun gate c h plans started now Settled before after)
-    ⊎ ((r ≡ DiskFault) × IsRun gate c h plans started now Closed before after × Rose before.faults after.faults))
+    × (((r ≡ NoMemory) × IsRun gates c h plans started now Settled before after)
+    ⊎ ((r ≡ DiskFault) × IsRun gates c h plans started now Closed before after × Rose before.faults after.faults))
 
 -- All have ended, and the report of the history is printed; or this process is stuck, since it has no try left, and behind the
 -- report stands a line that says so.
@@ -74,11 +77,11 @@ SaysRun c now said =
 
 -- What there is to say of a run of the processes of a scenario: its report. Else it is refused, in this order: the files, and what
 -- would pass a limit; or it was cut off.
-abbrev pub IsRunOf : AskedGate → Catalog → List Plan → Files → Files → Result Said Refusal → Type 0
-IsRunOf gate c plans before after (Ok said) =
-    (h : History) × (now : CoreState) × IsRun gate c h plans plans now Settled before after × SaysRun c now said
-IsRunOf gate c plans before after (Err r) =
-    IsNotOpenedFor c r before after ⊎ IsPastLimit c plans before after r ⊎ IsCutOff gate c plans before after r
+abbrev pub IsRunOf : AskedGates → Catalog → List Plan → Files → Files → Result Said Refusal → Type 0
+IsRunOf gates c plans before after (Ok said) =
+    (h : History) × (now : CoreState) × IsRun gates c h plans plans now Settled before after × SaysRun c now said
+IsRunOf gates c plans before after (Err r) =
+    IsNotOpenedFor c r before after ⊎ IsPastLimit c plans before after r ⊎ IsCutOff gates c plans before after r
 
 -- the input holds no scenario, so there is a verdict line, or a refusal
 abbrev pub IsNotReadAs : Input → Input → Result Said Refusal → Type 0
@@ -86,7 +89,7 @@ IsNotReadAs before after found = IsSaidOfNone (IsNoScenarioRead before after) fo
 
 -- What there is to say: what is refused of the input, and then the files are left as they were; or else what there is to say of a
 -- run of the processes of its scenario.
-abbrev pub IsRunDue : AskedGate → Input → Input → Files → Files → Result Said Refusal → Type 0
-IsRunDue gate before after files files_after found =
+abbrev pub IsRunDue : AskedGates → Input → Input → Files → Files → Result Said Refusal → Type 0
+IsRunDue gates before after files files_after found =
     (IsNotReadAs before after found × AreUntouched files files_after)
-    ⊎ ((c : Catalog) × (plans : List Plan) × IsScenarioRead before after c plans × IsRunOf gate c plans files files_after found)
+    ⊎ ((c : Catalog) × (plans : List Plan) × IsScenarioRead before after c plans × IsRunOf gates c plans files files_after found)

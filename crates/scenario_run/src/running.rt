@@ -1,5 +1,6 @@
 // The command `run`.
 ghost use Rattle.std.specs.Prelude.{◌≡◌, ◌≢◌, ◌⊎◌, ◌≤◌, [], length, true, false, None, Some, IfOk, IfErr, OnOk};
+ghost use Rattle.std.specs.Prelude.{vec_capacity, vec_len};
 ghost use Rattle.process_flow.specs.Causes.{Rose};
 ghost use Rattle.process_tree.specs.Order.{Each};
 ghost use Rattle.schedule_model.specs.Histories.{active};
@@ -14,9 +15,9 @@ ghost use Rattle.engine_steps.specs.Opening.{IsOpened};
 ghost use Rattle.process_engine.specs.Fitting.{limit_passed};
 ghost use Rattle.process_engine.specs.declared.fitting.StartLimit.{StartLimit as Limit'};
 ghost use Rattle.engine_steps.specs.declared.engines.Phase.TheVariants as phase;
-ghost use Rattle.engine_calls.specs.GateAnswers.{asked};
 ghost use Rattle.engine_calls.specs.Runs.{GoesOn, IsReady};
-ghost use Rattle.worker_gate.specs.Running.{IsOutcome, NothingRuns, RanBy};
+ghost use Rattle.worker_gate.specs.ManyGates.{AreTurnsOfOne, RanByGates, asked_gates};
+ghost use Rattle.worker_gate.specs.Running.{IsOutcome, NothingRuns};
 ghost use Rattle.command_input.specs.Inputs.{input};
 ghost use Rattle.command_input.specs.FilesLeft.{files};
 ghost use Rattle.command_input.specs.Early.{comes_before_files};
@@ -24,6 +25,7 @@ ghost use Rattle.scenario_run.specs.Completeness.{IsRunComplete};
 ghost use Rattle.scenario_run.specs.Run.{HasGone, IsRunDue, IsRunOf, SaysRun, limit_refusal};
 ghost use Rattle.scenario_run.specs.Stops.{IsStopped};
 
+use crate::gates::{racks_are_honest, run_by_gates};
 use crate::opening::opened;
 use crate::reporting::{report_now, stuck_report};
 use crate::scenario::{said_of_none, scenario_from};
@@ -37,7 +39,10 @@ use process_flow::Source;
 use process_tree::Plan;
 use resource_box::Resource;
 use std::alloc::Global;
-use worker_gate::{RunOutcome, run_alone};
+use std::sync::Wait;
+use std::thread::Threads;
+use thread_workers::Ran;
+use worker_gate::RunOutcome;
 
 fn limit_refusal(limit: StartLimit) -> Refusal
     ensures refusal { result ≡ limit_refusal limit }
@@ -96,106 +101,169 @@ pub fn all_fit<R: Rack + Drop, B: Resource>(
     }
 }
 
+/// The parts and the gates after a run, and what there is to say of it.
+pub struct RunEnd<P, G> {
+    pub parts: P,
+    pub gates: Vec<G>,
+    pub found: Result<Said, Refusal>,
+}
+
+// An engine and the gates after a run, and what there is to say of it.
+struct EngineEnd<R: Rack + Drop, B: Resource, G> {
+    engine: Engine<R, B>,
+    gates: Vec<G>,
+    found: Result<Said, Refusal>,
+}
+
 // Runs the processes of a settled engine of which no piece is out; what there is to say then.
-fn run_started<R: Rack + Drop, B: Resource, G: Gate>(
+fn run_started<H: Threads + Wait + Sync, R: Rack + Drop + Send, B: Resource + Send, G: Gate + Send>(
+    rt: &H,
     alloc: Global,
-    engine: &mut Engine<R, B>,
-    gate: &mut G,
-) -> Result<Said, Refusal>
-    requires ready { IsReady B.meaning B.sort engine.old }
-    requires alone { NothingRuns engine.old.core }
-    ensures ran { RanBy R.disk R.faults (asked G.Gate gate.old gate.new) engine.old engine.new }
-    ensures said { IfOk result (λ s. (engine.new.phase ≡ phase.Settled) × SaysRun engine.new.catalog engine.new.core s) }
-    ensures refused { IfErr result
-        (λ r. ((r ≡ Refusal.NoMemory) × (engine.new.phase ≡ phase.Settled))
-        ⊎ ((r ≡ Refusal.DiskFault) × (engine.new.phase ≡ phase.Closed)
-        × Rose (R.faults engine.old.files.rack) (R.faults engine.new.files.rack))) }
-    ensures fits { EachFits B.meaning B.sort engine.new.files.stores }
+    engine: Engine<R, B>,
+    gates: Vec<G>,
+) -> EngineEnd<R, B, G>
+    requires workers { (1 ≤ vec_len gates) × (vec_len gates ≤ 16) }
+    requires ready { IsReady B.meaning B.sort engine }
+    requires alone { NothingRuns engine.core }
+    ensures gates { (vec_len result.gates ≡ vec_len gates) × (vec_capacity gates ≤ vec_capacity result.gates) }
+    ensures ran { RanByGates R.disk R.faults (asked_gates G.Gate gates.items result.gates.items) engine result.engine }
+    ensures turns { AreTurnsOfOne (asked_gates G.Gate gates.items result.gates.items) engine.core result.engine.core }
+    ensures said { IfOk result.found
+        (λ s. (result.engine.phase ≡ phase.Settled) × SaysRun result.engine.catalog result.engine.core s) }
+    ensures refused { IfErr result.found
+        (λ r. ((r ≡ Refusal.NoMemory) × (result.engine.phase ≡ phase.Settled))
+        ⊎ ((r ≡ Refusal.DiskFault) × (result.engine.phase ≡ phase.Closed)
+        × Rose (R.faults engine.files.rack) (R.faults result.engine.files.rack))) }
+    ensures fits { EachFits B.meaning B.sort result.engine.files.stores }
 {
-    let outcome = run_alone(engine, gate);
-    said_of(alloc, engine, outcome)
+    let Ran {
+        engine,
+        gates,
+        outcome,
+    } = run_by_gates(rt, alloc, engine, gates);
+    let mut engine = engine;
+    let found = said_of(alloc, &mut engine, outcome);
+    EngineEnd {
+        engine,
+        gates,
+        found,
+    }
 }
 
 // Starts the processes of a scenario on an engine that was opened for it, and runs them.
-fn run_on<R: Rack + Drop, B: Resource, G: Gate>(
+fn run_on<H: Threads + Wait + Sync, R: Rack + Drop + Send, B: Resource + Send, G: Gate + Send>(
+    rt: &H,
     alloc: Global,
-    engine: &mut Engine<R, B>,
+    engine: Engine<R, B>,
     plans: Vec<Plan>,
-    gate: &mut G,
-) -> Result<Said, Refusal>
-    requires opened { IsOpened engine.old }
-    requires idle { active (history_of engine.old.core) ≡ [] }
-    requires fits { EachFits B.meaning B.sort engine.old.files.stores }
-    requires plans { Each (λ p. IsPlanFor engine.old.catalog p × IsGoodPlan p) plans.items }
+    gates: Vec<G>,
+) -> EngineEnd<R, B, G>
+    requires workers { (1 ≤ vec_len gates) × (vec_len gates ≤ 16) }
+    requires opened { IsOpened engine }
+    requires idle { active (history_of engine.core) ≡ [] }
+    requires fits { EachFits B.meaning B.sort engine.files.stores }
+    requires plans { Each (λ p. IsPlanFor engine.catalog p × IsGoodPlan p) plans.items }
     requires few { length plans.items ≤ 256 }
-    ensures goes { GoesOn R.disk R.faults plans.items engine.old engine.new }
-    ensures ran { IfOk result
-        (λ s. HasGone (asked G.Gate gate.old gate.new) engine.old.catalog (full_history engine.old.core) plans.items engine.new.core
-        × (engine.new.phase ≡ phase.Settled) × SaysRun engine.old.catalog engine.new.core s) }
-    ensures refused { IfErr result (λ r. IsStopped (asked G.Gate gate.old gate.new) R.faults engine.old engine.new plans.items r) }
-    ensures fits { EachFits B.meaning B.sort engine.new.files.stores }
+    ensures gates { (vec_len result.gates ≡ vec_len gates) × (vec_capacity gates ≤ vec_capacity result.gates) }
+    ensures goes { GoesOn R.disk R.faults plans.items engine result.engine }
+    ensures ran { IfOk result.found
+        (λ s. HasGone (asked_gates G.Gate gates.items result.gates.items) engine.catalog (full_history engine.core) plans.items
+        result.engine.core × (result.engine.phase ≡ phase.Settled) × SaysRun engine.catalog result.engine.core s) }
+    ensures refused { IfErr result.found
+        (λ r. IsStopped (asked_gates G.Gate gates.items result.gates.items) R.faults engine result.engine plans.items r) }
+    ensures fits { EachFits B.meaning B.sort result.engine.files.stores }
 {
+    racks_are_honest::<R>();
     engine.invariant_holds();
-    all_fit(engine, &plans)?;
-    if let Err(refusal) = start_all(alloc, engine, plans) {
+    let mut engine = engine;
+    if let Err(refusal) = all_fit(&engine, &plans) {
+        return EngineEnd {
+            engine,
+            gates,
+            found: Err(refusal),
+        };
+    }
+    if let Err(refusal) = start_all(alloc, &mut engine, plans) {
         engine.invariant_holds();
-        return Err(refusal);
+        return EngineEnd {
+            engine,
+            gates,
+            found: Err(refusal),
+        };
     }
     engine.invariant_holds();
-    let found = run_started(alloc, engine, gate);
-    engine.invariant_holds();
-    found
+    let ran = run_started(rt, alloc, engine, gates);
+    ran.engine.invariant_holds();
+    ran
 }
 
 // Runs the processes of a scenario on the files of the parts.
-fn run_bound<R: Rack + Drop, B: Resource, G: Gate>(
+fn run_bound<H: Threads + Wait + Sync, R: Rack + Drop + Send, B: Resource + Send, G: Gate + Send>(
+    rt: &H,
     alloc: Global,
     bound: Bound,
     parts: Parts<R, B>,
-    gate: &mut G,
-) -> CommandEnd<Parts<R, B>>
+    gates: Vec<G>,
+) -> RunEnd<Parts<R, B>, G>
+    requires workers { (1 ≤ vec_len gates) × (vec_len gates ≤ 16) }
     requires catalog { IsCatalog bound.catalog }
     requires plans { Each (λ p. IsPlanFor bound.catalog p × IsGoodPlan p) bound.plans.items }
     requires few { length bound.plans.items ≤ 256 }
     requires boxes { AreBoxes B.sort parts.resources.items }
-    ensures due { IsRunOf (asked G.Gate gate.old gate.new) bound.catalog bound.plans.items (files R.Rack parts.rack)
-        (files R.Rack result.parts.rack) result.found }
+    ensures gates { (vec_len result.gates ≡ vec_len gates) × (vec_capacity gates ≤ vec_capacity result.gates) }
+    ensures due { IsRunOf (asked_gates G.Gate gates.items result.gates.items) bound.catalog bound.plans.items
+        (files R.Rack parts.rack) (files R.Rack result.parts.rack) result.found }
     ensures late { IfErr result.found (λ r. comes_before_files r ≡ false) }
     ensures said { IfOk result.found (λ s. s.status ≢ Status.IllFormed) }
     ensures back { AreBoxes B.sort result.parts.resources.items }
     ensures tells { (R.disk result.parts.rack).tells ≡ (R.disk parts.rack).tells }
     ensures later { R.faults parts.rack ≤ R.faults result.parts.rack }
 {
+    racks_are_honest::<R>();
     let Bound { catalog, plans } = bound;
     match opened(alloc, &catalog, parts) {
         Ok(engine) => {
-            let mut engine = engine;
             engine.invariant_holds();
-            let found = run_on(alloc, &mut engine, plans, gate);
+            let EngineEnd {
+                engine,
+                gates,
+                found,
+            } = run_on(rt, alloc, engine, plans, gates);
             engine.invariant_holds();
-            CommandEnd {
+            RunEnd {
                 parts: engine.into_parts(),
+                gates,
                 found,
             }
         }
-        Err(refused) => CommandEnd {
+        Err(refused) => RunEnd {
             parts: refused.parts,
+            gates,
             found: Err(refused.why),
         },
     }
 }
 
-/// Runs each process of the source's scenario once, on the files of the parts, with a gate that works on one piece after another.
-/// The report of the history is written once all have ended or one is stuck.
-pub fn run<S: Source, R: Rack + Drop, B: Resource, G: Gate>(
+/// Runs each process of the source's scenario once, on the files of the parts: with one gate by the caller's own thread, with more
+/// by as many workers. The report of the history is written once all have ended or one is stuck. The gates come back in their order.
+pub fn run<
+    H: Threads + Wait + Sync,
+    S: Source,
+    R: Rack + Drop + Send,
+    B: Resource + Send,
+    G: Gate + Send,
+>(
+    rt: &H,
     alloc: Global,
     source: &mut S,
     parts: Parts<R, B>,
-    gate: &mut G,
-) -> CommandEnd<Parts<R, B>>
+    gates: Vec<G>,
+) -> RunEnd<Parts<R, B>, G>
+    requires workers { (1 ≤ vec_len gates) × (vec_len gates ≤ 16) }
     requires boxes { AreBoxes B.sort parts.resources.items }
-    ensures due { IsRunDue (asked G.Gate gate.old gate.new) (input S.Source source.old) (input S.Source source.new)
-        (files R.Rack parts.rack) (files R.Rack result.parts.rack) result.found }
+    ensures gates { (vec_len result.gates ≡ vec_len gates) × (vec_capacity gates ≤ vec_capacity result.gates) }
+    ensures due { IsRunDue (asked_gates G.Gate gates.items result.gates.items) (input S.Source source.old)
+        (input S.Source source.new) (files R.Rack parts.rack) (files R.Rack result.parts.rack) result.found }
     ensures complete { IsRunComplete (input S.Source source.old) (input S.Source source.new) (files R.Rack parts.rack)
         (files R.Rack result.parts.rack) result.found }
     ensures early { IfErr result.found (λ r. comes_before_files r ≡ true → result.parts.rack ≡ parts.rack) }
@@ -204,11 +272,13 @@ pub fn run<S: Source, R: Rack + Drop, B: Resource, G: Gate>(
     ensures tells { (R.disk result.parts.rack).tells ≡ (R.disk parts.rack).tells }
     ensures later { R.faults parts.rack ≤ R.faults result.parts.rack }
 {
+    racks_are_honest::<R>();
     sound_files_are_opened();
     match scenario_from(alloc, source) {
-        Ok(bound) => run_bound(alloc, bound, parts, gate),
-        Err(none) => CommandEnd {
+        Ok(bound) => run_bound(rt, alloc, bound, parts, gates),
+        Err(none) => RunEnd {
             parts,
+            gates,
             found: said_of_none(none),
         },
     }

@@ -5,9 +5,9 @@ use Rattle.headline_tests.proofs.OneWord.{call_of}
 use Rattle.headline_tests.proofs.calls.answered.Goals as goal
 
 pub returns : goal.returns
-returns c =
+returns g c =
     let words : map string_bytes c.deref.result.now ≡ c.args.word.now ∷ [] = ap (map string_bytes) c.deref.ensures.value ∙ c.in_ok-words.ensures in
-    let last = c.answer-finished in
+    let last = c.top-finished in
     call_of _ _ _ _ _
     (record { source = c.new-source.result; sink = c.new-sink.result; rack = c.args.rack; boxes = c.in_ok-resources.resources.items; gates = c.in_ok-gates.gates.items })
     (record { source = last.new.source; sink = last.new.sink; rack = last.result.rack; boxes = last.result.resources.items; gates = last.result.gates.items })

@@ -9,7 +9,7 @@ use Rattle.headline_tests.proofs.Restarted.{restarted_session}
 use Rattle.headline_tests.proofs.example.stopped_and_restarted.Goals as goal
 
 pub returns : goal.returns
-returns c =
+returns g c =
     let left = c.in_ok-left in
     let played = c.in_ok-played in
     let ended = c.in_ok-answered in

@@ -1,18 +1,17 @@
-use Rattle.std.proofs.Common.{◌≡◌, ◌∙◌, slice_index_or, refl, subst, sym, arith}
-use Rattle.std.specs.Prelude.{Some}
+use Rattle.std.proofs.Common.{◌≡◌, ◌∙◌, slice_index_or, inl, refl, subst, sym, arith}
 use Rattle.std.proofs.lemmas.Result.{IfOk-weaker}
 use Rattle.process_disk.specs.Disk.{Told}
-use Rattle.program_words.specs.declared.reading.Command.TheVariants.{Run, Restart, Bulk}
 use Rattle.command_refusals.specs.declared.status.Status.TheVariants.{Done}
 use Rattle.restart_run.specs.Boxes.{HaveValuesOf}
 use Rattle.command_input.specs.Inputs.{input}
 use Rattle.command_input.specs.FilesLeft.{files}
 use Rattle.engine_calls.specs.GateAnswers.{AskedGate}
 use Rattle.process_top.specs.Said.{Says}
-use Rattle.process_top.specs.Commands.{IsDueTo}
+use Rattle.process_top.specs.Bulk.{IsBulkDue}
+use Rattle.process_top.specs.Restart.{IsRestartDue}
 use Rattle.process_top.specs.Worlds.{output}
 use Rattle.process_top.proofs.GatesAsked.{first_asked}
-use Rattle.process_top.proofs.Saying.{bulk_says, init_says, restart_says, run_says, says_so, serve_says, session_says}
+use Rattle.process_top.proofs.Saying.{bulk_says, init_says, restart_says, says_so, serve_says, session_says}
 use Rattle.init_run.proofs.FilesMade.{untouched}
 use Rattle.process_top.proofs.door.done.Goals as goal
 
@@ -40,24 +39,7 @@ returns-in-Init-clause-due g c =
     ))
 
 pub returns-in-Run-clause-due : goal.returns-in-Run-clause-due
-returns-in-Run-clause-due g c =
-    let gates = c.args.gates.now.items in
-    let gate = c.index_mut.result.now in
-    let first : gate ≡ slice_index_or gates 0 gate = c.index_mut.ensures.value in
-    let found = c.run.result.found in
-    let before = input g.S.Source c.args.source.now in
-    let after = input g.S.Source c.run.new.source in
-    let left = files g.R.Rack c.run.result.parts.rack in
-    rw c.in-Run.is
-    (rw c.unsaid-in-Run.ensures (
-      subst (λ (asked : AskedGate). Says (IsDueTo (Some Run) asked before after (files g.R.Rack c.args.parts.rack) left) found)
-          (sym (first_asked g.G.Gate gates gate c.run.new.gate (omega (arith, c.requires.gates)) first))
-          (run_says _ before after (files g.R.Rack c.args.parts.rack) left found c.run.ensures.due),
-      refl,
-    ))
-
-pub returns-in-Run-clause-worked : goal.returns-in-Run-clause-worked
-returns-in-Run-clause-worked g c = rw c.in-Run.is (rw c.unsaid-in-Run.ensures c.run.ensures.complete)
+returns-in-Run-clause-due g c = rw c.in-Run.is ((inl refl, untouched (g.R.Rack.disk c.args.parts.rack) (g.met.R.Rack.honest c.args.parts.rack)), refl)
 
 pub returns-in-Session-clause-due : goal.returns-in-Session-clause-due
 returns-in-Session-clause-due g c =
@@ -80,14 +62,13 @@ returns-in-Serve-clause-due g c =
 pub returns-in-Restart-clause-due : goal.returns-in-Restart-clause-due
 returns-in-Restart-clause-due g c =
     let gates = c.args.gates.now.items in
-    let gate = c.index_mut-in-Restart.result.now in
-    let first : gate ≡ slice_index_or gates 0 gate = c.index_mut-in-Restart.ensures.value in
+    let gate = c.index_mut.result.now in
+    let first : gate ≡ slice_index_or gates 0 gate = c.index_mut.ensures.value in
     let found = c.restart.result.found in
-    let before = input g.S.Source c.args.source.now in
     let left = files g.R.Rack c.restart.result.parts.rack in
     rw c.in-Restart.is
     (rw c.unsaid-in-Restart.ensures (
-      subst (λ (asked : AskedGate). Says (IsDueTo (Some Restart) asked before before (files g.R.Rack c.args.parts.rack) left) found)
+      subst (λ (asked : AskedGate). Says (IsRestartDue asked (files g.R.Rack c.args.parts.rack) left) found)
           (sym (first_asked g.G.Gate gates gate c.restart.new.gate (omega (arith, c.requires.gates)) first))
           (restart_says _ (files g.R.Rack c.args.parts.rack) left found c.restart.ensures.due),
       refl,
@@ -108,13 +89,12 @@ returns-in-Bulk-clause-due g c =
     let gate = c.index_mut-in-Bulk.result.now in
     let first : gate ≡ slice_index_or gates 0 gate = c.index_mut-in-Bulk.ensures.value in
     let found = c.bulk.result.found in
-    let before = input g.S.Source c.args.source.now in
     let left = files g.R.Rack c.bulk.result.parts.rack in
     let number = c.in-Bulk.number in
     let count = c.in-Bulk.count in
     rw c.in-Bulk.is
     (rw c.unsaid-in-Bulk.ensures (
-      subst (λ (asked : AskedGate). Says (IsDueTo (Some (Bulk number count)) asked before before (files g.R.Rack c.args.parts.rack) left) found)
+      subst (λ (asked : AskedGate). Says (IsBulkDue asked number count (files g.R.Rack c.args.parts.rack) left) found)
           (sym (first_asked g.G.Gate gates gate c.bulk.new.gate (omega (arith, c.requires.gates)) first))
           (bulk_says _ number count (files g.R.Rack c.args.parts.rack) left found c.bulk.ensures.due),
       refl,

@@ -1,8 +1,9 @@
-use Rattle.std.proofs.Common.{◌≡◌, ◌∙◌, [], inl, inr, ⊎_elim, subst}
+use Rattle.std.proofs.Common.{◌≡◌, ◌∙◌, [], inl, inr, ⊎_elim, subst, map}
 use Rattle.engine_steps.specs.declared.engines.Phase.TheVariants.{Settled}
 use Rattle.engine_steps.specs.Engines.{full_history}
-use Rattle.engine_calls.specs.GateAnswers.{asked, counts_of}
+use Rattle.engine_calls.specs.GateAnswers.{counts_of}
 use Rattle.engine_calls.proofs.Goes.{goes_none, goes_then}
+use Rattle.worker_gate.specs.ManyGates.{asked_gates}
 use Rattle.scenario_run.specs.Run.{HasGone, SaysRun}
 use Rattle.scenario_run.proofs.Causes.{so_ok}
 use Rattle.scenario_run.proofs.Gone.{gone_run, gone_started}
@@ -10,48 +11,48 @@ use Rattle.scenario_run.proofs.IdleStarts.{nothing_out}
 use Rattle.scenario_run.proofs.Stopped.{all_started}
 use Rattle.scenario_run.proofs.running.run_on.Goals as goal
 
-pub returns-in_err-all_fit-clause-goes : goal.returns-in_err-all_fit-clause-goes
-returns-in_err-all_fit-clause-goes g c =
-    goes_none g.R.Rack.disk g.R.Rack.faults c.args.plans.items c.args.engine.now c.invariant_holds.ensures.run (c.invariant_holds.ensures.each c.requires.opened.phase)
+pub returns-in-Err-clause-goes : goal.returns-in-Err-clause-goes
+returns-in-Err-clause-goes g c =
+    goes_none g.R.Rack.disk g.R.Rack.faults c.args.plans.items c.args.engine c.invariant_holds.ensures.run (c.invariant_holds.ensures.each c.requires.opened.phase)
 
-pub returns-in-Err-clause-refused : goal.returns-in-Err-clause-refused
-returns-in-Err-clause-refused g c =
-    let cut = c.in-Err.ensures.cut_off in
+pub returns-in-Err-start_all-clause-refused : goal.returns-in-Err-start_all-clause-refused
+returns-in-Err-start_all-clause-refused g c =
+    let cut = c.in-Err-start_all.ensures.cut_off in
     inr (
       cut.0,
       cut.1,
       cut.2,
-      gone_started c.args.engine.now c.requires.opened c.requires.idle cut.0 g.G.Gate.answers (counts_of g.G.Gate c.args.gate.now) c.start_all.new.engine.core c.invariant_holds-in-Err.ensures.run cut.3,
-      ⊎_elim (λ memory. inl (memory.0, memory.1.settled)) (λ fault. inr fault) c.in-Err.ensures.why,
+      gone_started c.args.engine c.requires.opened c.requires.idle cut.0 g.G.Gate.answers (map (counts_of g.G.Gate) c.args.gates.items) c.start_all.new.engine.core c.invariant_holds-in-Err-start_all.ensures.run cut.3,
+      ⊎_elim (λ memory. inl (memory.0, memory.1.settled)) (λ fault. inr fault) c.in-Err-start_all.ensures.why,
     )
 
-pub run_started-found-requires-clause-alone : goal.run_started-found-requires-clause-alone
-run_started-found-requires-clause-alone g c = nothing_out c.args.engine.now c.start_all.new.engine.core c.args.plans.items c.requires.opened c.in_default.ensures.started
+pub run_started-ran-requires-clause-alone : goal.run_started-ran-requires-clause-alone
+run_started-ran-requires-clause-alone g c = λ κs lives. nothing_out c.args.engine c.start_all.new.engine.core c.args.plans.items c.requires.opened c.in_default-start_all.ensures.started
 
 pub returns-clause-goes : goal.returns-clause-goes
 returns-clause-goes g c =
-    goes_then g.R.Rack.disk g.R.Rack.faults c.args.plans.items c.args.engine.now c.start_all.new.engine c.run_started-found.new.engine c.in_default.ensures.ready.settled c.invariant_holds-2.ensures.run.session.one_each
-    (g.met.R.Rack.honest c.run_started-found.new.engine.files.rack) c.start_all.ensures.goes (c.run_started-found.ensures.ran.goes c.args.plans.items)
+    goes_then g.R.Rack.disk g.R.Rack.faults c.args.plans.items c.args.engine c.start_all.new.engine c.run_started-ran.result.engine c.in_default-start_all.ensures.ready.settled c.invariant_holds-2.ensures.run.session.one_each
+    (c.racks_are_honest.ensures c.run_started-ran.result.engine.files.rack) c.start_all.ensures.goes (c.run_started-ran.ensures.ran.goes c.args.plans.items)
 
 pub returns-clause-ran : goal.returns-clause-ran
 returns-clause-ran g c =
-    let old = c.args.engine.now in
+    let old = c.args.engine in
     let mid = c.start_all.new.engine in
-    let now = c.run_started-found.new.engine in
-    let ran = c.run_started-found.ensures.ran in
+    let now = c.run_started-ran.result.engine in
+    let ran = c.run_started-ran.ensures.ran in
     let first = c.start_all.ensures.goes in
-    let gate = asked g.G.Gate c.args.gate.now c.run_started-found.new.gate in
-    let gone = gone_run old c.requires.opened c.requires.idle c.args.plans.items g.R.Rack.disk g.R.Rack.faults gate mid now c.invariant_holds-3.ensures.run first.catalog c.in_default.ensures.started ran in
-    so_ok c.run_started-found.result (λ s. (now.phase ≡ Settled) × SaysRun now.catalog now.core s)
-    (λ s. HasGone gate old.catalog (full_history old.core) c.args.plans.items now.core × (now.phase ≡ Settled) × SaysRun old.catalog now.core s)
-    (λ s said. (gone, said.0, subst (λ d. SaysRun d now.core s) ((ran.goes []).catalog ∙ first.catalog) said.1)) c.run_started-found.ensures.said
+    let gates = asked_gates g.G.Gate c.args.gates.items c.run_started-ran.result.gates.items in
+    let gone = gone_run old c.requires.opened c.requires.idle c.args.plans.items g.R.Rack.disk g.R.Rack.faults gates mid now c.invariant_holds-3.ensures.run first.catalog c.in_default-start_all.ensures.started ran c.run_started-ran.ensures.turns in
+    so_ok c.run_started-ran.result.found (λ s. (now.phase ≡ Settled) × SaysRun now.catalog now.core s)
+    (λ s. HasGone gates old.catalog (full_history old.core) c.args.plans.items now.core × (now.phase ≡ Settled) × SaysRun old.catalog now.core s)
+    (λ s said. (gone, said.0, subst (λ d. SaysRun d now.core s) ((ran.goes []).catalog ∙ first.catalog) said.1)) c.run_started-ran.ensures.said
 
 pub returns-clause-refused : goal.returns-clause-refused
 returns-clause-refused g c =
-    let old = c.args.engine.now in
+    let old = c.args.engine in
     let mid = c.start_all.new.engine in
-    let now = c.run_started-found.new.engine in
+    let now = c.run_started-ran.result.engine in
     let first = c.start_all.ensures.goes in
-    let gate = asked g.G.Gate c.args.gate.now c.run_started-found.new.gate in
-    let gone = gone_run old c.requires.opened c.requires.idle c.args.plans.items g.R.Rack.disk g.R.Rack.faults gate mid now c.invariant_holds-3.ensures.run first.catalog c.in_default.ensures.started c.run_started-found.ensures.ran in
-    all_started g.R.Rack.faults gate old mid now c.args.plans.items first.later gone c.run_started-found.result c.run_started-found.ensures.refused
+    let gates = asked_gates g.G.Gate c.args.gates.items c.run_started-ran.result.gates.items in
+    let gone = gone_run old c.requires.opened c.requires.idle c.args.plans.items g.R.Rack.disk g.R.Rack.faults gates mid now c.invariant_holds-3.ensures.run first.catalog c.in_default-start_all.ensures.started c.run_started-ran.ensures.ran c.run_started-ran.ensures.turns in
+    all_started g.R.Rack.faults gates old mid now c.args.plans.items first.later gone c.run_started-ran.result.found c.run_started-ran.ensures.refused
