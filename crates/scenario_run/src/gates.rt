@@ -48,7 +48,7 @@ fn run_by_one<R: Rack + Drop, B: Resource, G: Gate>(
 }
 
 /// Runs the processes of a settled engine of which no piece is out: with one gate by the caller's own thread, and with more by as
-/// many workers. The gates come back in their order.
+/// many workers. As many gates come back.
 pub fn run_by_gates<
     H: Threads + Wait + Sync,
     R: Rack + Drop + Send,

@@ -5,8 +5,8 @@
 //! (`specs/Scenario`); `opened_with` gives an engine on files of its catalog and `opened` one for it, or they say which refusal is
 //! due (`specs/Opening`); `all_fit` refuses its processes where they would pass a limit, and `start_all` starts them
 //! (`specs/Starting`); `report_now` prints the history of an engine, `stuck_step` tells of a stuck process which step has no try
-//! left, and `stuck_report` adds the line that says so (`specs/Reports`). With one gate the caller's own
-//! thread runs the processes, and with more as many workers.
+//! left, and `stuck_report` adds the line that says so (`specs/Reports`). With one gate the caller's own thread runs the processes,
+//! and with more as many workers.
 #![tactic(auto)]
 
 mod gates;

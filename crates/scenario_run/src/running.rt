@@ -245,7 +245,7 @@ fn run_bound<H: Threads + Wait + Sync, R: Rack + Drop + Send, B: Resource + Send
 }
 
 /// Runs each process of the source's scenario once, on the files of the parts: with one gate by the caller's own thread, with more
-/// by as many workers. The report of the history is written once all have ended or one is stuck. The gates come back in their order.
+/// by as many workers. The report of the history is written once all have ended or one is stuck. As many gates come back.
 pub fn run<
     H: Threads + Wait + Sync,
     S: Source,
