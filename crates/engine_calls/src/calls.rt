@@ -10,10 +10,9 @@ ghost use Rattle.process_core.specs.Cores.{IsHandedBy};
 ghost use Rattle.process_core.specs.Handing.{admit_reply_of};
 ghost use Rattle.process_core.specs.Rotation.{next_reply_of};
 ghost use Rattle.history_files.specs.Standing.{EachFits};
-ghost use Rattle.engine_steps.specs.Beginning.{IsDueToStart, IsPlanFor};
+ghost use Rattle.engine_steps.specs.Beginning.{IsFault, IsNotStarted, IsPlanFor};
 ghost use Rattle.engine_steps.specs.Engines.{with_core};
 ghost use Rattle.process_engine.specs.Finishing.{Finishes, is_barred, outcome_of};
-ghost use Rattle.engine_steps.specs.declared.beginning.EngineStartWhy.TheVariants.{DiskFault as Fault};
 ghost use Rattle.engine_steps.specs.declared.engines.Phase.TheVariants as phase;
 ghost use Rattle.engine_calls.specs.GateAnswers.{IsAdmitted, IsGiven};
 ghost use Rattle.engine_calls.specs.Acknowledged.{IsOneOf};
@@ -103,11 +102,8 @@ pub fn start<R: Rack + Drop, B: Resource>(
     requires plan { IsPlanFor engine.old.catalog plan }
     ensures reply { IfOk result (λ i. (answer_in engine.old.core (start (course_of plan))).reply ≡ started i) }
     ensures core { OnOk result (engine.new.core ≡ after_start engine.old.core plan) }
-    ensures plan { IfErr result (λ e. e.plan ≡ plan) }
-    ensures why { IfErr result (λ e. IsDueToStart engine.old plan e.why) }
-    ensures left { IfErr result (λ e. e.why ≢ Fault → engine.new ≡ engine.old) }
-    ensures closed { IfErr result (λ e. e.why ≡ Fault → (engine.new.phase ≡ phase.Closed) × (engine.new.core ≡ engine.old.core)) }
-    ensures fault { IfErr result (λ e. e.why ≡ Fault → Rose (R.faults engine.old.files.rack) (R.faults engine.new.files.rack)) }
+    ensures refused { IfErr result (IsNotStarted engine.old engine.new plan) }
+    ensures fault { IsFault result → Rose (R.faults engine.old.files.rack) (R.faults engine.new.files.rack) }
     ensures goes { (may_start : List Plan') → IsOneOf may_start plan → GoesOn R.disk R.faults may_start engine.old engine.new }
     ensures ready { OnOk result (IsReady B.meaning B.sort engine.new) }
     ensures fits { EachFits B.meaning B.sort engine.new.files.stores }

@@ -1,5 +1,5 @@
 -- Which processes may start in an engine, and why one doesn't.
-use Rattle.std.specs.Prelude.{◌≡◌, ◌≢◌, ◌+◌, length, Some, None}
+use Rattle.std.specs.Prelude.{◌≡◌, ◌≢◌, ◌+◌, ℕ, length, Some, None, Result, Ok, Err}
 use Rattle.process_tree.specs.declared.plan.Plan.{Plan}
 use Rattle.process_tree.specs.Shape.{shape_of}
 use Rattle.process_tree.specs.Termination.{IsWellFormed}
@@ -10,11 +10,14 @@ use Rattle.commute_table.specs.declared.catalog.Catalog.{Catalog}
 use Rattle.commute_table.specs.Binding.{IsPlanOf}
 use Rattle.machine_model.specs.declared.replies.StartWhy.{StartWhy}
 use Rattle.machine_model.specs.declared.replies.StartWhy.TheVariants as core
+use Rattle.machine_model.specs.Calls.{start, started}
 use Rattle.machine_model.specs.Runs.{start_refusal}
+use Rattle.process_core.specs.Answers.{after_start, answer_in}
 use Rattle.process_core.specs.Cores.{CoreState, courses_in, moment_of}
 use Rattle.process_journal.specs.Bodies.{with_start}
 use Rattle.engine_steps.specs.Engines.{EngineState, full_history}
 use Rattle.engine_steps.specs.declared.engines.Phase.TheVariants as phase
+use Rattle.engine_steps.specs.declared.beginning.EngineStart.{EngineStart}
 use Rattle.engine_steps.specs.declared.beginning.EngineStartWhy.{EngineStartWhy}
 use Rattle.engine_steps.specs.declared.beginning.EngineStartWhy.TheVariants.{Closed, TooMany, NoRoom, NoMemory, DiskFault}
 
@@ -49,3 +52,23 @@ IsDueToStart e p (TooMany n) = (e.phase ≢ phase.Closed) × refusal_in e.core p
 IsDueToStart e p (NoRoom n) = (e.phase ≢ phase.Closed) × refusal_in e.core p (core.NoRoom n)
 IsDueToStart e p NoMemory = (e.phase ≢ phase.Closed) × IsFree e.core p
 IsDueToStart e p DiskFault = (e.phase ≢ phase.Closed) × IsFree e.core p
+
+-- A start that was made: the answer is the machine's, the core has the process, and the engine is at rest as before.
+pub record IsStarted {R B : Type 0} (old new : EngineState R B) (p : Plan) (i : ℕ) : Type 0 where
+  pub reply : (answer_in old.core (start (course_of p))).reply ≡ started i
+  pub core : new.core ≡ after_start old.core p
+  pub settled : old.phase ≡ phase.Settled
+  pub phase : new.phase ≡ phase.Settled
+
+-- A start that was refused: its plan is handed back, and why is due. The engine is as before, and where a call of the rack failed
+-- it is closed.
+pub record IsNotStarted {R B : Type 0} (old new : EngineState R B) (p : Plan) (refused : EngineStart) : Type 0 where
+  pub plan : refused.plan ≡ p
+  pub why : IsDueToStart old p refused.why
+  pub left : refused.why ≢ DiskFault → new ≡ old
+  pub closed : refused.why ≡ DiskFault → (new.phase ≡ phase.Closed) × (new.core ≡ old.core)
+
+-- it was refused since a call of the rack failed
+abbrev pub IsFault : Result ℕ EngineStart → Type 0
+IsFault (Ok i) = ⊥
+IsFault (Err refused) = refused.why ≡ DiskFault

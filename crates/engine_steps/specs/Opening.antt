@@ -1,5 +1,5 @@
--- What an engine is that was opened, and what an opening that was refused leaves.
-use Rattle.std.specs.Prelude.{◌≡◌, ◌⊎◌}
+-- What an engine is that was made or opened, and what is left where it was refused.
+use Rattle.std.specs.Prelude.{◌≡◌, ◌⊎◌, None}
 use Rattle.process_disk.specs.Disk.{Disk}
 use Rattle.process_disk.specs.Images.{EachImage}
 use Rattle.schedule_model.specs.declared.history.History.{History}
@@ -8,6 +8,10 @@ use Rattle.process_core.specs.Cores.{history_of, opened_on}
 use Rattle.history_opening.specs.declared.faults.OpenError.{OpenError}
 use Rattle.history_opening.specs.declared.faults.OpenError.TheVariants.{NoMemory}
 use Rattle.history_opening.specs.Images.{BecomesSound, LeftByRefusal}
+use Rattle.history_opening.specs.Opening.{IsDueToOpening}
+use Rattle.process_journal.specs.Bodies.{no_history}
+use Rattle.history_files.specs.Creating.{first_used, IsDueToFiles, AreLeftUnmade}
+use Rattle.history_files.specs.declared.faults.CreateError.{CreateError}
 use Rattle.history_files.specs.Sound.{IsSound}
 use Rattle.history_files.specs.Standing.{FilesState}
 use Rattle.engine_steps.specs.Engines.{EngineState, full_history}
@@ -24,6 +28,13 @@ pub record IsOn {R B : Type 0} (c : Catalog) (h : History) (f : FilesState R B) 
   pub history : full_history e.core ≡ h
   pub files : e.files ≡ f
 
+-- Files that read as those of this history became sound for it and are so now, and so is each image from now on.
+pub record WereSettledFor (c : Catalog) (h : History) (old new : Disk) : Type 0 where
+  pub sound : IsSound c h old.files
+  pub becomes : BecomesSound c h old new
+  pub now : IsSound c h new.files
+  pub each : EachImage new new.moment (IsSound c h)
+
 -- Files that read as those of a history became sound for it and are so now, and so is each image from now on.
 pub record WereSettled (old new : Disk) : Type 0 where
   pub catalog : Catalog
@@ -37,3 +48,19 @@ pub record WereSettled (old new : Disk) : Type 0 where
 -- files.
 abbrev pub LeftByOpening : OpenError → Disk → Disk → Type 0
 LeftByOpening e old new = LeftByRefusal e old new ⊎ ((e ≡ NoMemory) × WereSettled old new)
+
+-- A refused opening: why is due to the files, and this is left of them.
+pub record IsRefusedOpening (old new : Disk) (why : OpenError) : Type 0 where
+  pub due : IsDueToOpening old.files why
+  pub left : LeftByOpening why old new
+
+-- Files that were made for a catalog: none had a byte, they are sound for no history, and so is each image from now on.
+pub record WereMade (c : Catalog) (old new : Disk) : Type 0 where
+  pub empty : first_used old.files ≡ None
+  pub now : IsSound c no_history new.files
+  pub each : EachImage new new.moment (IsSound c no_history)
+
+-- A refused making: why is due to the files, and this is left of them.
+pub record IsRefusedMaking (old new : Disk) (why : CreateError) : Type 0 where
+  pub due : IsDueToFiles (first_used old.files) why
+  pub left : AreLeftUnmade why old new

@@ -1,20 +1,16 @@
 // Processes that start in an engine.
-ghost use Rattle.std.specs.Prelude.{◌≡◌, ◌≢◌, ◌≤◌, ◌<◌, ◌+◌, ◌^◌, length, IfOk, IfErr, OnOk};
-ghost use Rattle.process_flow.specs.Causes.{Rose};
+ghost use Rattle.std.specs.Prelude.{◌≡◌, ◌≢◌, ◌<◌, ◌+◌, ◌^◌, length, IfOk, IfErr, IsErr, OnOk};
 ghost use Rattle.process_disk.specs.Disk.{Told};
-ghost use Rattle.process_disk.specs.Images.{EachImage, ImagesFollow};
+ghost use Rattle.process_disk.specs.Racks.{LeavesImages};
+ghost use Rattle.process_disk.specs.Images.{EachImage};
 ghost use Rattle.process_text.specs.Grammar.{process_of};
-ghost use Rattle.schedule_model.specs.Course.{course_of};
 ghost use Rattle.journal_records.specs.Bytes.{bytes_of};
 ghost use Rattle.journal_records.specs.declared.record.Record.TheVariants.{Start as IsStart};
-ghost use Rattle.machine_model.specs.Calls.{start, started};
-ghost use Rattle.process_core.specs.Answers.{after_start, answer_in};
 ghost use Rattle.process_core.specs.StartRoom.{IsRoomFor};
 ghost use Rattle.process_journal.specs.Plans.{IsPlanUnder, IsTextOf, text_of};
 ghost use Rattle.history_files.specs.Sound.{IsSoundForEither};
-ghost use Rattle.engine_steps.specs.Beginning.{IsDueToStart, IsPlanFor, history_with, of_start_why};
+ghost use Rattle.engine_steps.specs.Beginning.{IsFault, IsNotStarted, IsPlanFor, IsStarted, history_with, of_start_why};
 ghost use Rattle.engine_steps.specs.Engines.{full_history};
-ghost use Rattle.engine_steps.specs.declared.beginning.EngineStartWhy.TheVariants.{DiskFault as Fault};
 ghost use Rattle.engine_steps.specs.declared.engines.Phase.TheVariants as phase;
 
 use crate::{Closed, Engine, Phase};
@@ -84,22 +80,14 @@ impl<R: Rack + Drop, B: Resource> Engine<R, B> {
         requires plan { IsPlanUnder self.old.catalog room.plan }
         requires entry { entry.now ≡ IsStart (length self.old.core.plans + 1) (text_of room.plan) }
         requires short { length (bytes_of entry.now) < 2 ^ 16 }
-        ensures reply { IfOk result (λ i. (answer_in self.old.core (start (course_of room.plan))).reply ≡ started i) }
-        ensures core { OnOk result (self.new.core ≡ after_start self.old.core room.plan) }
-        ensures phase { OnOk result (self.new.phase ≡ phase.Settled) }
-        ensures plan { IfErr result (λ e. e.plan ≡ room.plan) }
-        ensures why { IfErr result (λ e. e.why ≡ Fault) }
-        ensures closed { IfErr result (λ e. (self.new.phase ≡ phase.Closed) × (self.new.core ≡ self.old.core)) }
+        ensures started { IfOk result (IsStarted self.old self.new room.plan) }
+        ensures refused { IfErr result (IsNotStarted self.old self.new room.plan) }
         ensures catalog { self.new.catalog ≡ self.old.catalog }
         ensures stores { self.new.files.stores ≡ self.old.files.stores }
         ensures any_moment { Told (R.disk self.old.files.rack)
             → EachImage (R.disk self.new.files.rack) (R.disk self.old.files.rack).moment
             (IsSoundForEither self.old.catalog (full_history self.old.core) (history_with self.old.core room.plan)) }
-        ensures follow { Told (R.disk self.old.files.rack)
-            → ImagesFollow (R.disk self.old.files.rack) (R.disk self.new.files.rack) }
-        ensures tells { (R.disk self.new.files.rack).tells ≡ (R.disk self.old.files.rack).tells }
-        ensures later { R.faults self.old.files.rack ≤ R.faults self.new.files.rack }
-        ensures fault { IfErr result (λ e. Rose (R.faults self.old.files.rack) (R.faults self.new.files.rack)) }
+        ensures rack { LeavesImages R.disk R.faults self.old.files.rack self.new.files.rack (IsErr result) }
     {
         events_add_effects();
         journals_keep_histories();
@@ -128,23 +116,14 @@ impl<R: Rack + Drop, B: Resource> Engine<R, B> {
     pub fn start(&mut self, alloc: Global, plan: Plan) -> Result<u32, EngineStart>
         requires whole { self.old.phase ≢ phase.UnderWay }
         requires plan { IsPlanFor self.old.catalog plan }
-        ensures reply { IfOk result (λ i. (answer_in self.old.core (start (course_of plan))).reply ≡ started i) }
-        ensures core { OnOk result (self.new.core ≡ after_start self.old.core plan) }
-        ensures phase { OnOk result ((self.old.phase ≡ phase.Settled) × (self.new.phase ≡ phase.Settled)) }
-        ensures plan { IfErr result (λ e. e.plan ≡ plan) }
-        ensures why { IfErr result (λ e. IsDueToStart self.old plan e.why) }
-        ensures left { IfErr result (λ e. e.why ≢ Fault → self.new ≡ self.old) }
-        ensures closed { IfErr result (λ e. e.why ≡ Fault → (self.new.phase ≡ phase.Closed) × (self.new.core ≡ self.old.core)) }
+        ensures started { IfOk result (IsStarted self.old self.new plan) }
+        ensures refused { IfErr result (IsNotStarted self.old self.new plan) }
         ensures catalog { self.new.catalog ≡ self.old.catalog }
         ensures stores { self.new.files.stores ≡ self.old.files.stores }
         ensures any_moment { self.old.phase ≡ phase.Settled → Told (R.disk self.old.files.rack)
             → EachImage (R.disk self.new.files.rack) (R.disk self.old.files.rack).moment
             (IsSoundForEither self.old.catalog (full_history self.old.core) (history_with self.old.core plan)) }
-        ensures follow { Told (R.disk self.old.files.rack)
-            → ImagesFollow (R.disk self.old.files.rack) (R.disk self.new.files.rack) }
-        ensures tells { (R.disk self.new.files.rack).tells ≡ (R.disk self.old.files.rack).tells }
-        ensures later { R.faults self.old.files.rack ≤ R.faults self.new.files.rack }
-        ensures fault { IfErr result (λ e. e.why ≡ Fault → Rose (R.faults self.old.files.rack) (R.faults self.new.files.rack)) }
+        ensures rack { LeavesImages R.disk R.faults self.old.files.rack self.new.files.rack (IsFault result) }
     {
         if let Err(Closed(kept)) = self.not_closed() {
             return Err(EngineStart {

@@ -1,8 +1,8 @@
 // The end of a process: recorded in the journal, and kept.
-ghost use Rattle.std.specs.Prelude.{◌≡◌, ◌<◌, ◌^◌};
-ghost use Rattle.process_flow.specs.Causes.{HasCause};
+ghost use Rattle.std.specs.Prelude.{◌≡◌, ◌<◌, ◌^◌, IsErr};
 ghost use Rattle.process_disk.specs.Disk.{Told};
-ghost use Rattle.process_disk.specs.Images.{EachImage, ImagesFollow};
+ghost use Rattle.process_disk.specs.Racks.{LeavesImages};
+ghost use Rattle.process_disk.specs.Images.{EachImage};
 ghost use Rattle.machine_model.specs.declared.kept.Work.TheVariants.{End};
 ghost use Rattle.machine_model.specs.declared.replies.PieceState.TheVariants.{Out};
 ghost use Rattle.machine_model.specs.Pieces.{state_of};
@@ -39,11 +39,8 @@ impl<R: Rack + Drop, B: Resource> Engine<R, B> {
         ensures any_moment { Told (R.disk self.old.files.rack)
             → EachImage (R.disk self.new.files.rack) (R.disk self.old.files.rack).moment
             (IsSoundForEither self.old.catalog (full_history self.old.core) (history_with self.old.core piece.piece)) }
-        ensures follow { Told (R.disk self.old.files.rack)
-            → ImagesFollow (R.disk self.old.files.rack) (R.disk self.new.files.rack) }
         ensures fits { EachFits B.meaning B.sort self.new.files.stores }
-        ensures tells { (R.disk self.new.files.rack).tells ≡ (R.disk self.old.files.rack).tells }
-        ensures cause { HasCause (R.faults self.old.files.rack) (R.faults self.new.files.rack) result }
+        ensures rack { LeavesImages R.disk R.faults self.old.files.rack self.new.files.rack (IsErr result) }
     {
         journals_keep_histories();
         events_add_effects();

@@ -73,11 +73,13 @@ impl<R: Rack + Drop, B: Drop> Engine<R, B> {
         ensures read { self.now.phase ≡ phase.Settled → Told (R.disk self.now.files.rack)
             → IsSound self.now.catalog (full_history self.now.core) (R.disk self.now.files.rack).files }
         ensures each { self.now.phase ≡ phase.Settled → Told (R.disk self.now.files.rack) →
-            EachImage (R.disk self.now.files.rack) (R.disk self.now.files.rack).moment (IsSound self.now.catalog (full_history self.now.core)) }
+            EachImage (R.disk self.now.files.rack) (R.disk self.now.files.rack).moment
+            (IsSound self.now.catalog (full_history self.now.core)) }
         ensures exactly { self.now.phase ≡ phase.Settled → Told (R.disk self.now.files.rack) →
             AreExactly self.now.catalog (full_history self.now.core) (R.disk self.now.files.rack).files }
         ensures exactly_each { self.now.phase ≡ phase.Settled → Told (R.disk self.now.files.rack) →
-            EachImage (R.disk self.now.files.rack) (R.disk self.now.files.rack).moment (AreExactly self.now.catalog (full_history self.now.core)) }
+            EachImage (R.disk self.now.files.rack) (R.disk self.now.files.rack).moment
+            (AreExactly self.now.catalog (full_history self.now.core)) }
     {
         self.core.is_run();
         self.files.are_sound();

@@ -1,17 +1,15 @@
 // Engines that are made on empty files.
-ghost use Rattle.std.specs.Prelude.{◌≡◌, ◌≤◌, [], None, IfOk, IfErr, OnOk};
-ghost use Rattle.process_flow.specs.Causes.{Rose};
+ghost use Rattle.std.specs.Prelude.{◌≡◌, [], IfOk, IfErr};
 ghost use Rattle.process_disk.specs.Disk.{Told};
-ghost use Rattle.process_disk.specs.Images.{EachImage, ImagesFollow};
+ghost use Rattle.process_disk.specs.Racks.{LeavesImages};
 ghost use Rattle.commute_table.specs.Operations.{IsCatalog};
 ghost use Rattle.process_core.specs.Cores.{opened_on};
 ghost use Rattle.process_journal.specs.Bodies.{no_history};
 ghost use Rattle.history_files.specs.Boxes.{AreBoxes, AreEmpty};
-ghost use Rattle.history_files.specs.Creating.{first_used, IsDueToFiles, AreLeftUnmade};
-ghost use Rattle.history_files.specs.Sound.{IsSound};
 ghost use Rattle.history_files.specs.Standing.{EachFits};
 ghost use Rattle.history_files.specs.declared.faults.CreateError.TheVariants.{DiskFault as Fault, NoMemory};
 ghost use Rattle.engine_steps.specs.Engines.{AreAtRest, IsNew};
+ghost use Rattle.engine_steps.specs.Opening.{IsRefusedMaking, WereMade};
 
 use crate::{Engine, Phase};
 use commute_table::Catalog;
@@ -60,23 +58,14 @@ impl<R: Rack + Drop, B: Resource> Engine<R, B> {
         requires boxes { AreBoxes B.sort parts.resources.items }
         ensures new { IfOk result (IsNew catalog) }
         ensures rest { IfOk result (λ e. AreAtRest catalog no_history e.files (R.disk e.files.rack)) }
-        ensures read { Told (R.disk parts.rack) → IfOk result (λ e. IsSound catalog no_history (R.disk e.files.rack).files) }
-        ensures each { Told (R.disk parts.rack) → IfOk result
-            (λ e. EachImage (R.disk e.files.rack) (R.disk e.files.rack).moment (IsSound catalog no_history)) }
+        ensures sound { Told (R.disk parts.rack) → IfOk result
+            (λ e. WereMade catalog (R.disk parts.rack) (R.disk e.files.rack)) }
         ensures fits { IfOk result (λ e. EachFits B.meaning B.sort e.files.stores) }
-        ensures empty { Told (R.disk parts.rack) → OnOk result (first_used (R.disk parts.rack).files ≡ None) }
-        ensures due { Told (R.disk parts.rack) → IfErr result (λ r. IsDueToFiles (first_used (R.disk parts.rack).files) r.why) }
-        ensures left { Told (R.disk parts.rack) → IfErr result
-            (λ r. AreLeftUnmade r.why (R.disk parts.rack) (R.disk r.parts.rack)) }
+        ensures refused { Told (R.disk parts.rack) → IfErr result
+            (λ r. IsRefusedMaking (R.disk parts.rack) (R.disk r.parts.rack) r.why) }
         ensures back { IfErr result (λ r. AreBoxes B.sort r.parts.resources.items × AreEmpty B.meaning r.parts.resources.items) }
-        ensures follow { Told (R.disk parts.rack) → IfOk result (λ e. ImagesFollow (R.disk parts.rack) (R.disk e.files.rack)) }
-        ensures follow_back { Told (R.disk parts.rack)
-            → IfErr result (λ r. ImagesFollow (R.disk parts.rack) (R.disk r.parts.rack)) }
-        ensures tells { IfOk result (λ e. (R.disk e.files.rack).tells ≡ (R.disk parts.rack).tells) }
-        ensures tells_back { IfErr result (λ r. (R.disk r.parts.rack).tells ≡ (R.disk parts.rack).tells) }
-        ensures later { IfOk result (λ e. R.faults parts.rack ≤ R.faults e.files.rack) }
-        ensures later_back { IfErr result (λ r. R.faults parts.rack ≤ R.faults r.parts.rack) }
-        ensures fault { IfErr result (λ r. r.why ≡ Fault → Rose (R.faults parts.rack) (R.faults r.parts.rack)) }
+        ensures rack { IfOk result (λ e. LeavesImages R.disk R.faults parts.rack e.files.rack ⊥) }
+        ensures rack_back { IfErr result (λ r. LeavesImages R.disk R.faults parts.rack r.parts.rack (r.why ≡ Fault)) }
     {
         calls_make_good_books();
         let Ok(core) = new_core(alloc, &catalog) else {

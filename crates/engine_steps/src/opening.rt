@@ -1,18 +1,14 @@
 // Engines that are opened on the history of their files.
-ghost use Rattle.std.specs.Prelude.{◌≡◌, ◌≤◌, IfOk, IfErr};
-ghost use Rattle.process_flow.specs.Causes.{Rose};
+ghost use Rattle.std.specs.Prelude.{◌≡◌, IfOk, IfErr};
 ghost use Rattle.process_disk.specs.Disk.{Told};
-ghost use Rattle.process_disk.specs.Images.{EachImage, ImagesFollow};
+ghost use Rattle.process_disk.specs.Racks.{LeavesImages};
 ghost use Rattle.process_core.specs.Cores.{opened_on};
 ghost use Rattle.process_journal.specs.Journals.{IsHistoryUnder};
 ghost use Rattle.history_files.specs.Boxes.{AreBoxes, AreEmpty};
-ghost use Rattle.history_opening.specs.Images.{BecomesSound};
-ghost use Rattle.history_opening.specs.Opening.{IsDueToOpening};
-ghost use Rattle.history_files.specs.Sound.{IsSound};
 ghost use Rattle.history_files.specs.Standing.{EachFits};
 ghost use Rattle.history_opening.specs.declared.faults.OpenError.TheVariants.{DiskFault as Fault, NoMemory};
 ghost use Rattle.engine_steps.specs.Engines.{AreAtRest, full_history};
-ghost use Rattle.engine_steps.specs.Opening.{IsOn, IsOpened, LeftByOpening};
+ghost use Rattle.engine_steps.specs.Opening.{IsOn, IsOpened, IsRefusedOpening, WereSettledFor};
 
 use crate::{Engine, Phase};
 use commute_table::Catalog;
@@ -86,26 +82,13 @@ impl<R: Rack + Drop, B: Resource> Engine<R, B> {
         ensures opened { IfOk result IsOpened }
         ensures rest { IfOk result (λ e. AreAtRest e.catalog (full_history e.core) e.files (R.disk e.files.rack)) }
         ensures sound { Told (R.disk parts.rack) → IfOk result
-            (λ e. IsSound e.catalog (full_history e.core) (R.disk parts.rack).files) }
-        ensures any_moment { Told (R.disk parts.rack)
-            → IfOk result (λ e. BecomesSound e.catalog (full_history e.core) (R.disk parts.rack) (R.disk e.files.rack)) }
-        ensures read { Told (R.disk parts.rack) → IfOk result
-            (λ e. IsSound e.catalog (full_history e.core) (R.disk e.files.rack).files) }
-        ensures each { Told (R.disk parts.rack) → IfOk result
-            (λ e. EachImage (R.disk e.files.rack) (R.disk e.files.rack).moment (IsSound e.catalog (full_history e.core))) }
+            (λ e. WereSettledFor e.catalog (full_history e.core) (R.disk parts.rack) (R.disk e.files.rack)) }
         ensures fits { IfOk result (λ e. EachFits B.meaning B.sort e.files.stores) }
-        ensures due { Told (R.disk parts.rack) → IfErr result (λ r. IsDueToOpening (R.disk parts.rack).files r.why) }
         ensures refused { Told (R.disk parts.rack) → IfErr result
-            (λ r. LeftByOpening r.why (R.disk parts.rack) (R.disk r.parts.rack)) }
+            (λ r. IsRefusedOpening (R.disk parts.rack) (R.disk r.parts.rack) r.why) }
         ensures back { IfErr result (λ r. AreBoxes B.sort r.parts.resources.items × AreEmpty B.meaning r.parts.resources.items) }
-        ensures follow { Told (R.disk parts.rack) → IfOk result (λ e. ImagesFollow (R.disk parts.rack) (R.disk e.files.rack)) }
-        ensures follow_back { Told (R.disk parts.rack)
-            → IfErr result (λ r. ImagesFollow (R.disk parts.rack) (R.disk r.parts.rack)) }
-        ensures tells { IfOk result (λ e. (R.disk e.files.rack).tells ≡ (R.disk parts.rack).tells) }
-        ensures tells_back { IfErr result (λ r. (R.disk r.parts.rack).tells ≡ (R.disk parts.rack).tells) }
-        ensures later { IfOk result (λ e. R.faults parts.rack ≤ R.faults e.files.rack) }
-        ensures later_back { IfErr result (λ r. R.faults parts.rack ≤ R.faults r.parts.rack) }
-        ensures fault { IfErr result (λ r. r.why ≡ Fault → Rose (R.faults parts.rack) (R.faults r.parts.rack)) }
+        ensures rack { IfOk result (λ e. LeavesImages R.disk R.faults parts.rack e.files.rack ⊥) }
+        ensures rack_back { IfErr result (λ r. LeavesImages R.disk R.faults parts.rack r.parts.rack (r.why ≡ Fault)) }
     {
         match open_files(alloc, parts) {
             Ok((files, catalog, history)) => {

@@ -1,16 +1,12 @@
 // The effect of a piece in three steps: prepared in a store, recorded in the journal, and settled.
-ghost use Rattle.std.specs.Prelude.{◌≡◌, ◌≢◌, ◌⊎◌, ◌↔◌, ◌≤◌, ◌<◌, ◌^◌, length, true, OnOk, OnErr, IfOk};
-ghost use Rattle.process_flow.specs.Causes.{Rose, HasCause};
+ghost use Rattle.std.specs.Prelude.{◌≡◌, ◌≢◌, ◌⊎◌, ◌↔◌, ◌<◌, ◌^◌, length, true, OnErr, IfOk, IsErr};
 ghost use Rattle.process_disk.specs.Disk.{Told};
-ghost use Rattle.process_disk.specs.Images.{EachImage, ImagesFollow};
-ghost use Rattle.process_tree.specs.declared.play.Outcome.TheVariants.{Done};
+ghost use Rattle.process_disk.specs.Racks.{LeavesImages};
+ghost use Rattle.process_disk.specs.Images.{EachImage};
 ghost use Rattle.schedule_model.specs.Histories.{acts};
 ghost use Rattle.schedule_model.specs.declared.event.Event.TheVariants.{Act};
 ghost use Rattle.machine_model.specs.declared.kept.Work.TheVariants.{Undo};
-ghost use Rattle.machine_model.specs.Calls.{finish, finished};
 ghost use Rattle.machine_model.specs.Progress.{same_work};
-ghost use Rattle.machine_model.specs.Replies.{effected};
-ghost use Rattle.process_core.specs.Answers.{after_call, answer_in};
 ghost use Rattle.process_journal.specs.Bodies.{with_event};
 ghost use Rattle.process_journal.specs.Journals.{IsHistoryUnder};
 ghost use Rattle.history_files.specs.Effects.{subsystem_of};
@@ -175,12 +171,8 @@ impl<R: Rack + Drop, B: Resource> Engine<R, B> {
         ensures any_moment { Told (R.disk self.old.files.rack)
             → EachImage (R.disk self.new.files.rack) (R.disk self.old.files.rack).moment
             (IsSound self.old.catalog (full_history self.old.core)) }
-        ensures follow { Told (R.disk self.old.files.rack)
-            → ImagesFollow (R.disk self.old.files.rack) (R.disk self.new.files.rack) }
         ensures fits { EachFits B.meaning B.sort self.new.files.stores }
-        ensures tells { (R.disk self.new.files.rack).tells ≡ (R.disk self.old.files.rack).tells }
-        ensures later { R.faults self.old.files.rack ≤ R.faults self.new.files.rack }
-        ensures fault { result ≡ Prepare.DiskFault → Rose (R.faults self.old.files.rack) (R.faults self.new.files.rack) }
+        ensures rack { LeavesImages R.disk R.faults self.old.files.rack self.new.files.rack (result ≡ Prepare.DiskFault) }
     {
         next_effects_may_be_prepared();
         events_add_effects();
@@ -206,12 +198,8 @@ impl<R: Rack + Drop, B: Resource> Engine<R, B> {
         ensures any_moment { Told (R.disk self.old.files.rack)
             → EachImage (R.disk self.new.files.rack) (R.disk self.old.files.rack).moment
             (IsSound self.old.catalog (full_history self.old.core)) }
-        ensures follow { Told (R.disk self.old.files.rack)
-            → ImagesFollow (R.disk self.old.files.rack) (R.disk self.new.files.rack) }
         ensures fits { EachFits B.meaning B.sort self.new.files.stores }
-        ensures tells { (R.disk self.new.files.rack).tells ≡ (R.disk self.old.files.rack).tells }
-        ensures later { R.faults self.old.files.rack ≤ R.faults self.new.files.rack }
-        ensures fault { result ≡ PreparePiece.DiskFault → Rose (R.faults self.old.files.rack) (R.faults self.new.files.rack) }
+        ensures rack { LeavesImages R.disk R.faults self.old.files.rack self.new.files.rack (result ≡ PreparePiece.DiskFault) }
     {
         journals_keep_histories();
         self.core.is_run();
@@ -242,11 +230,8 @@ impl<R: Rack + Drop, B: Resource> Engine<R, B> {
         ensures any_moment { Told (R.disk self.old.files.rack)
             → EachImage (R.disk self.new.files.rack) (R.disk self.old.files.rack).moment
             (IsSoundForEither self.old.catalog (full_history self.old.core) (history_with self.old.core p.piece.piece)) }
-        ensures follow { Told (R.disk self.old.files.rack)
-            → ImagesFollow (R.disk self.old.files.rack) (R.disk self.new.files.rack) }
         ensures fits { EachFits B.meaning B.sort self.new.files.stores }
-        ensures tells { (R.disk self.new.files.rack).tells ≡ (R.disk self.old.files.rack).tells }
-        ensures cause { HasCause (R.faults self.old.files.rack) (R.faults self.new.files.rack) result }
+        ensures rack { LeavesImages R.disk R.faults self.old.files.rack self.new.files.rack (IsErr result) }
     {
         books_come_to_acts::<B>();
         self.core.is_run();
@@ -277,11 +262,8 @@ impl<R: Rack + Drop, B: Resource> Engine<R, B> {
         ensures any_moment { Told (R.disk self.old.files.rack)
             → EachImage (R.disk self.new.files.rack) (R.disk self.old.files.rack).moment
             (IsSound self.old.catalog (history_with self.old.core r.piece.piece)) }
-        ensures follow { Told (R.disk self.old.files.rack)
-            → ImagesFollow (R.disk self.old.files.rack) (R.disk self.new.files.rack) }
         ensures fits { EachFits B.meaning B.sort self.new.files.stores }
-        ensures tells { (R.disk self.new.files.rack).tells ≡ (R.disk self.old.files.rack).tells }
-        ensures cause { HasCause (R.faults self.old.files.rack) (R.faults self.new.files.rack) result }
+        ensures rack { LeavesImages R.disk R.faults self.old.files.rack self.new.files.rack (IsErr result) }
     {
         events_add_effects();
         books_come_to_acts::<B>();

@@ -1,5 +1,6 @@
 -- What an open log stands for, on a disk that tells.
-use Rattle.std.specs.Prelude.{◌≡◌, ◌⊎◌, ⊤, ℕ, List, [], ◌∷◌, ◌++◌, length, Option, Some, IsSome, IfSome, Result, Ok, Err, Vec}
+use Rattle.std.specs.Prelude.{◌≡◌, ◌≢◌, ◌⊎◌, ⊤, ℕ, ◌+◌, ◌≤◌, List, [], ◌∷◌, ◌++◌, length}
+use Rattle.std.specs.Prelude.{Option, Some, IsSome, IfSome, Result, Ok, Err, Vec}
 use Rattle.std.specs.declared.alloc.Global.{Global}
 use Rattle.process_disk.specs.Disk.{FileSet, Disk, file_of}
 use Rattle.process_disk.specs.Images.{EachImage}
@@ -44,6 +45,26 @@ pub record StandsFor (log : LogState) (bodies : List (List ℕ)) (disk : Disk) :
 pub record IsOpen (log : LogState) (disk : Disk) : Type 0 where
   pub bodies : List (List ℕ)
   pub stands : StandsFor log bodies disk
+
+-- A log as it is made or opened: that of file q, with these bodies, the last of which can be retracted, and nothing staged.
+pub record IsFreshLog (q : ℕ) (bodies : List (List ℕ)) (log : LogState) : Type 0 where
+  pub file : log.file ≡ q
+  pub count : log.count ≡ length bodies
+  pub few : length bodies ≤ 65536
+  pub last : log.last ≡ last_size bodies
+  pub unstaged : log.staged ≡ []
+
+-- It has one record more, which can be retracted, and nothing is staged.
+pub record HasOneMore (old new : LogState) : Type 0 where
+  pub file : new.file ≡ old.file
+  pub count : new.count ≡ old.count + 1
+  pub last : CanRetract new
+  pub unstaged : new.staged ≡ []
+
+-- Why a file isn't made what it was to be: no memory was found, and then nothing was written, or a call of the rack failed.
+pub record IsUnmade {E : Type 0} (memory fault why : E) (Unwritten : Type 0) : Type 0 where
+  pub unwritten : why ≡ memory → Unwritten
+  pub refused : why ≢ memory → why ≡ fault
 
 -- What `open` answers on what a file reads as; want of memory and faults of the rack are free here.
 abbrev pub OpensAs : Result (List (List ℕ)) LogError → Result (LogState × Vec (List ℕ) Global) LogError → Type 0

@@ -1,7 +1,7 @@
 // What a log asks of a rack: a write that is on the disk, and a whole file.
-ghost use Rattle.std.specs.Prelude.{◌≡◌, ◌⊎◌, ◌<◌, ◌≤◌, length, IfOk, IfErr, OnOk, IsErrOf};
-ghost use Rattle.process_flow.specs.Causes.{Rose, HasCause};
+ghost use Rattle.std.specs.Prelude.{◌≡◌, ◌⊎◌, ◌<◌, ◌≤◌, length, IfOk, IfErr, OnOk, IsErr, IsErrOf};
 ghost use Rattle.process_disk.specs.Disk.{Told, file_of, put, TornIn, Only};
+ghost use Rattle.process_disk.specs.Racks.{LeavesRack};
 ghost use Rattle.process_disk.specs.Images.{RunBy, AllAsBefore};
 
 use crate::LogError;
@@ -17,8 +17,7 @@ pub fn write_and_sync<R: Rack>(rack: &mut R, file: u8, at: u64, bytes: &[u8]) ->
         ((R.disk rack.new).files ≡ put (R.disk rack.old).files file at bytes.now) }
     ensures durable { Told (R.disk rack.old) → OnOk result (Only (R.disk rack.new).files (R.disk rack.new).may_leave) }
     ensures run { Told (R.disk rack.old) → RunBy (TornIn file at (length bytes.now)) (R.disk rack.old) (R.disk rack.new) }
-    ensures tells { (R.disk rack.new).tells ≡ (R.disk rack.old).tells }
-    ensures cause { HasCause (R.faults rack.old) (R.faults rack.new) result }
+    ensures rack { LeavesRack R.disk R.faults rack.old rack.new (IsErr result) }
     ensures quiet { OnOk result (R.faults rack.new ≡ R.faults rack.old) }
 {
     rack.write_at(file, at, bytes)?;
@@ -30,10 +29,8 @@ pub fn whole_file<R: Rack>(alloc: Global, rack: &mut R, file: u8) -> Result<Vec<
     requires { file < 9 }
     ensures bytes { Told (R.disk rack.old) → IfOk result (λ bytes. bytes.items ≡ file_of (R.disk rack.old).files file) }
     ensures all { Told (R.disk rack.old) → AllAsBefore (R.disk rack.old) (R.disk rack.new) }
-    ensures tells { (R.disk rack.new).tells ≡ (R.disk rack.old).tells }
-    ensures later { R.faults rack.old ≤ R.faults rack.new }
+    ensures rack { LeavesRack R.disk R.faults rack.old rack.new (IsErrOf result LogError.DiskFault) }
     ensures quiet { OnOk result (R.faults rack.new ≡ R.faults rack.old) }
-    ensures fault { IsErrOf result LogError.DiskFault → Rose (R.faults rack.old) (R.faults rack.new) }
     ensures refused { IfErr result (λ e. (e ≡ LogError.DiskFault) ⊎ (e ≡ LogError.NoMemory)) }
 {
     let len = rack.len(file)?;

@@ -1,11 +1,12 @@
 // An open log.
 ghost use Rattle.std.specs.Prelude.{◌≡◌, ◌≢◌, ◌<◌, ◌≤◌, ◌+◌, ◌*◌, ◌^◌, ◌++◌, ◌∷◌, [], ℕ, List, length, None, IfOk, IfErr, OnOk};
-ghost use Rattle.std.specs.Prelude.{OnErr, IsErrOf, IsTrue, drop, ◌↔◌};
-ghost use Rattle.process_flow.specs.Causes.{Rose, HasCause};
+ghost use Rattle.std.specs.Prelude.{OnErr, IsErr, IsErrOf, IsTrue, drop, ◌↔◌};
 ghost use Rattle.process_disk.specs.Disk.{Told, TornIn, file_of, put};
+ghost use Rattle.process_disk.specs.Racks.{LeavesRack};
 ghost use Rattle.process_disk.specs.Images.{EachImage, RunBy, OthersAsBefore, AllAsBefore};
 ghost use Rattle.gate_log.specs.LogFile.{read_log, plain_log, records_size, last_size};
 ghost use Rattle.gate_log.specs.Standing.{StandsFor, IsOpen, Logs, LogsBeforeOrWith, OpensAs, CanRetract};
+ghost use Rattle.gate_log.specs.Standing.{HasOneMore, IsFreshLog, IsUnmade};
 ghost use Rattle.gate_log.specs.Staging.{plain_records, staging, unstaged, with_staged, LogsBeforeOrWithAll, AreWritten};
 ghost use Rattle.gate_log.specs.Staging.{AreOnDisk, IsOpened, MayOpen};
 ghost use Rattle.gate_log.specs.declared.errors.LogError.TheVariants.{NoMemory};
@@ -53,18 +54,14 @@ impl Log {
         requires empty { Told (R.disk rack.old) → file_of (R.disk rack.old).files file ≡ [] }
         ensures stands { Told (R.disk rack.old) → IfOk result (λ log. StandsFor log [] (R.disk rack.new)) }
         ensures bytes { Told (R.disk rack.old) → IfOk result (λ _. file_of (R.disk rack.new).files file ≡ plain_log file []) }
-        ensures log { IfOk result (λ log. (log.file ≡ file) × (log.count ≡ 0)) }
-        ensures unstaged { IfOk result (λ log. log.staged ≡ []) }
+        ensures log { IfOk result (IsFreshLog file []) }
         ensures others { Told (R.disk rack.old) → OthersAsBefore file (R.disk rack.old) (R.disk rack.new) }
         // Whatever it answers, at most the nine bytes of an empty log were written.
         ensures run { Told (R.disk rack.old) → RunBy (TornIn file 0 9) (R.disk rack.old) (R.disk rack.new) }
-        ensures unwritten { IfErr result (λ e. e ≡ NoMemory → rack.new ≡ rack.old) }
-        ensures tells { (R.disk rack.new).tells ≡ (R.disk rack.old).tells }
-        ensures later { R.faults rack.old ≤ R.faults rack.new }
+        ensures err { IfErr result (λ e. IsUnmade NoMemory LogError.DiskFault e (rack.new ≡ rack.old)) }
+        ensures rack { LeavesRack R.disk R.faults rack.old rack.new (IsErrOf result LogError.DiskFault) }
         // No failed call of the rack is passed over.
         ensures quiet { OnOk result (R.faults rack.new ≡ R.faults rack.old) }
-        ensures refused { IfErr result
-            (λ e. e ≢ NoMemory → (e ≡ LogError.DiskFault) × Rose (R.faults rack.old) (R.faults rack.new)) }
     {
         let buffer = Buffer::new(alloc)?;
         let staged = Staged::new(alloc)?;
@@ -88,15 +85,10 @@ impl Log {
         requires { file < 9 }
         ensures answer { Told (R.disk rack.old) → OpensAs (read_log file (file_of (R.disk rack.old).files file)) result }
         ensures stands { Told (R.disk rack.old) → IfOk result (λ opened. StandsFor opened.0 opened.1.items (R.disk rack.new)) }
-        ensures log { IfOk result (λ opened. (opened.0.file ≡ file) × (opened.0.count ≡ length opened.1.items)) }
-        ensures few { IfOk result (λ opened. length opened.1.items ≤ 65536) }
-        ensures last { IfOk result (λ opened. opened.0.last ≡ last_size opened.1.items) }
-        ensures unstaged { IfOk result (λ opened. opened.0.staged ≡ []) }
+        ensures log { IfOk result (λ opened. IsFreshLog file opened.1.items opened.0) }
         ensures all { Told (R.disk rack.old) → AllAsBefore (R.disk rack.old) (R.disk rack.new) }
-        ensures tells { (R.disk rack.new).tells ≡ (R.disk rack.old).tells }
-        ensures later { R.faults rack.old ≤ R.faults rack.new }
+        ensures rack { LeavesRack R.disk R.faults rack.old rack.new (IsErrOf result LogError.DiskFault) }
         ensures quiet { OnOk result (R.faults rack.new ≡ R.faults rack.old) }
-        ensures fault { IsErrOf result LogError.DiskFault → Rose (R.faults rack.old) (R.faults rack.new) }
     {
         let buffer = Buffer::new(alloc)?;
         let staged = Staged::new(alloc)?;
@@ -138,13 +130,10 @@ impl Log {
         ensures any_moment { Told (R.disk rack.old) → (bodies : List (List ℕ)) → StandsFor self.old bodies (R.disk rack.old) →
             EachImage (R.disk rack.new) (R.disk rack.old).moment (LogsBeforeOrWith self.old.file bodies body.now) }
         ensures others { Told (R.disk rack.old) → OthersAsBefore self.old.file (R.disk rack.old) (R.disk rack.new) }
-        ensures ok { OnOk result ((self.new.file ≡ self.old.file) × (self.new.count ≡ self.old.count + 1)) }
-        ensures last { OnOk result (CanRetract self.new) }
         // What was staged is let go.
-        ensures unstaged { OnOk result (self.new.staged ≡ []) }
+        ensures ok { OnOk result (HasOneMore self.old self.new) }
         ensures err { OnErr result (self.new ≡ self.old) }
-        ensures tells { (R.disk rack.new).tells ≡ (R.disk rack.old).tells }
-        ensures cause { HasCause (R.faults rack.old) (R.faults rack.new) result }
+        ensures rack { LeavesRack R.disk R.faults rack.old rack.new (IsErr result) }
         ensures quiet { OnOk result (R.faults rack.new ≡ R.faults rack.old) }
     {
         let size = self.buffer.fill(body);
@@ -191,8 +180,7 @@ impl Log {
         ensures any_moment { Told (R.disk rack.old) → (bodies : List (List ℕ)) → StandsFor self.now bodies (R.disk rack.old) →
             EachImage (R.disk rack.new) (R.disk rack.old).moment (Logs self.now.file bodies) }
         ensures others { Told (R.disk rack.old) → OthersAsBefore self.now.file (R.disk rack.old) (R.disk rack.new) }
-        ensures tells { (R.disk rack.new).tells ≡ (R.disk rack.old).tells }
-        ensures cause { HasCause (R.faults rack.old) (R.faults rack.new) result }
+        ensures rack { LeavesRack R.disk R.faults rack.old rack.new (IsErr result) }
         ensures quiet { OnOk result (R.faults rack.new ≡ R.faults rack.old) }
     {
         write(rack, self.file, self.end + 1, self.staged.behind_gate())
@@ -209,8 +197,7 @@ impl Log {
         ensures any_moment { Told (R.disk rack.old) → (bodies : List (List ℕ)) → AreOnDisk self.now bodies (R.disk rack.old) →
             EachImage (R.disk rack.new) (R.disk rack.old).moment (LogsBeforeOrWithAll self.now.file bodies self.now.staged) }
         ensures others { Told (R.disk rack.old) → OthersAsBefore self.now.file (R.disk rack.old) (R.disk rack.new) }
-        ensures tells { (R.disk rack.new).tells ≡ (R.disk rack.old).tells }
-        ensures cause { HasCause (R.faults rack.old) (R.faults rack.new) result }
+        ensures rack { LeavesRack R.disk R.faults rack.old rack.new (IsErr result) }
         ensures quiet { OnOk result (R.faults rack.new ≡ R.faults rack.old) }
     {
         write(rack, self.file, self.end, &[1])
@@ -240,11 +227,9 @@ impl Log {
         ensures any_moment { Told (R.disk rack.old) → (bodies : List (List ℕ)) → StandsFor self.old bodies (R.disk rack.old) →
             EachImage (R.disk rack.new) (R.disk rack.old).moment (LogsBeforeOrWithAll self.old.file bodies self.old.staged) }
         ensures others { Told (R.disk rack.old) → OthersAsBefore self.old.file (R.disk rack.old) (R.disk rack.new) }
-        ensures ok { OnOk result (self.new ≡ with_staged self.old) }
-        ensures last { OnOk result (CanRetract self.new) }
+        ensures ok { OnOk result ((self.new ≡ with_staged self.old) × CanRetract self.new) }
         ensures err { OnErr result (self.new ≡ self.old) }
-        ensures tells { (R.disk rack.new).tells ≡ (R.disk rack.old).tells }
-        ensures cause { HasCause (R.faults rack.old) (R.faults rack.new) result }
+        ensures rack { LeavesRack R.disk R.faults rack.old rack.new (IsErr result) }
         ensures quiet { OnOk result (R.faults rack.new ≡ R.faults rack.old) }
     {
         let _ = &self.file;
@@ -266,8 +251,7 @@ impl Log {
         ensures any_moment { Told (R.disk rack.old) → (bodies : List (List ℕ)) → StandsFor self.now bodies (R.disk rack.old) →
             EachImage (R.disk rack.new) (R.disk rack.old).moment (Logs self.now.file bodies) }
         ensures others { Told (R.disk rack.old) → OthersAsBefore self.now.file (R.disk rack.old) (R.disk rack.new) }
-        ensures tells { (R.disk rack.new).tells ≡ (R.disk rack.old).tells }
-        ensures cause { HasCause (R.faults rack.old) (R.faults rack.new) result }
+        ensures rack { LeavesRack R.disk R.faults rack.old rack.new (IsErr result) }
         ensures quiet { OnOk result (R.faults rack.new ≡ R.faults rack.old) }
     {
         self.write_staged(rack)?;
@@ -284,8 +268,7 @@ impl Log {
         ensures any_moment { Told (R.disk rack.old) → (bodies : List (List ℕ)) → AreOnDisk self.now bodies (R.disk rack.old) →
             EachImage (R.disk rack.new) (R.disk rack.old).moment (LogsBeforeOrWithAll self.now.file bodies self.now.staged) }
         ensures others { Told (R.disk rack.old) → OthersAsBefore self.now.file (R.disk rack.old) (R.disk rack.new) }
-        ensures tells { (R.disk rack.new).tells ≡ (R.disk rack.old).tells }
-        ensures cause { HasCause (R.faults rack.old) (R.faults rack.new) result }
+        ensures rack { LeavesRack R.disk R.faults rack.old rack.new (IsErr result) }
         ensures quiet { OnOk result (R.faults rack.new ≡ R.faults rack.old) }
     {
         self.open_gate(rack)?;
@@ -314,8 +297,7 @@ impl Log {
             ((self.new.file ≡ self.old.file) × (self.new.count + 1 ≡ self.old.count) × (self.new.last ≡ None)) }
         ensures unstaged { OnOk result (self.new.staged ≡ []) }
         ensures err { OnErr result (self.new ≡ self.old) }
-        ensures tells { (R.disk rack.new).tells ≡ (R.disk rack.old).tells }
-        ensures cause { HasCause (R.faults rack.old) (R.faults rack.new) result }
+        ensures rack { LeavesRack R.disk R.faults rack.old rack.new (IsErr result) }
     {
         let Some(size) = self.last else {
             unreachable!();

@@ -30,8 +30,8 @@ AddsGroup ops h after group = (q : ℕ) → effects ops after q ≡ effects ops 
 -- Where the effects of a group are prepared behind settled stores, the books come to the effects of the history with the group too,
 -- which has each that is in doubt,
 abbrev pub GroupsComeTo : Type 0 → Type 0
-GroupsComeTo B = (ops : List Op) (h after : History) (group : List (Option Effect)) (old new : List (Opened B)) → AddsGroup ops h after group
-    → AreSettled ops h old → BecomeEach (λ q s t. IsPrepared (effect_for group q) s t) old new
+GroupsComeTo B = (ops : List Op) (h after : History) (group : List (Option Effect)) (old new : List (Opened B))
+    → AddsGroup ops h after group → AreSettled ops h old → BecomeEach (λ q s t. IsPrepared (effect_for group q) s t) old new
     → ComeTo ops after new × HasEachDoubt ops after new
 
 -- and once they are committed, the stores are settled for that history.

@@ -1,5 +1,5 @@
 -- What nine files are seen as, and for which history they stand.
-use Rattle.std.specs.Prelude.{◌≡◌, ℕ, ◌+◌, Bool, true, List, [], ◌∷◌, ◌++◌, length, Option, Some, None, IfSome, slice_set}
+use Rattle.std.specs.Prelude.{◌≡◌, ◌↔◌, ◌⊎◌, ℕ, ◌+◌, Bool, true, List, [], ◌∷◌, ◌++◌, length, Option, Some, None, IfSome, slice_set}
 use Rattle.std.specs.Prelude.{if◌then◌else◌}
 use Rattle.std.specs.List.{slice_get}
 use Rattle.process_disk.specs.Disk.{Disk}
@@ -10,11 +10,15 @@ use Rattle.schedule_model.specs.declared.history.History.{History}
 use Rattle.commute_table.specs.declared.catalog.Catalog.{Catalog}
 use Rattle.commute_table.specs.declared.op.Op.{Op}
 use Rattle.subsystem_store.specs.declared.effect.Effect.{Effect}
+use Rattle.subsystem_store.specs.declared.errors.Prepare.{Prepare}
+use Rattle.subsystem_store.specs.declared.errors.Prepare.TheVariants.{Prepared, Barred, DiskFault as PrepareFault}
+use Rattle.subsystem_store.specs.declared.errors.Prepare.TheVariants.{NoMemory as PrepareMemory}
+use Rattle.subsystem_store.specs.Answers.{doubt_after}
 use Rattle.subsystem_store.specs.Laws.{IsGoodBook}
 use Rattle.subsystem_store.specs.Opened.{Opened, Fits, account_of, Stands}
 use Rattle.process_journal.specs.Opened.{Stands as JournalStands}
 use Rattle.history_files.specs.Effects.{effects}
-use Rattle.history_files.specs.Sound.{kind_of, counted, is_among}
+use Rattle.history_files.specs.Sound.{kind_of, counted, is_among, is_barred}
 
 -- What the files are seen as: their rack, the journal, and the stores of the subsystems in order.
 pub record FilesState (R B : Type 0) : Type 0 where
@@ -80,3 +84,24 @@ pub record Stand {B : Type 0} (c : Catalog) (h : History) (log : LogState) (all 
   pub stores : AtEach (λ q s. Stands s disk) all
   pub good : AreGoodBooks all
   pub books : ComeTo c.ops h all
+
+-- Files in which nothing has happened: no store has an effect, each box fits the book of its store, and the journal has the one
+-- record of its catalog.
+pub record AreNewFiles {R B : Type 0} (meaning : B → Pairs) (sort : B → Kind) (f : FilesState R B) : Type 0 where
+  pub unused : AtEach (λ q s. (s.book ≡ []) × (s.doubt ≡ None)) f.stores
+  pub fits : EachFits meaning sort f.stores
+  pub good : AreGoodBooks f.stores
+  pub count : f.journal.count ≡ 1
+
+-- What a prepare answers: the effect is barred exactly where the values of its store bar it; an undo never is, nor does it want
+-- memory.
+pub record AnswersPrepare {B : Type 0} (q : ℕ) (effect : Effect) (stores : List (Opened B)) (result : Prepare) : Type 0 where
+  pub barred : (s : Opened B) → slice_get stores q ≡ Some s → (result ≡ Barred) ↔ (is_barred s.kind s.book effect ≡ true)
+  pub undo : effect.undo ≡ true → (result ≡ Prepared) ⊎ (result ≡ PrepareFault)
+
+-- What it leaves of the files: the effect is in doubt in its store where it is prepared, the rest is as before, and where it is
+-- barred, or wants memory, the rack is too.
+pub record IsLeftByPrepare {R B : Type 0} (q : ℕ) (effect : Effect) (old new : FilesState R B) (result : Prepare) : Type 0 where
+  pub journal : new.journal ≡ old.journal
+  pub changes : Changes q (Doubts (doubt_after result effect)) old.stores new.stores
+  pub untouched : ((result ≡ Barred) ⊎ (result ≡ PrepareMemory)) → new.rack ≡ old.rack

@@ -1,9 +1,9 @@
 // An effect in doubt is committed where the history has it, and taken back where it lacks it.
-ghost use Rattle.std.specs.Prelude.{◌≡◌, ◌<◌, Some, None, OnOk, OnErr, IsSome};
+ghost use Rattle.std.specs.Prelude.{◌≡◌, ◌<◌, Some, None, OnOk, OnErr, IsErr, IsSome};
 ghost use Rattle.std.specs.List.{slice_get};
-ghost use Rattle.process_flow.specs.Causes.{HasCause};
 ghost use Rattle.process_disk.specs.Disk.{Told};
-ghost use Rattle.process_disk.specs.Images.{EachImage, ImagesFollow, OthersAsBefore};
+ghost use Rattle.process_disk.specs.Racks.{LeavesRack, LeavesImages};
+ghost use Rattle.process_disk.specs.Images.{EachImage, OthersAsBefore};
 ghost use Rattle.schedule_model.specs.declared.history.History.{History};
 ghost use Rattle.commute_table.specs.declared.catalog.Catalog.{Catalog};
 ghost use Rattle.subsystem_store.specs.declared.effect.Effect.{Effect};
@@ -28,14 +28,14 @@ fn end_in_store<R: Rack, B: Resource>(
     requires stands { Told (R.disk rack.old) → Stands store.old (R.disk rack.old) }
     ensures acknowledged { Told (R.disk rack.old) → OnOk result (Stands store.new (R.disk rack.new)) }
     ensures any_moment { Told (R.disk rack.old) → (e : Effect) → store.old.doubt ≡ Some e →
-        EachImage (R.disk rack.new) (R.disk rack.old).moment (IsStoreOfEither store.old.log.file (store.old.book, Some e) (book_after recorded store.old.book e, None)) }
+        EachImage (R.disk rack.new) (R.disk rack.old).moment
+        (IsStoreOfEither store.old.log.file (store.old.book, Some e) (book_after recorded store.old.book e, None)) }
     ensures fits { Fits B.meaning B.sort (account_of store.new) }
     ensures ok { OnOk result (EndsDoubt recorded store.old store.new) }
     ensures err { OnErr result ((store.new.book ≡ store.old.book) × (store.new.doubt ≡ store.old.doubt)) }
     ensures same { (store.new.log.file ≡ store.old.log.file) × (store.new.kind ≡ store.old.kind) }
     ensures others { Told (R.disk rack.old) → OthersAsBefore store.old.log.file (R.disk rack.old) (R.disk rack.new) }
-    ensures tells { (R.disk rack.new).tells ≡ (R.disk rack.old).tells }
-    ensures cause { HasCause (R.faults rack.old) (R.faults rack.new) result }
+    ensures rack { LeavesRack R.disk R.faults rack.old rack.new (IsErr result) }
 {
     if recorded {
         store.commit(rack)
@@ -55,17 +55,17 @@ impl<R: Rack + Drop, B: Resource> Files<R, B> {
             × Stand c h self.old.journal self.old.stores (R.disk self.old.rack) }
         ensures acknowledged { Told (R.disk self.old.rack) → (c : Catalog) (h : History)
             → Stand c h self.old.journal self.old.stores (R.disk self.old.rack) →
-            DoubtIs recorded c.ops h q self.old.stores → OnOk result (Stand c h self.new.journal self.new.stores (R.disk self.new.rack)) }
+            DoubtIs recorded c.ops h q self.old.stores →
+            OnOk result (Stand c h self.new.journal self.new.stores (R.disk self.new.rack)) }
         ensures any_moment { Told (R.disk self.old.rack) → (c : Catalog) (h : History)
             → Stand c h self.old.journal self.old.stores (R.disk self.old.rack) →
-            DoubtIs recorded c.ops h q self.old.stores → EachImage (R.disk self.new.rack) (R.disk self.old.rack).moment (IsSound c h) }
-        ensures follow { Told (R.disk self.old.rack) → ImagesFollow (R.disk self.old.rack) (R.disk self.new.rack) }
+            DoubtIs recorded c.ops h q self.old.stores →
+            EachImage (R.disk self.new.rack) (R.disk self.old.rack).moment (IsSound c h) }
         ensures fits { EachFits B.meaning B.sort self.new.stores }
         ensures good { AreGoodBooks self.old.stores → AreGoodBooks self.new.stores }
         ensures journal { self.new.journal ≡ self.old.journal }
         ensures ok { OnOk result (Changes q (EndsDoubt recorded) self.old.stores self.new.stores) }
-        ensures tells { (R.disk self.new.rack).tells ≡ (R.disk self.old.rack).tells }
-        ensures cause { HasCause (R.faults self.old.rack) (R.faults self.new.rack) result }
+        ensures rack { LeavesImages R.disk R.faults self.old.rack self.new.rack (IsErr result) }
     {
         calls_make_good_books();
         end_in_store(&mut self.stores[usize::from(q)], &mut self.rack, recorded)

@@ -31,7 +31,8 @@ impl<R: Rack + Drop, B: Drop> Model for Files<R, B> {
 
     ghost view = { λ f. record { rack = f.rack; journal = f.journal; stores = f.stores.items } };
 
-    ghost invariant = { λ f. AreStores f.stores.items × (f.journal.file ≡ 0) × (f.emptied.items ≡ []) × (8 ≤ vec_capacity f.emptied) };
+    ghost invariant = { λ f. AreStores f.stores.items × (f.journal.file ≡ 0)
+        × (f.emptied.items ≡ []) × (8 ≤ vec_capacity f.emptied) };
 }
 
 impl<R: Rack + Drop, B: Drop> Files<R, B> {

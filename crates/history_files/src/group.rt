@@ -1,8 +1,8 @@
 // The steps of several events at once: prepared, recorded, committed.
-ghost use Rattle.std.specs.Prelude.{◌≢◌, ◌≤◌, ◌≡◌, ◌<◌, ◌+◌, [], List, length, map, OnOk, OnErr};
-ghost use Rattle.process_flow.specs.Causes.{HasCause};
+ghost use Rattle.std.specs.Prelude.{◌≢◌, ◌≤◌, ◌≡◌, ◌<◌, ◌+◌, [], List, length, map, OnOk, OnErr, IsErr};
 ghost use Rattle.process_disk.specs.Disk.{Told};
-ghost use Rattle.process_disk.specs.Images.{EachImage, ImagesFollow};
+ghost use Rattle.process_disk.specs.Racks.{LeavesImages};
+ghost use Rattle.process_disk.specs.Images.{EachImage};
 ghost use Rattle.gate_log.specs.LogFile.{records_size};
 ghost use Rattle.gate_log.specs.Staging.{staging, unstaged, with_staged};
 ghost use Rattle.schedule_model.specs.declared.history.History.{History};
@@ -13,7 +13,7 @@ ghost use Rattle.process_journal.specs.Journals.{AreMadeBy};
 ghost use Rattle.process_journal.specs.Opened.{GoesOnStaged};
 ghost use Rattle.history_files.specs.Sound.{IsSound, IsSoundForEither};
 ghost use Rattle.history_files.specs.Standing.{Stand, ComeTo, EachFits, AreGoodBooks};
-ghost use Rattle.store_group.specs.Events.{BecomeEach, IsPrepared, IsCommitted, MayPrepareEach, effect_for};
+ghost use Rattle.store_group.specs.Events.{BecomeEach, IsUnchanged, IsPrepared, IsCommitted, MayPrepareEach, effect_for};
 ghost use Rattle.history_files.specs.Groups.{FitEach, LacksEach, HasEachDoubt};
 
 use crate::Files;
@@ -39,13 +39,12 @@ impl<R: Rack + Drop, B: Resource> Files<R, B> {
         ensures any_moment { Told (R.disk self.old.rack) → (c : Catalog) (h : History)
             → Stand c h self.old.journal self.old.stores (R.disk self.old.rack) →
             LacksEach c.ops h group.now → EachImage (R.disk self.new.rack) (R.disk self.old.rack).moment (IsSound c h) }
-        ensures follow { Told (R.disk self.old.rack) → ImagesFollow (R.disk self.old.rack) (R.disk self.new.rack) }
         ensures fits { EachFits B.meaning B.sort self.new.stores }
         ensures good { AreGoodBooks self.old.stores → AreGoodBooks self.new.stores }
         ensures journal { self.new.journal ≡ self.old.journal }
         ensures ok { OnOk result (BecomeEach (λ q s t. IsPrepared (effect_for group.now q) s t) self.old.stores self.new.stores) }
-        ensures tells { (R.disk self.new.rack).tells ≡ (R.disk self.old.rack).tells }
-        ensures cause { HasCause (R.faults self.old.rack) (R.faults self.new.rack) result }
+        ensures err { OnErr result (BecomeEach (λ q s t. IsUnchanged s t) self.old.stores self.new.stores) }
+        ensures rack { LeavesImages R.disk R.faults self.old.rack self.new.rack (IsErr result) }
     {
         calls_make_good_books();
         prepare_each(&mut self.stores, &mut self.rack, group)
@@ -63,13 +62,12 @@ impl<R: Rack + Drop, B: Resource> Files<R, B> {
         ensures any_moment { Told (R.disk self.old.rack) → (c : Catalog) (h : History)
             → Stand c h self.old.journal self.old.stores (R.disk self.old.rack) →
             HasEachDoubt c.ops h self.old.stores → EachImage (R.disk self.new.rack) (R.disk self.old.rack).moment (IsSound c h) }
-        ensures follow { Told (R.disk self.old.rack) → ImagesFollow (R.disk self.old.rack) (R.disk self.new.rack) }
         ensures fits { EachFits B.meaning B.sort self.new.stores }
         ensures good { AreGoodBooks self.old.stores → AreGoodBooks self.new.stores }
         ensures journal { self.new.journal ≡ self.old.journal }
         ensures ok { OnOk result (BecomeEach (λ q s t. IsCommitted s t) self.old.stores self.new.stores) }
-        ensures tells { (R.disk self.new.rack).tells ≡ (R.disk self.old.rack).tells }
-        ensures cause { HasCause (R.faults self.old.rack) (R.faults self.new.rack) result }
+        ensures err { OnErr result (BecomeEach (λ q s t. IsUnchanged s t) self.old.stores self.new.stores) }
+        ensures rack { LeavesImages R.disk R.faults self.old.rack self.new.rack (IsErr result) }
     {
         calls_make_good_books();
         commit_each(&mut self.stores, &mut self.rack)
@@ -105,12 +103,10 @@ impl<R: Rack + Drop, B: Resource> Files<R, B> {
             → Stand c h self.old.journal self.old.stores (R.disk self.old.rack) →
             self.old.journal.staged ≡ map bytes_of rs → AreMadeBy c rs h after → ComeTo c.ops after self.old.stores →
             EachImage (R.disk self.new.rack) (R.disk self.old.rack).moment (IsSoundForEither c h after) }
-        ensures follow { Told (R.disk self.old.rack) → ImagesFollow (R.disk self.old.rack) (R.disk self.new.rack) }
         ensures same { self.new.stores ≡ self.old.stores }
         ensures ok { OnOk result (self.new.journal ≡ with_staged self.old.journal) }
         ensures err { OnErr result (self.new.journal ≡ self.old.journal) }
-        ensures tells { (R.disk self.new.rack).tells ≡ (R.disk self.old.rack).tells }
-        ensures cause { HasCause (R.faults self.old.rack) (R.faults self.new.rack) result }
+        ensures rack { LeavesImages R.disk R.faults self.old.rack self.new.rack (IsErr result) }
     {
         self.journal.append_staged(&mut self.rack)
     }

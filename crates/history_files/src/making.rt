@@ -1,11 +1,11 @@
 // The stores of empty files.
-ghost use Rattle.std.specs.Prelude.{◌≡◌, ◌≢◌, ◌<◌, ◌≤◌, [], ℕ, List, None, IfOk, IfErr, OnOk, OnErr, vec_capacity};
+ghost use Rattle.std.specs.Prelude.{◌≡◌, ◌≢◌, ◌<◌, ◌≤◌, [], ℕ, List, None, IfOk, IfErr, IsErrOf, vec_capacity};
 ghost use Rattle.process_flow.specs.Causes.{Rose};
 ghost use Rattle.process_disk.specs.Disk.{Told, file_of};
-ghost use Rattle.process_disk.specs.Images.{ImagesFollow};
+ghost use Rattle.process_disk.specs.Racks.{LeavesImages};
 ghost use Rattle.gate_log.specs.Standing.{LogState, StandsFor};
 ghost use Rattle.subsystem_store.specs.Opened.{Stands};
-ghost use Rattle.history_files.specs.Boxes.{AreBoxes, AreEmpty, AreParted};
+ghost use Rattle.history_files.specs.Boxes.{AreInStores, AreParted};
 ghost use Rattle.history_files.specs.Standing.{AtEach, AreStores, EachFits};
 ghost use Rattle.history_files.specs.declared.faults.CreateError.TheVariants.{DiskFault as Fault, NoMemory};
 
@@ -32,14 +32,10 @@ pub fn make_stores<R: Rack, B: Resource>(
     ensures unused { IfOk result (λ ss. AtEach (λ q s. (s.book ≡ []) × (s.doubt ≡ None)) ss.items) }
     ensures stand { Told (R.disk rack.old) → IfOk result (λ ss. AtEach (λ q s. Stands s (R.disk rack.new)) ss.items) }
     ensures fits { IfOk result (λ ss. EachFits B.meaning B.sort ss.items) }
-    ensures emptied { OnOk result (boxes.new.items ≡ []) }
-    ensures back { OnErr result (AreBoxes B.sort boxes.new.items × AreEmpty B.meaning boxes.new.items) }
-    ensures room { 8 ≤ vec_capacity boxes.new }
+    ensures boxes { AreInStores B.meaning B.sort boxes.new result }
     ensures journal { Told (R.disk rack.old) → (log : LogState) (bodies : List (List ℕ)) → log.file ≡ 0
         → StandsFor log bodies (R.disk rack.old) → StandsFor log bodies (R.disk rack.new) }
-    ensures follow { Told (R.disk rack.old) → ImagesFollow (R.disk rack.old) (R.disk rack.new) }
-    ensures tells { (R.disk rack.new).tells ≡ (R.disk rack.old).tells }
-    ensures later { R.faults rack.old ≤ R.faults rack.new }
+    ensures rack { LeavesImages R.disk R.faults rack.old rack.new (IsErrOf result Fault) }
     ensures refused { IfErr result (λ e. e ≢ NoMemory → (e ≡ Fault) × Rose (R.faults rack.old) (R.faults rack.new)) }
 {
     let mut stores = stores;

@@ -1,21 +1,20 @@
 // The steps of one event over the journal and a store: prepared, recorded, committed.
-ghost use Rattle.std.specs.Prelude.{◌≢◌, ◌⊎◌, ◌↔◌, ◌≤◌, ◌≡◌, ◌<◌, ◌+◌, ◌^◌, length, Some, None, true, false, OnOk, OnErr};
+ghost use Rattle.std.specs.Prelude.{◌≢◌, ◌≡◌, ◌<◌, ◌+◌, ◌^◌, length, Some, None, true, false, OnOk, OnErr, IsErr};
 ghost use Rattle.std.specs.List.{slice_get};
-ghost use Rattle.process_flow.specs.Causes.{Rose, HasCause};
 ghost use Rattle.process_disk.specs.Disk.{Told};
-ghost use Rattle.process_disk.specs.Images.{EachImage, ImagesFollow};
+ghost use Rattle.process_disk.specs.Racks.{LeavesImages};
+ghost use Rattle.process_disk.specs.Images.{EachImage};
 ghost use Rattle.schedule_model.specs.declared.history.History.{History};
 ghost use Rattle.commute_table.specs.declared.catalog.Catalog.{Catalog};
 ghost use Rattle.journal_records.specs.Bytes.{bytes_of};
-ghost use Rattle.subsystem_store.specs.Answers.{doubt_after};
 ghost use Rattle.subsystem_store.specs.Bodies.{is_amount};
 ghost use Rattle.subsystem_store.specs.Order.{may_follow};
 ghost use Rattle.subsystem_store.specs.Opened.{Opened};
 ghost use Rattle.history_files.specs.Effects.{effects};
 ghost use Rattle.process_journal.specs.Journals.{IsHistoryUnder, IsMadeBy};
 ghost use Rattle.process_journal.specs.Opened.{GoesOn};
-ghost use Rattle.history_files.specs.Sound.{IsSound, IsSoundForEither, is_among, is_barred};
-ghost use Rattle.history_files.specs.Standing.{Stand, EachFits, AreGoodBooks, Doubts, Changes, ComeTo};
+ghost use Rattle.history_files.specs.Sound.{IsSound, IsSoundForEither, is_among};
+ghost use Rattle.history_files.specs.Standing.{Stand, EachFits, AreGoodBooks, AnswersPrepare, IsLeftByPrepare, ComeTo};
 
 use crate::Files;
 use gate_log::DiskFault;
@@ -36,22 +35,17 @@ impl<R: Rack + Drop, B: Resource> Files<R, B> {
             × Stand c h self.old.journal self.old.stores (R.disk self.old.rack) }
         ensures acknowledged { Told (R.disk self.old.rack) → (c : Catalog) (h : History)
             → Stand c h self.old.journal self.old.stores (R.disk self.old.rack) →
-            is_among effect (effects c.ops h q) ≡ false → result ≢ Prepare.DiskFault → Stand c h self.new.journal self.new.stores (R.disk self.new.rack) }
+            is_among effect (effects c.ops h q) ≡ false → result ≢ Prepare.DiskFault →
+            Stand c h self.new.journal self.new.stores (R.disk self.new.rack) }
         ensures any_moment { Told (R.disk self.old.rack) → (c : Catalog) (h : History)
             → Stand c h self.old.journal self.old.stores (R.disk self.old.rack) →
-            is_among effect (effects c.ops h q) ≡ false → EachImage (R.disk self.new.rack) (R.disk self.old.rack).moment (IsSound c h) }
-        ensures follow { Told (R.disk self.old.rack) → ImagesFollow (R.disk self.old.rack) (R.disk self.new.rack) }
+            is_among effect (effects c.ops h q) ≡ false →
+            EachImage (R.disk self.new.rack) (R.disk self.old.rack).moment (IsSound c h) }
         ensures fits { EachFits B.meaning B.sort self.new.stores }
         ensures good { AreGoodBooks self.old.stores → AreGoodBooks self.new.stores }
-        ensures journal { self.new.journal ≡ self.old.journal }
-        ensures changes { Changes q (Doubts (doubt_after result effect)) self.old.stores self.new.stores }
-        ensures barred { (s : Opened B) → slice_get self.old.stores q ≡ Some s
-            → (result ≡ Prepare.Barred) ↔ (is_barred s.kind s.book effect ≡ true) }
-        ensures undo { effect.undo ≡ true → (result ≡ Prepare.Prepared) ⊎ (result ≡ Prepare.DiskFault) }
-        ensures untouched { ((result ≡ Prepare.Barred) ⊎ (result ≡ Prepare.NoMemory)) → self.new.rack ≡ self.old.rack }
-        ensures tells { (R.disk self.new.rack).tells ≡ (R.disk self.old.rack).tells }
-        ensures later { R.faults self.old.rack ≤ R.faults self.new.rack }
-        ensures fault { result ≡ Prepare.DiskFault → Rose (R.faults self.old.rack) (R.faults self.new.rack) }
+        ensures answer { AnswersPrepare q effect self.old.stores result }
+        ensures left { IsLeftByPrepare q effect self.old self.new result }
+        ensures rack { LeavesImages R.disk R.faults self.old.rack self.new.rack (result ≡ Prepare.DiskFault) }
     {
         calls_make_good_books();
         effects_fit_their_bytes(effect);
@@ -71,12 +65,10 @@ impl<R: Rack + Drop, B: Resource> Files<R, B> {
             → Stand c h self.old.journal self.old.stores (R.disk self.old.rack) →
             IsMadeBy c entry.now h after → IsHistoryUnder c after → ComeTo c.ops after self.old.stores →
             EachImage (R.disk self.new.rack) (R.disk self.old.rack).moment (IsSoundForEither c h after) }
-        ensures follow { Told (R.disk self.old.rack) → ImagesFollow (R.disk self.old.rack) (R.disk self.new.rack) }
         ensures same { self.new.stores ≡ self.old.stores }
         ensures ok { OnOk result (self.new.journal.count ≡ self.old.journal.count + 1) }
         ensures err { OnErr result (self.new.journal ≡ self.old.journal) }
-        ensures tells { (R.disk self.new.rack).tells ≡ (R.disk self.old.rack).tells }
-        ensures cause { HasCause (R.faults self.old.rack) (R.faults self.new.rack) result }
+        ensures rack { LeavesImages R.disk R.faults self.old.rack self.new.rack (IsErr result) }
     {
         self.journal.append(&mut self.rack, entry)
     }

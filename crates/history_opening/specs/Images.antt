@@ -17,6 +17,11 @@ pub record BecomesSound (c : Catalog) (h : History) (old new : Disk) : Type 0 wh
   pub before : (files : FileSet) → new.left_since old.moment files → old.may_leave files ⊎ new.left_since moment files
   pub each : EachImage new moment (IsSound c h)
 
+-- Files that read as those of this history became sound for it.
+pub record FoundSound (c : Catalog) (h : History) (old new : Disk) : Type 0 where
+  pub sound : IsSound c h old.files
+  pub becomes : BecomesSound c h old new
+
 -- Files that read as those of a history became sound for it.
 pub record BeganToSettle (old new : Disk) : Type 0 where
   pub catalog : Catalog

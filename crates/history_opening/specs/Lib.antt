@@ -2,4 +2,5 @@ pub mod Comparing
 pub mod Images
 pub mod Laws
 pub mod Opening
+pub mod Reading
 pub mod Settling

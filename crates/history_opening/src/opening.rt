@@ -1,16 +1,15 @@
 // Files that are opened for the history of their journal.
-ghost use Rattle.std.specs.Prelude.{◌≡◌, ◌≤◌, [], length, IfOk, IfErr, OnOk, vec_capacity};
-ghost use Rattle.process_flow.specs.Causes.{Rose};
+ghost use Rattle.std.specs.Prelude.{◌≡◌, ◌≤◌, length, IfOk, IfErr, IsErrOf, vec_capacity};
 ghost use Rattle.process_disk.specs.Disk.{Told};
-ghost use Rattle.process_disk.specs.Images.{AllAsBefore, ImagesFollow};
+ghost use Rattle.process_disk.specs.Racks.{LeavesRack, LeavesImages};
+ghost use Rattle.process_disk.specs.Images.{AllAsBefore};
 ghost use Rattle.process_journal.specs.Bodies.{journal_bodies};
 ghost use Rattle.process_journal.specs.Journals.{IsHistoryUnder};
-ghost use Rattle.history_files.specs.Boxes.{AreBoxes, AreEmpty};
-ghost use Rattle.history_files.specs.Laws.{AreSettled};
-ghost use Rattle.history_files.specs.Sound.{IsSound};
-ghost use Rattle.history_files.specs.Standing.{AreStores, AreGoodBooks, ComeTo, EachFits, Stand};
-ghost use Rattle.history_opening.specs.Images.{BecomesSound, LeftByRefusal};
+ghost use Rattle.history_files.specs.Boxes.{AreBoxes, AreEmpty, AreInStores};
+ghost use Rattle.history_files.specs.Standing.{ComeTo, EachFits, Stand};
+ghost use Rattle.history_opening.specs.Images.{FoundSound, LeftByRefusal};
 ghost use Rattle.history_opening.specs.Opening.{IsDueToOpening};
+ghost use Rattle.history_opening.specs.Reading.{AreOpenFiles, AreOpenStores};
 ghost use Rattle.history_opening.specs.declared.faults.OpenError.TheVariants.{DiskFault as Fault};
 
 use crate::comparing::books_difference;
@@ -35,20 +34,14 @@ fn read_sound<R: Rack, B: Resource>(
     ensures journal { IfOk result
         (λ r. (r.journal.file ≡ 0) × (r.journal.count ≡ length (journal_bodies r.catalog r.history))
         × IsHistoryUnder r.catalog r.history) }
-    ensures stores { IfOk result (λ r. AreStores r.stores.items) }
+    ensures stores { IfOk result (λ r. AreOpenStores B.meaning B.sort r.stores.items) }
     ensures stand { Told (R.disk rack.old) → IfOk result
         (λ r. Stand r.catalog r.history r.journal r.stores.items (R.disk rack.new)) }
     ensures come { IfOk result (λ r. ComeTo r.catalog.ops r.history r.stores.items) }
-    ensures good { IfOk result (λ r. AreGoodBooks r.stores.items) }
-    ensures fits { IfOk result (λ r. EachFits B.meaning B.sort r.stores.items) }
-    ensures emptied { OnOk result (boxes.new.items ≡ []) }
-    ensures back { IfErr result (λ e. AreBoxes B.sort boxes.new.items × AreEmpty B.meaning boxes.new.items) }
-    ensures room { 8 ≤ vec_capacity boxes.new }
+    ensures boxes { AreInStores B.meaning B.sort boxes.new result }
     ensures all { Told (R.disk rack.old) → AllAsBefore (R.disk rack.old) (R.disk rack.new) }
     ensures due { Told (R.disk rack.old) → IfErr result (IsDueToOpening (R.disk rack.old).files) }
-    ensures tells { (R.disk rack.new).tells ≡ (R.disk rack.old).tells }
-    ensures later { R.faults rack.old ≤ R.faults rack.new }
-    ensures fault { IfErr result (λ e. e ≡ Fault → Rose (R.faults rack.old) (R.faults rack.new)) }
+    ensures rack { LeavesRack R.disk R.faults rack.old rack.new (IsErrOf result Fault) }
 {
     let read = match read_files(alloc, rack, boxes) {
         Ok(read) => read,
@@ -88,23 +81,13 @@ pub fn open_files<R: Rack + Drop, B: Resource>(
 ) -> Result<(Files<R, B>, Catalog, History), OpenRefused<R, B>>
     requires boxes { AreBoxes B.sort parts.resources.items }
     ensures stand { Told (R.disk parts.rack) → IfOk result (λ o. Stand o.1 o.2 o.0.journal o.0.stores (R.disk o.0.rack)) }
-    ensures settled { IfOk result (λ o. AreSettled o.1.ops o.2 o.0.stores) }
-    ensures good { IfOk result (λ o. AreGoodBooks o.0.stores) }
-    ensures fits { IfOk result (λ o. EachFits B.meaning B.sort o.0.stores) }
-    ensures history { IfOk result (λ o. IsHistoryUnder o.1 o.2) }
-    ensures count { IfOk result (λ o. o.0.journal.count ≡ length (journal_bodies o.1 o.2)) }
-    ensures sound { Told (R.disk parts.rack) → IfOk result (λ o. IsSound o.1 o.2 (R.disk parts.rack).files) }
-    ensures any_moment { Told (R.disk parts.rack) → IfOk result (λ o. BecomesSound o.1 o.2 (R.disk parts.rack) (R.disk o.0.rack)) }
+    ensures opened { IfOk result (λ o. AreOpenFiles B.meaning B.sort o.1 o.2 o.0) }
+    ensures sound { Told (R.disk parts.rack) → IfOk result (λ o. FoundSound o.1 o.2 (R.disk parts.rack) (R.disk o.0.rack)) }
     ensures due { Told (R.disk parts.rack) → IfErr result (λ r. IsDueToOpening (R.disk parts.rack).files r.why) }
     ensures refused { Told (R.disk parts.rack) → IfErr result (λ r. LeftByRefusal r.why (R.disk parts.rack) (R.disk r.parts.rack)) }
     ensures back { IfErr result (λ r. AreBoxes B.sort r.parts.resources.items × AreEmpty B.meaning r.parts.resources.items) }
-    ensures follow { Told (R.disk parts.rack) → IfOk result (λ o. ImagesFollow (R.disk parts.rack) (R.disk o.0.rack)) }
-    ensures follow_back { Told (R.disk parts.rack) → IfErr result (λ r. ImagesFollow (R.disk parts.rack) (R.disk r.parts.rack)) }
-    ensures tells { IfOk result (λ o. (R.disk o.0.rack).tells ≡ (R.disk parts.rack).tells) }
-    ensures tells_back { IfErr result (λ r. (R.disk r.parts.rack).tells ≡ (R.disk parts.rack).tells) }
-    ensures later { IfOk result (λ o. R.faults parts.rack ≤ R.faults o.0.rack) }
-    ensures later_back { IfErr result (λ r. R.faults parts.rack ≤ R.faults r.parts.rack) }
-    ensures fault { IfErr result (λ r. r.why ≡ Fault → Rose (R.faults parts.rack) (R.faults r.parts.rack)) }
+    ensures rack { IfOk result (λ o. LeavesImages R.disk R.faults parts.rack o.0.rack ⊥) }
+    ensures rack_back { IfErr result (λ r. LeavesImages R.disk R.faults parts.rack r.parts.rack (r.why ≡ Fault)) }
 {
     let Parts { rack, resources } = parts;
     let mut rack = rack;

@@ -1,14 +1,14 @@
 // The stores of files as they are read.
-ghost use Rattle.std.specs.Prelude.{◌≡◌, ◌⊎◌, length, ◌≤◌, ◌+◌, [], Ok, IfOk, IfErr, OnOk, OnErr, vec_capacity};
-ghost use Rattle.process_flow.specs.Causes.{Rose};
+ghost use Rattle.std.specs.Prelude.{◌≡◌, ◌⊎◌, length, ◌≤◌, ◌+◌, [], Ok, IfOk, IfErr, IsErrOf, vec_capacity};
 ghost use Rattle.process_disk.specs.Disk.{Told};
+ghost use Rattle.process_disk.specs.Racks.{LeavesRack};
 ghost use Rattle.process_disk.specs.Images.{AllAsBefore};
 ghost use Rattle.subsystem_store.specs.Opened.{Stands};
 ghost use Rattle.process_journal.specs.Bodies.{journal_bodies};
 ghost use Rattle.process_journal.specs.Journals.{IsHistoryUnder};
-ghost use Rattle.process_journal.specs.Opened.{Stands as JournalStands};
-ghost use Rattle.history_files.specs.Boxes.{AreBoxes, AreEmpty, AreParted};
-ghost use Rattle.history_files.specs.Standing.{AtEach, AreGoodBooks, AreStores, EachFits};
+ghost use Rattle.history_files.specs.Boxes.{AreBoxes, AreEmpty, AreInStores, AreParted};
+ghost use Rattle.history_files.specs.Standing.{AtEach};
+ghost use Rattle.history_opening.specs.Reading.{AreOpenStores, StandAsRead};
 ghost use Rattle.history_opening.specs.Opening.{book_in, IsDueToStore, IsDueToReading};
 ghost use Rattle.history_opening.specs.declared.faults.OpenError.TheVariants.{DiskFault as Fault, NoMemory};
 
@@ -33,20 +33,14 @@ pub fn open_stores<R: Rack, B: Resource>(
     requires parted { AreParted B.sort [] boxes.old.items }
     requires room { 8 ≤ vec_capacity boxes.old }
     requires none { (stores.items ≡ []) × (8 ≤ vec_capacity stores) }
-    ensures stores { IfOk result (λ ss. AreStores ss.items) }
+    ensures stores { IfOk result (λ ss. AreOpenStores B.meaning B.sort ss.items) }
     ensures stand { Told (R.disk rack.old) → IfOk result (λ ss. AtEach (λ q s. Stands s (R.disk rack.new)) ss.items) }
     ensures read { Told (R.disk rack.old) → IfOk result
         (λ ss. AtEach (λ q s. book_in (R.disk rack.old).files q ≡ Ok (record { book = s.book; doubt = s.doubt })) ss.items) }
-    ensures fits { IfOk result (λ ss. EachFits B.meaning B.sort ss.items) }
-    ensures good { IfOk result (λ ss. AreGoodBooks ss.items) }
-    ensures emptied { OnOk result (boxes.new.items ≡ []) }
-    ensures back { OnErr result (AreBoxes B.sort boxes.new.items × AreEmpty B.meaning boxes.new.items) }
-    ensures room { 8 ≤ vec_capacity boxes.new }
+    ensures boxes { AreInStores B.meaning B.sort boxes.new result }
     ensures all { Told (R.disk rack.old) → AllAsBefore (R.disk rack.old) (R.disk rack.new) }
     ensures due { Told (R.disk rack.old) → IfErr result (IsDueToStore (R.disk rack.old).files) }
-    ensures tells { (R.disk rack.new).tells ≡ (R.disk rack.old).tells }
-    ensures later { R.faults rack.old ≤ R.faults rack.new }
-    ensures fault { IfErr result (λ e. e ≡ Fault → Rose (R.faults rack.old) (R.faults rack.new)) }
+    ensures rack { LeavesRack R.disk R.faults rack.old rack.new (IsErrOf result Fault) }
 {
     let mut stores = stores;
     while let Some(resource) = boxes.pop() {
@@ -83,22 +77,15 @@ pub fn read_files<R: Rack, B: Resource>(
     ensures journal { IfOk result
         (λ r. (r.journal.file ≡ 0) × (r.journal.count ≡ length (journal_bodies r.catalog r.history))
         × IsHistoryUnder r.catalog r.history) }
-    ensures journal_stands { Told (R.disk rack.old) → IfOk result
-        (λ r. JournalStands r.journal r.catalog r.history (R.disk rack.new)) }
-    ensures stores { IfOk result (λ r. AreStores r.stores.items) }
-    ensures stand { Told (R.disk rack.old) → IfOk result (λ r. AtEach (λ q s. Stands s (R.disk rack.new)) r.stores.items) }
+    ensures stores { IfOk result (λ r. AreOpenStores B.meaning B.sort r.stores.items) }
+    ensures stand { Told (R.disk rack.old) → IfOk result
+        (λ r. StandAsRead r.catalog r.history r.journal r.stores.items (R.disk rack.new)) }
     ensures read { Told (R.disk rack.old) → IfOk result
         (λ r. AtEach (λ q s. book_in (R.disk rack.old).files q ≡ Ok (record { book = s.book; doubt = s.doubt })) r.stores.items) }
-    ensures fits { IfOk result (λ r. EachFits B.meaning B.sort r.stores.items) }
-    ensures good { IfOk result (λ r. AreGoodBooks r.stores.items) }
-    ensures emptied { OnOk result (boxes.new.items ≡ []) }
-    ensures back { IfErr result (λ e. AreBoxes B.sort boxes.new.items × AreEmpty B.meaning boxes.new.items) }
-    ensures room { 8 ≤ vec_capacity boxes.new }
+    ensures boxes { AreInStores B.meaning B.sort boxes.new result }
     ensures all { Told (R.disk rack.old) → AllAsBefore (R.disk rack.old) (R.disk rack.new) }
     ensures due { Told (R.disk rack.old) → IfErr result (λ e. (e ≡ NoMemory) ⊎ IsDueToReading (R.disk rack.old).files e) }
-    ensures tells { (R.disk rack.new).tells ≡ (R.disk rack.old).tells }
-    ensures later { R.faults rack.old ≤ R.faults rack.new }
-    ensures fault { IfErr result (λ e. e ≡ Fault → Rose (R.faults rack.old) (R.faults rack.new)) }
+    ensures rack { LeavesRack R.disk R.faults rack.old rack.new (IsErrOf result Fault) }
 {
     let Ok(stores) = Vec::with_capacity(alloc, 8) else {
         return Err(OpenError::NoMemory);

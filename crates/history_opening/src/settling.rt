@@ -1,8 +1,8 @@
 // Effects in doubt that are settled by a history.
-ghost use Rattle.std.specs.Prelude.{◌≡◌, ◌<◌, ◌≤◌, ◌+◌, ◌^◌, length, OnOk, IsErr};
-ghost use Rattle.process_flow.specs.Causes.{Rose, HasCause};
+ghost use Rattle.std.specs.Prelude.{◌≡◌, ◌<◌, ◌+◌, ◌^◌, length, OnOk, IsErr};
 ghost use Rattle.process_disk.specs.Disk.{Told};
-ghost use Rattle.process_disk.specs.Images.{EachImage, ImagesFollow};
+ghost use Rattle.process_disk.specs.Racks.{LeavesImages};
+ghost use Rattle.process_disk.specs.Images.{EachImage};
 ghost use Rattle.schedule_model.specs.Histories.{acts};
 ghost use Rattle.history_files.specs.Effects.{effects};
 ghost use Rattle.history_files.specs.Laws.{AreSettled};
@@ -51,14 +51,12 @@ fn settle<R: Rack + Drop, B: Resource>(
         → OnOk result (Stand catalog.now history.now files.new.journal files.new.stores (R.disk files.new.rack)) }
     ensures any_moment { Told (R.disk files.old.rack)
         → EachImage (R.disk files.new.rack) (R.disk files.old.rack).moment (IsSound catalog.now history.now) }
-    ensures follow { Told (R.disk files.old.rack) → ImagesFollow (R.disk files.old.rack) (R.disk files.new.rack) }
     ensures come { OnOk result (ComeTo catalog.now.ops history.now files.new.stores) }
     ensures below { OnOk result (AreSettledBelow (q + 1) catalog.now.ops history.now files.new.stores) }
     ensures fits { EachFits B.meaning B.sort files.new.stores }
     ensures good { AreGoodBooks files.old.stores → AreGoodBooks files.new.stores }
     ensures journal { files.new.journal ≡ files.old.journal }
-    ensures tells { (R.disk files.new.rack).tells ≡ (R.disk files.old.rack).tells }
-    ensures cause { HasCause (R.faults files.old.rack) (R.faults files.new.rack) result }
+    ensures rack { LeavesImages R.disk R.faults files.old.rack files.new.rack (IsErr result) }
 {
     files.are_sound();
     let effect = match files.in_doubt(q) {
@@ -83,14 +81,11 @@ pub fn settle_all<R: Rack + Drop, B: Resource>(
         → OnOk result (Stand catalog.now history.now files.new.journal files.new.stores (R.disk files.new.rack)) }
     ensures any_moment { Told (R.disk files.old.rack)
         → EachImage (R.disk files.new.rack) (R.disk files.old.rack).moment (IsSound catalog.now history.now) }
-    ensures follow { Told (R.disk files.old.rack) → ImagesFollow (R.disk files.old.rack) (R.disk files.new.rack) }
     ensures settled { OnOk result (AreSettled catalog.now.ops history.now files.new.stores) }
     ensures fits { EachFits B.meaning B.sort files.new.stores }
     ensures good { AreGoodBooks files.old.stores → AreGoodBooks files.new.stores }
     ensures journal { files.new.journal ≡ files.old.journal }
-    ensures tells { (R.disk files.new.rack).tells ≡ (R.disk files.old.rack).tells }
-    ensures later { R.faults files.old.rack ≤ R.faults files.new.rack }
-    ensures cause { IsErr result → Rose (R.faults files.old.rack) (R.faults files.new.rack) }
+    ensures rack { LeavesImages R.disk R.faults files.old.rack files.new.rack (IsErr result) }
 {
     files.are_sound();
     let mut q = 0;

@@ -4,4 +4,5 @@ pub mod Images
 pub mod Memory
 pub mod MemoryLaws
 pub mod MemoryView
+pub mod Racks
 pub mod Stop

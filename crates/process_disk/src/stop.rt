@@ -26,7 +26,8 @@ impl MemoryRack {
         ensures files { let m = memory self.now in IfOk result (λ rack.
             memory rack ≡ fresh (left_by keep fill m.first (from_latest (is_within call) m.made)) []) }
         ensures image { let m = memory self.now in IfOk result (λ rack.
-            LeftSince m.first (from_latest (is_through call) m.made) (length (from_latest (is_before call) m.made)) (memory rack).first) }
+            LeftSince m.first (from_latest (is_through call) m.made)
+            (length (from_latest (is_before call) m.made)) (memory rack).first) }
     {
         let files = self.left_within(alloc, u64::from(call), u64::from(keep), fill)?;
         MemoryRack::holding(alloc, files, Vec::new(alloc))

@@ -1,8 +1,7 @@
 -- How a piece is finished.
-use Rattle.std.specs.Prelude.{◌≡◌, ◌≤◌, ◌⊎◌, ⊤, ℕ, Bool, true, false, length, if◌then◌else◌}
-use Rattle.process_flow.specs.Causes.{Rose}
+use Rattle.std.specs.Prelude.{◌≡◌, ◌⊎◌, ⊤, ℕ, Bool, true, false, length, if◌then◌else◌}
 use Rattle.process_disk.specs.Disk.{Disk, FileSet, Told}
-use Rattle.process_disk.specs.Images.{EachImage, ImagesFollow}
+use Rattle.process_disk.specs.Images.{EachImage}
 use Rattle.process_tree.specs.declared.play.Outcome.{Outcome}
 use Rattle.process_tree.specs.declared.play.Outcome.TheVariants.{Done as Succeeds, Refused as Fails}
 use Rattle.schedule_model.specs.declared.history.History.{History}
@@ -112,11 +111,3 @@ pub record Finishes {R B : Type 0} (disk : R → Disk) (old new : EngineState R 
   pub any_moment : Told (disk old.files.rack) → EachImage (disk new.files.rack) (disk old.files.rack).moment
       (MayLeave result old.catalog (full_history old.core) (history_with old.core p.piece))
   pub acknowledged : Acknowledges old new (disk new.files.rack) p.piece result
-
--- What the end of a piece leaves of the rack: images follow, it tells as before, and its count of faults rose where a call of it
--- failed.
-pub record LeavesRack {R : Type 0} (disk : R → Disk) (faults : R → ℕ) (old new : R) (result : Finish) : Type 0 where
-  pub follow : Told (disk old) → ImagesFollow (disk old) (disk new)
-  pub tells : (disk new).tells ≡ (disk old).tells
-  pub later : faults old ≤ faults new
-  pub fault : result ≡ DiskFault → Rose (faults old) (faults new)

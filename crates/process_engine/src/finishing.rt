@@ -1,8 +1,8 @@
 // Pieces are finished.
-ghost use Rattle.std.specs.Prelude.{◌≡◌, ◌≢◌, ◌≤◌, length};
-ghost use Rattle.process_flow.specs.Causes.{Rose, HasCause};
+ghost use Rattle.std.specs.Prelude.{◌≡◌, ◌≢◌, length, IsErr};
 ghost use Rattle.process_disk.specs.Disk.{Told};
-ghost use Rattle.process_disk.specs.Images.{EachImage, ImagesFollow};
+ghost use Rattle.process_disk.specs.Racks.{LeavesImages};
+ghost use Rattle.process_disk.specs.Images.{EachImage};
 ghost use Rattle.process_tree.specs.declared.play.Outcome.TheVariants.{Done as Succeeds, Refused as Fails};
 ghost use Rattle.machine_model.specs.declared.kept.Work.TheVariants.{End};
 ghost use Rattle.machine_model.specs.declared.replies.PieceState.TheVariants.{Out};
@@ -14,7 +14,7 @@ ghost use Rattle.history_files.specs.Standing.{EachFits};
 ghost use Rattle.engine_steps.specs.Engines.{full_history};
 ghost use Rattle.engine_steps.specs.Pieces.{IsPrepared, IsStepOut, history_with, SettlesPiece};
 ghost use Rattle.engine_steps.specs.declared.engines.Phase.TheVariants as phase;
-ghost use Rattle.process_engine.specs.Finishing.{Finishes, LeavesRack, RepliesAs, is_barred, outcome_of};
+ghost use Rattle.process_engine.specs.Finishing.{Finishes, RepliesAs, is_barred, outcome_of};
 
 use crate::Answer;
 use engine_steps::{Closed, Engine, PreparePiece, Prepared};
@@ -64,7 +64,7 @@ fn finish_refused<R: Rack + Drop, B: Resource>(engine: &mut Engine<R, B>, piece:
     requires out { IsStepOut engine.old.core piece.piece }
     ensures finishes { Finishes R.disk engine.old engine.new piece Fails result }
     ensures fits { EachFits B.meaning B.sort engine.new.files.stores }
-    ensures rack { LeavesRack R.disk R.faults engine.old.files.rack engine.new.files.rack result }
+    ensures rack { LeavesImages R.disk R.faults engine.old.files.rack engine.new.files.rack (result ≡ Finish.DiskFault) }
 {
     engine.invariant_holds();
     refused_as(engine.refuse_piece(piece))
@@ -79,7 +79,7 @@ fn finish_end<R: Rack + Drop, B: Resource>(engine: &mut Engine<R, B>, piece: Pie
     requires end { piece.piece.work ≡ End }
     ensures finishes { Finishes R.disk engine.old engine.new piece Succeeds result }
     ensures fits { EachFits B.meaning B.sort engine.new.files.stores }
-    ensures rack { LeavesRack R.disk R.faults engine.old.files.rack engine.new.files.rack result }
+    ensures rack { LeavesImages R.disk R.faults engine.old.files.rack engine.new.files.rack (result ≡ Finish.DiskFault) }
 {
     engine.invariant_holds();
     match engine.end_piece(piece) {
@@ -102,11 +102,8 @@ fn finish_prepared<R: Rack + Drop, B: Resource>(
     ensures any_moment { Told (R.disk engine.old.files.rack)
         → EachImage (R.disk engine.new.files.rack) (R.disk engine.old.files.rack).moment
         (IsSoundForEither engine.old.catalog (full_history engine.old.core) (history_with engine.old.core prepared.piece.piece)) }
-    ensures follow { Told (R.disk engine.old.files.rack)
-        → ImagesFollow (R.disk engine.old.files.rack) (R.disk engine.new.files.rack) }
     ensures fits { EachFits B.meaning B.sort engine.new.files.stores }
-    ensures tells { (R.disk engine.new.files.rack).tells ≡ (R.disk engine.old.files.rack).tells }
-    ensures cause { HasCause (R.faults engine.old.files.rack) (R.faults engine.new.files.rack) result }
+    ensures rack { LeavesImages R.disk R.faults engine.old.files.rack engine.new.files.rack (IsErr result) }
 {
     let recorded = engine.record_piece(prepared)?;
     engine.settle_piece(recorded)
@@ -120,7 +117,7 @@ fn finish_done<R: Rack + Drop, B: Resource>(engine: &mut Engine<R, B>, piece: Pi
     ensures finishes { Finishes R.disk engine.old engine.new piece
         (outcome_of Answer.Done (is_barred engine.old piece.piece)) result }
     ensures fits { EachFits B.meaning B.sort engine.new.files.stores }
-    ensures rack { LeavesRack R.disk R.faults engine.old.files.rack engine.new.files.rack result }
+    ensures rack { LeavesImages R.disk R.faults engine.old.files.rack engine.new.files.rack (result ≡ Finish.DiskFault) }
 {
     engine.invariant_holds();
     match engine.prepare_piece(piece) {
@@ -150,7 +147,7 @@ fn finish_out<R: Rack + Drop, B: Resource>(
     requires end { piece.piece.work ≡ End → answer ≡ Answer.Done }
     ensures finishes { Finishes R.disk engine.old engine.new piece (outcome_of answer (is_barred engine.old piece.piece)) result }
     ensures fits { EachFits B.meaning B.sort engine.new.files.stores }
-    ensures rack { LeavesRack R.disk R.faults engine.old.files.rack engine.new.files.rack result }
+    ensures rack { LeavesImages R.disk R.faults engine.old.files.rack engine.new.files.rack (result ≡ Finish.DiskFault) }
 {
     if let Work::End = piece.work() {
         return finish_end(engine, piece);
@@ -176,12 +173,8 @@ pub fn finish_piece<R: Rack + Drop, B: Resource>(
         → Finishes R.disk engine.old engine.new piece (outcome_of answer (is_barred engine.old piece.piece)) result }
     ensures closed { engine.old.phase ≡ phase.Closed → (result ≡ Finish.Closed (length engine.old.core.kept))
         × (engine.new ≡ engine.old) }
-    ensures follow { Told (R.disk engine.old.files.rack)
-        → ImagesFollow (R.disk engine.old.files.rack) (R.disk engine.new.files.rack) }
     ensures fits { EachFits B.meaning B.sort engine.new.files.stores }
-    ensures tells { (R.disk engine.new.files.rack).tells ≡ (R.disk engine.old.files.rack).tells }
-    ensures later { R.faults engine.old.files.rack ≤ R.faults engine.new.files.rack }
-    ensures fault { result ≡ Finish.DiskFault → Rose (R.faults engine.old.files.rack) (R.faults engine.new.files.rack) }
+    ensures rack { LeavesImages R.disk R.faults engine.old.files.rack engine.new.files.rack (result ≡ Finish.DiskFault) }
 {
     if let Err(Closed(count)) = engine.not_closed() {
         return Finish::Closed(count);

@@ -1,5 +1,5 @@
 -- What an open journal stands for, on a disk that tells.
-use Rattle.std.specs.Prelude.{◌≡◌, ◌⊎◌, List, map}
+use Rattle.std.specs.Prelude.{◌≡◌, ◌⊎◌, List, [], length, map}
 use Rattle.process_disk.specs.Disk.{Disk, FileSet}
 use Rattle.gate_log.specs.Standing.{LogState, Logs, StandsFor}
 use Rattle.schedule_model.specs.declared.history.History.{History}
@@ -41,3 +41,9 @@ pub record GoesOnStaged (journal : LogState) (disk : Disk) : Type 0 where
   pub records : List Record
   pub staged : journal.staged ≡ map bytes_of records
   pub made : AreMadeBy catalog records before after
+
+-- A journal as it is made or opened: file 0 with the records of this catalog and history, and nothing staged.
+pub record IsFreshJournal (c : Catalog) (h : History) (journal : LogState) : Type 0 where
+  pub file : journal.file ≡ 0
+  pub count : journal.count ≡ length (journal_bodies c h)
+  pub unstaged : journal.staged ≡ []

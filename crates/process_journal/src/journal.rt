@@ -1,11 +1,11 @@
 // An open journal.
 ghost use Rattle.std.specs.Prelude.{◌≡◌, ◌≢◌, ◌<◌, ◌≤◌, ◌+◌, ◌^◌, ◌++◌, ◌∷◌, [], ℕ, List, length, IfOk, IfErr, OnOk, OnErr};
-ghost use Rattle.std.specs.Prelude.{IsErrOf, map};
-ghost use Rattle.process_flow.specs.Causes.{Rose, HasCause};
+ghost use Rattle.std.specs.Prelude.{IsErr, IsErrOf, map};
 ghost use Rattle.process_disk.specs.Disk.{Told, file_of};
+ghost use Rattle.process_disk.specs.Racks.{LeavesRack};
 ghost use Rattle.process_disk.specs.Images.{EachImage, OthersAsBefore, AllAsBefore};
 ghost use Rattle.gate_log.specs.LogFile.{plain_log, read_log, records_size};
-ghost use Rattle.gate_log.specs.Standing.{StandsFor, IsOpen, LogsBeforeOrWith};
+ghost use Rattle.gate_log.specs.Standing.{StandsFor, IsOpen, LogsBeforeOrWith, HasOneMore, IsUnmade};
 ghost use Rattle.gate_log.specs.Staging.{staging, unstaged, with_staged};
 ghost use Rattle.schedule_model.specs.declared.history.History.{History};
 ghost use Rattle.commute_table.specs.declared.catalog.Catalog.{Catalog};
@@ -17,7 +17,7 @@ ghost use Rattle.journal_records.specs.declared.record.Record.TheVariants.{Setup
 ghost use Rattle.process_journal.specs.Bodies.{journal_bodies, no_history};
 ghost use Rattle.process_journal.specs.Journals.{IsHistoryUnder, IsMadeBy, AreMadeBy};
 ghost use Rattle.process_journal.specs.Reading.{OpensAs};
-ghost use Rattle.process_journal.specs.Opened.{Stands, GoesOn, GoesOnStaged, IsJournalOfEither};
+ghost use Rattle.process_journal.specs.Opened.{Stands, GoesOn, GoesOnStaged, IsFreshJournal, IsJournalOfEither};
 ghost use Rattle.process_journal.specs.declared.errors.JournalError.TheVariants.{NoMemory};
 
 use crate::reading::read_bodies;
@@ -78,15 +78,11 @@ impl Journal {
         ensures stands { Told (R.disk rack.old) → IfOk result (λ journal. Stands journal catalog.now no_history (R.disk rack.new)) }
         ensures bytes { Told (R.disk rack.old) → IfOk result
             (λ _. file_of (R.disk rack.new).files 0 ≡ plain_log 0 (journal_bodies catalog.now no_history)) }
-        ensures journal { IfOk result (λ journal. (journal.file ≡ 0) × (journal.count ≡ 1)) }
-        ensures unstaged { IfOk result (λ journal. journal.staged ≡ []) }
+        ensures journal { IfOk result (IsFreshJournal catalog.now no_history) }
         ensures others { Told (R.disk rack.old) → OthersAsBefore 0 (R.disk rack.old) (R.disk rack.new) }
-        ensures unwritten { IfErr result (λ e. e ≡ NoMemory → rack.new ≡ rack.old) }
-        ensures tells { (R.disk rack.new).tells ≡ (R.disk rack.old).tells }
-        ensures later { R.faults rack.old ≤ R.faults rack.new }
+        ensures err { IfErr result (λ e. IsUnmade NoMemory JournalError.DiskFault e (rack.new ≡ rack.old)) }
+        ensures rack { LeavesRack R.disk R.faults rack.old rack.new (IsErrOf result JournalError.DiskFault) }
         ensures quiet { OnOk result (R.faults rack.new ≡ R.faults rack.old) }
-        ensures refused { IfErr result
-            (λ e. e ≢ NoMemory → (e ≡ JournalError.DiskFault) × Rose (R.faults rack.old) (R.faults rack.new)) }
     {
         let setup = setup_of(alloc, catalog)?;
         let buffer = room(alloc)?;
@@ -105,14 +101,10 @@ impl Journal {
         ensures stands { Told (R.disk rack.old) → IfOk result (λ opened. Stands opened.0 opened.1 opened.2 (R.disk rack.new)) }
         // Whatever the rack tells, the history is one that a journal of the catalog may have.
         ensures history { IfOk result (λ opened. IsHistoryUnder opened.1 opened.2) }
-        ensures journal { IfOk result
-            (λ opened. (opened.0.file ≡ 0) × (opened.0.count ≡ length (journal_bodies opened.1 opened.2))) }
-        ensures unstaged { IfOk result (λ opened. opened.0.staged ≡ []) }
+        ensures journal { IfOk result (λ opened. IsFreshJournal opened.1 opened.2 opened.0) }
         ensures all { Told (R.disk rack.old) → AllAsBefore (R.disk rack.old) (R.disk rack.new) }
-        ensures tells { (R.disk rack.new).tells ≡ (R.disk rack.old).tells }
-        ensures later { R.faults rack.old ≤ R.faults rack.new }
+        ensures rack { LeavesRack R.disk R.faults rack.old rack.new (IsErrOf result JournalError.DiskFault) }
         ensures quiet { OnOk result (R.faults rack.new ≡ R.faults rack.old) }
-        ensures fault { IsErrOf result JournalError.DiskFault → Rose (R.faults rack.old) (R.faults rack.new) }
     {
         let (log, bodies) = Log::open(alloc, rack, 0)?;
         let (catalog, history) = read_bodies(alloc, &bodies)?;
@@ -141,14 +133,13 @@ impl Journal {
         // A file as a journal writes it stays so.
         ensures bytes { Told (R.disk rack.old) → (c : Catalog) (h after : History) → Stands self.old c h (R.disk rack.old)
             → IsMadeBy c entry.now h after →
-            file_of (R.disk rack.old).files 0 ≡ plain_log 0 (journal_bodies c h) → OnOk result (file_of (R.disk rack.new).files 0 ≡ plain_log 0 (journal_bodies c after)) }
+            file_of (R.disk rack.old).files 0 ≡ plain_log 0 (journal_bodies c h) →
+            OnOk result (file_of (R.disk rack.new).files 0 ≡ plain_log 0 (journal_bodies c after)) }
         ensures others { Told (R.disk rack.old) → OthersAsBefore 0 (R.disk rack.old) (R.disk rack.new) }
-        ensures ok { OnOk result ((self.new.file ≡ self.old.file) × (self.new.count ≡ self.old.count + 1)) }
         // What was staged is let go.
-        ensures unstaged { OnOk result (self.new.staged ≡ []) }
+        ensures ok { OnOk result (HasOneMore self.old self.new) }
         ensures err { OnErr result (self.new ≡ self.old) }
-        ensures tells { (R.disk rack.new).tells ≡ (R.disk rack.old).tells }
-        ensures cause { HasCause (R.faults rack.old) (R.faults rack.new) result }
+        ensures rack { LeavesRack R.disk R.faults rack.old rack.new (IsErr result) }
         ensures quiet { OnOk result (R.faults rack.new ≡ R.faults rack.old) }
     {
         self.add(rack, entry)
@@ -184,12 +175,12 @@ impl Journal {
         // A file as a journal writes it stays so.
         ensures bytes { Told (R.disk rack.old) → (c : Catalog) (h after : History) (rs : List Record)
             → Stands self.old c h (R.disk rack.old) → self.old.staged ≡ map bytes_of rs → AreMadeBy c rs h after →
-            file_of (R.disk rack.old).files 0 ≡ plain_log 0 (journal_bodies c h) → OnOk result (file_of (R.disk rack.new).files 0 ≡ plain_log 0 (journal_bodies c after)) }
+            file_of (R.disk rack.old).files 0 ≡ plain_log 0 (journal_bodies c h) →
+            OnOk result (file_of (R.disk rack.new).files 0 ≡ plain_log 0 (journal_bodies c after)) }
         ensures others { Told (R.disk rack.old) → OthersAsBefore 0 (R.disk rack.old) (R.disk rack.new) }
         ensures ok { OnOk result (self.new ≡ with_staged self.old) }
         ensures err { OnErr result (self.new ≡ self.old) }
-        ensures tells { (R.disk rack.new).tells ≡ (R.disk rack.old).tells }
-        ensures cause { HasCause (R.faults rack.old) (R.faults rack.new) result }
+        ensures rack { LeavesRack R.disk R.faults rack.old rack.new (IsErr result) }
         ensures quiet { OnOk result (R.faults rack.new ≡ R.faults rack.old) }
     {
         self.log.append_staged(rack)
@@ -204,16 +195,15 @@ impl Journal {
             OnOk result (StandsFor self.new (bodies ++ bytes_of entry.now ∷ []) (R.disk rack.new)) }
         ensures bytes { Told (R.disk rack.old) → (bodies : List (List ℕ)) → StandsFor self.old bodies (R.disk rack.old) →
             file_of (R.disk rack.old).files self.old.file ≡ plain_log self.old.file bodies →
-            OnOk result (file_of (R.disk rack.new).files self.old.file ≡ plain_log self.old.file (bodies ++ bytes_of entry.now ∷ [])) }
+            OnOk result
+            (file_of (R.disk rack.new).files self.old.file ≡ plain_log self.old.file (bodies ++ bytes_of entry.now ∷ [])) }
         ensures any_moment { Told (R.disk rack.old) → (bodies : List (List ℕ)) → StandsFor self.old bodies (R.disk rack.old) →
             EachImage (R.disk rack.new) (R.disk rack.old).moment (LogsBeforeOrWith self.old.file bodies (bytes_of entry.now)) }
         ensures others { Told (R.disk rack.old) → OthersAsBefore self.old.file (R.disk rack.old) (R.disk rack.new) }
         ensures file { self.old.file ≡ 0 }
-        ensures ok { OnOk result ((self.new.file ≡ self.old.file) × (self.new.count ≡ self.old.count + 1)) }
-        ensures unstaged { OnOk result (self.new.staged ≡ []) }
+        ensures ok { OnOk result (HasOneMore self.old self.new) }
         ensures err { OnErr result (self.new ≡ self.old) }
-        ensures tells { (R.disk rack.new).tells ≡ (R.disk rack.old).tells }
-        ensures cause { HasCause (R.faults rack.old) (R.faults rack.new) result }
+        ensures rack { LeavesRack R.disk R.faults rack.old rack.new (IsErr result) }
         ensures quiet { OnOk result (R.faults rack.new ≡ R.faults rack.old) }
     {
         let size = write(entry, &mut self.buffer);

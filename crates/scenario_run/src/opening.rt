@@ -1,15 +1,14 @@
 // An engine for the processes of a scenario.
-ghost use Rattle.std.specs.Prelude.{◌≡◌, ◌⊎◌, ◌≤◌, ◌<◌, ◌^◌, ℕ, [], length, false, None, Some, IfOk, IfErr, OnOk};
+ghost use Rattle.std.specs.Prelude.{◌≡◌, ◌<◌, ◌^◌, [], length, false, None, Some, IfOk, IfErr, OnOk};
 ghost use Rattle.process_tree.specs.Shape.{first_of};
 ghost use Rattle.schedule_model.specs.Histories.{active};
-ghost use Rattle.commute_table.specs.Bytes.{bytes_of};
 ghost use Rattle.commute_table.specs.Operations.{IsCatalog};
 ghost use Rattle.process_core.specs.Cores.{history_of};
 ghost use Rattle.history_files.specs.Boxes.{AreBoxes};
 ghost use Rattle.history_files.specs.Standing.{EachFits};
 ghost use Rattle.engine_steps.specs.Engines.{full_history};
 ghost use Rattle.engine_steps.specs.Opening.{IsOpened};
-ghost use Rattle.command_input.specs.FilesLeft.{files};
+ghost use Rattle.command_input.specs.FilesLeft.{AreLeft, files};
 ghost use Rattle.command_input.specs.Early.{comes_before_files};
 ghost use Rattle.scenario_run.specs.Opening.{first_difference, open_refusal, AreOpenedOn, IsNotOpenedFor, IsNotOpenedWith, IsOther};
 
@@ -109,18 +108,15 @@ pub fn opened_with<R: Rack + Drop, B: Resource>(
 ) -> Result<Engine<R, B>, NotOpened<R, B>>
     requires catalog { IsCatalog catalog.now }
     requires boxes { AreBoxes B.sort parts.resources.items }
-    ensures opened { IfOk result IsOpened }
+    ensures opened { IfOk result (λ e. IsOpened e × EachFits B.meaning B.sort e.files.stores) }
     ensures catalog { IfOk result (λ e. e.catalog ≡ catalog.now) }
     ensures on { IfOk result
         (λ e. AreOpenedOn e.catalog (full_history e.core) (files R.Rack parts.rack) (files R.Rack e.files.rack)) }
-    ensures fits { IfOk result (λ e. EachFits B.meaning B.sort e.files.stores) }
     ensures due { IfErr result (λ n. IsNotOpenedWith catalog.now n.why (files R.Rack parts.rack) (files R.Rack n.parts.rack)) }
     ensures late { IfErr result (λ n. comes_before_files n.why ≡ false) }
     ensures back { IfErr result (λ n. AreBoxes B.sort n.parts.resources.items) }
-    ensures tells { IfOk result (λ e. (R.disk e.files.rack).tells ≡ (R.disk parts.rack).tells) }
-    ensures tells_back { IfErr result (λ n. (R.disk n.parts.rack).tells ≡ (R.disk parts.rack).tells) }
-    ensures later { IfOk result (λ e. R.faults parts.rack ≤ R.faults e.files.rack) }
-    ensures later_back { IfErr result (λ n. R.faults parts.rack ≤ R.faults n.parts.rack) }
+    ensures rack { IfOk result (λ e. AreLeft (files R.Rack parts.rack) (files R.Rack e.files.rack)) }
+    ensures rack_back { IfErr result (λ n. AreLeft (files R.Rack parts.rack) (files R.Rack n.parts.rack)) }
 {
     let engine = match Engine::open(alloc, parts) {
         Ok(engine) => engine,
@@ -149,19 +145,15 @@ pub fn opened<R: Rack + Drop, B: Resource>(
 ) -> Result<Engine<R, B>, NotOpened<R, B>>
     requires catalog { IsCatalog catalog.now }
     requires boxes { AreBoxes B.sort parts.resources.items }
-    ensures opened { IfOk result IsOpened }
-    ensures catalog { IfOk result (λ e. e.catalog ≡ catalog.now) }
-    ensures idle { IfOk result (λ e. active (history_of e.core) ≡ []) }
+    ensures opened { IfOk result (λ e. IsOpened e × EachFits B.meaning B.sort e.files.stores) }
+    ensures idle { IfOk result (λ e. (e.catalog ≡ catalog.now) × (active (history_of e.core) ≡ [])) }
     ensures on { IfOk result
         (λ e. AreOpenedOn e.catalog (full_history e.core) (files R.Rack parts.rack) (files R.Rack e.files.rack)) }
-    ensures fits { IfOk result (λ e. EachFits B.meaning B.sort e.files.stores) }
     ensures due { IfErr result (λ n. IsNotOpenedFor catalog.now n.why (files R.Rack parts.rack) (files R.Rack n.parts.rack)) }
     ensures late { IfErr result (λ n. comes_before_files n.why ≡ false) }
     ensures back { IfErr result (λ n. AreBoxes B.sort n.parts.resources.items) }
-    ensures tells { IfOk result (λ e. (R.disk e.files.rack).tells ≡ (R.disk parts.rack).tells) }
-    ensures tells_back { IfErr result (λ n. (R.disk n.parts.rack).tells ≡ (R.disk parts.rack).tells) }
-    ensures later { IfOk result (λ e. R.faults parts.rack ≤ R.faults e.files.rack) }
-    ensures later_back { IfErr result (λ n. R.faults parts.rack ≤ R.faults n.parts.rack) }
+    ensures rack { IfOk result (λ e. AreLeft (files R.Rack parts.rack) (files R.Rack e.files.rack)) }
+    ensures rack_back { IfErr result (λ n. AreLeft (files R.Rack parts.rack) (files R.Rack n.parts.rack)) }
 {
     let engine = opened_with(alloc, catalog, parts)?;
     engine.invariant_holds();

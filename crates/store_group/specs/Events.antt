@@ -34,8 +34,8 @@ pub record MayPrepare {B : Type 0} (s : Opened B) (e : Effect) : Type 0 where
 
 -- so it is of each of these effects, in the store at its place
 abbrev pub MayPrepareEach : {B : Type 0} → List (Option Effect) → List (Opened B) → Type 0
-MayPrepareEach {B} effects stores = (q : ℕ) (s : Opened B) (e : Effect) → slice_get stores q ≡ Some s → effect_for effects q ≡ Some e
-    → MayPrepare s e
+MayPrepareEach {B} effects stores = (q : ℕ) (s : Opened B) (e : Effect) → slice_get stores q ≡ Some s
+    → effect_for effects q ≡ Some e → MayPrepare s e
 
 -- what is in doubt once the effect is prepared, if there is one
 abbrev pub doubt_with : Option Effect → Option Effect → Option Effect

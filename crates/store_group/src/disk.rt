@@ -1,7 +1,7 @@
 // What is staged in several stores is brought onto the disk.
-ghost use Rattle.std.specs.Prelude.{◌≡◌, OnOk};
-ghost use Rattle.process_flow.specs.Causes.{HasCause};
+ghost use Rattle.std.specs.Prelude.{OnOk, IsErr};
 ghost use Rattle.process_disk.specs.Disk.{Told};
+ghost use Rattle.process_disk.specs.Racks.{LeavesRack};
 ghost use Rattle.process_disk.specs.Images.{EachImage, RunBy, OthersAsBefore};
 ghost use Rattle.subsystem_store.specs.Opened.{Stands, IsStoreOf};
 ghost use Rattle.subsystem_store.specs.Staged.{IsBeforeOrWith};
@@ -20,8 +20,7 @@ fn write_one<R: Rack, B: Resource>(store: &Store<B>, rack: &mut R) -> Result<(),
     ensures any_moment { Told (R.disk rack.old) → EachImage (R.disk rack.new) (R.disk rack.old).moment
         (IsStoreOf store.now.log.file store.now.book store.now.doubt) }
     ensures others { Told (R.disk rack.old) → OthersAsBefore store.now.log.file (R.disk rack.old) (R.disk rack.new) }
-    ensures tells { (R.disk rack.new).tells ≡ (R.disk rack.old).tells }
-    ensures cause { HasCause (R.faults rack.old) (R.faults rack.new) result }
+    ensures rack { LeavesRack R.disk R.faults rack.old rack.new (IsErr result) }
 {
     if store.has_staged() {
         store.write_staged(rack)
@@ -36,8 +35,7 @@ fn open_one<R: Rack, B: Resource>(store: &Store<B>, rack: &mut R) -> Result<(), 
     ensures open { Told (R.disk rack.old) → OnOk result (IsOpenAt store.now (R.disk rack.new)) }
     ensures any_moment { Told (R.disk rack.old) → EachImage (R.disk rack.new) (R.disk rack.old).moment (IsBeforeOrWith store.now) }
     ensures others { Told (R.disk rack.old) → OthersAsBefore store.now.log.file (R.disk rack.old) (R.disk rack.new) }
-    ensures tells { (R.disk rack.new).tells ≡ (R.disk rack.old).tells }
-    ensures cause { HasCause (R.faults rack.old) (R.faults rack.new) result }
+    ensures rack { LeavesRack R.disk R.faults rack.old rack.new (IsErr result) }
 {
     if store.has_staged() {
         store.open_gate(rack)
@@ -54,8 +52,7 @@ fn write_each<R: Rack, B: Resource>(stores: &[Store<B>], rack: &mut R) -> Result
     ensures any_moment { Told (R.disk rack.old)
         → EachImage (R.disk rack.new) (R.disk rack.old).moment (AreAsBefore stores.now) }
     ensures others { Told (R.disk rack.old) → RunBy (SameButStores stores.now) (R.disk rack.old) (R.disk rack.new) }
-    ensures tells { (R.disk rack.new).tells ≡ (R.disk rack.old).tells }
-    ensures cause { HasCause (R.faults rack.old) (R.faults rack.new) result }
+    ensures rack { LeavesRack R.disk R.faults rack.old rack.new (IsErr result) }
 {
     let mut place = 0;
     while let Some(store) = stores.get(place) {
@@ -73,8 +70,7 @@ fn open_each<R: Rack, B: Resource>(stores: &[Store<B>], rack: &mut R) -> Result<
     ensures any_moment { Told (R.disk rack.old)
         → EachImage (R.disk rack.new) (R.disk rack.old).moment (AreBeforeOrWith stores.now) }
     ensures others { Told (R.disk rack.old) → RunBy (SameButStores stores.now) (R.disk rack.old) (R.disk rack.new) }
-    ensures tells { (R.disk rack.new).tells ≡ (R.disk rack.old).tells }
-    ensures cause { HasCause (R.faults rack.old) (R.faults rack.new) result }
+    ensures rack { LeavesRack R.disk R.faults rack.old rack.new (IsErr result) }
 {
     let mut place = 0;
     while let Some(store) = stores.get(place) {
@@ -95,8 +91,7 @@ fn put_behind_gates<R: Rack, B: Resource>(
     ensures any_moment { Told (R.disk rack.old)
         → EachImage (R.disk rack.new) (R.disk rack.old).moment (AreAsBefore stores.now) }
     ensures others { Told (R.disk rack.old) → RunBy (SameButStores stores.now) (R.disk rack.old) (R.disk rack.new) }
-    ensures tells { (R.disk rack.new).tells ≡ (R.disk rack.old).tells }
-    ensures cause { HasCause (R.faults rack.old) (R.faults rack.new) result }
+    ensures rack { LeavesRack R.disk R.faults rack.old rack.new (IsErr result) }
 {
     write_each(stores, rack)?;
     sync(rack)
@@ -110,8 +105,7 @@ fn open_on_disk<R: Rack, B: Resource>(stores: &[Store<B>], rack: &mut R) -> Resu
     ensures any_moment { Told (R.disk rack.old)
         → EachImage (R.disk rack.new) (R.disk rack.old).moment (AreBeforeOrWith stores.now) }
     ensures others { Told (R.disk rack.old) → RunBy (SameButStores stores.now) (R.disk rack.old) (R.disk rack.new) }
-    ensures tells { (R.disk rack.new).tells ≡ (R.disk rack.old).tells }
-    ensures cause { HasCause (R.faults rack.old) (R.faults rack.new) result }
+    ensures rack { LeavesRack R.disk R.faults rack.old rack.new (IsErr result) }
 {
     open_each(stores, rack)?;
     sync(rack)
@@ -126,8 +120,7 @@ pub fn put_on_disk<R: Rack, B: Resource>(stores: &[Store<B>], rack: &mut R) -> R
     ensures any_moment { Told (R.disk rack.old)
         → EachImage (R.disk rack.new) (R.disk rack.old).moment (AreBeforeOrWith stores.now) }
     ensures others { Told (R.disk rack.old) → RunBy (SameButStores stores.now) (R.disk rack.old) (R.disk rack.new) }
-    ensures tells { (R.disk rack.new).tells ≡ (R.disk rack.old).tells }
-    ensures cause { HasCause (R.faults rack.old) (R.faults rack.new) result }
+    ensures rack { LeavesRack R.disk R.faults rack.old rack.new (IsErr result) }
 {
     put_behind_gates(stores, rack)?;
     open_on_disk(stores, rack)

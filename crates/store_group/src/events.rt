@@ -1,15 +1,15 @@
 // The effects of a group in their stores: prepared together, and committed together.
-ghost use Rattle.std.specs.Prelude.{IfSome, OnErr, OnOk, ◌≡◌};
-ghost use Rattle.process_flow.specs.Causes.{HasCause};
+ghost use Rattle.std.specs.Prelude.{IfSome, IsErr, OnErr, OnOk, ◌≡◌};
 ghost use Rattle.process_disk.specs.Disk.{Told};
+ghost use Rattle.process_disk.specs.Racks.{LeavesRack};
 ghost use Rattle.process_disk.specs.Images.{EachImage, RunBy};
 ghost use Rattle.subsystem_store.specs.Opened.{Fits, account_of};
 ghost use Rattle.store_group.specs.Groups.{OfEach, AreInOrder, AllStand, SameButStores};
-ghost use Rattle.store_group.specs.Events.{effect_for, BecomeEach, IsUnchanged, MayPrepare, MayPrepareEach, IsPrepared, IsCommitted};
-ghost use Rattle.store_group.specs.Events.{AreBeforeOrPrepared, AreBeforeOrCommitted, StagesEffect, StagesCommit, TakesEffect};
-ghost use Rattle.store_group.specs.Events.{TakesCommit, MayTake, MayTakeEach, MayTakeCommit};
+ghost use Rattle.store_group.specs.Events.{effect_for, BecomeEach, IsUnchanged, MayPrepare, MayPrepareEach, IsPrepared};
+ghost use Rattle.store_group.specs.Events.{IsCommitted, AreBeforeOrPrepared, AreBeforeOrCommitted, StagesEffect, StagesCommit};
+ghost use Rattle.store_group.specs.Events.{TakesEffect, TakesCommit, MayTake, MayTakeEach, MayTakeCommit};
 
-use crate::put_on_disk;
+use crate::disk::put_on_disk;
 use gate_log::DiskFault;
 use process_disk::Rack;
 use resource_box::Resource;
@@ -140,8 +140,7 @@ pub fn prepare_each<R: Rack, B: Resource>(
     ensures ok { OnOk result (BecomeEach (λ q s t. IsPrepared (effect_for effects.now q) s t) stores.old.items stores.new.items) }
     ensures err { OnErr result (BecomeEach (λ q s t. IsUnchanged s t) stores.old.items stores.new.items) }
     ensures fits { OfEach (λ s. Fits B.meaning B.sort (account_of s)) stores.new.items }
-    ensures tells { (R.disk rack.new).tells ≡ (R.disk rack.old).tells }
-    ensures cause { HasCause (R.faults rack.old) (R.faults rack.new) result }
+    ensures rack { LeavesRack R.disk R.faults rack.old rack.new (IsErr result) }
 {
     stage_effects(stores, effects);
     put_on_disk(stores, rack)?;
@@ -165,8 +164,7 @@ pub fn commit_each<R: Rack, B: Resource>(
     ensures ok { OnOk result (BecomeEach (λ q s t. IsCommitted s t) stores.old.items stores.new.items) }
     ensures err { OnErr result (BecomeEach (λ q s t. IsUnchanged s t) stores.old.items stores.new.items) }
     ensures fits { OfEach (λ s. Fits B.meaning B.sort (account_of s)) stores.new.items }
-    ensures tells { (R.disk rack.new).tells ≡ (R.disk rack.old).tells }
-    ensures cause { HasCause (R.faults rack.old) (R.faults rack.new) result }
+    ensures rack { LeavesRack R.disk R.faults rack.old rack.new (IsErr result) }
 {
     stage_commits(stores);
     put_on_disk(stores, rack)?;

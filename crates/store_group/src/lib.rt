@@ -12,5 +12,4 @@
 mod disk;
 mod events;
 
-pub use disk::put_on_disk;
 pub use events::{commit_each, prepare_each};

@@ -16,6 +16,7 @@ mod effect;
 mod errors;
 mod laws;
 mod matching;
+mod replaying;
 mod store;
 
 pub use effect::Effect;

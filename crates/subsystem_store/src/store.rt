@@ -1,8 +1,9 @@
 // An open store.
-ghost use Rattle.std.specs.Prelude.{◌≡◌, ◌≢◌, ◌↔◌, ◌⊎◌, ◌<◌, ◌≤◌, ◌+◌, ◌++◌, ◌∷◌, [], List, ℕ, length, None, Some, true, false};
-ghost use Rattle.std.specs.Prelude.{OnOk, OnErr, IfOk, IfErr, IfSome, IsSome, IsTrue, if◌then◌else◌, option_copied};
-ghost use Rattle.process_flow.specs.Causes.{Rose, HasCause};
+ghost use Rattle.std.specs.Prelude.{◌≡◌, ◌≢◌, ◌↔◌, ◌⊎◌, ◌<◌, ◌≤◌, ◌+◌, ◌++◌, ◌∷◌, [], length, None, Some, true, false};
+ghost use Rattle.std.specs.Prelude.{OnOk, OnErr, IfOk, IfErr, IsErr, IfSome, IsSome, IsTrue, if◌then◌else◌, option_copied};
+ghost use Rattle.process_flow.specs.Causes.{Rose};
 ghost use Rattle.process_disk.specs.Disk.{Told, file_of};
+ghost use Rattle.process_disk.specs.Racks.{LeavesRack};
 ghost use Rattle.process_disk.specs.Images.{EachImage, OthersAsBefore, AllAsBefore};
 ghost use Rattle.resource_box.specs.Meaning.{value_at};
 ghost use Rattle.resource_box.specs.Table.{bars};
@@ -12,7 +13,7 @@ ghost use Rattle.subsystem_store.specs.Bodies.{is_amount, prepared_bytes, commit
 ghost use Rattle.subsystem_store.specs.Values.{values};
 ghost use Rattle.subsystem_store.specs.Order.{may_follow, read_store};
 ghost use Rattle.subsystem_store.specs.Laws.{IsGoodBook};
-ghost use Rattle.subsystem_store.specs.Answers.{OpensAs, doubt_after};
+ghost use Rattle.subsystem_store.specs.Answers.{OpensAs, IsFault, AnswersPrepare, IsLeftByPrepare};
 ghost use Rattle.subsystem_store.specs.Opened.{Opened, Fits, Stands, account_of, IsStoreOf, IsStoreOfEither};
 ghost use Rattle.subsystem_store.specs.Staged.{IsWritten, IsOnDisk, HasOpened, IsBeforeOrWith};
 
@@ -71,8 +72,7 @@ impl<B: Resource> Store<B> {
         ensures refused { IfErr result
             (λ r. r.why ≢ StoreError.NoMemory → (r.why ≡ StoreError.DiskFault) × Rose (R.faults rack.old) (R.faults rack.new)) }
         ensures others { Told (R.disk rack.old) → OthersAsBefore file (R.disk rack.old) (R.disk rack.new) }
-        ensures tells { (R.disk rack.new).tells ≡ (R.disk rack.old).tells }
-        ensures later { R.faults rack.old ≤ R.faults rack.new }
+        ensures rack { LeavesRack R.disk R.faults rack.old rack.new (IsFault result) }
     {
         let account = Account::new(alloc, resource);
         match Log::create(alloc, rack, file) {
@@ -99,10 +99,8 @@ impl<B: Resource> Store<B> {
         ensures store { IfOk result (λ s. (s.log.file ≡ file) × (s.kind ≡ B.sort resource)) }
         ensures good { IfOk result (λ s. IsGoodBook s.kind s.book s.doubt) }
         ensures cleared { IfErr result (λ r. ((B.meaning r.resource).items ≡ []) × (B.sort r.resource ≡ B.sort resource)) }
-        ensures fault { IfErr result (λ r. r.why ≡ StoreError.DiskFault → Rose (R.faults rack.old) (R.faults rack.new)) }
         ensures all { Told (R.disk rack.old) → AllAsBefore (R.disk rack.old) (R.disk rack.new) }
-        ensures tells { (R.disk rack.new).tells ≡ (R.disk rack.old).tells }
-        ensures later { R.faults rack.old ≤ R.faults rack.new }
+        ensures rack { LeavesRack R.disk R.faults rack.old rack.new (IsFault result) }
     {
         let account = Account::new(alloc, resource);
         match Log::open(alloc, rack, file) {
@@ -127,21 +125,15 @@ impl<B: Resource> Store<B> {
         requires stands { Told (R.disk rack.old) → Stands self.old (R.disk rack.old) }
         ensures acknowledged { Told (R.disk rack.old) → result ≡ Prepare.Prepared → Stands self.new (R.disk rack.new) }
         ensures any_moment { Told (R.disk rack.old) →
-            EachImage (R.disk rack.new) (R.disk rack.old).moment (IsStoreOfEither self.old.log.file (self.old.book, None) (self.old.book, Some effect)) }
+            EachImage (R.disk rack.new) (R.disk rack.old).moment
+            (IsStoreOfEither self.old.log.file (self.old.book, None) (self.old.book, Some effect)) }
         ensures fits { Fits B.meaning B.sort (account_of self.new) }
-        ensures doubt { self.new.doubt ≡ doubt_after result effect }
-        ensures barred { (result ≡ Prepare.Barred) ↔
-            ((if effect.undo then false else bars self.old.kind effect.call
-            (value_at (values self.old.kind self.old.book) effect.call.key)) ≡ true) }
-        ensures undo { effect.undo ≡ true → (result ≡ Prepare.Prepared) ⊎ (result ≡ Prepare.DiskFault) }
-        ensures room { self.old.ready ≡ Some effect.call.key → result ≢ Prepare.NoMemory }
+        ensures answer { AnswersPrepare self.old effect result }
+        ensures left { IsLeftByPrepare self.old self.new effect result }
         ensures untouched { ((result ≡ Prepare.Barred) ⊎ (result ≡ Prepare.NoMemory))
             → (rack.new ≡ rack.old) × (self.new.log ≡ self.old.log) }
-        ensures same { (self.new.log.file ≡ self.old.log.file) × (self.new.kind ≡ self.old.kind) × (self.new.book ≡ self.old.book) }
         ensures others { Told (R.disk rack.old) → OthersAsBefore self.old.log.file (R.disk rack.old) (R.disk rack.new) }
-        ensures tells { (R.disk rack.new).tells ≡ (R.disk rack.old).tells }
-        ensures later { R.faults rack.old ≤ R.faults rack.new }
-        ensures fault { result ≡ Prepare.DiskFault → Rose (R.faults rack.old) (R.faults rack.new) }
+        ensures rack { LeavesRack R.disk R.faults rack.old rack.new (result ≡ Prepare.DiskFault) }
     {
         if self.account.bars(&effect) {
             return Prepare::Barred;
@@ -165,15 +157,15 @@ impl<B: Resource> Store<B> {
         requires stands { Told (R.disk rack.old) → Stands self.old (R.disk rack.old) }
         ensures acknowledged { Told (R.disk rack.old) → OnOk result (Stands self.new (R.disk rack.new)) }
         ensures any_moment { Told (R.disk rack.old) → (e : Effect) → self.old.doubt ≡ Some e →
-            EachImage (R.disk rack.new) (R.disk rack.old).moment (IsStoreOfEither self.old.log.file (self.old.book, Some e) (self.old.book ++ e ∷ [], None)) }
+            EachImage (R.disk rack.new) (R.disk rack.old).moment
+            (IsStoreOfEither self.old.log.file (self.old.book, Some e) (self.old.book ++ e ∷ [], None)) }
         ensures fits { Fits B.meaning B.sort (account_of self.new) }
         ensures ok { OnOk result ((self.new.doubt ≡ None) × IfSome self.old.doubt (λ e. self.new.book ≡ self.old.book ++ e ∷ [])) }
         ensures err { OnErr result ((self.new.book ≡ self.old.book) × (self.new.doubt ≡ self.old.doubt)) }
-        ensures ready { self.new.ready ≡ self.old.ready }
-        ensures same { (self.new.log.file ≡ self.old.log.file) × (self.new.kind ≡ self.old.kind) }
+        ensures same { (self.new.log.file ≡ self.old.log.file) × (self.new.kind ≡ self.old.kind)
+            × (self.new.ready ≡ self.old.ready) }
         ensures others { Told (R.disk rack.old) → OthersAsBefore self.old.log.file (R.disk rack.old) (R.disk rack.new) }
-        ensures tells { (R.disk rack.new).tells ≡ (R.disk rack.old).tells }
-        ensures cause { HasCause (R.faults rack.old) (R.faults rack.new) result }
+        ensures rack { LeavesRack R.disk R.faults rack.old rack.new (IsErr result) }
     {
         let number = match self.account.in_doubt() {
             Some(effect) => effect.number,
@@ -191,15 +183,15 @@ impl<B: Resource> Store<B> {
         requires stands { Told (R.disk rack.old) → Stands self.old (R.disk rack.old) }
         ensures acknowledged { Told (R.disk rack.old) → OnOk result (Stands self.new (R.disk rack.new)) }
         ensures any_moment { Told (R.disk rack.old) →
-            EachImage (R.disk rack.new) (R.disk rack.old).moment (IsStoreOfEither self.old.log.file (self.old.book, None) (self.old.book, self.old.doubt)) }
+            EachImage (R.disk rack.new) (R.disk rack.old).moment
+            (IsStoreOfEither self.old.log.file (self.old.book, None) (self.old.book, self.old.doubt)) }
         ensures fits { Fits B.meaning B.sort (account_of self.new) }
         ensures ok { OnOk result (self.new.doubt ≡ None) }
         ensures err { OnErr result (self.new.doubt ≡ self.old.doubt) }
-        ensures ready { self.new.ready ≡ self.old.ready }
-        ensures same { (self.new.log.file ≡ self.old.log.file) × (self.new.kind ≡ self.old.kind) × (self.new.book ≡ self.old.book) }
+        ensures same { (self.new.log.file ≡ self.old.log.file) × (self.new.kind ≡ self.old.kind)
+            × (self.new.book ≡ self.old.book) × (self.new.ready ≡ self.old.ready) }
         ensures others { Told (R.disk rack.old) → OthersAsBefore self.old.log.file (R.disk rack.old) (R.disk rack.new) }
-        ensures tells { (R.disk rack.new).tells ≡ (R.disk rack.old).tells }
-        ensures cause { HasCause (R.faults rack.old) (R.faults rack.new) result }
+        ensures rack { LeavesRack R.disk R.faults rack.old rack.new (IsErr result) }
     {
         self.log.retract(rack)?;
         self.account.release();
@@ -283,8 +275,7 @@ impl<B: Resource> Store<B> {
         ensures any_moment { Told (R.disk rack.old) →
             EachImage (R.disk rack.new) (R.disk rack.old).moment (IsStoreOf self.now.log.file self.now.book self.now.doubt) }
         ensures others { Told (R.disk rack.old) → OthersAsBefore self.now.log.file (R.disk rack.old) (R.disk rack.new) }
-        ensures tells { (R.disk rack.new).tells ≡ (R.disk rack.old).tells }
-        ensures cause { HasCause (R.faults rack.old) (R.faults rack.new) result }
+        ensures rack { LeavesRack R.disk R.faults rack.old rack.new (IsErr result) }
     {
         self.log.write_staged(rack)
     }
@@ -293,16 +284,18 @@ impl<B: Resource> Store<B> {
     pub fn open_gate<R: Rack>(&self, rack: &mut R) -> Result<(), DiskFault>
         requires on_disk { Told (R.disk rack.old) → IsOnDisk self.now (R.disk rack.old) }
         ensures opened { Told (R.disk rack.old) → OnOk result (HasOpened self.now (R.disk rack.new)) }
-        ensures any_moment { Told (R.disk rack.old) → EachImage (R.disk rack.new) (R.disk rack.old).moment (IsBeforeOrWith self.now) }
+        ensures any_moment { Told (R.disk rack.old)
+            → EachImage (R.disk rack.new) (R.disk rack.old).moment (IsBeforeOrWith self.now) }
         ensures prepared { Told (R.disk rack.old) → (e : Effect) → self.now.doubt ≡ None
             → self.now.log.staged ≡ prepared_bytes e ∷ [] →
-            EachImage (R.disk rack.new) (R.disk rack.old).moment (IsStoreOfEither self.now.log.file (self.now.book, None) (self.now.book, Some e)) }
+            EachImage (R.disk rack.new) (R.disk rack.old).moment
+            (IsStoreOfEither self.now.log.file (self.now.book, None) (self.now.book, Some e)) }
         ensures committed { Told (R.disk rack.old) → (e : Effect) → self.now.doubt ≡ Some e
             → self.now.log.staged ≡ committed_bytes e.number ∷ [] →
-            EachImage (R.disk rack.new) (R.disk rack.old).moment (IsStoreOfEither self.now.log.file (self.now.book, Some e) (self.now.book ++ e ∷ [], None)) }
+            EachImage (R.disk rack.new) (R.disk rack.old).moment
+            (IsStoreOfEither self.now.log.file (self.now.book, Some e) (self.now.book ++ e ∷ [], None)) }
         ensures others { Told (R.disk rack.old) → OthersAsBefore self.now.log.file (R.disk rack.old) (R.disk rack.new) }
-        ensures tells { (R.disk rack.new).tells ≡ (R.disk rack.old).tells }
-        ensures cause { HasCause (R.faults rack.old) (R.faults rack.new) result }
+        ensures rack { LeavesRack R.disk R.faults rack.old rack.new (IsErr result) }
     {
         self.log.open_gate(rack)
     }

@@ -23,10 +23,10 @@ returns-in-Ok-clause-due g c =
     let ran = c.run_on-found.ensures in
     let sound = c.invariant_holds.ensures in
     run_anew_due g.R.Rack g.met.R.Rack.honest (asked g.G.Gate c.args.gate.now c.run_on-found.new.gate) c.args.parts.rack c.into_parts.result.rack opening now c.args.bound.plans.items
-    c.args.bound.catalog on.new sound.run.session.one_each on.tells on.later on.follow on.empty (sound.read on.new.phase) (sound.each on.new.phase)
+    c.args.bound.catalog on.new sound.run.session.one_each on.rack.tells on.rack.later on.rack.follow (λ told. (on.sound told).empty) (sound.read on.new.phase) (sound.each on.new.phase)
     ran.goes c.invariant_holds-in-Ok.ensures.read c.invariant_holds-in-Ok.ensures.each c.into_parts.ensures.rack c.run_on-found.result ran.ran ran.refused
 
 pub returns-in-Err-clause-due : goal.returns-in-Err-clause-due
 returns-in-Err-clause-due g c =
     let refused = c.in-Err.ensures in
-    inl (c.in-Err.refused.why, c.create_refusal.ensures.refusal, refused.due, refused.left, refused.fault)
+    inl (c.in-Err.refused.why, c.create_refusal.ensures.refusal, (λ told. (refused.refused told).due), (λ told. (refused.refused told).left), refused.rack_back.fault)

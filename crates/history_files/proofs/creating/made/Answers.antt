@@ -1,4 +1,4 @@
-use Rattle.std.proofs.Common.{◌∙◌, ap, sym, arith, map}
+use Rattle.std.proofs.Common.{◌∙◌, ap, sym, arith, map, rules}
 use Rattle.std.specs.Prelude.{reverse}
 use Rattle.std.proofs.lemmas.List.{reverse-reverse}
 use Rattle.process_disk.specs.Disk.{file_of}
@@ -12,7 +12,7 @@ use Rattle.history_files.proofs.creating.made.Goals as goal
 
 pub create-requires-clause-empty : goal.create-requires-clause-empty
 create-requires-clause-empty g c told =
-    let told_old = sym c.in-Ok-None.ensures.tells ∙ told in
+    let told_old = sym c.in-Ok-None.ensures.rack.tells ∙ told in
     ap (λ fs. file_of fs 0) (c.in-Ok-None.ensures.all told_old).read
     ∙ none_used 9 0 (g.R.Rack.disk c.args.rack.now).files (sym (c.in-Ok-None.ensures.found told_old) ∙ c.in-Ok-None.field-0-is) 0 (omega arith) (omega arith)
 
@@ -23,21 +23,21 @@ make_stores-requires-clause-parted g c =
 
 pub make_stores-requires-clause-empty : goal.make_stores-requires-clause-empty
 make_stores-requires-clause-empty g c told k from within =
-    let told_first = sym c.in-Ok-create.ensures.tells ∙ told in
-    let told_old = sym c.in-Ok-None.ensures.tells ∙ told_first in
+    let told_first = sym c.in-Ok-create.ensures.rack.tells ∙ told in
+    let told_old = sym c.in-Ok-None.ensures.rack.tells ∙ told_first in
     (c.in-Ok-create.ensures.others told_first).read.others k (λ same. absurd (omega (arith, same, from)))
     ∙ ap (λ fs. file_of fs k) (c.in-Ok-None.ensures.all told_old).read
     ∙ none_used 9 0 (g.R.Rack.disk c.args.rack.now).files (sym (c.in-Ok-None.ensures.found told_old) ∙ c.in-Ok-None.field-0-is) k (omega arith) (omega (arith, within))
 
 pub returns-in-Ok-make_stores-clause-stand : goal.returns-in-Ok-make_stores-clause-stand
 returns-in-Ok-make_stores-clause-stand g c told =
-    let told_first = c.in-Ok-None.ensures.tells ∙ told in
-    let told_made = c.in-Ok-create.ensures.tells ∙ told_first in
+    let told_first = c.in-Ok-None.ensures.rack.tells ∙ told in
+    let told_made = c.in-Ok-create.ensures.rack.tells ∙ told_first in
     let journal = c.in-Ok-create.journal in
     let stands = c.in-Ok-create.ensures.stands told_first in
     let made = c.in-Ok-make_stores.ensures in
     stand_unused c.calls_make_good_books.ensures.create c.args.catalog.now journal c.in-Ok-make_stores.stores.items (g.R.Rack.disk c.make_stores.new.rack) stands.history
-    (made.journal told_made journal (journal_bodies c.args.catalog.now no_history) c.in-Ok-create.ensures.journal.0 stands.log)
+    (made.journal told_made journal (journal_bodies c.args.catalog.now no_history) c.in-Ok-create.ensures.journal.file stands.log)
     (made.stand told_made) made.unused
 
 pub returns-in-Ok-make_stores-clause-empty : goal.returns-in-Ok-make_stores-clause-empty
@@ -46,27 +46,42 @@ returns-in-Ok-make_stores-clause-empty g c told = sym (c.in-Ok-None.ensures.foun
 pub returns-in-Ok-make_stores-clause-good : goal.returns-in-Ok-make_stores-clause-good
 returns-in-Ok-make_stores-clause-good g c = unused_are_good c.calls_make_good_books.ensures.create c.in-Ok-make_stores.stores.items c.in-Ok-make_stores.ensures.unused
 
-pub returns-in-Err-create-clause-follow : goal.returns-in-Err-create-clause-follow
-returns-in-Err-create-clause-follow g c told =
-    let told_first = c.in-Ok-None.ensures.tells ∙ told in
-    follow_then (g.R.Rack.disk c.args.rack.now) (g.R.Rack.disk c.first_used.new.rack) (g.R.Rack.disk c.create.new.rack) (g.met.R.Rack.honest c.create.new.rack (c.in-Err-create.ensures.tells ∙ told_first))
-    (c.in-Ok-None.ensures.all told).follow (c.in-Err-create.ensures.others told_first).follow
+pub returns-in-Err-create-clause-rack : goal.returns-in-Err-create-clause-rack
+returns-in-Err-create-clause-rack g c = record {
+  follow = λ told.
+      let told_first = c.in-Ok-None.ensures.rack.tells ∙ told in
+      follow_then (g.R.Rack.disk c.args.rack.now) (g.R.Rack.disk c.first_used.new.rack) (g.R.Rack.disk c.create.new.rack) (g.met.R.Rack.honest c.create.new.rack (c.in-Err-create.ensures.rack.tells ∙ told_first))
+      (c.in-Ok-None.ensures.all told).follow (c.in-Err-create.ensures.others told_first).follow;
+  tells = search rules;
+  later = search rules;
+  fault = search rules;
+}
 
-pub returns-in-Err-make_stores-clause-follow : goal.returns-in-Err-make_stores-clause-follow
-returns-in-Err-make_stores-clause-follow g c told =
-    let told_first = c.in-Ok-None.ensures.tells ∙ told in
-    let told_made = c.in-Ok-create.ensures.tells ∙ told_first in
-    follow_thrice (g.R.Rack.disk c.args.rack.now) (g.R.Rack.disk c.first_used.new.rack) (g.R.Rack.disk c.create.new.rack) (g.R.Rack.disk c.make_stores.new.rack)
-    (g.met.R.Rack.honest c.create.new.rack told_made) (g.met.R.Rack.honest c.make_stores.new.rack (c.in-Err-make_stores.ensures.tells ∙ told_made))
-    (c.in-Ok-None.ensures.all told).follow (c.in-Ok-create.ensures.others told_first).follow (c.in-Err-make_stores.ensures.follow told_made)
+pub returns-in-Err-make_stores-clause-rack : goal.returns-in-Err-make_stores-clause-rack
+returns-in-Err-make_stores-clause-rack g c = record {
+  follow = λ told.
+      let told_first = c.in-Ok-None.ensures.rack.tells ∙ told in
+      let told_made = c.in-Ok-create.ensures.rack.tells ∙ told_first in
+      follow_thrice (g.R.Rack.disk c.args.rack.now) (g.R.Rack.disk c.first_used.new.rack) (g.R.Rack.disk c.create.new.rack) (g.R.Rack.disk c.make_stores.new.rack)
+      (g.met.R.Rack.honest c.create.new.rack told_made) (g.met.R.Rack.honest c.make_stores.new.rack (c.in-Err-make_stores.ensures.rack.tells ∙ told_made))
+      (c.in-Ok-None.ensures.all told).follow (c.in-Ok-create.ensures.others told_first).follow (c.in-Err-make_stores.ensures.rack.follow told_made);
+  tells = search rules;
+  later = search rules;
+  fault = search rules;
+}
 
-pub returns-in-Ok-make_stores-clause-follow : goal.returns-in-Ok-make_stores-clause-follow
-returns-in-Ok-make_stores-clause-follow g c told =
-    let told_first = c.in-Ok-None.ensures.tells ∙ told in
-    let told_made = c.in-Ok-create.ensures.tells ∙ told_first in
-    follow_thrice (g.R.Rack.disk c.args.rack.now) (g.R.Rack.disk c.first_used.new.rack) (g.R.Rack.disk c.create.new.rack) (g.R.Rack.disk c.make_stores.new.rack)
-    (g.met.R.Rack.honest c.create.new.rack told_made) (g.met.R.Rack.honest c.make_stores.new.rack (c.in-Ok-make_stores.ensures.tells ∙ told_made))
-    (c.in-Ok-None.ensures.all told).follow (c.in-Ok-create.ensures.others told_first).follow (c.in-Ok-make_stores.ensures.follow told_made)
+pub returns-in-Ok-make_stores-clause-rack : goal.returns-in-Ok-make_stores-clause-rack
+returns-in-Ok-make_stores-clause-rack g c = record {
+  follow = λ told.
+      let told_first = c.in-Ok-None.ensures.rack.tells ∙ told in
+      let told_made = c.in-Ok-create.ensures.rack.tells ∙ told_first in
+      follow_thrice (g.R.Rack.disk c.args.rack.now) (g.R.Rack.disk c.first_used.new.rack) (g.R.Rack.disk c.create.new.rack) (g.R.Rack.disk c.make_stores.new.rack)
+      (g.met.R.Rack.honest c.create.new.rack told_made) (g.met.R.Rack.honest c.make_stores.new.rack (c.in-Ok-make_stores.ensures.rack.tells ∙ told_made))
+      (c.in-Ok-None.ensures.all told).follow (c.in-Ok-create.ensures.others told_first).follow (c.in-Ok-make_stores.ensures.rack.follow told_made);
+  tells = search rules;
+  later = search rules;
+  fault = search rules;
+}
 
 pub returns-in-Err-make_stores-clause-left : goal.returns-in-Err-make_stores-clause-left
 returns-in-Err-make_stores-clause-left g c told =

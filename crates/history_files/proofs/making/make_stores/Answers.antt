@@ -1,4 +1,4 @@
-use Rattle.std.proofs.Common.{◌≡◌, ◌∙◌, ◌+◌, sym, subst, arith, length, [], None}
+use Rattle.std.proofs.Common.{◌≡◌, ◌∙◌, ◌+◌, sym, subst, arith, length, [], None, rules}
 use Rattle.process_disk.specs.Images.{OthersAsBefore}
 use Rattle.process_disk.proofs.Images.{follow_then}
 use Rattle.gate_log.proofs.Standing.{stands_still}
@@ -27,13 +27,13 @@ loop-resource-preserved g c =
       boxes_room = omega (arith, old.invariant.boxes_room, c.pop.ensures.capacity);
       told = λ told.
           let told_old = old.invariant.tells ∙ told in
-          let told_new = made.tells ∙ told_old in
+          let told_new = made.rack.tells ∙ told_old in
           subst (Made (g.R.Rack.disk c.args.rack.now) (g.R.Rack.disk c.create.new.rack)) (sym pushed)
           (made_more (g.R.Rack.disk c.args.rack.now) (g.R.Rack.disk old.rack) (g.R.Rack.disk c.create.new.rack) old.stores.items store
           (g.met.R.Rack.honest old.rack told_old) (g.met.R.Rack.honest c.create.new.rack told_new) old.invariant.files (old.invariant.told told)
           (subst (λ k. OthersAsBefore k (g.R.Rack.disk old.rack) (g.R.Rack.disk c.create.new.rack)) same (made.others told_old)) (made.stands told_old));
-      tells = made.tells ∙ old.invariant.tells;
-      later = omega (arith, old.invariant.later, made.later);
+      tells = made.rack.tells ∙ old.invariant.tells;
+      later = omega (arith, old.invariant.later, made.rack.later);
     }
 
 pub put_back-requires-clause-room : goal.put_back-requires-clause-room
@@ -46,15 +46,20 @@ pub returns-in-Err-clause-journal : goal.returns-in-Err-clause-journal
 returns-in-Err-clause-journal g c told log bodies zero stands =
     let old = c.loop-resource in
     let told_old = old.invariant.tells ∙ told in
-    stands_still (c.len.result + 1) log bodies (g.R.Rack.disk old.rack) (g.R.Rack.disk c.create.new.rack) (g.met.R.Rack.honest old.rack told_old) (g.met.R.Rack.honest c.create.new.rack (c.in-Err.ensures.tells ∙ told_old))
+    stands_still (c.len.result + 1) log bodies (g.R.Rack.disk old.rack) (g.R.Rack.disk c.create.new.rack) (g.met.R.Rack.honest old.rack told_old) (g.met.R.Rack.honest c.create.new.rack (c.in-Err.ensures.rack.tells ∙ told_old))
     (λ same. absurd (omega (arith, same, zero))) (c.in-Err.ensures.others told_old) ((old.invariant.told told).journal log bodies zero stands)
 
-pub returns-in-Err-clause-follow : goal.returns-in-Err-clause-follow
-returns-in-Err-clause-follow g c told =
-    let old = c.loop-resource in
-    let told_old = old.invariant.tells ∙ told in
-    follow_then (g.R.Rack.disk c.args.rack.now) (g.R.Rack.disk old.rack) (g.R.Rack.disk c.create.new.rack) (g.met.R.Rack.honest c.create.new.rack (c.in-Err.ensures.tells ∙ told_old))
-    (old.invariant.told told).follow (c.in-Err.ensures.others told_old).follow
+pub returns-in-Err-clause-rack : goal.returns-in-Err-clause-rack
+returns-in-Err-clause-rack g c = record {
+  follow = λ told.
+      let old = c.loop-resource in
+      let told_old = old.invariant.tells ∙ told in
+      follow_then (g.R.Rack.disk c.args.rack.now) (g.R.Rack.disk old.rack) (g.R.Rack.disk c.create.new.rack) (g.met.R.Rack.honest c.create.new.rack (c.in-Err.ensures.rack.tells ∙ told_old))
+      (old.invariant.told told).follow (c.in-Err.ensures.others told_old).follow;
+  tells = search rules;
+  later = search rules;
+  fault = search rules;
+}
 
 pub returns-clause-stores : goal.returns-clause-stores
 returns-clause-stores g c =

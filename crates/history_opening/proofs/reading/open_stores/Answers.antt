@@ -28,7 +28,7 @@ loop-resource-preserved g c =
       boxes_room = omega (arith, old.invariant.boxes_room, c.pop.ensures.capacity);
       told = λ told.
           let told_old = old.invariant.tells ∙ told in
-          let told_new = made.tells ∙ told_old in
+          let told_new = made.rack.tells ∙ told_old in
           let kind = last_of_more (λ q s. s.kind ≡ kind_of q) old.stores.items store (kinds_in_place sort (old.stores.items ++ store ∷ []) c.pop.new.self.items parted) in
           subst (Read (g.R.Rack.disk c.args.rack.now) (g.R.Rack.disk c.open.new.rack)) (sym pushed)
           (read_more (g.R.Rack.disk c.args.rack.now) (g.R.Rack.disk old.rack) (g.R.Rack.disk c.open.new.rack) old.stores.items store
@@ -36,8 +36,8 @@ loop-resource-preserved g c =
           (made.all told_old) (made.stands told_old)
           (read_next (g.R.Rack.disk c.args.rack.now) (g.R.Rack.disk old.rack) (length old.stores.items) (c.len.result + 1) (sort c.in-Some.resource) (record { book = store.book; doubt = store.doubt })
           (old.invariant.told told).all (sym made.store.1 ∙ kind) same (made.answer told_old)));
-      tells = made.tells ∙ old.invariant.tells;
-      later = omega (arith, old.invariant.later, made.later);
+      tells = made.rack.tells ∙ old.invariant.tells;
+      later = omega (arith, old.invariant.later, made.rack.later);
     }
 
 pub put_back-requires-clause-room : goal.put_back-requires-clause-room
@@ -50,13 +50,17 @@ pub returns-in-Err-clause-all : goal.returns-in-Err-clause-all
 returns-in-Err-clause-all g c told =
     let old = c.loop-resource in
     let told_old = old.invariant.tells ∙ told in
-    all_then (g.R.Rack.disk c.args.rack.now) (g.R.Rack.disk old.rack) (g.R.Rack.disk c.open.new.rack) (g.met.R.Rack.honest old.rack told_old) (g.met.R.Rack.honest c.open.new.rack (c.in-Err.ensures.tells ∙ told_old))
+    all_then (g.R.Rack.disk c.args.rack.now) (g.R.Rack.disk old.rack) (g.R.Rack.disk c.open.new.rack) (g.met.R.Rack.honest old.rack told_old) (g.met.R.Rack.honest c.open.new.rack (c.in-Err.ensures.rack.tells ∙ told_old))
     (old.invariant.told told).all (c.in-Err.ensures.all told_old)
 
 pub returns-clause-stores : goal.returns-clause-stores
 returns-clause-stores g c =
     let old = c.loop-resource in
-    are_filled g.B.Resource.sort old.stores.items old.boxes.items old.invariant.parted old.invariant.files (omega (arith, old.boxes.ok, c.in_default.ensures.cases))
+    record {
+      stores = are_filled g.B.Resource.sort old.stores.items old.boxes.items old.invariant.parted old.invariant.files (omega (arith, old.boxes.ok, c.in_default.ensures.cases));
+      fits = old.invariant.fits;
+      good = old.invariant.good;
+    }
 
 pub returns-clause-stand : goal.returns-clause-stand
 returns-clause-stand g c told = (c.loop-resource.invariant.told told).stand

@@ -13,36 +13,36 @@ open_stores-requires-clause-parted g c =
     let sort = g.B.Resource.sort in
     ap (λ bs. reverse (map sort bs)) c.reverse.ensures.items ∙ ap reverse (map_reverse sort c.args.boxes.now.items) ∙ reverse-reverse (map sort c.args.boxes.now.items) ∙ c.requires.boxes.0
 
-pub returns-in-Ok-open_stores-clause-journal_stands : goal.returns-in-Ok-open_stores-clause-journal_stands
-returns-in-Ok-open_stores-clause-journal_stands g c told =
-    let told_mid = c.in-Ok-open.ensures.tells ∙ told in
+pub returns-in-Ok-open_stores-clause-stand : goal.returns-in-Ok-open_stores-clause-stand
+returns-in-Ok-open_stores-clause-stand g c told =
+    let told_mid = c.in-Ok-open.ensures.rack.tells ∙ told in
     let opened = c.in-Ok-open.opened in
     let stands = c.in-Ok-open.ensures.stands told in
     record {
-      history = stands.history;
-      log = stands_still 1 opened.0 (journal_bodies opened.1 opened.2) (g.R.Rack.disk c.open.new.rack) (g.R.Rack.disk c.open_stores.new.rack)
-          (g.met.R.Rack.honest c.open.new.rack told_mid) (g.met.R.Rack.honest c.open_stores.new.rack (c.in-Ok-open_stores.ensures.tells ∙ told_mid))
-          (λ same. absurd (omega (arith, same, c.in-Ok-open.ensures.journal.0)))
-          (others_of_all 1 (g.R.Rack.disk c.open.new.rack) (g.R.Rack.disk c.open_stores.new.rack) (c.in-Ok-open_stores.ensures.all told_mid)) stands.log;
+      journal = record {
+        history = stands.history;
+        log = stands_still 1 opened.0 (journal_bodies opened.1 opened.2) (g.R.Rack.disk c.open.new.rack) (g.R.Rack.disk c.open_stores.new.rack)
+            (g.met.R.Rack.honest c.open.new.rack told_mid) (g.met.R.Rack.honest c.open_stores.new.rack (c.in-Ok-open_stores.ensures.rack.tells ∙ told_mid))
+            (λ same. absurd (omega (arith, same, c.in-Ok-open.ensures.journal.file)))
+            (others_of_all 1 (g.R.Rack.disk c.open.new.rack) (g.R.Rack.disk c.open_stores.new.rack) (c.in-Ok-open_stores.ensures.all told_mid)) stands.log;
+      };
+      stores = c.in-Ok-open_stores.ensures.stand told_mid;
     }
-
-pub returns-in-Ok-open_stores-clause-stand : goal.returns-in-Ok-open_stores-clause-stand
-returns-in-Ok-open_stores-clause-stand g c told = c.in-Ok-open_stores.ensures.stand (c.in-Ok-open.ensures.tells ∙ told)
 
 pub returns-in-Ok-open_stores-clause-read : goal.returns-in-Ok-open_stores-clause-read
 returns-in-Ok-open_stores-clause-read g c told q s at =
-    subst (λ fs. book_in fs q ≡ Ok (record { book = s.book; doubt = s.doubt })) (c.in-Ok-open.ensures.all told).read (c.in-Ok-open_stores.ensures.read (c.in-Ok-open.ensures.tells ∙ told) q s at)
+    subst (λ fs. book_in fs q ≡ Ok (record { book = s.book; doubt = s.doubt })) (c.in-Ok-open.ensures.all told).read (c.in-Ok-open_stores.ensures.read (c.in-Ok-open.ensures.rack.tells ∙ told) q s at)
 
 pub returns-in-Ok-open_stores-clause-all : goal.returns-in-Ok-open_stores-clause-all
 returns-in-Ok-open_stores-clause-all g c told =
-    let told_mid = c.in-Ok-open.ensures.tells ∙ told in
+    let told_mid = c.in-Ok-open.ensures.rack.tells ∙ told in
     all_then (g.R.Rack.disk c.args.rack.now) (g.R.Rack.disk c.open.new.rack) (g.R.Rack.disk c.open_stores.new.rack)
-    (g.met.R.Rack.honest c.open.new.rack told_mid) (g.met.R.Rack.honest c.open_stores.new.rack (c.in-Ok-open_stores.ensures.tells ∙ told_mid))
+    (g.met.R.Rack.honest c.open.new.rack told_mid) (g.met.R.Rack.honest c.open_stores.new.rack (c.in-Ok-open_stores.ensures.rack.tells ∙ told_mid))
     (c.in-Ok-open.ensures.all told) (c.in-Ok-open_stores.ensures.all told_mid)
 
 pub returns-in-Err-open_stores-clause-all : goal.returns-in-Err-open_stores-clause-all
 returns-in-Err-open_stores-clause-all g c told =
-    let told_mid = c.in-Ok-open.ensures.tells ∙ told in
+    let told_mid = c.in-Ok-open.ensures.rack.tells ∙ told in
     all_then (g.R.Rack.disk c.args.rack.now) (g.R.Rack.disk c.open.new.rack) (g.R.Rack.disk c.open_stores.new.rack)
-    (g.met.R.Rack.honest c.open.new.rack told_mid) (g.met.R.Rack.honest c.open_stores.new.rack (c.in-Err-open_stores.ensures.tells ∙ told_mid))
+    (g.met.R.Rack.honest c.open.new.rack told_mid) (g.met.R.Rack.honest c.open_stores.new.rack (c.in-Err-open_stores.ensures.rack.tells ∙ told_mid))
     (c.in-Ok-open.ensures.all told) (c.in-Err-open_stores.ensures.all told_mid)

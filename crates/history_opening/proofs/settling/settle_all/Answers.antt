@@ -1,4 +1,4 @@
-use Rattle.std.proofs.Common.{◌∙◌, refl, arith}
+use Rattle.std.proofs.Common.{◌∙◌, refl, arith, rules}
 use Rattle.history_opening.proofs.SettledStores.{each_since, follow_since, settled_before, settled_behind, since_start}
 use Rattle.history_opening.proofs.settling.settle_all.Goals as goal
 
@@ -36,23 +36,28 @@ loop-q-preserved g c =
           let after = g.R.Rack.disk c.settle.new.files.rack in
           record {
             stand = did.acknowledged told_old;
-            follow = follow_since c.args.catalog.now c.args.history.now old.files.journal old.files.stores start before after (g.met.R.Rack.honest c.settle.new.files.rack (did.tells ∙ told_old)) since (did.follow told_old);
-            each = each_since c.args.catalog.now c.args.history.now old.files.journal old.files.stores start before after since (did.follow told_old) (did.any_moment told_old);
+            follow = follow_since c.args.catalog.now c.args.history.now old.files.journal old.files.stores start before after (g.met.R.Rack.honest c.settle.new.files.rack (did.rack.tells ∙ told_old)) since (did.rack.follow told_old);
+            each = each_since c.args.catalog.now c.args.history.now old.files.journal old.files.stores start before after since (did.rack.follow told_old) (did.any_moment told_old);
           };
-      tells = did.tells ∙ old.invariant.tells;
-      later = omega (arith, did.cause, old.invariant.later);
+      tells = did.rack.tells ∙ old.invariant.tells;
+      later = omega (arith, did.rack.later, old.invariant.later);
     }
 
 pub returns-in_err-settle-clause-good : goal.returns-in_err-settle-clause-good
 returns-in_err-settle-clause-good g c good = c.in_err-settle.ensures.good (c.loop-q.invariant.good good)
 
-pub returns-in_err-settle-clause-follow : goal.returns-in_err-settle-clause-follow
-returns-in_err-settle-clause-follow g c told =
-    let old = c.loop-q in
-    let told_old = old.invariant.tells ∙ told in
-    let did = c.in_err-settle.ensures in
-    follow_since c.args.catalog.now c.args.history.now old.files.journal old.files.stores (g.R.Rack.disk c.args.files.now.rack) (g.R.Rack.disk old.files.rack) (g.R.Rack.disk c.settle.new.files.rack)
-    (g.met.R.Rack.honest c.settle.new.files.rack (did.tells ∙ told_old)) (old.invariant.told told) (did.follow told_old)
+pub returns-in_err-settle-clause-rack : goal.returns-in_err-settle-clause-rack
+returns-in_err-settle-clause-rack g c = record {
+  follow = λ told.
+      let old = c.loop-q in
+      let told_old = old.invariant.tells ∙ told in
+      let did = c.in_err-settle.ensures in
+      follow_since c.args.catalog.now c.args.history.now old.files.journal old.files.stores (g.R.Rack.disk c.args.files.now.rack) (g.R.Rack.disk old.files.rack) (g.R.Rack.disk c.settle.new.files.rack)
+      (g.met.R.Rack.honest c.settle.new.files.rack (did.rack.tells ∙ told_old)) (old.invariant.told told) (did.rack.follow told_old);
+  tells = search rules;
+  later = search rules;
+  fault = search rules;
+}
 
 pub returns-clause-settled : goal.returns-clause-settled
 returns-clause-settled g c =

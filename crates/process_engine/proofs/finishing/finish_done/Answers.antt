@@ -12,15 +12,15 @@ returns-in-Ok-clause-finishes g c =
     let free = c.in-Ready.ensures.reply.0 in
     subst (λ o. Finishes g.R.Rack.disk c.args.engine.now c.finish_prepared.new.engine c.args.piece o (Effected c.in-Ok.count)) (sym (succeeds c.args.engine.now c.args.piece c.requires.out free))
     (done g.R.Rack.disk c.args.engine.now c.prepare_piece.new.self c.finish_prepared.new.engine c.args.piece c.in-Ready.prepared.piece c.invariant_holds.ensures.run c.requires.out c.in-Ready.ensures.reply.1
-    c.prepare_piece.ensures.core c.prepare_piece.ensures.catalog c.prepare_piece.ensures.tells c.prepare_piece.ensures.follow c.prepare_piece.ensures.any_moment
-    c.finish_prepared.ensures.follow c.finish_prepared.ensures.any_moment c.finish_prepared.ensures.settles.catalog
+    c.prepare_piece.ensures.core c.prepare_piece.ensures.catalog c.prepare_piece.ensures.rack.tells c.prepare_piece.ensures.rack.follow c.prepare_piece.ensures.any_moment
+    c.finish_prepared.ensures.rack.follow c.finish_prepared.ensures.any_moment c.finish_prepared.ensures.settles.catalog
     c.in-Ok.count c.in-Ok.ensures.settles.core c.in-Ok.ensures.settles.settled c.in-Ok.ensures.settles.reply (c.invariant_holds-in-Ok.ensures.each c.in-Ok.ensures.settles.settled))
 
 pub returns-in-Ok-clause-rack : goal.returns-in-Ok-clause-rack
 returns-in-Ok-clause-rack g c = record {
   follow = λ told. follow_then (g.R.Rack.disk c.args.engine.now.files.rack) (g.R.Rack.disk c.prepare_piece.new.self.files.rack) (g.R.Rack.disk c.finish_prepared.new.engine.files.rack)
-      (g.met.R.Rack.honest c.finish_prepared.new.engine.files.rack (c.finish_prepared.ensures.tells ∙ (c.prepare_piece.ensures.tells ∙ told)))
-      (c.prepare_piece.ensures.follow told) (c.finish_prepared.ensures.follow (c.prepare_piece.ensures.tells ∙ told));
+      (g.met.R.Rack.honest c.finish_prepared.new.engine.files.rack (c.finish_prepared.ensures.rack.tells ∙ (c.prepare_piece.ensures.rack.tells ∙ told)))
+      (c.prepare_piece.ensures.rack.follow told) (c.finish_prepared.ensures.rack.follow (c.prepare_piece.ensures.rack.tells ∙ told));
   tells = search rules;
   later = search rules;
   fault = search rules;
@@ -31,14 +31,14 @@ returns-in-Err-clause-finishes g c =
     let free = c.in-Ready.ensures.reply.0 in
     subst (λ o. Finishes g.R.Rack.disk c.args.engine.now c.finish_prepared.new.engine c.args.piece o DiskFault) (sym (succeeds c.args.engine.now c.args.piece c.requires.out free))
     (undone g.R.Rack.disk c.args.engine.now c.prepare_piece.new.self c.finish_prepared.new.engine c.args.piece c.in-Ready.prepared.piece c.invariant_holds.ensures.run c.requires.out c.in-Ready.ensures.reply.1
-    c.prepare_piece.ensures.core c.prepare_piece.ensures.catalog c.prepare_piece.ensures.tells c.prepare_piece.ensures.follow c.prepare_piece.ensures.any_moment
-    c.finish_prepared.ensures.follow c.finish_prepared.ensures.any_moment c.finish_prepared.ensures.settles.catalog c.in-Err.ensures.settles.left c.in-Err.ensures.settles.closed)
+    c.prepare_piece.ensures.core c.prepare_piece.ensures.catalog c.prepare_piece.ensures.rack.tells c.prepare_piece.ensures.rack.follow c.prepare_piece.ensures.any_moment
+    c.finish_prepared.ensures.rack.follow c.finish_prepared.ensures.any_moment c.finish_prepared.ensures.settles.catalog c.in-Err.ensures.settles.left c.in-Err.ensures.settles.closed)
 
 pub returns-in-Err-clause-rack : goal.returns-in-Err-clause-rack
 returns-in-Err-clause-rack g c = record {
   follow = λ told. follow_then (g.R.Rack.disk c.args.engine.now.files.rack) (g.R.Rack.disk c.prepare_piece.new.self.files.rack) (g.R.Rack.disk c.finish_prepared.new.engine.files.rack)
-      (g.met.R.Rack.honest c.finish_prepared.new.engine.files.rack (c.finish_prepared.ensures.tells ∙ (c.prepare_piece.ensures.tells ∙ told)))
-      (c.prepare_piece.ensures.follow told) (c.finish_prepared.ensures.follow (c.prepare_piece.ensures.tells ∙ told));
+      (g.met.R.Rack.honest c.finish_prepared.new.engine.files.rack (c.finish_prepared.ensures.rack.tells ∙ (c.prepare_piece.ensures.rack.tells ∙ told)))
+      (c.prepare_piece.ensures.rack.follow told) (c.finish_prepared.ensures.rack.follow (c.prepare_piece.ensures.rack.tells ∙ told));
   tells = search rules;
   later = search rules;
   fault = search rules;

@@ -7,17 +7,23 @@ use Rattle.scenario_run.proofs.opening.opened_with.Goals as goal
 
 pub returns-in-Err-clause-due : goal.returns-in-Err-clause-due
 returns-in-Err-clause-due g c =
-    inl (c.in-Err.refused.why, c.open_refusal.ensures.refusal, record { due = c.in-Err.ensures.due; left = c.in-Err.ensures.refused; fault = c.in-Err.ensures.fault })
+    let refused = c.in-Err.ensures.refused in
+    inl (c.in-Err.refused.why, c.open_refusal.ensures.refusal, record { due = λ told. (refused told).due; left = λ told. (refused told).left; fault = c.in-Err.ensures.rack_back.fault })
+
+pub returns-in-Ok-same_catalog-clause-on : goal.returns-in-Ok-same_catalog-clause-on
+returns-in-Ok-same_catalog-clause-on g c =
+    let sound = c.in-Ok.ensures.sound in
+    record { sound = λ told. (sound told).sound; becomes = λ told. (sound told).becomes; now = λ told. (sound told).now; each = λ told. (sound told).each }
 
 pub returns-in-Err-same_catalog-clause-due : goal.returns-in-Err-same_catalog-clause-due
 returns-in-Err-same_catalog-clause-due g c =
-    let is = c.in-Ok.ensures in
+    let sound = c.in-Ok.ensures.sound in
     let engine = c.in-Ok.engine in
     inr (
       engine.catalog,
       full_history engine.core,
       subst (λ rack. AreOpenedOn engine.catalog (full_history engine.core) (files g.R.Rack c.args.parts.rack) (files g.R.Rack rack)) (sym c.into_parts.ensures.rack)
-          (record { sound = is.sound; becomes = is.any_moment; now = is.read; each = is.each }),
+          (record { sound = λ told. (sound told).sound; becomes = λ told. (sound told).becomes; now = λ told. (sound told).now; each = λ told. (sound told).each }),
       subst (λ d. IsOther c.args.catalog.now d c.in-Err-same_catalog.why) c.catalog.ensures c.in-Err-same_catalog.ensures.refused,
     )
 

@@ -8,7 +8,7 @@ use Rattle.scenario_run.proofs.Stopped.{stops_are_late}
 use Rattle.scenario_run.proofs.running.run_bound.Goals as goal
 
 pub run_on-engine-requires-clause-plans : goal.run_on-engine-requires-clause-plans
-run_on-engine-requires-clause-plans g c = λ κs lives. subst (λ d. Each (λ p. IsPlanFor d p × IsGoodPlan p) c.args.bound.plans.items) (sym c.in-Ok.ensures.catalog) c.requires.plans
+run_on-engine-requires-clause-plans g c = λ κs lives. subst (λ d. Each (λ p. IsPlanFor d p × IsGoodPlan p) c.args.bound.plans.items) (sym c.in-Ok.ensures.idle.0) c.requires.plans
 
 pub returns-in-Ok-clause-due : goal.returns-in-Ok-clause-due
 returns-in-Ok-clause-due g c =
@@ -17,8 +17,8 @@ returns-in-Ok-clause-due g c =
     let on = c.in-Ok.ensures in
     let ran = c.run_on-engine.ensures in
     run_of g.R.Rack c.racks_are_honest.ensures (asked_gates g.G.Gate c.args.gates.items c.run_on-engine.result.gates.items) c.args.parts.rack c.into_parts.result.rack opening now c.args.bound.plans.items
-    on.opened c.invariant_holds.ensures.run.session.one_each on.tells on.later on.on ran.goes c.invariant_holds-in-Ok.ensures.read c.invariant_holds-in-Ok.ensures.each c.into_parts.ensures.rack
-    c.args.bound.catalog c.run_on-engine.result.found on.catalog ran.ran ran.refused
+    on.opened.0 c.invariant_holds.ensures.run.session.one_each on.rack.tells on.rack.later on.on ran.goes c.invariant_holds-in-Ok.ensures.read c.invariant_holds-in-Ok.ensures.each c.into_parts.ensures.rack
+    c.args.bound.catalog c.run_on-engine.result.found on.idle.0 ran.ran ran.refused
 
 pub returns-in-Ok-clause-late : goal.returns-in-Ok-clause-late
 returns-in-Ok-clause-late g c =

@@ -39,7 +39,7 @@ returns-in_err-open_one-clause-others g c = λ told.
     let mid = g.R.Rack.disk old.rack in
     let new = g.R.Rack.disk c.open_one.new.rack in
     let told_mid = still_told start mid old.invariant.tells told in
-    let told_new = still_told mid new c.open_one.ensures.tells told_mid in
+    let told_new = still_told mid new c.open_one.ensures.rack.tells told_mid in
     let found = c.in-Some.ensures.lookup.3 in
     let s = c.in-Some.store.now in
     let at : slice_get c.args.stores.now old.place ≡ Some s = slice_get_read c.args.stores.now _ old.place s refl found.0 (found.1 s) in
@@ -58,11 +58,11 @@ loop-store-preserved g c =
     record {
       told = λ told.
           let told_mid = still_told start mid old.invariant.tells told in
-          let told_new = still_told mid new c.open_one.ensures.tells told_mid in
+          let told_new = still_told mid new c.open_one.ensures.rack.tells told_mid in
           one_more on_disk_of_file open_of_file c.args.stores.now c.requires.order old.place s start mid new (g.met.R.Rack.honest old.rack told_mid) (g.met.R.Rack.honest c.open_one.new.rack told_new) at (old.invariant.told told)
           (c.open_one.ensures.others told_mid) (c.open_one.ensures.any_moment told_mid) (c.in_ok-open_one.ensures.open told_mid);
-      tells = c.open_one.ensures.tells ∙ old.invariant.tells;
-      later = omega (arith, c.open_one.ensures.cause, old.invariant.later);
+      tells = c.open_one.ensures.rack.tells ∙ old.invariant.tells;
+      later = omega (arith, c.open_one.ensures.rack.later, old.invariant.later);
     }
 
 pub returns-clause-open : goal.returns-clause-open

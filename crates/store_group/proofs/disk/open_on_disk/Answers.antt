@@ -9,8 +9,8 @@ pub returns-clause-staged : goal.returns-clause-staged
 returns-clause-staged g c = λ told.
     let mid = g.R.Rack.disk c.open_each.new.rack in
     let new = g.R.Rack.disk c.sync.new.rack in
-    let told_mid = still_told (g.R.Rack.disk c.args.rack.now) mid c.open_each.ensures.tells told in
-    let told_new = still_told mid new c.sync.ensures.tells told_mid in
+    let told_mid = still_told (g.R.Rack.disk c.args.rack.now) mid c.open_each.ensures.rack.tells told in
+    let told_new = still_told mid new c.sync.ensures.rack.tells told_mid in
     ok_so c.sync.result
     (λ only. all_staged c.args.stores.now mid new (g.met.R.Rack.honest c.open_each.new.rack told_mid) (g.met.R.Rack.honest c.sync.new.rack told_new) (c.sync.ensures.all told_mid) only (c.in_ok-open_each.ensures.open told))
     (c.sync.ensures.durable told_mid)
@@ -20,7 +20,7 @@ returns-clause-any_moment g c = λ told.
     let old = g.R.Rack.disk c.args.rack.now in
     let mid = g.R.Rack.disk c.open_each.new.rack in
     let new = g.R.Rack.disk c.sync.new.rack in
-    let told_mid = still_told old mid c.open_each.ensures.tells told in
+    let told_mid = still_told old mid c.open_each.ensures.rack.tells told in
     let opened = c.in_ok-open_each.ensures.open told in
     images_then_all (AreBeforeOrWith c.args.stores.now) old mid new (g.met.R.Rack.honest c.open_each.new.rack told_mid) (c.open_each.ensures.others told).follow.later (c.sync.ensures.all told_mid)
     (c.open_each.ensures.any_moment told) (record { has = λ files left q s at. (open_of_file.each s mid (opened q s at)).has files left })
@@ -30,7 +30,7 @@ returns-clause-others g c = λ told.
     let old = g.R.Rack.disk c.args.rack.now in
     let mid = g.R.Rack.disk c.open_each.new.rack in
     let new = g.R.Rack.disk c.sync.new.rack in
-    let told_mid = still_told old mid c.open_each.ensures.tells told in
-    let told_new = still_told mid new c.sync.ensures.tells told_mid in
+    let told_mid = still_told old mid c.open_each.ensures.rack.tells told in
+    let told_new = still_told mid new c.sync.ensures.rack.tells told_mid in
     runs_then c.args.stores.now old mid new (g.met.R.Rack.honest c.open_each.new.rack told_mid) (g.met.R.Rack.honest c.sync.new.rack told_new) (c.open_each.ensures.others told)
     (run_of_all c.args.stores.now mid new (c.sync.ensures.all told_mid))

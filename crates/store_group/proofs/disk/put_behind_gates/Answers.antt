@@ -9,8 +9,8 @@ pub returns-clause-on_disk : goal.returns-clause-on_disk
 returns-clause-on_disk g c = λ told.
     let mid = g.R.Rack.disk c.write_each.new.rack in
     let new = g.R.Rack.disk c.sync.new.rack in
-    let told_mid = still_told (g.R.Rack.disk c.args.rack.now) mid c.write_each.ensures.tells told in
-    let told_new = still_told mid new c.sync.ensures.tells told_mid in
+    let told_mid = still_told (g.R.Rack.disk c.args.rack.now) mid c.write_each.ensures.rack.tells told in
+    let told_new = still_told mid new c.sync.ensures.rack.tells told_mid in
     ok_so c.sync.result
     (λ only. all_on_disk c.args.stores.now mid new (g.met.R.Rack.honest c.write_each.new.rack told_mid) (g.met.R.Rack.honest c.sync.new.rack told_new) (c.sync.ensures.all told_mid) only (c.in_ok-write_each.ensures.written told))
     (c.sync.ensures.durable told_mid)
@@ -20,7 +20,7 @@ returns-clause-any_moment g c = λ told.
     let old = g.R.Rack.disk c.args.rack.now in
     let mid = g.R.Rack.disk c.write_each.new.rack in
     let new = g.R.Rack.disk c.sync.new.rack in
-    let told_mid = still_told old mid c.write_each.ensures.tells told in
+    let told_mid = still_told old mid c.write_each.ensures.rack.tells told in
     let written = c.in_ok-write_each.ensures.written told in
     images_then_all (AreAsBefore c.args.stores.now) old mid new (g.met.R.Rack.honest c.write_each.new.rack told_mid) (c.write_each.ensures.others told).follow.later (c.sync.ensures.all told_mid)
     (c.write_each.ensures.any_moment told) (record { has = λ files left q s at. (written q s at).stands.each.has files left })
@@ -30,7 +30,7 @@ returns-clause-others g c = λ told.
     let old = g.R.Rack.disk c.args.rack.now in
     let mid = g.R.Rack.disk c.write_each.new.rack in
     let new = g.R.Rack.disk c.sync.new.rack in
-    let told_mid = still_told old mid c.write_each.ensures.tells told in
-    let told_new = still_told mid new c.sync.ensures.tells told_mid in
+    let told_mid = still_told old mid c.write_each.ensures.rack.tells told in
+    let told_new = still_told mid new c.sync.ensures.rack.tells told_mid in
     runs_then c.args.stores.now old mid new (g.met.R.Rack.honest c.write_each.new.rack told_mid) (g.met.R.Rack.honest c.sync.new.rack told_new) (c.write_each.ensures.others told)
     (run_of_all c.args.stores.now mid new (c.sync.ensures.all told_mid))

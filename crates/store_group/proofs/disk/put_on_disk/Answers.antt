@@ -11,7 +11,7 @@ returns-in_err-put_behind_gates-clause-any_moment g c = λ told.
 
 pub open_on_disk-requires-clause-on_disk : goal.open_on_disk-requires-clause-on_disk
 open_on_disk-requires-clause-on_disk g c = λ told_mid.
-    c.in_ok-put_behind_gates.ensures.on_disk (told_before (g.R.Rack.disk c.args.rack.now) (g.R.Rack.disk c.put_behind_gates.new.rack) c.put_behind_gates.ensures.tells told_mid)
+    c.in_ok-put_behind_gates.ensures.on_disk (told_before (g.R.Rack.disk c.args.rack.now) (g.R.Rack.disk c.put_behind_gates.new.rack) c.put_behind_gates.ensures.rack.tells told_mid)
 
 pub returns-clause-any_moment : goal.returns-clause-any_moment
 returns-clause-any_moment g c = λ told.
@@ -19,7 +19,7 @@ returns-clause-any_moment g c = λ told.
     let old = g.R.Rack.disk c.args.rack.now in
     let mid = g.R.Rack.disk c.put_behind_gates.new.rack in
     let new = g.R.Rack.disk c.open_on_disk.new.rack in
-    let told_mid = still_told old mid c.put_behind_gates.ensures.tells told in
+    let told_mid = still_told old mid c.put_behind_gates.ensures.rack.tells told in
     each_then mid new old.moment (AreBeforeOrWith stores) (c.put_behind_gates.ensures.others told).follow.later (c.open_on_disk.ensures.others told_mid).follow
     (each_so mid old.moment (AreAsBefore stores) (AreBeforeOrWith stores) (λ files all q s at. inl (all q s at)) (c.put_behind_gates.ensures.any_moment told)) (c.open_on_disk.ensures.any_moment told_mid)
 
@@ -28,6 +28,6 @@ returns-clause-others g c = λ told.
     let old = g.R.Rack.disk c.args.rack.now in
     let mid = g.R.Rack.disk c.put_behind_gates.new.rack in
     let new = g.R.Rack.disk c.open_on_disk.new.rack in
-    let told_mid = still_told old mid c.put_behind_gates.ensures.tells told in
-    let told_new = still_told mid new c.open_on_disk.ensures.tells told_mid in
+    let told_mid = still_told old mid c.put_behind_gates.ensures.rack.tells told in
+    let told_new = still_told mid new c.open_on_disk.ensures.rack.tells told_mid in
     runs_then c.args.stores.now old mid new (g.met.R.Rack.honest c.put_behind_gates.new.rack told_mid) (g.met.R.Rack.honest c.open_on_disk.new.rack told_new) (c.put_behind_gates.ensures.others told) (c.open_on_disk.ensures.others told_mid)

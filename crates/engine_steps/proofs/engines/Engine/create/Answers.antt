@@ -9,21 +9,22 @@ invariant_of-result g c =
     let made = c.in-Ok-create.ensures in (
       new_under c.args.catalog c.in-Ok.core c.in-Ok.ensures c.requires.catalog,
       λ settled. new_rests c.args.catalog c.in-Ok.core c.in-Ok.ensures files (g.R.Rack.disk files.rack)
-          (rest_unused c.calls_make_good_books.ensures.create c.args.catalog files (g.R.Rack.disk files.rack) made.count made.unused (λ told. made.stand (sym made.tells ∙ told))),
+          (rest_unused c.calls_make_good_books.ensures.create c.args.catalog files (g.R.Rack.disk files.rack) made.made.count made.made.unused (λ told. made.stand (sym made.rack.tells ∙ told))),
     )
 
 pub returns-in-Ok-create-clause-rest : goal.returns-in-Ok-create-clause-rest
 returns-in-Ok-create-clause-rest g c =
     let files = c.in-Ok-create.files in
     let made = c.in-Ok-create.ensures in
-    rest_unused c.calls_make_good_books.ensures.create c.args.catalog files (g.R.Rack.disk files.rack) made.count made.unused (λ told. made.stand (sym made.tells ∙ told))
+    rest_unused c.calls_make_good_books.ensures.create c.args.catalog files (g.R.Rack.disk files.rack) made.made.count made.made.unused (λ told. made.stand (sym made.rack.tells ∙ told))
 
-pub returns-in-Ok-create-clause-read : goal.returns-in-Ok-create-clause-read
-returns-in-Ok-create-clause-read g c told =
+pub returns-in-Ok-create-clause-sound : goal.returns-in-Ok-create-clause-sound
+returns-in-Ok-create-clause-sound g c told =
     let made = c.in-Ok-create.ensures in
-    c.are_sound.ensures.read (made.tells ∙ told) c.args.catalog no_history (made.stand told)
-
-pub returns-in-Ok-create-clause-each : goal.returns-in-Ok-create-clause-each
-returns-in-Ok-create-clause-each g c told =
-    let made = c.in-Ok-create.ensures in
-    c.are_sound.ensures.each (made.tells ∙ told) c.args.catalog no_history (made.stand told)
+    let told_now = made.rack.tells ∙ told in
+    let stand = made.stand told in
+    record {
+      empty = made.empty told;
+      now = c.are_sound.ensures.read told_now c.args.catalog no_history stand;
+      each = c.are_sound.ensures.each told_now c.args.catalog no_history stand;
+    }

@@ -42,7 +42,7 @@ invariant_of-self g c =
       under_new_end catalog core c.is_run.ensures c.self.invariant.0 law p handed out c.requires.end c.process-process.result c.process-process.ensures c.fits_its_bytes.ensures c.effected-count.new.self c.effected-count.ensures.core,
       λ still. rest_new_end catalog core c.is_run.ensures c.self.invariant.0 law p handed out c.requires.end c.process-process.result c.process-process.ensures c.fits_its_bytes.ensures c.effected-count.new.self c.effected-count.ensures.core
           adds old now (g.R.Rack.disk old.rack) (g.R.Rack.disk now.rack) rest c.record.ensures.same c.in-Ok.ensures.ok
-          (λ told. let before = sym c.record.ensures.tells ∙ told in
+          (λ told. let before = sym c.record.ensures.rack.tells ∙ told in
           at_its_end catalog core c.is_run.ensures c.self.invariant.0 law p handed out c.requires.end c.process-process.result c.process-process.ensures c.fits_its_bytes.ensures
           {P = λ d h after. Stand d after now.journal now.stores (g.R.Rack.disk now.rack)} adds old (g.R.Rack.disk old.rack) rest before (c.in-Ok.ensures.acknowledged before)),
     )

@@ -46,10 +46,10 @@ invariant_of-self g c =
       λ is. rests_then c.self.inside.catalog (full_history c.self.inside.core) c.self.inside.files (g.R.Rack.disk c.self.inside.files.rack) rest c.args.entry.now c.args.q on
           c.books_come_to_acts.ensures.barred c.prepare-answer.result c.prepare-answer.new.self (g.R.Rack.disk c.prepare-answer.new.self.rack)
           (sym c.phase_after-self-inside.ensures ∙ is)
-          (subst (λ x. Changes c.args.q (Doubts (doubt_after c.prepare-answer.result x)) c.self.inside.files.stores c.prepare-answer.new.self.stores) (subst (λ x. c.next_effect-effect.result ≡ next_effect x.catalog.ops (full_history x.core) c.args.entry.now) (sym c.self.view_is) c.next_effect-effect.ensures) c.prepare-answer.ensures.changes)
-          c.prepare-answer.ensures.journal
+          (subst (λ x. Changes c.args.q (Doubts (doubt_after c.prepare-answer.result x)) c.self.inside.files.stores c.prepare-answer.new.self.stores) (subst (λ x. c.next_effect-effect.result ≡ next_effect x.catalog.ops (full_history x.core) c.args.entry.now) (sym c.self.view_is) c.next_effect-effect.ensures) c.prepare-answer.ensures.left.changes)
+          c.prepare-answer.ensures.left.journal
           (c.prepare-answer.ensures.good rest.good)
-          (λ told not_fault. let before = sym c.prepare-answer.ensures.tells ∙ told in
+          (λ told not_fault. let before = sym c.prepare-answer.ensures.rack.tells ∙ told in
           c.prepare-answer.ensures.acknowledged before c.self.inside.catalog (full_history c.self.inside.core) (rest.stand before)
           (subst (λ x. is_among x (effects c.self.inside.catalog.ops (full_history c.self.inside.core) c.args.q) ≡ false) (sym (subst (λ x. c.next_effect-effect.result ≡ next_effect x.catalog.ops (full_history x.core) c.args.entry.now) (sym c.self.view_is) c.next_effect-effect.ensures))
           ((c.events_add_effects.ensures.act c.self.inside.catalog.ops (full_history c.self.inside.core) c.args.entry.now).new c.args.q)) not_fault),
@@ -61,7 +61,7 @@ returns-clause-barred g c =
     let on = subst (λ x. c.args.q ≡ subsystem_of x.catalog.ops c.args.entry.now.op) (sym c.self.view_is) c.requires.subsystem in
     subst (λ x. (c.prepare-answer.result ≡ Barred) ↔ (bars_act x.catalog.ops (full_history x.core) c.args.entry.now ≡ true)) c.self.view_is
     (bars_alike c.self.inside.catalog (full_history c.self.inside.core) c.self.inside.files (g.R.Rack.disk c.self.inside.files.rack) rest c.args.entry.now c.args.q on c.are_stores.ensures c.requires.low {P = c.prepare-answer.result ≡ Barred}
-    (λ s at. subst (λ x. (c.prepare-answer.result ≡ Barred) ↔ (is_barred s.kind s.book x ≡ true)) (subst (λ x. c.next_effect-effect.result ≡ next_effect x.catalog.ops (full_history x.core) c.args.entry.now) (sym c.self.view_is) c.next_effect-effect.ensures) (c.prepare-answer.ensures.barred s at)))
+    (λ s at. subst (λ x. (c.prepare-answer.result ≡ Barred) ↔ (is_barred s.kind s.book x ≡ true)) (subst (λ x. c.next_effect-effect.result ≡ next_effect x.catalog.ops (full_history x.core) c.args.entry.now) (sym c.self.view_is) c.next_effect-effect.ensures) (c.prepare-answer.ensures.answer.barred s at)))
 
 pub returns-clause-good : goal.returns-clause-good
 returns-clause-good g c =

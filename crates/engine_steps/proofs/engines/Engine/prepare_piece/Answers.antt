@@ -50,5 +50,5 @@ returns-in-Prepared-clause-reply g c =
           (ap (λ l. l.count) c.prepare_effect.ensures.journal ∙ rest.count)
           (c.prepare_effect.ensures.doubt c.in-Prepared.is)
           c.prepare_effect.ensures.good
-          (λ told. c.prepare_effect.ensures.stand (sym c.prepare_effect.ensures.tells ∙ told) (λ fault. absurd (false≢true (ap has_failed (sym c.in-Prepared.is ∙ fault))))),
+          (λ told. c.prepare_effect.ensures.stand (sym c.prepare_effect.ensures.rack.tells ∙ told) (λ fault. absurd (false≢true (ap has_failed (sym c.in-Prepared.is ∙ fault))))),
     )

@@ -33,7 +33,7 @@ returns-in-Ok-clause-recorded g c =
     let here : IsPrepared e (g.R.Rack.disk c.self.inside.files.rack) p = subst (λ q. IsPrepared e (g.R.Rack.disk c.self.inside.files.rack) q) (sym c.p.view_is) (subst (λ x. IsPrepared x (g.R.Rack.disk x.files.rack) c.args.p) (sym c.self.view_is) c.requires.prepared) in (
       c.p.view_is,
       recorded_then e (g.R.Rack.disk c.self.inside.files.rack) p here c.record.new.self (g.R.Rack.disk c.record.new.self.rack) c.record.ensures.same c.in-Ok.ensures.ok
-          (λ told. let before = sym c.record.ensures.tells ∙ told in
+          (λ told. let before = sym c.record.ensures.rack.tells ∙ told in
           at_its_history e (g.R.Rack.disk c.self.inside.files.rack) p here {P = λ c' h after. Stand c' after c.record.new.self.journal c.record.new.self.stores (g.R.Rack.disk c.record.new.self.rack)} c.books_come_to_acts.ensures.prepared before
           (c.in-Ok.ensures.acknowledged before)),
     )

@@ -30,7 +30,7 @@ invariant_of-self g c =
       under_with_effect e (g.R.Rack.disk c.self.inside.files.rack) p here c.effected-count.new.self c.is_run.ensures c.effected-count.ensures.core c.self.invariant.0,
       λ settled. rests_with_effect e (g.R.Rack.disk c.self.inside.files.rack) p here c.effected-count.new.self c.is_run.ensures c.effected-count.ensures.core c.books_come_to_acts.ensures.committed
           c.end_doubt.new.self (g.R.Rack.disk c.end_doubt.new.self.rack) c.in-Ok.ensures.ok c.end_doubt.ensures.journal c.end_doubt.ensures.good
-          (λ told. let before = sym c.end_doubt.ensures.tells ∙ told in
+          (λ told. let before = sym c.end_doubt.ensures.rack.tells ∙ told in
           c.in-Ok.ensures.acknowledged before c.self.inside.catalog (with_event (full_history c.self.inside.core) (Act p.entry)) (here.stand before)
           (its_effect_is_due e (g.R.Rack.disk c.self.inside.files.rack) p here c.events_add_effects.ensures.act)),
     )

@@ -46,7 +46,7 @@ invariant_of-self g c =
     let now = c.record.new.self in (
       under_new catalog core c.is_run.ensures c.self.invariant.0 law p own room.good room.free c.start_in.new.self after,
       λ still. rest_new catalog core c.is_run.ensures c.self.invariant.0 law p own room.good room.free c.start_in.new.self after adds old now disk (g.R.Rack.disk now.rack) rest c.record.ensures.same c.in-Ok.ensures.ok
-          (λ told. c.in-Ok.ensures.acknowledged (sym c.record.ensures.tells ∙ told) catalog (full_history core) (history_with core p) (rest.stand (sym c.record.ensures.tells ∙ told))
+          (λ told. c.in-Ok.ensures.acknowledged (sym c.record.ensures.rack.tells ∙ told) catalog (full_history core) (history_with core p) (rest.stand (sym c.record.ensures.rack.tells ∙ told))
           (subst (λ r. IsMadeBy catalog r (full_history core) (history_with core p)) (sym entry) (made_after catalog core c.is_run.ensures c.self.invariant.0 law p own room.good room.free))
           (under_after catalog core c.is_run.ensures c.self.invariant.0 law p own room.good room.free)
           (come_with catalog core c.is_run.ensures c.self.invariant.0 law p own room.good room.free adds old disk rest)),

@@ -32,15 +32,15 @@ returns-in_err-write_and_sync-2-clause-any_moment g c = rw (← c.self.view_is) 
     let room = room_left _ bodies old stands (subst (λ l. l.count < 65536) (sym c.self.view_is) c.requires.room) in
     let done : RecordDone (the_view c.self.inside) c.args.body.now c.part.result.now old mid = record { bytes_are = c.part.ensures ∙ ap (drop 1) c.fill-size.ensures.bytes; written = c.in_ok-write_and_sync.ensures.written told; durable = c.in_ok-write_and_sync.ensures.durable told; run = c.write_and_sync.ensures.run told } in
     let gate = c.part-2.ensures ∙ gate_alone c.fill-size.result _ _ (omega (arith, c.fill-size.ensures.size)) c.fill-size.ensures.bytes in
-    images_of_append _ bodies c.args.body.now _ _ old mid new honest c.self.invariant.0 stands room done gate (c.write_and_sync-2.ensures.run (still_told old mid c.write_and_sync.ensures.tells told)))
+    images_of_append _ bodies c.args.body.now _ _ old mid new honest c.self.invariant.0 stands room done gate (c.write_and_sync-2.ensures.run (still_told old mid c.write_and_sync.ensures.rack.tells told)))
 
 pub returns-in_err-write_and_sync-2-clause-others : goal.returns-in_err-write_and_sync-2-clause-others
 returns-in_err-write_and_sync-2-clause-others g c = rw (← c.self.view_is) (λ told.
     let old = g.R.Rack.disk c.args.rack.now in
     let mid = g.R.Rack.disk c.write_and_sync.new.rack in
     let new = g.R.Rack.disk c.write_and_sync-2.new.rack in
-    let told_mid = still_told old mid c.write_and_sync.ensures.tells told in
-    let told_new = still_told mid new c.write_and_sync-2.ensures.tells told_mid in
+    let told_mid = still_told old mid c.write_and_sync.ensures.rack.tells told in
+    let told_new = still_told mid new c.write_and_sync-2.ensures.rack.tells told_mid in
     let q = c.self.inside.file in
     others_then q old mid new (g.met.R.Rack.honest c.write_and_sync.new.rack told_mid) (g.met.R.Rack.honest c.write_and_sync-2.new.rack told_new)
     (run_so _ (SameBut q) old mid (same_but_torn q _ _) (c.write_and_sync.ensures.run told))
@@ -52,8 +52,8 @@ returns-clause-acknowledged g c = rw (← c.self.view_is) (λ told bodies stands
     let old = g.R.Rack.disk c.args.rack.now in
     let mid = g.R.Rack.disk c.write_and_sync.new.rack in
     let new = g.R.Rack.disk c.write_and_sync-2.new.rack in
-    let told_mid = still_told old mid c.write_and_sync.ensures.tells told in
-    let told_new = still_told mid new c.write_and_sync-2.ensures.tells told_mid in
+    let told_mid = still_told old mid c.write_and_sync.ensures.rack.tells told in
+    let told_new = still_told mid new c.write_and_sync-2.ensures.rack.tells told_mid in
     let honest = g.met.R.Rack.honest c.args.rack.now told in
     let room = room_left _ bodies old stands (subst (λ l. l.count < 65536) (sym c.self.view_is) c.requires.room) in
     let done : RecordDone (the_view c.self.inside) c.args.body.now c.part.result.now old mid = record { bytes_are = c.part.ensures ∙ ap (drop 1) c.fill-size.ensures.bytes; written = c.in_ok-write_and_sync.ensures.written told; durable = c.in_ok-write_and_sync.ensures.durable told; run = c.write_and_sync.ensures.run told } in
@@ -67,7 +67,7 @@ returns-clause-bytes g c = rw (← c.self.view_is) (λ told bodies stands plain.
     let old = g.R.Rack.disk c.args.rack.now in
     let mid = g.R.Rack.disk c.write_and_sync.new.rack in
     let new = g.R.Rack.disk c.write_and_sync-2.new.rack in
-    let told_mid = still_told old mid c.write_and_sync.ensures.tells told in
+    let told_mid = still_told old mid c.write_and_sync.ensures.rack.tells told in
     let done : RecordDone (the_view c.self.inside) c.args.body.now c.part.result.now old mid = record { bytes_are = c.part.ensures ∙ ap (drop 1) c.fill-size.ensures.bytes; written = c.in_ok-write_and_sync.ensures.written told; durable = c.in_ok-write_and_sync.ensures.durable told; run = c.write_and_sync.ensures.run told } in
     let gate = c.part-2.ensures ∙ gate_alone c.fill-size.result _ _ (omega (arith, c.fill-size.ensures.size)) c.fill-size.ensures.bytes in
     plain_appended _ bodies c.args.body.now _ _ old mid new (g.met.R.Rack.honest c.args.rack.now told) (g.met.R.Rack.honest c.write_and_sync.new.rack told_mid) c.self.invariant.0 stands done gate (c.in_ok-write_and_sync-2.ensures.written told_mid) plain)
@@ -81,15 +81,15 @@ returns-clause-any_moment g c = rw (← c.self.view_is) (λ told bodies stands.
     let room = room_left _ bodies old stands (subst (λ l. l.count < 65536) (sym c.self.view_is) c.requires.room) in
     let done : RecordDone (the_view c.self.inside) c.args.body.now c.part.result.now old mid = record { bytes_are = c.part.ensures ∙ ap (drop 1) c.fill-size.ensures.bytes; written = c.in_ok-write_and_sync.ensures.written told; durable = c.in_ok-write_and_sync.ensures.durable told; run = c.write_and_sync.ensures.run told } in
     let gate = c.part-2.ensures ∙ gate_alone c.fill-size.result _ _ (omega (arith, c.fill-size.ensures.size)) c.fill-size.ensures.bytes in
-    images_of_append _ bodies c.args.body.now _ _ old mid new honest c.self.invariant.0 stands room done gate (c.write_and_sync-2.ensures.run (still_told old mid c.write_and_sync.ensures.tells told)))
+    images_of_append _ bodies c.args.body.now _ _ old mid new honest c.self.invariant.0 stands room done gate (c.write_and_sync-2.ensures.run (still_told old mid c.write_and_sync.ensures.rack.tells told)))
 
 pub returns-clause-others : goal.returns-clause-others
 returns-clause-others g c = rw (← c.self.view_is) (λ told.
     let old = g.R.Rack.disk c.args.rack.now in
     let mid = g.R.Rack.disk c.write_and_sync.new.rack in
     let new = g.R.Rack.disk c.write_and_sync-2.new.rack in
-    let told_mid = still_told old mid c.write_and_sync.ensures.tells told in
-    let told_new = still_told mid new c.write_and_sync-2.ensures.tells told_mid in
+    let told_mid = still_told old mid c.write_and_sync.ensures.rack.tells told in
+    let told_new = still_told mid new c.write_and_sync-2.ensures.rack.tells told_mid in
     let q = c.self.inside.file in
     others_then q old mid new (g.met.R.Rack.honest c.write_and_sync.new.rack told_mid) (g.met.R.Rack.honest c.write_and_sync-2.new.rack told_new)
     (run_so _ (SameBut q) old mid (same_but_torn q _ _) (c.write_and_sync.ensures.run told))

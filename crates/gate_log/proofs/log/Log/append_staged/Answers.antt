@@ -10,8 +10,8 @@ returns-in_err-open_on_disk-clause-others g c = λ told.
     let old = g.R.Rack.disk c.args.rack.now in
     let mid = g.R.Rack.disk c.put_on_disk.new.rack in
     let new = g.R.Rack.disk c.open_on_disk.new.rack in
-    let told_mid = still_told old mid c.put_on_disk.ensures.tells told in
-    let told_new = still_told mid new c.open_on_disk.ensures.tells told_mid in
+    let told_mid = still_told old mid c.put_on_disk.ensures.rack.tells told in
+    let told_new = still_told mid new c.open_on_disk.ensures.rack.tells told_mid in
     others_then c.args.self.now.file old mid new (g.met.R.Rack.honest c.put_on_disk.new.rack told_mid) (g.met.R.Rack.honest c.open_on_disk.new.rack told_new) (c.put_on_disk.ensures.others told) (c.open_on_disk.ensures.others told_mid)
 
 pub returns-clause-bytes : goal.returns-clause-bytes
@@ -19,7 +19,7 @@ returns-clause-bytes g c = λ told bodies stands plain.
     let old = g.R.Rack.disk c.args.rack.now in
     let mid = g.R.Rack.disk c.put_on_disk.new.rack in
     let new = g.R.Rack.disk c.open_on_disk.new.rack in
-    let told_mid = still_told old mid c.put_on_disk.ensures.tells told in
+    let told_mid = still_told old mid c.put_on_disk.ensures.rack.tells told in
     let log = c.args.self.now in
     let below : log.file < 9 = subst (λ l. l.file < 9) c.self.view_is c.self.invariant.0 in
     plain_with log.file log.end bodies log.staged old mid new (g.met.R.Rack.honest c.args.rack.now told) (g.met.R.Rack.honest c.put_on_disk.new.rack told_mid) below stands.end c.requires.staged
@@ -30,9 +30,9 @@ returns-clause-others g c = λ told.
     let old = g.R.Rack.disk c.args.rack.now in
     let mid = g.R.Rack.disk c.put_on_disk.new.rack in
     let new = g.R.Rack.disk c.open_on_disk.new.rack in
-    let told_mid = still_told old mid c.put_on_disk.ensures.tells told in
-    let told_new = still_told mid new c.open_on_disk.ensures.tells told_mid in
+    let told_mid = still_told old mid c.put_on_disk.ensures.rack.tells told in
+    let told_new = still_told mid new c.open_on_disk.ensures.rack.tells told_mid in
     others_then c.args.self.now.file old mid new (g.met.R.Rack.honest c.put_on_disk.new.rack told_mid) (g.met.R.Rack.honest c.open_on_disk.new.rack told_new) (c.put_on_disk.ensures.others told) (c.open_on_disk.ensures.others told_mid)
 
-pub returns-clause-last : goal.returns-clause-last
-returns-clause-last g c = subst IsSome (sym (ap (λ l. l.last) c.take_staged.ensures)) (some_last c.args.self.now.staged c.requires.staged)
+pub returns-clause-ok : goal.returns-clause-ok
+returns-clause-ok g c = (c.take_staged.ensures, subst IsSome (sym (ap (λ l. l.last) c.take_staged.ensures)) (some_last c.args.self.now.staged c.requires.staged))

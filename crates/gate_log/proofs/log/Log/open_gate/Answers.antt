@@ -14,7 +14,7 @@ pub returns-clause-opened : goal.returns-clause-opened
 returns-clause-opened g c = rw (← c.self.view_is) (λ told bodies are.
     let old = g.R.Rack.disk c.args.rack.now in
     let new = g.R.Rack.disk c.write.new.rack in
-    let told_new = still_told old new c.write.ensures.tells told in
+    let told_new = still_told old new c.write.ensures.rack.tells told in
     ok_so c.write.result (gate_opened _ bodies old new (g.met.R.Rack.honest c.args.rack.now told) (g.met.R.Rack.honest c.write.new.rack told_new) c.self.invariant.0 are (c.write.ensures.run told)) (c.write.ensures.written told))
 
 pub returns-clause-any_moment : goal.returns-clause-any_moment

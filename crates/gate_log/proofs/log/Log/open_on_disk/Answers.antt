@@ -8,8 +8,8 @@ returns-clause-stands g c = λ told bodies are.
     let old = g.R.Rack.disk c.args.rack.now in
     let mid = g.R.Rack.disk c.open_gate.new.rack in
     let new = g.R.Rack.disk c.sync.new.rack in
-    let told_mid = still_told old mid c.open_gate.ensures.tells told in
-    let told_new = still_told mid new c.sync.ensures.tells told_mid in
+    let told_mid = still_told old mid c.open_gate.ensures.rack.tells told in
+    let told_new = still_told mid new c.sync.ensures.rack.tells told_mid in
     let opened = c.in_ok-open_gate.ensures.opened told bodies are in
     ok_so c.sync.result (λ only. staged_stands _ bodies mid new (g.met.R.Rack.honest c.sync.new.rack told_new) (c.sync.ensures.all told_mid) only opened) (c.sync.ensures.durable told_mid)
 
@@ -18,7 +18,7 @@ returns-clause-any_moment g c = λ told bodies are.
     let old = g.R.Rack.disk c.args.rack.now in
     let mid = g.R.Rack.disk c.open_gate.new.rack in
     let new = g.R.Rack.disk c.sync.new.rack in
-    let told_mid = still_told old mid c.open_gate.ensures.tells told in
+    let told_mid = still_told old mid c.open_gate.ensures.rack.tells told in
     let P = LogsBeforeOrWithAll c.args.self.now.file bodies c.args.self.now.staged in
     let run = c.sync.ensures.all told_mid in
     let opened = c.in_ok-open_gate.ensures.opened told bodies are in
@@ -30,8 +30,8 @@ returns-clause-others g c = λ told.
     let old = g.R.Rack.disk c.args.rack.now in
     let mid = g.R.Rack.disk c.open_gate.new.rack in
     let new = g.R.Rack.disk c.sync.new.rack in
-    let told_mid = still_told old mid c.open_gate.ensures.tells told in
-    let told_new = still_told mid new c.sync.ensures.tells told_mid in
+    let told_mid = still_told old mid c.open_gate.ensures.rack.tells told in
+    let told_new = still_told mid new c.sync.ensures.rack.tells told_mid in
     let q = c.args.self.now.file in
     others_then q old mid new (g.met.R.Rack.honest c.open_gate.new.rack told_mid) (g.met.R.Rack.honest c.sync.new.rack told_new)
     (c.open_gate.ensures.others told) (others_of_all q mid new (c.sync.ensures.all told_mid))

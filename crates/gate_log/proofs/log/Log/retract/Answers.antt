@@ -25,7 +25,7 @@ returns-clause-acknowledged g c = rw (← c.self.view_is) (λ told bodies body s
     let new = g.R.Rack.disk c.write_and_sync.new.rack in
     let log = the_view c.self.inside in
     let place = ap (λ n. log.end - (3 + n)) c.from.ensures ∙ gate_place log bodies body old c.in-Some.size c.in-Some.is stands in
-    let honest_new = g.met.R.Rack.honest c.write_and_sync.new.rack (still_told old new c.write_and_sync.ensures.tells told) in
+    let honest_new = g.met.R.Rack.honest c.write_and_sync.new.rack (still_told old new c.write_and_sync.ensures.rack.tells told) in
     body_retracted log _ bodies body _ old new (g.met.R.Rack.honest c.args.rack.now told) honest_new c.self.invariant.0 place stands
     (c.in_ok-write_and_sync.ensures.written told) (c.in_ok-write_and_sync.ensures.durable told) refl (omega arith) refl refl)
 

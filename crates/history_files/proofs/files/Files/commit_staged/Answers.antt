@@ -1,9 +1,9 @@
-use Rattle.std.proofs.Common.{◌∙◌, ap, subst, sym, OnOk}
+use Rattle.std.proofs.Common.{◌∙◌, ap, subst, sym, OnOk, rules, OnErr}
 use Rattle.process_disk.specs.Disk.{Told}
 use Rattle.process_disk.specs.Images.{EachImage, ImagesFollow}
 use Rattle.schedule_model.specs.declared.history.History.{History}
 use Rattle.commute_table.specs.declared.catalog.Catalog.{Catalog}
-use Rattle.store_group.specs.Events.{BecomeEach, IsCommitted}
+use Rattle.store_group.specs.Events.{BecomeEach, IsCommitted, IsUnchanged}
 use Rattle.history_files.specs.Groups.{HasEachDoubt}
 use Rattle.history_files.specs.Sound.{IsSound}
 use Rattle.history_files.specs.Standing.{AreGoodBooks, EachFits, Stand}
@@ -49,7 +49,7 @@ returns-clause-acknowledged g c =
     subst (λ f. Told (g.R.Rack.disk f.rack) → (c' : Catalog) (h : History) → Stand c' h f.journal f.stores (g.R.Rack.disk f.rack) → HasEachDoubt c'.ops h f.stores → OnOk c.commit_each.result (Stand c' h c.self.inside.journal new now))
     c.self.view_is
     (λ told c' h stand has.
-    OnOk-both (λ became stands. stands_with_group c' h c.self.inside.journal old new start now after_commit (g.met.R.Rack.honest c.self.inside.rack told) (g.met.R.Rack.honest c.commit_each.new.rack (did.tells ∙ told))
+    OnOk-both (λ became stands. stands_with_group c' h c.self.inside.journal old new start now after_commit (g.met.R.Rack.honest c.self.inside.rack told) (g.met.R.Rack.honest c.commit_each.new.rack (did.rack.tells ∙ told))
     are c.self.invariant.1 stand (did.others told) (may_be_committed law c' h c.self.inside.journal old start are stand has) (as_committed old new became) stands)
     c.commit_each.result did.ok (did.acknowledged told))
 
@@ -67,9 +67,14 @@ returns-clause-any_moment g c =
     images_of_group c' h c.self.inside.journal old start now after_commit (g.met.R.Rack.honest c.self.inside.rack told) are c.self.invariant.1 stand (did.others told)
     (may_be_committed law c' h c.self.inside.journal old start are stand has) (did.any_moment told))
 
-pub returns-clause-follow : goal.returns-clause-follow
-returns-clause-follow g c =
-    subst (λ f. Told (g.R.Rack.disk f.rack) → ImagesFollow (g.R.Rack.disk f.rack) (g.R.Rack.disk c.commit_each.new.rack)) c.self.view_is (λ told. (c.commit_each.ensures.others told).follow)
+pub returns-clause-rack : goal.returns-clause-rack
+returns-clause-rack g c = record {
+  follow =
+      subst (λ f. Told (g.R.Rack.disk f.rack) → ImagesFollow (g.R.Rack.disk f.rack) (g.R.Rack.disk c.commit_each.new.rack)) c.self.view_is (λ told. (c.commit_each.ensures.others told).follow);
+  tells = search rules;
+  later = search rules;
+  fault = search rules;
+}
 
 pub returns-clause-good : goal.returns-clause-good
 returns-clause-good g c =
@@ -81,3 +86,7 @@ returns-clause-good g c =
 pub returns-clause-ok : goal.returns-clause-ok
 returns-clause-ok g c =
     subst (λ ss. OnOk c.commit_each.result (BecomeEach (λ q s t. IsCommitted s t) ss c.commit_each.new.stores.items)) (ap (λ f. f.stores) c.self.view_is) c.commit_each.ensures.ok
+
+pub returns-clause-err : goal.returns-clause-err
+returns-clause-err g c =
+    subst (λ ss. OnErr c.commit_each.result (BecomeEach (λ q s t. IsUnchanged s t) ss c.commit_each.new.stores.items)) (ap (λ f. f.stores) c.self.view_is) c.commit_each.ensures.err

@@ -57,7 +57,7 @@ returns-clause-acknowledged g c =
     c.self.view_is
     (λ told c' h stand due. OnOk-both (λ ends stands. subst (λ r. Stand c' h c.self.inside.journal (slice_set c.self.inside.stores.items r c.end_in_store.new.store) (g.R.Rack.disk c.end_in_store.new.rack)) (sym c.from.ensures)
     (stands_with_end law c.args.recorded c' h c.self.inside.journal c.self.inside.stores.items (g.R.Rack.disk c.self.inside.rack) (g.R.Rack.disk c.end_in_store.new.rack) q c.index_mut.result.now c.end_in_store.new.store
-    (g.met.R.Rack.honest c.self.inside.rack told) (g.met.R.Rack.honest c.end_in_store.new.rack (did.tells ∙ told)) c.self.invariant.0 c.self.invariant.1 stand at some due (did.others told) did.same.1 ends stands))
+    (g.met.R.Rack.honest c.self.inside.rack told) (g.met.R.Rack.honest c.end_in_store.new.rack (did.rack.tells ∙ told)) c.self.invariant.0 c.self.invariant.1 stand at some due (did.others told) did.same.1 ends stands))
     c.end_in_store.result did.ok (did.acknowledged told))
 
 pub returns-clause-any_moment : goal.returns-clause-any_moment

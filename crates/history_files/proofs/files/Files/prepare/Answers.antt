@@ -1,4 +1,4 @@
-use Rattle.std.proofs.Common.{◌≡◌, ◌≢◌, ◌<◌, length, None, true, Some, false, sym, ◌∙◌, ap, subst}
+use Rattle.std.proofs.Common.{◌≡◌, ◌≢◌, ◌<◌, length, None, true, Some, false, sym, ◌∙◌, ap, subst, rules}
 use Rattle.std.specs.Prelude.{slice_set}
 use Rattle.std.specs.List.{slice_get}
 use Rattle.process_disk.specs.Disk.{Told}
@@ -53,7 +53,7 @@ prepare-requires-clause-stands g c =
 pub invariant_of-self : goal.invariant_of-self
 invariant_of-self g c =
     let at = its_store g (goal.at.invariant_of-self g c).After-index_mut in (
-      stores_with c.self.inside.stores.items c.args.q c.from.result c.index_mut.result.now c.prepare.new.self c.from.ensures at c.self.invariant.0 c.prepare.ensures.same.0 c.prepare.ensures.same.1,
+      stores_with c.self.inside.stores.items c.args.q c.from.result c.index_mut.result.now c.prepare.new.self c.from.ensures at c.self.invariant.0 c.prepare.ensures.left.file c.prepare.ensures.left.kind,
       c.self.invariant.1,
       c.self.invariant.2,
       c.self.invariant.3,
@@ -70,10 +70,10 @@ returns-clause-acknowledged g c =
     c.self.view_is
     (λ told c' h stand lacks sound. subst (λ r. Stand c' h c.self.inside.journal (slice_set c.self.inside.stores.items r c.prepare.new.self) (g.R.Rack.disk c.prepare.new.rack)) (sym c.from.ensures)
     (stands_with_prepare c.calls_make_good_books.ensures.prepare c' h c.self.inside.journal c.self.inside.stores.items (g.R.Rack.disk c.self.inside.rack) (g.R.Rack.disk c.prepare.new.rack) q c.index_mut.result.now c.prepare.new.self c.args.effect
-    (g.met.R.Rack.honest c.self.inside.rack told) (g.met.R.Rack.honest c.prepare.new.rack (c.prepare.ensures.tells ∙ told)) c.self.invariant.0 c.self.invariant.1 stand at lacks may
-    (c.prepare.ensures.others told) c.prepare.ensures.same.1 c.prepare.ensures.same.2
-    (doubts_one c.prepare.result c.args.effect _ c.prepare.ensures.doubt)
-    (stands_after g.R.Rack.disk c.self.inside.rack c.prepare.new.rack c.index_mut.result.now c.prepare.new.self c.prepare.result c.args.effect may.settled ((stand.stores q c.index_mut.result.now at)) c.prepare.ensures.same.2 c.prepare.ensures.doubt c.prepare.ensures.untouched (c.prepare.ensures.acknowledged told) sound)))
+    (g.met.R.Rack.honest c.self.inside.rack told) (g.met.R.Rack.honest c.prepare.new.rack (c.prepare.ensures.rack.tells ∙ told)) c.self.invariant.0 c.self.invariant.1 stand at lacks may
+    (c.prepare.ensures.others told) c.prepare.ensures.left.kind c.prepare.ensures.left.book
+    (doubts_one c.prepare.result c.args.effect _ c.prepare.ensures.left.doubt)
+    (stands_after g.R.Rack.disk c.self.inside.rack c.prepare.new.rack c.index_mut.result.now c.prepare.new.self c.prepare.result c.args.effect may.settled ((stand.stores q c.index_mut.result.now at)) c.prepare.ensures.left.book c.prepare.ensures.left.doubt c.prepare.ensures.untouched (c.prepare.ensures.acknowledged told) sound)))
 
 pub returns-clause-any_moment : goal.returns-clause-any_moment
 returns-clause-any_moment g c =
@@ -93,17 +93,25 @@ returns-clause-fits g c =
     fits_with c.self.inside.stores.items c.args.q c.from.result c.index_mut.result.now c.prepare.new.self c.from.ensures at g.B.Resource.meaning g.B.Resource.sort
     (subst (λ f. EachFits g.B.Resource.meaning g.B.Resource.sort f.stores) (sym c.self.view_is) c.requires.fits) c.prepare.ensures.fits
 
-pub returns-clause-changes : goal.returns-clause-changes
-returns-clause-changes g c =
-    let at = its_store g (goal.at.returns-clause-changes g c).After-index_mut in
-    changed c.self.inside.stores.items c.args.q c.from.result c.index_mut.result.now c.prepare.new.self c.from.ensures at (Doubts (doubt_after c.prepare.result c.args.effect)) _ (ap (λ f. f.stores) c.self.view_is)
-    (c.prepare.ensures.doubt, c.prepare.ensures.same.2)
+pub returns-clause-left : goal.returns-clause-left
+returns-clause-left g c =
+    let at = its_store g (goal.at.returns-clause-left g c).After-index_mut in
+    record {
+      journal = search rules;
+      changes = changed c.self.inside.stores.items c.args.q c.from.result c.index_mut.result.now c.prepare.new.self c.from.ensures at (Doubts (doubt_after c.prepare.result c.args.effect)) _ (ap (λ f. f.stores) c.self.view_is)
+          (c.prepare.ensures.left.doubt, c.prepare.ensures.left.book);
+      untouched = search rules;
+    }
 
-pub returns-clause-barred : goal.returns-clause-barred
-returns-clause-barred g c s at_s =
-    let at = its_store g (goal.at.returns-clause-barred g c).After-index_mut in
-    let is : c.index_mut.result.now ≡ s = ap (λ o. unwrap_or o s) (sym at ∙ subst (λ f. slice_get f.stores c.args.q ≡ Some s) (sym c.self.view_is) at_s) in
-    subst (λ (x : Opened _). (c.prepare.result ≡ Barred) ↔ (is_barred x.kind x.book c.args.effect ≡ true)) is c.prepare.ensures.barred
+pub returns-clause-answer : goal.returns-clause-answer
+returns-clause-answer g c =
+    let at = its_store g (goal.at.returns-clause-answer g c).After-index_mut in
+    record {
+      barred = λ s at_s.
+          let is : c.index_mut.result.now ≡ s = ap (λ o. unwrap_or o s) (sym at ∙ subst (λ f. slice_get f.stores c.args.q ≡ Some s) (sym c.self.view_is) at_s) in
+          subst (λ (x : Opened _). (c.prepare.result ≡ Barred) ↔ (is_barred x.kind x.book c.args.effect ≡ true)) is c.prepare.ensures.answer.barred;
+      undo = c.prepare.ensures.answer.undo;
+    }
 
 pub returns-clause-good : goal.returns-clause-good
 returns-clause-good g c =
@@ -114,5 +122,5 @@ returns-clause-good g c =
     c.self.view_is
     (λ all. good_with c.self.inside.stores.items c.from.result c.prepare.new.self all
     (good_prepared c.calls_make_good_books.ensures.prepare c.index_mut.result.now c.prepare.new.self c.args.effect (all c.args.q c.index_mut.result.now at)
-    may c.prepare.ensures.same.1 c.prepare.ensures.same.2
-    (doubts_one c.prepare.result c.args.effect _ c.prepare.ensures.doubt)))
+    may c.prepare.ensures.left.kind c.prepare.ensures.left.book
+    (doubts_one c.prepare.result c.args.effect _ c.prepare.ensures.left.doubt)))

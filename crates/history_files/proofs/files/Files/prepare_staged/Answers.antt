@@ -1,9 +1,9 @@
-use Rattle.std.proofs.Common.{◌∙◌, ap, subst, sym, OnOk}
+use Rattle.std.proofs.Common.{◌∙◌, ap, subst, sym, OnOk, rules, OnErr}
 use Rattle.process_disk.specs.Disk.{Told}
 use Rattle.process_disk.specs.Images.{EachImage, ImagesFollow}
 use Rattle.schedule_model.specs.declared.history.History.{History}
 use Rattle.commute_table.specs.declared.catalog.Catalog.{Catalog}
-use Rattle.store_group.specs.Events.{BecomeEach, IsPrepared, MayPrepareEach, effect_for}
+use Rattle.store_group.specs.Events.{BecomeEach, IsPrepared, IsUnchanged, MayPrepareEach, effect_for}
 use Rattle.history_files.specs.Groups.{LacksEach}
 use Rattle.history_files.specs.Sound.{IsSound}
 use Rattle.history_files.specs.Standing.{AreGoodBooks, EachFits, Stand}
@@ -54,7 +54,7 @@ returns-clause-acknowledged g c =
     subst (λ f. Told (g.R.Rack.disk f.rack) → (c' : Catalog) (h : History) → Stand c' h f.journal f.stores (g.R.Rack.disk f.rack) → LacksEach c'.ops h group → OnOk c.prepare_each.result (Stand c' h c.self.inside.journal new now))
     c.self.view_is
     (λ told c' h stand lacks.
-    OnOk-both (λ became stands. stands_with_group c' h c.self.inside.journal old new start now (after_prepare group) (g.met.R.Rack.honest c.self.inside.rack told) (g.met.R.Rack.honest c.prepare_each.new.rack (did.tells ∙ told))
+    OnOk-both (λ became stands. stands_with_group c' h c.self.inside.journal old new start now (after_prepare group) (g.met.R.Rack.honest c.self.inside.rack told) (g.met.R.Rack.honest c.prepare_each.new.rack (did.rack.tells ∙ told))
     are c.self.invariant.1 stand (did.others told) (may_be_prepared law c' h c.self.inside.journal old start group are stand lacks c.requires.bytes may) (as_prepared group old new became) stands)
     c.prepare_each.result did.ok (did.acknowledged told))
 
@@ -74,9 +74,14 @@ returns-clause-any_moment g c =
     images_of_group c' h c.self.inside.journal old start now (after_prepare group) (g.met.R.Rack.honest c.self.inside.rack told) are c.self.invariant.1 stand (did.others told)
     (may_be_prepared law c' h c.self.inside.journal old start group are stand lacks c.requires.bytes may) (did.any_moment told))
 
-pub returns-clause-follow : goal.returns-clause-follow
-returns-clause-follow g c =
-    subst (λ f. Told (g.R.Rack.disk f.rack) → ImagesFollow (g.R.Rack.disk f.rack) (g.R.Rack.disk c.prepare_each.new.rack)) c.self.view_is (λ told. (c.prepare_each.ensures.others told).follow)
+pub returns-clause-rack : goal.returns-clause-rack
+returns-clause-rack g c = record {
+  follow =
+      subst (λ f. Told (g.R.Rack.disk f.rack) → ImagesFollow (g.R.Rack.disk f.rack) (g.R.Rack.disk c.prepare_each.new.rack)) c.self.view_is (λ told. (c.prepare_each.ensures.others told).follow);
+  tells = search rules;
+  later = search rules;
+  fault = search rules;
+}
 
 pub returns-clause-good : goal.returns-clause-good
 returns-clause-good g c =
@@ -90,3 +95,7 @@ returns-clause-good g c =
 pub returns-clause-ok : goal.returns-clause-ok
 returns-clause-ok g c =
     subst (λ ss. OnOk c.prepare_each.result (BecomeEach (λ q s t. IsPrepared (effect_for c.args.group.now q) s t) ss c.prepare_each.new.stores.items)) (ap (λ f. f.stores) c.self.view_is) c.prepare_each.ensures.ok
+
+pub returns-clause-err : goal.returns-clause-err
+returns-clause-err g c =
+    subst (λ ss. OnErr c.prepare_each.result (BecomeEach (λ q s t. IsUnchanged s t) ss c.prepare_each.new.stores.items)) (ap (λ f. f.stores) c.self.view_is) c.prepare_each.ensures.err

@@ -17,7 +17,7 @@ returns-clause-acknowledged g c =
     c.self.view_is
     (λ told c' h after stand made may come. OnOk-then
     (stands_with_record c' h after c.self.inside.journal c.append.new.self c.self.inside.stores.items (g.R.Rack.disk c.self.inside.rack) (g.R.Rack.disk c.append.new.rack)
-    (g.met.R.Rack.honest c.self.inside.rack told) (g.met.R.Rack.honest c.append.new.rack (c.append.ensures.tells ∙ told)) c.self.invariant.0 stand (c.append.ensures.others told) come)
+    (g.met.R.Rack.honest c.self.inside.rack told) (g.met.R.Rack.honest c.append.new.rack (c.append.ensures.rack.tells ∙ told)) c.self.invariant.0 stand (c.append.ensures.others told) come)
     c.append.result (c.append.ensures.acknowledged told c' h after stand.journal made may))
 
 pub returns-clause-any_moment : goal.returns-clause-any_moment

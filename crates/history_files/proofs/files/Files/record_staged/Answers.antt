@@ -20,7 +20,7 @@ returns-clause-acknowledged g c =
     c.self.view_is
     (λ told c' h after rs stand are made come. OnOk-then
     (stands_with_record c' h after c.self.inside.journal c.append_staged.new.self c.self.inside.stores.items (g.R.Rack.disk c.self.inside.rack) (g.R.Rack.disk c.append_staged.new.rack)
-    (g.met.R.Rack.honest c.self.inside.rack told) (g.met.R.Rack.honest c.append_staged.new.rack (c.append_staged.ensures.tells ∙ told)) c.self.invariant.0 stand (c.append_staged.ensures.others told) come)
+    (g.met.R.Rack.honest c.self.inside.rack told) (g.met.R.Rack.honest c.append_staged.new.rack (c.append_staged.ensures.rack.tells ∙ told)) c.self.invariant.0 stand (c.append_staged.ensures.others told) come)
     c.append_staged.result (c.append_staged.ensures.acknowledged told c' h after rs stand.journal are made))
 
 pub returns-clause-any_moment : goal.returns-clause-any_moment

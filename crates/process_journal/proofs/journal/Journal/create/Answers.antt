@@ -8,8 +8,8 @@ returns-in_err-add-clause-others g c = λ told.
     let old = g.R.Rack.disk c.args.rack.now in
     let mid = g.R.Rack.disk c.create.new.rack in
     let new = g.R.Rack.disk c.add.new.rack in
-    let told_mid = still_told old mid c.in_ok-log.ensures.tells told in
-    let told_new = still_told mid new c.add.ensures.tells told_mid in
+    let told_mid = still_told old mid c.in_ok-log.ensures.rack.tells told in
+    let told_new = still_told mid new c.add.ensures.rack.tells told_mid in
     others_then 0 old mid new (g.met.R.Rack.honest c.create.new.rack told_mid) (g.met.R.Rack.honest c.add.new.rack told_new) (c.in_ok-log.ensures.others told)
     (subst (λ q. OthersAsBefore q mid new) c.add.ensures.file (c.add.ensures.others told_mid))
 
@@ -18,7 +18,7 @@ returns-clause-others g c = λ told.
     let old = g.R.Rack.disk c.args.rack.now in
     let mid = g.R.Rack.disk c.create.new.rack in
     let new = g.R.Rack.disk c.add.new.rack in
-    let told_mid = still_told old mid c.in_ok-log.ensures.tells told in
-    let told_new = still_told mid new c.add.ensures.tells told_mid in
+    let told_mid = still_told old mid c.in_ok-log.ensures.rack.tells told in
+    let told_new = still_told mid new c.add.ensures.rack.tells told_mid in
     others_then 0 old mid new (g.met.R.Rack.honest c.create.new.rack told_mid) (g.met.R.Rack.honest c.add.new.rack told_new) (c.in_ok-log.ensures.others told)
     (subst (λ q. OthersAsBefore q mid new) c.add.ensures.file (c.add.ensures.others told_mid))

@@ -10,7 +10,7 @@ invariant_of-result g c =
     let account = c.in_ok-account-in-Ok.account in
     let bodies = c.in-Ok.bodies.items in
     let is = c.in_ok-account-in-Ok.ensures.bodies ∙ c.deref.ensures.value in
-    opened_room account.book account.doubt bodies _ _ is c.in-Ok.ensures.log.1 (omega (arith, c.in_ok-account-in-Ok.ensures.small, ap length c.deref.ensures.value)) c.in-Ok.ensures.last
+    opened_room account.book account.doubt bodies _ _ is c.in-Ok.ensures.log.count (omega (arith, c.in_ok-account-in-Ok.ensures.small, ap length c.deref.ensures.value)) c.in-Ok.ensures.log.last
 
 pub returns-in_ok-account-in-Ok-clause-good : goal.returns-in_ok-account-in-Ok-clause-good
 returns-in_ok-account-in-Ok-clause-good g c =
