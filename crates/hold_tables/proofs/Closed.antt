@@ -11,9 +11,11 @@ use Rattle.schedule_model.proofs.Walks.{leads-from_walk, walk-from_leads}
 use Rattle.hold_tables.specs.Tables.{OpenProcess, Tables, holdings_of, holds_nothing, is_open}
 use Rattle.hold_tables.specs.Kept.{AreTidy}
 use Rattle.hold_tables.specs.Places.{place_of}
-use Rattle.hold_tables.specs.Walks.{TellWalks, cell, told}
+use Rattle.hold_tables.specs.Walks.{TellWalks, told}
+use Rattle.bit_rows.specs.Cells.{cell}
 use Rattle.hold_tables.specs.Counts.{TellCounts, arrow_at, count_at}
-use Rattle.hold_tables.specs.Arrows.{IsClosed, IsPassed, arrows_in}
+use Rattle.hold_tables.specs.Arrows.{IsClosed, arrows_in}
+use Rattle.bit_rows.specs.Cells.{IsPassed}
 use Rattle.hold_tables.proofs.Extended.{place_within}
 use Rattle.hold_tables.proofs.Places.{at_place, number-at, place-is}
 use Rattle.hold_tables.proofs.Tidy.{each_numbered}

@@ -1,17 +1,18 @@
 -- Pairs counted: none, one, and some after others; and the same taken off.
-use Rattle.std.proofs.Common.{◌≡◌, ◌<◌, ◌+◌, ℕ, Bool, true, false, ◌||◌, ◌&&◌, List, [], ◌∷◌, length, slice_index_or, Option, Some, sym, refl, ap, ◌∙◌, subst, arith, get_or-set_same, get_or-set_other, length-set}
-use Rattle.std.specs.Prelude.{nat_eq, slice_set}
+use Rattle.std.proofs.Common.{◌≡◌, ◌<◌, ◌+◌, ℕ, Bool, true, false, ◌||◌, ◌&&◌, List, [], ◌∷◌, length, slice_index_or, Option, Some, sym, refl, ap, ◌∙◌, subst, arith}
+use Rattle.std.specs.Prelude.{nat_eq}
 use Rattle.std.proofs.lemmas.Bool.{eq-eqb, eqb-true, eqb-false}
 use Rattle.process_tree.specs.declared.entry.Entry.{Entry}
 use Rattle.schedule_model.specs.Conflict.{ConflictRelation, conflict}
 use Rattle.hold_tables.specs.Tables.{OpenProcess, Tables, has_number}
 use Rattle.hold_tables.specs.Places.{place_of}
-use Rattle.hold_tables.specs.Counts.{AreCounted, HasRoomFor, IsCounted, IsUncounted, Pairs, TellCounts, TellCountsBut, count_at, counted, one_if, pair, pairs_by, pairs_to}
+use Rattle.hold_tables.specs.Counts.{AreCounted, HasRoomFor, IsCounted, IsUncounted, Pairs, TellCounts, TellCountsBut, count_at, counted, pair, pairs_by, pairs_to}
+use Rattle.bit_rows.specs.Cells.{IsOneRow, one_if}
 use Rattle.hold_tables.specs.Walks.{AreDistinctRows, step_of, steps_under_way}
 use Rattle.hold_tables.proofs.Arrows.{steps_first}
 use Rattle.hold_tables.proofs.Pairs.{by_append}
 use Rattle.hold_tables.proofs.SameGraph.{step_is}
-use Rattle.hold_tables.proofs.Extended.{place_within, same_place}
+use Rattle.hold_tables.proofs.Extended.{same_place}
 use Rattle.hold_tables.proofs.Marks.{neither_of}
 
 module _ (rows : List OpenProcess) where
@@ -63,49 +64,44 @@ pair_is table x y is i k = ap (λ t. one_if (nat_eq x.process i && (nat_eq y.pro
     and_true true = refl
     and_true false = refl
 
-module _ (rows : List OpenProcess) (p q : ℕ) (old : List (List ℕ)) (row : List ℕ) (are : AreDistinctRows rows old) (from : has_number p rows ≡ true) (to : has_number q rows ≡ true) where
-  abbrev new : List (List ℕ)
-  new = slice_set old (place_of p rows) row
-
-  -- in the row of p stands what was written, and in the others what stood there
-  own_row : (i k : ℕ) → has_number i rows ≡ true → nat_eq p i ≡ true → counted rows new i k ≡ slice_index_or row (place_of k rows) 0
-  own_row i k here is =
-      let within = place_within rows p from in
-      let count = are.0 in
-      ap (λ n. counted rows new n k) (sym (eqb-true p i is)) ∙ ap (λ r. slice_index_or r (place_of k rows) 0) (get_or-set_same old (place_of p rows) row [] (omega (arith, within, count)))
+module _ (rows : List OpenProcess) (p q : ℕ) (old new : List (List ℕ)) (are : AreDistinctRows rows old) (from : has_number p rows ≡ true) (to : has_number q rows ≡ true)
+    (one : IsOneRow (place_of p rows) old new) where
+  -- process p has its row, and in the others stands what stood there
+  own_row : (i k : ℕ) → nat_eq p i ≡ true → counted rows new i k ≡ count_at new (place_of p rows) (place_of k rows)
+  own_row i k is = ap (λ n. counted rows new n k) (sym (eqb-true p i is))
 
   other_row : (i k : ℕ) → has_number i rows ≡ true → nat_eq p i ≡ false → counted rows new i k ≡ counted rows old i k
   other_row i k here is =
-      ap (λ r. slice_index_or r (place_of k rows) 0) (get_or-set_other old (place_of p rows) (place_of i rows) row [] (λ at. eqb-false (place_of p rows) (place_of i rows) (same_place rows p i from here ∙ is) (sym at)))
+      ap (λ r. slice_index_or r (place_of k rows) 0) (one.others (place_of i rows) (λ at. eqb-false (place_of p rows) (place_of i rows) (same_place rows p i from here ∙ is) (sym at)))
 
   -- one pair is counted in a row
-  pub counted_one : ((d : ℕ) → slice_index_or row d 0 ≡ count_at old (place_of p rows) d + one_if (nat_eq (place_of q rows) d)) → IsCounted rows (one_pair p q) old new
-  counted_one is = record { count = length-set _ _ _; tell = λ i k here there. by i k here there (nat_eq p i) refl }
+  pub counted_one : ((d : ℕ) → count_at new (place_of p rows) d ≡ count_at old (place_of p rows) d + one_if (nat_eq (place_of q rows) d)) → IsCounted rows (one_pair p q) old new
+  counted_one is = record { count = one.count; tell = λ i k here there. by i k here there (nat_eq p i) refl }
     where
       by : (i k : ℕ) → has_number i rows ≡ true → has_number k rows ≡ true → (t : Bool) → nat_eq p i ≡ t → counted rows new i k ≡ counted rows old i k + one_if (nat_eq p i && nat_eq q k)
       by i k here there true same =
-          own_row i k here same ∙ is (place_of k rows) ∙ ap (λ t. count_at old (place_of p rows) (place_of k rows) + one_if t) (same_place rows q k to there)
+          own_row i k same ∙ is (place_of k rows) ∙ ap (λ t. count_at old (place_of p rows) (place_of k rows) + one_if t) (same_place rows q k to there)
           ∙ ap (λ n. counted rows old n k + one_if (nat_eq q k)) (eqb-true p i same) ∙ ap (λ t. counted rows old i k + one_if (t && nat_eq q k)) (sym same)
       by i k here there false other = let stays = other_row i k here other in rw other (omega (arith, stays))
 
   -- one pair is taken off in a row, and there are more, unless it is told that there are none
-  pub uncounted_one : (gone : Bool) → ((d : ℕ) → count_at old (place_of p rows) d ≡ slice_index_or row d 0 + one_if (nat_eq (place_of q rows) d)) → (gone ≡ false → 0 < slice_index_or row (place_of q rows) 0)
+  pub uncounted_one : (gone : Bool) → ((d : ℕ) → count_at old (place_of p rows) d ≡ count_at new (place_of p rows) d + one_if (nat_eq (place_of q rows) d)) → (gone ≡ false → 0 < count_at new (place_of p rows) (place_of q rows))
       → IsUncounted rows (one_pair p q) gone old new
   uncounted_one gone is more = record {
-    count = length-set _ _ _;
+    count = one.count;
     tell = λ i k here there. by i k here there (nat_eq p i) refl;
     stays = λ kept i k here there some. left kept i k here there some (nat_eq p i) (nat_eq q k) refl refl;
   }
     where
       by : (i k : ℕ) → has_number i rows ≡ true → has_number k rows ≡ true → (t : Bool) → nat_eq p i ≡ t → counted rows old i k ≡ counted rows new i k + one_if (nat_eq p i && nat_eq q k)
       by i k here there true same =
-          ap (λ n. counted rows old n k) (sym (eqb-true p i same)) ∙ is (place_of k rows) ∙ ap (λ t. slice_index_or row (place_of k rows) 0 + one_if t) (same_place rows q k to there)
-          ∙ ap (λ n. n + one_if (nat_eq q k)) (sym (own_row i k here same)) ∙ ap (λ t. counted rows new i k + one_if (t && nat_eq q k)) (sym same)
+          ap (λ n. counted rows old n k) (sym (eqb-true p i same)) ∙ is (place_of k rows) ∙ ap (λ t. count_at new (place_of p rows) (place_of k rows) + one_if t) (same_place rows q k to there)
+          ∙ ap (λ n. n + one_if (nat_eq q k)) (sym (own_row i k same)) ∙ ap (λ t. counted rows new i k + one_if (t && nat_eq q k)) (sym same)
       by i k here there false other = let stays = other_row i k here other in rw other (omega (arith, stays))
 
       left : gone ≡ false → (i k : ℕ) → has_number i rows ≡ true → has_number k rows ≡ true → 0 < counted rows old i k → (s t : Bool) → nat_eq p i ≡ s → nat_eq q k ≡ t → 0 < counted rows new i k
       left kept i k here there some true true first last =
-          subst (λ n. 0 < n) (sym (own_row i k here first)) (subst (λ n. 0 < slice_index_or row (place_of n rows) 0) (eqb-true q k last) (more kept))
+          subst (λ n. 0 < n) (sym (own_row i k first)) (subst (λ n. 0 < count_at new (place_of p rows) (place_of n rows)) (eqb-true q k last) (more kept))
       left kept i k here there some true false first last =
           let all = by i k here there true first in
           let none : one_if (nat_eq p i && nat_eq q k) ≡ 0 = ap (λ t. one_if (nat_eq p i && t)) last ∙ ap (λ t. one_if (t && false)) first in

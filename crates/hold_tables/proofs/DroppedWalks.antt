@@ -1,7 +1,6 @@
 -- A process that no walk leads through is dropped: the walks among the others stay.
-use Rattle.std.proofs.Common.{◌≡◌, ◌+◌, ℕ, suc, Bool, true, false, not, ◌&&◌, ◌||◌, List, [], ◌∷◌, ◌++◌, length, Option, Some, None, sym, refl, ap, ◌∙◌, subst, arith}
-use Rattle.std.specs.Prelude.{IsTrue, nat_eq, nat_lt, slice_index_or, IfSome, if◌then◌else◌}
-use Rattle.std.specs.List.{list_any}
+use Rattle.std.proofs.Common.{◌≡◌, ◌+◌, ℕ, suc, Bool, true, false, not, ◌||◌, List, [], ◌∷◌, ◌++◌, length, Option, Some, None, inl, inr, sym, refl, ap, ◌∙◌, subst, arith}
+use Rattle.std.specs.Prelude.{IsTrue, nat_eq, nat_lt, IfSome, if◌then◌else◌}
 use Rattle.std.proofs.lemmas.Bool.{eqb-true, false≢true, ltb-false, ltb-true, ne_eqb, eqb-false, not-true}
 use Rattle.std.proofs.lemmas.List.Elements.{filter-append}
 use Rattle.process_tree.specs.declared.entry.Entry.{Entry}
@@ -17,13 +16,14 @@ use Rattle.hold_tables.specs.Tables.{OpenProcess, Tables, has_number, holdings_o
 use Rattle.hold_tables.specs.Changes.{can_come}
 use Rattle.hold_tables.specs.Kept.{AreTidy, IsKnown, are_numbered}
 use Rattle.hold_tables.specs.Arrows.{arrows_in}
-use Rattle.hold_tables.specs.Cells.{IsPlaceTaken, place_before}
+use Rattle.bit_rows.specs.Cells.{IsPlaceTaken, place_before}
 use Rattle.hold_tables.specs.Counts.{TellCounts, count_at, pair, pairs_by, pairs_from, pairs_in}
 use Rattle.hold_tables.specs.Places.{place_of}
-use Rattle.hold_tables.specs.Walks.{AreRows, TellWalks, cell, leads_through, step_of, steps_under_way, told}
+use Rattle.hold_tables.specs.Walks.{AreRows, TellWalks, IsAtEnd, step_of, steps_under_way, told}
+use Rattle.bit_rows.specs.Cells.{cell}
 use Rattle.hold_tables.proofs.Arrows.{steps_first}
-use Rattle.hold_tables.proofs.Cells.{before_above, before_below}
-use Rattle.hold_tables.proofs.Marks.{neither_of, none_at_place, none_in_rows}
+use Rattle.bit_rows.proofs.Cells.{before_above, before_below}
+use Rattle.hold_tables.proofs.Marks.{neither_of}
 use Rattle.hold_tables.proofs.Opening.{number_of_others, other_processes, others}
 use Rattle.hold_tables.proofs.Pairs.{arrow_counted, other_by, other_last}
 use Rattle.hold_tables.proofs.Reaching.{graph-is, holder-number, number-holder, same_truth}
@@ -220,7 +220,7 @@ dropped_counts i table net rows old new tidy has tells taken count = record {
 
 module _ (i : ℕ) (table : Table) (net : List Entry) (rows : List OpenProcess) (old new : List (List Bool)) (tidy_was : AreTidy (tables table net rows))
     (tidy_now : AreTidy (tables table (others i net) (other_processes i rows))) (has : has_number i rows ≡ true) (tells : TellWalks (tables table net rows) old)
-    (taken : IsPlaceTaken false (place_of i rows) old new) (none : leads_through old (place_of i rows) ≡ false) where
+    (taken : IsPlaceTaken false (place_of i rows) old new) (none : IsAtEnd old (place_of i rows)) where
   abbrev was : Tables
   was = tables table net rows
 
@@ -236,18 +236,17 @@ module _ (i : ℕ) (table : Table) (net : List Entry) (rows : List OpenProcess) 
   -- so a walk has no process between its ends that none leads from or none leads to
   between : (j m k : ℕ) → Walk (graph_of was) (holders (holdings_of was)) j m → arrows_in was m k ≡ true → (b : Bool) → nat_eq m i ≡ b → nat_eq m i ≡ false
   between j m k walk a false is = is
-  between j m k walk a true is = by (list_any (λ mark. mark) (slice_index_or old (place_of i rows) [])) refl
+  between j m k walk a true is = by none
     where
       same : m ≡ i
       same = eqb-true m i is
 
-      by : (s : Bool) → list_any (λ mark. mark) (slice_index_or old (place_of i rows) []) ≡ s → nat_eq m i ≡ false
-      by false from = absurd (false≢true (sym (none_at_place (slice_index_or old (place_of i rows) []) (place_of k rows) from) ∙ ap (λ n. told rows old n k) (sym same) ∙ arrow_told m k a))
-      by true from =
-          let to : list_any (λ row. slice_index_or row (place_of i rows) false) old ≡ false = sym (ap (λ t. t && list_any (λ row. slice_index_or row (place_of i rows) false) old) from) ∙ none in
+      by : IsAtEnd old (place_of i rows) → nat_eq m i ≡ false
+      by (inl from) = absurd (false≢true (sym (from (place_of k rows)) ∙ ap (λ n. told rows old n k) (sym same) ∙ arrow_told m k a))
+      by (inr to) =
           let ends = walk_ends was tidy_was walk in
           let led = tells.tell j m ends.0 ends.1 ∙ leads-from_walk (graph_of was) (holders (holdings_of was)) walk in
-          absurd (false≢true (sym (none_in_rows old (place_of i rows) (place_of j rows) to) ∙ ap (λ n. told rows old j n) (sym same) ∙ led))
+          absurd (false≢true (sym (to (place_of j rows)) ∙ ap (λ n. told rows old j n) (sym same) ∙ led))
 
   arrow_left : (j k : ℕ) → nat_eq j i ≡ false → nat_eq k i ≡ false → IsTrue (is_in k (holders (holdings_of was))) → IsTrue (graph_of was j k)
       → IsTrue (is_in k (holders (holdings_of now))) × IsTrue (graph_of now j k)

@@ -6,7 +6,8 @@ use Rattle.std.proofs.lemmas.Bool.{eqb-true, eq-eqb, ne_eqb, eqb-false, false≢
 use Rattle.schedule_model.specs.Graph.{Arrow}
 use Rattle.hold_tables.specs.Tables.{OpenProcess, has_number}
 use Rattle.hold_tables.specs.Places.{place_of}
-use Rattle.hold_tables.specs.Walks.{AreDistinctRows, Implies, IsExtended, IsJoined, IsTransitive, is_or, told}
+use Rattle.hold_tables.specs.Walks.{AreDistinctRows, Implies, IsExtended, IsTransitive, told}
+use Rattle.bit_rows.specs.Cells.{IsJoined, is_or}
 
 -- processes have one place where they are one
 pub same_place : (rows : List OpenProcess) (i p : ℕ) → has_number i rows ≡ true → has_number p rows ≡ true → nat_eq (place_of i rows) (place_of p rows) ≡ nat_eq i p

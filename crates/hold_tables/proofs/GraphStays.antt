@@ -248,10 +248,10 @@ graph_lent table net lent_net rows lent_rows counts walks same_rows same_net tel
     subst (λ rs. TellBoth (tables table net rs) counts walks) same_rows (subst (λ es. TellBoth (tables table es lent_rows) counts walks) same_net tells)
 
 -- and so is what was taken off the counts
-pub uncounted_lent : (rows lent_rows : List OpenProcess) (taken lent_taken : Pairs) (gone : Bool) (old lent_old new : List (List ℕ)) → lent_rows ≡ rows → lent_taken ≡ taken → lent_old ≡ old
-    → IsUncounted lent_rows lent_taken gone lent_old new → IsUncounted rows taken gone old new
-uncounted_lent rows lent_rows taken lent_taken gone old lent_old new same_rows same_taken same_old off =
-    subst (λ rs. IsUncounted rs taken gone old new) same_rows (subst (λ ps. IsUncounted lent_rows ps gone old new) same_taken (subst (λ m. IsUncounted lent_rows lent_taken gone m new) same_old off))
+pub uncounted_lent : (rows lent_rows : List OpenProcess) (taken lent_taken : Pairs) (gone : Bool) (old new : List (List ℕ)) → lent_rows ≡ rows → lent_taken ≡ taken
+    → IsUncounted lent_rows lent_taken gone old new → IsUncounted rows taken gone old new
+uncounted_lent rows lent_rows taken lent_taken gone old new same_rows same_taken off =
+    subst (λ rs. IsUncounted rs taken gone old new) same_rows (subst (λ ps. IsUncounted lent_rows ps gone old new) same_taken off)
 
 -- an undo is one of an entry
 pub undo_of : (o : Option Entry) → undoes o ≡ true → (e : Entry) × (o ≡ Some e) × (e.undo ≡ true)

@@ -17,7 +17,7 @@ use Rattle.hold_tables.specs.Changes.{can_come, has_entry, without_last}
 use Rattle.hold_tables.specs.Kept.{AreKnown, AreTidy, IsKnown, IsTidy}
 use Rattle.hold_tables.specs.Operations.{AddsOps, AreKnownOps, CoverOps, IsClearOf, KeepOps, TellOps, all_beside, has_pending, has_slot, is_conflict, may_conflict, may_hold, ops_beside, ops_of, slot_of}
 use Rattle.hold_tables.specs.Walks.{conflicts_with}
-use Rattle.hold_tables.proofs.Cells.{none_in_row}
+use Rattle.bit_rows.proofs.Cells.{none_in_row}
 use Rattle.hold_tables.proofs.Marks.{neither_of, one_marked}
 
 or_none : (a : Bool) → (a || false) ≡ a

@@ -9,7 +9,6 @@ pub mod Opening
 pub mod Least
 pub mod Standing
 pub mod Reaching
-pub mod Cells
 pub mod Marks
 pub mod HeldOps
 pub mod Extended

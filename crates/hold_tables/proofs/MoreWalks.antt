@@ -14,7 +14,8 @@ use Rattle.hold_tables.specs.Changes.{change_numbered, net_after, with_running}
 use Rattle.hold_tables.specs.Kept.{AreTidy}
 use Rattle.hold_tables.specs.Arrows.{arrows_in}
 use Rattle.hold_tables.specs.Places.{place_of}
-use Rattle.hold_tables.specs.Walks.{Implies, IsExtended, IsTransitive, TellWalks, arrows_by, arrows_from, arrows_to, cell, step_of, steps_under_way, told}
+use Rattle.hold_tables.specs.Walks.{Implies, IsExtended, IsTransitive, TellWalks, arrows_by, arrows_from, arrows_to, step_of, steps_under_way, told}
+use Rattle.bit_rows.specs.Cells.{cell}
 use Rattle.hold_tables.proofs.Arrows.{any_later}
 use Rattle.hold_tables.proofs.Reaching.{graph-is, holder-number, number-holder, same_truth, walk_on}
 use Rattle.hold_tables.proofs.SameGraph.{Follows, graph_of, numbers_of, reach_over, split_steps, step_is}

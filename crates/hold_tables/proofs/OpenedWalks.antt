@@ -9,12 +9,12 @@ use Rattle.hold_tables.specs.Tables.{OpenProcess, Tables, has_number, holdings_o
 use Rattle.hold_tables.specs.Kept.{AreTidy}
 use Rattle.hold_tables.specs.Places.{place_of}
 use Rattle.hold_tables.specs.Arrows.{arrows_in}
-use Rattle.hold_tables.specs.Cells.{IsCleared, cell_or}
+use Rattle.bit_rows.specs.Cells.{IsCleared, cell_or}
 use Rattle.hold_tables.specs.Counts.{TellCounts, pairs_from, pairs_in}
 use Rattle.hold_tables.specs.Walks.{AreRows, TellWalks, arrows_from, step_of, steps_under_way}
 use Rattle.hold_tables.proofs.Arrows.{steps_first}
 use Rattle.hold_tables.proofs.Extended.{place_within}
-use Rattle.hold_tables.proofs.Cells.{past_cleared}
+use Rattle.bit_rows.proofs.Cells.{past_cleared}
 use Rattle.hold_tables.proofs.Pairs.{arrow_counted}
 use Rattle.hold_tables.proofs.Opening.{number_more}
 use Rattle.hold_tables.proofs.SameGraph.{same_reach}

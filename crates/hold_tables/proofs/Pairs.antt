@@ -10,7 +10,8 @@ use Rattle.schedule_model.specs.Conflict.{ConflictRelation, IsSymmetric, conflic
 use Rattle.schedule_model.specs.Histories.{of_process}
 use Rattle.schedule_model.proofs.Conflicts.{conflict-flipped}
 use Rattle.hold_tables.specs.Arrows.{arrows_in}
-use Rattle.hold_tables.specs.Counts.{one_if, pair, pairs_by, pairs_from, pairs_in, pairs_of_entry, pairs_to}
+use Rattle.hold_tables.specs.Counts.{pair, pairs_by, pairs_from, pairs_in, pairs_of_entry, pairs_to}
+use Rattle.bit_rows.specs.Cells.{one_if}
 use Rattle.hold_tables.specs.Tables.{Tables}
 use Rattle.hold_tables.specs.Walks.{arrows_by, arrows_from, conflicts_with, steps_under_way}
 use Rattle.hold_tables.proofs.Arrows.{any_later, none_first}

@@ -13,7 +13,8 @@ use Rattle.hold_tables.specs.Changes.{change_numbered, with_running}
 use Rattle.hold_tables.specs.Kept.{AreTidy}
 use Rattle.hold_tables.specs.Arrows.{arrows_in}
 use Rattle.hold_tables.specs.Places.{place_of}
-use Rattle.hold_tables.specs.Walks.{TellWalks, cell, step_of, steps_under_way}
+use Rattle.hold_tables.specs.Walks.{TellWalks, step_of, steps_under_way}
+use Rattle.bit_rows.specs.Cells.{cell}
 use Rattle.hold_tables.proofs.Arrows.{steps_first}
 use Rattle.hold_tables.proofs.Reaching.{graph-is, holder-number, number-holder, same_truth}
 use Rattle.hold_tables.proofs.WalksStay.{same_count, same_open, same_places}

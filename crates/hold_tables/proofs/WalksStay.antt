@@ -12,7 +12,8 @@ use Rattle.schedule_model.specs.Holdings.{behind, reaches}
 use Rattle.hold_tables.specs.Tables.{OpenProcess, Tables, has_number, hold_in, holdings_of, is_open, running_of}
 use Rattle.hold_tables.specs.Changes.{change_numbered}
 use Rattle.hold_tables.specs.Places.{place_of}
-use Rattle.hold_tables.specs.Walks.{TellWalks, cell}
+use Rattle.hold_tables.specs.Walks.{TellWalks}
+use Rattle.bit_rows.specs.Cells.{cell}
 use Rattle.hold_tables.proofs.Least.{all_running-is}
 use Rattle.hold_tables.proofs.Tidy.{row_changed, tables}
 

@@ -1,11 +1,12 @@
 -- Arrows: what is kept of the conflict graph, the pairs that make its arrows and where its walks lead.
-use Rattle.std.specs.Prelude.{◌≡◌, ◌<◌, ℕ, Bool, true, ◌&&◌, ◌||◌, List, length}
+use Rattle.std.specs.Prelude.{◌≡◌, ◌<◌, ℕ, Bool, true, List, length}
 use Rattle.process_tree.specs.Conflicts.{do_conflict}
 use Rattle.schedule_model.specs.Graph.{Arrow}
 use Rattle.hold_tables.specs.declared.graph.Graph.{Graph}
-use Rattle.hold_tables.specs.Counts.{Pairs, TellCounts, TellCountsBut, arrow_at}
+use Rattle.hold_tables.specs.Counts.{Pairs, TellCounts, TellCountsBut}
 use Rattle.hold_tables.specs.Tables.{Tables}
-use Rattle.hold_tables.specs.Walks.{TellWalks, TellWalksBut, arrows_from, cell, steps_under_way}
+use Rattle.hold_tables.specs.Walks.{TellWalks, TellWalksBut, arrows_from, steps_under_way}
+use Rattle.bit_rows.specs.Cells.{cell}
 
 -- the arrows that the tables make
 abbrev pub arrows_in : Tables → Arrow
@@ -21,21 +22,10 @@ pub record IsClosed (n : ℕ) (arrow : Arrow) (marks : List (List Bool)) : Type 
       → ((a b : ℕ) → a < n → b < n → arrow a b ≡ true → led a b ≡ true)
       → (a b : ℕ) → a < n → b < n → cell marks a b ≡ true → led a b ≡ true
 
--- whatever the row of place p marks is marked in each row that marks place p
-abbrev pub IsPassed : ℕ → List (List Bool) → List (List Bool) → Type 0
-IsPassed p old new =
-    (length new ≡ length old)
-    × ((a b : ℕ) → a < length old → b < 256 → cell new a b ≡ (cell old a b || (cell old a p && cell old p b)))
-
--- the marks are the arrows for which pairs are counted
-abbrev pub AreMarked : List (List ℕ) → List (List Bool) → Type 0
-AreMarked counts marks =
-    (length marks ≡ length counts) × ((a b : ℕ) → a < length counts → b < 256 → cell marks a b ≡ arrow_at counts a b)
-
 -- what is kept of the graph tells the pairs that make its arrows, and where its walks lead
 abbrev pub TellGraph : Tables → Graph → Type 0
-TellGraph t g = TellCounts t g.counts.items × TellWalks t g.walks.items
+TellGraph t g = TellCounts t g.counts × TellWalks t g.walks
 
 -- the same once these pairs are counted, and the arrows that they make are added
 abbrev pub TellGraphBut : Tables → Pairs → Arrow → Graph → Type 0
-TellGraphBut t pairs arrows g = TellCountsBut t pairs g.counts.items × TellWalksBut t arrows g.walks.items
+TellGraphBut t pairs arrows g = TellCountsBut t pairs g.counts × TellWalksBut t arrows g.walks

@@ -5,7 +5,7 @@ use Rattle.process_tree.specs.declared.entry.Entry.{Entry}
 use Rattle.process_tree.specs.Conflicts.{do_conflict}
 use Rattle.schedule_model.specs.Conflict.{ConflictRelation, conflict}
 use Rattle.schedule_model.specs.Graph.{Arrow}
-use Rattle.hold_tables.specs.Cells.{cell_or}
+use Rattle.bit_rows.specs.Cells.{cell_or, one_if}
 use Rattle.hold_tables.specs.Changes.{without_last}
 use Rattle.hold_tables.specs.Places.{place_of}
 use Rattle.hold_tables.specs.Tables.{OpenProcess, Tables, has_number, is_open}
@@ -14,11 +14,6 @@ use Rattle.hold_tables.specs.Walks.{AreRows, steps_under_way}
 -- a number of pairs for each two processes
 abbrev pub Pairs : Type 0
 Pairs = ℕ → ℕ → ℕ
-
--- one, if this is so
-abbrev pub one_if : Bool → ℕ
-one_if true = 1
-one_if false = 0
 
 -- an entry and one that comes later: a pair of their processes, if they conflict
 abbrev pub pair : ConflictRelation → Entry → Entry → Pairs

@@ -3,7 +3,6 @@ pub mod Changes
 pub mod Reading
 pub mod Kept
 pub mod Places
-pub mod Cells
 pub mod Walks
 pub mod Operations
 pub mod Spare

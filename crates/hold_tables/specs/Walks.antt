@@ -1,6 +1,6 @@
 -- Walks: what is kept of where walks of the conflict graph lead.
-use Rattle.std.specs.Prelude.{◌≡◌, ◌≤◌, ◌<◌, ℕ, Bool, true, false, not, ◌&&◌, ◌||◌, List, [], ◌∷◌, ◌++◌, length}
-use Rattle.std.specs.Prelude.{filter, flat_map, nat_eq, slice_index_or, IfSome, Option}
+use Rattle.std.specs.Prelude.{◌≡◌, ◌⊎◌, ◌≤◌, ℕ, Bool, true, false, not, ◌&&◌, ◌||◌, List, [], ◌∷◌, ◌++◌, length}
+use Rattle.std.specs.Prelude.{filter, flat_map, nat_eq, IfSome, Option}
 use Rattle.std.specs.List.{list_any}
 use Rattle.std.specs.Option.{option_to_list}
 use Rattle.process_tree.specs.declared.entry.Entry.{Entry}
@@ -9,30 +9,15 @@ use Rattle.schedule_model.specs.Conflict.{ConflictRelation, conflict}
 use Rattle.schedule_model.specs.Graph.{Arrow}
 use Rattle.schedule_model.specs.Holdings.{reaches}
 use Rattle.hold_tables.specs.Tables.{Tables, OpenProcess, has_number, holdings_of, is_open, running_of}
-use Rattle.hold_tables.specs.Cells.{cell_or}
+use Rattle.bit_rows.specs.Cells.{cell}
 use Rattle.hold_tables.specs.Kept.{IsKnown, are_numbered}
 use Rattle.hold_tables.specs.Places.{place_of}
 
--- rows of marks: whether the row at place a has a mark at place b
-abbrev pub cell : List (List Bool) → ℕ → ℕ → Bool
-cell marks a b = cell_or false marks a b
+-- no walk leads from place p, or none to it
+abbrev pub IsAtEnd : List (List Bool) → ℕ → Type 0
+IsAtEnd walks p = ((b : ℕ) → cell walks p b ≡ false) ⊎ ((a : ℕ) → cell walks a p ≡ false)
 
--- a place is this one, or is marked
-abbrev pub is_or : Bool → ℕ → ℕ → Bool
-is_or marked c a = nat_eq c a || marked
-
--- an arrow from place a to place b: whoever comes to a comes wherever b comes
-abbrev pub IsJoined : ℕ → ℕ → List (List Bool) → List (List Bool) → Type 0
-IsJoined a b old new =
-    (length new ≡ length old)
-    × ((c d : ℕ) → c < length old → d < 256 → cell new c d
-    ≡ (cell old c d || (is_or (cell old c a) c a && is_or (cell old b d) d b)))
-
--- whether the marks tell of a walk from place p and of one to it
-abbrev pub leads_through : List (List Bool) → ℕ → Bool
-leads_through marks p = list_any (λ mark. mark) (slice_index_or marks p []) && list_any (λ row. slice_index_or row p false) marks
-
--- whether the marks say that a walk leads from one open process to another
+-- whether the bits say that a walk leads from one open process to another
 abbrev pub told : List OpenProcess → List (List Bool) → Arrow
 told rows marks i k = cell marks (place_of i rows) (place_of k rows)
 

@@ -2,28 +2,17 @@
 ghost use Rattle.std.specs.Prelude.{◌≡◌, ◌<◌, ◌+◌, ℕ, nat_eq, slice_index_or};
 ghost use Rattle.process_tree.specs.Conflicts.{do_conflict};
 ghost use Rattle.process_tree.specs.Order.{Each};
-ghost use Rattle.hold_tables.specs.Counts.{HasRoomFor, IsCounted, one_if, pair, pairs_by, pairs_to};
+ghost use Rattle.hold_tables.specs.Counts.{HasRoomFor, IsCounted, pair, pairs_by, pairs_to};
+ghost use Rattle.bit_rows.specs.Cells.{one_if};
 ghost use Rattle.hold_tables.specs.Walks.{AreDistinctRows, IsPlaced, IsPlacedIf, step_of, steps_under_way};
 
 use crate::looking::place_of;
-use crate::place_rows::MOST;
 use crate::row::Row;
+use bit_rows::Counts;
 use process_tree::{Conflicts, Entry};
 
-/// A number for each place.
-pub type Counts = [u32; MOST];
-
-/// Counts one more at a place.
-fn count_more(row: &mut Counts, place: usize)
-    requires within { place < 256 }
-    requires room { slice_index_or row.old place 0 < 4294967295 }
-    ensures { (b : ℕ) → slice_index_or row.new b 0 ≡ slice_index_or row.old b 0 + one_if (nat_eq place b) }
-{
-    row[place] += 1;
-}
-
 /// Counts an entry and one that comes later, where they conflict.
-fn count_pair(counts: &mut [Counts], conflicts: &Conflicts, rows: &[Row], x: Entry, y: Entry)
+fn count_pair(counts: &mut Counts, conflicts: &Conflicts, rows: &[Row], x: Entry, y: Entry)
     requires rows { AreDistinctRows rows.now counts.old }
     requires first { IsPlaced conflicts.now rows.now x }
     requires later { IsPlaced conflicts.now rows.now y }
@@ -33,13 +22,13 @@ fn count_pair(counts: &mut [Counts], conflicts: &Conflicts, rows: &[Row], x: Ent
     if conflicts.between(x, y) {
         let from = place_of(rows, x.process);
         let to = place_of(rows, y.process);
-        count_more(&mut counts[from], to);
+        counts.more(from, to);
     }
 }
 
 /// Counts the pairs of each of these entries and one that comes later.
 pub fn count_to(
-    counts: &mut [Counts],
+    counts: &mut Counts,
     conflicts: &Conflicts,
     rows: &[Row],
     entries: &[Entry],
@@ -60,7 +49,7 @@ pub fn count_to(
 
 /// Counts an entry and what is under way, if it is a step.
 fn count_step(
-    counts: &mut [Counts],
+    counts: &mut Counts,
     conflicts: &Conflicts,
     rows: &[Row],
     x: Entry,
@@ -79,7 +68,7 @@ fn count_step(
 }
 
 /// The same of each step that is under way in these processes.
-pub fn count_steps(counts: &mut [Counts], conflicts: &Conflicts, rows: &[Row], x: Entry)
+pub fn count_steps(counts: &mut Counts, conflicts: &Conflicts, rows: &[Row], x: Entry)
     requires rows { AreDistinctRows rows.now counts.old }
     requires first { IsPlaced conflicts.now rows.now x }
     requires later { Each (λ r. IsPlacedIf conflicts.now rows.now r.running) rows.now }

@@ -13,11 +13,11 @@ ghost use Rattle.hold_tables.specs.Spare.{IsRoomIn};
 use crate::graph::{Graph, close_if, tell_run, tell_step};
 use crate::looking::{all_steps, count_of, place_of, remove_last};
 use crate::operations::{Beside, all_beside, mark_op, ops_of};
-use crate::place_rows::{MOST, add_place, take_place};
 use crate::reach::{Marks, leads_through, step_has_arrows};
-use crate::row::Row;
+use crate::row::{MOST, Row};
 use crate::spare::Spare;
 use crate::uncounting::{uncount_last, uncount_running};
+use bit_rows::{Bits, Counts};
 use process_tree::{Conflicts, Entry, Plan};
 use std::alloc::{AllocError, Global};
 use std::marker::Model;
@@ -63,8 +63,8 @@ impl Holds {
             net: Vec::new(alloc),
             rows: Vec::new(alloc),
             graph: Graph {
-                counts: Vec::new(alloc),
-                walks: Vec::new(alloc),
+                counts: Counts::new(alloc)?,
+                walks: Bits::new(alloc)?,
             },
             beside: all_beside(&[]),
             in_net: ops_of(&[]),
@@ -106,11 +106,9 @@ impl Holds {
         let row = Row::new(process, spare.steps, spare.reserved);
         spare.net.give_to(&mut self.net);
         spare.rows.give_to(&mut self.rows);
-        spare.counts.give_to(&mut self.graph.counts);
-        spare.walks.give_to(&mut self.graph.walks);
         self.rows.push_reserved(row);
-        add_place(&mut self.graph.counts, 0);
-        add_place(&mut self.graph.walks, false);
+        self.graph.counts.add_place();
+        self.graph.walks.add_place();
         self.beside = all_beside(&self.rows);
     }
 
@@ -273,8 +271,8 @@ impl Holds {
         let linked = leads_through(&self.graph.walks, at);
         self.net.retain(|e| e.process != process);
         self.rows.retain(|row| row.process() != process);
-        take_place(&mut self.graph.counts, at, 0);
-        take_place(&mut self.graph.walks, at, false);
+        self.graph.counts.take_place(at);
+        self.graph.walks.take_place(at);
         close_if(
             linked,
             &mut self.graph,

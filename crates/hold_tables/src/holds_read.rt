@@ -150,7 +150,9 @@ impl Holds {
         requires to { is_open self.now to ≡ true }
         ensures { result ≡ reaches (do_conflict self.now.conflicts) (holdings_of self.now) from to }
     {
-        self.graph.walks[place_of(&self.rows, from)][place_of(&self.rows, to)]
+        self.graph
+            .walks
+            .has(place_of(&self.rows, from), place_of(&self.rows, to))
     }
 
     /// The least other process, and its step, that holds a net entry, has one under way, or reserves one against the operation on

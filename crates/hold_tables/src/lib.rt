@@ -17,7 +17,6 @@ mod holds;
 mod holds_read;
 mod looking;
 mod operations;
-mod place_rows;
 mod reach;
 mod row;
 mod spare;

@@ -8,9 +8,8 @@ ghost use Rattle.hold_tables.specs.Kept.{AreKnown, IsKnownRunning};
 ghost use Rattle.hold_tables.specs.Operations.{AddsOps, AreKnownOps, CoverOps, IsClearOf, TellBeside, TellOps, all_beside};
 ghost use Rattle.hold_tables.specs.Operations.{has_pending, may_conflict, may_hold, ops_beside, ops_of, slot_of};
 
-use crate::place_rows::MOST;
 use crate::reach::Marks;
-use crate::row::Row;
+use crate::row::{MOST, Row};
 use process_tree::{Conflicts, Entry, Mode};
 
 /// Which operations are under way or reserved in any process, and whether something of one is to be undone.

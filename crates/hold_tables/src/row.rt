@@ -7,6 +7,9 @@ use crate::spare::SpareCapacity;
 use process_tree::Entry;
 use std::marker::Model;
 
+/// How many processes may be open.
+pub const MOST: usize = 256;
+
 /// An open process, with room for as many reserved steps as its plan has steps.
 #[derive(Drop)]
 pub struct Row {

@@ -1,8 +1,6 @@
 // Room that is taken before it is needed.
 ghost use Rattle.std.specs.Prelude.{◌≡◌, ◌≤◌, [], IfOk, vec_capacity, vec_len};
 
-use crate::counting::Counts;
-use crate::reach::Marks;
 use crate::row::Row;
 use process_tree::Entry;
 use std::alloc::{AllocError, Global};
@@ -60,8 +58,6 @@ pub struct Spare {
     pub(crate) reserved: SpareCapacity<(u16, u16, u32)>,
     pub(crate) net: SpareCapacity<Entry>,
     pub(crate) rows: SpareCapacity<Row>,
-    pub(crate) counts: SpareCapacity<Counts>,
-    pub(crate) walks: SpareCapacity<Marks>,
 }
 
 impl Model for Spare {
@@ -72,7 +68,7 @@ impl Model for Spare {
 
     ghost view = { λ s. record { steps = s.steps; net = s.net; processes = s.rows } };
 
-    ghost invariant = { λ s. (s.steps ≤ s.reserved) × (s.rows ≤ s.counts) × (s.rows ≤ s.walks) };
+    ghost invariant = { λ s. s.steps ≤ s.reserved };
 }
 
 impl Spare {
@@ -85,8 +81,6 @@ impl Spare {
             reserved: SpareCapacity::new(alloc, usize::from(steps))?,
             net: SpareCapacity::new(alloc, net)?,
             rows: SpareCapacity::new(alloc, processes)?,
-            counts: SpareCapacity::new(alloc, processes)?,
-            walks: SpareCapacity::new(alloc, processes)?,
         })
     }
 }

@@ -4,27 +4,17 @@ ghost use Rattle.process_tree.specs.Conflicts.{do_conflict};
 ghost use Rattle.process_tree.specs.Order.{Each};
 ghost use Rattle.hold_tables.specs.Kept.{AreTidy};
 ghost use Rattle.hold_tables.specs.Operations.{KeepOps, ops_of};
-ghost use Rattle.hold_tables.specs.Counts.{AreCounted, IsUncounted, TellCounts, one_if, pair, pairs_by, pairs_of_entry};
+ghost use Rattle.hold_tables.specs.Counts.{AreCounted, IsUncounted, TellCounts, pair, pairs_by, pairs_of_entry};
+ghost use Rattle.bit_rows.specs.Cells.{one_if};
 ghost use Rattle.hold_tables.specs.Counts.{pairs_of_last, pairs_to, pairs_to_step};
 ghost use Rattle.hold_tables.specs.Walks.{AreDistinctRows, IsPlaced, IsPlacedIf, step_of, steps_under_way};
 
-use crate::counting::Counts;
 use crate::looking::{last_place, place_of};
 use crate::operations::is_clear_of;
 use crate::reach::Marks;
 use crate::row::Row;
+use bit_rows::Counts;
 use process_tree::{Conflicts, Entry};
-
-/// Counts one less at a place: whether it was the last.
-fn count_less(row: &mut Counts, place: usize) -> bool
-    requires within { place < 256 }
-    requires some { 0 < slice_index_or row.old place 0 }
-    ensures less { (b : ℕ) → slice_index_or row.old b 0 ≡ slice_index_or row.new b 0 + one_if (nat_eq place b) }
-    ensures more { result ≡ false → 0 < slice_index_or row.new place 0 }
-{
-    row[place] -= 1;
-    row[place] == 0
-}
 
 /// Whether one or the other.
 fn either(a: bool, b: bool) -> bool
@@ -35,7 +25,7 @@ fn either(a: bool, b: bool) -> bool
 
 /// Takes off an entry and one that comes later, where they conflict: whether an arrow is gone.
 fn uncount_pair(
-    counts: &mut [Counts],
+    counts: &mut Counts,
     conflicts: &Conflicts,
     rows: &[Row],
     x: Entry,
@@ -50,7 +40,7 @@ fn uncount_pair(
     if conflicts.between(x, y) {
         let from = place_of(rows, x.process);
         let to = place_of(rows, y.process);
-        count_less(&mut counts[from], to)
+        counts.less(from, to)
     } else {
         false
     }
@@ -58,7 +48,7 @@ fn uncount_pair(
 
 /// Takes off the pairs of each of these entries and one that comes later.
 pub fn uncount_to(
-    counts: &mut [Counts],
+    counts: &mut Counts,
     conflicts: &Conflicts,
     rows: &[Row],
     entries: &[Entry],
@@ -81,7 +71,7 @@ pub fn uncount_to(
 
 /// Takes off the pairs of an entry and each of these, which come later.
 fn uncount_by(
-    counts: &mut [Counts],
+    counts: &mut Counts,
     conflicts: &Conflicts,
     rows: &[Row],
     x: Entry,
@@ -104,7 +94,7 @@ fn uncount_by(
 
 /// Takes off an entry and what is under way, if it is a step.
 fn uncount_step(
-    counts: &mut [Counts],
+    counts: &mut Counts,
     conflicts: &Conflicts,
     rows: &[Row],
     x: Entry,
@@ -123,7 +113,7 @@ fn uncount_step(
 }
 
 /// The same of each step that is under way in these processes.
-fn uncount_steps(counts: &mut [Counts], conflicts: &Conflicts, rows: &[Row], x: Entry) -> bool
+fn uncount_steps(counts: &mut Counts, conflicts: &Conflicts, rows: &[Row], x: Entry) -> bool
     requires rows { AreDistinctRows rows.now counts.old }
     requires first { IsPlaced conflicts.now rows.now x }
     requires later { Each (λ r. IsPlacedIf conflicts.now rows.now r.running) rows.now }
@@ -145,7 +135,7 @@ fn uncount_steps(counts: &mut [Counts], conflicts: &Conflicts, rows: &[Row], x: 
 
 /// Takes off the pairs of what is under way with the net, if it is a step: whether an arrow is gone.
 pub fn uncount_running(
-    counts: &mut [Counts],
+    counts: &mut Counts,
     conflicts: &Conflicts,
     rows: &[Row],
     net: &[Entry],
@@ -165,7 +155,7 @@ pub fn uncount_running(
 
 /// Takes off the pairs of an entry with those before it, those behind it, and what is under way.
 fn uncount_entry(
-    counts: &mut [Counts],
+    counts: &mut Counts,
     conflicts: &Conflicts,
     rows: &[Row],
     front: &[Entry],
@@ -190,7 +180,7 @@ fn uncount_entry(
 
 /// The same. The operations of the net are marked, so that an entry which conflicts with none is found at once.
 fn uncount_marked(
-    counts: &mut [Counts],
+    counts: &mut Counts,
     conflicts: &Conflicts,
     rows: &[Row],
     in_net: &Marks,
@@ -218,7 +208,7 @@ fn uncount_marked(
 
 /// Takes off the pairs that go with the last entry of the process: whether an arrow is gone.
 pub fn uncount_last(
-    counts: &mut [Counts],
+    counts: &mut Counts,
     conflicts: &Conflicts,
     rows: &[Row],
     net: &[Entry],

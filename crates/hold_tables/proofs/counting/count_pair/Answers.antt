@@ -1,7 +1,8 @@
-use Rattle.std.proofs.Common.{◌≡◌, ◌+◌, slice_set, ◌∙◌, sym, subst, ap, arith}
+use Rattle.std.proofs.Common.{◌≡◌, ◌+◌, ◌∙◌, sym, subst, ap, arith}
 use Rattle.std.specs.Prelude.{nat_eq}
 use Rattle.process_tree.specs.Conflicts.{do_conflict}
-use Rattle.hold_tables.specs.Counts.{IsCounted, count_at, one_if}
+use Rattle.hold_tables.specs.Counts.{count_at}
+use Rattle.bit_rows.specs.Cells.{IsOneRow, one_if}
 use Rattle.hold_tables.specs.Places.{place_of}
 use Rattle.hold_tables.proofs.Counted.{counted_none, counted_one, counted_same, one_pair, one_self, pair_is}
 use Rattle.hold_tables.proofs.Pairs.{no_conflict}
@@ -10,8 +11,8 @@ use Rattle.hold_tables.proofs.counting.count_pair.Goals as goal
 pub returns-else-between : goal.returns-else-between
 returns-else-between c = counted_none c.args.rows.now _ c.args.counts.now (λ i k. no_conflict (do_conflict c.args.conflicts.now) i k c.args.x c.args.y (sym c.between.ensures ∙ c.if-between.false))
 
-pub count_more-requires-clause-room : goal.count_more-requires-clause-room
-count_more-requires-clause-room c =
+pub more-requires-clause-room : goal.more-requires-clause-room
+more-requires-clause-room c =
     let rows = c.args.rows.now in
     let p = c.args.x.process in
     let q = c.args.y.process in
@@ -28,8 +29,10 @@ returns-then-between c =
     let counts = c.args.counts.now in
     let p = c.args.x.process in
     let q = c.args.y.process in
-    let row = c.count_more.new.row in
-    counted_same rows (one_pair p q) _ counts (slice_set counts c.place_of-from.result row) (λ i k. sym (pair_is (do_conflict c.args.conflicts.now) c.args.x c.args.y (sym c.between.ensures ∙ c.if-between.true) i k))
-    (subst (λ a. IsCounted rows (one_pair p q) counts (slice_set counts a row)) (sym c.place_of-from.ensures.place)
-    (counted_one rows p q counts row c.requires.rows c.requires.first.1 c.requires.later.1 (λ d. c.count_more.ensures d
-    ∙ ap (λ a. count_at counts a d + one_if (nat_eq c.place_of-to.result d)) c.place_of-from.ensures.place ∙ ap (λ b. count_at counts (place_of p rows) d + one_if (nat_eq b d)) c.place_of-to.ensures.place)))
+    let new = c.more.new.self in
+    let a = c.place_of-from.ensures.place in
+    let b = c.place_of-to.ensures.place in
+    counted_same rows (one_pair p q) _ counts new (λ i k. sym (pair_is (do_conflict c.args.conflicts.now) c.args.x c.args.y (sym c.between.ensures ∙ c.if-between.true) i k))
+    (counted_one rows p q counts new c.requires.rows c.requires.first.1 c.requires.later.1 (subst (λ at. IsOneRow at counts new) a c.more.ensures.others)
+    (λ d. subst (λ at. count_at new at d ≡ count_at counts at d + one_if (nat_eq (place_of q rows) d)) a
+    (subst (λ at. count_at new c.place_of-from.result d ≡ count_at counts c.place_of-from.result d + one_if (nat_eq at d)) b (c.more.ensures.own d))))

@@ -17,9 +17,9 @@ entries-preserved c =
     let before = c.entries.invariant in (
       (c.follow.ensures.count ∙ before.0.0, before.0.1, before.0.2),
       (subst (Each (IsPlaced c.args.conflicts.now c.args.rows.now)) is before.1).1,
-      λ new more. before.2 new (extended_on c.args.rows.now (arrows_by table x (e ∷ [])) (arrows_to table after e) (arrows_to table c.entries.rest.now e) c.entries.marks c.follow.new.marks new
+      λ new more. before.2 new (extended_on c.args.rows.now (arrows_by table x (e ∷ [])) (arrows_to table after e) (arrows_to table c.entries.rest.now e) c.entries.walks c.follow.new.walks new
           (λ i k. ap (λ (es : List Entry). arrows_to table es e i k) is) c.follow.ensures more),
     )
 
 pub returns : goal.returns
-returns c = c.entries.invariant.2 c.entries.marks (none_to c.args.rows.now (do_conflict c.args.conflicts.now) c.entries.rest.now c.args.e c.entries.marks c.in_default.ensures.cases)
+returns c = c.entries.invariant.2 c.entries.walks (none_to c.args.rows.now (do_conflict c.args.conflicts.now) c.entries.rest.now c.args.e c.entries.walks c.in_default.ensures.cases)

@@ -6,10 +6,10 @@ use Rattle.hold_tables.proofs.extending.follow_to.Given as goal
 
 abbrev pub invariant-entries : goal.invariant-entries
 invariant-entries l =
-    AreDistinctRows l.rows l.marks
+    AreDistinctRows l.rows l.walks
     × Each (IsPlaced l.conflicts l.rows) l.rest
-    × ((new : List (List Bool)) → IsExtended l.rows (arrows_to (do_conflict l.conflicts) l.rest l.e) l.marks new
-    → IsExtended l.rows (arrows_to (do_conflict l.conflicts) l.entries l.e) l.fn.marks new)
+    × ((new : List (List Bool)) → IsExtended l.rows (arrows_to (do_conflict l.conflicts) l.rest l.e) l.walks new
+    → IsExtended l.rows (arrows_to (do_conflict l.conflicts) l.entries l.e) l.fn.walks new)
 
 abbrev pub decreases-entries : goal.decreases-entries
 decreases-entries l = length l.rest

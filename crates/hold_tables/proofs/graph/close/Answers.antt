@@ -8,9 +8,12 @@ loop-place-init c = none_passed c.args.walks.now
 pub loop-place-preserved : goal.loop-place-preserved
 loop-place-preserved c =
     let test = c.loop-place-test.true in
-    let same = c.loop-place.auto.walks in
-    let at : c.loop-place.place < length c.args.walks.now = omega (arith, test, same) in
-    one_passed c.loop-place.place c.args.walks.now c.loop-place.walks c.pass.new.walks c.requires.few at c.loop-place.invariant c.pass.ensures
+    let len = c.len-place-end.ensures in
+    let at : c.loop-place.place < length c.args.walks.now = omega (arith, test, len) in
+    one_passed c.loop-place.place c.args.walks.now c.loop-place.walks c.pass.new.self c.requires.few at c.loop-place.invariant c.pass.ensures
 
 pub returns : goal.returns
-returns c = all_passed c.loop-place.place c.args.walks.now c.loop-place.walks (omega (arith, c.loop-place-test.false)) c.loop-place.invariant
+returns c =
+    let past = c.loop-place-test.false in
+    let len = c.len-place-end.ensures in
+    all_passed c.loop-place.place c.args.walks.now c.loop-place.walks (omega (arith, past, len)) c.loop-place.invariant

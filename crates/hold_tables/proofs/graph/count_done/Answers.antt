@@ -1,8 +1,6 @@
-use Rattle.std.proofs.Common.{◌∙◌, List, ℕ, subst, sym}
 use Rattle.process_tree.specs.Conflicts.{do_conflict}
-use Rattle.hold_tables.specs.Counts.{HasRoomFor, IsCounted, TellCounts, pairs_by}
+use Rattle.hold_tables.specs.Counts.{pairs_by}
 use Rattle.hold_tables.specs.Walks.{steps_under_way}
-use Rattle.hold_tables.proofs.Cells.{written}
 use Rattle.hold_tables.proofs.Counted.{but_counted}
 use Rattle.hold_tables.proofs.PairBounds.{room_for_more}
 use Rattle.hold_tables.proofs.Reaching.{placed_running}
@@ -15,15 +13,10 @@ count_steps-requires-clause-later c = placed_running (tables c.args.conflicts.no
 pub count_steps-requires-clause-room : goal.count_steps-requires-clause-room
 count_steps-requires-clause-room c =
     let t = tables c.args.conflicts.now c.args.net.now c.args.rows.now in
-    let added = pairs_by (do_conflict c.args.conflicts.now) c.args.e (steps_under_way c.args.rows.now) in
-    subst (λ (m : List (List ℕ)). HasRoomFor t.processes added m) (sym c.deref_mut.ensures.value) (room_for_more t c.requires.tidy added c.args.counts.now.items c.requires.but)
+    room_for_more t c.requires.tidy (pairs_by (do_conflict c.args.conflicts.now) c.args.e (steps_under_way c.args.rows.now)) c.args.counts.now c.requires.but
 
 pub returns : goal.returns
 returns c =
     let t = tables c.args.conflicts.now c.args.net.now c.args.rows.now in
     let added = pairs_by (do_conflict c.args.conflicts.now) c.args.e (steps_under_way c.args.rows.now) in
-    let new = c.count_steps.new.counts in
-    record {
-      tell = subst (λ (m : List (List ℕ)). TellCounts t m) (sym (written _ new c.args.counts.now.items (c.count_steps.ensures.count ∙ c.deref_mut.ensures.len)))
-          (but_counted t added c.args.counts.now.items new c.requires.but (subst (λ (m : List (List ℕ)). IsCounted t.processes added m new) c.deref_mut.ensures.value c.count_steps.ensures));
-    }
+    record { tell = but_counted t added c.args.counts.now c.count_steps.new.counts c.requires.but c.count_steps.ensures }

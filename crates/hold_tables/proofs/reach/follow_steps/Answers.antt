@@ -20,11 +20,11 @@ rows-preserved c =
     let first : List Entry = filter (λ (e : Entry). not e.undo) (option_to_list c.running.result) in (
       (c.follow_step.ensures.count ∙ before.0.0, before.0.1, before.0.2),
       (subst (Each (λ (r : OpenProcess). IsPlacedIf c.args.conflicts.now c.args.rows.now r.running)) is before.1).1,
-      λ new e. before.2 new (extended_on c.args.rows.now (arrows_by table x first) (arrows_by table x (steps_under_way after)) (arrows_by table x (steps_under_way c.rows.rest.now)) c.rows.marks c.follow_step.new.marks new
+      λ new e. before.2 new (extended_on c.args.rows.now (arrows_by table x first) (arrows_by table x (steps_under_way after)) (arrows_by table x (steps_under_way c.rows.rest.now)) c.rows.walks c.follow_step.new.walks new
           (λ i k. ap (λ (rs : List OpenProcess). arrows_by table x (steps_under_way rs) i k) is
           ∙ ap (λ (es : List Entry). arrows_by table x es i k) (steps_first row after ∙ ap (λ (o : Option Entry). filter (λ (e : Entry). not e.undo) (option_to_list o) ++ steps_under_way after) (sym c.running.ensures))
           ∙ arrows_append table x first (steps_under_way after) i k) c.follow_step.ensures e),
     )
 
 pub returns : goal.returns
-returns c = c.rows.invariant.2 c.rows.marks (no_steps c.args.rows.now (do_conflict c.args.conflicts.now) c.args.x c.rows.rest.now c.rows.marks c.in_default.ensures.cases)
+returns c = c.rows.invariant.2 c.rows.walks (no_steps c.args.rows.now (do_conflict c.args.conflicts.now) c.args.x c.rows.rest.now c.rows.walks c.in_default.ensures.cases)

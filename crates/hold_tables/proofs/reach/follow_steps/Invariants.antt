@@ -7,10 +7,10 @@ use Rattle.hold_tables.proofs.reach.follow_steps.Given as goal
 
 abbrev pub invariant-rows : goal.invariant-rows
 invariant-rows l =
-    AreDistinctRows l.rows l.marks
+    AreDistinctRows l.rows l.walks
     × Each (λ (r : OpenProcess). IsPlacedIf l.conflicts l.rows r.running) l.rest
-    × ((new : List (List Bool)) → IsExtended l.rows (arrows_by (do_conflict l.conflicts) l.x (steps_under_way l.rest)) l.marks new
-    → IsExtended l.rows (arrows_by (do_conflict l.conflicts) l.x (steps_under_way l.rows)) l.fn.marks new)
+    × ((new : List (List Bool)) → IsExtended l.rows (arrows_by (do_conflict l.conflicts) l.x (steps_under_way l.rest)) l.walks new
+    → IsExtended l.rows (arrows_by (do_conflict l.conflicts) l.x (steps_under_way l.rows)) l.fn.walks new)
 
 abbrev pub decreases-rows : goal.decreases-rows
 decreases-rows l = length l.rest

@@ -1,7 +1,8 @@
-use Rattle.std.proofs.Common.{◌≡◌, ◌<◌, ◌+◌, slice_set, slice_index_or, ◌∙◌, sym, subst, ap, arith}
+use Rattle.std.proofs.Common.{◌≡◌, ◌<◌, ◌+◌, ◌∙◌, sym, subst, ap, arith}
 use Rattle.std.specs.Prelude.{nat_eq}
 use Rattle.process_tree.specs.Conflicts.{do_conflict}
-use Rattle.hold_tables.specs.Counts.{IsUncounted, count_at, one_if}
+use Rattle.hold_tables.specs.Counts.{count_at}
+use Rattle.bit_rows.specs.Cells.{IsOneRow, one_if}
 use Rattle.hold_tables.specs.Places.{place_of}
 use Rattle.hold_tables.proofs.Counted.{one_pair, one_self, pair_is, uncounted_none, uncounted_one, uncounted_same}
 use Rattle.hold_tables.proofs.Pairs.{no_conflict}
@@ -10,8 +11,8 @@ use Rattle.hold_tables.proofs.uncounting.uncount_pair.Goals as goal
 pub returns-else-between : goal.returns-else-between
 returns-else-between c = uncounted_none c.args.rows.now _ c.args.counts.now (λ i k. no_conflict (do_conflict c.args.conflicts.now) i k c.args.x c.args.y (sym c.between.ensures ∙ c.if-between.false))
 
-pub count_less-requires-clause-some : goal.count_less-requires-clause-some
-count_less-requires-clause-some c =
+pub less-requires-clause-some : goal.less-requires-clause-some
+less-requires-clause-some c =
     let rows = c.args.rows.now in
     let p = c.args.x.process in
     let q = c.args.y.process in
@@ -28,10 +29,12 @@ returns-then-between c =
     let counts = c.args.counts.now in
     let p = c.args.x.process in
     let q = c.args.y.process in
-    let row = c.count_less.new.row in
-    let gone = c.count_less.result in
-    uncounted_same rows (one_pair p q) _ gone counts (slice_set counts c.place_of-from.result row) (λ i k. sym (pair_is (do_conflict c.args.conflicts.now) c.args.x c.args.y (sym c.between.ensures ∙ c.if-between.true) i k))
-    (subst (λ a. IsUncounted rows (one_pair p q) gone counts (slice_set counts a row)) (sym c.place_of-from.ensures.place)
-    (uncounted_one rows p q counts row c.requires.rows c.requires.first.1 c.requires.later.1 gone
-    (λ d. ap (λ a. count_at counts a d) (sym c.place_of-from.ensures.place) ∙ c.count_less.ensures.less d ∙ ap (λ b. slice_index_or row d 0 + one_if (nat_eq b d)) c.place_of-to.ensures.place)
-    (λ no. subst (λ b. 0 < slice_index_or row b 0) c.place_of-to.ensures.place (c.count_less.ensures.more no))))
+    let new = c.less.new.self in
+    let gone = c.less.result in
+    let a = c.place_of-from.ensures.place in
+    let b = c.place_of-to.ensures.place in
+    uncounted_same rows (one_pair p q) _ gone counts new (λ i k. sym (pair_is (do_conflict c.args.conflicts.now) c.args.x c.args.y (sym c.between.ensures ∙ c.if-between.true) i k))
+    (uncounted_one rows p q counts new c.requires.rows c.requires.first.1 c.requires.later.1 (subst (λ at. IsOneRow at counts new) a c.less.ensures.others) gone
+    (λ d. subst (λ at. count_at counts at d ≡ count_at new at d + one_if (nat_eq (place_of q rows) d)) a
+    (subst (λ at. count_at counts c.place_of-from.result d ≡ count_at new c.place_of-from.result d + one_if (nat_eq at d)) b (c.less.ensures.own d)))
+    (λ no. subst (λ at. 0 < count_at new at (place_of q rows)) a (subst (λ at. 0 < count_at new c.place_of-from.result at) b (c.less.ensures.more no))))

@@ -1,4 +1,4 @@
-use Rattle.std.proofs.Common.{◌<◌, List, Bool, false, not, filter, rules, sym, subst, ap, ◌∙◌}
+use Rattle.std.proofs.Common.{◌<◌, List, false, not, filter, rules, sym, subst, ap, ◌∙◌}
 use Rattle.std.specs.Prelude.{nat_eq}
 use Rattle.std.proofs.lemmas.Fn.{filter_same}
 use Rattle.process_tree.specs.declared.entry.Entry.{Entry}
@@ -6,8 +6,8 @@ use Rattle.hold_tables.specs.Tables.{OpenProcess}
 use Rattle.hold_tables.specs.Changes.{dropped}
 use Rattle.hold_tables.proofs.Tidy.{is_among, tables}
 use Rattle.hold_tables.specs.Places.{place_of}
-use Rattle.hold_tables.specs.Cells.{IsPlaceTaken}
-use Rattle.hold_tables.specs.Walks.{leads_through}
+use Rattle.bit_rows.specs.Cells.{IsPlaceTaken}
+use Rattle.hold_tables.specs.Walks.{IsAtEnd}
 use Rattle.hold_tables.proofs.DroppedWalks.{dropped_counts, dropped_tells, rows_left}
 use Rattle.hold_tables.proofs.Opening.{drop_stands}
 use Rattle.hold_tables.proofs.GraphStays.{graph_lent}
@@ -22,17 +22,17 @@ close_if-requires-clause-tidy c =
     let i = c.args.process in
     let net = filter_same _ (λ (e : Entry). not (nat_eq e.process i)) _ (λ x b f' k. search rules) c.self.inside.net.items c.retain.new.self.items c.retain.ensures.filtered in
     let rows = filter_same _ (λ (r : OpenProcess). not (nat_eq r.process i)) _ (λ x b f' k. search rules) c.self.inside.rows.items c.retain-2.new.self.items c.retain-2.ensures.filtered in
-    rw (c.deref-3.ensures.value, c.deref-4.ensures.value, net, rows) (drop_stands i c.self.inside.conflicts c.self.inside.net.items c.self.inside.rows.items _ c.self.invariant.0).0
+    rw (c.deref-2.ensures.value, c.deref-3.ensures.value, net, rows) (drop_stands i c.self.inside.conflicts c.self.inside.net.items c.self.inside.rows.items _ c.self.invariant.0).0
 
 pub invariant_of-self : goal.invariant_of-self
 invariant_of-self c =
     let i = c.args.process in
     let net = filter_same _ (λ (e : Entry). not (nat_eq e.process i)) _ (λ x b f' k. search rules) c.self.inside.net.items c.retain.new.self.items c.retain.ensures.filtered in
     let rows = filter_same _ (λ (r : OpenProcess). not (nat_eq r.process i)) _ (λ x b f' k. search rules) c.self.inside.rows.items c.retain-2.new.self.items c.retain-2.ensures.filtered in
-    let told : TellOps (ops_of c.retain.new.self.items) c.ops_of-self-inside.result = subst (λ (es : List Entry). TellOps (ops_of es) c.ops_of-self-inside.result) c.deref-6.ensures.value c.ops_of-self-inside.ensures in (
+    let told : TellOps (ops_of c.retain.new.self.items) c.ops_of-self-inside.result = subst (λ (es : List Entry). TellOps (ops_of es) c.ops_of-self-inside.result) c.deref-5.ensures.value c.ops_of-self-inside.ensures in (
       rw (net, rows, c.retain.ensures.capacity) (drop_stands i c.self.inside.conflicts c.self.inside.net.items c.self.inside.rows.items _ c.self.invariant.0),
-      graph_lent c.self.inside.conflicts _ _ _ _ c.close_if.new.graph.counts.items c.close_if.new.graph.walks.items c.deref-3.ensures.value c.deref-4.ensures.value c.close_if.ensures.tell,
-      subst (λ (rs : List OpenProcess). TellBeside rs c.all_beside-self-inside.result) c.deref-5.ensures.value c.all_beside-self-inside.ensures,
+      graph_lent c.self.inside.conflicts _ _ _ _ c.close_if.new.graph.counts c.close_if.new.graph.walks c.deref-2.ensures.value c.deref-3.ensures.value c.close_if.ensures.tell,
+      subst (λ (rs : List OpenProcess). TellBeside rs c.all_beside-self-inside.result) c.deref-4.ensures.value c.all_beside-self-inside.ensures,
       record {
         covers = tell_covers (ops_of c.retain.new.self.items) c.ops_of-self-inside.result told;
         known = known_ops c.self.inside.conflicts (ops_of c.retain.new.self.items) c.ops_of-self-inside.result (subst (λ (es : List Entry). Each (λ op. op < operations_in c.self.inside.conflicts) (ops_of es)) (sym net)
@@ -44,38 +44,38 @@ pub close_if-requires-clause-same : goal.close_if-requires-clause-same
 close_if-requires-clause-same c =
     let i = c.args.process in
     let was = c.self.inside.rows.items in
-    let walks = c.self.inside.graph.walks.items in
+    let walks = c.self.inside.graph.walks in
     let has = is_among i c.self.inside.conflicts c.self.inside.net.items was c.args.self.now c.self.view_is c.requires.open in
     let net = filter_same _ (λ (e : Entry). not (nat_eq e.process i)) _ (λ x b f' k. search rules) c.self.inside.net.items c.retain.new.self.items c.retain.ensures.filtered in
     let rows = filter_same _ (λ (r : OpenProcess). not (nat_eq r.process i)) _ (λ x b f' k. search rules) c.self.inside.rows.items c.retain-2.new.self.items c.retain-2.ensures.filtered in
     let place = c.place_of-at.ensures.place ∙ ap (place_of i) c.deref.ensures.value in
-    let taken : IsPlaceTaken false (place_of i was) walks c.take_place-2.new.rows.items = subst (λ p. IsPlaceTaken false p walks c.take_place-2.new.rows.items) place c.take_place-2.ensures.cells in
-    rw (c.deref-3.ensures.value, c.deref-4.ensures.value, net, rows) (λ none.
-    dropped_tells i c.self.inside.conflicts c.self.inside.net.items was walks c.take_place-2.new.rows.items c.self.invariant.0.0
+    let taken : IsPlaceTaken false (place_of i was) walks c.take_place-2.new.self = subst (λ p. IsPlaceTaken false p walks c.take_place-2.new.self) place c.take_place-2.ensures.cells in
+    rw (c.deref-2.ensures.value, c.deref-3.ensures.value, net, rows) (λ none.
+    dropped_tells i c.self.inside.conflicts c.self.inside.net.items was walks c.take_place-2.new.self c.self.invariant.0.0
     (drop_stands i c.self.inside.conflicts c.self.inside.net.items was _ c.self.invariant.0).0 has c.self.invariant.1.1 taken
-    (sym (ap (leads_through walks) place) ∙ sym (ap (λ (m : List (List Bool)). leads_through m c.place_of-at.result) c.deref-2.ensures.value) ∙ sym c.leads_through-linked.ensures ∙ none) c.take_place-2.ensures.count)
+    (subst (IsAtEnd walks) place (c.leads_through-linked.ensures none)) c.take_place-2.ensures.count)
 
 pub close_if-requires-clause-rows : goal.close_if-requires-clause-rows
 close_if-requires-clause-rows c =
     let i = c.args.process in
     let was = c.self.inside.rows.items in
-    let walks = c.self.inside.graph.walks.items in
+    let walks = c.self.inside.graph.walks in
     let has = is_among i c.self.inside.conflicts c.self.inside.net.items was c.args.self.now c.self.view_is c.requires.open in
     let rows = filter_same _ (λ (r : OpenProcess). not (nat_eq r.process i)) _ (λ x b f' k. search rules) c.self.inside.rows.items c.retain-2.new.self.items c.retain-2.ensures.filtered in
-    rw (c.deref-3.ensures.value, rows) (rows_left i was walks c.take_place-2.new.rows.items c.self.invariant.0.0.numbered has c.self.invariant.1.1.rows c.take_place-2.ensures.count)
+    rw (c.deref-2.ensures.value, rows) (rows_left i was walks c.take_place-2.new.self c.self.invariant.0.0.numbered has c.self.invariant.1.1.rows c.take_place-2.ensures.count)
 
 pub close_if-requires-clause-counts : goal.close_if-requires-clause-counts
 close_if-requires-clause-counts c =
     let i = c.args.process in
     let was = c.self.inside.rows.items in
-    let counts = c.self.inside.graph.counts.items in
+    let counts = c.self.inside.graph.counts in
     let has = is_among i c.self.inside.conflicts c.self.inside.net.items was c.args.self.now c.self.view_is c.requires.open in
     let net = filter_same _ (λ (e : Entry). not (nat_eq e.process i)) _ (λ x b f' k. search rules) c.self.inside.net.items c.retain.new.self.items c.retain.ensures.filtered in
     let rows = filter_same _ (λ (r : OpenProcess). not (nat_eq r.process i)) _ (λ x b f' k. search rules) c.self.inside.rows.items c.retain-2.new.self.items c.retain-2.ensures.filtered in
     let place = c.place_of-at.ensures.place ∙ ap (place_of i) c.deref.ensures.value in
-    let taken : IsPlaceTaken 0 (place_of i was) counts c.take_place.new.rows.items = subst (λ p. IsPlaceTaken 0 p counts c.take_place.new.rows.items) place c.take_place.ensures.cells in
-    rw (c.deref-3.ensures.value, c.deref-4.ensures.value, net, rows)
-    (dropped_counts i c.self.inside.conflicts c.self.inside.net.items was counts c.take_place.new.rows.items c.self.invariant.0.0 has c.self.invariant.1.0 taken c.take_place.ensures.count)
+    let taken : IsPlaceTaken 0 (place_of i was) counts c.take_place.new.self = subst (λ p. IsPlaceTaken 0 p counts c.take_place.new.self) place c.take_place.ensures.cells in
+    rw (c.deref-2.ensures.value, c.deref-3.ensures.value, net, rows)
+    (dropped_counts i c.self.inside.conflicts c.self.inside.net.items was counts c.take_place.new.self c.self.invariant.0.0 has c.self.invariant.1.0 taken c.take_place.ensures.count)
 
 pub returns : goal.returns
 returns c =

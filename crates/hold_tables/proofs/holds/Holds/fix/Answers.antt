@@ -29,7 +29,7 @@ invariant_of-self c =
       stood (with_fixed (length (of_process i c.args.self.now.net))) i c.self.inside.conflicts net rows c.place_of-at.result c.index_mut.result.now c.fix.new.self c.args.self.now _ c.self.view_is c.requires.open place c.index_mut.ensures.value (c.fix.ensures ∙ ap (λ n. with_fixed n c.index_mut.result.now) fixed) (λ r. (refl, refl))
           (λ tidy own. subst (λ k. IsTidy c.args.self.now.conflicts c.args.self.now.net (with_fixed (length (of_process k c.args.self.now.net)) (kept_of c.args.self.now i))) own
           (tidy_fixed c.args.self.now.conflicts (of_process (kept_of c.args.self.now i).process c.args.self.now.net) (kept_of c.args.self.now i) c.requires.forward tidy)) c.self.invariant.0,
-      graph_stood (with_fixed (length (of_process i c.args.self.now.net))) i c.self.inside.conflicts net rows c.self.inside.graph.counts.items c.self.inside.graph.walks.items c.place_of-at.result c.index_mut.result.now c.fix.new.self c.args.self.now c.self.view_is c.requires.open place c.index_mut.ensures.value (c.fix.ensures ∙ ap (λ n. with_fixed n c.index_mut.result.now) fixed)
+      graph_stood (with_fixed (length (of_process i c.args.self.now.net))) i c.self.inside.conflicts net rows c.self.inside.graph.counts c.self.inside.graph.walks c.place_of-at.result c.index_mut.result.now c.fix.new.self c.args.self.now c.self.view_is c.requires.open place c.index_mut.ensures.value (c.fix.ensures ∙ ap (λ n. with_fixed n c.index_mut.result.now) fixed)
           (λ r. (refl, refl)) c.self.invariant.1,
       subst (λ (rs : List OpenProcess). TellBeside rs c.all_beside-self-inside.result) c.deref-3.ensures.value c.all_beside-self-inside.ensures,
       c.self.invariant.3,

@@ -1,4 +1,4 @@
-use Rattle.std.proofs.Common.{◌≡◌, ℕ, List, sym, refl, ◌∙◌, ap, None, subst}
+use Rattle.std.proofs.Common.{◌≡◌, List, sym, refl, ◌∙◌, ap, None, subst}
 use Rattle.std.specs.Prelude.{slice_set}
 use Rattle.process_tree.specs.declared.entry.Entry.{Entry}
 use Rattle.process_tree.specs.Conflicts.{do_conflict}
@@ -9,7 +9,6 @@ use Rattle.hold_tables.specs.Walks.{TellWalks}
 use Rattle.hold_tables.specs.Changes.{with_running}
 use Rattle.hold_tables.specs.Places.{place_of}
 use Rattle.hold_tables.specs.Operations.{TellBeside}
-use Rattle.hold_tables.proofs.Cells.{written}
 use Rattle.hold_tables.proofs.GraphStays.{graph_lent, stop_among, stop_counts, stop_walks, uncounted_lent}
 use Rattle.hold_tables.proofs.Tidy.{found_row, is_among, returned, row_changed, stood, tables}
 use Rattle.hold_tables.proofs.holds.Holds.stop.Goals as goal
@@ -18,7 +17,7 @@ pub invariant_of-self : goal.invariant_of-self
 invariant_of-self c = (
   stood (with_running None) c.args.process c.self.inside.conflicts c.self.inside.net.items c.self.inside.rows.items c.place_of-at.result c.index_mut.result.now c.run.new.self c.args.self.now _ c.self.view_is c.requires.open (c.place_of-at.ensures.place ∙ ap (place_of c.args.process) c.deref.ensures.value) c.index_mut.ensures.value c.run.ensures (λ r. (refl, refl))
       (λ tidy own. record { within = tidy.within; once = tidy.once; fixed = tidy.fixed; running = tt; reserved = tidy.reserved; fits = tidy.fits; small = tidy.small }) c.self.invariant.0,
-  graph_lent c.self.inside.conflicts _ _ _ _ c.close_if.new.graph.counts.items c.close_if.new.graph.walks.items c.deref-4.ensures.value c.deref-5.ensures.value c.close_if.ensures.tell,
+  graph_lent c.self.inside.conflicts _ _ _ _ c.close_if.new.graph.counts c.close_if.new.graph.walks c.deref-4.ensures.value c.deref-5.ensures.value c.close_if.ensures.tell,
   subst (λ (rs : List OpenProcess). TellBeside rs c.all_beside-self-inside.result) c.deref-6.ensures.value c.all_beside-self-inside.ensures,
   c.self.invariant.3,
 )
@@ -38,13 +37,13 @@ uncount_running-gone-requires-clause-among c =
     let table = c.self.inside.conflicts in
     let net = c.self.inside.net.items in
     let rows = c.self.inside.rows.items in
-    let old = c.self.inside.graph.counts.items in
-    let walks = c.self.inside.graph.walks.items in
+    let old = c.self.inside.graph.counts in
+    let walks = c.self.inside.graph.walks in
     let has = is_among i table net rows c.args.self.now c.self.view_is c.requires.open in
     let place = c.place_of-at.ensures.place ∙ ap (place_of i) c.deref.ensures.value in
     let running_is : c.running.result ≡ (numbered i rows).running =
     c.running.ensures ∙ ap (λ (r : OpenProcess). r.running) (found_row i rows c.place_of-at.result c.index.result.now has place c.index.ensures) in
-    rw (c.deref-2.ensures.value, c.deref-3.ensures.value, c.deref_mut.ensures.value, running_is) (stop_among i table net rows has old walks c.self.invariant.0.0 c.self.invariant.1)
+    rw (c.deref-2.ensures.value, c.deref-3.ensures.value, running_is) (stop_among i table net rows has old walks c.self.invariant.0.0 c.self.invariant.1)
 
 pub close_if-requires-clause-counts : goal.close_if-requires-clause-counts
 close_if-requires-clause-counts c =
@@ -52,8 +51,8 @@ close_if-requires-clause-counts c =
     let table = c.self.inside.conflicts in
     let net = c.self.inside.net.items in
     let rows = c.self.inside.rows.items in
-    let old = c.self.inside.graph.counts.items in
-    let walks = c.self.inside.graph.walks.items in
+    let old = c.self.inside.graph.counts in
+    let walks = c.self.inside.graph.walks in
     let has = is_among i table net rows c.args.self.now c.self.view_is c.requires.open in
     let place = c.place_of-at.ensures.place ∙ ap (place_of i) c.deref.ensures.value in
     let same = row_changed (with_running None) i rows c.place_of-at.result c.index_mut.result.now c.run.new.self has place c.index_mut.ensures.value c.run.ensures in
@@ -62,11 +61,10 @@ close_if-requires-clause-counts c =
     let gone = c.uncount_running-gone.result in
     let new = c.uncount_running-gone.new.counts in
     let off : IsUncounted rows (pairs_to_step (do_conflict table) net (numbered i rows).running) gone old new =
-    uncounted_lent rows c.deref-2.result.now _ (pairs_to_step (do_conflict table) c.deref-3.result.now c.running.result) gone old c.deref_mut.result.now new c.deref-2.ensures.value
-    (ap (λ (es : List Entry). pairs_to_step (do_conflict table) es c.running.result) c.deref-3.ensures.value ∙ ap (pairs_to_step (do_conflict table) net) running_is) c.deref_mut.ensures.value c.uncount_running-gone.ensures in
+    uncounted_lent rows c.deref-2.result.now _ (pairs_to_step (do_conflict table) c.deref-3.result.now c.running.result) gone old new c.deref-2.ensures.value
+    (ap (λ (es : List Entry). pairs_to_step (do_conflict table) es c.running.result) c.deref-3.ensures.value ∙ ap (pairs_to_step (do_conflict table) net) running_is) c.uncount_running-gone.ensures in
     rw (c.deref-4.ensures.value, c.deref-5.ensures.value)
-    (subst (λ (m : List (List ℕ)). TellCounts (tables table net (slice_set rows c.place_of-at.result c.run.new.self)) m) (sym (written _ new old (c.uncount_running-gone.ensures.count ∙ c.deref_mut.ensures.len)))
-    (subst (λ (rs : List OpenProcess). TellCounts (tables table net rs) new) (sym same) (stop_counts i table net rows has old walks c.self.invariant.0.0 c.self.invariant.1 gone new off)))
+    (subst (λ (rs : List OpenProcess). TellCounts (tables table net rs) new) (sym same) (stop_counts i table net rows has old walks c.self.invariant.0.0 c.self.invariant.1 gone new off))
 
 pub close_if-requires-clause-same : goal.close_if-requires-clause-same
 close_if-requires-clause-same c =
@@ -74,8 +72,8 @@ close_if-requires-clause-same c =
     let table = c.self.inside.conflicts in
     let net = c.self.inside.net.items in
     let rows = c.self.inside.rows.items in
-    let old = c.self.inside.graph.counts.items in
-    let walks = c.self.inside.graph.walks.items in
+    let old = c.self.inside.graph.counts in
+    let walks = c.self.inside.graph.walks in
     let has = is_among i table net rows c.args.self.now c.self.view_is c.requires.open in
     let place = c.place_of-at.ensures.place ∙ ap (place_of i) c.deref.ensures.value in
     let same = row_changed (with_running None) i rows c.place_of-at.result c.index_mut.result.now c.run.new.self has place c.index_mut.ensures.value c.run.ensures in
@@ -84,8 +82,8 @@ close_if-requires-clause-same c =
     let gone = c.uncount_running-gone.result in
     let new = c.uncount_running-gone.new.counts in
     let off : IsUncounted rows (pairs_to_step (do_conflict table) net (numbered i rows).running) gone old new =
-    uncounted_lent rows c.deref-2.result.now _ (pairs_to_step (do_conflict table) c.deref-3.result.now c.running.result) gone old c.deref_mut.result.now new c.deref-2.ensures.value
-    (ap (λ (es : List Entry). pairs_to_step (do_conflict table) es c.running.result) c.deref-3.ensures.value ∙ ap (pairs_to_step (do_conflict table) net) running_is) c.deref_mut.ensures.value c.uncount_running-gone.ensures in
+    uncounted_lent rows c.deref-2.result.now _ (pairs_to_step (do_conflict table) c.deref-3.result.now c.running.result) gone old new c.deref-2.ensures.value
+    (ap (λ (es : List Entry). pairs_to_step (do_conflict table) es c.running.result) c.deref-3.ensures.value ∙ ap (pairs_to_step (do_conflict table) net) running_is) c.uncount_running-gone.ensures in
     let tidy : AreTidy (tables table net (slice_set rows c.place_of-at.result c.run.new.self)) =
     rw (c.deref-4.ensures.value, c.deref-5.ensures.value) at (close_if-requires-clause-tidy c) in
     rw (c.deref-4.ensures.value, c.deref-5.ensures.value) (λ kept.

@@ -1,17 +1,16 @@
-use Rattle.std.proofs.Common.{◌≡◌, ℕ, List, sym, refl, ◌∙◌, ap, None, Some, subst}
+use Rattle.std.proofs.Common.{◌≡◌, List, sym, refl, ◌∙◌, ap, None, Some, subst}
 use Rattle.process_tree.specs.declared.entry.Entry.{Entry}
 use Rattle.process_tree.specs.Conflicts.{do_conflict}
-use Rattle.hold_tables.specs.Changes.{change_numbered, net_after, undoes, with_running, without_last}
-use Rattle.hold_tables.specs.Counts.{IsUncounted, TellCounts, pairs_of_last}
+use Rattle.hold_tables.specs.Changes.{net_after, undoes, with_running, without_last}
+use Rattle.hold_tables.specs.Counts.{IsUncounted, pairs_of_last}
 use Rattle.hold_tables.specs.Operations.{KeepOps, TellBeside, ops_of}
 use Rattle.hold_tables.specs.Places.{place_of}
 use Rattle.hold_tables.specs.Tables.{OpenProcess, Tables, kept_of, numbered}
 use Rattle.hold_tables.specs.Walks.{steps_under_way}
-use Rattle.hold_tables.proofs.Cells.{written}
 use Rattle.hold_tables.proofs.Effects.{effect_returned, effect_stands}
 use Rattle.hold_tables.proofs.GraphStays.{graph_lent, uncounted_lent, undo_of, undone_counts, undone_walks}
 use Rattle.hold_tables.proofs.HeldOps.{kept_undo}
-use Rattle.hold_tables.proofs.Tidy.{is_among, row_changed, tables}
+use Rattle.hold_tables.proofs.Tidy.{is_among, row_changed}
 use Rattle.hold_tables.proofs.holds.Holds.undone.Goals as goal
 
 pub invariant_of-self : goal.invariant_of-self
@@ -20,8 +19,8 @@ invariant_of-self c =
     let table = c.self.inside.conflicts in
     let net = c.self.inside.net.items in
     let rows = c.self.inside.rows.items in
-    let old = c.self.inside.graph.counts.items in
-    let walks = c.self.inside.graph.walks.items in
+    let old = c.self.inside.graph.counts in
+    let walks = c.self.inside.graph.walks in
     let has = is_among i table net rows c.args.self.now c.self.view_is c.requires.open in
     let place = c.place_of-at.ensures.place ∙ ap (place_of i) c.deref.ensures.value in
     let same = row_changed (with_running None) i rows c.place_of-at.result c.index_mut.result.now c.run.new.self has place c.index_mut.ensures.value c.run.ensures in
@@ -29,7 +28,7 @@ invariant_of-self c =
     let e = undo.0 in
     let settled : net_after i (Some e) net ≡ without_last i net = rw undo.2 refl in (
       rw (c.remove_last.ensures.net, c.remove_last.ensures.capacity, same, ← settled) (effect_stands i table net rows _ e has undo.1 c.self.invariant.0),
-      graph_lent table _ _ _ _ c.close_if.new.graph.counts.items c.close_if.new.graph.walks.items c.deref-4.ensures.value c.deref-5.ensures.value c.close_if.ensures.tell,
+      graph_lent table _ _ _ _ c.close_if.new.graph.counts c.close_if.new.graph.walks c.deref-4.ensures.value c.deref-5.ensures.value c.close_if.ensures.tell,
       subst (λ (rs : List OpenProcess). TellBeside rs c.all_beside-self-inside.result) c.deref-6.ensures.value c.all_beside-self-inside.ensures,
       subst (λ (es : List Entry). KeepOps table (ops_of es) c.self.inside.in_net) (sym c.remove_last.ensures.net) (kept_undo table i net c.self.inside.in_net c.self.invariant.3),
     )
@@ -40,8 +39,8 @@ close_if-requires-clause-tidy c =
     let table = c.self.inside.conflicts in
     let net = c.self.inside.net.items in
     let rows = c.self.inside.rows.items in
-    let old = c.self.inside.graph.counts.items in
-    let walks = c.self.inside.graph.walks.items in
+    let old = c.self.inside.graph.counts in
+    let walks = c.self.inside.graph.walks in
     let has = is_among i table net rows c.args.self.now c.self.view_is c.requires.open in
     let place = c.place_of-at.ensures.place ∙ ap (place_of i) c.deref.ensures.value in
     let same = row_changed (with_running None) i rows c.place_of-at.result c.index_mut.result.now c.run.new.self has place c.index_mut.ensures.value c.run.ensures in
@@ -56,8 +55,8 @@ close_if-requires-clause-counts c =
     let table = c.self.inside.conflicts in
     let net = c.self.inside.net.items in
     let rows = c.self.inside.rows.items in
-    let old = c.self.inside.graph.counts.items in
-    let walks = c.self.inside.graph.walks.items in
+    let old = c.self.inside.graph.counts in
+    let walks = c.self.inside.graph.walks in
     let has = is_among i table net rows c.args.self.now c.self.view_is c.requires.open in
     let place = c.place_of-at.ensures.place ∙ ap (place_of i) c.deref.ensures.value in
     let same = row_changed (with_running None) i rows c.place_of-at.result c.index_mut.result.now c.run.new.self has place c.index_mut.ensures.value c.run.ensures in
@@ -67,12 +66,11 @@ close_if-requires-clause-counts c =
     let gone = c.uncount_last-gone.result in
     let new = c.uncount_last-gone.new.counts in
     let off : IsUncounted rows (pairs_of_last (do_conflict table) (steps_under_way rows) i net) gone old new =
-    uncounted_lent rows c.deref-2.result.now _ (pairs_of_last (do_conflict table) (steps_under_way c.deref-2.result.now) i c.deref-3.result.now) gone old c.deref_mut.result.now new c.deref-2.ensures.value
+    uncounted_lent rows c.deref-2.result.now _ (pairs_of_last (do_conflict table) (steps_under_way c.deref-2.result.now) i c.deref-3.result.now) gone old new c.deref-2.ensures.value
     (ap (λ (rs : List OpenProcess). pairs_of_last (do_conflict table) (steps_under_way rs) i c.deref-3.result.now) c.deref-2.ensures.value
-    ∙ ap (λ (es : List Entry). pairs_of_last (do_conflict table) (steps_under_way rows) i es) c.deref-3.ensures.value) c.deref_mut.ensures.value c.uncount_last-gone.ensures in
+    ∙ ap (λ (es : List Entry). pairs_of_last (do_conflict table) (steps_under_way rows) i es) c.deref-3.ensures.value) c.uncount_last-gone.ensures in
     rw (c.deref-4.ensures.value, c.deref-5.ensures.value, c.remove_last.ensures.net, same)
-    (subst (λ (m : List (List ℕ)). TellCounts (tables table (without_last i net) (change_numbered (with_running None) i rows)) m) (sym (written _ new old (c.uncount_last-gone.ensures.count ∙ c.deref_mut.ensures.len)))
-    (undone_counts i table net rows has old walks c.self.invariant.0.0 c.self.invariant.1 e undo.1 undo.2 gone new off))
+    (undone_counts i table net rows has old walks c.self.invariant.0.0 c.self.invariant.1 e undo.1 undo.2 gone new off)
 
 pub close_if-requires-clause-same : goal.close_if-requires-clause-same
 close_if-requires-clause-same c =
@@ -80,8 +78,8 @@ close_if-requires-clause-same c =
     let table = c.self.inside.conflicts in
     let net = c.self.inside.net.items in
     let rows = c.self.inside.rows.items in
-    let old = c.self.inside.graph.counts.items in
-    let walks = c.self.inside.graph.walks.items in
+    let old = c.self.inside.graph.counts in
+    let walks = c.self.inside.graph.walks in
     let has = is_among i table net rows c.args.self.now c.self.view_is c.requires.open in
     let place = c.place_of-at.ensures.place ∙ ap (place_of i) c.deref.ensures.value in
     let same = row_changed (with_running None) i rows c.place_of-at.result c.index_mut.result.now c.run.new.self has place c.index_mut.ensures.value c.run.ensures in
@@ -91,9 +89,9 @@ close_if-requires-clause-same c =
     let gone = c.uncount_last-gone.result in
     let new = c.uncount_last-gone.new.counts in
     let off : IsUncounted rows (pairs_of_last (do_conflict table) (steps_under_way rows) i net) gone old new =
-    uncounted_lent rows c.deref-2.result.now _ (pairs_of_last (do_conflict table) (steps_under_way c.deref-2.result.now) i c.deref-3.result.now) gone old c.deref_mut.result.now new c.deref-2.ensures.value
+    uncounted_lent rows c.deref-2.result.now _ (pairs_of_last (do_conflict table) (steps_under_way c.deref-2.result.now) i c.deref-3.result.now) gone old new c.deref-2.ensures.value
     (ap (λ (rs : List OpenProcess). pairs_of_last (do_conflict table) (steps_under_way rs) i c.deref-3.result.now) c.deref-2.ensures.value
-    ∙ ap (λ (es : List Entry). pairs_of_last (do_conflict table) (steps_under_way rows) i es) c.deref-3.ensures.value) c.deref_mut.ensures.value c.uncount_last-gone.ensures in
+    ∙ ap (λ (es : List Entry). pairs_of_last (do_conflict table) (steps_under_way rows) i es) c.deref-3.ensures.value) c.uncount_last-gone.ensures in
     rw (c.deref-4.ensures.value, c.deref-5.ensures.value, c.remove_last.ensures.net, same) (λ kept.
     undone_walks i table net rows has old walks c.self.invariant.0.0 c.self.invariant.1 e undo.1 undo.2 gone new off
     (rw (← settled) (effect_stands i table net rows _ e has undo.1 c.self.invariant.0).0) kept)
@@ -104,8 +102,8 @@ returns c =
     let table = c.self.inside.conflicts in
     let net = c.self.inside.net.items in
     let rows = c.self.inside.rows.items in
-    let old = c.self.inside.graph.counts.items in
-    let walks = c.self.inside.graph.walks.items in
+    let old = c.self.inside.graph.counts in
+    let walks = c.self.inside.graph.walks in
     let has = is_among i table net rows c.args.self.now c.self.view_is c.requires.open in
     let place = c.place_of-at.ensures.place ∙ ap (place_of i) c.deref.ensures.value in
     let same = row_changed (with_running None) i rows c.place_of-at.result c.index_mut.result.now c.run.new.self has place c.index_mut.ensures.value c.run.ensures in
