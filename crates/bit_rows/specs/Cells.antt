@@ -1,5 +1,6 @@
 -- Cells: rows with something for each place.
-use Rattle.std.specs.Prelude.{◌≡◌, ◌≢◌, ◌<◌, ◌+◌, ◌||◌, ◌&&◌, nat_lt, ℕ, Bool, false, List, [], length, nat_eq, slice_index_or, true, if◌then◌else◌}
+use Rattle.std.specs.Prelude.{◌≡◌, ◌≢◌, ◌<◌, ◌+◌, ◌||◌, ◌&&◌, ℕ, Bool, false, true, if◌then◌else◌}
+use Rattle.std.specs.Prelude.{nat_lt, List, [], length, nat_eq, slice_index_or}
 
 -- what stands in the row at place a, at place b
 abbrev pub cell_or : {A : Type 0} → A → List (List A) → ℕ → ℕ → A

@@ -3,7 +3,7 @@ ghost use Rattle.std.specs.Prelude.{◌≡◌, ◌<◌, ◌≤◌, ◌+◌, ◌|
 ghost use Rattle.bit_rows.specs.Cells.{IsCleared, IsJoined, IsOneRow, IsPassed, IsPlaceTaken, cell};
 
 use crate::row::BitRow;
-use crate::rows::{clear_all, copy_all, is_nowhere, join, pass, take_out_all};
+use crate::rows::{clear_all, copy_all, is_nowhere, join, pass, reset_all, take_out_all};
 use crate::words::COLUMNS;
 use std::alloc::{AllocError, Global};
 use std::marker::Model;
@@ -32,6 +32,25 @@ impl Bits {
         Ok(Bits {
             rows: Vec::with_capacity(alloc, COLUMNS)?,
         })
+    }
+
+    /// All 256 rows, without a bit.
+    pub fn all_rows(alloc: Global) -> Result<Bits, AllocError>
+        ensures { IfOk result (λ bits. (length bits ≡ 256) × ((a b : ℕ) → cell bits a b ≡ false)) }
+    {
+        let mut bits = Bits::new(alloc)?;
+        for _ in 0..COLUMNS {
+            bits.push();
+        }
+        Ok(bits)
+    }
+
+    /// Clears all columns of all rows.
+    pub fn reset(&mut self)
+        ensures count { length self.new ≡ length self.old }
+        ensures none { (a b : ℕ) → cell self.new a b ≡ false }
+    {
+        reset_all(&mut self.rows);
     }
 
     /// Whether the row has the column; a row that isn't there has none.

@@ -62,7 +62,8 @@ impl BitRow {
 
     /// Sets what the other sets.
     pub fn add(&mut self, other: &BitRow)
-        ensures { (k : ℕ) → slice_index_or self.new k false ≡ (slice_index_or self.old k false || slice_index_or other.now k false) }
+        ensures { (k : ℕ) → slice_index_or self.new k false
+            ≡ (slice_index_or self.old k false || slice_index_or other.now k false) }
     {
         add(&mut self.words, &other.words);
     }

@@ -12,6 +12,7 @@ pub mod Reaching
 pub mod Marks
 pub mod HeldOps
 pub mod Extended
+pub mod SlotPlaces
 pub mod Arrows
 pub mod WalksStay
 pub mod Numbers

@@ -5,6 +5,7 @@ pub mod Kept
 pub mod Places
 pub mod Walks
 pub mod Operations
+pub mod Slots
 pub mod Spare
 pub mod Counts
 pub mod Arrows

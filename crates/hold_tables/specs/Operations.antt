@@ -1,12 +1,13 @@
 -- Operations: which operations are held, and which of them may be against another.
 use Rattle.std.specs.Prelude.{◌≡◌, ◌<◌, ℕ, Bool, true, false, not, ◌||◌, List, ◌++◌, map, flat_map, min, nat_eq, slice_index_or}
-use Rattle.std.specs.Prelude.{if◌then◌else◌, Option, Some, None}
+use Rattle.std.specs.Prelude.{if◌then◌else◌, length, Option, Some, None}
 use Rattle.std.specs.List.{list_any}
 use Rattle.process_tree.specs.declared.conflicts.Mode.{Mode}
 use Rattle.process_tree.specs.declared.conflicts.Mode.TheVariants.{Never, Key, Always}
 use Rattle.process_tree.specs.declared.entry.Entry.{Entry}
 use Rattle.process_tree.specs.Conflicts.{Table, mode_of, operations_in}
 use Rattle.hold_tables.specs.declared.operations.Beside.{Beside}
+use Rattle.hold_tables.specs.Slots.{AreReserved}
 use Rattle.hold_tables.specs.Tables.{OpenProcess, running_of}
 
 -- whether steps conflict by this mode, if only their keys are so
@@ -60,10 +61,13 @@ AddsOps ops old new = (k : ℕ) → k < 256 → slice_index_or new k false ≡ (
 abbrev pub TellOps : List ℕ → List Bool → Type 0
 TellOps ops marks = (k : ℕ) → k < 256 → slice_index_or marks k false ≡ has_slot k ops
 
--- what is kept tells which operations are under way or reserved, and whether something is to be undone
+-- what is kept tells which operations are under way or reserved, whether something is to be undone, and which operations each
+-- process has reserved
 pub record TellBeside (rows : List OpenProcess) (b : Beside) : Type 0 where
   pub ops : TellOps (all_beside rows) b.marks
   pub pending : b.pending ≡ list_any has_pending rows
+  pub count : length b.reserved ≡ 256
+  pub reserved : AreReserved rows b.reserved
 
 -- each operation that is marked at a place of its own is one of the table
 abbrev pub AreKnownOps : Table → List Bool → Type 0

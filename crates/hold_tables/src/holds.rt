@@ -4,15 +4,15 @@ ghost use Rattle.process_tree.specs.Blocks.{outline};
 ghost use Rattle.process_tree.specs.Conflicts.{operations_in};
 ghost use Rattle.process_tree.specs.Order.{Each};
 ghost use Rattle.hold_tables.specs.Tables.{is_open, kept_of};
-ghost use Rattle.hold_tables.specs.Changes.{none_open, opened, changed, with_pending, with_first_reserved, with_reserved, run, stopped};
-ghost use Rattle.hold_tables.specs.Changes.{took_effect, all_fixed, dropped, can_run, undoes};
+ghost use Rattle.hold_tables.specs.Changes.{none_open, opened, changed, with_pending, with_first_reserved, with_reserved, run};
+ghost use Rattle.hold_tables.specs.Changes.{stopped, took_effect, all_fixed, dropped, can_run, undoes};
 ghost use Rattle.hold_tables.specs.Kept.{IsKnown, AreKnown};
 ghost use Rattle.hold_tables.specs.Places.{all_steps};
 ghost use Rattle.hold_tables.specs.Spare.{IsRoomIn};
 
 use crate::graph::{Graph, close_if, tell_run, tell_step};
 use crate::looking::{all_steps, count_of, place_of, remove_last};
-use crate::operations::{Beside, all_beside, mark_op, ops_of};
+use crate::operations::{Beside, mark_op, nothing_beside, ops_of, tell_beside};
 use crate::reach::{Marks, leads_through, step_has_arrows};
 use crate::row::{MOST, Row};
 use crate::spare::Spare;
@@ -66,7 +66,7 @@ impl Holds {
                 counts: Counts::new(alloc)?,
                 walks: Bits::new(alloc)?,
             },
-            beside: all_beside(&[]),
+            beside: nothing_beside(alloc)?,
             in_net: ops_of(&[]),
         })
     }
@@ -109,7 +109,7 @@ impl Holds {
         self.rows.push_reserved(row);
         self.graph.counts.add_place();
         self.graph.walks.add_place();
-        self.beside = all_beside(&self.rows);
+        tell_beside(&mut self.beside, &self.rows);
     }
 
     /// The entry comes under way in its process.
@@ -131,7 +131,7 @@ impl Holds {
             &self.net,
             e,
         );
-        self.beside = all_beside(&self.rows);
+        tell_beside(&mut self.beside, &self.rows);
     }
 
     /// Nothing is under way in the process.
@@ -155,7 +155,7 @@ impl Holds {
             &self.rows,
             &self.net,
         );
-        self.beside = all_beside(&self.rows);
+        tell_beside(&mut self.beside, &self.rows);
     }
 
     /// What is under way in the process took effect.
@@ -186,7 +186,7 @@ impl Holds {
         self.net.push_reserved(e);
         self.rows[at].run(None);
         tell_step(&mut self.graph, &self.conflicts, &self.rows, &self.net, e);
-        self.beside = all_beside(&self.rows);
+        tell_beside(&mut self.beside, &self.rows);
         mark_op(&mut self.in_net, e.op);
     }
 
@@ -214,7 +214,7 @@ impl Holds {
             &self.rows,
             &self.net,
         );
-        self.beside = all_beside(&self.rows);
+        tell_beside(&mut self.beside, &self.rows);
     }
 
     /// All net entries that the process has are fixed.
@@ -227,7 +227,7 @@ impl Holds {
         let most = usize::from(self.rows[at].steps());
         let fixed = count_of(&self.net, process).min(most);
         self.rows[at].fix(fixed as u16);
-        self.beside = all_beside(&self.rows);
+        tell_beside(&mut self.beside, &self.rows);
     }
 
     /// These, each a step with its operation and its key, are the reserved steps of the process.
@@ -239,7 +239,7 @@ impl Holds {
     {
         let at = place_of(&self.rows, process);
         self.rows[at].reserve(steps);
-        self.beside = all_beside(&self.rows);
+        tell_beside(&mut self.beside, &self.rows);
     }
 
     /// Only the first so many of the reserved steps of the process stay reserved.
@@ -249,7 +249,7 @@ impl Holds {
     {
         let at = place_of(&self.rows, process);
         self.rows[at].keep_reserved(count);
-        self.beside = all_beside(&self.rows);
+        tell_beside(&mut self.beside, &self.rows);
     }
 
     /// So many of the last net entries of the process are to be undone.
@@ -259,7 +259,7 @@ impl Holds {
     {
         let at = place_of(&self.rows, process);
         self.rows[at].pend(count);
-        self.beside = all_beside(&self.rows);
+        tell_beside(&mut self.beside, &self.rows);
     }
 
     /// The process holds nothing any more.
@@ -280,7 +280,7 @@ impl Holds {
             &self.rows,
             &self.net,
         );
-        self.beside = all_beside(&self.rows);
+        tell_beside(&mut self.beside, &self.rows);
         self.in_net = ops_of(&self.net);
     }
 }

@@ -4,7 +4,7 @@
 //! of each open process what is under way, what is reserved, how many of its entries are fixed and how many are pending. They
 //! stand for holdings of `schedule_model` (`holdings_of`), over which the blocking rules and the conflict graph are defined.
 //! Beside them it keeps how many pairs of entries make the arrow from one open process to another, and where walks over
-//! arrows lead (`specs/Counts`, `specs/Arrows`, `specs/Walks`).
+//! arrows lead (`specs/Counts`, `specs/Arrows`, `specs/Walks`); and rows of bits of what processes have reserved (`specs/Slots`).
 //! Each call changes what it names and nothing else. `new`, `open` and `spare` alone take memory: a `Spare` is the room for a
 //! process that opens later, by `open_with`.
 #![tactic(auto)]
@@ -15,13 +15,16 @@ mod extending;
 mod graph;
 mod holds;
 mod holds_read;
+mod holds_slots;
 mod looking;
 mod operations;
 mod reach;
 mod row;
+mod slots;
 mod spare;
 mod uncounting;
 
+pub use bit_rows::Bits;
 pub use holds::Holds;
 pub use machine_model::{Admitted, Blocked, Rule};
 pub use spare::{Spare, SpareCapacity};

@@ -1,5 +1,5 @@
 // What is looked up in the rows and in the net.
-ghost use Rattle.std.specs.Prelude.{◌≡◌, ◌<◌, ◌≤◌, ◌+◌, length, true, false, IfSome, Some, map, nat_le, if◌then◌else◌, vec_len};
+ghost use Rattle.std.specs.Prelude.{◌≡◌, ◌<◌, ◌≤◌, ◌+◌, length, true, false, IfSome, None, Some, map, nat_le, if◌then◌else◌, vec_len};
 ghost use Rattle.std.specs.Prelude.{vec_capacity};
 ghost use Rattle.process_tree.specs.Order.{Each};
 ghost use Rattle.schedule_model.specs.Histories.{of_process};
@@ -44,6 +44,22 @@ pub fn place_of(rows: &[Row], process: u32) -> usize
     } else {
         first_place(rows, process)
     }
+}
+
+/// The place of the process with this number, if there is one.
+pub fn place_if(rows: &[Row], process: u32) -> Option<usize>
+    ensures { result ≡ (if has_number process rows.now then Some (place_of process rows.now) else None) }
+{
+    let mut rest = rows;
+    let mut at = 0;
+    while let [row, after @ ..] = rest {
+        if row.process() == process {
+            return Some(at);
+        }
+        rest = after;
+        at += 1;
+    }
+    None
 }
 
 /// How many of the entries are of the process.

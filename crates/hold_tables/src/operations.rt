@@ -1,5 +1,5 @@
 // Which operations are held, so that what nobody holds is found at once.
-ghost use Rattle.std.specs.Prelude.{◌≡◌, ◌<◌, ◌∷◌, [], ℕ, List, if◌then◌else◌, map, true, false};
+ghost use Rattle.std.specs.Prelude.{◌≡◌, ◌<◌, ◌∷◌, [], ℕ, List, if◌then◌else◌, length, map, true, false, IfOk};
 ghost use Rattle.std.specs.List.{list_any};
 ghost use Rattle.std.specs.Option.{option_to_list};
 ghost use Rattle.process_tree.specs.Conflicts.{operations_in};
@@ -10,13 +10,18 @@ ghost use Rattle.hold_tables.specs.Operations.{has_pending, may_conflict, may_ho
 
 use crate::reach::Marks;
 use crate::row::{MOST, Row};
+use crate::slots::set_reserved;
+use bit_rows::Bits;
 use process_tree::{Conflicts, Entry, Mode};
+use std::alloc::{AllocError, Global};
 
-/// Which operations are under way or reserved in any process, and whether something of one is to be undone.
-#[derive(Clone, Copy)]
+/// Which operations are under way or reserved in any process, whether something of one is to be undone, and which operations are
+/// reserved at each place.
+#[derive(Drop)]
 pub struct Beside {
     marks: Marks,
     pending: bool,
+    pub reserved: Bits,
 }
 
 /// The place of an operation among marks.
@@ -87,15 +92,28 @@ fn some_pending(rows: &[Row]) -> bool
 }
 
 /// What these processes hold beside their net entries.
-pub fn all_beside(rows: &[Row]) -> Beside
-    ensures { TellBeside rows.now result }
+pub fn tell_beside(beside: &mut Beside, rows: &[Row])
+    requires rows { length beside.old.reserved ≡ 256 }
+    ensures { TellBeside rows.now beside.new }
 {
     let mut marks = [false; MOST];
     mark_rows(&mut marks, rows);
-    Beside {
-        marks,
-        pending: some_pending(rows),
-    }
+    beside.marks = marks;
+    beside.pending = some_pending(rows);
+    set_reserved(&mut beside.reserved, rows);
+}
+
+/// Nothing is held, with room for all.
+pub fn nothing_beside(alloc: Global) -> Result<Beside, AllocError>
+    ensures { IfOk result (λ beside. TellBeside [] beside) }
+{
+    let mut beside = Beside {
+        marks: [false; MOST],
+        pending: false,
+        reserved: Bits::all_rows(alloc)?,
+    };
+    tell_beside(&mut beside, &[]);
+    Ok(beside)
 }
 
 /// Marks those of these entries.

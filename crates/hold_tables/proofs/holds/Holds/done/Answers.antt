@@ -36,7 +36,7 @@ invariant_of-self c =
     let is : IsPlaced table rows e = subst (IsPlacedIf table rows) under (each_numbered (λ (r : OpenProcess). IsPlacedIf table rows r.running) i rows has (placed_running (tables table net rows) c.self.invariant.0.0)).0 in (
       rw (c.push_reserved.ensures.items, c.push_reserved.ensures.capacity, changed, ← settled) (effect_stands i table net rows _ e has under c.self.invariant.0),
       graph_lent table _ _ _ _ c.tell_step.new.graph.counts c.tell_step.new.graph.walks c.deref-2.ensures.value c.deref-3.ensures.value c.tell_step.ensures.tell,
-      subst (λ (rs : List OpenProcess). TellBeside rs c.all_beside-self-inside.result) c.deref-4.ensures.value c.all_beside-self-inside.ensures,
+      subst (λ (rs : List OpenProcess). TellBeside rs c.tell_beside.new.beside) c.deref-4.ensures.value c.tell_beside.ensures,
       subst (λ (es : List Entry). KeepOps table (ops_of es) c.mark_op.new.marks) (sym c.push_reserved.ensures.items)
           (kept_step table net e c.self.inside.in_net c.mark_op.new.marks is.0 c.self.invariant.3 c.mark_op.ensures),
     )

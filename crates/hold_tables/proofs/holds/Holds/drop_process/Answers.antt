@@ -32,7 +32,7 @@ invariant_of-self c =
     let told : TellOps (ops_of c.retain.new.self.items) c.ops_of-self-inside.result = subst (λ (es : List Entry). TellOps (ops_of es) c.ops_of-self-inside.result) c.deref-5.ensures.value c.ops_of-self-inside.ensures in (
       rw (net, rows, c.retain.ensures.capacity) (drop_stands i c.self.inside.conflicts c.self.inside.net.items c.self.inside.rows.items _ c.self.invariant.0),
       graph_lent c.self.inside.conflicts _ _ _ _ c.close_if.new.graph.counts c.close_if.new.graph.walks c.deref-2.ensures.value c.deref-3.ensures.value c.close_if.ensures.tell,
-      subst (λ (rs : List OpenProcess). TellBeside rs c.all_beside-self-inside.result) c.deref-4.ensures.value c.all_beside-self-inside.ensures,
+      subst (λ (rs : List OpenProcess). TellBeside rs c.tell_beside.new.beside) c.deref-4.ensures.value c.tell_beside.ensures,
       record {
         covers = tell_covers (ops_of c.retain.new.self.items) c.ops_of-self-inside.result told;
         known = known_ops c.self.inside.conflicts (ops_of c.retain.new.self.items) c.ops_of-self-inside.result (subst (λ (es : List Entry). Each (λ op. op < operations_in c.self.inside.conflicts) (ops_of es)) (sym net)

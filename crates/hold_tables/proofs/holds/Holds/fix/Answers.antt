@@ -31,7 +31,7 @@ invariant_of-self c =
           (tidy_fixed c.args.self.now.conflicts (of_process (kept_of c.args.self.now i).process c.args.self.now.net) (kept_of c.args.self.now i) c.requires.forward tidy)) c.self.invariant.0,
       graph_stood (with_fixed (length (of_process i c.args.self.now.net))) i c.self.inside.conflicts net rows c.self.inside.graph.counts c.self.inside.graph.walks c.place_of-at.result c.index_mut.result.now c.fix.new.self c.args.self.now c.self.view_is c.requires.open place c.index_mut.ensures.value (c.fix.ensures ∙ ap (λ n. with_fixed n c.index_mut.result.now) fixed)
           (λ r. (refl, refl)) c.self.invariant.1,
-      subst (λ (rs : List OpenProcess). TellBeside rs c.all_beside-self-inside.result) c.deref-3.ensures.value c.all_beside-self-inside.ensures,
+      subst (λ (rs : List OpenProcess). TellBeside rs c.tell_beside.new.beside) c.deref-3.ensures.value c.tell_beside.ensures,
       c.self.invariant.3,
     )
 

@@ -37,6 +37,6 @@ invariant_of-self c =
         opened_counts i steps c.self.inside.conflicts net rows c.self.invariant.0.0 fits.few counts c.add_place.new.self counts_cleared counts_count c.self.invariant.1.0,
         opened_tells i steps c.self.inside.conflicts net rows c.self.invariant.0.0 fits.few walks c.add_place-2.new.self walks_cleared walks_count stands.0 c.self.invariant.1.1,
       ),
-      subst (λ (rs : List OpenProcess). TellBeside rs c.all_beside-self-inside.result) c.deref.ensures.value c.all_beside-self-inside.ensures,
+      subst (λ (rs : List OpenProcess). TellBeside rs c.tell_beside.new.beside) c.deref.ensures.value c.tell_beside.ensures,
       subst (λ (es : List Entry). KeepOps c.self.inside.conflicts (ops_of es) c.self.inside.in_net) (sym c.give_to.ensures.items) c.self.invariant.3,
     )

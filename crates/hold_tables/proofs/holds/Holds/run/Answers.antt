@@ -19,7 +19,7 @@ invariant_of-self c = (
   stood (with_running (Some c.args.e)) c.args.e.process c.self.inside.conflicts c.self.inside.net.items c.self.inside.rows.items c.place_of-at.result c.index_mut.result.now c.run.new.self c.args.self.now _ c.self.view_is c.requires.open (c.place_of-at.ensures.place ∙ ap (place_of c.args.e.process) c.deref.ensures.value) c.index_mut.ensures.value c.run.ensures (λ r. (refl, refl))
       (λ tidy own. record { within = tidy.within; once = tidy.once; fixed = tidy.fixed; running = (sym own, subst (λ n. can_come (of_process n c.args.self.now.net) (kept_of c.args.self.now c.args.e.process) c.args.e ≡ true) (sym own) c.requires.may, c.requires.known); reserved = tidy.reserved; fits = tidy.fits; small = tidy.small }) c.self.invariant.0,
   graph_lent c.self.inside.conflicts _ _ _ _ c.tell_run.new.graph.counts c.tell_run.new.graph.walks c.deref-3.ensures.value c.deref-4.ensures.value c.tell_run.ensures.tell,
-  subst (λ (rs : List OpenProcess). TellBeside rs c.all_beside-self-inside.result) c.deref-5.ensures.value c.all_beside-self-inside.ensures,
+  subst (λ (rs : List OpenProcess). TellBeside rs c.tell_beside.new.beside) c.deref-5.ensures.value c.tell_beside.ensures,
   c.self.invariant.3,
 )
 

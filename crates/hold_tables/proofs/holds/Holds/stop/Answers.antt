@@ -18,7 +18,7 @@ invariant_of-self c = (
   stood (with_running None) c.args.process c.self.inside.conflicts c.self.inside.net.items c.self.inside.rows.items c.place_of-at.result c.index_mut.result.now c.run.new.self c.args.self.now _ c.self.view_is c.requires.open (c.place_of-at.ensures.place ∙ ap (place_of c.args.process) c.deref.ensures.value) c.index_mut.ensures.value c.run.ensures (λ r. (refl, refl))
       (λ tidy own. record { within = tidy.within; once = tidy.once; fixed = tidy.fixed; running = tt; reserved = tidy.reserved; fits = tidy.fits; small = tidy.small }) c.self.invariant.0,
   graph_lent c.self.inside.conflicts _ _ _ _ c.close_if.new.graph.counts c.close_if.new.graph.walks c.deref-4.ensures.value c.deref-5.ensures.value c.close_if.ensures.tell,
-  subst (λ (rs : List OpenProcess). TellBeside rs c.all_beside-self-inside.result) c.deref-6.ensures.value c.all_beside-self-inside.ensures,
+  subst (λ (rs : List OpenProcess). TellBeside rs c.tell_beside.new.beside) c.deref-6.ensures.value c.tell_beside.ensures,
   c.self.invariant.3,
 )
 

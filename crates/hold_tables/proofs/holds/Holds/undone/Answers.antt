@@ -29,7 +29,7 @@ invariant_of-self c =
     let settled : net_after i (Some e) net ≡ without_last i net = rw undo.2 refl in (
       rw (c.remove_last.ensures.net, c.remove_last.ensures.capacity, same, ← settled) (effect_stands i table net rows _ e has undo.1 c.self.invariant.0),
       graph_lent table _ _ _ _ c.close_if.new.graph.counts c.close_if.new.graph.walks c.deref-4.ensures.value c.deref-5.ensures.value c.close_if.ensures.tell,
-      subst (λ (rs : List OpenProcess). TellBeside rs c.all_beside-self-inside.result) c.deref-6.ensures.value c.all_beside-self-inside.ensures,
+      subst (λ (rs : List OpenProcess). TellBeside rs c.tell_beside.new.beside) c.deref-6.ensures.value c.tell_beside.ensures,
       subst (λ (es : List Entry). KeepOps table (ops_of es) c.self.inside.in_net) (sym c.remove_last.ensures.net) (kept_undo table i net c.self.inside.in_net c.self.invariant.3),
     )
 
