@@ -10,5 +10,6 @@ pub mod Fronts
 pub mod StepPlaces
 pub mod LastWays
 pub mod Assembled
+pub mod HeldUp
 pub mod Classes
 pub mod WalksBack

@@ -7,6 +7,7 @@
 
 mod admission;
 mod circle;
+mod held;
 mod least;
 mod net;
 mod owed;
@@ -14,6 +15,7 @@ mod processes;
 mod victims;
 
 pub use admission::{admit, is_reserved};
+pub use held::is_held_up;
 pub use hold_tables::{Admitted, Blocked, Rule};
 pub use machine_model::Todo;
 pub use victims::victim;

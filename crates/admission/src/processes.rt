@@ -76,7 +76,7 @@ fn least_pending(holds: &Holds, own: Entry, process: u32) -> Option<Blocked>
 }
 
 /// The least block on what a process holds beside its net.
-fn least_of_process(holds: &Holds, sought: Sought, own: Entry, process: u32) -> Option<Blocked>
+pub fn least_of_process(holds: &Holds, sought: Sought, own: Entry, process: u32) -> Option<Blocked>
     requires open { is_open holds.now process ≡ true }
     requires own { IsKnown holds.now.conflicts own }
     ensures { result ≡ least_of_process holds.now sought own (kept_of holds.now process) }

@@ -8,7 +8,7 @@ use Rattle.process_tree.specs.declared.step.Step.{Step}
 use Rattle.process_tree.specs.Blocks.{outline}
 use Rattle.process_tree.specs.Conflicts.{operations_in}
 use Rattle.process_tree.specs.Order.{Each}
-use Rattle.process_tree.specs.Shape.{commits, kind_of, shape_of}
+use Rattle.process_tree.specs.Shape.{commits, shape_of}
 use Rattle.schedule_model.specs.declared.event.Event.{Event}
 use Rattle.schedule_model.specs.Course.{Course, course, course_of}
 use Rattle.schedule_model.specs.Histories.{active, doing, net}

@@ -9,6 +9,7 @@ ghost use Rattle.machine_model.specs.State.{block_of};
 ghost use Rattle.process_core.specs.Answers.{after_call, answer_in};
 ghost use Rattle.core_state.specs.Cores.{courses_in, moment_of, relation};
 ghost use Rattle.process_core.specs.Handing.{AreNumbered, IsOfPlan, admit_reply_of, piece_told, with_kept};
+ghost use Rattle.process_core.specs.Rotation.{piece_in};
 ghost use Rattle.core_state.specs.Seats.{seat_of};
 ghost use Rattle.core_state.specs.Upcoming.{upcoming};
 ghost use Rattle.core_state.specs.declared.seats.Upcoming.TheVariants.{Task};
@@ -16,7 +17,7 @@ ghost use Rattle.core_state.specs.declared.seats.Upcoming.TheVariants.{Task};
 use crate::cores::Core;
 use crate::pieces::Piece;
 use crate::replies::Admit;
-use admission::{Admitted, admit};
+use admission::{Admitted, admit, is_held_up};
 use core_state::{Seat, Upcoming, come_under_way};
 use machine_model::{Kept, Todo, Work};
 use process_tree::Plan;
@@ -89,6 +90,33 @@ impl Core {
                 let number = next_number(&self.kept);
                 Admit::Piece(piece_told(plan, number, i, tried, todo))
             }
+        }
+    }
+
+    /// Whether a step that comes next is blocked by what the process in a slot has against it.
+    fn is_held(&self, i: u32, todo: Todo, tried: u8, slot: u16) -> bool
+        requires { upcoming (seat_of (courses_in self.now) (moment_of self.now) i) ≡ Task todo tried }
+        ensures { result ≡ true → piece_in (piece_unless (courses_in self.now) (moment_of self.now) i
+            (block_of (relation self.now) (courses_in self.now) (moment_of self.now) i)) ≡ None }
+    {
+        let plan = &self.history.plans.as_slice()[i as usize - 1];
+        is_held_up(&self.holds, plan, i, todo, usize::from(slot))
+    }
+
+    /// Whether a process has no piece since the one in a slot, by which another is blocked, blocks it too.
+    pub(crate) fn waits_for(&self, i: u32, slot: Option<u16>) -> bool
+        ensures { result ≡ true
+            → piece_in (admit_reply (relation self.now) (courses_in self.now) (moment_of self.now) i) ≡ None }
+    {
+        let Some(slot) = slot else {
+            return false;
+        };
+        let Some(seat) = self.seat(i) else {
+            return false;
+        };
+        match seat.upcoming() {
+            Upcoming::Task(todo, tried) => self.is_held(i, todo, tried, slot),
+            _ => false,
         }
     }
 

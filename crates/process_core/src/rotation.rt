@@ -21,15 +21,22 @@ impl Core {
         some_runs(&self.seats)
     }
 
-    /// The first piece that may be handed out, of the processes from one number to before another.
+    /// The first piece that may be handed out, of the processes from one number to before another. Many wait for the same process,
+    /// so each is asked first whether the one that blocked the last one blocks it too.
     fn first_piece(&self, from: u32, to: u32) -> Option<Piece>
         requires { from ≤ to }
         ensures { result ≡ first_told (λ i. piece_in (admit_reply (relation self.now) (courses_in self.now) (moment_of self.now) i))
             (numbers_from from (to - from)) }
     {
+        let mut holder = None;
         for i in from..to {
-            if let Admit::Piece(piece) = self.reply_of(i) {
-                return Some(piece);
+            if self.waits_for(i, holder) {
+                continue;
+            }
+            match self.reply_of(i) {
+                Admit::Piece(piece) => return Some(piece),
+                Admit::Blocked(block) => holder = self.holds.slot(block.on),
+                _ => {}
             }
         }
         None
