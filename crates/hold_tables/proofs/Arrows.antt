@@ -4,7 +4,7 @@ use Rattle.std.specs.Prelude.{nat_eq}
 use Rattle.std.specs.List.{list_any}
 use Rattle.std.proofs.lemmas.List.Folds.{list_any-append}
 use Rattle.std.proofs.lemmas.List.Elements.{filter-append}
-use Rattle.std.proofs.lemmas.Bool.{false≢true, and_parts}
+use Rattle.std.proofs.lemmas.Bool.{false≢true}
 use Rattle.schedule_model.specs.Graph.{Arrow}
 use Rattle.hold_tables.specs.Tables.{OpenProcess, running_of}
 use Rattle.process_tree.specs.declared.entry.Entry.{Entry}
@@ -20,16 +20,6 @@ arrow_alone table x y is i k = ap (nat_eq x.process i &&◌) (by (nat_eq y.proce
     by true true is = refl
     by false true is = refl
     by s false is = absurd (false≢true is)
-
--- entries that don't conflict make no arrow
-pub no_arrow : (rows : List OpenProcess) (table : ConflictRelation) (x y : Entry) (marks : List (List Bool)) → conflict table x y ≡ false → IsExtended rows (arrows_by table x (y ∷ [])) marks marks
-no_arrow rows table x y marks none = extended_none rows (arrows_by table x (y ∷ [])) marks (λ i k here there arrow.
-    absurd (false≢true (sym none ∙ alone (nat_eq y.process k) (conflict table x y) (and_parts (nat_eq x.process i) ((nat_eq y.process k && conflict table x y) || false) arrow).1)))
-  where
-    alone : (s t : Bool) → ((s && t) || false) ≡ true → t ≡ true
-    alone true true is = refl
-    alone true false is = is
-    alone false t is = absurd (false≢true is)
 
 pub any_later : (s a b : Bool) → (s && (a || b)) ≡ ((s && a) || (s && b))
 any_later true a b = refl
@@ -48,12 +38,7 @@ pub none_first : (s : Bool) → (s && false) ≡ false
 none_first true = refl
 none_first false = refl
 
--- no entries make no arrows
-pub no_arrows : (rows : List OpenProcess) (table : ConflictRelation) (x : Entry) (ys : List Entry) (marks : List (List Bool)) → length ys ≡ 0 → IsExtended rows (arrows_by table x ys) marks marks
-no_arrows rows table x [] marks none = nothing rows (arrows_by table x []) marks (λ i k. none_first (nat_eq x.process i))
-no_arrows rows table x (y ∷ ys) marks none = absurd (omega (arith, none))
-
--- nor do no processes
+-- no processes make no arrows
 pub no_steps : (rows : List OpenProcess) (table : ConflictRelation) (x : Entry) (rs : List OpenProcess) (marks : List (List Bool)) → length rs ≡ 0 → IsExtended rows (arrows_by table x (steps_under_way rs)) marks marks
 no_steps rows table x [] marks none = nothing rows (arrows_by table x []) marks (λ i k. none_first (nat_eq x.process i))
 no_steps rows table x (r ∷ rs) marks none = absurd (omega (arith, none))

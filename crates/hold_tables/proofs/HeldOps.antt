@@ -1,6 +1,6 @@
 -- Marks of operations: what they tell of those that are held.
 use Rattle.std.proofs.Common.{◌≡◌, ◌⊎◌, inl, inr, ◌<◌, ℕ, Bool, true, false, not, ◌||◌, ◌&&◌, List, [], ◌∷◌, ◌++◌, length, map, slice_index_or, sym, refl, ap, ◌∙◌, subst, arith, Option, Some, None, IfSome}
-use Rattle.std.specs.Prelude.{nat_eq, nat_lt, replicate, slice_set}
+use Rattle.std.specs.Prelude.{nat_eq, nat_lt, replicate}
 use Rattle.std.specs.List.{list_any}
 use Rattle.std.specs.Option.{option_to_list}
 use Rattle.std.proofs.lemmas.List.Folds.{list_any-append}
@@ -18,7 +18,7 @@ use Rattle.hold_tables.specs.Kept.{AreKnown, AreTidy, IsKnown, IsTidy}
 use Rattle.hold_tables.specs.Operations.{AddsOps, AreKnownOps, CoverOps, IsClearOf, KeepOps, TellOps, all_beside, has_pending, has_slot, is_conflict, may_conflict, may_hold, ops_beside, ops_of, slot_of}
 use Rattle.hold_tables.specs.Walks.{conflicts_with}
 use Rattle.bit_rows.proofs.Cells.{none_in_row}
-use Rattle.hold_tables.proofs.Marks.{neither_of, one_marked}
+use Rattle.hold_tables.proofs.Marks.{neither_of}
 
 or_none : (a : Bool) → (a || false) ≡ a
 or_none true = refl
@@ -41,13 +41,6 @@ same_either a b = by (nat_eq a b) (nat_eq b a) refl refl
 
 slot_small : (op : ℕ) → slot_of op < 256
 slot_small op = omega arith
-
--- one operation is marked
-pub one_op : (marks : List Bool) (op : ℕ) → length marks ≡ 256 → AddsOps (op ∷ []) marks (slice_set marks (slot_of op) true)
-one_op marks op wide k less =
-    let small = slot_small op in
-    one_marked marks (slot_of op) k (omega (arith, small, wide))
-    ∙ ap (λ b. b || slice_index_or marks k false) (same_either k (slot_of op) ∙ sym (or_none (nat_eq (slot_of op) k)))
 
 pub adds_none : (marks : List Bool) → AddsOps [] marks marks
 adds_none marks k less = refl

@@ -5,10 +5,8 @@ use Rattle.process_tree.specs.declared.entry.Entry.{Entry}
 use Rattle.process_tree.specs.Order.{Each}
 use Rattle.hold_tables.specs.Tables.{Tables, OpenProcess, hold_in, holdings_of, reserved_entry, reserved_of, running_of}
 use Rattle.hold_tables.specs.Changes.{can_come}
-use Rattle.hold_tables.specs.Kept.{IsKnown, IsKnownRunning, AreKnown, IsTidy}
-use Rattle.hold_tables.proofs.Tidy.{each_entry}
+use Rattle.hold_tables.specs.Kept.{IsKnown, IsKnownRunning}
 use Rattle.process_tree.specs.Conflicts.{Access, Table}
-use Rattle.schedule_model.specs.Histories.{of_process}
 use Rattle.schedule_model.specs.Holdings.{Hold, all_running, all_reserved}
 use Rattle.std.specs.Option.{option_to_list}
 use Rattle.hold_tables.specs.Reading.{holder_against, is_against, least_step, lesser}
@@ -89,8 +87,3 @@ holder-is t i access =
 known_running : (table : Table) (es : List Entry) (r : OpenProcess) (o : Option Entry) → IfSome o (λ e. (e.process ≡ r.process) × (can_come es r e ≡ true) × IsKnown table e) → IsKnownRunning table o
 known_running table es r None is = tt
 known_running table es r (Some e) is = is.2
-
--- the table has the operations of all that is under way and reserved
-pub all_known : (table : Table) (net : List Entry) (rows : List OpenProcess) → Each (IsTidy table net) rows
-    → Each (λ (r : OpenProcess). IsKnownRunning table r.running) rows × Each (λ (r : OpenProcess). AreKnown table r.reserved) rows
-all_known table net rows tidy = (each_entry rows (λ r is. known_running table (of_process r.process net) r r.running is.running) tidy, each_entry rows (λ r is. is.reserved) tidy)
