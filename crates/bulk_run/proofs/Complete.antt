@@ -1,11 +1,11 @@
 -- Whatever is due, the line is there where the text is a scenario that fits, the files are empty and the rack failed no call.
-use Rattle.std.proofs.Common.{◌≡◌, ◌∙◌, ℕ, List, [], Option, Some, None, Result, Ok, Err, inl, inr, refl, ap, sym, subst}
+use Rattle.std.proofs.Common.{◌≡◌, ◌∙◌, ◌⊎◌, ℕ, List, [], Option, Some, None, Result, Ok, Err, inl, inr, refl, subst}
 use Rattle.std.specs.declared.alloc.Global.{Global}
 use Rattle.process_flow.specs.Causes.{Rose}
 use Rattle.process_tree.specs.declared.plan.Plan.{Plan}
 use Rattle.commute_table.specs.declared.catalog.Catalog.{Catalog}
 use Rattle.process_core.specs.Cores.{opened_on}
-use Rattle.history_files.specs.Creating.{IsDueToFiles, first_used}
+use Rattle.history_files.specs.Creating.{IsDueToFiles}
 use Rattle.history_files.specs.declared.faults.CreateError.{CreateError}
 use Rattle.history_files.specs.declared.faults.CreateError.TheVariants as create
 use Rattle.process_engine.specs.Fitting.{limit_passed}
@@ -19,6 +19,7 @@ use Rattle.command_input.specs.Scenarios.{IsBound}
 use Rattle.init_run.specs.Init.{AreNotMade, create_refusal}
 use Rattle.scenario_run.specs.Completeness.{IsReportThere}
 use Rattle.scenario_run.proofs.NothingWrong.{catalog_of, ill_formed, unbound}
+use Rattle.bulk_run.proofs.BulkParts.{due_in_parts, IsNotRead, IsReadAndRun}
 use Rattle.bulk_run.specs.Bulk.{IsBulkDue, IsBulkOf, IsCutOffAnew, IsPastLimitAnew, SaysBulk}
 use Rattle.bulk_run.specs.Completeness.{AreEmptyFiles, IsBulkComplete, IsScenarioThatFits}
 use Rattle.process_core.specs.Cores.{CoreState}
@@ -55,13 +56,16 @@ module _ (alloc : Global) (gate : AskedGate) (text : List ℕ) (before after : F
   by_line now s (inl done) = inl done.0
   by_line now s (inr stuck) = inr stuck.1
 
+  by_part : (found : Result Said Refusal) → IsNotRead gate text before after found ⊎ IsReadAndRun gate text before after found → IsReportThere found
+  by_part (Ok s) (inl none) = absurd (ill_formed alloc text c plans fits.bound s.text none.0.1)
+  by_part (Ok s) (inr (d, ps, bound, (now, run, says))) = by_line now s says
+  by_part (Err r) (inl none) = unbound alloc text c plans fits.bound r none.0
+  by_part (Err r) (inr (d, ps, bound, inl unmade)) = not_unmade r unmade
+  by_part (Err r) (inr (d, ps, bound, inr (inl past))) = not_past d ps bound r past
+  by_part (Err r) (inr (d, ps, bound, inr (inr cut))) = not_cut d ps r cut
+
   pub line_there : (found : Result Said Refusal) → IsBulkDue gate text before after found → IsReportThere found
-  line_there (Ok s) (inl none) = absurd (ill_formed alloc text c plans fits.bound s.text none.0.1)
-  line_there (Ok s) (inr (d, ps, bound, (now, run, says))) = by_line now s says
-  line_there (Err r) (inl none) = unbound alloc text c plans fits.bound r none.0
-  line_there (Err r) (inr (d, ps, bound, inl unmade)) = not_unmade r unmade
-  line_there (Err r) (inr (d, ps, bound, inr (inl past))) = not_past d ps bound r past
-  line_there (Err r) (inr (d, ps, bound, inr (inr cut))) = not_cut d ps r cut
+  line_there found due = by_part found (due_in_parts gate text before after found due)
 
 -- So it is whatever is due.
 pub due_is_complete : (alloc : Global) (gate : AskedGate) (text : List ℕ) (before after : Files) (found : Result Said Refusal) → IsBulkDue gate text before after found → IsBulkComplete text before after found

@@ -1,3 +1,4 @@
+pub mod BulkParts
 pub mod Complete
 pub mod Counted
 pub mod MadeAnew

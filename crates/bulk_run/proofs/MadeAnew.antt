@@ -1,11 +1,10 @@
 -- What there is to say of a run on files that were made for it is due.
-use Rattle.std.proofs.Common.{◌≡◌, ◌∙◌, ◌≤◌, ℕ, List, [], Some, None, Result, Ok, Err, IfOk, IfErr, inl, inr, ap, sym, subst, refl, arith}
+use Rattle.std.proofs.Common.{◌≡◌, ◌∙◌, ◌≤◌, List, [], Some, None, Result, Ok, Err, IfOk, IfErr, inl, inr, ap, sym, subst, refl, arith}
 use Rattle.process_disk.specs.declared.rack.Rack.{Ghosts as Racks}
 use Rattle.process_disk.specs.Disk.{Disk, IsHonest, Told}
 use Rattle.process_disk.specs.Images.{EachImage, ImagesFollow}
 use Rattle.process_disk.proofs.Images.{still_told}
 use Rattle.process_tree.specs.declared.plan.Plan.{Plan}
-use Rattle.schedule_model.specs.declared.history.History.{History}
 use Rattle.schedule_model.specs.Histories.{active}
 use Rattle.commute_table.specs.declared.catalog.Catalog.{Catalog}
 use Rattle.process_core.specs.Cores.{CoreState, history_of, opened_on}
@@ -118,7 +117,7 @@ module _ {R B : Type 0} (r : Racks R) (honest : (rack : R) → Told (r.disk rack
   gone_anew started gone = subst (λ c. HasGone (one_gate gate) c no_history started now.core) new.catalog (subst (λ h. HasGone (one_gate gate) opening.catalog h started now.core) (no_history_yet d opening new) gone)
 
   stopped : (x : Refusal) → IsStopped (one_gate gate) r.faults opening now plans x → IsBulkOf gate d plans (files r entry) (files r back) (Err x)
-  stopped x (inl (limit, said, passed, same)) =
+  stopped x (inl (limit, said, passed, same, unasked)) =
       inr (inl (limit, said, subst (λ (core : CoreState). limit_passed core plans ≡ Some limit) new.core passed, made_still same))
   stopped x (inr (started, rest, all, gone, inl (said, on))) = inr (inr (started, rest, now.core, all, inl (said, (gone_anew started gone, kept_on Settled on))))
   stopped x (inr (started, rest, all, gone, inr (said, on, rose))) =

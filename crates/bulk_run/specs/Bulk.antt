@@ -1,6 +1,6 @@
 -- The command `bulk`: nine empty files are made those of a generated scenario, its processes start in the order of its text, and
 -- then they are run.
-use Rattle.std.specs.Prelude.{◌≡◌, ◌⊎◌, ◌≤◌, ℕ, List, [], ◌++◌, Some, None, Result, Ok, Err}
+use Rattle.std.specs.Prelude.{◌≡◌, ◌⊎◌, ◌≤◌, ℕ, List, [], ◌++◌, Some, None, Result, Ok, Err, ⊤}
 use Rattle.process_flow.specs.Causes.{Rose}
 use Rattle.process_disk.specs.Disk.{Disk, FileSet, Told}
 use Rattle.process_disk.specs.Images.{EachImage}
@@ -25,10 +25,12 @@ use Rattle.engine_calls.specs.GateAnswers.{AskedGate}
 use Rattle.command_refusals.specs.declared.refusal.Refusal.{Refusal}
 use Rattle.command_refusals.specs.declared.refusal.Refusal.TheVariants.{DiskFault, NoMemory}
 use Rattle.command_refusals.specs.declared.status.Status.TheVariants as statuses
+use Rattle.command_refusals.specs.Order.{Test, Tests, last_test, test_then, IsFirstRefusal, followed_by}
 use Rattle.command_input.specs.declared.said.Said.{Said}
-use Rattle.command_input.specs.FilesLeft.{Files, AreUntouched}
-use Rattle.command_input.specs.Scenarios.{IsBound, IsNotBound}
-use Rattle.init_run.specs.Init.{AreMade, AreNotMade}
+use Rattle.command_input.specs.declared.scenario.NoPlans.{NoPlans}
+use Rattle.command_input.specs.FilesLeft.{Files, before_files}
+use Rattle.command_input.specs.Scenarios.{all_refusing, scenario_tests, IsBound}
+use Rattle.init_run.specs.Init.{empty_test, AreMade, AreNotMade}
 use Rattle.scenario_run.specs.Reports.{exhausted_line}
 use Rattle.scenario_run.specs.Run.{HasGone, limit_refusal, one_gate}
 use Rattle.scenario_run.specs.Scenario.{IsSaidOfNone}
@@ -64,6 +66,22 @@ IsPastLimitAnew c plans before after r =
     (limit : StartLimit) × (r ≡ limit_refusal limit) × (limit_passed (opened_on c.conflicts [] []) plans ≡ Some limit)
     × AreMade c before after
 
+-- the test of the processes of a scenario: they fit within the limits on new files
+abbrev pub room_test : Catalog → List Plan → Files → Files → Test Refusal ⊤
+room_test c plans before after = record {
+  hands_on = λ _. limit_passed (opened_on c.conflicts [] []) plans ≡ None;
+  refuses = IsPastLimitAnew c plans before after;
+}
+
+-- the tests of the files, in their order: they are empty, and the processes of the scenario fit
+abbrev pub files_tests : Catalog → List Plan → Files → Files → Tests Refusal ⊤
+files_tests c plans before after = test_then (empty_test before after) (λ _. last_test (room_test c plans before after))
+
+-- The order of the refusals of `bulk`: the tests of this scenario, before a file is looked at, and then those of the files.
+abbrev pub bulk_tests : List ℕ → Files → Files → Tests NoPlans ⊤
+bulk_tests text before after =
+    followed_by (before_files before after (scenario_tests text)) (λ bound. all_refusing (files_tests bound.0 bound.1 before after))
+
 -- A run was cut off once the first of the processes had started, or all: memory was wanting, or a call of the rack failed.
 abbrev pub IsCutOffAnew : AskedGate → Catalog → List Plan → Files → Files → Refusal → Type 0
 IsCutOffAnew gate c plans before after r =
@@ -91,9 +109,14 @@ IsBulkOf gate c plans before after (Ok said) =
 IsBulkOf gate c plans before after (Err r) =
     AreNotMade r before after ⊎ IsPastLimitAnew c plans before after r ⊎ IsCutOffAnew gate c plans before after r
 
--- What there is to say of a run of the scenario that this text is. Where it is the text of no scenario with well-formed processes,
--- or memory is wanting for it, that is told, and the files are left as they were.
+-- what there is to say of a run on files that were made: its line; or it was cut off
+abbrev pub IsBulkOn : AskedGate → Catalog → List Plan → Files → Files → Result Said Refusal → Type 0
+IsBulkOn gate c plans before after (Ok said) = IsBulkOf gate c plans before after (Ok said)
+IsBulkOn gate c plans before after (Err r) = IsCutOffAnew gate c plans before after r
+
+-- What there is to say of a run of the scenario that this text is: what the first of all tests refuses; or else what there is to
+-- say of the run.
 abbrev pub IsBulkDue : AskedGate → List ℕ → Files → Files → Result Said Refusal → Type 0
 IsBulkDue gate text before after found =
-    (IsSaidOfNone (IsNotBound text) found × AreUntouched before after)
-    ⊎ ((c : Catalog) × (plans : List Plan) × IsBound text c plans × IsBulkOf gate c plans before after found)
+    IsSaidOfNone (IsFirstRefusal (bulk_tests text before after)) found
+    ⊎ ((c : Catalog) × (plans : List Plan) × IsBound text c plans × IsBulkOn gate c plans before after found)

@@ -1,2 +1,5 @@
 pub mod InputRefusals
 pub mod Planning
+pub mod Refusing
+pub mod FrontAndFiles
+pub mod ScenarioParts

@@ -3,6 +3,7 @@ use Rattle.std.specs.Prelude.{◌≡◌, ◌≤◌, ℕ}
 use Rattle.process_disk.specs.declared.rack.Rack.{Ghosts as Racks}
 use Rattle.process_disk.specs.Disk.{Disk, Told}
 use Rattle.process_disk.specs.Images.{AllAsBefore, OthersAsBefore}
+use Rattle.command_refusals.specs.Order.{Tests, leaving}
 
 -- a rack at some moment: what it tells of its files, and its count of faults
 pub record Files : Type 1 where
@@ -15,6 +16,10 @@ files r rack = record { disk = r.disk rack; faults = r.faults rack }
 -- all files, where they are told, read as before, and a crash leaves nothing that one at the start might not have left
 abbrev pub AreUntouched : Files → Files → Type 0
 AreUntouched before after = Told before.disk → AllAsBefore before.disk after.disk
+
+-- tests before which no file is looked at: where one of them refuses, the files are left as they were
+abbrev pub before_files : {R V : Type 0} → Files → Files → Tests R V → Tests R V
+before_files before after tests = leaving (AreUntouched before after) tests
 
 -- those but file q, where they are told, read as before, and stand together in each crash image as a crash at the start may leave
 -- them

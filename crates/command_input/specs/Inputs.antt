@@ -14,6 +14,7 @@ use Rattle.process_flow.specs.declared.source.Source.{Ghosts as Sources}
 use Rattle.command_refusals.specs.declared.faults.Quantity.TheVariants as quantities
 use Rattle.command_refusals.specs.declared.refusal.Refusal.{Refusal}
 use Rattle.command_refusals.specs.declared.refusal.Refusal.TheVariants.{Text, Limit, ReadFault, NoMemory}
+use Rattle.command_refusals.specs.Order.{Test}
 use Rattle.command_input.specs.Early.{comes_before_files}
 
 -- the greatest size of an input, in bytes
@@ -74,6 +75,10 @@ abbrev pub HasNoText : Refusal → Input → Input → Type 0
 HasNoText r before after =
     ((r ≡ Limit quantities.Input 1048577) × IfSome before.left (λ text. most_input < length text))
     ⊎ ((r ≡ ReadFault) × Rose before.faults after.faults) ⊎ (r ≡ NoMemory)
+
+-- the test of a source: its whole text comes, and is handed on
+abbrev pub text_test : Input → Input → Test Refusal (List ℕ)
+text_test before after = record { hands_on = IsWholeText before after; refuses = λ r. HasNoText r before after }
 
 -- what is told of a text that was not read
 abbrev pub text_refusal : TextError → Refusal

@@ -23,6 +23,7 @@ use Rattle.command_refusals.specs.declared.refusal.Refusal.{Refusal}
 use Rattle.command_refusals.specs.declared.refusal.Refusal.TheVariants as refusals
 use Rattle.command_refusals.specs.Shown.{shown_word}
 use Rattle.command_refusals.specs.Verdicts.{IsFirstVerdict}
+use Rattle.command_refusals.specs.Order.{Test, Tests, last_test, test_then, IsFirstRefusal}
 use Rattle.command_input.specs.declared.scenario.NoPlans.{NoPlans}
 use Rattle.command_input.specs.declared.scenario.NoPlans.TheVariants.{Refused, IllFormed}
 use Rattle.command_input.specs.Inputs.{text_refusal}
@@ -69,20 +70,62 @@ AreNoPlans ops (p ∷ ps) r = IsNoPlanOf ops p r ⊎ (((plan : Plan) × IsPlanOf
 abbrev pub AreGoodPlans : List Op → List ℕ → List Plan → Type 0
 AreGoodPlans ops text plans = (ps : List Named) × IsReading (words_of text) ps × ArePlansOf ops ps plans × IsFirstVerdict ps None
 
--- Why there are no such plans: the first fault of the text, or else the first unknown operation; or else the verdict line of the
--- first process that isn't well-formed.
+-- what is told is a refusal, for this reason; a verdict line is none
+abbrev pub IsRefusedFor : (Refusal → Type 0) → NoPlans → Type 0
+IsRefusedFor IsWhy (Refused r) = IsWhy r
+IsRefusedFor IsWhy (IllFormed line) = ⊥
+
+-- what is told is the verdict line of the first of these processes that isn't well-formed
+abbrev pub IsVerdictOf : List Named → NoPlans → Type 0
+IsVerdictOf ps (Refused r) = ⊥
+IsVerdictOf ps (IllFormed line) = IsFirstVerdict ps (Some line.items)
+
+-- a test that has no verdict line
+abbrev pub refusing : {A : Type 0} → Test Refusal A → Test NoPlans A
+refusing t = record { hands_on = t.hands_on; refuses = IsRefusedFor t.refuses }
+
+-- so of each test of a list
+abbrev pub all_refusing : {V : Type 0} → Tests Refusal V → Tests NoPlans V
+all_refusing (last_test t) = last_test (refusing t)
+all_refusing (test_then t behind) = test_then (refusing t) (λ a. all_refusing (behind a))
+
+-- the document is a scenario
+abbrev pub document_test : List ℕ → Test Refusal Scenario
+document_test bytes = record { hands_on = λ s. Says bytes (Ok s); refuses = IsNoScenario bytes }
+
+-- the text is that of processes
+abbrev pub processes_test : List ℕ → Test Refusal (List Named)
+processes_test text = record { hands_on = IsReading (words_of text); refuses = IsNoText text }
+
+-- each operation of these processes is known, so they have plans
+abbrev pub operations_test : List Op → List Named → Test Refusal (List Plan)
+operations_test ops ps = record { hands_on = ArePlansOf ops ps; refuses = AreNoPlans ops ps }
+
+-- these processes are well-formed; this is handed on
+abbrev pub well_formed_test : {V : Type 0} → List Named → V → Test NoPlans V
+well_formed_test ps v = record { hands_on = λ given. (given ≡ v) × IsFirstVerdict ps None; refuses = IsVerdictOf ps }
+
+-- The tests of a text of processes under these operations, in their order: it is read, its operations are looked up, and then it is
+-- looked whether they are well-formed. What is made of the plans is handed on.
+abbrev pub plan_tests : {V : Type 0} → List Op → List ℕ → (List Plan → V) → Tests NoPlans V
+plan_tests ops text made =
+    test_then (refusing (processes_test text)) (λ ps. test_then (refusing (operations_test ops ps)) (λ plans.
+    last_test (well_formed_test ps (made plans))))
+
+-- Why there are no such plans: what is refused first of the text.
 abbrev pub AreNoGoodPlans : List Op → List ℕ → NoPlans → Type 0
-AreNoGoodPlans ops text (Refused r) = IsNoText text r ⊎ ((ps : List Named) × IsReading (words_of text) ps × AreNoPlans ops ps r)
-AreNoGoodPlans ops text (IllFormed line) =
-    (ps : List Named) × IsReading (words_of text) ps × ((plans : List Plan) × ArePlansOf ops ps plans)
-    × IsFirstVerdict ps (Some line.items)
+AreNoGoodPlans ops text none = IsFirstRefusal (plan_tests ops text (λ plans. plans)) none
 
 -- the document says a scenario with this catalog, the processes of whose text have these plans
 abbrev pub IsBound : List ℕ → Catalog → List Plan → Type 0
 IsBound bytes c plans = (text : List ℕ) × Says bytes (Ok (record { catalog = c; processes = text })) × AreGoodPlans c.ops text plans
 
--- Why there are none: what is refused of the document, or else of its processes.
+-- The tests of a scenario, in their order: its document, and then the text of its processes. Its catalog and their plans are handed
+-- on.
+abbrev pub scenario_tests : List ℕ → Tests NoPlans (Catalog × List Plan)
+scenario_tests bytes =
+    test_then (refusing (document_test bytes)) (λ s. plan_tests s.catalog.ops s.processes (λ plans. (s.catalog, plans)))
+
+-- Why there are none: what is refused first of it.
 abbrev pub IsNotBound : List ℕ → NoPlans → Type 0
-IsNotBound bytes (Refused r) =
-    IsNoScenario bytes r ⊎ ((s : Scenario) × Says bytes (Ok s) × AreNoGoodPlans s.catalog.ops s.processes (Refused r))
-IsNotBound bytes (IllFormed line) = (s : Scenario) × Says bytes (Ok s) × AreNoGoodPlans s.catalog.ops s.processes (IllFormed line)
+IsNotBound bytes none = IsFirstRefusal (scenario_tests bytes) none

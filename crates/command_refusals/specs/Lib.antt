@@ -3,4 +3,5 @@ pub mod Shown
 pub mod Faults
 pub mod Refusals
 pub mod Verdicts
+pub mod Order
 pub mod Examples

@@ -1,8 +1,8 @@
 //! The lines that the program prints of itself: verdicts on processes, and refusals, each with the status that it leads to.
 //!
 //! `specs/Statuses` has the statuses and their numbers, `specs/Refusals` the line and the status of each refusal, and
-//! `specs/Verdicts` the verdict lines. The lines of reports are `process_report`'s. Which refusal is due is no question of this
-//! crate.
+//! `specs/Verdicts` the verdict lines. The lines of reports are `process_report`'s. `specs/Order` says what a list of tests refuses
+//! first; which tests a command has, and in which order, is said in the command's own crate.
 #![tactic(auto)]
 
 mod faults;

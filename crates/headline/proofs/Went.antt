@@ -26,7 +26,8 @@ use Rattle.command_refusals.specs.declared.refusal.Refusal.{Refusal}
 use Rattle.command_refusals.specs.declared.status.Status.{Status}
 use Rattle.program_words.specs.declared.reading.Command.{Command}
 use Rattle.command_input.specs.FilesLeft.{AreUntouched}
-use Rattle.scenario_run.specs.Opening.{AreNotOpened, IsNotOpenedFor, open_refusal}
+use Rattle.scenario_run.specs.Opening.{AreNotOpened, IsNotOpenedFor, IsNotOpenedWith, open_refusal}
+use Rattle.scenario_run.proofs.OpeningParts.{for_in_parts, with_in_parts, IsRefusedIdle, IsRefusedWith}
 use Rattle.process_top.specs.Run.{gates_asked}
 use Rattle.process_top.specs.Told.{IsRefusalTold}
 use Rattle.process_top.specs.Worlds.{World}
@@ -118,10 +119,21 @@ module _ {S K R : Type 0} (o : Option Command) (c : Catalog) (h : History) (befo
   pub not_opened : (e : OpenError) (r : Refusal) → r ≡ open_refusal e → AreNotOpened e before.files after.files → IsRefusalTold r before.output after.output status → Went
   not_opened e r is why out = by_left e (λ disk. refused_fault before after r status (is ∙ ap open_refusal disk) (why.fault disk) out) (why.left told)
 
-  -- or not for the scenario
+  -- or not for the scenario, where somebody may be active,
+  pub not_opened_with : (d : Catalog) (r : Refusal) → IsNotOpenedWith d r before.files after.files → IsRefusalTold r before.output after.output status → Went
+  not_opened_with d r refused out = by_part (with_in_parts d r before.files after.files refused)
+    where
+      by_part : IsRefusedWith d r before.files after.files → Went
+      by_part (inl (e, is, why)) = not_opened e r is why out
+      by_part (inr (own, k, opened, other)) = becoming own k (opened.sound told) (opened.becomes told) (λ well. (opened.now told, opened.each told))
+
+  -- or where nobody may
   pub not_opened_for : (d : Catalog) (r : Refusal) → IsNotOpenedFor d r before.files after.files → IsRefusalTold r before.output after.output status → Went
-  not_opened_for d r (inl (e, is, why)) out = not_opened e r is why out
-  not_opened_for d r (inr (own, k, opened, unfit)) out = becoming own k (opened.sound told) (opened.becomes told) (λ well. (opened.now told, opened.each told))
+  not_opened_for d r refused out = by_part (for_in_parts d r before.files after.files refused)
+    where
+      by_part : IsRefusedIdle d r before.files after.files → Went
+      by_part (inl (e, is, why)) = not_opened e r is why out
+      by_part (inr (own, k, opened, unfit)) = becoming own k (opened.sound told) (opened.becomes told) (λ well. (opened.now told, opened.each told))
 
   -- the engine went on
   pub kept : (d : Catalog) (k : History) (now : CoreState) (Ahead : FileSet → Type 0) (on : Phase) → (are : AreKept d k now Ahead on before.files.disk after.files.disk) → IsCore now

@@ -16,7 +16,9 @@ use Rattle.command_refusals.specs.declared.status.Status.TheVariants as statuses
 use Rattle.program_words.specs.declared.reading.Command.{Command}
 use Rattle.program_words.specs.declared.reading.Command.TheVariants.{Check, Init, Run, Session, Serve, Restart, Show, Verify, Gen, Bulk}
 use Rattle.command_input.specs.declared.said.Said.{Said}
-use Rattle.scenario_run.specs.Run.{IsRun, IsRunOf, IsRunDue as IsRunFound, SaysRun}
+use Rattle.command_refusals.specs.declared.refusal.Refusal.{Refusal}
+use Rattle.scenario_run.specs.Opening.{IsNotOpenedFor}
+use Rattle.scenario_run.specs.Run.{IsPastLimit, IsRun, IsRunOf, IsRunDue as IsRunFound, SaysRun}
 use Rattle.scenario_run.specs.Scenario.{IsScenarioRead}
 use Rattle.session_run.specs.Playthrough.{EndsAt}
 use Rattle.session_run.specs.Session.{IsPlayedOn, IsSession, IsSessionDue as IsSessionFound, IsSessionRead, phase_by}
@@ -34,11 +36,15 @@ use Rattle.process_top.specs.Run.{IsRunDue, first_gate, first_gates, gates_asked
 use Rattle.process_top.specs.Said.{IsResultTold}
 use Rattle.process_top.specs.Serve.{IsServeDue}
 use Rattle.process_top.specs.Session.{IsSessionDue}
-use Rattle.process_top.specs.Told.{IsTold}
+use Rattle.process_top.specs.Told.{IsRefusalTold, IsTold}
 use Rattle.process_top.specs.Worlds.{World}
 use Rattle.headline.specs.Headline.{FailsInDialogue, IsAtEntry, IsRackFault, goes_on, is_refused_beforehand}
 use Rattle.headline.proofs.Exits.{cut_late, failed_late, refused_fault, said_fault, said_late, told_cut}
-use Rattle.headline.proofs.Went.{Went, kept, nothing, not_opened, not_opened_for, untouched}
+use Rattle.headline.proofs.Went.{Went, kept, nothing, not_opened, not_opened_for, not_opened_with, untouched}
+use Rattle.scenario_run.proofs.OpeningParts.{idle_or_room}
+use Rattle.scenario_run.proofs.RunParts as run_parts
+use Rattle.session_run.proofs.SessionParts as session_parts
+use Rattle.serve_run.proofs.ServeParts as serve_parts
 
 module _ {S K R : Type 0} (c : Catalog) (h : History) (before after : World S K R) (entry : IsAtEntry c h before.files.disk)
     (number : ℕ) (status : Status) (numbered : number ≡ number_of status) (known : Told after.files.disk) (honest : IsHonest after.files.disk) where
@@ -69,17 +75,26 @@ module _ {S K R : Type 0} (c : Catalog) (h : History) (before after : World S K 
     run_of : (d : Catalog) (plans : List Plan) → IsScenarioRead before.input after.input d plans → (found : _) → IsRunOf (first_gates workers gates) d plans before.files after.files found
         → IsResultTold found before.output after.output status → Of (Run workers)
     run_of d plans read (Ok s) (k, now, run, says) out = run_on d plans read k plans [] now Settled (sym (append-nil plans)) run (λ well. refl) (run_late d now s says out)
-    run_of d plans read (Err r) (inl closed) out = not_opened_for (Some (Run workers)) c h before after entry number status numbered known honest d r closed out
-    run_of d plans read (Err r) (inr (inl past)) out = nothing (Some (Run workers)) c h before after entry number status numbered known honest d past.0 past.4
-    run_of d plans read (Err r) (inr (inr (k, started, rest, now, are, inl (memory, run)))) out =
+    run_of d plans read (Err r) (k, started, rest, now, are, inl (memory, run)) out =
         run_on d plans read k started rest now Settled are run (λ well. refl) (cut_late status (told_cut r before.output after.output status (inr memory) out))
-    run_of d plans read (Err r) (inr (inr (k, started, rest, now, are, inr (fault, run, rose)))) out =
+    run_of d plans read (Err r) (k, started, rest, now, are, inr (fault, run, rose)) out =
         run_on d plans read k started rest now Closed are run (λ well. absurd (well (refused_fault before after r status fault rose out)))
         (cut_late status (told_cut r before.output after.output status (inl fault) out))
 
+    refused_on : (d : Catalog) (plans : List Plan) (r : Refusal) → IsNotOpenedFor d r before.files after.files ⊎ ((k : History) × IsPastLimit d k plans before.files after.files r)
+        → IsRefusalTold r before.output after.output status → Of (Run workers)
+    refused_on d plans r (inl closed) out = not_opened_for (Some (Run workers)) c h before after entry number status numbered known honest d r closed out
+    refused_on d plans r (inr (k, past)) out = nothing (Some (Run workers)) c h before after entry number status numbered known honest d k past.3
+
+    run_part : (found : _) → run_parts.IsNotRead before.input after.input before.files after.files (first_gates workers gates) found ⊎ run_parts.IsReadAndRun before.input after.input before.files after.files (first_gates workers gates) found
+        → IsResultTold found before.output after.output status → Of (Run workers)
+    run_part found (inl none) out = untouched (Some (Run workers)) c h before after entry number status numbered known honest none.1
+    run_part (Ok s) (inr (d, plans, read, inl none)) out = absurd none
+    run_part (Err r) (inr (d, plans, read, inl why)) out = refused_on d plans r (idle_or_room d r before.files after.files plans why.0) out
+    run_part found (inr (d, plans, read, inr run)) out = run_of d plans read found run out
+
     run_found : (found : _) → IsRunFound (first_gates workers gates) before.input after.input before.files after.files found → IsResultTold found before.output after.output status → Of (Run workers)
-    run_found found (inl none) out = untouched (Some (Run workers)) c h before after entry number status numbered known honest none.1
-    run_found found (inr (d, plans, read, run)) out = run_of d plans read found run out
+    run_found found due out = run_part found (run_parts.due_in_parts before.input after.input before.files after.files (first_gates workers gates) found due) out
 
     run_due : (reply : Reply) → IsRunDue (first_gates workers gates) before.input after.input before.files after.files reply → IsReplyTold reply before.output after.output status → Of (Run workers)
     run_due (ended s) due out = run_found (Ok s) due out
@@ -129,9 +144,13 @@ module _ {S K R : Type 0} (c : Catalog) (h : History) (before after : World S K 
   played_on d plans lines read (Err r) (inl closed) out = not_opened_for (Some Session) c h before after entry number status numbered known honest d r closed out
   played_on d plans lines read (Err r) (inr (memory, (k, idle, are))) out = nothing (Some Session) c h before after entry number status numbered known honest d k are
 
+  session_part : (found : _) → session_parts.IsNotRead before.input after.input before.files after.files found ⊎ session_parts.IsReadAndPlayed before.input after.input before.files after.files found
+      → IsResultTold found before.output after.output status → Of Session
+  session_part found (inl none) out = untouched (Some Session) c h before after entry number status numbered known honest none.1
+  session_part found (inr (d, plans, lines, read, is)) out = played_on d plans lines read found is out
+
   session_found : (found : _) → IsSessionFound before.input after.input before.files after.files found → IsResultTold found before.output after.output status → Of Session
-  session_found found (inl none) out = untouched (Some Session) c h before after entry number status numbered known honest none.1
-  session_found found (inr (d, plans, lines, read, is)) out = played_on d plans lines read found is out
+  session_found found due out = session_part found (session_parts.due_in_parts before.input after.input before.files after.files found due) out
 
   session_due : (reply : Reply) → IsSessionDue before.input after.input before.files after.files reply → IsReplyTold reply before.output after.output status → Of Session
   session_due (ended s) due out = session_found (Ok s) due out
@@ -189,14 +208,16 @@ module _ {S K R : Type 0} (c : Catalog) (h : History) (before after : World S K 
 
   not_served_on : (d : Catalog) (found : _) → IsNotServedOn d before.files after.files found → IsResultTold found before.output after.output status → Of Serve
   not_served_on d (Ok s) none out = absurd none
-  not_served_on d (Err r) (inl (inl closed)) out = not_opened_for (Some Serve) c h before after entry number status numbered known honest d r (inl closed) out
-  not_served_on d (Err r) (inl (inr (own, k, opened, other))) out =
-      not_opened_for (Some Serve) c h before after entry number status numbered known honest d r (inr (own, k, opened, inl other)) out
+  not_served_on d (Err r) (inl closed) out = not_opened_with (Some Serve) c h before after entry number status numbered known honest d r closed out
   not_served_on d (Err r) (inr (memory, (k, are))) out = nothing (Some Serve) c h before after entry number status numbered known honest d k are
 
+  serve_part : (found : _) → serve_parts.IsNotRead before.input after.input before.files after.files found ⊎ serve_parts.IsReadAndNotServed before.input after.input before.files after.files found
+      → IsResultTold found before.output after.output status → Of Serve
+  serve_part found (inl none) out = untouched (Some Serve) c h before after entry number status numbered known honest none.1
+  serve_part found (inr (d, plans, first, taken, read, none)) out = not_served_on d found none out
+
   not_served : (found : _) → IsNotServed before.input after.input before.files after.files found → IsResultTold found before.output after.output status → Of Serve
-  not_served found (inl none) out = untouched (Some Serve) c h before after entry number status numbered known honest none.1
-  not_served found (inr (d, plans, first, taken, read, none)) out = not_served_on d found none out
+  not_served found why out = serve_part found (serve_parts.not_served_in_parts before.input after.input before.files after.files found why) out
 
   serve_due : (reply : Reply) → IsServeDue before.input after.input before.files after.files reply → IsReplyTold reply before.output after.output status → Of Serve
   serve_due (served text s) due out = served_due text s due out

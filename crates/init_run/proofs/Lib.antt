@@ -1,2 +1,3 @@
 pub mod FilesMade
+pub mod InitParts
 pub mod MadeWell

@@ -1,5 +1,5 @@
 -- That `init` makes the files where no call failed: every other answer has a cause that isn't there.
-use Rattle.std.proofs.Common.{◌≡◌, ◌≤◌, ◌<◌, ◌⊎◌, ℕ, List, length, Option, Some, None, Ok, Err, refl, sym, ap, subst, ◌∙◌, inl, inr, arith}
+use Rattle.std.proofs.Common.{◌≡◌, ◌≤◌, ℕ, List, length, Option, Some, None, Ok, Err, refl, sym, ap, subst, ◌∙◌, inl, inr, arith}
 use Rattle.process_flow.specs.Causes.{Rose}
 use Rattle.process_disk.specs.Disk.{Told}
 use Rattle.commute_table.specs.declared.catalog.Catalog.{Catalog}
@@ -12,12 +12,12 @@ use Rattle.history_files.specs.declared.faults.CreateError.{CreateError}
 use Rattle.history_files.specs.declared.faults.CreateError.TheVariants as create
 use Rattle.command_refusals.specs.declared.status.Status.TheVariants.{NoMemory}
 use Rattle.command_refusals.specs.declared.refusal.Refusal.{Refusal}
-use Rattle.command_refusals.specs.declared.refusal.Refusal.TheVariants as refusals
 use Rattle.command_refusals.specs.Refusals.{refusal_status}
 use Rattle.command_input.specs.Inputs.{Input, most_input, HasNoText}
 use Rattle.command_input.specs.FilesLeft.{Files}
 use Rattle.command_input.specs.Scenarios.{scenario_refusal}
 use Rattle.init_run.specs.Init.{create_refusal, HasCatalog, IsCatalogRefused, IsNotCreated}
+use Rattle.init_run.proofs.InitParts.{IsRefusedInParts, in_parts}
 
 -- a document says one thing
 says_one : (bytes : List ℕ) (s : Scenario) (e : ScenarioError) → Says bytes (Ok s) → Says bytes (Err e) → ⊥
@@ -62,7 +62,11 @@ not_made_quietly create.NoMemory before after due rose quiet = refl
 pub not_created_quietly : (r : Refusal) (text : List ℕ) (faults : ℕ) (after : Input) (files files_after : Files) (c : Catalog) → IsNotCreated r (record { left = Some text; faults = faults }) after files files_after
     → ¬ Rose faults after.faults → ¬ Rose files.faults files_after.faults → length text ≤ most_input → HasCatalog text c → Told files.disk → first_used files.disk.files ≡ None
     → refusal_status r ≡ NoMemory
-not_created_quietly r text faults after files files_after c (inl why) quiet quiet_files within has told empty = not_read_quietly r text faults after c why.0 quiet within has
-not_created_quietly r text faults after files files_after c (inr why) quiet quiet_files within has told empty =
-    let made = why.1 in
-    ap refusal_status made.1 ∙ not_made_quietly made.0 files.faults files_after.faults (subst (λ (found : Option ℕ). IsDueToFiles found made.0) empty (made.2 told)) made.4 quiet_files
+not_created_quietly r text faults after files files_after c not_created quiet quiet_files within has told empty =
+    by_part (in_parts r (record { left = Some text; faults = faults }) after files files_after not_created)
+  where
+    by_part : IsRefusedInParts r (record { left = Some text; faults = faults }) after files files_after → refusal_status r ≡ NoMemory
+    by_part (inl why) = not_read_quietly r text faults after c why.0 quiet within has
+    by_part (inr why) =
+        let made = why.1 in
+        ap refusal_status made.1 ∙ not_made_quietly made.0 files.faults files_after.faults (subst (λ (found : Option ℕ). IsDueToFiles found made.0) empty (made.2 told)) made.4 quiet_files

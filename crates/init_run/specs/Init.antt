@@ -1,10 +1,11 @@
 -- The command `init`: it makes nine empty files those of the catalog of a scenario, in which nothing has happened. The text of the
 -- scenario's processes isn't looked at.
-use Rattle.std.specs.Prelude.{◌≡◌, ◌⊎◌, ◌≤◌, ℕ, List, [], ◌∷◌, length, None, IfSome, Result, Ok, Err, codes}
+use Rattle.std.specs.Prelude.{◌≡◌, ◌≤◌, ℕ, List, [], ◌∷◌, length, None, IfSome, Result, Ok, Err, codes, ⊤}
 use Rattle.process_flow.specs.Causes.{Rose}
 use Rattle.process_disk.specs.Disk.{Disk, Told}
 use Rattle.process_disk.specs.Images.{EachImage}
 use Rattle.commute_table.specs.declared.catalog.Catalog.{Catalog}
+use Rattle.commute_table.specs.declared.scenario.Scenario.{Scenario}
 use Rattle.commute_table.specs.Document.{Says}
 use Rattle.process_journal.specs.Bodies.{no_history}
 use Rattle.history_files.specs.Creating.{first_used, IsDueToFiles, AreLeftUnmade}
@@ -16,11 +17,12 @@ use Rattle.command_refusals.specs.declared.refusal.Refusal.{Refusal}
 use Rattle.command_refusals.specs.declared.refusal.Refusal.TheVariants as refusals
 use Rattle.command_refusals.specs.declared.status.Status.{Status}
 use Rattle.command_refusals.specs.declared.status.Status.TheVariants.{Done, NoMemory}
+use Rattle.command_refusals.specs.Order.{Test, Tests, last_test, test_then, IsFirstRefusal, followed_by}
 use Rattle.command_refusals.specs.Statuses.{IsOneOf}
 use Rattle.command_input.specs.declared.said.Said.{Said}
-use Rattle.command_input.specs.Inputs.{Input, most_input, IsWholeText, HasNoText}
-use Rattle.command_input.specs.FilesLeft.{Files, AreUntouched}
-use Rattle.command_input.specs.Scenarios.{IsNoScenario}
+use Rattle.command_input.specs.Inputs.{Input, most_input, text_test, IsWholeText}
+use Rattle.command_input.specs.FilesLeft.{Files, before_files}
+use Rattle.command_input.specs.Scenarios.{document_test}
 
 -- the document says a scenario with this catalog, whatever its processes are
 abbrev pub HasCatalog : List ℕ → Catalog → Type 0
@@ -30,10 +32,13 @@ HasCatalog bytes c = (text : List ℕ) × Says bytes (Ok (record { catalog = c; 
 abbrev pub IsCatalogRead : Input → Input → Catalog → Type 0
 IsCatalogRead before after c = (bytes : List ℕ) × IsWholeText before after bytes × HasCatalog bytes c
 
--- Why no catalog was read: no text came, or else it is no scenario, by its first refusal; or memory was wanting.
+-- The tests of the input, in their order: its text comes, and is the document of a scenario, which is handed on.
+abbrev pub input_tests : Input → Input → Tests Refusal Scenario
+input_tests before after = test_then (text_test before after) (λ bytes. last_test (document_test bytes))
+
+-- why no catalog was read: what is refused first of the input
 abbrev pub IsCatalogRefused : Refusal → Input → Input → Type 0
-IsCatalogRefused r before after =
-    HasNoText r before after ⊎ ((bytes : List ℕ) × IsWholeText before after bytes × IsNoScenario bytes r)
+IsCatalogRefused r before after = IsFirstRefusal (input_tests before after) r
 
 -- what is told of files that were not made
 abbrev pub create_refusal : CreateError → Refusal
@@ -64,11 +69,19 @@ pub record SaysCreated (said : Said) : Type 0 where
 abbrev pub IsCreated : Input → Input → Files → Files → Type 0
 IsCreated before after files files_after = (c : Catalog) × IsCatalogRead before after c × AreMade c files files_after
 
--- Why they were not: what is refused first, of the input and then of the files.
+-- the test of the files: they are empty
+abbrev pub empty_test : Files → Files → Test Refusal ⊤
+empty_test before after =
+    record { hands_on = λ _. Told before.disk → first_used before.disk.files ≡ None; refuses = λ r. AreNotMade r before after }
+
+-- The order of the refusals of `init`: the tests of its input, before a file is looked at, and then that of the files.
+abbrev pub init_tests : Input → Input → Files → Files → Tests Refusal ⊤
+init_tests before after files files_after =
+    followed_by (before_files files files_after (input_tests before after)) (λ _. last_test (empty_test files files_after))
+
+-- why they were not made: what is refused first
 abbrev pub IsNotCreated : Refusal → Input → Input → Files → Files → Type 0
-IsNotCreated r before after files files_after =
-    (IsCatalogRefused r before after × AreUntouched files files_after)
-    ⊎ (((c : Catalog) × IsCatalogRead before after c) × AreNotMade r files files_after)
+IsNotCreated r before after files files_after = IsFirstRefusal (init_tests before after files files_after) r
 
 -- What there is to say: that they were made, or why not.
 abbrev pub IsInitDue : Input → Input → Files → Files → Result Said Refusal → Type 0

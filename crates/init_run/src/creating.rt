@@ -82,7 +82,6 @@ fn made<R: Rack + Drop, B: Resource>(
 }
 
 /// Makes nine empty files those of the catalog of the source's scenario, in which nothing has happened.
-#[tactic(auto, using(crate::proofs::FilesMade::due_of_read))]
 pub fn init<S: Source, R: Rack + Drop, B: Resource>(
     alloc: Global,
     source: &mut S,

@@ -22,6 +22,7 @@ use Rattle.command_input.specs.Scenarios.{scenario_refusal}
 use Rattle.history_files.specs.declared.faults.CreateError.{CreateError}
 use Rattle.history_files.specs.declared.faults.CreateError.TheVariants as create
 use Rattle.init_run.specs.Init.{create_refusal, IsCatalogRefused, IsNotCreated}
+use Rattle.init_run.proofs.InitParts.{in_parts, IsRefusedInParts}
 use Rattle.process_top.specs.Show.{journal_refusal}
 use Rattle.process_tree.specs.declared.plan.Plan.{Plan}
 use Rattle.commute_table.specs.declared.catalog.Catalog.{Catalog}
@@ -103,9 +104,12 @@ early_catalog r before after (inr why) is =
     subst (λ (e : Refusal). comes_before_files e ≡ true) (sym same) (early_scenario why.2.0 (ap (λ (e : Refusal). is_early_status (refusal_status e)) (sym same) ∙ is))
 
 early_init : (r : Refusal) (before after : Input) (files files_after : Files) → IsNotCreated r before after files files_after → is_early_status (refusal_status r) ≡ true → comes_before_files r ≡ true
-early_init r before after files files_after (inl why) is = early_catalog r before after why.0 is
-early_init r before after files files_after (inr why) is =
-    let wrong : false ≡ true = sym (late_create why.1.0) ∙ ap (λ (e : Refusal). is_early_status (refusal_status e)) (sym why.1.1) ∙ is in absurd (cc)
+early_init r before after files files_after not_created is = by_part (in_parts r before after files files_after not_created)
+  where
+    by_part : IsRefusedInParts r before after files files_after → comes_before_files r ≡ true
+    by_part (inl why) = early_catalog r before after why.0 is
+    by_part (inr why) =
+        let wrong : false ≡ true = sym (late_create why.1.0) ∙ ap (λ (e : Refusal). is_early_status (refusal_status e)) (sym why.1.1) ∙ is in absurd (cc)
 
 -- the statuses that come before the files at each command
 abbrev pub is_always_early : Status → Bool
@@ -166,7 +170,7 @@ always_said gates before after files files_after said (inr run) is = by_report r
 
 -- so of what a run on new files has to say
 bulk_said : (gate : AskedGate) (text : List ℕ) (files files_after : Files) (said : Said) → IsBulkFound gate text files files_after (Ok said) → is_always_early said.status ≡ true → is_verdict said.status ≡ true
-bulk_said gate text files files_after said (inl none) is = subst (λ (s : Status). is_verdict s ≡ true) (sym none.0.0) refl
+bulk_said gate text files files_after said (inl none) is = subst (λ (s : Status). is_verdict s ≡ true) (sym none.0) refl
 bulk_said gate text files files_after said (inr (c, plans, bound, (now, run, says))) is = by_line says
   where
     by_line : SaysBulk now said → is_verdict said.status ≡ true
@@ -193,7 +197,7 @@ late_session c plans first now answered rest statuses.NotReduced ends is = absur
 late_session c plans first now answered rest statuses.NoMemory ends is = absurd (cc)
 
 session_said : (before after : Input) (files files_after : Files) (said : Said) → IsSessionFound before after files files_after (Ok said) → is_always_early said.status ≡ true → is_verdict said.status ≡ true
-session_said before after files files_after said (inl none) is = subst (λ (s : Status). is_verdict s ≡ true) (sym none.0.0) refl
+session_said before after files files_after said (inl none) is = subst (λ (s : Status). is_verdict s ≡ true) (sym none.0) refl
 session_said before after files files_after said (inr played) is =
     let found = played.4 in
     absurd (late_session played.0 played.1 (opened_on played.0.conflicts found.history.plans found.history.events) found.now found.played.answered found.played.rest said.status found.played.ends is)
@@ -242,8 +246,8 @@ late_serve before after files files_after text s (c, plans, first, taken, read, 
     late_spoken c plans held.history first held.now taken after.left held.answers s held.spoken is
 
 serve_said : (before after : Input) (files files_after : Files) (said : Said) → IsNotServed before after files files_after (Ok said) → is_early_in_dialogue said.status ≡ true → is_verdict said.status ≡ true
-serve_said before after files files_after said (inl none) is = subst (λ (s : Status). is_verdict s ≡ true) (sym none.0.0) refl
-serve_said before after files files_after said (inr (c, plans, first, taken, read, none)) is = absurd none
+serve_said before after files files_after said (inl none) is = subst (λ (s : Status). is_verdict s ≡ true) (sym none.0) refl
+serve_said before after files files_after said (inr (c, plans, first, taken, read, (r, no_text, none))) is = absurd (cc)
 
 -- what a restart has to say, or refuses, has none
 late_restart_said : (gate : AskedGate) (files files_after : Files) (said : Said) → IsRestartFound gate files files_after (Ok said) → is_early_status said.status ≡ true → ⊥

@@ -26,11 +26,11 @@ pub bad_ask_nothing : (o : Option Command) (why : WordsError) → IsReadAs o (Er
 bad_ask_nothing o BadWords read is = read
 bad_ask_nothing o NoMemory read is = absurd cc
 
-due_of : (o : Option Command) (gates : AskedGates) (before after : Input) (files files_after : Files) (why : WordsError) → (why ≡ BadWords → o ≡ None) → AreUntouched files files_after
+due_of : (o : Option Command) (gates : AskedGates) (before after : Input) (files files_after : Files) (why : WordsError) → (why ≡ BadWords → o ≡ None) → gates.after ≡ gates.before → AreUntouched files files_after
     → IsDueTo o gates before after files files_after (refused (words_refusal why))
-due_of o gates before after files files_after BadWords bad untouched =
+due_of o gates before after files files_after BadWords bad unasked untouched =
     subst (λ o. IsDueTo o gates before after files files_after (refused refusals.BadWords)) (sym (bad refl)) (inl refl, untouched)
-due_of o gates before after files files_after NoMemory bad untouched = no_words_due o gates before after files files_after untouched
+due_of o gates before after files files_after NoMemory bad unasked untouched = no_words_due o gates before after files files_after unasked untouched
 
 wanting_worked : (o : Option Command) (before after : Input) (files files_after : Files) (out out_after : Output) → HasWorked o before after files files_after out out_after (endings.Due (Err refusals.NoMemory))
 wanting_worked None before after files files_after out out_after = tt
@@ -61,5 +61,5 @@ pub unread_is_answered : {S K R : Type 0} (o : Option Command) (x : World S K R)
     → AnswersTo o x (written x sink out) number
 unread_is_answered o x sink out number at why r is bad numbered untouched are told later =
     result_is_answered o x (written x sink out) number at numbered (record { tells = refl; later = omega arith }) are (λ none. refl) (record { answers = refl; count = refl; others = refl }) (λ none. refl) (λ none. refl)
-    (λ none. refl) (Err (words_refusal why)) (due_of o _ x.input x.input x.files x.files why bad untouched) (subst (λ q. IsRefusalTold q x.output out at) is told) later
+    (λ none. refl) (Err (words_refusal why)) (due_of o _ x.input x.input x.files x.files why bad refl untouched) (subst (λ q. IsRefusalTold q x.output out at) is told) later
     (worked_of o x.input x.input x.files x.files x.output x.output why bad) (λ early. refl) tt (λ asks. tt)

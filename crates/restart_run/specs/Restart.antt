@@ -7,7 +7,6 @@ use Rattle.reduction_trace.specs.Whole.{completed_history}
 use Rattle.commute_table.specs.declared.catalog.Catalog.{Catalog}
 use Rattle.process_core.specs.Cores.{CoreState, history_of}
 use Rattle.history_files.specs.Sound.{IsSound}
-use Rattle.history_opening.specs.declared.faults.OpenError.{OpenError}
 use Rattle.engine_steps.specs.Engines.{full_history}
 use Rattle.engine_steps.specs.declared.engines.Phase.TheVariants.{Settled, Closed}
 use Rattle.process_report.specs.Report.{report_text}
@@ -16,10 +15,11 @@ use Rattle.session_text.specs.Answers.{exhausted_words}
 use Rattle.command_refusals.specs.declared.refusal.Refusal.{Refusal}
 use Rattle.command_refusals.specs.declared.refusal.Refusal.TheVariants.{DiskFault, NoMemory}
 use Rattle.command_refusals.specs.declared.status.Status.TheVariants as statuses
+use Rattle.command_refusals.specs.Order.{Tests, last_test, IsFirstRefusal}
 use Rattle.command_input.specs.declared.said.Said.{Said}
 use Rattle.command_input.specs.FilesLeft.{Files}
 use Rattle.scenario_run.specs.Completeness.{IsReportThere}
-use Rattle.scenario_run.specs.Opening.{AreNotOpened, open_refusal}
+use Rattle.scenario_run.specs.Opening.{files_test}
 use Rattle.scenario_run.specs.Reports.{exhausted_line, report_in}
 use Rattle.engine_calls.specs.GateAnswers.{AskedGate}
 use Rattle.process_restart.specs.Completing.{IsHeldUpBy, restart_causes, with_completion}
@@ -50,12 +50,15 @@ IsRestartCutOff gate before after r =
     × (((r ≡ NoMemory) × IsRestart gate c h now Settled before.disk after.disk)
     ⊎ ((r ≡ DiskFault) × IsRestart gate c h now Closed before.disk after.disk × Rose before.faults after.faults))
 
--- What there is to say of the files: what a restart on them comes to; or they are not opened, or it was cut off.
+-- The order of the refusals of `restart`: the files alone.
+abbrev pub restart_tests : Files → Files → Tests Refusal (Catalog × History)
+restart_tests before after = last_test (files_test before after)
+
+-- What there is to say of the files: what a restart on them comes to; or what is refused of them first; or it was cut off.
 abbrev pub IsRestartFound : AskedGate → Files → Files → Result Said Refusal → Type 0
 IsRestartFound gate before after (Ok said) = (c : Catalog) × (h : History) × (now : CoreState)
     × IsRestart gate c h now Settled before.disk after.disk × SaysRestart c h now said
-IsRestartFound gate before after (Err r) =
-    ((e : OpenError) × (r ≡ open_refusal e) × AreNotOpened e before after) ⊎ IsRestartCutOff gate before after r
+IsRestartFound gate before after (Err r) = IsFirstRefusal (restart_tests before after) r ⊎ IsRestartCutOff gate before after r
 
 -- Where the files are sound and no call of the rack failed, the report is there, of the completed history or of how far it went; or
 -- memory was wanting.

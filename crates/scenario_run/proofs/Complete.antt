@@ -1,5 +1,5 @@
 -- Whatever is due, the report is there where the source has a scenario, the files have room for it and nothing failed.
-use Rattle.std.proofs.Common.{◌≡◌, ◌∙◌, ℕ, ◌+◌, List, [], ◌∷◌, length, map, Result, Ok, Err, inl, inr, refl, ap, sym, subst}
+use Rattle.std.proofs.Common.{◌≡◌, ◌∙◌, ◌⊎◌, ℕ, ◌+◌, List, [], ◌∷◌, length, map, Result, Ok, Err, inl, inr, refl, ap, sym, subst}
 use Rattle.std.specs.List.{sum_by}
 use Rattle.std.specs.declared.alloc.Global.{Global}
 use Rattle.process_tree.specs.Blocks.{Outline}
@@ -18,14 +18,18 @@ use Rattle.worker_gate.specs.ManyGates.{AskedGates}
 use Rattle.process_engine.specs.Fitting.{first_passed, limit_passed, need_of}
 use Rattle.command_refusals.specs.declared.refusal.Refusal.{Refusal}
 use Rattle.command_refusals.specs.declared.refusal.Refusal.TheVariants as refusals
+use Rattle.command_refusals.specs.Order.{IsFirstRefusal}
 use Rattle.command_input.specs.declared.said.Said.{Said}
 use Rattle.command_input.specs.declared.scenario.NoPlans.TheVariants.{Refused, IllFormed}
 use Rattle.command_input.specs.FilesLeft.{Files}
 use Rattle.command_input.specs.Inputs.{Input, IsWholeText}
 use Rattle.command_input.specs.Scenarios.{IsBound, IsNotBound}
 use Rattle.scenario_run.specs.Completeness.{HasRoomFor, HasScenario, IsReportThere, IsRunComplete, NothingFailed}
-use Rattle.scenario_run.specs.Run.{IsCutOff, IsPastLimit, IsRunDue, IsRunOf}
+use Rattle.scenario_run.specs.Opening.{IsNotOpenedFor}
+use Rattle.scenario_run.specs.Run.{IsCutOff, IsPastLimit, IsRefusedOn, IsRunDue, IsRunOf, run_opening_tests}
 use Rattle.scenario_run.specs.Scenario.{IsNoScenarioRead, IsScenarioRead}
+use Rattle.scenario_run.proofs.OpeningParts.{idle_or_room}
+use Rattle.scenario_run.proofs.RunParts.{due_in_parts, IsNotRead, IsReadAndRun}
 use Rattle.scenario_run.proofs.NothingWrong.{catalog_of, ill_formed, no_lack, one_sound, unbound, unopened, whole_is}
 
 -- plans that are equal in turn have the same courses
@@ -52,7 +56,8 @@ module _ (alloc : Global) (gates : AskedGates) (before after : Input) (files fil
 
   -- its processes are well-formed,
   not_ill : (line : _) → IsNoScenarioRead before after (IllFormed line) → ⊥
-  not_ill line (text, whole, why) = ill_formed alloc bytes c plans has.bound line (subst (λ b. IsNotBound b (IllFormed line)) (text_is text whole) why)
+  not_ill line (inl none) = absurd none
+  not_ill line (inr (text, whole, why)) = ill_formed alloc bytes c plans has.bound line (subst (λ b. IsNotBound b (IllFormed line)) (text_is text whole) why)
 
   -- what is read is what the scenario is bound to,
   read_bound : (d : Catalog) (ps : List Plan) → IsScenarioRead before after d ps → (d ≡ c) × IsBound bytes c ps
@@ -62,8 +67,8 @@ module _ (alloc : Global) (gates : AskedGates) (before after : Input) (files fil
       (same, subst (λ e. IsBound bytes e ps) same is)
 
   -- the processes fit beside those of the files,
-  not_past : (ps : List Plan) → IsBound bytes c ps → (r : Refusal) → IsPastLimit c ps files files_after r → r ≡ refusals.NoMemory
-  not_past ps bound r (k, limit, is, passed, kept) =
+  not_past : (ps : List Plan) → IsBound bytes c ps → (r : Refusal) (k : History) → IsPastLimit c k ps files files_after r → r ≡ refusals.NoMemory
+  not_past ps bound r k (limit, is, passed, kept) =
       let same = one_sound c c h k files.disk.files room.rest.sound (kept.sound room.rest.told) in
       let courses = same_courses h.plans k.plans same.1.plans in
       absurd (let none = room.fit ps bound in
@@ -77,23 +82,29 @@ module _ (alloc : Global) (gates : AskedGates) (before after : Input) (files fil
   not_cut ps r (k, started, rest, now, are, inl memory) = memory.0
   not_cut ps r (k, started, rest, now, are, inr fault) = absurd (quiet.rack fault.2)
 
-  refused : (d : Catalog) (ps : List Plan) (r : Refusal) → IsScenarioRead before after d ps → IsRunOf gates d ps files files_after (Err r) → r ≡ refusals.NoMemory
-  refused d ps r read why = by_why (subst (λ e. IsRunOf gates e ps files files_after (Err r)) (read_bound d ps read).0 why)
-    where
-      by_why : IsRunOf gates c ps files files_after (Err r) → r ≡ refusals.NoMemory
-      by_why (inl why') = unopened c h before after files files_after room.rest quiet opened r why'
-      by_why (inr (inl past)) = not_past ps (read_bound d ps read).1 r past
-      by_why (inr (inr cut)) = not_cut ps r cut
+  refused_on : (ps : List Plan) (r : Refusal) → IsBound bytes c ps → IsNotOpenedFor c r files files_after ⊎ ((k : History) × IsPastLimit c k ps files files_after r) → r ≡ refusals.NoMemory
+  refused_on ps r bound (inl why) = unopened c h before after files files_after room.rest quiet opened r why
+  refused_on ps r bound (inr (k, past)) = not_past ps bound r k past
+
+  refused : (d : Catalog) (ps : List Plan) (r : Refusal) → IsScenarioRead before after d ps → IsRefusedOn gates d ps files files_after (Err r) ⊎ IsRunOf gates d ps files files_after (Err r) → r ≡ refusals.NoMemory
+  refused d ps r read (inl why) =
+      let bound = read_bound d ps read in
+      refused_on ps r bound.1 (idle_or_room c r files files_after ps (subst (λ e. IsFirstRefusal (run_opening_tests e ps files files_after) r) bound.0 why.0))
+  refused d ps r read (inr cut) = not_cut ps r (subst (λ e. IsCutOff gates e ps files files_after r) (read_bound d ps read).0 cut)
 
   said : (d : Catalog) (ps : List Plan) (s : Said) → IsRunOf gates d ps files files_after (Ok s) → IsReportThere (Ok s)
   said d ps s (k, now, run, inl done) = inl done.0
   said d ps s (k, now, run, inr stuck) = inr stuck.1
 
+  by_part : (found : Result Said Refusal) → IsNotRead before after files files_after gates found ⊎ IsReadAndRun before after files files_after gates found → IsReportThere found
+  by_part (Ok s) (inl ill) = absurd (not_ill s.text ill.0.1)
+  by_part (Ok s) (inr (d, ps, read, inl none)) = absurd none
+  by_part (Ok s) (inr (d, ps, read, inr ran)) = said d ps s ran
+  by_part (Err r) (inl unread) = not_read r unread.0
+  by_part (Err r) (inr (d, ps, read, why)) = refused d ps r read why
+
   pub report_there : (found : Result Said Refusal) → IsRunDue gates before after files files_after found → IsReportThere found
-  report_there (Ok s) (inl ill) = absurd (not_ill s.text ill.0.1)
-  report_there (Ok s) (inr (d, ps, read, ran)) = said d ps s ran
-  report_there (Err r) (inl unread) = not_read r unread.0
-  report_there (Err r) (inr (d, ps, read, why)) = refused d ps r read why
+  report_there found due = by_part found (due_in_parts before after files files_after gates found due)
 
 -- So it is whatever is due.
 pub due_is_complete : (alloc : Global) (gates : AskedGates) (before after : Input) (files files_after : Files) (found : Result Said Refusal) → SoundFilesAreOpened

@@ -10,8 +10,11 @@ pub mod NothingWrong
 pub mod OneGate
 pub mod OneOf
 pub mod OnlyOpened
+pub mod OpeningParts
 pub mod OwnCatalog
 pub mod RunDue
+pub mod RunParts
+pub mod SaidFirst
 pub mod SaidOfNone
 pub mod ScenarioPlans
 pub mod Starts

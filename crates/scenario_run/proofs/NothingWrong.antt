@@ -25,7 +25,9 @@ use Rattle.command_input.specs.FilesLeft.{Files}
 use Rattle.command_input.specs.Inputs.{Input, IsWholeText, HasNoText, most_input}
 use Rattle.command_input.specs.Scenarios.{AreNoGoodPlans, IsBound, IsNotBound}
 use Rattle.scenario_run.specs.Completeness.{AreSoundAndIdle, NothingFailed}
-use Rattle.scenario_run.specs.Opening.{AreNotOpened, AreOpenedOn, IsNotOpenedFor, IsOther, IsUnfit, open_refusal}
+use Rattle.scenario_run.specs.Opening.{AreNotOpened, AreOpenedOn, IsNotOpenedFor, IsOther, open_refusal}
+use Rattle.scenario_run.proofs.OpeningParts.{for_in_parts, IsRefusedIdle, IsUnfit}
+use Rattle.command_input.proofs.ScenarioParts.{not_well_formed, plans_ill_formed, plans_refused, IsPlanRefusal}
 use Rattle.scenario_run.proofs.NotRefused.{no_plans, no_scenario, no_text, no_verdict, says_one}
 use Rattle.scenario_run.proofs.OwnCatalog.{own_catalog}
 
@@ -58,9 +60,9 @@ module _ (alloc : Global) (bytes : List ℕ) (c : Catalog) (plans : List Plan) (
   no_good : (s : Scenario) (r : Refusal) → Says bytes (Ok s) → AreNoGoodPlans s.catalog.ops s.processes (Refused r) → r ≡ refusals.NoMemory
   no_good s r says why =
       let same : own ≡ s = ap (said_or s) (says_one bytes (Ok own) (Ok s) bound.1 says) in
-      by_why (subst (λ (t : Scenario). AreNoGoodPlans t.catalog.ops t.processes (Refused r)) (sym same) why)
+      by_why (plans_refused c.ops bound.0 r (subst (λ (t : Scenario). AreNoGoodPlans t.catalog.ops t.processes (Refused r)) (sym same) why))
     where
-      by_why : AreNoGoodPlans c.ops bound.0 (Refused r) → r ≡ refusals.NoMemory
+      by_why : IsPlanRefusal c.ops bound.0 r → r ≡ refusals.NoMemory
       by_why (inl text) = no_text (reading_or_fault alloc) bound.0 bound.2.0 r bound.2.1 text
       by_why (inr (qs, reading, none)) = no_plans c.ops bound.2.0 qs (readings_are_alike (words_of bound.0) bound.2.0 qs bound.2.1 reading) plans bound.2.2 r none
 
@@ -71,9 +73,10 @@ module _ (alloc : Global) (bytes : List ℕ) (c : Catalog) (plans : List Plan) (
 
   -- has no process that is ill-formed,
   pub ill_formed : (line : _) → IsNotBound bytes (IllFormed line) → ⊥
-  ill_formed line ill =
+  ill_formed line why =
+      let ill = not_well_formed bytes line why in
       let same : own ≡ ill.0 = ap (said_or ill.0) (says_one bytes (Ok own) (Ok ill.0) bound.1 ill.1) in
-      let bad = subst (λ (t : Scenario). AreNoGoodPlans t.catalog.ops t.processes (IllFormed line)) (sym same) ill.2 in
+      let bad = plans_ill_formed c.ops bound.0 line (subst (λ (t : Scenario). AreNoGoodPlans t.catalog.ops t.processes (IllFormed line)) (sym same) ill.2) in
       no_verdict bound.2.0 bad.0 (readings_are_alike (words_of bound.0) bound.2.0 bad.0 bound.2.1 bad.1) bound.2.3 line.items bad.3
 
   -- and is bound to no other catalog.
@@ -103,5 +106,8 @@ module _ (c : Catalog) (h : History) (before after : Input) (files files_after :
       by_kind (inr (own, (i, is, first))) = absurd (let none : first_of (active k.events) ≡ None = ap first_of (ap active (sym same.1.events) ∙ rest.idle) in cc)
 
   pub unopened : (r : Refusal) → IsNotOpenedFor c r files files_after → r ≡ refusals.NoMemory
-  unopened r (inl (e, is, why)) = not_opened e r is why
-  unopened r (inr (f, k, on, unfit)) = not_unfit f k on r unfit
+  unopened r refused = by_part (for_in_parts c r files files_after refused)
+    where
+      by_part : IsRefusedIdle c r files files_after → r ≡ refusals.NoMemory
+      by_part (inl (e, is, why)) = not_opened e r is why
+      by_part (inr (own, k, on, unfit)) = not_unfit own k on r unfit

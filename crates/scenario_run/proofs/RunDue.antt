@@ -1,11 +1,12 @@
 -- What there is to say of a run is due.
-use Rattle.std.proofs.Common.{◌≡◌, ◌∙◌, ◌≤◌, List, Some, Result, Ok, Err, IfOk, IfErr, inl, inr, ap, sym, subst}
+use Rattle.std.proofs.Common.{◌≡◌, ◌∙◌, ◌≤◌, ◌⊎◌, List, [], Some, Result, Ok, Err, IfOk, IfErr, inl, inr, ap, sym, subst}
 use Rattle.process_flow.specs.Causes.{Rose}
 use Rattle.process_disk.specs.declared.rack.Rack.{Ghosts as Racks}
 use Rattle.process_disk.specs.Disk.{IsHonest, Told}
 use Rattle.process_disk.specs.Images.{EachImage}
 use Rattle.process_tree.specs.declared.plan.Plan.{Plan}
 use Rattle.schedule_model.specs.declared.history.History.{History}
+use Rattle.schedule_model.specs.Histories.{active}
 use Rattle.commute_table.specs.declared.catalog.Catalog.{Catalog}
 use Rattle.process_core.specs.Cores.{CoreState}
 use Rattle.history_files.specs.Sound.{IsSound}
@@ -24,13 +25,14 @@ use Rattle.command_refusals.specs.declared.refusal.Refusal.{Refusal}
 use Rattle.command_input.specs.declared.said.Said.{Said}
 use Rattle.command_input.specs.FilesLeft.{files}
 use Rattle.scenario_run.specs.Opening.{AreOpenedOn}
-use Rattle.scenario_run.specs.Run.{HasGone, IsRunOf, SaysRun}
+use Rattle.scenario_run.specs.Run.{HasGone, IsCutOff, IsPastLimit, IsRefusedOn, IsRunOf, SaysRun}
+use Rattle.scenario_run.proofs.OpeningParts.{room_refused}
 use Rattle.history_opening.proofs.Rising.{rose_later}
 use Rattle.scenario_run.specs.Stops.{IsStopped}
 use Rattle.scenario_run.proofs.OnlyOpened.{only_opened}
 
 module _ {R B : Type 0} (r : Racks R) (honest : (rack : R) → Told (r.disk rack) → IsHonest (r.disk rack)) (gates : AskedGates) (entry back : R) (opening now : EngineState R B) (plans : List Plan)
-    (is : IsOpened opening) (one_each : OneEach (full_history opening.core)) (tells : (r.disk opening.files.rack).tells ≡ (r.disk entry).tells) (later : r.faults entry ≤ r.faults opening.files.rack)
+    (is : IsOpened opening) (idle : active (full_history opening.core).events ≡ []) (one_each : OneEach (full_history opening.core)) (tells : (r.disk opening.files.rack).tells ≡ (r.disk entry).tells) (later : r.faults entry ≤ r.faults opening.files.rack)
     (opened : AreOpenedOn opening.catalog (full_history opening.core) (files r entry) (files r opening.files.rack)) (goes : GoesOn r.disk r.faults plans opening now)
     (read : now.phase ≡ Settled → Told (r.disk now.files.rack) → IsSound now.catalog (full_history now.core) (r.disk now.files.rack).files)
     (each : now.phase ≡ Settled → Told (r.disk now.files.rack) → EachImage (r.disk now.files.rack) (r.disk now.files.rack).moment (IsSound now.catalog (full_history now.core))) (handed : back ≡ now.files.rack) where
@@ -55,12 +57,24 @@ module _ {R B : Type 0} (r : Racks R) (honest : (rack : R) → Told (r.disk rack
   kept_still same = subst (λ rack. AreOnlyOpened c h (r.disk entry) (r.disk rack)) (sym (handed ∙ ap (λ (e : EngineState R B). e.files.rack) same))
       (only_opened c h (files r entry) (files r opening.files.rack) one_each opened)
 
-  stopped : (x : Refusal) → IsStopped gates r.faults opening now plans x → IsRunOf gates c plans (files r entry) (files r back) (Err x)
-  stopped x (inl (limit, said, passed, same)) =
-      inr (inl (h, limit, said, subst (λ (core : CoreState). limit_passed core plans ≡ Some limit) is.core passed, kept_still same))
-  stopped x (inr (started, rest, all, gone, inl (said, on))) = inr (inr (h, started, rest, now.core, all, inl (said, (gone, kept_on Settled on))))
-  stopped x (inr (started, rest, all, gone, inr (said, on, rose))) =
-      inr (inr (
+  opened_still : now ≡ opening → AreOpenedOn c h (files r entry) (files r back)
+  opened_still same = subst (λ rack. AreOpenedOn c h (files r entry) (files r rack)) (sym (handed ∙ ap (λ (e : EngineState R B). e.files.rack) same)) opened
+
+  -- the files are refused, or run on, by the catalog for which the engine was opened
+  abbrev pub Comes : Catalog → Result Said Refusal → Type 0
+  Comes d found = IsRefusedOn gates d plans (files r entry) (files r back) found ⊎ IsRunOf gates d plans (files r entry) (files r back) found
+
+  cut : (d : Catalog) → c ≡ d → (x : Refusal) → IsCutOff gates c plans (files r entry) (files r back) x → Comes d (Err x)
+  cut d same x off = inr (subst (λ e. IsCutOff gates e plans (files r entry) (files r back) x) same off)
+
+  stopped : (d : Catalog) → c ≡ d → (x : Refusal) → IsStopped gates r.faults opening now plans x → Comes d (Err x)
+  stopped d by x (inl (limit, said, passed, same, unasked)) =
+      let past : IsPastLimit c h plans (files r entry) (files r back) x
+      = (limit, said, subst (λ (core : CoreState). limit_passed core plans ≡ Some limit) is.core passed, kept_still same) in
+      inl (room_refused d x (files r entry) (files r back) plans c h (opened_still same) by idle past, unasked)
+  stopped d by x (inr (started, rest, all, gone, inl (said, on))) = cut d by x (h, started, rest, now.core, all, inl (said, (gone, kept_on Settled on)))
+  stopped d by x (inr (started, rest, all, gone, inr (said, on, rose))) =
+      cut d by x (
         h,
         started,
         rest,
@@ -71,14 +85,9 @@ module _ {R B : Type 0} (r : Racks R) (honest : (rack : R) → Told (r.disk rack
           (gone, kept_on Closed on),
           subst (λ rack. Rose (r.faults entry) (r.faults rack)) (sym handed) (rose_later (r.faults entry) (r.faults opening.files.rack) (r.faults now.files.rack) later rose),
         ),
-      ))
+      )
 
-  run_of_opening : (found : Result Said Refusal) → IfOk found (λ s. HasGone gates c h plans now.core × (now.phase ≡ Settled) × SaysRun c now.core s) → IfErr found (IsStopped gates r.faults opening now plans)
-      → IsRunOf gates c plans (files r entry) (files r back) found
-  run_of_opening (Ok s) ran why = (h, now.core, (ran.0, kept_on Settled ran.1), ran.2)
-  run_of_opening (Err x) ran why = stopped x why
-
-  -- by the catalog for which the engine was opened
   pub run_of : (d : Catalog) (found : Result Said Refusal) → c ≡ d → IfOk found (λ s. HasGone gates c h plans now.core × (now.phase ≡ Settled) × SaysRun c now.core s)
-      → IfErr found (IsStopped gates r.faults opening now plans) → IsRunOf gates d plans (files r entry) (files r back) found
-  run_of d found same ran why = subst (λ e. IsRunOf gates e plans (files r entry) (files r back) found) same (run_of_opening found ran why)
+      → IfErr found (IsStopped gates r.faults opening now plans) → Comes d found
+  run_of d (Ok s) same ran why = inr (subst (λ e. IsRunOf gates e plans (files r entry) (files r back) (Ok s)) same (h, now.core, (ran.0, kept_on Settled ran.1), ran.2))
+  run_of d (Err x) same ran why = stopped d same x why

@@ -29,7 +29,7 @@ module _ {R B : Type 0} (faults : R → ℕ) (gates : AskedGates) (old mid now :
 
 -- whatever stopped it comes after the files were opened
 late_stop : {R B : Type 0} (gates : AskedGates) (faults : R → ℕ) (old new : EngineState R B) (plans : List Plan) (r : Refusal) → IsStopped gates faults old new plans r → comes_before_files r ≡ false
-late_stop gates faults old new plans r (inl (limit, is, past, same)) = ap comes_before_files is ∙ late_limit limit
+late_stop gates faults old new plans r (inl (limit, is, past, same, unasked)) = ap comes_before_files is ∙ late_limit limit
   where
     late_limit : (limit : StartLimit) → comes_before_files (limit_refusal limit) ≡ false
     late_limit (limits.Processes n) = refl

@@ -1,6 +1,6 @@
 -- Files that are opened for a scenario: their history goes on with its processes, where its catalog is theirs and no process is
 -- active.
-use Rattle.std.specs.Prelude.{◌≡◌, ◌⊎◌, ⊤, ℕ, suc, List, [], ◌∷◌, nat_eq, Option, Some, None, if◌then◌else◌}
+use Rattle.std.specs.Prelude.{◌≡◌, ⊤, ℕ, suc, List, [], ◌∷◌, nat_eq, Option, Some, None, if◌then◌else◌}
 use Rattle.std.specs.Option.{option_map}
 use Rattle.process_flow.specs.Causes.{Rose}
 use Rattle.process_disk.specs.Disk.{Told}
@@ -19,6 +19,7 @@ use Rattle.engine_steps.specs.Opening.{LeftByOpening}
 use Rattle.command_refusals.specs.declared.faults.FileFault.TheVariants.{BadHeader, BadRecord, BadHistory, BadBook}
 use Rattle.command_refusals.specs.declared.refusal.Refusal.{Refusal}
 use Rattle.command_refusals.specs.declared.refusal.Refusal.TheVariants as refusals
+use Rattle.command_refusals.specs.Order.{Test, Tests, last_test, test_then, IsFirstRefusal, leaving}
 use Rattle.command_input.specs.FilesLeft.{Files}
 
 -- what is told of files that were not opened
@@ -44,11 +45,6 @@ IsOther own c (refusals.CatalogDiffers n) = first_difference (bytes_of own) (byt
 IsOther own c refusals.NoMemory = ⊤
 IsOther own c r = ⊥
 
--- Why the history of files of one catalog doesn't go on with processes of a scenario of another: the catalogs aren't the same; or
--- they are, and this is the least active process.
-abbrev pub IsUnfit : Catalog → Catalog → History → Refusal → Type 0
-IsUnfit own c h r = IsOther own c r ⊎ ((c ≡ own) × ((i : ℕ) × (r ≡ refusals.Unfinished i) × (first_of (active h.events) ≡ Some i)))
-
 -- The files, where they are told, were sound for this history, and became so again from some moment of the opening on: they are
 -- now, and so is each image of them from now on.
 pub record AreOpenedOn (c : Catalog) (h : History) (before after : Files) : Type 0 where
@@ -64,15 +60,43 @@ pub record AreNotOpened (e : OpenError) (before after : Files) : Type 0 where
   pub left : Told before.disk → LeftByOpening e before.disk after.disk
   pub fault : e ≡ errors.DiskFault → Rose before.faults after.faults
 
--- Why there is no engine on files of this catalog: what is refused of the files; or, once they were opened on their history, that
--- their catalog is another.
-abbrev pub IsNotOpenedWith : Catalog → Refusal → Files → Files → Type 0
-IsNotOpenedWith own r before after =
-    ((e : OpenError) × (r ≡ open_refusal e) × AreNotOpened e before after)
-    ⊎ ((c : Catalog) × (h : History) × AreOpenedOn c h before after × IsOther own c r)
+-- The test of the files: all nine are read, and sound for a history, which is handed on with its catalog.
+abbrev pub files_test : Files → Files → Test Refusal (Catalog × History)
+files_test before after = record {
+  hands_on = λ own. Told before.disk → IsSound own.0 own.1 before.disk.files;
+  refuses = λ r. (e : OpenError) × (r ≡ open_refusal e) × AreNotOpened e before after;
+}
 
--- Why there is no engine for the processes of a scenario of this catalog: the same; or the history of the files is unfinished.
+-- the test of the catalog of a scenario: it is that of the files
+abbrev pub catalog_test : Catalog → Catalog → Test Refusal ⊤
+catalog_test own c = record { hands_on = λ _. c ≡ own; refuses = IsOther own c }
+
+-- the test of a history: no process is active in it; the least that is active is named
+abbrev pub idle_test : History → Test Refusal ⊤
+idle_test h = record {
+  hands_on = λ _. active h.events ≡ [];
+  refuses = λ r. (i : ℕ) × (r ≡ refusals.Unfinished i) × (first_of (active h.events) ≡ Some i);
+}
+
+-- tests behind that of the files: where one of them refuses, the files are left opened on their history
+abbrev pub once_opened : Catalog × History → Files → Files → Tests Refusal ⊤ → Tests Refusal ⊤
+once_opened own before after tests = leaving (AreOpenedOn own.0 own.1 before after) tests
+
+-- The order of the refusals of an opening for a scenario of this catalog, whoever is active: the files, and then the catalog.
+abbrev pub opening_tests : Catalog → Files → Files → Tests Refusal ⊤
+opening_tests c before after =
+    test_then (files_test before after) (λ own. once_opened own before after (last_test (catalog_test c own.0)))
+
+-- The same where no process may be active: the files, the catalog, and then the history.
+abbrev pub idle_opening_tests : Catalog → Files → Files → Tests Refusal ⊤
+idle_opening_tests c before after =
+    test_then (files_test before after) (λ own. once_opened own before after
+    (test_then (catalog_test c own.0) (λ _. last_test (idle_test own.1))))
+
+-- why there is no engine on the files of this catalog: what is refused first
+abbrev pub IsNotOpenedWith : Catalog → Refusal → Files → Files → Type 0
+IsNotOpenedWith c r before after = IsFirstRefusal (opening_tests c before after) r
+
+-- why there is no engine for the processes of a scenario of this catalog: what is refused first
 abbrev pub IsNotOpenedFor : Catalog → Refusal → Files → Files → Type 0
-IsNotOpenedFor own r before after =
-    ((e : OpenError) × (r ≡ open_refusal e) × AreNotOpened e before after)
-    ⊎ ((c : Catalog) × (h : History) × AreOpenedOn c h before after × IsUnfit own c h r)
+IsNotOpenedFor c r before after = IsFirstRefusal (idle_opening_tests c before after) r

@@ -1,6 +1,6 @@
 -- The command `run`: the processes of a scenario start in the order of its text, on files that are opened for it, and then they are
 -- run.
-use Rattle.std.specs.Prelude.{◌≡◌, ◌⊎◌, ℕ, List, [], ◌∷◌, ◌++◌, Some, Result, Ok, Err}
+use Rattle.std.specs.Prelude.{◌≡◌, ◌⊎◌, ℕ, List, [], ◌∷◌, ◌++◌, Some, None, Result, Ok, Err, ⊤}
 use Rattle.process_flow.specs.Causes.{Rose}
 use Rattle.process_tree.specs.declared.plan.Plan.{Plan}
 use Rattle.schedule_model.specs.declared.history.History.{History}
@@ -23,12 +23,15 @@ use Rattle.command_refusals.specs.declared.faults.Quantity.TheVariants.{Processe
 use Rattle.command_refusals.specs.declared.refusal.Refusal.{Refusal}
 use Rattle.command_refusals.specs.declared.refusal.Refusal.TheVariants.{DiskFault, Limit, NoMemory}
 use Rattle.command_refusals.specs.declared.status.Status.TheVariants as statuses
+use Rattle.command_refusals.specs.Order.{Test, Tests, last_test, test_then, IsFirstRefusal, followed_by}
 use Rattle.command_input.specs.declared.said.Said.{Said}
-use Rattle.command_input.specs.FilesLeft.{Files, AreUntouched}
+use Rattle.command_input.specs.declared.scenario.NoPlans.{NoPlans}
+use Rattle.command_input.specs.FilesLeft.{Files, before_files}
 use Rattle.command_input.specs.Inputs.{Input}
-use Rattle.scenario_run.specs.Opening.{IsNotOpenedFor}
+use Rattle.command_input.specs.Scenarios.{all_refusing}
+use Rattle.scenario_run.specs.Opening.{catalog_test, files_test, idle_test, once_opened}
 use Rattle.scenario_run.specs.Reports.{exhausted_line, report_in}
-use Rattle.scenario_run.specs.Scenario.{IsNoScenarioRead, IsSaidOfNone, IsScenarioRead}
+use Rattle.scenario_run.specs.Scenario.{read_tests, IsSaidOfNone, IsScenarioRead}
 use Rattle.scenario_run.specs.Starting.{started_on}
 
 -- one gate as the gates of a run
@@ -54,11 +57,32 @@ limit_refusal (limits.Active n) = Limit Active n
 limit_refusal (limits.Entries n) = Limit Entries n
 
 -- The processes of a scenario don't all fit within the limits beside those that started, and nothing was kept.
-abbrev pub IsPastLimit : Catalog → List Plan → Files → Files → Refusal → Type 0
-IsPastLimit c plans before after r =
-    (h : History) × (limit : StartLimit) × (r ≡ limit_refusal limit)
+abbrev pub IsPastLimit : Catalog → History → List Plan → Files → Files → Refusal → Type 0
+IsPastLimit c h plans before after r =
+    (limit : StartLimit) × (r ≡ limit_refusal limit)
     × (limit_passed (opened_on c.conflicts h.plans h.events) plans ≡ Some limit)
     × AreOnlyOpened c h before.disk after.disk
+
+-- the test of the processes of a scenario: they fit within the limits beside those of this history
+abbrev pub room_test : Catalog → History → List Plan → Files → Files → Test Refusal ⊤
+room_test c h plans before after = record {
+  hands_on = λ _. limit_passed (opened_on c.conflicts h.plans h.events) plans ≡ None;
+  refuses = IsPastLimit c h plans before after;
+}
+
+-- The tests of the files for a run, in their order: those of an opening for a scenario of this catalog, where no process may be
+-- active, and then whether its processes fit.
+abbrev pub run_opening_tests : Catalog → List Plan → Files → Files → Tests Refusal ⊤
+run_opening_tests c plans before after =
+    test_then (files_test before after) (λ own. once_opened own before after
+    (test_then (catalog_test c own.0) (λ _. test_then (idle_test own.1) (λ _.
+    last_test (room_test own.0 own.1 plans before after)))))
+
+-- The order of the refusals of `run`: the tests of its input, before a file is looked at, and then those of the files.
+abbrev pub run_tests : Input → Input → Files → Files → Tests NoPlans ⊤
+run_tests before after files files_after =
+    followed_by (before_files files files_after (read_tests before after))
+    (λ bound. all_refusing (run_opening_tests bound.0 bound.1 files files_after))
 
 -- A run was cut off once the first of the processes had started, or all: a call of the rack failed, or memory was wanting.
 abbrev pub IsCutOff : AskedGates → Catalog → List Plan → Files → Files → Refusal → Type 0
@@ -75,21 +99,21 @@ SaysRun c now said =
     ⊎ ((i : ℕ) × (said.status ≡ statuses.Exhausted) × ((answer_in now next).reply ≡ next_is (stuck i))
     × (said.text.items ≡ report_in c now ++ exhausted_line now i))
 
--- What there is to say of a run of the processes of a scenario: its report. Else it is refused, in this order: the files, and what
--- would pass a limit; or it was cut off.
+-- What there is to say of a run of the processes of a scenario: its report; or it was cut off.
 abbrev pub IsRunOf : AskedGates → Catalog → List Plan → Files → Files → Result Said Refusal → Type 0
 IsRunOf gates c plans before after (Ok said) =
     (h : History) × (now : CoreState) × IsRun gates c h plans plans now Settled before after × SaysRun c now said
-IsRunOf gates c plans before after (Err r) =
-    IsNotOpenedFor c r before after ⊎ IsPastLimit c plans before after r ⊎ IsCutOff gates c plans before after r
+IsRunOf gates c plans before after (Err r) = IsCutOff gates c plans before after r
 
--- the input holds no scenario, so there is a verdict line, or a refusal
-abbrev pub IsNotReadAs : Input → Input → Result Said Refusal → Type 0
-IsNotReadAs before after found = IsSaidOfNone (IsNoScenarioRead before after) found
+-- the files are refused for it, by the first of their tests that refuses them, and the counts of the gates are as they were
+abbrev pub IsRefusedOn : AskedGates → Catalog → List Plan → Files → Files → Result Said Refusal → Type 0
+IsRefusedOn gates c plans before after (Ok said) = ⊥
+IsRefusedOn gates c plans before after (Err r) =
+    IsFirstRefusal (run_opening_tests c plans before after) r × (gates.after ≡ gates.before)
 
--- What there is to say: what is refused of the input, and then the files are left as they were; or else what there is to say of a
--- run of the processes of its scenario.
+-- What there is to say: what the first of all tests refuses, and the counts of the gates are as they were; or else what there is to
+-- say of a run of the processes of the scenario that was read.
 abbrev pub IsRunDue : AskedGates → Input → Input → Files → Files → Result Said Refusal → Type 0
 IsRunDue gates before after files files_after found =
-    (IsNotReadAs before after found × AreUntouched files files_after)
+    (IsSaidOfNone (IsFirstRefusal (run_tests before after files files_after)) found × (gates.after ≡ gates.before))
     ⊎ ((c : Catalog) × (plans : List Plan) × IsScenarioRead before after c plans × IsRunOf gates c plans files files_after found)

@@ -11,11 +11,12 @@ use Rattle.command_refusals.specs.declared.refusal.Refusal.TheVariants.{DiskFaul
 use Rattle.worker_gate.specs.ManyGates.{AskedGates}
 use Rattle.scenario_run.specs.Run.{HasGone, limit_refusal}
 
--- The processes would pass a limit, and the engine is left as it was; or, once the first of them had started, or all, memory was
--- wanting, or a call of the rack failed and the engine is closed.
+-- The processes would pass a limit, the engine and the counts of the gates are as they were; or, once the first of them had
+-- started, or all, memory was wanting, or a call of the rack failed and the engine is closed.
 abbrev pub IsStopped : {R B : Type 0} → AskedGates → (R → ℕ) → EngineState R B → EngineState R B → List Plan → Refusal → Type 0
 IsStopped gates faults old new plans r =
-    ((limit : StartLimit) × (r ≡ limit_refusal limit) × (limit_passed old.core plans ≡ Some limit) × (new ≡ old))
+    ((limit : StartLimit) × (r ≡ limit_refusal limit) × (limit_passed old.core plans ≡ Some limit) × (new ≡ old)
+    × (gates.after ≡ gates.before))
     ⊎ ((started rest : List Plan) × (plans ≡ started ++ rest) × HasGone gates old.catalog (full_history old.core) started new.core
     × (((r ≡ NoMemory) × (new.phase ≡ Settled)) ⊎
     ((r ≡ DiskFault) × (new.phase ≡ Closed) × Rose (faults old.files.rack) (faults new.files.rack))))

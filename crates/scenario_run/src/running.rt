@@ -22,7 +22,7 @@ ghost use Rattle.command_input.specs.Inputs.{input};
 ghost use Rattle.command_input.specs.FilesLeft.{files};
 ghost use Rattle.command_input.specs.Early.{comes_before_files};
 ghost use Rattle.scenario_run.specs.Completeness.{IsRunComplete};
-ghost use Rattle.scenario_run.specs.Run.{HasGone, IsRunDue, IsRunOf, SaysRun, limit_refusal};
+ghost use Rattle.scenario_run.specs.Run.{HasGone, IsRefusedOn, IsRunDue, IsRunOf, SaysRun, limit_refusal};
 ghost use Rattle.scenario_run.specs.Stops.{IsStopped};
 
 use crate::gates::{racks_are_honest, run_by_gates};
@@ -211,7 +211,9 @@ fn run_bound<H: Threads + Wait + Sync, R: Rack + Drop + Send, B: Resource + Send
     requires few { length bound.plans.items ≤ 256 }
     requires boxes { AreBoxes B.sort parts.resources.items }
     ensures gates { (vec_len result.gates ≡ vec_len gates) × (vec_capacity gates ≤ vec_capacity result.gates) }
-    ensures due { IsRunOf (asked_gates G.Gate gates.items result.gates.items) bound.catalog bound.plans.items
+    ensures due { IsRefusedOn (asked_gates G.Gate gates.items result.gates.items) bound.catalog bound.plans.items
+        (files R.Rack parts.rack) (files R.Rack result.parts.rack) result.found
+        ⊎ IsRunOf (asked_gates G.Gate gates.items result.gates.items) bound.catalog bound.plans.items
         (files R.Rack parts.rack) (files R.Rack result.parts.rack) result.found }
     ensures late { IfErr result.found (λ r. comes_before_files r ≡ false) }
     ensures said { IfOk result.found (λ s. s.status ≢ Status.IllFormed) }

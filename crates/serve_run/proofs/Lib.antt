@@ -4,5 +4,6 @@ pub mod Spoken
 pub mod Turns
 pub mod NotRead
 pub mod ServeDue
+pub mod ServeParts
 pub mod Read
 pub mod ServeComplete

@@ -1,5 +1,5 @@
 -- A dialogue over files, behind the scenario that was taken before it.
-use Rattle.std.proofs.Common.{◌≤◌, ℕ, List, [], ◌++◌, inr, refl, sym, subst}
+use Rattle.std.proofs.Common.{◌≤◌, ℕ, List, [], ◌++◌, refl, sym, subst}
 use Rattle.std.specs.Io.KnownBytes.{Consumes}
 use Rattle.std.proofs.KnownBytes.{Consumes-nil}
 use Rattle.process_tree.specs.declared.plan.Plan.{Plan}
@@ -11,6 +11,8 @@ use Rattle.command_input.specs.Outputs.{Output}
 use Rattle.history_opening.proofs.Rising.{rose_later}
 use Rattle.serve_run.specs.declared.command.Ending.{Ending}
 use Rattle.serve_run.specs.declared.command.Ending.TheVariants.{Told, Due}
+use Rattle.driver_input.specs.Preamble.{IsScenarioTaken}
+use Rattle.serve_run.proofs.ServeParts.{not_served_of_read}
 use Rattle.serve_run.specs.Serve.{IsHeldOn, IsScene, IsServeDue, IsServeRead, IsServed}
 
 module _ (before mid after : Input) (files files_after : Files) (out out_after : Output) (c : Catalog) (plans : List Plan) (first : ℕ) (ready : List ℕ) (scene : IsScene before.left mid.left c plans ready first) (later : before.faults ≤ mid.faults) where
@@ -34,5 +36,8 @@ module _ (before mid after : Input) (files files_after : Files) (out out_after :
   pub due_on : (ending : Ending) → IsHeldOn c plans first ready mid after files files_after out out_after ending → IsServeDue before after files files_after out out_after ending
   due_on (Told ended) (given, text, status, consumed, served, told) =
       (text, status, (c, plans, first, ready ++ given, read_with given consumed, served_since (ready ++ given) text status served), told)
-  due_on (Due found) (why, unsaid, unread) =
-      (inr (c, plans, first, ready ++ [], read_with [] (subst (λ (i : Input). Consumes mid.left i.left []) (sym unread) (Consumes-nil mid.left)), why), unsaid)
+  due_on (Due found) (why, unsaid, unread) = (
+    not_served_of_read before after files files_after c plans scene.0 ready first (subst (λ (i : Input). IsScenarioTaken before.left i.left scene.0 ready first) (sym unread) scene.1) scene.2 (ready ++ [])
+        (read_with [] (subst (λ (i : Input). Consumes mid.left i.left []) (sym unread) (Consumes-nil mid.left))) found why,
+    unsaid,
+  )

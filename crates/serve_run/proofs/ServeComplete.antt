@@ -24,12 +24,14 @@ use Rattle.command_input.specs.Scenarios.{IsBound, IsNotBound}
 use Rattle.scenario_run.specs.Completeness.{NothingFailed}
 use Rattle.scenario_run.specs.Opening.{AreNotOpened, AreOpenedOn, IsNotOpenedWith, IsOther, open_refusal}
 use Rattle.scenario_run.proofs.NothingWrong.{catalog_of, ill_formed, one_sound, unbound}
+use Rattle.scenario_run.proofs.OpeningParts.{with_in_parts, IsRefusedWith}
 use Rattle.scenario_run.proofs.OwnCatalog.{own_catalog}
 use Rattle.session_text.specs.Sessions.{scenario_of}
 use Rattle.driver_input.specs.Preamble.{HasNoScenario, IsScenarioTaken}
 use Rattle.serve_run.specs.declared.command.Ending.{Ending}
 use Rattle.serve_run.specs.declared.command.Ending.TheVariants.{Told, Due}
 use Rattle.serve_run.specs.Dialogue.{EndsWith, number_behind}
+use Rattle.serve_run.proofs.ServeParts.{not_served_in_parts, IsNotRead, IsReadAndNotServed}
 use Rattle.serve_run.specs.Serve.{HasScene, IsEndedWell, IsNoServeRead, IsNotServed, IsNotServedOn, IsServeDue, IsServeRead, IsServeTold, IsSpoken, OnEnding}
 
 module _ (alloc : Global) (before after : Input) (files files_after : Files) (out out_after : Output) (bytes : List ℕ) (c : Catalog) (plans : List Plan) (h : History) (has : HasScene before bytes c plans)
@@ -49,10 +51,11 @@ module _ (alloc : Global) (before after : Input) (files files_after : Files) (ou
 
   not_refused : (r : Refusal) → IsNoServeRead before after (Refused r) → r ≡ refusals.NoMemory
   not_refused r (inl none) = no_scenario r none
-  not_refused r (inr (scenario, ready, first, taken, why)) = unbound alloc scene c plans has.bound r (subst (λ b. IsNotBound b (Refused r)) (scene_is after.left scenario ready first taken) why)
+  not_refused r (inr (scenario, (ready, first, taken), why)) = unbound alloc scene c plans has.bound r (subst (λ b. IsNotBound b (Refused r)) (scene_is after.left scenario ready first taken) why)
 
   not_ill : (line : _) → IsNoServeRead before after (IllFormed line) → ⊥
-  not_ill line (scenario, ready, first, taken, why) = ill_formed alloc scene c plans has.bound line (subst (λ b. IsNotBound b (IllFormed line)) (scene_is after.left scenario ready first taken) why)
+  not_ill line (inl none) = absurd none
+  not_ill line (inr (scenario, (ready, first, taken), why)) = ill_formed alloc scene c plans has.bound line (subst (λ b. IsNotBound b (IllFormed line)) (scene_is after.left scenario ready first taken) why)
 
   -- its catalog is that one,
   same_catalog : (d : Catalog) (ps : List Plan) (first : ℕ) (taken : List ℕ) → IsServeRead before after d ps first taken → d ≡ c
@@ -70,8 +73,11 @@ module _ (alloc : Global) (before after : Input) (files files_after : Files) (ou
   not_other d k r on other = own_catalog c r (subst (λ e. IsOther c e r) (one_sound c d h k files.disk.files sound (on.sound known)).0 other)
 
   unopened : (r : Refusal) → IsNotOpenedWith c r files files_after → r ≡ refusals.NoMemory
-  unopened r (inl (e, is, why)) = not_opened e r is why
-  unopened r (inr (d, k, on, other)) = not_other d k r on other
+  unopened r refused = by_part (with_in_parts c r files files_after refused)
+    where
+      by_part : IsRefusedWith c r files files_after → r ≡ refusals.NoMemory
+      by_part (inl (e, is, why)) = not_opened e r is why
+      by_part (inr (d, k, on, other)) = not_other d k r on other
 
   not_served_on : (d : Catalog) (found : Result Said Refusal) → d ≡ c → IsNotServedOn d files files_after found → found ≡ Err refusals.NoMemory
   not_served_on d (Ok s) same why = absurd why
@@ -79,10 +85,13 @@ module _ (alloc : Global) (before after : Input) (files files_after : Files) (ou
   not_served_on d (Err r) same (inr (memory, left)) = ap (λ (e : Refusal). Err e) memory
 
   -- so nothing is due but want of memory,
+  wanting_part : (found : Result Said Refusal) → IsNotRead before after files files_after found ⊎ IsReadAndNotServed before after files files_after found → found ≡ Err refusals.NoMemory
+  wanting_part (Ok said) (inl (none, untouched)) = absurd (not_ill said.text none.1)
+  wanting_part (Err r) (inl (none, untouched)) = ap (λ (e : Refusal). Err e) (not_refused r none)
+  wanting_part found (inr (d, ps, first, taken, read, why)) = not_served_on d found (same_catalog d ps first taken read) why
+
   wanting : (found : Result Said Refusal) → IsNotServed before after files files_after found → found ≡ Err refusals.NoMemory
-  wanting (Ok said) (inl (none, untouched)) = absurd (not_ill said.text none.1)
-  wanting (Err r) (inl (none, untouched)) = ap (λ (e : Refusal). Err e) (not_refused r none)
-  wanting found (inr (d, ps, first, taken, read, why)) = not_served_on d found (same_catalog d ps first taken read) why
+  wanting found why = wanting_part found (not_served_in_parts before after files files_after found why)
 
   -- or the dialogue ends by `stop` or with its input.
   by_status : (s : Status) (ended : Status) (last : _) (n : ℕ) (u : Option (List ℕ)) (tail : List ℕ) (now : _) (d : Catalog) (ps : List Plan) → ended ≡ s → EndsWith d ps last n u tail now s → (s ≡ statuses.DiskFault → Rose files.faults files_after.faults)

@@ -1,5 +1,5 @@
 -- The command `serve`: the lines of a driver, over files that are opened for a scenario.
-use Rattle.std.specs.Prelude.{◌≡◌, ◌⊎◌, ◌≤◌, ℕ, List, [], ◌++◌, length, Option, Some, Result, Ok, Err}
+use Rattle.std.specs.Prelude.{◌≡◌, ◌⊎◌, ◌≤◌, ℕ, List, [], ◌++◌, length, Option, Some, Result, Ok, Err, ⊤}
 use Rattle.std.specs.Io.KnownBytes.{Consumes}
 use Rattle.process_flow.specs.Causes.{Rose}
 use Rattle.process_flow.specs.declared.source.Source.{Ghosts as Sources}
@@ -23,13 +23,13 @@ use Rattle.command_refusals.specs.declared.status.Status.{Status}
 use Rattle.command_refusals.specs.declared.status.Status.TheVariants.{Done, DiskFault, NoMemory, ReadFault, WriteFault}
 use Rattle.command_input.specs.declared.said.Said.{Said}
 use Rattle.command_input.specs.declared.scenario.NoPlans.{NoPlans}
-use Rattle.command_input.specs.declared.scenario.NoPlans.TheVariants.{Refused, IllFormed}
-use Rattle.command_input.specs.FilesLeft.{Files, AreUntouched}
+use Rattle.command_refusals.specs.Order.{Test, Tests, test_then, IsFirstRefusal, followed_by}
+use Rattle.command_input.specs.FilesLeft.{Files, before_files}
 use Rattle.command_input.specs.Inputs.{Input, most_input}
 use Rattle.command_input.specs.Outputs.{Output, output, IsTold}
-use Rattle.command_input.specs.Scenarios.{IsBound, IsNotBound}
+use Rattle.command_input.specs.Scenarios.{all_refusing, refusing, scenario_tests, IsBound}
 use Rattle.scenario_run.specs.Completeness.{NothingFailed}
-use Rattle.scenario_run.specs.Opening.{IsNotOpenedWith}
+use Rattle.scenario_run.specs.Opening.{opening_tests, IsNotOpenedWith}
 use Rattle.scenario_run.specs.Scenario.{IsSaidOfNone}
 use Rattle.driver_requests.specs.Readiness.{ready_text}
 use Rattle.driver_answers.specs.Serving.{DriverState}
@@ -51,14 +51,21 @@ pub record IsServeRead (before after : Input) (c : Catalog) (plans : List Plan) 
   pub consumed : Consumes mid after.left given
   pub bytes : taken ≡ ready ++ given
 
--- Why there is no such scenario: none came; or else what is refused of it first.
+-- the test of the front of the input: a scenario is taken from it, and handed on
+abbrev pub preamble_test : Input → Input → Test Refusal (List ℕ)
+preamble_test before after = record {
+  hands_on = λ scenario. (ready : List ℕ) × (first : ℕ) × IsScenarioTaken before.left after.left scenario ready first;
+  refuses = λ r. HasNoScenario r before after;
+}
+
+-- The tests of the input, in their order: a scenario is taken from its front, and then those of the scenario, whose catalog and
+-- plans are handed on.
+abbrev pub read_tests : Input → Input → Tests NoPlans (Catalog × List Plan)
+read_tests before after = test_then (refusing (preamble_test before after)) scenario_tests
+
+-- why there is no such scenario: what is refused first of the input
 abbrev pub IsNoServeRead : Input → Input → NoPlans → Type 0
-IsNoServeRead before after (Refused r) = HasNoScenario r before after
-    ⊎ ((scenario ready : List ℕ) × (first : ℕ) × IsScenarioTaken before.left after.left scenario ready first
-    × IsNotBound scenario (Refused r))
-IsNoServeRead before after (IllFormed line) =
-    (scenario ready : List ℕ) × (first : ℕ) × IsScenarioTaken before.left after.left scenario ready first
-    × IsNotBound scenario (IllFormed line)
+IsNoServeRead before after none = IsFirstRefusal (read_tests before after) none
 
 -- the dialogue on files with this history begins: whoever was active has begun to complete
 abbrev pub begun_on : Catalog → History → DriverState
@@ -103,13 +110,20 @@ abbrev pub IsNotServedOn : Catalog → Files → Files → Result Said Refusal �
 IsNotServedOn c files files_after (Ok s) = ⊥
 IsNotServedOn c files files_after (Err r) = IsNotOpenedWith c r files files_after ⊎ IsNotBegun c files files_after r
 
--- No dialogue was held, and this is to be said, in this order: what is wrong with the input, before any file is touched; or why the
--- files were not opened.
+-- The order of the refusals of `serve`: the tests of its input, before a file is looked at, and then those of an opening for its
+-- scenario, whoever is active.
+abbrev pub serve_tests : Input → Input → Files → Files → Tests NoPlans ⊤
+serve_tests before after files files_after =
+    followed_by (before_files files files_after (read_tests before after))
+    (λ bound. all_refusing (opening_tests bound.0 files files_after))
+
+-- No dialogue was held, and this is to be said: what the first of all tests refuses; or, once a scenario was read and the files
+-- were opened, that memory was wanting.
 abbrev pub IsNotServed : Input → Input → Files → Files → Result Said Refusal → Type 0
 IsNotServed before after files files_after found =
-    (IsSaidOfNone (IsNoServeRead before after) found × AreUntouched files files_after)
+    IsSaidOfNone (IsFirstRefusal (serve_tests before after files files_after)) found
     ⊎ ((c : Catalog) × (plans : List Plan) × (first : ℕ) × (taken : List ℕ) × IsServeRead before after c plans first taken
-    × IsNotServedOn c files files_after found)
+    × ((r : Refusal) × (found ≡ Err r) × IsNotBegun c files files_after r))
 
 -- what holds of a call that told all, by its status; or of one that has this to tell
 abbrev pub OnEnding : (Status → Type 0) → (Result Said Refusal → Type 0) → Ending → Type 0

@@ -2,5 +2,6 @@ pub mod EqualPlans
 pub mod AlikeSessions
 pub mod AnsweredLines
 pub mod SessionDue
+pub mod SessionParts
 pub mod SessionComplete
 pub mod BadLines

@@ -12,7 +12,7 @@ use Rattle.command_refusals.specs.declared.status.Status.TheVariants as statuses
 use Rattle.command_input.specs.declared.said.Said.{Said}
 use Rattle.command_input.specs.declared.scenario.NoPlans.TheVariants.{Refused, IllFormed}
 use Rattle.command_input.specs.FilesLeft.{Files}
-use Rattle.command_input.specs.Inputs.{Input, IsWholeText}
+use Rattle.command_input.specs.Inputs.{Input, HasNoText, IsWholeText}
 use Rattle.command_input.specs.Scenarios.{IsBound, IsNotBound}
 use Rattle.scenario_run.specs.Completeness.{AreSoundAndIdle, NothingFailed}
 use Rattle.scenario_run.specs.Opening.{IsNotOpenedFor}
@@ -21,6 +21,8 @@ use Rattle.session_text.specs.declared.line.Line.{Line}
 use Rattle.session_text.specs.Sessions.{scenario_of}
 use Rattle.session_run.specs.Completeness.{AreAllAnswered, HasSession, IsSessionComplete}
 use Rattle.session_run.specs.Playthrough.{EndsAt}
+use Rattle.session_run.proofs.SessionParts as parts
+use Rattle.session_run.proofs.SessionParts.{IsTextRefused}
 use Rattle.session_run.specs.Session.{HasBadLine, IsNoSessionRead, IsPlayedOn, IsSessionDue, IsSessionRead}
 
 -- how a session may end where no call of the rack failed
@@ -55,14 +57,16 @@ module _ (alloc : Global) (before after : Input) (files files_after : Files) (by
   good_lines r (inr (n, is, bad)) = absurd (let good = has.asked in cc)
 
   -- the scenario is not refused,
-  not_read : (r : Refusal) → IsNoSessionRead before after (Refused r) → r ≡ refusals.NoMemory
+  not_read : (r : Refusal) → HasNoText r before after ⊎ IsTextRefused before after r → r ≡ refusals.NoMemory
   not_read r (inl lack) = no_lack before after files files_after bytes has.told has.within quiet r lack
   not_read r (inr (text, whole, inl why)) = unbound alloc scene c plans has.bound r (subst (λ b. IsNotBound (scenario_of b) (Refused r)) (text_is text whole) why)
   not_read r (inr (text, whole, inr bad)) = good_lines r (subst (λ b. HasBadLine b r) (text_is text whole) bad.1)
 
   -- its processes are well-formed,
   not_ill : (line : _) → IsNoSessionRead before after (IllFormed line) → ⊥
-  not_ill line (text, whole, why) = ill_formed alloc scene c plans has.bound line (subst (λ b. IsNotBound (scenario_of b) (IllFormed line)) (text_is text whole) why)
+  not_ill line none =
+      let ill = parts.ill_formed before after line none in
+      ill_formed alloc scene c plans has.bound line (subst (λ b. IsNotBound (scenario_of b) (IllFormed line)) (text_is ill.0 ill.1) ill.2)
 
   -- the catalog that is read is that of the scenario,
   read_catalog : (d : Catalog) (ps : List Plan) (ls : List Line) → IsSessionRead before after d ps ls → d ≡ c
@@ -73,11 +77,14 @@ module _ (alloc : Global) (before after : Input) (files files_after : Files) (by
   refused d ps ls r same (inl why) = unopened c h before after files files_after rest quiet opened r (subst (λ x. IsNotOpenedFor x r files files_after) same why)
   refused d ps ls r same (inr begun) = begun.0
 
+  by_part : (found : Result Said Refusal) → parts.IsNotRead before after files files_after found ⊎ parts.IsReadAndPlayed before after files files_after found → AreAllAnswered found
+  by_part (Ok s) (inl ill) = absurd (not_ill s.text ill.0.1)
+  by_part (Ok s) (inr (d, ps, ls, read, on)) = ended d ps _ on.now on.played.answered on.played.rest s.status on.played.ends (λ fault. quiet.rack (on.fault fault))
+  by_part (Err r) (inl unread) = not_read r (parts.not_read before after r unread.0)
+  by_part (Err r) (inr (d, ps, ls, read, why)) = refused d ps ls r (read_catalog d ps ls read) why
+
   pub answered : (found : Result Said Refusal) → IsSessionDue before after files files_after found → AreAllAnswered found
-  answered (Ok s) (inl ill) = absurd (not_ill s.text ill.0.1)
-  answered (Ok s) (inr (d, ps, ls, read, on)) = ended d ps _ on.now on.played.answered on.played.rest s.status on.played.ends (λ fault. quiet.rack (on.fault fault))
-  answered (Err r) (inl unread) = not_read r unread.0
-  answered (Err r) (inr (d, ps, ls, read, why)) = refused d ps ls r (read_catalog d ps ls read) why
+  answered found due = by_part found (parts.due_in_parts before after files files_after found due)
 
 -- So it is whatever is due.
 pub due_is_complete : (alloc : Global) (before after : Input) (files files_after : Files) (found : Result Said Refusal) → SoundFilesAreOpened

@@ -1,5 +1,5 @@
 -- The command `session`: event lines, each of which is one call of the machine, over files that are opened for a scenario.
-use Rattle.std.specs.Prelude.{◌≡◌, ◌⊎◌, ℕ, List, [], Result, Ok, Err}
+use Rattle.std.specs.Prelude.{◌≡◌, ◌⊎◌, ℕ, List, [], Result, Ok, Err, ⊤}
 use Rattle.process_flow.specs.Causes.{Rose}
 use Rattle.process_tree.specs.declared.plan.Plan.{Plan}
 use Rattle.schedule_model.specs.declared.history.History.{History}
@@ -12,15 +12,15 @@ use Rattle.engine_calls.specs.Acknowledged.{IsOneAhead}
 use Rattle.engine_calls.specs.Opened.{AreKept, AreOnlyOpened}
 use Rattle.command_refusals.specs.declared.refusal.Refusal.{Refusal}
 use Rattle.command_refusals.specs.declared.refusal.Refusal.TheVariants.{BadLine, NoMemory}
+use Rattle.command_refusals.specs.Order.{Test, Tests, last_test, test_then, IsFirstRefusal, followed_by}
 use Rattle.command_refusals.specs.declared.status.Status.{Status}
 use Rattle.command_refusals.specs.declared.status.Status.TheVariants as statuses
 use Rattle.command_input.specs.declared.said.Said.{Said}
 use Rattle.command_input.specs.declared.scenario.NoPlans.{NoPlans}
-use Rattle.command_input.specs.declared.scenario.NoPlans.TheVariants.{Refused, IllFormed}
-use Rattle.command_input.specs.FilesLeft.{Files, AreUntouched}
-use Rattle.command_input.specs.Inputs.{Input, HasNoText, IsWholeText}
-use Rattle.command_input.specs.Scenarios.{IsBound, IsNotBound}
-use Rattle.scenario_run.specs.Opening.{IsNotOpenedFor}
+use Rattle.command_input.specs.FilesLeft.{Files, before_files}
+use Rattle.command_input.specs.Inputs.{Input, text_test, IsWholeText}
+use Rattle.command_input.specs.Scenarios.{all_refusing, refusing, scenario_tests, IsBound}
+use Rattle.scenario_run.specs.Opening.{idle_opening_tests, IsNotOpenedFor}
 use Rattle.scenario_run.specs.Scenario.{IsSaidOfNone}
 use Rattle.session_text.specs.declared.line.Line.{Line}
 use Rattle.session_text.specs.declared.line.LinesError.{LinesError}
@@ -43,14 +43,23 @@ lines_refusal errors.NoMemory = NoMemory
 abbrev pub HasBadLine : List ℕ → Refusal → Type 0
 HasBadLine bytes r = (r ≡ NoMemory) ⊎ ((n : ℕ) × (r ≡ BadLine n) × (said bytes ≡ Err n))
 
--- Why no such text was read: none came; or else what is refused of its scenario first; or else of its lines.
+-- the test of the lines of a session: each has a form; this is handed on
+abbrev pub lines_test : {V : Type 0} → List ℕ → V → Test Refusal V
+lines_test bytes v = record {
+  hands_on = λ given. (given ≡ v) × ((lines : List Line) × (said bytes ≡ Ok lines));
+  refuses = HasBadLine bytes;
+}
+
+-- The tests of the input, in their order: its text comes, then those of the scenario in front of its mark, whose catalog and plans
+-- are handed on, and then that of its lines.
+abbrev pub read_tests : Input → Input → Tests NoPlans (Catalog × List Plan)
+read_tests before after =
+    test_then (refusing (text_test before after)) (λ bytes.
+    followed_by (scenario_tests (scenario_of bytes)) (λ bound. last_test (refusing (lines_test bytes bound))))
+
+-- why no such text was read: what is refused first of the input
 abbrev pub IsNoSessionRead : Input → Input → NoPlans → Type 0
-IsNoSessionRead before after (Refused r) = HasNoText r before after
-    ⊎ ((bytes : List ℕ) × IsWholeText before after bytes
-    × (IsNotBound (scenario_of bytes) (Refused r) ⊎
-    (((c : Catalog) × (plans : List Plan) × IsBound (scenario_of bytes) c plans) × HasBadLine bytes r)))
-IsNoSessionRead before after (IllFormed line) =
-    (bytes : List ℕ) × IsWholeText before after bytes × IsNotBound (scenario_of bytes) (IllFormed line)
+IsNoSessionRead before after none = IsFirstRefusal (read_tests before after) none
 
 -- what an engine is left in by a session of this status
 abbrev pub phase_by : Status → Phase
@@ -78,14 +87,21 @@ abbrev pub IsPlayedOn : Catalog → List Plan → List Line → Files → Files 
 IsPlayedOn c plans lines files files_after (Ok s) = IsSession c plans lines files files_after s.text.items s.status
 IsPlayedOn c plans lines files files_after (Err r) = IsNotOpenedFor c r files files_after ⊎ IsNotBegun c files files_after r
 
--- No session was read. The verdict line of the first process that isn't well-formed is said; all else is refused.
-abbrev pub IsNotRead : Input → Input → Result Said Refusal → Type 0
-IsNotRead before after found = IsSaidOfNone (IsNoSessionRead before after) found
+-- The order of the refusals of `session`: the tests of its input, before a file is looked at, and then those of an opening for its
+-- scenario.
+abbrev pub session_tests : Input → Input → Files → Files → Tests NoPlans ⊤
+session_tests before after files files_after =
+    followed_by (before_files files files_after (read_tests before after))
+    (λ bound. all_refusing (idle_opening_tests bound.0 files files_after))
 
--- What there is to say, in this order: what is wrong with the input, before any file is touched; or what the files and the lines
--- come to.
+-- what the lines come to on files that were opened: what they print; or memory was wanting
+abbrev pub IsSessionOn : Catalog → List Plan → List Line → Files → Files → Result Said Refusal → Type 0
+IsSessionOn c plans lines files files_after (Ok s) = IsSession c plans lines files files_after s.text.items s.status
+IsSessionOn c plans lines files files_after (Err r) = IsNotBegun c files files_after r
+
+-- What there is to say: what the first of all tests refuses; or else what the lines come to that were read.
 abbrev pub IsSessionDue : Input → Input → Files → Files → Result Said Refusal → Type 0
 IsSessionDue before after files files_after found =
-    (IsNotRead before after found × AreUntouched files files_after)
+    IsSaidOfNone (IsFirstRefusal (session_tests before after files files_after)) found
     ⊎ ((c : Catalog) × (plans : List Plan) × (lines : List Line) × IsSessionRead before after c plans lines
-    × IsPlayedOn c plans lines files files_after found)
+    × IsSessionOn c plans lines files files_after found)

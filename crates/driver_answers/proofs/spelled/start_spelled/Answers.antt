@@ -1,8 +1,8 @@
-use Rattle.std.proofs.Common.{◌≡◌, ◌≢◌, ◌⊎◌, List, [], ◌∷◌, length, Some, subst}
+use Rattle.std.proofs.Common.{◌≡◌, ◌≢◌, ◌⊎◌, List, [], ◌∷◌, length, Some, inl, inr, refl, subst}
 use Rattle.process_tree.specs.declared.plan.Plan.{Plan}
 use Rattle.process_text.specs.Canonical.{line_of}
 use Rattle.commute_table.specs.declared.catalog.Catalog.{Catalog}
-use Rattle.command_input.specs.Scenarios.{AreGoodPlans}
+use Rattle.command_input.specs.Scenarios.{AreGoodPlans, AreNoGoodPlans}
 use Rattle.engine_calls.proofs.Goes.{goes_none}
 use Rattle.machine_model.specs.Replies.{Handed}
 use Rattle.session_play.specs.Answering.{IsAnswered}
@@ -54,3 +54,9 @@ returns-in-Ok-clause-cut g c =
     (λ cut. ((cut ≡ DiskFault) × (new.core ≡ old.core))
     ⊎ ((cut ≡ NoMemory) × ((new.core ≡ old.core) ⊎ ((p : Plan) × AreGoodPlans old.catalog.ops c.args.spelled.now (p ∷ []) × ((ps : List Handed) → new.core ≡ (play_start (session_of old.core ps) p.name (Some p)).state.core))))) c.start_one.ensures.cut
     (λ cut is. spelled_cut old.catalog c.args.number c.args.spelled.now plans good old new cut is)
+
+pub returns-in_ok-no_plans_text-in-Err-clause-answered : goal.returns-in_ok-no_plans_text-in-Err-clause-answered
+returns-in_ok-no_plans_text-in-Err-clause-answered g c ps =
+    let none = c.in-Err.none in
+    let refused : AreNoGoodPlans c.args.engine.now.catalog.ops c.args.spelled.now none = subst (λ (cat : Catalog). AreNoGoodPlans cat.ops c.args.spelled.now none) c.catalog.ensures c.in-Err.ensures.refused in
+    inr (inl (none, refused, c.in_ok-no_plans_text-in-Err.ensures.0, refl, c.in_ok-no_plans_text-in-Err.ensures.1))

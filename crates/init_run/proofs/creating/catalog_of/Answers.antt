@@ -1,4 +1,3 @@
-use Rattle.std.proofs.Common.{◌≡◌}
 use Rattle.init_run.proofs.creating.catalog_of.Goals as goal
 
 pub returns-clause-read : goal.returns-clause-read

@@ -1,4 +1,4 @@
-use Rattle.std.proofs.Common.{◌≡◌, ◌∙◌, length, inl, inr, refl, ap, subst, sym, arith}
+use Rattle.std.proofs.Common.{◌≡◌, ◌∙◌, Vec, Global, length, inl, inr, refl, ap, subst, sym, arith}
 use Rattle.command_input.specs.Inputs.{input}
 use Rattle.command_input.specs.FilesLeft.{files}
 use Rattle.init_run.proofs.FilesMade.{untouched}
@@ -12,7 +12,10 @@ use Rattle.process_top.proofs.running.run_by_first.Given.{Over}
 use Rattle.process_top.proofs.running.run_by_first.Goals as goal
 
 pub returns-in-Err-clause-due : goal.returns-in-Err-clause-due
-returns-in-Err-clause-due g c = inl (inl (inr (inr refl)), untouched (g.R.Rack.disk c.args.parts.rack) (c.racks_are_honest.ensures c.args.parts.rack))
+returns-in-Err-clause-due g c =
+    let same = ap (λ (gs : Vec g.row.G.Denot Global). gs.items) c.in-Err.ensures.err in
+    let unasked = ap (λ items. (first_gates c.args.workers (gates_asked (gates g.G.Gate c.args.gates.items) (gates g.G.Gate items))).after) same in
+    inl (inl (inr (inr refl), untouched (g.R.Rack.disk c.args.parts.rack) (c.racks_are_honest.ensures c.args.parts.rack)), unasked)
 
 -- as many gates come back as went
 as_many : (g : Over) (c : goal.After-destroy_empty g) → length c.run-parts.result.gates.items ≡ c.args.workers

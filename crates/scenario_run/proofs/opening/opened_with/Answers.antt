@@ -3,6 +3,7 @@ use Rattle.commute_table.specs.Operations.{IsCatalog}
 use Rattle.engine_steps.specs.Engines.{full_history}
 use Rattle.command_input.specs.FilesLeft.{files}
 use Rattle.scenario_run.specs.Opening.{AreOpenedOn, IsOther}
+use Rattle.scenario_run.proofs.OpeningParts.{with_of_parts}
 use Rattle.scenario_run.proofs.opening.opened_with.Goals as goal
 
 pub returns-in-Err-clause-due : goal.returns-in-Err-clause-due
@@ -19,13 +20,14 @@ pub returns-in-Err-same_catalog-clause-due : goal.returns-in-Err-same_catalog-cl
 returns-in-Err-same_catalog-clause-due g c =
     let sound = c.in-Ok.ensures.sound in
     let engine = c.in-Ok.engine in
-    inr (
+    with_of_parts c.args.catalog.now c.in-Err-same_catalog.why (files g.R.Rack c.args.parts.rack) (files g.R.Rack c.into_parts.result.rack)
+    (inr (
       engine.catalog,
       full_history engine.core,
       subst (λ rack. AreOpenedOn engine.catalog (full_history engine.core) (files g.R.Rack c.args.parts.rack) (files g.R.Rack rack)) (sym c.into_parts.ensures.rack)
           (record { sound = λ told. (sound told).sound; becomes = λ told. (sound told).becomes; now = λ told. (sound told).now; each = λ told. (sound told).each }),
       subst (λ d. IsOther c.args.catalog.now d c.in-Err-same_catalog.why) c.catalog.ensures c.in-Err-same_catalog.ensures.refused,
-    )
+    ))
 
 pub same_catalog-requires-clause-other : goal.same_catalog-requires-clause-other
 same_catalog-requires-clause-other g c = subst IsCatalog (sym c.catalog.ensures) c.invariant_holds.ensures.under.history.catalog

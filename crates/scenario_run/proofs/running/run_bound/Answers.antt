@@ -1,8 +1,10 @@
-use Rattle.std.proofs.Common.{sym, subst}
+use Rattle.std.proofs.Common.{inl, refl, sym, subst}
 use Rattle.process_tree.specs.Order.{Each}
 use Rattle.schedule_model.specs.Laws.{IsGoodPlan}
 use Rattle.engine_steps.specs.Beginning.{IsPlanFor}
 use Rattle.worker_gate.specs.ManyGates.{asked_gates}
+use Rattle.command_input.specs.FilesLeft.{files}
+use Rattle.scenario_run.proofs.OpeningParts.{idle_then_room}
 use Rattle.scenario_run.proofs.RunDue.{run_of}
 use Rattle.scenario_run.proofs.Stopped.{stops_are_late}
 use Rattle.scenario_run.proofs.running.run_bound.Goals as goal
@@ -17,8 +19,12 @@ returns-in-Ok-clause-due g c =
     let on = c.in-Ok.ensures in
     let ran = c.run_on-engine.ensures in
     run_of g.R.Rack c.racks_are_honest.ensures (asked_gates g.G.Gate c.args.gates.items c.run_on-engine.result.gates.items) c.args.parts.rack c.into_parts.result.rack opening now c.args.bound.plans.items
-    on.opened.0 c.invariant_holds.ensures.run.session.one_each on.rack.tells on.rack.later on.on ran.goes c.invariant_holds-in-Ok.ensures.read c.invariant_holds-in-Ok.ensures.each c.into_parts.ensures.rack
+    on.opened.0 on.idle.1 c.invariant_holds.ensures.run.session.one_each on.rack.tells on.rack.later on.on ran.goes c.invariant_holds-in-Ok.ensures.read c.invariant_holds-in-Ok.ensures.each c.into_parts.ensures.rack
     c.args.bound.catalog c.run_on-engine.result.found on.idle.0 ran.ran ran.refused
+
+pub returns-clause-due : goal.returns-clause-due
+returns-clause-due g c =
+    inl (idle_then_room c.args.bound.catalog c.in-Err.refused.why (files g.R.Rack c.args.parts.rack) (files g.R.Rack c.in-Err.refused.parts.rack) c.args.bound.plans.items c.in-Err.ensures.due, refl)
 
 pub returns-in-Ok-clause-late : goal.returns-in-Ok-clause-late
 returns-in-Ok-clause-late g c =

@@ -1,4 +1,4 @@
-use Rattle.std.proofs.Common.{inl, refl}
+use Rattle.std.proofs.Common.{refl}
 use Rattle.process_disk.specs.Disk.{Same}
 use Rattle.process_disk.proofs.Images.{run_none}
 use Rattle.command_input.specs.FilesLeft.{files}
@@ -9,6 +9,7 @@ use Rattle.serve_run.specs.declared.command.Ending.TheVariants.{Due}
 use Rattle.serve_run.specs.Serve.{IsNoServeRead}
 use Rattle.serve_run.proofs.Read.{due_on}
 use Rattle.serve_run.proofs.ServeComplete.{ended_well}
+use Rattle.serve_run.proofs.ServeParts.{not_served_of_none}
 use Rattle.serve_run.proofs.command.serve.Goals as goal
 
 pub returns-in-Ok-clause-due : goal.returns-in-Ok-clause-due
@@ -30,23 +31,18 @@ returns-in-Ok-clause-complete g c = λ bytes cat plans h has known sound quiet q
 
 pub returns-in-Err-clause-due : goal.returns-in-Err-clause-due
 returns-in-Err-clause-due g c =
-    let rack = g.R.Rack.disk c.args.parts.rack in (
-      inl (
-        said_of (IsNoServeRead (input g.S.Source c.args.source.now) (input g.S.Source c.scene_of.new.source)) c.in-Err.none c.said_of_none.result c.said_of_none.ensures c.in-Err.ensures.refused,
-        λ told. run_none Same rack (λ fs. refl) (g.met.R.Rack.honest c.args.parts.rack told),
+    let before = input g.S.Source c.args.source.now in
+    let after = input g.S.Source c.scene_of.new.source in
+    let rack = files g.R.Rack c.args.parts.rack in (
+      not_served_of_none before after rack rack c.said_of_none.result (
+        said_of (IsNoServeRead before after) c.in-Err.none c.said_of_none.result c.said_of_none.ensures c.in-Err.ensures.refused,
+        λ told. run_none Same (g.R.Rack.disk c.args.parts.rack) (λ fs. refl) (g.met.R.Rack.honest c.args.parts.rack told),
       ),
       refl,
     )
 
 pub returns-in-Err-clause-complete : goal.returns-in-Err-clause-complete
 returns-in-Err-clause-complete g c = λ bytes cat plans h has known sound quiet quiet_out.
-    let rack = g.R.Rack.disk c.args.parts.rack in
     ended_well c.args.alloc (input g.S.Source c.args.source.now) (input g.S.Source c.scene_of.new.source) (files g.R.Rack c.args.parts.rack) (files g.R.Rack c.args.parts.rack)
-    (output g.K.Sink c.args.sink.now) (output g.K.Sink c.args.sink.now) bytes cat plans h has known sound quiet quiet_out c.sound_files_are_opened.ensures (Due c.said_of_none.result) (
-      inl (
-        said_of (IsNoServeRead (input g.S.Source c.args.source.now) (input g.S.Source c.scene_of.new.source)) c.in-Err.none c.said_of_none.result c.said_of_none.ensures c.in-Err.ensures.refused,
-        λ told. run_none Same rack (λ fs. refl) (g.met.R.Rack.honest c.args.parts.rack told),
-      ),
-      refl,
-    )
-    tt
+    (output g.K.Sink c.args.sink.now) (output g.K.Sink c.args.sink.now) bytes cat plans h has known sound quiet quiet_out c.sound_files_are_opened.ensures (Due c.said_of_none.result)
+    (returns-in-Err-clause-due g c) tt
