@@ -4,4 +4,5 @@ pub mod Faults
 pub mod Refusals
 pub mod Verdicts
 pub mod Order
+pub mod OrderExamples
 pub mod Examples
