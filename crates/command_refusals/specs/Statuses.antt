@@ -1,7 +1,8 @@
 -- The statuses and their numbers.
 use Rattle.std.specs.Prelude.{◌≡◌, ◌⊎◌, ℕ, List, [], ◌∷◌}
 use Rattle.command_refusals.specs.declared.status.Status.{Status}
-use Rattle.command_refusals.specs.declared.status.Status.TheVariants.{Done, BadWords, BadInput, IllFormed, Limit, Unfinished, BadFile}
+use Rattle.command_refusals.specs.declared.status.Status.TheVariants.{Done, BadWords, BadInput, IllFormed, Limit, Unfinished}
+use Rattle.command_refusals.specs.declared.status.Status.TheVariants.{BadFile}
 use Rattle.command_refusals.specs.declared.status.Status.TheVariants.{BookDiffers, ReadFault, WriteFault, DiskFault, Exhausted}
 use Rattle.command_refusals.specs.declared.status.Status.TheVariants.{NotReduced, NoMemory}
 

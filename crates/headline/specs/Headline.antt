@@ -60,7 +60,8 @@ use Rattle.process_engine.specs.declared.gates.Gate.{Ghosts as Gates}
 use Rattle.resource_box.specs.declared.resource.Resource.{Ghosts as Resources}
 use Rattle.process_report.specs.Report.{report_of, report_text}
 use Rattle.command_refusals.specs.declared.status.Status.{Status}
-use Rattle.command_refusals.specs.declared.status.Status.TheVariants.{Done, BadWords, BadInput, IllFormed, Limit, Unfinished, BadFile}
+use Rattle.command_refusals.specs.declared.status.Status.TheVariants.{Done, BadWords, BadInput, IllFormed, Limit, Unfinished}
+use Rattle.command_refusals.specs.declared.status.Status.TheVariants.{BadFile}
 use Rattle.command_refusals.specs.declared.status.Status.TheVariants.{BookDiffers, ReadFault, WriteFault, DiskFault, Exhausted}
 use Rattle.command_refusals.specs.declared.status.Status.TheVariants.{NoMemory}
 use Rattle.command_refusals.specs.Statuses.{IsOneOf, number_of}

@@ -26,4 +26,5 @@ TellReserved t bits = (op i a : ℕ) → op < 256 → slot t i ≡ Some a → ce
 
 -- the same by the places of these processes; where there is none, nothing is reserved
 abbrev pub AreReserved : List OpenProcess → List (List Bool) → Type 0
-AreReserved rows bits = (op p : ℕ) → op < 256 → p < 256 → cell bits op p ≡ is_in op (reserved_ops (slice_index_or rows p (holds_nothing 0 0)))
+AreReserved rows bits = (op p : ℕ) → op < 256 → p < 256
+    → cell bits op p ≡ is_in op (reserved_ops (slice_index_or rows p (holds_nothing 0 0)))

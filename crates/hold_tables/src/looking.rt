@@ -1,5 +1,6 @@
 // What is looked up in the rows and in the net.
-ghost use Rattle.std.specs.Prelude.{◌≡◌, ◌<◌, ◌≤◌, ◌+◌, length, true, false, IfSome, None, Some, map, nat_le, if◌then◌else◌, vec_len};
+ghost use Rattle.std.specs.Prelude.{◌≡◌, ◌<◌, ◌≤◌, ◌+◌, length, true, false, IfSome, None, Some, map, nat_le};
+ghost use Rattle.std.specs.Prelude.{if◌then◌else◌, vec_len};
 ghost use Rattle.std.specs.Prelude.{vec_capacity};
 ghost use Rattle.process_tree.specs.Order.{Each};
 ghost use Rattle.schedule_model.specs.Histories.{of_process};

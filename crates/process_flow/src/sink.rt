@@ -44,7 +44,13 @@ impl Model for MemorySink {
 
     ghost Value = { MemoryOutput };
 
-    ghost view = { λ s. record { taken = s.bytes.items; fails = s.fails.items; calls = s.calls; faults = s.faults; starved = s.starved } };
+    ghost view = { λ s. record {
+      taken = s.bytes.items;
+      fails = s.fails.items;
+      calls = s.calls;
+      faults = s.faults;
+      starved = s.starved;
+    } };
 }
 
 impl MemorySink {

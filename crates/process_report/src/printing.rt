@@ -130,7 +130,8 @@ fn put_reduction_sections(
     out: &mut Vec<u8>,
 ) -> Result<(), AllocError>
     ensures { OnOk result (out.new.items ≡ out.old.items
-        ++ (section (codes "trace") (trace_lines (trace_in reduction.now)) ++ section (codes "serial") (serial_lines c.now h.now (trace_in reduction.now)))) }
+        ++ (section (codes "trace") (trace_lines (trace_in reduction.now))
+        ++ section (codes "serial") (serial_lines c.now h.now (trace_in reduction.now)))) }
 {
     put_line(out, &[b"trace"])?;
     put_steps(alloc, reduction.steps.as_slice(), out)?;
@@ -155,7 +156,8 @@ fn put_event_sections(
 ) -> Result<(), AllocError>
     requires catalog { IsCatalog c.now }
     ensures { OnOk result (out.new.items ≡ out.old.items
-        ++ (section (first_title (form_of c.now)) (conflicts_lines c.now) ++ section (codes "history") (history_lines c.now h.now) ++ section (codes "completion") (completion_lines c.now h.now reduction.now.completion))) }
+        ++ (section (first_title (form_of c.now)) (conflicts_lines c.now) ++ section (codes "history") (history_lines c.now h.now)
+        ++ section (codes "completion") (completion_lines c.now h.now reduction.now.completion))) }
 {
     put_conflicts_section(c, out)?;
     put_history_section(alloc, c, h, out)?;

@@ -187,7 +187,8 @@ fn unread<S: Source, K: Sink, R: Rack + Drop, B: Resource, G: Gate>(
     requires boxes { AreBoxes B.sort resources.items }
     ensures { (command : Option Command) → (why ≡ WordsError.BadWords → command ≡ None) → AnswersTo command
         (world S.Source K.Sink R.Rack B.Resource G.Gate source.old sink.old rack resources.items gates.items)
-        (world S.Source K.Sink R.Rack B.Resource G.Gate source.new sink.new result.rack result.resources.items result.gates.items) result.status }
+        (world S.Source K.Sink R.Rack B.Resource G.Gate source.new sink.new result.rack result.resources.items result.gates.items)
+        result.status }
 {
     let _ = source;
     let served = Served {
@@ -212,7 +213,8 @@ fn answer_to<S: Source, K: Sink, R: Rack + Drop, B: Resource, G: Gate>(
     requires gates { length gates.items ≡ 16 }
     ensures { AnswersTo (at_once (Some command))
         (world S.Source K.Sink R.Rack B.Resource G.Gate source.old sink.old rack resources.items gates.items)
-        (world S.Source K.Sink R.Rack B.Resource G.Gate source.new sink.new result.rack result.resources.items result.gates.items) result.status }
+        (world S.Source K.Sink R.Rack B.Resource G.Gate source.new sink.new result.rack result.resources.items result.gates.items)
+        result.status }
 {
     let mut gates = gates;
     let parts = Parts { rack, resources };
@@ -236,7 +238,8 @@ pub fn answer<S: Source, K: Sink, R: Rack + Drop, B: Resource, G: Gate>(
     // On these words, from this world to that one, at this status, this was answered.
     ensures { AnswersAtOnce (map string_bytes words.now)
         (world S.Source K.Sink R.Rack B.Resource G.Gate source.old sink.old rack resources.items gates.items)
-        (world S.Source K.Sink R.Rack B.Resource G.Gate source.new sink.new result.rack result.resources.items result.gates.items) result.status }
+        (world S.Source K.Sink R.Rack B.Resource G.Gate source.new sink.new result.rack result.resources.items result.gates.items)
+        result.status }
 {
     match read_words(alloc, words) {
         Ok(command) => answer_to(alloc, command, source, sink, rack, resources, gates),
@@ -277,7 +280,8 @@ fn answer_run<
     requires gates { length gates.items ≡ 16 }
     ensures { AnswersTo (Some (Run workers))
         (world S.Source K.Sink R.Rack B.Resource G.Gate source.old sink.old rack resources.items gates.items)
-        (world S.Source K.Sink R.Rack B.Resource G.Gate source.new sink.new result.rack result.resources.items result.gates.items) result.status }
+        (world S.Source K.Sink R.Rack B.Resource G.Gate source.new sink.new result.rack result.resources.items result.gates.items)
+        result.status }
 {
     let parts = Parts { rack, resources };
     let RunEnd {
@@ -315,7 +319,8 @@ pub fn top<
     // On these words, from this world to that one, at this status, this was answered.
     ensures { Answers (map string_bytes words.now)
         (world S.Source K.Sink R.Rack B.Resource G.Gate source.old sink.old rack resources.items gates.items)
-        (world S.Source K.Sink R.Rack B.Resource G.Gate source.new sink.new result.rack result.resources.items result.gates.items) result.status }
+        (world S.Source K.Sink R.Rack B.Resource G.Gate source.new sink.new result.rack result.resources.items result.gates.items)
+        result.status }
 {
     let command = match read_words(alloc, words) {
         Ok(command) => command,

@@ -37,14 +37,16 @@ pub trait Resource: Drop {
         requires ready { IsTrue (has_key (meaning self.old).items call.now.key) }
         ensures before { result ≡ value_at (meaning self.old).items call.now.key }
         ensures changed { (meaning self.new).items ≡
-            with_value (meaning self.old).items call.now.key (applied (sort self.old) call.now (value_at (meaning self.old).items call.now.key)) }
+            with_value (meaning self.old).items call.now.key
+            (applied (sort self.old) call.now (value_at (meaning self.old).items call.now.key)) }
         ensures kind { sort self.new ≡ sort self.old };
 
     /// Undoes a call, given the value before it.
     fn revert(&mut self, call: &Call, before: i64)
         requires ready { IsTrue (has_key (meaning self.old).items call.now.key) }
         ensures changed { (meaning self.new).items ≡
-            with_value (meaning self.old).items call.now.key (reverted (sort self.old) call.now (value_at (meaning self.old).items call.now.key) before) }
+            with_value (meaning self.old).items call.now.key
+            (reverted (sort self.old) call.now (value_at (meaning self.old).items call.now.key) before) }
         ensures kind { sort self.new ≡ sort self.old };
 
     /// Takes all pairs out.
