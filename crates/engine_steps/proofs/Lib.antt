@@ -14,3 +14,6 @@ pub mod PreparedPieces
 pub mod StoresThere
 pub mod EndedPieces
 pub mod ExactFiles
+pub mod GroupSteps
+pub mod KeptEffects
+pub mod MadeRoom

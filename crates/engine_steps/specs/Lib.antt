@@ -1,5 +1,7 @@
 pub mod Beginning
 pub mod Engines
+pub mod Groups
 pub mod Opening
 pub mod Pieces
 pub mod UnderWay
+pub mod Rooms

@@ -10,10 +10,12 @@ mod asking;
 mod beginning;
 mod ending;
 mod engines;
+mod group;
 mod handing_back;
 mod making;
 mod opening;
 mod pieces;
+mod rooms;
 
 pub use beginning::{EngineStart, EngineStartWhy};
 pub use engines::{Closed, Engine, Phase};

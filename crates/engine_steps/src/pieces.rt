@@ -78,7 +78,7 @@ pub enum PreparePiece {
 }
 
 /// How many acts there are among these events.
-fn acts_count(events: &[Event]) -> u32
+pub(crate) fn acts_count(events: &[Event]) -> u32
     requires { length events.now < 2 ^ 32 }
     ensures { result ≡ length (acts events.now) }
 {
@@ -109,7 +109,7 @@ fn is_undo(work: Work) -> bool
 }
 
 /// The act that a piece makes once it takes effect.
-fn act_of(plans: &[Plan], piece: &Piece) -> Entry
+pub(crate) fn act_of(plans: &[Plan], piece: &Piece) -> Entry
     ensures { result ≡ act_of plans.now piece.now.piece }
 {
     Entry {
@@ -134,7 +134,7 @@ fn phase_after(answer: &Prepare) -> Phase
 
 impl<R: Rack + Drop, B: Resource> Engine<R, B> {
     /// The effect that an act has behind the history.
-    fn next_effect(&self, entry: &Entry) -> Effect
+    pub(crate) fn next_effect(&self, entry: &Entry) -> Effect
         ensures { result ≡ next_effect self.now.catalog.ops (full_history self.now.core) entry.now }
     {
         self.core.is_run();

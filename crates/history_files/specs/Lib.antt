@@ -7,3 +7,4 @@ pub mod Images
 pub mod Laws
 pub mod Sound
 pub mod Standing
+pub mod Rooms

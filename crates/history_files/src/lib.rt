@@ -20,6 +20,7 @@ mod handing_back;
 mod laws;
 mod making;
 mod parts;
+mod rooms;
 mod steps;
 
 pub use boxes::{clear_all, put_back};

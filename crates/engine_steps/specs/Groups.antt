@@ -1,0 +1,102 @@
+-- Several events that take effect together: prepared in their stores, recorded by one write of the journal, and committed.
+use Rattle.std.specs.Prelude.{◌≡◌, ◌≢◌, ◌≤◌, ℕ, ◌+◌, ⊤, List, [], ◌∷◌, ◌++◌, length, map, Option, Result, OnErr}
+use Rattle.process_tree.specs.Order.{Each}
+use Rattle.process_disk.specs.Disk.{Disk, Told}
+use Rattle.gate_log.specs.Standing.{LogState}
+use Rattle.gate_log.specs.declared.errors.DiskFault.{DiskFault as DiskFailed}
+use Rattle.schedule_model.specs.declared.event.Event.{Event}
+use Rattle.schedule_model.specs.declared.event.Event.TheVariants.{Start, Act, End}
+use Rattle.schedule_model.specs.declared.history.History.{History}
+use Rattle.commute_table.specs.declared.op.Op.{Op}
+use Rattle.journal_records.specs.Bytes.{bytes_of}
+use Rattle.journal_records.specs.declared.record.Record.{Record}
+use Rattle.journal_records.specs.declared.record.Record.TheVariants as records
+use Rattle.subsystem_store.specs.declared.effect.Effect.{Effect}
+use Rattle.subsystem_store.specs.Opened.{Opened}
+use Rattle.store_group.specs.Events.{BecomeEach, IsPrepared, effect_for}
+use Rattle.process_journal.specs.Bodies.{with_event}
+use Rattle.process_journal.specs.Journals.{AreMadeBy}
+use Rattle.history_files.specs.Groups.{AddsGroup}
+use Rattle.history_files.specs.Laws.{AreSettled}
+use Rattle.history_files.specs.Standing.{AreGoodBooks, Stand}
+use Rattle.engine_steps.specs.Engines.{AreAtRest, EngineState, full_history}
+use Rattle.engine_steps.specs.declared.engines.Phase.TheVariants as phase
+
+-- the history with these events, one after another
+abbrev pub with_events : History → List Event → History
+with_events h [] = h
+with_events h (e ∷ es) = with_events (with_event h e) es
+
+-- the record of an event; no group has a start, which the text of a plan would belong to
+abbrev pub record_for : Event → Record
+record_for (Start i) = records.Start i []
+record_for (Act e) = records.Act e
+record_for (End i) = records.End i
+
+-- an act or an end
+abbrev pub IsNoStart : Event → Type 0
+IsNoStart (Start i) = ⊥
+IsNoStart (Act e) = ⊤
+IsNoStart (End i) = ⊤
+
+-- The effects of a group are in doubt, each in the store of its subsystem, behind books that are the effects of the history.
+pub record AreInDoubt {B : Type 0} (ops : List Op) (h : History) (group : List (Option Effect)) (stores : List (Opened B)) : Type 0
+  where
+    pub settled : List (Opened B)
+    pub before : AreSettled ops h settled
+    pub became : BecomeEach (λ q s t. IsPrepared (effect_for group q) s t) settled stores
+
+-- A group is prepared: its effects are in doubt, and the files stand for the history, which lacks its events.
+pub record IsGroupPrepared {R B : Type 0} (e : EngineState R B) (disk : Disk) (group : List (Option Effect)) : Type 0 where
+  pub phase : e.phase ≡ phase.UnderWay
+  pub count : e.files.journal.count ≡ length (full_history e.core).events + 1
+  pub doubt : AreInDoubt e.catalog.ops (full_history e.core) group e.files.stores
+  pub good : AreGoodBooks e.files.stores
+  pub stand : Told disk → Stand e.catalog (full_history e.core) e.files.journal e.files.stores disk
+
+-- A group is recorded: its effects are in doubt, and the files stand for the history with its events, which adds them.
+pub record IsGroupRecorded {R B : Type 0} (e : EngineState R B) (disk : Disk) (group : List (Option Effect)) (h : History) : Type 0
+  where
+    pub phase : e.phase ≡ phase.UnderWay
+    pub count : e.files.journal.count ≡ length h.events + 1
+    pub adds : AddsGroup e.catalog.ops (full_history e.core) h group
+    pub doubt : AreInDoubt e.catalog.ops (full_history e.core) group e.files.stores
+    pub good : AreGoodBooks e.files.stores
+    pub stand : Told disk → Stand e.catalog h e.files.journal e.files.stores disk
+
+-- A group is committed: the files are at rest for the history with its events, which the core hasn't yet.
+pub record IsGroupCommitted {R B : Type 0} (e : EngineState R B) (disk : Disk) (h : History) : Type 0 where
+  pub phase : e.phase ≡ phase.UnderWay
+  pub rest : AreAtRest e.catalog h e.files disk
+
+-- A step of a group leaves the core, and where a call of the rack failed, the engine is closed.
+pub record LeavesCore {R B : Type 0} (old new : EngineState R B) (result : Result Unit DiskFailed) : Type 0 where
+  pub core : new.core ≡ old.core
+  pub catalog : new.catalog ≡ old.catalog
+  pub closed : OnErr result (new.phase ≡ phase.Closed)
+
+-- the log in which these bodies are staged behind those that are
+abbrev pub staging_all : LogState → List (List ℕ) → LogState
+staging_all log bodies =
+    record { file = log.file; count = log.count; end = log.end; last = log.last; staged = log.staged ++ bodies }
+
+-- the bodies of the records of these events
+abbrev pub bodies_of : List Event → List (List ℕ)
+bodies_of events = map (λ e. bytes_of (record_for e)) events
+
+-- A prepared group may be recorded by its events: the journal may have the history with each, and they add its effects.
+pub record MayBeRecorded {R B : Type 0} (e : EngineState R B) (disk : Disk) (events : List Event) (group : List (Option Effect))
+    : Type 0 where
+  pub prepared : IsGroupPrepared e disk group
+  pub made : AreMadeBy e.catalog (map record_for events) (full_history e.core) (with_events (full_history e.core) events)
+  pub adds : AddsGroup e.catalog.ops (full_history e.core) (with_events (full_history e.core) events) group
+
+-- the events of a group: one at least, 16 at most, and no start
+pub record AreGroupEvents (events : List Event) : Type 0 where
+  pub acts_or_ends : Each IsNoStart events
+  pub some : events ≢ []
+  pub few : length events ≤ 16
+
+-- the engine with nothing under way
+abbrev pub settled_as : {R B : Type 0} → EngineState R B → EngineState R B
+settled_as e = record { core = e.core; catalog = e.catalog; files = e.files; phase = phase.Settled }

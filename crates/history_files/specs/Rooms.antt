@@ -1,0 +1,15 @@
+-- Room for an effect in its store.
+use Rattle.std.specs.Prelude.{◌≡◌, ℕ, List, Some}
+use Rattle.std.specs.List.{slice_get}
+use Rattle.subsystem_store.specs.Opened.{Opened}
+
+-- The log, the kind, the book and what is in doubt stay.
+pub record MakesRoom {B : Type 0} (before after : Opened B) : Type 0 where
+  pub log : after.log ≡ before.log
+  pub kind : after.kind ≡ before.kind
+  pub book : after.book ≡ before.book
+  pub doubt : after.doubt ≡ before.doubt
+
+-- the store of a subsystem has room for an effect at this key
+abbrev pub HasRoomAt : {B : Type 0} → ℕ → ℕ → List (Opened B) → Type 0
+HasRoomAt {B} q key stores = (s : Opened B) → slice_get stores q ≡ Some s → s.ready ≡ Some key
