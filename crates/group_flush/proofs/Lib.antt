@@ -1,0 +1,13 @@
+pub mod GroupEffects
+pub mod GroupCores
+pub mod GroupHistories
+pub mod Running
+pub mod GroupMeets
+pub mod Places
+pub mod KeptEnds
+pub mod GroupPut
+pub mod GroupKept
+pub mod MoreQueued
+pub mod QueueReplies
+pub mod StillQueued
+pub mod QueuedThen

@@ -1,0 +1,6 @@
+pub mod Ends
+pub mod Events
+pub mod Flushing
+pub mod Pieces
+pub mod Queueing
+pub mod Queues
