@@ -29,8 +29,8 @@ fn is_held_at(holds: &Holds, own: Entry, place: usize) -> bool
     }
 }
 
-/// Whether what a process does next is a step that the process at a place, counted from 0 in the order in which they were opened, has
-/// something against beside its net. Then it is blocked, and `admit` needn't look for the least block.
+/// Whether what a process does next is a step that the process at a place, counted from 0 in the order in which they were opened,
+/// has something against beside its net. Then it is blocked, and `admit` needn't look for the least block.
 pub fn is_held_up(holds: &Holds, plan: &Plan, process: u32, todo: Todo, place: usize) -> bool
     requires plan { IsPlanFor holds.now plan.now }
     requires todo { IsWithin plan.now todo }

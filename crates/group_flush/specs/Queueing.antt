@@ -24,7 +24,8 @@ use Rattle.process_engine.specs.declared.gates.Answer.TheVariants.{Done, Refused
 use Rattle.group_flush.specs.Pieces.{numbers_of}
 use Rattle.group_flush.specs.Queues.{AreQueued, pieces_of}
 use Rattle.group_flush.specs.declared.replies.Queue.{Queue}
-use Rattle.group_flush.specs.declared.replies.Queue.TheVariants.{Queued, Full, Retry, Failed, Over, Dropped, Exhausted, NoMemory, Closed}
+use Rattle.group_flush.specs.declared.replies.Queue.TheVariants.{Queued, Full, Retry, Failed, Over, Dropped, Exhausted}
+use Rattle.group_flush.specs.declared.replies.Queue.TheVariants.{NoMemory, Closed}
 
 -- how an answer is taken, where the values bar the piece or not
 abbrev pub taken_by : Answer → Bool → Taken
@@ -67,13 +68,15 @@ Leaves old new group left p (NoMemory q) = MakesRoomFor old new p.piece × (left
 Leaves old new group left p (Closed n) = ⊥
 
 -- What the queueing of a piece does to an engine that is open and at rest.
-pub record Queues {R B : Type 0} (old new : EngineState R B) (group rest : List Handed) (p : Handed) (answer : Answer) (result : Queue) : Type 0 where
+pub record Queues {R B : Type 0} (old new : EngineState R B) (group rest : List Handed) (p : Handed) (answer : Answer)
+    (result : Queue) : Type 0 where
   pub reply : RepliesAs result (reply_to old group p answer)
   pub left : Leaves old new group rest p result
 
 -- what the refusal of a piece that is out leads to
 abbrev pub refusal_of : {R B : Type 0} → EngineState R B → Piece → Refusal
-refusal_of e p = refusal_reply (courses_in e.core) (advance (relation e.core) (courses_in e.core) (moment_of e.core) (Refuse p.number)) p
+refusal_of e p =
+    refusal_reply (courses_in e.core) (advance (relation e.core) (courses_in e.core) (moment_of e.core) (Refuse p.number)) p
 
 -- the answer is a refusal
 abbrev pub IsRefusal : Queue → Type 0

@@ -54,7 +54,8 @@ fn share_store<R: Rack + Drop, B: Resource>(
     one: &Piece,
     other: &Piece,
 ) -> bool
-    ensures { result ≡ share_store (subsystem_of engine.now.catalog.ops) (courses_in engine.now.core) one.now.piece other.now.piece }
+    ensures { result ≡ share_store (subsystem_of engine.now.catalog.ops) (courses_in engine.now.core) one.now.piece
+        other.now.piece }
 {
     !is_end(one) && !is_end(other) && engine.subsystem(one) == engine.subsystem(other)
 }

@@ -41,8 +41,8 @@ impl<S: Held> Desk<S> {
         requires table { place.old.table_id ≡ self.now.table.shared.table_id }
         requires waits { IsWaiting place.old.me × (ticket ≡ place.old.me.0.ticket) }
         ensures table { place.new.table_id ≡ place.old.table_id }
-        ensures took { Took S.stands_for place.old.me.0.opening place.old.me.0.seen place.old.me.0.places place.old.me.0.share ticket
-            place.new.me }
+        ensures took { Took S.stands_for place.old.me.0.opening place.old.me.0.seen place.old.me.0.places place.old.me.0.share
+            ticket place.new.me }
     {
         for _ in rt.forever() {
             let found = self.table.shared.load::<Look<S>>(place, 0);
