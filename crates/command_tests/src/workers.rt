@@ -11,7 +11,8 @@ use thread_workers::MeetingGate;
 // Each of two processes has one step, and does it while the other does its own: else a gate would have refused a pivot.
 const PROCESSES: &[u8] = b"process a p x pay 1 5 end\nprocess b p u ship 1 1 end\n";
 
-const BOTH_ENDED: &[u8] = b"ends\n1 a path x\n2 b path u\ncauses\ntrace\nserial\n";
+// What the report has in whichever order the two ended their pieces; a trace may move one before the other.
+const BOTH_ENDED: &[u8] = b"ends\n1 a path x\n2 b path u\ncauses\ntrace\n";
 
 // How often a gate looks for the other.
 const LOOKS: u32 = 100_000_000;
