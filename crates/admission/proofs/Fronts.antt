@@ -44,14 +44,14 @@ itself x = both (nat_eq x.process x.process) (nat_eq x.step x.step) (eq-eqb x.pr
 
 module _ (table : ConflictRelation) (i : ℕ) where
   -- one place further to the front, an entry more is looked at
-  pub fronts_back : (net : List Entry) (place : ℕ) (at found next : Option Blocked) → 0 < place → place ≤ length net
-      → ((d : Entry) → at ≡ least_front table i (take (place - 1) net) (slice_index_or net (place - 1) d)) → next ≡ lesser_of at found
+  pub fronts_back : (net : List Entry) (place : ℕ) (found next : Option Blocked) → 0 < place → place ≤ length net
+      → ((d : Entry) → next ≡ lesser_of (least_front table i (take (place - 1) net) (slice_index_or net (place - 1) d)) found)
       → found ≡ least_fronts table i (take place net) (drop place net) → next ≡ least_fronts table i (take (place - 1) net) (drop (place - 1) net)
-  fronts_back net place at found next some most is more rest =
+  fronts_back net place found next some most is rest =
       let y = slice_index_or net (place - 1) no_entry in
       let before = take (place - 1) net in
       let any : (d : Entry) → y ≡ slice_index_or net (place - 1) d = λ d. same_at net (place - 1) no_entry d (omega arith) in
-      more ∙ ap (λ o. lesser_of o found) (is no_entry)
+      is no_entry
       ∙ ap (lesser_of (least_front table i before y)) (rest ∙ ap (λ fs. least_fronts table i fs (drop place net)) (front_back net place y some most any))
       ∙ sym (ap (least_fronts table i before) (rest_back net place y some most any))
 

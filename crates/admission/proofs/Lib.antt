@@ -11,5 +11,6 @@ pub mod StepPlaces
 pub mod LastWays
 pub mod Assembled
 pub mod HeldUp
+pub mod Barred
 pub mod Classes
 pub mod WalksBack

@@ -1,5 +1,5 @@
 -- The least of what several give.
-use Rattle.std.proofs.Common.{◌≡◌, Bool, true, false, List, [], ◌∷◌, ◌++◌, map, flat_map, Option, None, sym, refl, ap, ◌∙◌}
+use Rattle.std.proofs.Common.{◌≡◌, Bool, true, false, List, [], ◌∷◌, ◌++◌, map, flat_map, Option, Some, None, sym, refl, ap, ◌∙◌}
 use Rattle.process_tree.specs.Order.{Each}
 use Rattle.process_tree.specs.declared.entry.Entry.{Entry}
 use Rattle.schedule_model.specs.Conflict.{ConflictRelation, conflict}
@@ -7,7 +7,7 @@ use Rattle.schedule_model.specs.Blocking.{Clash}
 use Rattle.machine_model.specs.declared.blocked.Blocked.{Blocked}
 use Rattle.machine_model.specs.declared.blocked.Rule.{Rule}
 use Rattle.machine_model.specs.Blocks.{by_rule, least_block}
-use Rattle.admission.specs.Least.{least_on, least_over, least_with, lesser_of}
+use Rattle.admission.specs.Least.{block_on, least_on, least_over, least_with, lesser_of}
 use Rattle.admission.proofs.Order.{least-append, middle, thrice}
 
 pub over-append : {A : Type 0} (f : A → Option Blocked) (xs ys : List A) → least_over f (xs ++ ys) ≡ lesser_of (least_over f xs) (least_over f ys)
@@ -60,6 +60,14 @@ module _ (table : ConflictRelation) (r : Rule) (own : Entry) where
     where
       by : (t : Bool) → conflict table own e ≡ t → least_on table r own (e ∷ es) ≡ least_with table r own e (least_on table r own es)
       by true is = rw is refl
+      by false is = rw is refl
+
+  -- what was found before, before or after
+  pub with_first : (e : Entry) (o found : Option Blocked) → least_with table r own e (lesser_of o found) ≡ lesser_of (least_with table r own e o) found
+  with_first e o found = by (conflict table own e) refl
+    where
+      by : (t : Bool) → conflict table own e ≡ t → least_with table r own e (lesser_of o found) ≡ lesser_of (least_with table r own e o) found
+      by true is = rw is (sym (thrice (Some (block_on r own e)) o found))
       by false is = rw is refl
 
   with_none_found : (e : Entry) (o : Option Blocked) → least_with table r own e o ≡ lesser_of (least_with table r own e None) o

@@ -45,8 +45,8 @@ fn least_committing(holds: &Holds, plan: &Plan, process: u32, step: u16) -> Opti
 {
     let own = entry_of(plan, process, step);
     let front = least_in_front(holds, process);
-    let active = lesser_of(least_in_net(holds, Rule::A3, own), front);
-    lesser_of(active, least_owed(holds, plan, process, step))
+    let active = least_in_net(holds, Rule::A3, own, front);
+    least_owed(holds, plan, process, step, active)
 }
 
 /// The least block of a step.
@@ -78,7 +78,7 @@ fn least_of_undo(holds: &Holds, process: u32, step: u16) -> Option<Blocked>
         None => None,
         Some(place) => {
             let own = holds.net_at(place);
-            least_between(holds, Rule::A5, own, place + 1, end)
+            least_between(holds, Rule::A5, own, place + 1, end, None)
         }
     }
 }

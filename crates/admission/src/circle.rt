@@ -38,6 +38,9 @@ pub fn least_in_circle(holds: &Holds, own: Entry) -> Option<Blocked>
     if holds.is_clear_of_net(own.op) {
         return None;
     }
+    if holds.leads_nowhere(own.process) {
+        return None;
+    }
     let mut least = None;
     'places: while 0 < place {
         place -= 1;

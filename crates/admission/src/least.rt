@@ -1,5 +1,5 @@
 // The order of blocks.
-ghost use Rattle.std.specs.Prelude.{◌≡◌, nat_lt};
+ghost use Rattle.std.specs.Prelude.{◌≡◌, Some, false, nat_lt, true};
 ghost use Rattle.process_tree.specs.Conflicts.{do_conflict};
 ghost use Rattle.hold_tables.specs.Kept.{IsKnown};
 ghost use Rattle.machine_model.specs.Blocks.{is_less, lesser, less_then, rule_number};
@@ -46,6 +46,17 @@ fn lesser(a: Blocked, other: Option<Blocked>) -> Option<Blocked>
     }
 }
 
+/// Whether a block comes behind another, if there is one.
+fn is_past(a: Blocked, other: Option<Blocked>) -> bool
+    ensures past { result ≡ true → lesser a other ≡ other }
+    ensures first { result ≡ false → lesser a other ≡ Some a }
+{
+    match other {
+        Some(b) => is_less(b, a),
+        None => false,
+    }
+}
+
 /// The lesser of two blocks, where they are there.
 pub fn lesser_of(a: Option<Blocked>, other: Option<Blocked>) -> Option<Blocked>
     ensures { result ≡ lesser_of a other }
@@ -56,7 +67,8 @@ pub fn lesser_of(a: Option<Blocked>, other: Option<Blocked>) -> Option<Blocked>
     }
 }
 
-/// The least of a block of one's own entry on another, where they conflict, and of what was found.
+/// The least of a block of one's own entry on another, where they conflict, and of what was found. Whether they conflict is asked
+/// only of one that would be less.
 pub fn least_with(
     c: &Conflicts,
     rule: Rule,
@@ -68,14 +80,18 @@ pub fn least_with(
     requires other { IsKnown c.now other }
     ensures { result ≡ least_with (do_conflict c.now) rule own other least }
 {
-    if !c.between(own, other) {
-        return least;
-    }
     let block = Blocked {
         on: other.process,
         other: other.step,
         own: own.step,
         rule,
     };
-    lesser(block, least)
+    if is_past(block, least) {
+        return least;
+    }
+    if c.between(own, other) {
+        Some(block)
+    } else {
+        least
+    }
 }

@@ -15,7 +15,8 @@ mod processes;
 mod victims;
 
 pub use admission::{admit, is_reserved};
-pub use held::is_held_up;
+pub use held::{is_barred, is_held_up};
 pub use hold_tables::{Admitted, Blocked, Rule};
 pub use machine_model::Todo;
+pub use net::place_of_step;
 pub use victims::victim;

@@ -5,28 +5,29 @@ ghost use Rattle.process_tree.specs.declared.entry.Entry.{Entry};
 ghost use Rattle.machine_model.specs.declared.blocked.Rule.TheVariants.{A3};
 ghost use Rattle.hold_tables.specs.Kept.{AreTidy, IsKnown};
 ghost use Rattle.admission.specs.Admission.{is_of_step};
-ghost use Rattle.admission.specs.Least.{least_on};
+ghost use Rattle.admission.specs.Least.{least_on, lesser_of};
 ghost use Rattle.admission.specs.Parts.{least_front, least_fronts, place_of_step};
 
-use crate::least::{least_with, lesser_of};
+use crate::least::least_with;
 use hold_tables::{Blocked, Holds, Rule};
 use process_tree::Entry;
 
-/// The least block on the net entries from one place to before another.
+/// The least block on the net entries from one place to before another, and of what was found.
 pub fn least_between(
     holds: &Holds,
     rule: Rule,
     own: Entry,
     from: usize,
     end: usize,
+    found: Option<Blocked>,
 ) -> Option<Blocked>
     requires own { IsKnown holds.now.conflicts own }
     requires places { (from ≤ end) × (end ≤ length holds.now.net) }
-    ensures { result ≡ least_on (do_conflict holds.now.conflicts) rule own (drop from (take end holds.now.net)) }
+    ensures { result ≡ lesser_of (least_on (do_conflict holds.now.conflicts) rule own (drop from (take end holds.now.net))) found }
 {
     let c = holds.conflicts();
     let mut place = end;
-    let mut least = None;
+    let mut least = found;
     'places: while from < place {
         place -= 1;
         let other = holds.net_at(place);
@@ -35,40 +36,45 @@ pub fn least_between(
     least
 }
 
-/// The least block on any net entry.
-pub fn least_in_net(holds: &Holds, rule: Rule, own: Entry) -> Option<Blocked>
+/// The least block on any net entry, and of what was found.
+pub fn least_in_net(
+    holds: &Holds,
+    rule: Rule,
+    own: Entry,
+    found: Option<Blocked>,
+) -> Option<Blocked>
     requires own { IsKnown holds.now.conflicts own }
-    ensures { result ≡ least_on (do_conflict holds.now.conflicts) rule own holds.now.net }
+    ensures { result ≡ lesser_of (least_on (do_conflict holds.now.conflicts) rule own holds.now.net) found }
 {
     if holds.is_clear_of_net(own.op) {
-        return None;
+        return found;
     }
-    least_between(holds, rule, own, 0, holds.net_len())
+    least_between(holds, rule, own, 0, holds.net_len(), found)
 }
 
-/// The least block of an entry on the net entries before a place.
-fn least_before(holds: &Holds, y: Entry, place: usize) -> Option<Blocked>
+/// The least block of an entry on the net entries before a place, and of what was found.
+fn least_before(holds: &Holds, y: Entry, place: usize, found: Option<Blocked>) -> Option<Blocked>
     requires y { IsKnown holds.now.conflicts y }
     requires place { place ≤ length holds.now.net }
-    ensures { result ≡ least_on (do_conflict holds.now.conflicts) A3 y (take place holds.now.net) }
+    ensures { result ≡ lesser_of (least_on (do_conflict holds.now.conflicts) A3 y (take place holds.now.net)) found }
 {
     if holds.is_clear_of_net(y.op) {
-        return None;
+        return found;
     }
-    least_between(holds, Rule::A3, y, 0, place)
+    least_between(holds, Rule::A3, y, 0, place, found)
 }
 
-/// The least block of the entry at a place, if it is of the process, on what stands in front of it.
-fn least_at(holds: &Holds, process: u32, place: usize) -> Option<Blocked>
+/// The least block of the entry at a place, if it is of the process, on what stands in front of it, and of what was found.
+fn least_at(holds: &Holds, process: u32, place: usize, found: Option<Blocked>) -> Option<Blocked>
     requires { place < length holds.now.net }
-    ensures { (d : Entry) → result ≡ least_front (do_conflict holds.now.conflicts) process (take place holds.now.net)
-        (slice_index_or holds.now.net place d) }
+    ensures { (d : Entry) → result ≡ lesser_of (least_front (do_conflict holds.now.conflicts) process
+        (take place holds.now.net) (slice_index_or holds.now.net place d)) found }
 {
     let y = holds.net_at(place);
     if y.process == process {
-        least_before(holds, y, place)
+        least_before(holds, y, place, found)
     } else {
-        None
+        found
     }
 }
 
@@ -81,7 +87,7 @@ pub fn least_in_front(holds: &Holds, process: u32) -> Option<Blocked>
     let mut least = None;
     'places: while 0 < place {
         place -= 1;
-        least = lesser_of(least_at(holds, process, place), least);
+        least = least_at(holds, process, place, least);
     }
     least
 }

@@ -19,7 +19,7 @@ pub enum Sought {
 }
 
 /// The least block on what is under way in a process.
-fn least_running(holds: &Holds, rule: Rule, own: Entry, process: u32) -> Option<Blocked>
+pub fn least_running(holds: &Holds, rule: Rule, own: Entry, process: u32) -> Option<Blocked>
     requires open { is_open holds.now process ≡ true }
     requires own { IsKnown holds.now.conflicts own }
     ensures { result ≡ least_on (do_conflict holds.now.conflicts) rule own (running_of (kept_of holds.now process)) }

@@ -47,7 +47,7 @@ pub record SinceMade (holds : ℕ → Type 0) (old new : Disk) : Type 0 where
 -- turn, or an image is ahead of it. Unless a call of the rack failed they are sound for the history now, and so is each image of
 -- them from now on.
 pub record AreMadeAndKept (c : Catalog) (now : CoreState) (IsAhead : FileSet → Type 0) (on : Phase) (old new : Disk) : Type 0 where
-  pub came : List (ℕ × Event)
+  pub came : List (ℕ × List Event)
   pub events : history_of now ≡ events_of came
   pub empty : Told old → first_used old.files ≡ None
   pub in_turn : Told old → SinceMade (λ t. ComeInTurn c (full_history now) IsAhead new [] t came) old new

@@ -22,12 +22,12 @@ module _ (c : Catalog) (plans : List Plan) (s : DriverState) (n : ℕ) where
   line_answered (b ∷ bs) r t text some is answered = subst (λ r. IsRequestAnswered c plans s n (b ∷ bs) r t text) (sym is) answered
 
 -- A start that was not answered, as a line.
-pub spelled_line_cut : (c : Catalog) (plans : List Plan) (old new : CoreState) (ps : List Handed) (line : List ℕ) (cut : Cut) → request_of line ≡ Some StartSpelled
+pub spelled_line_cut : (c : Catalog) (plans : List Plan) (old new : CoreState) (ps qs : List Handed) (line : List ℕ) (cut : Cut) → request_of line ≡ Some StartSpelled
     → ((cut ≡ DiskFault) × (new ≡ old))
-    ⊎ ((cut ≡ NoMemory) × ((new ≡ old) ⊎ ((p : Plan) × AreGoodPlans c.ops (drop 6 line) (p ∷ []) × ((ps : List Handed) → new ≡ (play_start (session_of old ps) p.name (Some p)).state.core))))
-    → IsLineCut c plans (record { core = old; unfinished = ps }) line cut new
-spelled_line_cut c plans old new ps line DiskFault is (inl (so, same)) = same
-spelled_line_cut c plans old new ps line DiskFault is (inr (so, led)) = absurd cc
-spelled_line_cut c plans old new ps line NoMemory is (inl (so, same)) = absurd cc
-spelled_line_cut c plans old new ps line NoMemory is (inr (so, inl same)) = inl same
-spelled_line_cut c plans old new ps line NoMemory is (inr (so, inr (p, good, led))) = inr (subst (λ r. LeadsTo c plans (record { core = old; unfinished = ps }) line r new) (sym is) (p, good, led ps))
+    ⊎ ((cut ≡ NoMemory) × ((new ≡ old) ⊎ ((p : Plan) × AreGoodPlans c.ops (drop 6 line) (p ∷ []) × ((ps qs : List Handed) → new ≡ (play_start (session_of old ps qs) p.name (Some p)).state.core))))
+    → IsLineCut c plans (record { core = old; hand = record { unfinished = ps; queued = qs } }) line cut new
+spelled_line_cut c plans old new ps qs line DiskFault is (inl (so, same)) = same
+spelled_line_cut c plans old new ps qs line DiskFault is (inr (so, led)) = absurd cc
+spelled_line_cut c plans old new ps qs line NoMemory is (inl (so, same)) = absurd cc
+spelled_line_cut c plans old new ps qs line NoMemory is (inr (so, inl same)) = inl same
+spelled_line_cut c plans old new ps qs line NoMemory is (inr (so, inr (p, good, led))) = inr (subst (λ r. LeadsTo c plans (record { core = old; hand = record { unfinished = ps; queued = qs } }) line r new) (sym is) (p, good, led ps qs))

@@ -31,7 +31,8 @@ one_of_right plans more p (q, among, equal) = (q, Contains-append_right plans mo
 module _ (may may' : List Plan) (more : AreAmong may may') where
   under_way : (core : CoreState) (h : History) → IsUnderWay may core h → IsUnderWay may' core h
   under_way core h (inl piece) = inl piece
-  under_way core h (inr (p, one, free, is)) = inr (p, more p one, free, is)
+  under_way core h (inr (inl (p, one, free, is))) = inr (inl (p, more p one, free, is))
+  under_way core h (inr (inr group)) = inr (inr group)
 
   -- what may be ahead,
   ahead : (c : Catalog) (core : CoreState) (on : Phase) (files : FileSet) → IsOneAhead c may core on files → IsOneAhead c may' core on files
@@ -43,10 +44,10 @@ module _ (may may' : List Plan) (more : AreAmong may may') where
     sound_or_ahead there files (inl sound) = inl sound
     sound_or_ahead there files (inr is) = inr (ahead c core on files is)
 
-    -- and of the images behind each event that came
-    in_turn : (came : List (ℕ × Event)) (there : List Event) (t : ℕ) → ComeInTurn c h (IsOneAhead c may core on) disk there t came → ComeInTurn c h (IsOneAhead c may' core on) disk there t came
+    -- and of the images behind each group that came
+    in_turn : (came : List (ℕ × List Event)) (there : List Event) (t : ℕ) → ComeInTurn c h (IsOneAhead c may core on) disk there t came → ComeInTurn c h (IsOneAhead c may' core on) disk there t came
     in_turn [] there t each = record { has = λ files left. sound_or_ahead there files (each.has files left) }
-    in_turn (e ∷ came) there t (until, rest) = (until, in_turn came (there ++ e.1 ∷ []) e.0 rest)
+    in_turn (e ∷ came) there t (some, until, rest) = (some, until, in_turn came (there ++ e.1) e.0 rest)
 
 -- It went on, whichever more may start.
 pub goes_wider : {R B : Type 0} (disk : R → Disk) (faults : R → ℕ) (old new : EngineState R B) (may may' : List Plan) → AreAmong may may' → GoesOn disk faults may old new → GoesOn disk faults may' old new

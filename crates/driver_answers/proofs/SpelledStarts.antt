@@ -35,46 +35,46 @@ pub only_is_one : (plans : List Plan) (p : Plan) → plans ≡ p ∷ [] → IsOn
 only_is_one plans p is = subst (λ ps. IsOneOf ps p) (sym is) (stands_among [] [] p)
 
 module _ (old new : CoreState) (plan : Plan) where
-  core_by : (o : Option StartWhy) (ps : List Handed) → (start_unless (session_of old []) plan.name plan o).state.core ≡ (start_unless (session_of old ps) plan.name plan o).state.core
-  core_by None ps = refl
-  core_by (Some why) ps = refl
+  core_by : (o : Option StartWhy) (ps qs : List Handed) → (start_unless (session_of old [] []) plan.name plan o).state.core ≡ (start_unless (session_of old ps qs) plan.name plan o).state.core
+  core_by None ps qs = refl
+  core_by (Some why) ps qs = refl
 
   -- A start that was not answered left the machine, or led to the same one whatever is unfinished.
-  pub cut_told : (cut : Cut) → ((ps : List Handed) → IsCut cut (play_start (session_of old ps) plan.name (Some plan)) old new)
-      → ((cut ≡ DiskFault) × (new ≡ old)) ⊎ ((cut ≡ NoMemory) × ((new ≡ old) ⊎ ((ps : List Handed) → new ≡ (play_start (session_of old ps) plan.name (Some plan)).state.core)))
-  cut_told DiskFault is = inl (refl, is [])
-  cut_told NoMemory is = inr (refl, by (is []))
+  pub cut_told : (cut : Cut) → ((ps qs : List Handed) → IsCut cut (play_start (session_of old ps qs) plan.name (Some plan)) old new)
+      → ((cut ≡ DiskFault) × (new ≡ old)) ⊎ ((cut ≡ NoMemory) × ((new ≡ old) ⊎ ((ps qs : List Handed) → new ≡ (play_start (session_of old ps qs) plan.name (Some plan)).state.core)))
+  cut_told DiskFault is = inl (refl, is [] [])
+  cut_told NoMemory is = inr (refl, by (is [] []))
     where
-      by : IsCut NoMemory (play_start (session_of old []) plan.name (Some plan)) old new → (new ≡ old) ⊎ ((ps : List Handed) → new ≡ (play_start (session_of old ps) plan.name (Some plan)).state.core)
+      by : IsCut NoMemory (play_start (session_of old [] []) plan.name (Some plan)) old new → (new ≡ old) ⊎ ((ps qs : List Handed) → new ≡ (play_start (session_of old ps qs) plan.name (Some plan)).state.core)
       by (inl same) = inl same
-      by (inr led) = inr (λ ps. led ∙ core_by (start_refusal (courses_in old) (moment_of old) (course_of plan)) ps)
+      by (inr led) = inr (λ ps qs. led ∙ core_by (start_refusal (courses_in old) (moment_of old) (course_of plan)) ps qs)
 
   -- The same where it is the only plan of a list.
-  pub cut_of_only : (plans : List Plan) → plans ≡ plan ∷ [] → (cut : Cut) → ((ps : List Handed) → IsCut cut (play_start (session_of old ps) plan.name (Some plan)) old new)
+  pub cut_of_only : (plans : List Plan) → plans ≡ plan ∷ [] → (cut : Cut) → ((ps qs : List Handed) → IsCut cut (play_start (session_of old ps qs) plan.name (Some plan)) old new)
       → ((cut ≡ DiskFault) × (new ≡ old))
-      ⊎ ((cut ≡ NoMemory) × ((new ≡ old) ⊎ ((p : Plan) × (plans ≡ p ∷ []) × ((ps : List Handed) → new ≡ (play_start (session_of old ps) p.name (Some p)).state.core))))
+      ⊎ ((cut ≡ NoMemory) × ((new ≡ old) ⊎ ((p : Plan) × (plans ≡ p ∷ []) × ((ps qs : List Handed) → new ≡ (play_start (session_of old ps qs) p.name (Some p)).state.core))))
   cut_of_only plans only cut is = by (cut_told cut is)
     where
-      by : ((cut ≡ DiskFault) × (new ≡ old)) ⊎ ((cut ≡ NoMemory) × ((new ≡ old) ⊎ ((ps : List Handed) → new ≡ (play_start (session_of old ps) plan.name (Some plan)).state.core)))
+      by : ((cut ≡ DiskFault) × (new ≡ old)) ⊎ ((cut ≡ NoMemory) × ((new ≡ old) ⊎ ((ps qs : List Handed) → new ≡ (play_start (session_of old ps qs) plan.name (Some plan)).state.core)))
           → ((cut ≡ DiskFault) × (new ≡ old))
-          ⊎ ((cut ≡ NoMemory) × ((new ≡ old) ⊎ ((p : Plan) × (plans ≡ p ∷ []) × ((ps : List Handed) → new ≡ (play_start (session_of old ps) p.name (Some p)).state.core))))
+          ⊎ ((cut ≡ NoMemory) × ((new ≡ old) ⊎ ((p : Plan) × (plans ≡ p ∷ []) × ((ps qs : List Handed) → new ≡ (play_start (session_of old ps qs) p.name (Some p)).state.core))))
       by (inl fault) = inl fault
       by (inr (memory, inl same)) = inr (memory, inl same)
       by (inr (memory, inr led)) = inr (memory, inr (plan, only, led))
 
 module _ {R B : Type 0} (c : Catalog) (n : ℕ) (spelled : List ℕ) (plans : List Plan) (good : AreGoodPlans c.ops spelled plans) (old new : EngineState R B) where
   -- What was answered to the one plan of a list, or to a list of none or more, was answered to the text that spells them.
-  pub spelled_started : (text : List ℕ) → ((p : Plan) × (plans ≡ p ∷ []) × ((ps : List Handed) → IsAnswered (play_start (session_of old.core ps) p.name (Some p)) new.core ps text))
-      ⊎ ((length plans ≢ 1) × (new ≡ old) × (text ≡ line_of (bad_line_words n))) → (ps : List Handed)
-      → IsSpelledAnswered c (record { core = old.core; unfinished = ps }) n spelled (record { core = new.core; unfinished = ps }) text
-  spelled_started text (inl (p, only, answered)) ps = inl (p, subst (AreGoodPlans c.ops spelled) only good, answered ps)
-  spelled_started text (inr (other, same, told)) ps = inr (inr (plans, good, other, ap (λ (e : EngineState R B). record { core = e.core; unfinished = ps }) same, told))
+  pub spelled_started : (text : List ℕ) → ((p : Plan) × (plans ≡ p ∷ []) × ((ps qs : List Handed) → IsAnswered (play_start (session_of old.core ps qs) p.name (Some p)) new.core ps qs text))
+      ⊎ ((length plans ≢ 1) × (new ≡ old) × (text ≡ line_of (bad_line_words n))) → (ps qs : List Handed)
+      → IsSpelledAnswered c (record { core = old.core; hand = record { unfinished = ps; queued = qs } }) n spelled (record { core = new.core; hand = record { unfinished = ps; queued = qs } }) text
+  spelled_started text (inl (p, only, answered)) ps qs = inl (p, subst (AreGoodPlans c.ops spelled) only good, answered ps qs)
+  spelled_started text (inr (other, same, told)) ps qs = inr (inr (plans, good, other, ap (λ (e : EngineState R B). record { core = e.core; hand = record { unfinished = ps; queued = qs } }) same, told))
 
   -- The same of a start that was not answered.
   pub spelled_cut : (cut : Cut) → ((cut ≡ DiskFault) × (new.core ≡ old.core))
-      ⊎ ((cut ≡ NoMemory) × ((new.core ≡ old.core) ⊎ ((p : Plan) × (plans ≡ p ∷ []) × ((ps : List Handed) → new.core ≡ (play_start (session_of old.core ps) p.name (Some p)).state.core))))
+      ⊎ ((cut ≡ NoMemory) × ((new.core ≡ old.core) ⊎ ((p : Plan) × (plans ≡ p ∷ []) × ((ps qs : List Handed) → new.core ≡ (play_start (session_of old.core ps qs) p.name (Some p)).state.core))))
       → ((cut ≡ DiskFault) × (new.core ≡ old.core))
-      ⊎ ((cut ≡ NoMemory) × ((new.core ≡ old.core) ⊎ ((p : Plan) × AreGoodPlans c.ops spelled (p ∷ []) × ((ps : List Handed) → new.core ≡ (play_start (session_of old.core ps) p.name (Some p)).state.core))))
+      ⊎ ((cut ≡ NoMemory) × ((new.core ≡ old.core) ⊎ ((p : Plan) × AreGoodPlans c.ops spelled (p ∷ []) × ((ps qs : List Handed) → new.core ≡ (play_start (session_of old.core ps qs) p.name (Some p)).state.core))))
   spelled_cut cut (inl fault) = inl fault
   spelled_cut cut (inr (memory, inl same)) = inr (memory, inl same)
   spelled_cut cut (inr (memory, inr (p, only, led))) = inr (memory, inr (p, subst (AreGoodPlans c.ops spelled) only good, led))

@@ -16,9 +16,11 @@ use Rattle.command_input.specs.declared.scenario.NoPlans.TheVariants.{Refused, I
 use Rattle.command_input.specs.Outputs.{refusal_line}
 use Rattle.command_input.specs.Scenarios.{AreGoodPlans, AreNoGoodPlans}
 use Rattle.session_text.specs.declared.line.Line.{Line}
-use Rattle.session_text.specs.declared.line.Line.TheVariants.{Start, Admit, Next, Finish, Abort, Show, Stop}
+use Rattle.session_text.specs.declared.line.Line.TheVariants.{Start, Admit, Next, Finish, Queue, Flush, Abort, Show, Stop}
 use Rattle.session_text.specs.Answers.{numbered}
 use Rattle.session_play.specs.Answering.{IsAnswered, IsCopy}
+use Rattle.session_play.specs.declared.at_hand.AtHand.{AtHand}
+use Rattle.session_play.specs.AtHand.{Hand, hand_of}
 use Rattle.session_play.specs.Pieces.{session_of}
 use Rattle.session_play.specs.Playing.{SessionState, plan_for, play, play_start}
 use Rattle.session_play.specs.declared.cut.Cut.{Cut}
@@ -30,33 +32,40 @@ use Rattle.driver_requests.specs.Answers.{piece_call, with_words}
 use Rattle.driver_requests.specs.Requests.{request_of}
 use Rattle.driver_answers.specs.Happenings.{happening, step_named}
 
--- A dialogue between two lines: the machine, and the pieces that are handed out and not finished, in that order.
+-- A dialogue between two lines: the machine, and the pieces at hand, in the order in which they were handed out and queued.
 pub record DriverState : Type 0 where
   pub core : CoreState
-  pub unfinished : List Handed
+  pub hand : Hand
+
+-- a machine with these pieces at hand
+abbrev pub state_of : CoreState → AtHand → DriverState
+state_of core hand = record { core = core; hand = hand_of hand }
 
 -- the same as a session has it
 abbrev pub as_session : DriverState → SessionState
-as_session s = session_of s.core s.unfinished
+as_session s = session_of s.core s.hand.unfinished s.hand.queued
 
 -- behind the last line of a text stands what the first of these pieces calls, if there is one
 abbrev pub with_call : List Plan → List Handed → List ℕ → List ℕ
 with_call plans [] text = text
 with_call plans (p ∷ ps) text = with_words text (piece_call plans p.piece)
 
--- `show` is answered with any number of lines
+-- `show` and `flush` are answered with any number of lines
 abbrev pub has_many_lines : Line → Bool
 has_many_lines Show = true
 has_many_lines (Start name) = false
 has_many_lines (Admit i) = false
 has_many_lines Next = false
 has_many_lines (Finish n outcome) = false
+has_many_lines (Queue n outcome) = false
+has_many_lines Flush = true
 has_many_lines (Abort i) = false
 has_many_lines Stop = false
 
 -- A line of a session is answered as there; behind a piece that it hands out stands what that calls.
 abbrev pub served : DriverState → DriverState → Line → List ℕ → List ℕ
-served s t l printed = framed (has_many_lines l) (with_call t.core.plans (drop (length s.unfinished) t.unfinished) printed)
+served s t l printed =
+    framed (has_many_lines l) (with_call t.core.plans (drop (length s.hand.unfinished) t.hand.unfinished) printed)
 
 -- pieces with what they call, a line each
 abbrev pub listed : List Plan → List Handed → List ℕ
@@ -91,7 +100,7 @@ no_plans_text (IllFormed line) = line.items
 abbrev pub IsSpelledAnswered : Catalog → DriverState → ℕ → List ℕ → DriverState → List ℕ → Type 0
 IsSpelledAnswered c s n spelled t text =
     ((p : Plan) × AreGoodPlans c.ops spelled (p ∷ [])
-    × IsAnswered (play_start (as_session s) p.name (Some p)) t.core t.unfinished text)
+    × IsAnswered (play_start (as_session s) p.name (Some p)) t.core t.hand.unfinished t.hand.queued text)
     ⊎ ((none : NoPlans) × AreNoGoodPlans c.ops spelled none × (none ≢ Refused NoMemory) × (t ≡ s) × (text ≡ no_plans_text none))
     ⊎ ((plans : List Plan) × AreGoodPlans c.ops spelled plans × (length plans ≢ 1) × (t ≡ s) × (text ≡ line_of (bad_line_words n)))
 
@@ -100,9 +109,9 @@ abbrev pub IsRequestAnswered : Catalog → List Plan → DriverState → ℕ →
 IsRequestAnswered c plans s n line None t text = (t ≡ s) × (text ≡ line_of (bad_line_words n))
 IsRequestAnswered c plans s n line (Some (Session l)) t text =
     (copy : Option Plan) × (printed : List ℕ) × IsCopy (plan_for plans l) copy
-    × IsAnswered (play c (as_session s) l copy) t.core t.unfinished printed × (text ≡ served s t l printed)
+    × IsAnswered (play c (as_session s) l copy) t.core t.hand.unfinished t.hand.queued printed × (text ≡ served s t l printed)
 IsRequestAnswered c plans s n line (Some StartSpelled) t text = IsSpelledAnswered c s n (drop 6 line) t text
-IsRequestAnswered c plans s n line (Some Pieces) t text = (t ≡ s) × (text ≡ numbered_lines (listed s.core.plans s.unfinished))
+IsRequestAnswered c plans s n line (Some Pieces) t text = (t ≡ s) × (text ≡ numbered_lines (listed s.core.plans s.hand.unfinished))
 IsRequestAnswered c plans s n line (Some (Happened i name)) t text =
     (t ≡ s) × (text ≡ line_of (happened (full_history s.core) i name))
 

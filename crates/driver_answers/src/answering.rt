@@ -8,21 +8,20 @@ ghost use Rattle.engine_steps.specs.declared.engines.Phase.TheVariants as phase;
 ghost use Rattle.engine_calls.specs.Runs.{GoesOn, IsReady};
 ghost use Rattle.history_files.specs.Standing.{EachFits};
 ghost use Rattle.session_play.specs.Answering.{IsAnswered, IsCopy};
-ghost use Rattle.session_play.specs.Pieces.{session_of, AreHandedBy};
+ghost use Rattle.session_play.specs.AtHand.{session_with, AreAtHand};
 ghost use Rattle.session_play.specs.Playing.{plan_for, play};
 ghost use Rattle.session_play.specs.declared.cut.Cut.TheVariants.{DiskFault, NoMemory};
-ghost use Rattle.driver_answers.specs.Serving.{has_many_lines, served, IsLineAnswered, IsLineCut};
+ghost use Rattle.driver_answers.specs.Serving.{has_many_lines, served, state_of, IsLineAnswered, IsLineCut};
 
 use crate::happenings::happened_text;
 use crate::listing::{add_handed, pieces_text};
 use crate::spelled::{bad_line, start_spelled};
 use driver_requests::{Request, framed, request_of};
-use process_core::Piece;
 use process_disk::Rack;
 use process_engine::Engine;
 use process_tree::Plan;
 use resource_box::Resource;
-use session_play::{Cut, play_line};
+use session_play::{AtHand, Cut, play_line};
 use session_text::Line;
 use std::alloc::Global;
 
@@ -31,7 +30,7 @@ fn has_many_lines(line: &Line) -> bool
     ensures { result ≡ has_many_lines line.now }
 {
     match line {
-        Line::Show => true,
+        Line::Flush | Line::Show => true,
         _ => false,
     }
 }
@@ -49,23 +48,22 @@ fn answer_session<R: Rack + Drop, B: Resource>(
     alloc: Global,
     engine: &mut Engine<R, B>,
     plans: &[Plan],
-    pieces: &mut Vec<Piece>,
+    hand: &mut AtHand,
     line: &Line,
 ) -> Result<Vec<u8>, Cut>
     requires ready { IsReady B.meaning B.sort engine.old }
     requires plans { Each (IsPlanFor engine.old.catalog) plans.now }
-    requires handed { AreHandedBy engine.old.core pieces.old.items }
+    requires at_hand { AreAtHand engine.old hand.old }
     ensures answered { IfOk result (λ text. (copy : Option Plan') × (printed : List ℕ) × IsCopy (plan_for plans.now line.now) copy
         × IsAnswered (play engine.old.catalog
-        (session_of engine.old.core pieces.old.items) line.now copy) engine.new.core pieces.new.items printed
-        × (text.items ≡ served (record { core = engine.old.core; unfinished = pieces.old.items })
-        (record { core = engine.new.core; unfinished = pieces.new.items }) line.now printed)) }
-    ensures handed { OnOk result (AreHandedBy engine.new.core pieces.new.items) }
+        (session_with engine.old.core hand.old) line.now copy) engine.new.core hand.new.unfinished.items hand.new.queued printed
+        × (text.items ≡ served (state_of engine.old.core hand.old) (state_of engine.new.core hand.new) line.now printed)) }
+    ensures at_hand { OnOk result (AreAtHand engine.new hand.new) }
     ensures cut { IfErr result
         (λ cut. ((cut ≡ DiskFault) × (engine.new.core ≡ engine.old.core)) ⊎ ((cut ≡ NoMemory) × ((engine.new.core ≡ engine.old.core)
         ⊎ ((copy : Option Plan') × IsCopy (plan_for plans.now line.now) copy
         × (engine.new.core ≡ (play engine.old.catalog
-        (session_of engine.old.core pieces.old.items) line.now copy).state.core))))) }
+        (session_with engine.old.core hand.old) line.now copy).state.core))))) }
     ensures fault { IfErr result
         (λ cut. cut ≡ DiskFault → (engine.new.phase ≡ phase.Closed)
         × Rose (R.faults engine.old.files.rack) (R.faults engine.new.files.rack)) }
@@ -73,9 +71,14 @@ fn answer_session<R: Rack + Drop, B: Resource>(
     ensures fits { EachFits B.meaning B.sort engine.new.files.stores }
     ensures ready { result ≢ Err DiskFault → IsReady B.meaning B.sort engine.new }
 {
-    let before = pieces.len();
-    let mut text = play_line(alloc, engine, plans, pieces, line)?;
-    add_handed(alloc, engine.history(), behind(pieces, before), &mut text)?;
+    let before = hand.unfinished.len();
+    let mut text = play_line(alloc, engine, plans, hand, line)?;
+    add_handed(
+        alloc,
+        engine.history(),
+        behind(&hand.unfinished, before),
+        &mut text,
+    )?;
     Ok(framed(alloc, has_many_lines(line), text)?)
 }
 
@@ -84,21 +87,20 @@ pub fn answer_line<R: Rack + Drop, B: Resource>(
     alloc: Global,
     engine: &mut Engine<R, B>,
     plans: &[Plan],
-    pieces: &mut Vec<Piece>,
+    hand: &mut AtHand,
     line: &[u8],
     number: u64,
 ) -> Result<Vec<u8>, Cut>
     requires ready { IsReady B.meaning B.sort engine.old }
     requires plans { Each (IsPlanFor engine.old.catalog) plans.now }
-    requires handed { AreHandedBy engine.old.core pieces.old.items }
+    requires at_hand { AreAtHand engine.old hand.old }
     ensures answered { IfOk result
         (λ text. IsLineAnswered engine.old.catalog plans.now
-        (record { core = engine.old.core; unfinished = pieces.old.items }) number line.now
-        (record { core = engine.new.core; unfinished = pieces.new.items }) text.items) }
-    ensures handed { OnOk result (AreHandedBy engine.new.core pieces.new.items) }
+        (state_of engine.old.core hand.old) number line.now (state_of engine.new.core hand.new) text.items) }
+    ensures at_hand { OnOk result (AreAtHand engine.new hand.new) }
     ensures cut { IfErr result
         (λ cut. IsLineCut engine.old.catalog plans.now
-        (record { core = engine.old.core; unfinished = pieces.old.items }) line.now cut engine.new.core) }
+        (state_of engine.old.core hand.old) line.now cut engine.new.core) }
     ensures fault { IfErr result
         (λ cut. cut ≡ DiskFault → (engine.new.phase ≡ phase.Closed)
         × Rose (R.faults engine.old.files.rack) (R.faults engine.new.files.rack)) }
@@ -112,9 +114,9 @@ pub fn answer_line<R: Rack + Drop, B: Resource>(
         return Ok(Vec::new(alloc));
     }
     match request_of(alloc, line)? {
-        Some(Request::Session(line)) => answer_session(alloc, engine, plans, pieces, &line),
+        Some(Request::Session(line)) => answer_session(alloc, engine, plans, hand, &line),
         Some(Request::StartSpelled) => { start_spelled(alloc, engine, behind(line, 6), number) }
-        Some(Request::Pieces) => Ok(pieces_text(alloc, engine.history(), pieces)?),
+        Some(Request::Pieces) => Ok(pieces_text(alloc, engine.history(), &hand.unfinished)?),
         Some(Request::Happened(i, step)) => {
             Ok(happened_text(alloc, engine.history(), i, &step)?)
         }

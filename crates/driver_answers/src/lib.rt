@@ -12,4 +12,4 @@ mod listing;
 mod spelled;
 
 pub use answering::answer_line;
-pub use session_play::Cut;
+pub use session_play::{AtHand, Cut};

@@ -1,5 +1,5 @@
 // Processes that a line spells.
-ghost use Rattle.std.specs.Prelude.{◌≡◌, ◌≢◌, ◌⊎◌, ◌∷◌, [], length, Err, List, Some, IfSome, IfNone, IfOk, IfErr};
+ghost use Rattle.std.specs.Prelude.{◌≡◌, ◌≢◌, ◌⊎◌, ◌∷◌, [], length, Err, List, Some, IfSome, IfNone, IfOk, IfErr, OnOk};
 ghost use Rattle.process_flow.specs.Causes.{Rose};
 ghost use Rattle.process_tree.specs.Order.{Each};
 ghost use Rattle.process_tree.specs.declared.plan.Plan.{Plan as Plan'};
@@ -12,6 +12,7 @@ ghost use Rattle.machine_model.specs.Replies.{Handed};
 ghost use Rattle.engine_calls.specs.Acknowledged.{IsOneOf};
 ghost use Rattle.command_input.specs.Scenarios.{AreGoodPlans};
 ghost use Rattle.session_play.specs.Answering.{IsAnswered, IsCut};
+ghost use Rattle.group_flush.specs.Queues.{AreQueued};
 ghost use Rattle.session_play.specs.Pieces.{session_of};
 ghost use Rattle.session_play.specs.Playing.{play_start};
 ghost use Rattle.session_play.specs.declared.cut.Cut.TheVariants.{DiskFault, NoMemory};
@@ -70,14 +71,15 @@ fn start_named<R: Rack + Drop, B: Resource>(
     requires ready { IsReady B.meaning B.sort engine.old }
     requires plan { IsPlanFor engine.old.catalog plan }
     ensures answered { IfOk result
-        (λ text. (ps : List Handed) → IsAnswered
-        (play_start (session_of engine.old.core ps) plan.name (Some plan)) engine.new.core ps text.items) }
+        (λ text. (ps qs : List Handed) → IsAnswered
+        (play_start (session_of engine.old.core ps qs) plan.name (Some plan)) engine.new.core ps qs text.items) }
     ensures cut { IfErr result
-        (λ cut. (ps : List Handed) → IsCut cut
-        (play_start (session_of engine.old.core ps) plan.name (Some plan)) engine.old.core engine.new.core) }
+        (λ cut. (ps qs : List Handed) → IsCut cut
+        (play_start (session_of engine.old.core ps qs) plan.name (Some plan)) engine.old.core engine.new.core) }
     ensures fault { IfErr result
         (λ cut. cut ≡ DiskFault → (engine.new.phase ≡ phase.Closed)
         × Rose (R.faults engine.old.files.rack) (R.faults engine.new.files.rack)) }
+    ensures queued { OnOk result ((queued : List Handed) → AreQueued engine.old queued → AreQueued engine.new queued) }
     ensures goes { (may_start : List Plan') → IsOneOf may_start plan → GoesOn R.disk R.faults may_start engine.old engine.new }
     ensures fits { EachFits B.meaning B.sort engine.new.files.stores }
     ensures ready { result ≢ Err DiskFault → IsReady B.meaning B.sort engine.new }
@@ -98,16 +100,17 @@ fn start_one<R: Rack + Drop, B: Resource>(
     requires plans { Each (IsPlanFor engine.old.catalog) plans.items }
     ensures answered { IfOk result
         (λ text. ((p : Plan') × (plans.items ≡ p ∷ [])
-        × ((ps : List Handed) → IsAnswered
-        (play_start (session_of engine.old.core ps) p.name (Some p)) engine.new.core ps text.items))
+        × ((ps qs : List Handed) → IsAnswered
+        (play_start (session_of engine.old.core ps qs) p.name (Some p)) engine.new.core ps qs text.items))
         ⊎ ((length plans.items ≢ 1) × (engine.new ≡ engine.old) × (text.items ≡ line_of (bad_line_words number)))) }
     ensures cut { IfErr result
         (λ cut. ((cut ≡ DiskFault) × (engine.new.core ≡ engine.old.core)) ⊎ ((cut ≡ NoMemory) × ((engine.new.core ≡ engine.old.core)
         ⊎ ((p : Plan') × (plans.items ≡ p ∷ []) ×
-        ((ps : List Handed) → engine.new.core ≡ (play_start (session_of engine.old.core ps) p.name (Some p)).state.core))))) }
+        ((ps qs : List Handed) → engine.new.core ≡ (play_start (session_of engine.old.core ps qs) p.name (Some p)).state.core))))) }
     ensures fault { IfErr result
         (λ cut. cut ≡ DiskFault → (engine.new.phase ≡ phase.Closed)
         × Rose (R.faults engine.old.files.rack) (R.faults engine.new.files.rack)) }
+    ensures queued { OnOk result ((queued : List Handed) → AreQueued engine.old queued → AreQueued engine.new queued) }
     ensures goes { (may_start : List Plan') → ((p : Plan') → plans.items ≡ p ∷ [] → IsOneOf may_start p)
         → GoesOn R.disk R.faults may_start engine.old engine.new }
     ensures fits { EachFits B.meaning B.sort engine.new.files.stores }
@@ -129,16 +132,18 @@ pub fn start_spelled<R: Rack + Drop, B: Resource>(
 ) -> Result<Vec<u8>, Cut>
     requires ready { IsReady B.meaning B.sort engine.old }
     ensures answered { IfOk result
-        (λ text. (ps : List Handed) → IsSpelledAnswered engine.old.catalog
-        (record { core = engine.old.core; unfinished = ps }) number spelled.now
-        (record { core = engine.new.core; unfinished = ps }) text.items) }
+        (λ text. (ps qs : List Handed) → IsSpelledAnswered engine.old.catalog
+        (record { core = engine.old.core; hand = record { unfinished = ps; queued = qs } }) number spelled.now
+        (record { core = engine.new.core; hand = record { unfinished = ps; queued = qs } }) text.items) }
     ensures cut { IfErr result
         (λ cut. ((cut ≡ DiskFault) × (engine.new.core ≡ engine.old.core)) ⊎ ((cut ≡ NoMemory) × ((engine.new.core ≡ engine.old.core)
         ⊎ ((p : Plan') × AreGoodPlans engine.old.catalog.ops spelled.now (p ∷ [])
-        × ((ps : List Handed) → engine.new.core ≡ (play_start (session_of engine.old.core ps) p.name (Some p)).state.core))))) }
+        × ((ps qs : List Handed)
+        → engine.new.core ≡ (play_start (session_of engine.old.core ps qs) p.name (Some p)).state.core))))) }
     ensures fault { IfErr result
         (λ cut. cut ≡ DiskFault → (engine.new.phase ≡ phase.Closed)
         × Rose (R.faults engine.old.files.rack) (R.faults engine.new.files.rack)) }
+    ensures queued { OnOk result ((queued : List Handed) → AreQueued engine.old queued → AreQueued engine.new queued) }
     // No start was under way but of a plan that the text spells.
     ensures goes { (spelled : List Plan') ×
         ((may_start : List Plan') → ((p : Plan') → IsOneOf spelled p → IsOneOf may_start p)

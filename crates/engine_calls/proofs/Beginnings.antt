@@ -1,17 +1,12 @@
 -- Histories that go on, and their beginnings.
-use Rattle.std.proofs.Common.{◌≡◌, ◌∙◌, List, [], ◌++◌, length, take, drop, refl, ap, subst, sym, append-nil, append_assoc, length-append, arith}
-use Rattle.std.proofs.lemmas.List.{length-take-le, take-append-drop, take-append-le, take_all}
-use Rattle.process_disk.specs.Disk.{FileSet}
+use Rattle.std.proofs.Common.{◌≡◌, ◌∙◌, List, [], ◌++◌, length, take, ap, sym, append-nil, arith}
+use Rattle.std.proofs.lemmas.List.{take-append-le, take_all}
 use Rattle.process_tree.specs.declared.plan.Plan.{Plan}
 use Rattle.schedule_model.specs.declared.event.Event.{Event}
 use Rattle.schedule_model.specs.declared.history.History.{History}
 use Rattle.schedule_model.specs.Histories.{starts}
 use Rattle.schedule_model.specs.Laws.{plans_in}
-use Rattle.schedule_model.proofs.Appends.{starts-append}
-use Rattle.commute_table.specs.declared.catalog.Catalog.{Catalog}
 use Rattle.process_journal.specs.Laws.{beginning}
-use Rattle.history_files.specs.Images.{IsWithin}
-use Rattle.history_files.specs.Sound.{IsSound}
 
 -- each plan of the history is of a process that started
 abbrev pub OneEach : History → Type 0

@@ -82,10 +82,10 @@ module _ {R B : Type 0} (disk : R → Disk) (faults : R → ℕ) (may_start : Li
       (sound_now old.catalog old.core core.session.one_each files sound))
 
   -- what is sound for the history after is sound for it as its own beginning
-  sound_after : new.catalog ≡ old.catalog → OneEach (full_history new.core) → (k : History) (e : Event) → history_of new.core ≡ history_of old.core ++ e ∷ [] → full_history new.core ≡ k
-      → (files : FileSet) → IsSound old.catalog k files → IsSound new.catalog (beginning (full_history new.core) (history_of old.core ++ e ∷ [])) files
-  sound_after catalog one_each k e events history files after =
-      subst (λ es. IsSound new.catalog (beginning (full_history new.core) es) files) events
+  sound_after : new.catalog ≡ old.catalog → OneEach (full_history new.core) → (k : History) (es : List Event) → history_of new.core ≡ history_of old.core ++ es → full_history new.core ≡ k
+      → (files : FileSet) → IsSound old.catalog k files → IsSound new.catalog (beginning (full_history new.core) (history_of old.core ++ es)) files
+  sound_after catalog one_each k es events history files after =
+      subst (λ all. IsSound new.catalog (beginning (full_history new.core) all) files) events
       (sound_now new.catalog new.core one_each files (subst (λ h. IsSound new.catalog h files) (sym history) (subst (λ c. IsSound c k files) (sym catalog) after)))
 
   -- A call that adds no event to the history and touches no file,
@@ -121,11 +121,11 @@ module _ {R B : Type 0} (disk : R → Disk) (faults : R → ℕ) (may_start : Li
   pub called_goes : (call : Call) → new ≡ with_core old (after_call old.core call) → full_history (after_call old.core call) ≡ full_history old.core → GoesOn disk faults may_start old new
   called_goes call is same = quiet_goes call (ap (λ (e : EngineState R B). e.core) is) same (ap (λ (e : EngineState R B). e.catalog) is) (ap (λ (e : EngineState R B). e.files.rack) is)
 
-  -- one that adds an event to the history,
+  -- one of the rack, which may fail,
   module _ (tells : (disk new.files.rack).tells ≡ (disk old.files.rack).tells) (later : faults old.files.rack ≤ faults new.files.rack)
       (follow : Told (disk old.files.rack) → ImagesFollow (disk old.files.rack) (disk new.files.rack)) where
-    -- and one that adds none, as a call of the rack failed
-    fault_goes : (k : History) → IsUnderWay may_start old.core k → new.core ≡ old.core → new.catalog ≡ old.catalog → new.phase ≡ phase.Closed
+    -- one that adds none, as a call of the rack failed,
+    pub fault_goes : (k : History) → IsUnderWay may_start old.core k → new.core ≡ old.core → new.catalog ≡ old.catalog → new.phase ≡ phase.Closed
         → (Told (disk old.files.rack) → EachImage (disk new.files.rack) (disk old.files.rack).moment (IsSoundForEither old.catalog (full_history old.core) k)) → GoesOn disk faults may_start old new
     fault_goes k under same catalog closed either =
         let all = ap (λ (c : CoreState). c.plans) same ∙ sym (append-nil old.core.plans) in
@@ -152,39 +152,50 @@ module _ {R B : Type 0} (disk : R → Disk) (faults : R → ℕ) (may_start : Li
           };
         }
 
+    -- one that adds events and plans of processes that start, which come at once,
+    pub events_goes : (k : History) (es : List Event) (plans : List Plan) (added : List Kept) → es ≢ [] → k.events ≡ history_of old.core ++ es → k.plans ≡ old.core.plans ++ plans → IsCore new.core
+        → new.core.conflicts ≡ old.core.conflicts → new.core.opening ≡ old.core.opening → new.core.kept ≡ old.core.kept ++ added → new.catalog ≡ old.catalog → full_history new.core ≡ k
+        → (Told (disk old.files.rack) → EachImage (disk new.files.rack) (disk old.files.rack).moment (IsSoundForEither old.catalog (full_history old.core) k))
+        → (Told (disk old.files.rack) → EachImage (disk new.files.rack) (disk new.files.rack).moment (IsSound new.catalog (full_history new.core)))
+        → GoesOn disk faults may_start old new
+    events_goes k es plans added some more_events more_plans now conflicts opening kept catalog history either at_end =
+        let all = ap (λ (h : History). h.plans) history ∙ more_plans in
+        let events = ap (λ (h : History). h.events) history ∙ more_events in
+        let on : Continues (full_history old.core) (full_history new.core) = record { events = es; is = events; plans = plans; are = all } in
+        record {
+          catalog = catalog;
+          conflicts = conflicts;
+          opening = opening;
+          added = added;
+          kept = kept;
+          started = plans;
+          plans = all;
+          came = ((disk new.files.rack).moment, es) ∷ [];
+          events = events ∙ ap (λ more. history_of old.core ++ more) (sym (append-nil es));
+          tells = tells;
+          later = later;
+          follow = follow;
+          images = λ told. (
+            some,
+            record {
+              later = (follow told).later;
+              by_now = omega arith;
+              until = λ files left. inr (⊎_elim (λ before. inl (sound_before catalog on files before))
+                  (λ after. inr (sound_after catalog now.session.one_each k es events history files after)) ((either told).has files left));
+            },
+            record {
+              has = λ files left. inl (subst (λ all. IsSound new.catalog (beginning (full_history new.core) all) files) events (sound_now new.catalog new.core now.session.one_each files ((at_end told).has files left)));
+            },
+          );
+        }
+
     effect_goes : (p : Handed) (outcome : Outcome) → IsCore new.core → new.core ≡ after_call old.core (finish p.piece.number outcome) → new.catalog ≡ old.catalog → full_history new.core ≡ history_with old.core p.piece
         → (Told (disk old.files.rack) → EachImage (disk new.files.rack) (disk old.files.rack).moment (IsSoundForEither old.catalog (full_history old.core) (history_with old.core p.piece)))
         → (Told (disk old.files.rack) → EachImage (disk new.files.rack) (disk new.files.rack).moment (IsSound new.catalog (full_history new.core)))
         → GoesOn disk faults may_start old new
     effect_goes p outcome now is catalog history either at_end =
-        let all = ap (λ (h : History). h.plans) history ∙ sym (append-nil old.core.plans) in
-        let events = ap (λ (h : History). h.events) history in
-        let on : Continues (full_history old.core) (full_history new.core) = record { events = event_of (courses_in old.core) p.piece ∷ []; is = events; plans = []; are = all } in
-        record {
-          catalog = catalog;
-          conflicts = ap (λ (c : CoreState). c.conflicts) is;
-          opening = ap (λ (c : CoreState). c.opening) is;
-          added = (answer_in old.core (finish p.piece.number outcome)).kept;
-          kept = ap (λ (c : CoreState). c.kept) is;
-          started = [];
-          plans = all;
-          came = ((disk new.files.rack).moment, event_of (courses_in old.core) p.piece) ∷ [];
-          events = events;
-          tells = tells;
-          later = later;
-          follow = follow;
-          images = λ told. (
-            record {
-              later = (follow told).later;
-              by_now = omega arith;
-              until = λ files left. inr (⊎_elim (λ before. inl (sound_before catalog on files before))
-                  (λ after. inr (sound_after catalog now.session.one_each (history_with old.core p.piece) _ events history files after)) ((either told).has files left));
-            },
-            record {
-              has = λ files left. inl (subst (λ es. IsSound new.catalog (beginning (full_history new.core) es) files) events (sound_now new.catalog new.core now.session.one_each files ((at_end told).has files left)));
-            },
-          );
-        }
+        events_goes (history_with old.core p.piece) (event_of (courses_in old.core) p.piece ∷ []) [] (answer_in old.core (finish p.piece.number outcome)).kept (λ none. cc) refl (sym (append-nil old.core.plans)) now
+        (ap (λ (c : CoreState). c.conflicts) is) (ap (λ (c : CoreState). c.opening) is) (ap (λ (c : CoreState). c.kept) is) catalog history either at_end
 
     pub start_goes : (p : Plan) (i : ℕ) → IsCore new.core → (answer_in old.core (start (course_of p))).reply ≡ started i → new.core ≡ after_start old.core p → new.catalog ≡ old.catalog
         → (Told (disk old.files.rack) → EachImage (disk new.files.rack) (disk old.files.rack).moment (IsSoundForEither old.catalog (full_history old.core) (started_with old.core p)))
@@ -192,35 +203,8 @@ module _ {R B : Type 0} (disk : R → Disk) (faults : R → ℕ) (may_start : Li
         → GoesOn disk faults may_start old new
     start_goes p i now reply is catalog either at_end =
         let free = free_by _ _ i (course_of p) (start_refusal (courses_in old.core) (moment_of old.core) (course_of p)) reply in
-        let history = ap full_history is ∙ history_after old.core core p free in
-        let events = ap (λ (h : History). h.events) history in
-        let all = ap (λ (h : History). h.plans) history in
-        let on : Continues (full_history old.core) (full_history new.core) = record { events = Started (length old.core.plans + 1) ∷ []; is = events; plans = p ∷ []; are = all } in
-        record {
-          catalog = catalog;
-          conflicts = ap (λ (c : CoreState). c.conflicts) is;
-          opening = ap (λ (c : CoreState). c.opening) is;
-          added = (answer_in old.core (start (course_of p))).kept;
-          kept = ap (λ (c : CoreState). c.kept) is;
-          started = p ∷ [];
-          plans = all;
-          came = ((disk new.files.rack).moment, Started (length old.core.plans + 1)) ∷ [];
-          events = events;
-          tells = tells;
-          later = later;
-          follow = follow;
-          images = λ told. (
-            record {
-              later = (follow told).later;
-              by_now = omega arith;
-              until = λ files left. inr (⊎_elim (λ before. inl (sound_before catalog on files before))
-                  (λ after. inr (sound_after catalog now.session.one_each (started_with old.core p) _ events history files after)) ((either told).has files left));
-            },
-            record {
-              has = λ files left. inl (subst (λ es. IsSound new.catalog (beginning (full_history new.core) es) files) events (sound_now new.catalog new.core now.session.one_each files ((at_end told).has files left)));
-            },
-          );
-        }
+        events_goes (started_with old.core p) (Started (length old.core.plans + 1) ∷ []) (p ∷ []) (answer_in old.core (start (course_of p))).kept (λ none. cc) refl refl now
+        (ap (λ (c : CoreState). c.conflicts) is) (ap (λ (c : CoreState). c.opening) is) (ap (λ (c : CoreState). c.kept) is) catalog (ap full_history is ∙ history_after old.core core p free) either at_end
 
     -- a start that is refused, whatever the cause,
     pub refused_start_goes : (p : Plan) (why : EngineStartWhy) → IsOneOf may_start p → (why ≡ whys.DiskFault → IsFree old.core p) → (why ≢ whys.DiskFault → new ≡ old) → (why ≡ whys.DiskFault → (new.phase ≡ phase.Closed) × (new.core ≡ old.core)) → new.catalog ≡ old.catalog
@@ -232,7 +216,7 @@ module _ {R B : Type 0} (disk : R → Disk) (faults : R → ℕ) (may_start : Li
         nothing same = subst (λ e. GoesOn disk faults may_start old e) (sym same) (goes_none disk faults may_start old core each)
 
         by : (w : EngineStartWhy) → (w ≡ whys.DiskFault → IsFree old.core p) → (w ≢ whys.DiskFault → new ≡ old) → (w ≡ whys.DiskFault → (new.phase ≡ phase.Closed) × (new.core ≡ old.core)) → GoesOn disk faults may_start old new
-        by whys.DiskFault free' left closed = fault_goes (started_with old.core p) (inr (p, one, free' refl, refl)) (closed refl).1 catalog (closed refl).0 either
+        by whys.DiskFault free' left closed = fault_goes (started_with old.core p) (inr (inl (p, one, free' refl, refl))) (closed refl).1 catalog (closed refl).0 either
         by (whys.Closed n) free' left closed = nothing (left (λ is. cc))
         by (whys.TooMany n) free' left closed = nothing (left (λ is. cc))
         by (whys.NoRoom n) free' left closed = nothing (left (λ is. cc))

@@ -1,6 +1,6 @@
 -- That an engine goes on: by no call, and by one run of calls after another.
 use Rattle.std.proofs.Common.{◌≡◌, ◌∙◌, ◌≤◌, ℕ, List, [], ◌++◌, length, take, inl, refl, ap, subst, sym, append-nil, append_assoc, length-append, arith}
-use Rattle.std.proofs.lemmas.List.{map-append, take-append-le}
+use Rattle.std.proofs.lemmas.List.{take-append-le}
 use Rattle.process_disk.specs.Disk.{Disk, FileSet, IsHonest, Told}
 use Rattle.process_disk.specs.Images.{EachImage}
 use Rattle.process_disk.proofs.Images.{follow_none, follow_then, still_told}
@@ -19,7 +19,7 @@ use Rattle.engine_steps.specs.declared.engines.Phase.TheVariants as phase
 use Rattle.engine_calls.proofs.Beginnings.{Continues, OneEach, continues_none, is_beginning}
 use Rattle.engine_calls.specs.Acknowledged.{ComeInTurn, IsOneAhead, events_of}
 use Rattle.engine_calls.specs.Runs.{GoesOn}
-use Rattle.engine_calls.proofs.Acknowledged.{in_turn_then}
+use Rattle.engine_calls.proofs.Acknowledged.{events_of-append, in_turn_then}
 
 -- an engine that is settled isn't closed
 not_both : (on : Phase) → on ≡ phase.Settled → on ≡ phase.Closed → ⊥
@@ -85,7 +85,7 @@ module _ {R B : Type 0} (disk : R → Disk) (faults : R → ℕ) (may_start : Li
       plans = second.plans ∙ (ap (λ ps. ps ++ second.started) first.plans ∙ append_assoc old.core.plans first.started second.started);
       came = first.came ++ second.came;
       events = second.events ∙ (ap (λ es. es ++ events_of second.came) first.events ∙ (append_assoc (history_of old.core) (events_of first.came) (events_of second.came)
-          ∙ ap (λ es. history_of old.core ++ es) (sym (map-append (λ (e : ℕ × Event). e.1) first.came second.came))));
+          ∙ ap (λ es. history_of old.core ++ es) (sym (events_of-append first.came second.came))));
       tells = second.tells ∙ first.tells;
       later = omega (arith, first.later, second.later);
       follow = λ told. follow_then (disk old.files.rack) (disk mid.files.rack) (disk new.files.rack) (honest (told_new told)) (first.follow told) (second.follow (told_mid told));

@@ -3,6 +3,7 @@ pub mod Acknowledged
 pub mod Goes
 pub mod Opened
 pub mod Ends
+pub mod GroupCalls
 pub mod HandedPieces
 pub mod GateRuns
 pub mod GateEnds

@@ -25,7 +25,7 @@ pub record FromOpening (holds : ℕ → Type 0) (old new : Disk) : Type 0 where
 -- ahead of it. Unless a call of the rack failed they are sound for the history now, and so is each image of them from now on.
 pub record AreKept (c : Catalog) (h : History) (now : CoreState) (IsAhead : FileSet → Type 0) (on : Phase)
     (old new : Disk) : Type 0 where
-  pub came : List (ℕ × Event)
+  pub came : List (ℕ × List Event)
   pub events : history_of now ≡ h.events ++ events_of came
   pub started : List Plan
   pub plans : now.plans ≡ h.plans ++ started

@@ -40,7 +40,7 @@ pub record GoesOn {R B : Type 0} (disk : R → Disk) (faults : R → ℕ) (may_s
   pub started : List Plan
   pub plans : new.core.plans ≡ old.core.plans ++ started
   -- what happened meanwhile, and from which moment on it is kept
-  pub came : List (ℕ × Event)
+  pub came : List (ℕ × List Event)
   pub events : history_of new.core ≡ history_of old.core ++ events_of came
   pub tells : (disk new.files.rack).tells ≡ (disk old.files.rack).tells
   pub later : faults old.files.rack ≤ faults new.files.rack

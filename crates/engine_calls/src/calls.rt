@@ -103,6 +103,7 @@ pub fn start<R: Rack + Drop, B: Resource>(
     ensures reply { IfOk result (λ i. (answer_in engine.old.core (start (course_of plan))).reply ≡ started i) }
     ensures core { OnOk result (engine.new.core ≡ after_start engine.old.core plan) }
     ensures refused { IfErr result (IsNotStarted engine.old engine.new plan) }
+    ensures stores { engine.new.files.stores ≡ engine.old.files.stores }
     ensures fault { IsFault result → Rose (R.faults engine.old.files.rack) (R.faults engine.new.files.rack) }
     ensures goes { (may_start : List Plan') → IsOneOf may_start plan → GoesOn R.disk R.faults may_start engine.old engine.new }
     ensures ready { OnOk result (IsReady B.meaning B.sort engine.new) }

@@ -11,3 +11,4 @@ pub mod MoreQueued
 pub mod QueueReplies
 pub mod StillQueued
 pub mod QueuedThen
+pub mod QueuedCalls

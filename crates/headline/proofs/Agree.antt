@@ -36,7 +36,7 @@ pub agrees : (c : Catalog) (h read : History) → IsGood (do_conflict c.conflict
 agrees c h read good courses part rest events is =
     ap (λ cs. completed cs read.events) courses ∙ ap (λ es. completed (courses_of h.plans) es) events ∙ on_the_way c h good part rest is
 
-module _ {S K R : Type 0} (c : Catalog) (h : History) (good : IsGood (do_conflict c.conflicts) h.plans h.events) (before after : World S K R) (now : CoreState) (came : List (ℕ × Event))
+module _ {S K R : Type 0} (c : Catalog) (h : History) (good : IsGood (do_conflict c.conflicts) h.plans h.events) (before after : World S K R) (now : CoreState) (came : List (ℕ × List Event))
     (went : WentOn (Some Restart) c h before after now came) where
   abbrev k : History
   k = went.opened

@@ -1,11 +1,13 @@
 -- What a stop leaves: files that are sound for a beginning of the history which holds what was acknowledged.
-use Rattle.std.proofs.Common.{◌≡◌, ◌∙◌, ◌≤◌, ◌<◌, ℕ, Bool, true, false, leb, leb-true, List, [], ◌∷◌, ◌++◌, Option, Some, None, inl, inr, ⊎_elim, refl, ap, subst, sym, append-nil, append_assoc, arith}
+use Rattle.std.proofs.Common.{◌≡◌, ◌∙◌, ◌≤◌, ◌<◌, ℕ, Bool, true, false, leb, leb-true, List, [], ◌∷◌, ◌++◌, ◌+◌, length, map, Option, Some, None, inl, inr, ⊎_elim, refl, ap, subst, sym, append-nil, append_assoc, arith}
 use Rattle.std.proofs.lemmas.Bool.{leb-false}
 use Rattle.process_disk.specs.Disk.{FileSet, IsHonest}
 use Rattle.schedule_model.specs.declared.event.Event.{Event}
+use Rattle.schedule_model.specs.declared.event.Event.TheVariants.{Start}
 use Rattle.schedule_model.specs.declared.history.History.{History}
 use Rattle.commute_table.specs.declared.catalog.Catalog.{Catalog}
-use Rattle.process_core.specs.Cores.{CoreState, history_of}
+use Rattle.machine_model.specs.Advance.{event_of}
+use Rattle.process_core.specs.Cores.{CoreState, courses_in, history_of}
 use Rattle.process_journal.specs.Laws.{IsSameHistory, beginning}
 use Rattle.history_files.specs.Sound.{IsSound}
 use Rattle.engine_steps.specs.Engines.{full_history}
@@ -17,20 +19,24 @@ use Rattle.process_top.specs.Worlds.{World}
 use Rattle.engine_calls.specs.Acknowledged.{ComeInTurn, IsUnderWay, acknowledged, events_of}
 use Rattle.headline.specs.Headline.{HoldsAcknowledged, IsAhead, IsAtEntry, IsBeginningOf, WentOn, WereLeft}
 use Rattle.engine_calls.proofs.Acknowledged.{Holds, held, none_yet, prefix}
+use Rattle.engine_calls.proofs.GroupCalls.{events_with}
 use Rattle.same_histories.proofs.SameHistories.{same_itself, same_turned}
 use Rattle.headline.proofs.GoodHistories.{whole_beginning}
 
--- what may be under way is one event more
-under_way : (plans : List Plan) (now : CoreState) (k : History) → IsUnderWay plans now k → (e : Event) × (k.events ≡ history_of now ++ e ∷ [])
-under_way plans now k (inl piece) = (_, ap (λ h. h.events) piece.3)
-under_way plans now k (inr start) = (_, ap (λ h. h.events) start.3)
+-- what may be under way adds events to the history
+under_way : (plans : List Plan) (now : CoreState) (k : History) → IsUnderWay plans now k → (es : List Event) × (k.events ≡ history_of now ++ es)
+under_way plans now k (inl piece) = (event_of (courses_in now) piece.0 ∷ [], ap (λ h. h.events) piece.3)
+under_way plans now k (inr (inl start)) = (Start (length now.plans + 1) ∷ [], ap (λ h. h.events) start.3)
+under_way plans now k (inr (inr group)) =
+    let events = map (event_of (courses_in now)) group.0 in
+    (events, ap (λ h. h.events) group.2 ∙ events_with (full_history now) events)
 
 pub ahead_events : (o : Option Command) (before after : Input) (c : Catalog) (h : History) (now : CoreState) (k : History) → IsAhead o before after c h now k
-    → (e : Event) × (k.events ≡ history_of now ++ e ∷ [])
+    → (es : List Event) × (k.events ≡ history_of now ++ es)
 ahead_events (Some (Run workers)) before after c h now k ahead = under_way ahead.0 now k ahead.2
 ahead_events (Some Session) before after c h now k ahead = under_way ahead.0 now k ahead.3
 ahead_events (Some Serve) before after c h now k (plans, first, taken, read, spelled, ahead) = under_way (plans ++ spelled) now k ahead
-ahead_events (Some Restart) before after c h now k ahead = (ahead.event, ap (λ h. h.events) ahead.is)
+ahead_events (Some Restart) before after c h now k ahead = (ahead.event ∷ [], ap (λ h. h.events) ahead.is)
 ahead_events (Some Check) before after c h now k ahead = absurd ahead
 ahead_events (Some Init) before after c h now k ahead = absurd ahead
 ahead_events (Some Show) before after c h now k ahead = absurd ahead
@@ -40,13 +46,13 @@ ahead_events (Some (Bulk number count)) before after c h now k ahead = absurd ah
 ahead_events None before after c h now k ahead = absurd ahead
 
 -- Files that a stop left are sound for this history.
-pub record LeftAs (c : Catalog) (h : History) (MayBeAhead : History → Type 0) (now : CoreState) (came : List (ℕ × Event)) (moment : ℕ) (left : FileSet) : Type 0 where
+pub record LeftAs (c : Catalog) (h : History) (MayBeAhead : History → Type 0) (now : CoreState) (came : List (ℕ × List Event)) (moment : ℕ) (left : FileSet) : Type 0 where
   pub history : History
   pub sound : IsSound c history left
   pub begins : IsBeginningOf MayBeAhead now history
   pub holds : HoldsAcknowledged h came moment history
 
-module _ {S K R : Type 0} (o : Option Command) (c : Catalog) (h : History) (before after : World S K R) (now : CoreState) (came : List (ℕ × Event)) (went : WentOn o c h before after now came)
+module _ {S K R : Type 0} (o : Option Command) (c : Catalog) (h : History) (before after : World S K R) (now : CoreState) (came : List (ℕ × List Event)) (went : WentOn o c h before after now came)
     (honest : IsHonest after.files.disk) (entry : IsAtEntry c h before.files.disk) (moment : ℕ) (left : FileSet) (stopped : WereLeft before after moment left) where
   abbrev Ahead : History → Type 0
   Ahead = IsAhead o before.input after.input c went.opened now
@@ -94,7 +100,7 @@ module _ {S K R : Type 0} (o : Option Command) (c : Catalog) (h : History) (befo
     holds = (held.middle, refl);
   }
 
-  -- it has the event under way too
+  -- it has what was under way too
   one_ahead : AheadFiles left → Left
   one_ahead (k, ahead, sound) =
       let more = ahead_events o before.input after.input c went.opened now k ahead in
@@ -104,9 +110,9 @@ module _ {S K R : Type 0} (o : Option Command) (c : Catalog) (h : History) (befo
         sound = sound;
         begins = (k, inr ahead, [], sym (append-nil k.events), subst (λ g. IsSameHistory g k) (whole_beginning c k sound.history) (same_itself k));
         holds = (
-          part.0 ++ more.0 ∷ [],
-          more.1 ∙ (ap (λ es. es ++ more.0 ∷ []) (went.events ∙ (ap (λ es. h.events ++ es) part.1 ∙ sym (append_assoc h.events (acknowledged moment came) part.0)))
-              ∙ append_assoc (h.events ++ acknowledged moment came) part.0 (more.0 ∷ [])),
+          part.0 ++ more.0,
+          more.1 ∙ (ap (λ es. es ++ more.0) (went.events ∙ (ap (λ es. h.events ++ es) part.1 ∙ sym (append_assoc h.events (acknowledged moment came) part.0)))
+              ∙ append_assoc (h.events ++ acknowledged moment came) part.0 more.0),
         );
       }
 

@@ -46,7 +46,7 @@ use Rattle.headline.proofs.Restored.{restart_images, restored}
 use Rattle.same_histories.proofs.SameHistories.{one_sound, same_through}
 use Rattle.headline.proofs.GoodHistories.{whole_beginning}
 
-module _ {S K R : Type 0} (c : Catalog) (h : History) (MayBeAhead : History → Type 0) (now : CoreState) (came : List (ℕ × Event)) (moment : ℕ) (left : FileSet) (found : LeftAs c h MayBeAhead now came moment left)
+module _ {S K R : Type 0} (c : Catalog) (h : History) (MayBeAhead : History → Type 0) (now : CoreState) (came : List (ℕ × List Event)) (moment : ℕ) (left : FileSet) (found : LeftAs c h MayBeAhead now came moment left)
     (words : List (List ℕ)) (again last : World S K R) (number : ℕ) (on : IsRestartOn left words again last number) (honest : IsHonest last.files.disk) (opened : SoundFilesAreOpened)
     (books : BooksAreReadBack) where
   abbrev g : History

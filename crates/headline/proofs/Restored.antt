@@ -50,7 +50,7 @@ module _ (gate : AskedGate) (c : Catalog) (h : History) (now : CoreState) (on : 
   abbrev AheadFiles : FileSet → Type 0
   AheadFiles = IsNextOfCompletion c h now on
 
-  abbrev came : List (ℕ × Event)
+  abbrev came : List (ℕ × List Event)
   came = restart.kept.came
 
   -- its own beginnings are those of the history with its completion

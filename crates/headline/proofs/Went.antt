@@ -1,7 +1,7 @@
 -- What a call that goes on with an engine did to the files, whatever it came to: it was refused, or its engine went on.
 use Rattle.std.proofs.Common.{◌≡◌, ◌⊎◌, ◌∙◌, ◌≤◌, ℕ, true, List, [], ◌∷◌, ◌++◌, Option, inl, inr, refl, ap, subst, sym, append-nil, arith}
 use Rattle.std.proofs.lemmas.List.{append_cancel_left}
-use Rattle.process_disk.specs.Disk.{FileSet, IsHonest, Told}
+use Rattle.process_disk.specs.Disk.{Disk, FileSet, IsHonest, Told}
 use Rattle.process_disk.specs.Images.{EachImage}
 use Rattle.schedule_model.specs.declared.event.Event.{Event}
 use Rattle.schedule_model.specs.declared.history.History.{History}
@@ -36,24 +36,31 @@ use Rattle.headline.proofs.Exits.{refused_fault}
 use Rattle.same_histories.proofs.SameHistories.{one_sound, same_itself}
 use Rattle.headline.proofs.GoodHistories.{whole_beginning}
 
--- events that add nothing to others are none
-none_came : (es : List Event) (came : List (ℕ × Event)) → es ≡ es ++ events_of came → came ≡ []
-none_came es [] is = refl
-none_came es (e ∷ came) is = absurd (let more : e.1 ∷ events_of came ≡ [] = append_cancel_left es (e.1 ∷ events_of came) [] (sym is ∙ sym (append-nil es)) in cc)
+-- where two lists are nothing so is the first
+first_empty : (es more : List Event) → es ++ more ≡ [] → es ≡ []
+first_empty [] more is = refl
+first_empty (e ∷ es) more is = absurd cc
+
+-- groups that add nothing to events are none
+none_came : (c : Catalog) (h : History) (IsAhead : FileSet → Type 0) (disk : Disk) (there : List Event) (t : ℕ) (came : List (ℕ × List Event)) → ComeInTurn c h IsAhead disk there t came
+    → (es : List Event) → es ≡ es ++ events_of came → came ≡ []
+none_came c h IsAhead disk there t [] turn es is = refl
+none_came c h IsAhead disk there t (e ∷ came) turn es is =
+    absurd (turn.0 (first_empty e.1 (events_of came) (append_cancel_left es (e.1 ++ events_of came) [] (sym is ∙ sym (append-nil es)))))
 
 module _ {S K R : Type 0} (o : Option Command) (c : Catalog) (h : History) (before after : World S K R) (entry : IsAtEntry c h before.files.disk)
     (number : ℕ) (status : Status) (numbered : number ≡ number_of status) (known : Told after.files.disk) (honest : IsHonest after.files.disk) where
   abbrev pub Went : Type 0
-  Went = (now : CoreState) × (came : List (ℕ × Event)) × WentOn o c h before after now came × LeavesFiles o c before after number now came
+  Went = (now : CoreState) × (came : List (ℕ × List Event)) × WentOn o c h before after now came × LeavesFiles o c before after number now came
 
   -- unless the rack failed, the files are sound for a history, and so is whatever a crash leaves from now on
   abbrev pub Stay : Catalog → History → Type 0
   Stay d k = ¬ IsRackFault status before after → IsSound d k after.files.disk.files × EachImage after.files.disk after.files.disk.moment (IsSound d k)
 
-  abbrev pub NoneBeforehand : List (ℕ × Event) → Type 0
+  abbrev pub NoneBeforehand : List (ℕ × List Event) → Type 0
   NoneBeforehand came = is_refused_beforehand status ≡ true → ¬ FailsInDialogue o status → came ≡ []
 
-  leaves : (now : CoreState) (came : List (ℕ × Event)) → NoneBeforehand came → Stay c (full_history now) → LeavesFiles o c before after number now came
+  leaves : (now : CoreState) (came : List (ℕ × List Event)) → NoneBeforehand came → Stay c (full_history now) → LeavesFiles o c before after number now came
   leaves now came none stay = record {
     status = status;
     numbered = numbered;
@@ -167,4 +174,4 @@ module _ {S K R : Type 0} (o : Option Command) (c : Catalog) (h : History) (befo
   pub nothing : (d : Catalog) (k : History) → AreOnlyOpened d k before.files.disk after.files.disk → Went
   nothing d k are =
       kept d k (opened_on d.conflicts k.plans k.events) (λ files. ⊥) Settled are (core_of_history d k (are.sound told).history) (inl refl) (λ files none. absurd none)
-      (λ well. refl) (λ early reads. none_came k.events are.came are.events)
+      (λ well. refl) (λ early reads. none_came d (full_history (opened_on d.conflicts k.plans k.events)) (λ files. ⊥) after.files.disk k.events (are.in_turn told).moment are.came (are.in_turn told).since k.events are.events)

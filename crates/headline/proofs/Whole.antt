@@ -42,7 +42,7 @@ module _ {S K R B G : Type 0} (sources : Sources S) (sinks : Sinks K) (racks : R
     found : Went (asked words) c h (see before) (see after) entry number answered.status answered.numbered known (honest after.rack known)
     found = went_by c h (see before) (see after) entry number answered.status answered.numbered known (honest after.rack known) (asked words) goes answered.reply answered.due answered.told
 
-    agree : (o : Option Command) (now : CoreState) (came : List (ℕ × Event)) (went : WentOn o c h (see before) (see after) now came) (moment : ℕ) (read : History)
+    agree : (o : Option Command) (now : CoreState) (came : List (ℕ × List Event)) (went : WentOn o c h (see before) (see after) now came) (moment : ℕ) (read : History)
         → IsBeginningOf (IsAhead o (see before).input (see after).input c went.opened now) now read → HoldsAcknowledged h came moment read
         → o ≡ Some Restart → completed_history read ≡ completed_history h
     agree (Some Restart) now came went moment read begins holds is =
@@ -58,7 +58,7 @@ module _ {S K R B G : Type 0} (sources : Sources S) (sinks : Sinks K) (racks : R
     agree (Some (Bulk number count)) now came went moment read begins holds is = absurd cc
     agree None now came went moment read begins holds is = absurd cc
 
-    pub each_restart : (now : CoreState) (came : List (ℕ × Event)) (went : WentOn (asked words) c h (see before) (see after) now came)
+    pub each_restart : (now : CoreState) (came : List (ℕ × List Event)) (went : WentOn (asked words) c h (see before) (see after) now came)
         → OfEachRestart sources sinks racks resources workers words c h before after now came went.opened
     each_restart now came went moment left words' again last number' stopped on =
         let left_so = left_as (asked words) c h (see before) (see after) now came went (honest after.rack known) entry moment left stopped in

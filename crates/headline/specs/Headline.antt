@@ -1,31 +1,26 @@
 -- The sentence that this crate is named for:
 --
 --     However admissions, outcomes and aborts interleave and wherever a stop falls in a device write, restart reads a prefix of the
--- history
---     that holds every acknowledged activity, ends each started process on one whole path or with nothing left, makes the
--- subsystems'
---     books exactly the completed schedule of that prefix, and prints steps that swap nonconflicting neighbours and cancel adjacent
---     compensated pairs until that schedule is serial.
+--     history that holds every acknowledged activity, ends each started process on one whole path or with nothing left, makes the
+--     subsystems' books exactly the completed schedule of that prefix, and prints steps that swap nonconflicting neighbours and
+--     cancel adjacent compensated pairs until that schedule is serial.
 --
 -- What its parts are in the definitions:
 --
 -- - 'However .. interleave': the call that stops is one of `run`, `session`, `serve` or `restart`, on any words, over any source,
--- sink, rack,
---   boxes and gates. The machine came to where it is by what its gate answered or its lines said, whatever that was (`CameBy`).
+--   sink, rack, boxes and gates. The machine came to where it is by what its gate answered or its lines said, whatever that was
+--   (`CameBy`).
 -- - 'Wherever a stop falls': a moment of the call, between two device calls or within one, and any files that the device may have
--- kept since
---   then (`WereLeft`). The next call finds them, and nobody else wrote them (`IsRestartOn`).
--- - 'A prefix of the history': the first events of the machine's history, or of that with the one event that was under way, with
--- the plans of
---   the processes that start in them (`IsBeginningOf`).
--- - 'Every acknowledged activity': each event of the call stands beside the moment from which on every image holds it. All with a
--- moment no
---   later than the stop are there, and so is all that was there at entry (`HoldsAcknowledged`).
+--   kept since then (`WereLeft`). The next call finds them, and nobody else wrote them (`IsRestartOn`).
+-- - 'A prefix of the history': the first events of the machine's history, or of that with what was under way, one event or those of
+--   one group, with the plans of the processes that start in them (`IsBeginningOf`).
+-- - 'Every acknowledged activity': each group of events of the call, one event by itself or several that took effect together,
+--   stands beside the moment from which on every image holds all of it. All with a moment no later than the stop are there, and so
+--   is all that was there at entry (`HoldsAcknowledged`).
 -- - 'One whole path or nothing left', 'books exactly', 'prints steps .. until serial': the fields of `IsCompleted`. A process has
--- ended with
--- the steps of one whole path as its net, or with none; each book is the effects of the completed history, and each box has its
--- values; the report has these steps, which apply one after another to the completed schedule, and the list that they come to is
--- serial.
+--   ended with the steps of one whole path as its net, or with none; each book is the effects of the completed history, and each
+--   box has its values; the report has these steps, which apply one after another to the completed schedule, and the list that they
+--   come to is serial.
 --
 -- Where a process uses up its tries, memory is wanting or a device fails, what `restart` read is still such a prefix
 -- (`IsRecovered`).
@@ -114,8 +109,9 @@ CameBy (Some Serve) gates before after c h now =
 CameBy (Some Restart) gates before after c h now = IsCompleting (first_gate gates) c h now
 CameBy o gates before after c h now = ⊥
 
--- The history of the machine with the event that may have been under way: of a piece that is out, of a start of the scenario's, or
--- the next of the completion. In a dialogue it may be the start of another plan too, as a line may spell one out.
+-- The history of the machine with what may have been under way: the event of a piece that is out, those of several, a start of the
+-- scenario's, or the next event of the completion. In a dialogue it may be the start of another plan too, as a line may spell one
+-- out.
 abbrev pub IsAhead : Option Command → Input → Input → Catalog → History → CoreState → History → Type 0
 IsAhead (Some (Run workers)) before after c h now k =
     (plans : List Plan) × IsScenarioRead before after c plans × IsUnderWay plans now k
@@ -128,9 +124,9 @@ IsAhead (Some Restart) before after c h now k = IsNextHistory h now k
 IsAhead o before after c h now k = ⊥
 
 -- A call on files of this history, from one world to another: the machine opened on the history, wherever its plans lie, and went
--- on to where it is now. What came is acknowledged event by event, and kept from then on.
+-- on to where it is now. What came is acknowledged group by group, and kept from then on.
 pub record WentOn {S K R : Type 0} (o : Option Command) (c : Catalog) (h : History) (before after : World S K R) (now : CoreState)
-    (came : List (ℕ × Event)) : Type 0 where
+    (came : List (ℕ × List Event)) : Type 0 where
   pub opened : History
   pub same : IsSameHistory h opened
   pub machine : IsCore now
@@ -179,7 +175,7 @@ pub record IsAtEntry (c : Catalog) (h : History) (disk : Disk) : Type 0 where
 
 -- What a call that ended leaves, of which this came.
 pub record LeavesFiles {S K R : Type 0} (o : Option Command) (c : Catalog) (before after : World S K R) (number : ℕ)
-    (now : CoreState) (came : List (ℕ × Event)) : Type 0 where
+    (now : CoreState) (came : List (ℕ × List Event)) : Type 0 where
   pub status : Status
   pub numbered : number ≡ number_of status
   -- what was refused beforehand did nothing; but in a dialogue the source may fail at any line
@@ -213,19 +209,19 @@ NothingIsExhausted gate c h =
 
 -- The conclusion.
 
--- a history is a beginning of that of the machine, or of that with the event under way, wherever its plans lie
+-- a history is a beginning of that of the machine, or of that with what was under way, wherever its plans lie
 abbrev pub IsBeginningOf : (History → Type 0) → CoreState → History → Type 0
 IsBeginningOf MayBeAhead now read =
     (k : History) × ((k ≡ full_history now) ⊎ MayBeAhead k) × (rest : List Event) × (k.events ≡ read.events ++ rest)
     × IsSameHistory (beginning k read.events) read
 
 -- it holds what was there at first, and every event that was acknowledged by a moment
-abbrev pub HoldsAcknowledged : History → List (ℕ × Event) → ℕ → History → Type 0
+abbrev pub HoldsAcknowledged : History → List (ℕ × List Event) → ℕ → History → Type 0
 HoldsAcknowledged h came moment read = (rest : List Event) × (read.events ≡ h.events ++ acknowledged moment came ++ rest)
 
 -- What `restart` reads of files that a stop left, whatever becomes of it: of a history of which this may be ahead, this is read.
 pub record IsRecovered {S K R : Type 0} (c : Catalog) (h : History) (MayBeAhead : History → Type 0) (now : CoreState)
-    (came : List (ℕ × Event)) (moment : ℕ) (read : History)
+    (came : List (ℕ × List Event)) (moment : ℕ) (read : History)
     (words : List (List ℕ)) (again last : World S K R) (number : ℕ) : Type 0 where
   pub reads : IsSound c read again.files.disk.files
   -- it is a beginning of the history, and holds every acknowledged event
@@ -264,7 +260,7 @@ pub record IsCompleted {S K R : Type 0} (c : Catalog) (read : History) (again la
 
 -- The sentence: what `restart` makes of files that a stop left at a moment of a call, where nothing goes wrong.
 pub record IsRestored {S K R : Type 0} (c : Catalog) (h : History) (MayBeAhead : History → Type 0) (now : CoreState)
-    (came : List (ℕ × Event)) (moment : ℕ) (left : FileSet)
+    (came : List (ℕ × List Event)) (moment : ℕ) (left : FileSet)
     (again last : World S K R) : Type 0 where
   -- it reads a beginning of the history
   pub read : History
@@ -306,7 +302,7 @@ module _ {S K R B G : Type 0} (sources : Sources S) (sinks : Sinks K) (racks : R
 
   -- What is said of a restart, of a stopped call that went on so, and of the files that it left.
   abbrev pub OfEachRestart : List (List ℕ) → Catalog → History → Outside S K R B G → Outside S K R B G → CoreState
-      → List (ℕ × Event) → History → Type 0
+      → List (ℕ × List Event) → History → Type 0
   OfEachRestart words c h before after now came opened =
       (moment : ℕ) (left : FileSet) (words' : List (List ℕ)) (again last : Outside S K R B G) (number : ℕ)
       → WereLeft (seen before) (seen after) moment left → IsRestartOn left words' (seen again) (seen last) number
@@ -323,7 +319,7 @@ module _ {S K R B G : Type 0} (sources : Sources S) (sinks : Sinks K) (racks : R
   StopsAreRestored =
       (words : List (List ℕ)) (before after : Outside S K R B G) (number : ℕ) (c : Catalog) (h : History)
       → goes_on (asked words) ≡ true → Answers words (seen before) (seen after) number → IsAtEntry c h (seen before).files.disk
-      → (now : CoreState) × (came : List (ℕ × Event)) × (went : WentOn (asked words) c h (seen before) (seen after) now came)
+      → (now : CoreState) × (came : List (ℕ × List Event)) × (went : WentOn (asked words) c h (seen before) (seen after) now came)
       × LeavesFiles (asked words) c (seen before) (seen after) number now came
       × OfEachRestart words c h before after now came went.opened
 
@@ -346,7 +342,7 @@ module _ {S K R B G : Type 0} (sources : Sources S) (sinks : Sinks K) (racks : R
   Headline =
       (words : List (List ℕ)) (before after : Outside S K R B G) (number : ℕ) (c : Catalog) (h : History)
       → goes_on (asked words) ≡ true → Answers words (seen before) (seen after) number → IsAtEntry c h (seen before).files.disk
-      → (now : CoreState) × (came : List (ℕ × Event)) × (went : WentOn (asked words) c h (seen before) (seen after) now came)
+      → (now : CoreState) × (came : List (ℕ × List Event)) × (went : WentOn (asked words) c h (seen before) (seen after) now came)
       × ((moment : ℕ) (left : FileSet) (words' : List (List ℕ)) (again last : Outside S K R B G) (number' : ℕ)
       → Premises before after c moment left words' again last number'
       → (number' ≡ number_of Done)

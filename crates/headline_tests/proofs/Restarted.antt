@@ -32,7 +32,7 @@ module _ {S K B G : Type 0} (sources : Sources S) (sinks : Sinks K) (racks : Rac
   Found c before after o =
       let old = see sources sinks racks resources workers before in
       let new = see sources sinks racks resources workers after in
-      (now : CoreState) × (came : List (ℕ × Event)) × (went : WentOn o c no_history old new now came)
+      (now : CoreState) × (came : List (ℕ × List Event)) × (went : WentOn o c no_history old new now came)
       × ((moment : ℕ) (left : FileSet) (words : List (List ℕ)) (again last : Outside S K MemoryRack B G) (number : ℕ)
       → WereLeft old new moment left → IsRestartOn left words (see sources sinks racks resources workers again) (see sources sinks racks resources workers last) number
       → (read : History)

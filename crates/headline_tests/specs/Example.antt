@@ -53,7 +53,7 @@ module _ {S K R B G : Type 0} (sources : Sources S) (sinks : Sinks K) (racks : R
     pub told : last.sink ≡ sink
     -- the conclusion
     pub now : CoreState
-    pub came : List (ℕ × Event)
+    pub came : List (ℕ × List Event)
     pub went : WentOn (Some Session) catalog no_history (see before) (see after) now came
     pub read : History
     pub recovered : IsRecovered catalog no_history

@@ -116,6 +116,16 @@ one_self p q = ap (λ t. one_if (t && nat_eq q q)) (eq-eqb p p refl) ∙ ap one_
 pub counted_same : (rows : List OpenProcess) (added other : Pairs) (old new : List (List ℕ)) → ((i k : ℕ) → added i k ≡ other i k) → IsCounted rows added old new → IsCounted rows other old new
 counted_same rows added other old new' same e = record { count = e.count; tell = λ i k here there. e.tell i k here there ∙ ap (counted rows old i k +◌) (same i k) }
 
+-- the pair of two entries that conflict, counted at the places of their processes
+pub pair_counted : (table : ConflictRelation) (rows : List OpenProcess) (x y : Entry) (from to : ℕ) (old new : List (List ℕ)) → AreDistinctRows rows old
+    → has_number x.process rows ≡ true → has_number y.process rows ≡ true → from ≡ place_of x.process rows → to ≡ place_of y.process rows → conflict table x y ≡ true
+    → IsOneRow from old new → ((d : ℕ) → count_at new from d ≡ count_at old from d + one_if (nat_eq to d)) → IsCounted rows (pair table x y) old new
+pair_counted table rows x y from to old new are here there a b is one row =
+    counted_same rows (one_pair x.process y.process) (pair table x y) old new (λ i k. sym (pair_is table x y is i k))
+    (counted_one rows x.process y.process old new are here there (subst (λ at. IsOneRow at old new) a one)
+    (λ d. subst (λ at. count_at new at d ≡ count_at old at d + one_if (nat_eq (place_of y.process rows) d)) a
+    (subst (λ at. count_at new from d ≡ count_at old from d + one_if (nat_eq at d)) b (row d))))
+
 pub uncounted_same : (rows : List OpenProcess) (taken other : Pairs) (gone : Bool) (old new : List (List ℕ)) → ((i k : ℕ) → taken i k ≡ other i k) → IsUncounted rows taken gone old new → IsUncounted rows other gone old new
 uncounted_same rows taken other gone old new same e = record { count = e.count; tell = λ i k here there. e.tell i k here there ∙ ap (counted rows new i k +◌) (same i k); stays = e.stays }
 

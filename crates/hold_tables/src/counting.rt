@@ -2,7 +2,7 @@
 ghost use Rattle.std.specs.Prelude.{◌≡◌, ◌<◌, ◌+◌, ℕ, nat_eq, slice_index_or};
 ghost use Rattle.process_tree.specs.Conflicts.{do_conflict};
 ghost use Rattle.process_tree.specs.Order.{Each};
-ghost use Rattle.hold_tables.specs.Counts.{HasRoomFor, IsCounted, pair, pairs_by, pairs_to};
+ghost use Rattle.hold_tables.specs.Counts.{HasRoomFor, IsCounted, pair, pairs_by};
 ghost use Rattle.bit_rows.specs.Cells.{one_if};
 ghost use Rattle.hold_tables.specs.Walks.{AreDistinctRows, IsPlaced, IsPlacedIf, step_of, steps_under_way};
 
@@ -23,27 +23,6 @@ fn count_pair(counts: &mut Counts, conflicts: &Conflicts, rows: &[Row], x: Entry
         let from = place_of(rows, x.process);
         let to = place_of(rows, y.process);
         counts.more(from, to);
-    }
-}
-
-/// Counts the pairs of each of these entries and one that comes later.
-pub fn count_to(
-    counts: &mut Counts,
-    conflicts: &Conflicts,
-    rows: &[Row],
-    entries: &[Entry],
-    e: Entry,
-)
-    requires rows { AreDistinctRows rows.now counts.old }
-    requires entries { Each (IsPlaced conflicts.now rows.now) entries.now }
-    requires later { IsPlaced conflicts.now rows.now e }
-    requires room { HasRoomFor rows.now (pairs_to (do_conflict conflicts.now) entries.now e) counts.old }
-    ensures { IsCounted rows.now (pairs_to (do_conflict conflicts.now) entries.now e) counts.old counts.new }
-{
-    let mut rest = entries;
-    'entries: while let Some((x, after)) = rest.split_first() {
-        count_pair(counts, conflicts, rows, *x, e);
-        rest = after;
     }
 }
 

@@ -7,8 +7,8 @@ ghost use Rattle.hold_tables.specs.Walks.{AreRows, IsPlaced, TellWalks, TellWalk
 ghost use Rattle.bit_rows.specs.Cells.{cell};
 ghost use Rattle.hold_tables.specs.Arrows.{IsClosed, TellGraph, TellGraphBut};
 
-use crate::counting::{count_steps, count_to};
-use crate::extending::follow_to;
+use crate::counting::count_steps;
+use crate::extending::join_to;
 use crate::reach::follow_steps;
 use crate::row::Row;
 use bit_rows::{Bits, Counts};
@@ -56,27 +56,16 @@ pub fn close_if(gone: bool, graph: &mut Graph, conflicts: &Conflicts, rows: &[Ro
     }
 }
 
-/// Counts the pairs with a step that came under way, which were left out.
-fn count_run(counts: &mut Counts, conflicts: &Conflicts, rows: &[Row], net: &[Entry], e: Entry)
+/// Counts the pairs with a step that came under way, and adds the arrows to it, which were left out.
+fn join_run(graph: &mut Graph, conflicts: &Conflicts, rows: &[Row], net: &[Entry], e: Entry)
     requires tidy { AreTidy (record { conflicts = conflicts.now; net = net.now; processes = rows.now }) }
+    requires rows { AreRows rows.now graph.old.walks }
     requires placed { IsPlaced conflicts.now rows.now e }
-    requires but { TellCountsBut (record { conflicts = conflicts.now; net = net.now; processes = rows.now })
-        (pairs_to (do_conflict conflicts.now) net.now e) counts.old }
-    ensures tell { TellCounts (record { conflicts = conflicts.now; net = net.now; processes = rows.now }) counts.new }
+    requires but { TellGraphBut (record { conflicts = conflicts.now; net = net.now; processes = rows.now })
+        (pairs_to (do_conflict conflicts.now) net.now e) (arrows_to (do_conflict conflicts.now) net.now e) graph.old }
+    ensures tell { TellGraph (record { conflicts = conflicts.now; net = net.now; processes = rows.now }) graph.new }
 {
-    count_to(counts, conflicts, rows, net, e);
-}
-
-/// Adds the arrows to it to where walks lead.
-fn follow_run(walks: &mut Bits, conflicts: &Conflicts, rows: &[Row], net: &[Entry], e: Entry)
-    requires tidy { AreTidy (record { conflicts = conflicts.now; net = net.now; processes = rows.now }) }
-    requires rows { AreRows rows.now walks.old }
-    requires placed { IsPlaced conflicts.now rows.now e }
-    requires but { TellWalksBut (record { conflicts = conflicts.now; net = net.now; processes = rows.now })
-        (arrows_to (do_conflict conflicts.now) net.now e) walks.old }
-    ensures tell { TellWalks (record { conflicts = conflicts.now; net = net.now; processes = rows.now }) walks.new }
-{
-    follow_to(walks, conflicts, rows, net, e);
+    join_to(graph, conflicts, rows, net, e);
 }
 
 /// What is kept once this is under way, if it makes arrows.
@@ -98,8 +87,7 @@ pub fn tell_run(
     ensures tell { TellGraph (record { conflicts = conflicts.now; net = net.now; processes = rows.now }) graph.new }
 {
     if changed {
-        count_run(&mut graph.counts, conflicts, rows, net, e);
-        follow_run(&mut graph.walks, conflicts, rows, net, e);
+        join_run(graph, conflicts, rows, net, e);
     }
 }
 

@@ -1,9 +1,12 @@
 // The open processes in rows of bits, by their slots.
-ghost use Rattle.std.specs.Prelude.{◌≡◌, ◌<◌, ℕ, IfSome, Some, length};
+ghost use Rattle.std.specs.Prelude.{◌≡◌, ◌<◌, ℕ, IfSome, Some, false, length, true};
+ghost use Rattle.process_tree.specs.Conflicts.{do_conflict};
+ghost use Rattle.schedule_model.specs.Holdings.{reaches};
+ghost use Rattle.hold_tables.specs.Tables.{holdings_of, is_open};
 ghost use Rattle.hold_tables.specs.Slots.{TellReach, TellReserved, slot};
 
 use crate::holds::Holds;
-use crate::looking::place_if;
+use crate::looking::{place_if, place_of};
 use bit_rows::Bits;
 
 impl Holds {
@@ -24,6 +27,15 @@ impl Holds {
         ensures { TellReach self.now result.now }
     {
         &self.graph.walks
+    }
+
+    /// Whether no walk leads from a process.
+    pub fn leads_nowhere(&self, process: u32) -> bool
+        requires open { is_open self.now process ≡ true }
+        ensures none { result ≡ true → (k : ℕ) → is_open self.now k ≡ true
+            → reaches (do_conflict self.now.conflicts) (holdings_of self.now) process k ≡ false }
+    {
+        self.graph.walks.is_row_empty(place_of(&self.rows, process))
     }
 
     /// Which processes have a reserved step of an operation below 256, in the row of the operation.

@@ -31,15 +31,28 @@ fn first_place(rows: &[Row], process: u32) -> usize
     unreachable!()
 }
 
-/// The place of the process with this number: it is halved down to where numbers rise, as those of processes that are opened in
-/// turn.
+/// Where the process with this number stands, if it is there and numbers rise, as those of processes that are opened in turn. It is
+/// looked for first where it stands if none of the numbers since that of the first is missing, and then by halves.
+fn likely_place(rows: &[Row], process: u32) -> usize {
+    let Some((first, _)) = rows.split_first() else {
+        return 0;
+    };
+    let at = process.saturating_sub(first.process()) as usize;
+    if at < rows.len() && rows[at].process() == process {
+        at
+    } else {
+        rows.partition_point(|row| row.process() < process)
+    }
+}
+
+/// The place of the process with this number.
 pub fn place_of(rows: &[Row], process: u32) -> usize
     requires open { has_number process rows.now ≡ true }
     requires numbered { are_numbered rows.now ≡ true }
     ensures place { result ≡ place_of process rows.now }
     ensures within { result < length rows.now }
 {
-    let at = rows.partition_point(|row| row.process() < process);
+    let at = likely_place(rows, process);
     if at < rows.len() && rows[at].process() == process {
         at
     } else {

@@ -17,10 +17,25 @@ ghost use Rattle.core_state.specs.declared.seats.Upcoming.TheVariants.{Task};
 use crate::cores::Core;
 use crate::pieces::Piece;
 use crate::replies::Admit;
-use admission::{Admitted, admit, is_held_up};
+use admission::{Admitted, admit, is_barred, is_held_up, place_of_step};
 use core_state::{Seat, Upcoming, come_under_way};
-use machine_model::{Kept, Todo, Work};
+use machine_model::{Blocked, Kept, Todo, Work};
 use process_tree::Plan;
+
+/// What blocked a process, by which others may be blocked too: the slot of the other process, and the place of its net entry.
+#[derive(Clone, Copy)]
+pub struct Blocker {
+    slot: Option<u16>,
+    entry: Option<usize>,
+}
+
+/// Nothing.
+pub fn no_blocker() -> Blocker {
+    Blocker {
+        slot: None,
+        entry: None,
+    }
+}
 
 /// The next piece of a process, as it is handed out with this number.
 fn piece_told(plan: &Plan, number: u32, process: u32, tried: u8, todo: Todo) -> Piece
@@ -94,29 +109,59 @@ impl Core {
     }
 
     /// Whether a step that comes next is blocked by what the process in a slot has against it.
-    fn is_held(&self, i: u32, todo: Todo, tried: u8, slot: u16) -> bool
+    fn is_held(&self, i: u32, todo: Todo, tried: u8, slot: Option<u16>) -> bool
         requires { upcoming (seat_of (courses_in self.now) (moment_of self.now) i) ≡ Task todo tried }
         ensures { result ≡ true → piece_in (piece_unless (courses_in self.now) (moment_of self.now) i
             (block_of (relation self.now) (courses_in self.now) (moment_of self.now) i)) ≡ None }
     {
+        let Some(slot) = slot else {
+            return false;
+        };
         let plan = &self.history.plans.as_slice()[i as usize - 1];
         is_held_up(&self.holds, plan, i, todo, usize::from(slot))
     }
 
-    /// Whether a process has no piece since the one in a slot, by which another is blocked, blocks it too.
-    pub(crate) fn waits_for(&self, i: u32, slot: Option<u16>) -> bool
+    /// Whether a step that comes next is blocked by a net entry.
+    fn is_behind(&self, i: u32, todo: Todo, tried: u8, entry: Option<usize>) -> bool
+        requires { upcoming (seat_of (courses_in self.now) (moment_of self.now) i) ≡ Task todo tried }
+        ensures { result ≡ true → piece_in (piece_unless (courses_in self.now) (moment_of self.now) i
+            (block_of (relation self.now) (courses_in self.now) (moment_of self.now) i)) ≡ None }
+    {
+        let Some(place) = entry else {
+            return false;
+        };
+        let plan = &self.history.plans.as_slice()[i as usize - 1];
+        is_barred(&self.holds, plan, i, todo, place)
+    }
+
+    /// Whether what blocked another process blocks a step that comes next.
+    fn is_stopped(&self, i: u32, todo: Todo, tried: u8, blocker: Blocker) -> bool
+        requires { upcoming (seat_of (courses_in self.now) (moment_of self.now) i) ≡ Task todo tried }
+        ensures { result ≡ true → piece_in (piece_unless (courses_in self.now) (moment_of self.now) i
+            (block_of (relation self.now) (courses_in self.now) (moment_of self.now) i)) ≡ None }
+    {
+        self.is_held(i, todo, tried, blocker.slot) || self.is_behind(i, todo, tried, blocker.entry)
+    }
+
+    /// Whether a process has no piece since what blocked another blocks it too.
+    pub(crate) fn waits_for(&self, i: u32, blocker: Blocker) -> bool
         ensures { result ≡ true
             → piece_in (admit_reply (relation self.now) (courses_in self.now) (moment_of self.now) i) ≡ None }
     {
-        let Some(slot) = slot else {
-            return false;
-        };
         let Some(seat) = self.seat(i) else {
             return false;
         };
         match seat.upcoming() {
-            Upcoming::Task(todo, tried) => self.is_held(i, todo, tried, slot),
+            Upcoming::Task(todo, tried) => self.is_stopped(i, todo, tried, blocker),
             _ => false,
+        }
+    }
+
+    /// What a block is on.
+    pub(crate) fn blocker(&self, block: Blocked) -> Blocker {
+        Blocker {
+            slot: self.holds.slot(block.on),
+            entry: place_of_step(&self.holds, block.on, block.other),
         }
     }
 

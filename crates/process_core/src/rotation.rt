@@ -9,6 +9,7 @@ ghost use Rattle.core_state.specs.Cores.{courses_in, moment_of, relation};
 ghost use Rattle.process_core.specs.Rotation.{exhausted_in, first_told, piece_in, waiting_in, waiting_of};
 
 use crate::cores::Core;
+use crate::handing::no_blocker;
 use crate::pieces::Piece;
 use crate::replies::{Admit, Waiting};
 use core_state::some_runs;
@@ -22,20 +23,20 @@ impl Core {
     }
 
     /// The first piece that may be handed out, of the processes from one number to before another. Many wait for the same process,
-    /// so each is asked first whether the one that blocked the last one blocks it too.
+    /// so each is asked first whether what blocked the last one blocks it too.
     fn first_piece(&self, from: u32, to: u32) -> Option<Piece>
         requires { from ≤ to }
         ensures { result ≡ first_told (λ i. piece_in (admit_reply (relation self.now) (courses_in self.now) (moment_of self.now) i))
             (numbers_from from (to - from)) }
     {
-        let mut holder = None;
+        let mut blocker = no_blocker();
         for i in from..to {
-            if self.waits_for(i, holder) {
+            if self.waits_for(i, blocker) {
                 continue;
             }
             match self.reply_of(i) {
                 Admit::Piece(piece) => return Some(piece),
-                Admit::Blocked(block) => holder = self.holds.slot(block.on),
+                Admit::Blocked(block) => blocker = self.blocker(block),
                 _ => {}
             }
         }

@@ -1,14 +1,14 @@
 -- What is under way where a piece was handed out in turn: the next event of the completion.
-use Rattle.std.proofs.Common.{◌≡◌, ◌∙◌, ℕ, eqb, List, [], ◌∷◌, ◌++◌, length, take, ⊎_elim, refl, ap, subst, sym, append-nil, arith}
+use Rattle.std.proofs.Common.{◌≡◌, ◌∙◌, ℕ, eqb, List, [], ◌∷◌, ◌++◌, length, map, take, ⊎_elim, refl, ap, subst, sym, append-nil, arith}
 use Rattle.std.proofs.Math.Bool.{or-false}
-use Rattle.std.proofs.lemmas.Bool.{eqb-true}
+use Rattle.std.proofs.lemmas.Bool.{eqb-false, eqb-true, or_parts}
 use Rattle.std.proofs.lemmas.List.{take_all}
 use Rattle.std.proofs.lemmas.Option.{same_Some}
 use Rattle.std.specs.List.{Contains, list_any}
 use Rattle.process_tree.specs.declared.plan.Plan.{Plan}
 use Rattle.schedule_model.specs.declared.history.History.{History}
 use Rattle.schedule_model.specs.Course.{Course, courses_of}
-use Rattle.schedule_model.specs.Histories.{starts}
+use Rattle.schedule_model.specs.Histories.{is_in, starts}
 use Rattle.schedule_model.proofs.Appends.{starts-append}
 use Rattle.machine_model.specs.declared.kept.Work.{Work}
 use Rattle.machine_model.specs.declared.kept.Work.TheVariants.{Forward, Undo, End}
@@ -21,7 +21,9 @@ use Rattle.machine_model.specs.Replies.{Handed, kept_hand}
 use Rattle.machine_model.proofs.CallsKept.{out_runs}
 use Rattle.process_core.specs.Cores.{CoreState, IsCore, IsHandedBy, courses_in, history_of, moment_of, relation}
 use Rattle.engine_steps.specs.Engines.{full_history}
+use Rattle.engine_steps.specs.Groups.{with_events}
 use Rattle.engine_steps.specs.Pieces.{history_with}
+use Rattle.engine_calls.specs.Acknowledged.{AreOut}
 use Rattle.engine_calls.specs.GateAnswers.{IsHandedAs}
 use Rattle.worker_gate.proofs.IdleMoments.{hand_out, moment_with}
 use Rattle.process_restart.specs.Completing.{IsNextHistory, IsNextUnderWay}
@@ -58,6 +60,15 @@ module _ (old mid : CoreState) (core : IsCore old) (begun : AllHaveBegun (moment
       let number : d.piece.number ≡ p.number = eqb-true d.piece.number p.number (sym (or-false (eqb d.piece.number p.number)) ∙ (ap (λ ps. list_any (λ (q : Piece). eqb q.number p.number) ps) (sym alone) ∙ running)) in
       sym (same_Some d.piece p (sym handed.handed ∙ (ap (piece_of mid.kept) number ∙ is)))
 
+  -- and several that are out are this one
+  its_group : IsHandedAs mid d → (ps : List Piece) → AreOut mid ps → ps ≡ d.piece ∷ []
+  its_group handed [] out = absurd (out.some refl)
+  its_group handed (p ∷ []) out = ap (λ q. q ∷ []) (its_piece handed p out.out.0.handed out.out.0.out)
+  its_group handed (p ∷ q ∷ ps) out =
+      let parts = or_parts (eqb p.number q.number) (is_in p.number (map (λ (r : Piece). r.number) ps)) out.distinct.0 in
+      let same = its_piece handed p out.out.0.handed out.out.0.out ∙ sym (its_piece handed q out.out.1.0.handed out.out.1.0.out) in
+      absurd (eqb-false p.number q.number parts.0 (ap (λ (r : Piece). r.number) same))
+
   -- each process that started has its plan, and no other
   plans_there : take (length (starts (history_of mid ++ event_of (courses_in mid) d.piece ∷ []))) old.plans ≡ mid.plans
   plans_there =
@@ -80,5 +91,9 @@ module _ (old mid : CoreState) (core : IsCore old) (begun : AllHaveBegun (moment
   pub next_under_way : IsHandedAs mid d → IsNextUnderWay (full_history old) mid
   next_under_way handed next under = ⊎_elim
       (λ out. subst (λ p. IsNextHistory (full_history old) mid p) (sym (out.3 ∙ ap (history_with mid) (its_piece handed out.0 out.1 out.2))) is_next)
-      (λ start. absurd (none_listed start.1.0 start.1.1))
+      (λ more. ⊎_elim (λ start. absurd (none_listed start.1.0 start.1.1)) (λ group. next_group group.0 group.1 group.2) more)
       under
+    where
+      next_group : (ps : List Piece) → AreOut mid ps → next ≡ with_events (full_history mid) (map (event_of (courses_in mid)) ps) → IsNextHistory (full_history old) mid next
+      next_group ps out is =
+          subst (λ p. IsNextHistory (full_history old) mid p) (sym (is ∙ ap (λ qs. with_events (full_history mid) (map (event_of (courses_in mid)) qs)) (its_group handed ps out))) is_next

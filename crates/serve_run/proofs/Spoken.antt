@@ -12,6 +12,7 @@ use Rattle.process_tree.specs.declared.plan.Plan.{Plan}
 use Rattle.machine_model.specs.Calls.{complete_all}
 use Rattle.process_core.specs.Answers.{after_call}
 use Rattle.process_core.specs.Cores.{IsCore}
+use Rattle.session_play.specs.AtHand.{none_at_hand}
 use Rattle.engine_steps.specs.Engines.{EngineState, full_history, with_core}
 use Rattle.engine_steps.specs.Opening.{IsOpened}
 use Rattle.engine_calls.specs.Runs.{GoesOn}
@@ -97,13 +98,13 @@ module _ {S K R B : Type 0} (s : Sources S) (k : Sinks K) (r : Racks R) (honest 
     goes = both_go s k r honest plans a.engine mid.engine b.engine on.0 is.over.cut.spelled (between s k r honest plans a mid is.exchanges at is.exchanged) on.1 is.over.cut.goes
 
     -- Behind first lines that went out of an engine that was opened, and in which whoever was active has begun to complete, it is held.
-    module _ (e : EngineState R B) (sink : K) (opened : IsOpened e) (begun : IsCore e.core) (began : a.engine.core ≡ after_call e.core complete_all) (unfinished : a.unfinished ≡ [])
+    module _ (e : EngineState R B) (sink : K) (opened : IsOpened e) (begun : IsCore e.core) (began : a.engine.core ≡ after_call e.core complete_all) (none : a.hand ≡ none_at_hand)
         (first : (may_start : List Plan) → GoesOn r.disk r.faults may_start e a.engine) (front : Appends (k.taken sink) (k.taken a.sink) (ready_text (full_history e.core)))
         (quiet : k.faults a.sink ≡ k.faults sink) where
       begins : driver_state a ≡ begun_on e.catalog (full_history e.core)
       begins =
-          ap (λ ps. record { core = a.engine.core; unfinished = ps }) unfinished
-          ∙ ap (λ core. record { core = core; unfinished = [] }) (began ∙ ap (λ core. after_call core complete_all) opened.core)
+          ap (λ ps. record { core = a.engine.core; hand = ps }) none
+          ∙ ap (λ core. record { core = core; hand = none_at_hand }) (began ∙ ap (λ core. after_call core complete_all) opened.core)
 
       pub held : IsHeld s k r plans a.number a.ready a.source b.source sink b.sink e b.engine ended
       held =

@@ -8,7 +8,7 @@ use Rattle.process_disk.specs.declared.rack.Rack.{Ghosts as Racks}
 use Rattle.process_tree.specs.declared.plan.Plan.{Plan}
 use Rattle.process_text.specs.Canonical.{line_of}
 use Rattle.trace_verify.specs.Lines.{cut}
-use Rattle.machine_model.specs.Replies.{Handed}
+use Rattle.session_play.specs.AtHand.{Hand}
 use Rattle.process_core.specs.Cores.{CoreState}
 use Rattle.engine_steps.specs.Engines.{EngineState}
 use Rattle.engine_steps.specs.declared.engines.Phase.TheVariants.{Settled, Closed}
@@ -84,7 +84,7 @@ disk_isnt_write is = absurd (cc)
 want_isnt_disk_cut : cuts.NoMemory ≢ cuts.DiskFault
 want_isnt_disk_cut is = absurd (cc)
 
-module _ {S K R B : Type 0} (s : Sources S) (k : Sinks K) (r : Racks R) (plans : List Plan) (source source' : S) (ready rest : List ℕ) (sink sink' : K) (e e' : EngineState R B) (ps ps' : List Handed) (n : ℕ) (given : List ℕ)
+module _ {S K R B : Type 0} (s : Sources S) (k : Sinks K) (r : Racks R) (plans : List Plan) (source source' : S) (ready rest : List ℕ) (sink sink' : K) (e e' : EngineState R B) (ps ps' : Hand) (n : ℕ) (given : List ℕ)
     (consumed : Consumes (s.left source) (s.left source') given) where
   abbrev a : DialogueState S K R B
   a = state_at source ready sink e ps n
@@ -137,13 +137,13 @@ module _ {S K R B : Type 0} (s : Sources S) (k : Sinks K) (r : Racks R) (plans :
   }
 
 -- An engine that nothing was asked of.
-module _ {S K R B : Type 0} (s : Sources S) (k : Sinks K) (r : Racks R) (plans : List Plan) (source source' : S) (ready rest : List ℕ) (sink sink' : K) (e : EngineState R B) (ps : List Handed) (n : ℕ) (at : IsBetween r e) where
+module _ {S K R B : Type 0} (s : Sources S) (k : Sinks K) (r : Racks R) (plans : List Plan) (source source' : S) (ready rest : List ℕ) (sink sink' : K) (e : EngineState R B) (ps : Hand) (n : ℕ) (at : IsBetween r e) where
   own : GoesOn r.disk r.faults (plans ++ []) e e
   own = goes_none r.disk r.faults (plans ++ []) e at.machine at.each
 
   -- the dialogue ended by a fault, or by want of memory
   abbrev faulty : {unanswered : Option (List ℕ)} (fault : Fault) (ended : Status) → (fault ≢ faults.DiskFault) → IsTold (status_of fault) (fault_line fault) (output k sink) (output k sink') ended
-      → IsCutShort k r plans (record { core = e.core; unfinished = ps }) n unanswered sink sink' e e ended
+      → IsCutShort k r plans (record { core = e.core; hand = ps }) n unanswered sink sink' e e ended
   faulty faults.ReadFault ended isnt told = record {
     tail = fault_line faults.ReadFault;
     status = ReadFault;
@@ -197,13 +197,13 @@ module _ {S K R B : Type 0} (s : Sources S) (k : Sinks K) (r : Racks R) (plans :
   pub refused_amid : (result : Option Status) (line : List ℕ) → most_line < length line
       → IfSome result (λ ended. ((ended ≡ WriteFault) × IsTold WriteFault (line_of (bad_line_words n)) (output k sink) (output k sink') ended × Rose (k.faults sink) (k.faults sink'))
       ⊎ IsTold NoMemory (fault_line faults.NoMemory) (output k sink) (output k sink') ended)
-      → IfSome result (IsCutAmid k r plans (record { core = e.core; unfinished = ps }) n line sink sink' e e)
+      → IfSome result (IsCutAmid k r plans (record { core = e.core; hand = ps }) n line sink sink' e e)
   refused_amid None line long is = tt
   refused_amid (Some ended) line long (inl (same, told, rose)) = record {
     cut = record {
       tail = line_of (bad_line_words n);
       status = WriteFault;
-      ends = (line, refl, record { core = e.core; unfinished = ps }, inr (long, refl, refl), refl);
+      ends = (line, refl, record { core = e.core; hand = ps }, inr (long, refl, refl), refl);
       told = told;
       spelled = [];
       goes = own;
@@ -219,7 +219,7 @@ module _ {S K R B : Type 0} (s : Sources S) (k : Sinks K) (r : Racks R) (plans :
 
   -- and the answer to it
   pub refused : (result : Option Status) (line : List ℕ) → most_line < length line → IfNone result (Appends (k.taken sink) (k.taken sink') (line_of (bad_line_words n)) × (k.faults sink' ≡ k.faults sink))
-      → IfNone result ((text : List ℕ) × IsAnswered e.catalog plans (record { core = e.core; unfinished = ps }) n line (record { core = e.core; unfinished = ps }) text × Appends (k.taken sink) (k.taken sink') text × (k.faults sink' ≡ k.faults sink))
+      → IfNone result ((text : List ℕ) × IsAnswered e.catalog plans (record { core = e.core; hand = ps }) n line (record { core = e.core; hand = ps }) text × Appends (k.taken sink) (k.taken sink') text × (k.faults sink' ≡ k.faults sink))
   refused (Some ended) line long told = tt
   refused None line long told = (line_of (bad_line_words n), inr (long, refl, refl), told.0, told.1)
 

@@ -12,13 +12,13 @@ use Rattle.process_tree.specs.declared.plan.Plan.{Plan}
 use Rattle.process_text.specs.Canonical.{line_of}
 use Rattle.trace_verify.specs.Lines.{cut}
 use Rattle.commute_table.specs.declared.catalog.Catalog.{Catalog}
-use Rattle.machine_model.specs.Replies.{Handed}
 use Rattle.process_core.specs.Cores.{CoreState, IsCore}
 use Rattle.history_files.specs.Sound.{IsSound}
 use Rattle.engine_steps.specs.Engines.{EngineState, full_history}
 use Rattle.engine_steps.specs.declared.engines.Phase.{Phase}
 use Rattle.engine_steps.specs.declared.engines.Phase.TheVariants.{Settled, Closed}
 use Rattle.engine_calls.specs.Runs.{GoesOn}
+use Rattle.session_play.specs.AtHand.{Hand}
 use Rattle.command_refusals.specs.declared.refusal.Refusal.TheVariants as refusals
 use Rattle.command_refusals.specs.declared.status.Status.{Status}
 use Rattle.command_refusals.specs.declared.status.Status.TheVariants.{Done, DiskFault, NoMemory, ReadFault, WriteFault}
@@ -79,24 +79,24 @@ AreAnswered c plans s n [] t = s ≡ t
 AreAnswered c plans s n (x ∷ xs) t =
     (m : DriverState) × IsAnswered c plans s n x.line m x.answer × AreAnswered c plans m (next_number n) xs t
 
--- A dialogue between two lines: its source with the bytes that came and no line took, its sink, its engine with the pieces that are
--- unfinished, and the number of the next line.
+-- A dialogue between two lines: its source with the bytes that came and no line took, its sink, its engine with the pieces at hand,
+-- and the number of the next line.
 pub record DialogueState (S K R B : Type 0) : Type 0 where
   pub source : S
   pub ready : List ℕ
   pub sink : K
   pub engine : EngineState R B
-  pub unfinished : List Handed
+  pub hand : Hand
   pub number : ℕ
 
 -- the dialogue of these
-abbrev pub state_at : {S K R B : Type 0} → S → List ℕ → K → EngineState R B → List Handed → ℕ → DialogueState S K R B
-state_at source ready sink engine unfinished number =
-    record { source = source; ready = ready; sink = sink; engine = engine; unfinished = unfinished; number = number }
+abbrev pub state_at : {S K R B : Type 0} → S → List ℕ → K → EngineState R B → Hand → ℕ → DialogueState S K R B
+state_at source ready sink engine hand number =
+    record { source = source; ready = ready; sink = sink; engine = engine; hand = hand; number = number }
 
 -- what a driver sees of it
 abbrev pub driver_state : {S K R B : Type 0} → DialogueState S K R B → DriverState
-driver_state d = record { core = d.engine.core; unfinished = d.unfinished }
+driver_state d = record { core = d.engine.core; hand = d.hand }
 
 -- An engine between two lines: nothing is under way, and what it keeps is in the files, and in whatever a crash leaves from now on.
 pub record IsBetween {R B : Type 0} (r : Racks R) (e : EngineState R B) : Type 0 where

@@ -17,6 +17,7 @@ use Rattle.engine_steps.specs.Engines.{EngineState, full_history}
 use Rattle.engine_calls.specs.Acknowledged.{IsOneAhead}
 use Rattle.engine_calls.specs.Opened.{AreKept, AreOnlyOpened}
 use Rattle.engine_calls.specs.Runs.{GoesOn}
+use Rattle.session_play.specs.AtHand.{none_at_hand}
 use Rattle.command_refusals.specs.declared.refusal.Refusal.{Refusal}
 use Rattle.command_refusals.specs.declared.refusal.Refusal.TheVariants as refusals
 use Rattle.command_refusals.specs.declared.status.Status.{Status}
@@ -69,7 +70,7 @@ IsNoServeRead before after none = IsFirstRefusal (read_tests before after) none
 
 -- the dialogue on files with this history begins: whoever was active has begun to complete
 abbrev pub begun_on : Catalog → History → DriverState
-begun_on c h = record { core = after_call (opened_on c.conflicts h.plans h.events) complete_all; unfinished = [] }
+begun_on c h = record { core = after_call (opened_on c.conflicts h.plans h.events) complete_all; hand = none_at_hand }
 
 -- the answers that are printed behind the first lines, and what they made of the machine; where the first lines were not taken
 -- whole there is none

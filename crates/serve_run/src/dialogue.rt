@@ -1,7 +1,7 @@
 // The lines of a driver, one after another.
-ghost use Rattle.std.specs.Prelude.{◌≡◌, ℕ, List, []};
+ghost use Rattle.std.specs.Prelude.{ℕ};
 ghost use Rattle.process_tree.specs.Order.{Each};
-ghost use Rattle.machine_model.specs.Replies.{Handed};
+ghost use Rattle.session_play.specs.AtHand.{Hand, none_at_hand};
 ghost use Rattle.history_files.specs.Standing.{EachFits};
 ghost use Rattle.engine_steps.specs.Beginning.{IsPlanFor};
 ghost use Rattle.engine_calls.specs.Runs.{IsReady};
@@ -10,6 +10,7 @@ ghost use Rattle.serve_run.specs.Dialogue.{state_at, IsDialogue};
 use crate::exchange::exchange;
 use crate::faults::{Fault, tell_fault};
 use command_refusals::Status;
+use driver_answers::AtHand;
 use line_reader::LineReader;
 use process_disk::Rack;
 use process_engine::Engine;
@@ -31,24 +32,19 @@ pub fn converse<S: Source, K: Sink, R: Rack + Drop, B: Resource>(
 ) -> Status
     requires ready { IsReady B.meaning B.sort engine.old }
     requires plans { Each (IsPlanFor engine.old.catalog) plans.now }
-    ensures held { (unfinished : List Handed) × (number : ℕ)
-        × IsDialogue S.Source K.Sink R.Rack plans.now (state_at source.old reader.old sink.old engine.old [] first)
-        (state_at source.new reader.new sink.new engine.new unfinished number) result }
+    ensures held { (hand : Hand) × (number : ℕ)
+        × IsDialogue S.Source K.Sink R.Rack plans.now (state_at source.old reader.old sink.old engine.old none_at_hand first)
+        (state_at source.new reader.new sink.new engine.new hand number) result }
     ensures fits { EachFits B.meaning B.sort engine.new.files.stores }
 {
-    let mut pieces = Vec::new(alloc);
-    let mut number = first;
     engine.invariant_holds();
+    let Ok(mut hand) = AtHand::new(alloc) else {
+        return tell_fault(sink, Fault::NoMemory);
+    };
+    let mut number = first;
     for _ in 0..u64::MAX {
         if let Some(status) = exchange(
-            alloc,
-            engine,
-            plans,
-            &mut pieces,
-            reader,
-            source,
-            sink,
-            number,
+            alloc, engine, plans, &mut hand, reader, source, sink, number,
         ) {
             return status;
         }

@@ -8,21 +8,20 @@ ghost use Rattle.process_text.specs.Canonical.{line_of};
 ghost use Rattle.history_files.specs.Standing.{EachFits};
 ghost use Rattle.engine_steps.specs.Beginning.{IsPlanFor};
 ghost use Rattle.engine_calls.specs.Runs.{GoesOn, IsReady};
-ghost use Rattle.session_play.specs.Pieces.{AreHandedBy};
+ghost use Rattle.session_play.specs.AtHand.{hand_of, AreAtHand};
 ghost use Rattle.command_refusals.specs.declared.status.Status.TheVariants.{NoMemory, WriteFault};
 ghost use Rattle.command_input.specs.Outputs.{output, IsTold};
 ghost use Rattle.driver_requests.specs.Answers.{bad_line_words};
-ghost use Rattle.driver_answers.specs.Serving.{IsLineAnswered};
+ghost use Rattle.driver_answers.specs.Serving.{state_of, IsLineAnswered};
 ghost use Rattle.serve_run.specs.Dialogue.{fault_line, most_line, next_number, state_at, Exchange, IsBetween, IsCutAmid};
 ghost use Rattle.serve_run.specs.Dialogue.{IsExchange, IsOver};
 
 use crate::faults::{Fault, fault_of, tell_fault};
 use crate::taking::{Next, next_line};
 use command_refusals::Status;
-use driver_answers::answer_line;
+use driver_answers::{AtHand, answer_line};
 use driver_requests::put_bad_line;
 use line_reader::LineReader;
-use process_core::Piece;
 use process_disk::Rack;
 use process_engine::Engine;
 use process_flow::{Sink, Source, write_all};
@@ -75,33 +74,30 @@ fn respond<K: Sink, R: Rack + Drop, B: Resource>(
     alloc: Global,
     engine: &mut Engine<R, B>,
     plans: &[Plan],
-    pieces: &mut Vec<Piece>,
+    hand: &mut AtHand,
     sink: &mut K,
     line: &[u8],
     number: u64,
 ) -> Option<Status>
     requires ready { IsReady B.meaning B.sort engine.old }
     requires plans { Each (IsPlanFor engine.old.catalog) plans.now }
-    requires handed { AreHandedBy engine.old.core pieces.old.items }
+    requires at_hand { AreAtHand engine.old hand.old }
     requires line { length line.now ≤ most_line }
     ensures on { IfNone result
         ((text : List ℕ) × IsLineAnswered engine.old.catalog plans.now
-        (record { core = engine.old.core; unfinished = pieces.old.items }) number line.now
-        (record { core = engine.new.core; unfinished = pieces.new.items }) text × Appends (K.taken sink.old) (K.taken sink.new) text
+        (state_of engine.old.core hand.old) number line.now
+        (state_of engine.new.core hand.new) text × Appends (K.taken sink.old) (K.taken sink.new) text
         × (K.faults sink.new ≡ K.faults sink.old)) }
     ensures over { IfSome result
         (IsCutAmid K.Sink R.Rack plans.now
-        (record {
-          core = engine.old.core;
-          unfinished = pieces.old.items;
-        }) number line.now sink.old sink.new engine.old engine.new) }
+        (state_of engine.old.core hand.old) number line.now sink.old sink.new engine.old engine.new) }
     ensures goes { (spelled : List Plan') × GoesOn R.disk R.faults (plans.now ++ spelled) engine.old engine.new }
-    ensures handed { IfNone result (AreHandedBy engine.new.core pieces.new.items) }
+    ensures at_hand { IfNone result (AreAtHand engine.new hand.new) }
     ensures ready { IfNone result (IsReady B.meaning B.sort engine.new) }
     ensures between { IfNone result (IsBetween R.Rack engine.new) }
     ensures fits { EachFits B.meaning B.sort engine.new.files.stores }
 {
-    match answer_line(alloc, engine, plans, pieces, line, number) {
+    match answer_line(alloc, engine, plans, hand, line, number) {
         Ok(text) => {
             engine.invariant_holds();
             give(sink, &text)
@@ -115,7 +111,7 @@ pub fn exchange<S: Source, K: Sink, R: Rack + Drop, B: Resource>(
     alloc: Global,
     engine: &mut Engine<R, B>,
     plans: &[Plan],
-    pieces: &mut Vec<Piece>,
+    hand: &mut AtHand,
     reader: &mut LineReader,
     source: &mut S,
     sink: &mut K,
@@ -123,22 +119,22 @@ pub fn exchange<S: Source, K: Sink, R: Rack + Drop, B: Resource>(
 ) -> Option<Status>
     requires ready { IsReady B.meaning B.sort engine.old }
     requires plans { Each (IsPlanFor engine.old.catalog) plans.now }
-    requires handed { AreHandedBy engine.old.core pieces.old.items }
+    requires at_hand { AreAtHand engine.old hand.old }
     // The line was taken, it was answered, what it led to is kept, and its answer was given.
     ensures on { IfNone result
         ((x : Exchange) × IsExchange S.Source K.Sink R.Rack plans.now x
-        (state_at source.old reader.old sink.old engine.old pieces.old.items number)
-        (state_at source.new reader.new sink.new engine.new pieces.new.items (next_number number))) }
+        (state_at source.old reader.old sink.old engine.old (hand_of hand.old) number)
+        (state_at source.new reader.new sink.new engine.new (hand_of hand.new) (next_number number))) }
     ensures over { IfSome result
-        (IsOver S.Source K.Sink R.Rack plans.now (state_at source.old reader.old sink.old engine.old pieces.old.items number)
-        (state_at source.new reader.new sink.new engine.new pieces.new.items number)) }
-    ensures handed { IfNone result (AreHandedBy engine.new.core pieces.new.items) }
+        (IsOver S.Source K.Sink R.Rack plans.now (state_at source.old reader.old sink.old engine.old (hand_of hand.old) number)
+        (state_at source.new reader.new sink.new engine.new (hand_of hand.new) number)) }
+    ensures at_hand { IfNone result (AreAtHand engine.new hand.new) }
     ensures ready { IfNone result (IsReady B.meaning B.sort engine.new) }
     ensures fits { EachFits B.meaning B.sort engine.new.files.stores }
 {
     engine.invariant_holds();
     match next_line(alloc, reader, source) {
-        Ok(Next::Line(line)) => respond(alloc, engine, plans, pieces, sink, &line, number),
+        Ok(Next::Line(line)) => respond(alloc, engine, plans, hand, sink, &line, number),
         Ok(Next::LongLine) => refuse(alloc, sink, number),
         Ok(Next::Stop) => Some(Status::Done),
         Err(fault) => Some(tell_fault(sink, fault)),

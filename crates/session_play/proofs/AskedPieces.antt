@@ -64,13 +64,13 @@ numbers_admitted admits.Ended = refl
 numbers_admitted (admits.Exhausted b) = refl
 
 -- A request for a piece of a process is answered,
-pub admit_answered : (old new : CoreState) (hs : List Handed) (i : ℕ) (r : CoreAdmit) (text : List ℕ) → new ≡ after_call old (admit i) → admitted (admit_reply_of r) ≡ (answer_in old (admit i)).reply
-    → text ≡ line_of (admit_words new.plans i (admit_reply_of r)) → IsAnswered (play_admit (session_of old hs) i) new (hs ++ admitted_pieces r) text
-admit_answered old new hs i r text is replied told =
+pub admit_answered : (old new : CoreState) (hs qs : List Handed) (i : ℕ) (r : CoreAdmit) (text : List ℕ) → new ≡ after_call old (admit i) → admitted (admit_reply_of r) ≡ (answer_in old (admit i)).reply
+    → text ≡ line_of (admit_words new.plans i (admit_reply_of r)) → IsAnswered (play_admit (session_of old hs qs) i) new (hs ++ admitted_pieces r) qs text
+admit_answered old new hs qs i r text is replied told =
     let reply : admit_reply_of r ≡ admit_reply (relation old) (courses_in old) (moment_of old) i = ap (λ x. admit_in x (admit_reply_of r)) replied in
     record {
-      state = ap (λ c. session_of c (hs ++ admitted_pieces r)) is
-          ∙ ap (λ ns. record { core = after_call old (admit i); unfinished = ns })
+      state = ap (λ c. session_of c (hs ++ admitted_pieces r) qs) is
+          ∙ ap (λ ns. record { core = after_call old (admit i); unfinished = ns; group = map number_of qs })
           (map-append number_of hs (admitted_pieces r) ∙ ap (λ ns. map number_of hs ++ ns) (numbers_admitted r ∙ ap (λ x. numbers (admit_kept x)) reply));
       printed = told ∙ (ap (λ (c : CoreState). line_of (admit_words c.plans i (admit_reply_of r))) is ∙ ap (λ x. line_of (admit_words old.plans i x)) reply);
     }
@@ -105,10 +105,10 @@ text_of-snoc : (lines : List Words) (line : Words) → text_of (lines ++ line �
 text_of-snoc lines line = flat_map-append line_of lines (line ∷ []) ∙ ap (λ text. text_of lines ++ text) (append-nil (line_of line))
 
 -- A request for any piece is answered,
-pub next_answered : (old new : CoreState) (hs : List Handed) (r : CoreNext) (text : List ℕ) → new ≡ after_call old next → next_is (next_reply_of r) ≡ (answer_in old next).reply
+pub next_answered : (old new : CoreState) (hs qs : List Handed) (r : CoreNext) (text : List ℕ) → new ≡ after_call old next → next_is (next_reply_of r) ≡ (answer_in old next).reply
     → text ≡ text_of (map (numbered (codes "victim")) (filter_map victim_of (answer_in old next).kept)) ++ line_of (next_words new.plans (next_reply_of r))
-    → IsAnswered (play_next (session_of old hs)) new (hs ++ chosen_pieces r) text
-next_answered old new hs r text is replied told =
+    → IsAnswered (play_next (session_of old hs qs)) new (hs ++ chosen_pieces r) qs text
+next_answered old new hs qs r text is replied told =
     let reply : next_reply_of r ≡ reply_to_next old = ap (λ x. next_in x (next_reply_of r)) replied in
     let vs = all_victims (relation old) (courses_in old) (moment_of old) in
     let own : numbers (answer_in old next).kept ≡ numbers (next_kept (reply_to_next old)) =
@@ -116,8 +116,8 @@ next_answered old new hs r text is replied told =
     ∙ ap (λ ps. ps ++ hands (next_kept (reply_to_next old))) (no_hands (length (active (moment_of old).events)) (relation old) (courses_in old) (moment_of old))) in
     let said = map (numbered (codes "victim")) (filter_map victim_of (answer_in old next).kept) in
     record {
-      state = ap (λ c. session_of c (hs ++ chosen_pieces r)) is
-          ∙ ap (λ ns. record { core = after_call old next; unfinished = ns })
+      state = ap (λ c. session_of c (hs ++ chosen_pieces r) qs) is
+          ∙ ap (λ ns. record { core = after_call old next; unfinished = ns; group = map number_of qs })
           (map-append number_of hs (chosen_pieces r) ∙ ap (λ ns. map number_of hs ++ ns) (numbers_chosen r ∙ (ap (λ x. numbers (next_kept x)) reply ∙ sym own)));
       printed = told ∙ (ap (λ (c : CoreState). text_of said ++ line_of (next_words c.plans (next_reply_of r))) is
           ∙ (ap (λ x. text_of said ++ line_of (next_words old.plans x)) reply ∙ sym (text_of-snoc said (next_words old.plans (reply_to_next old)))));
@@ -138,13 +138,13 @@ numbers_aborted i aborts.Exhausted = refl
 numbers_aborted i aborts.Already = refl
 
 -- A request to complete is answered.
-pub abort_answered : (old new : CoreState) (hs : List Handed) (i : ℕ) (r : Aborted) (text : List ℕ) → new ≡ after_call old (abort i) → aborted r ≡ (answer_in old (abort i)).reply
-    → text ≡ line_of (abort_words i (just_began new) r) → IsAnswered (play_abort (session_of old hs) i) new hs text
-abort_answered old new hs i r text is replied told =
+pub abort_answered : (old new : CoreState) (hs qs : List Handed) (i : ℕ) (r : Aborted) (text : List ℕ) → new ≡ after_call old (abort i) → aborted r ≡ (answer_in old (abort i)).reply
+    → text ≡ line_of (abort_words i (just_began new) r) → IsAnswered (play_abort (session_of old hs qs) i) new hs qs text
+abort_answered old new hs qs i r text is replied told =
     let reply : r ≡ abort_reply (courses_in old) (moment_of old) i = ap (λ x. abort_in x r) replied in
     record {
-      state = ap (λ c. session_of c hs) is
-          ∙ ap (λ ns. record { core = after_call old (abort i); unfinished = ns })
+      state = ap (λ c. session_of c hs qs) is
+          ∙ ap (λ ns. record { core = after_call old (abort i); unfinished = ns; group = map number_of qs })
           (sym (ap (λ ns. map number_of hs ++ ns) (numbers_aborted i (abort_reply (courses_in old) (moment_of old) i)) ∙ append-nil (map number_of hs)));
       printed = told ∙ (ap (λ c. line_of (abort_words i (just_began c) r)) is ∙ ap (λ x. line_of (abort_words i (just_began (after_call old (abort i))) x)) reply);
     }

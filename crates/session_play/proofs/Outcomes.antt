@@ -22,6 +22,10 @@ module _ {X E : Type 0} where
   on_ok (Ok x) A a = a
   on_ok (Err e) A a = tt
 
+  pub on_ok_both : (r : Result X E) (A B : Type 0) → OnOk r A → (A → B) → OnOk r B
+  on_ok_both (Ok x) A B a f = f a
+  on_ok_both (Err e) A B a f = tt
+
   pub err_map : (r : Result X E) (P Q : E → Type 0) → IfErr r P → ((e : E) → P e → Q e) → IfErr r Q
   err_map (Ok x) P Q is f = tt
   err_map (Err e) P Q is f = f e is

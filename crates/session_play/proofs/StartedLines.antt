@@ -35,25 +35,25 @@ abbrev number_in : Reply → ℕ → ℕ
 number_in (started i) other = i
 number_in r other = other
 
-module _ (old : CoreState) (ps : List Handed) (name : List ℕ) (plan : Plan) where
+module _ (old : CoreState) (ps qs : List Handed) (name : List ℕ) (plan : Plan) where
   started_by : (o : Option StartWhy) (i : ℕ) (new : CoreState) (text : List ℕ) → (answer_unless (length (starts (history_of old)) + 1) old.served (course_of plan) o).reply ≡ started i
-      → new ≡ after_start old plan → text ≡ line_of (started_words i name) → IsAnswered (start_unless (session_of old ps) name plan o) new ps text
+      → new ≡ after_start old plan → text ≡ line_of (started_words i name) → IsAnswered (start_unless (session_of old ps qs) name plan o) new ps qs text
   started_by None i new text replied is told = record {
-    state = ap (λ c. session_of c ps) is;
+    state = ap (λ c. session_of c ps qs) is;
     printed = told ∙ ap (λ n. line_of (started_words n name)) (sym (ap (λ r. number_in r i) replied));
   }
   started_by (Some why) i new text replied is told = absurd cc
 
   -- A process started,
   pub start_answered : (i : ℕ) (new : CoreState) (text : List ℕ) → (answer_in old (start (course_of plan))).reply ≡ started i → new ≡ after_start old plan
-      → text ≡ line_of (started_words i name) → IsAnswered (play_start (session_of old ps) name (Some plan)) new ps text
+      → text ≡ line_of (started_words i name) → IsAnswered (play_start (session_of old ps qs) name (Some plan)) new ps qs text
   start_answered i new text replied is told = started_by (start_refusal (courses_in old) (moment_of old) (course_of plan)) i new text replied is told
 
   -- or the machine refused it.
   pub start_refused : (why : StartWhy) (new : CoreState) (text : List ℕ) → start_refusal (courses_in old) (moment_of old) (course_of plan) ≡ Some why → new ≡ old
-      → text ≡ line_of (not_started_words why) → IsAnswered (play_start (session_of old ps) name (Some plan)) new ps text
+      → text ≡ line_of (not_started_words why) → IsAnswered (play_start (session_of old ps qs) name (Some plan)) new ps qs text
   start_refused why new text refused left told =
-      subst (λ o. IsAnswered (start_unless (session_of old ps) name plan o) new ps text) (sym refused) (record { state = ap (λ c. session_of c ps) left; printed = told })
+      subst (λ o. IsAnswered (start_unless (session_of old ps qs) name plan o) new ps qs text) (sym refused) (record { state = ap (λ c. session_of c ps qs) left; printed = told })
 
 -- The machine's refusal of a start is the engine's, unless memory was wanting.
 pub due_refusal : {R B : Type 0} (e : EngineState R B) (plan : Plan) (why : EngineStartWhy) (core : StartWhy) → IsDueToStart e plan why → why ≡ of_start_why core → core ≢ whys.NoMemory

@@ -1,5 +1,5 @@
 -- What the answer to a line does to an engine.
-use Rattle.std.specs.Prelude.{◌≡◌, ◌⊎◌, ⊤, ℕ, List, [], Option, Some, None}
+use Rattle.std.specs.Prelude.{◌≡◌, ◌⊎◌, ⊤, ℕ, List, [], map, Option, Some, None}
 use Rattle.process_tree.specs.declared.plan.Plan.{Plan}
 use Rattle.process_tree.specs.Form.{AreEqualPlans}
 use Rattle.machine_model.specs.Replies.{Handed}
@@ -11,12 +11,12 @@ use Rattle.process_core.specs.Cores.{CoreState}
 use Rattle.engine_calls.specs.GateAnswers.{is_barred_in}
 use Rattle.session_play.specs.declared.cut.Cut.{Cut}
 use Rattle.session_play.specs.declared.cut.Cut.TheVariants.{DiskFault, NoMemory}
-use Rattle.session_play.specs.Pieces.{session_of}
-use Rattle.session_play.specs.Playing.{Played, finish_as}
+use Rattle.session_play.specs.Pieces.{number_of, session_of}
+use Rattle.session_play.specs.Playing.{Played, SessionState, finish_as, queue_with, reply_to_queue}
 
--- The line was answered: it led to this core with these unfinished pieces, and this is printed.
-pub record IsAnswered (p : Played) (core : CoreState) (pieces : List Handed) (text : List ℕ) : Type 0 where
-  pub state : session_of core pieces ≡ p.state
+-- The line was answered: it led to this core with these unfinished pieces and these queued ones, and this is printed.
+pub record IsAnswered (p : Played) (core : CoreState) (pieces queued : List Handed) (text : List ℕ) : Type 0 where
+  pub state : session_of core pieces queued ≡ p.state
   pub printed : text ≡ p.printed
 
 -- It was not answered: nothing was kept; or there was no memory to print what it led to.
@@ -26,7 +26,14 @@ IsCut NoMemory p old new = (new ≡ old) ⊎ (new ≡ p.state.core)
 
 -- a piece is finished with this answer, whatever else is unfinished
 abbrev pub finish_alone : Catalog → CoreState → Piece → Answer → Played
-finish_alone c core p answer = finish_as (record { core = core; unfinished = [] }) p (outcome_of answer (is_barred_in c core p))
+finish_alone c core p answer =
+    finish_as (record { core = core; unfinished = []; group = [] }) p (outcome_of answer (is_barred_in c core p))
+
+-- a piece is queued with this answer beside these, whatever else is unfinished
+abbrev pub queue_alone : Catalog → CoreState → List Handed → Piece → Answer → Played
+queue_alone c core queued p answer =
+    let s : SessionState = record { core = core; unfinished = []; group = map number_of queued } in
+    queue_with s p (reply_to_queue c s p answer)
 
 -- none of none, or a plan that is equal to this one
 abbrev pub IsCopy : Option Plan → Option Plan → Type 0

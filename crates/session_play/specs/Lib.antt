@@ -1,3 +1,4 @@
 pub mod Playing
 pub mod Pieces
 pub mod Answering
+pub mod AtHand

@@ -8,6 +8,8 @@ use Rattle.process_core.specs.declared.replies.Admit.{Admit}
 use Rattle.process_core.specs.declared.replies.Admit.TheVariants as admits
 use Rattle.process_core.specs.declared.replies.Next.{Next}
 use Rattle.process_core.specs.declared.replies.Next.TheVariants as nexts
+use Rattle.group_flush.specs.declared.replies.Queue.{Queue}
+use Rattle.group_flush.specs.declared.replies.Queue.TheVariants as queues
 use Rattle.session_play.specs.Playing.{SessionState}
 
 abbrev pub number_of : Handed → ℕ
@@ -17,9 +19,9 @@ number_of h = h.piece.number
 abbrev pub AreHandedBy : CoreState → List Handed → Type 0
 AreHandedBy core pieces = Each (λ (h : Handed). IsHandedBy core h.piece) pieces
 
--- the session of this core in which these pieces are unfinished
-abbrev pub session_of : CoreState → List Handed → SessionState
-session_of core pieces = record { core = core; unfinished = map number_of pieces }
+-- the session of this core in which these pieces are unfinished, and these are queued
+abbrev pub session_of : CoreState → List Handed → List Handed → SessionState
+session_of core pieces queued = record { core = core; unfinished = map number_of pieces; group = map number_of queued }
 
 -- the piece of a reply to a request for one of a process, if it has one
 abbrev pub admitted_pieces : Admit → List Handed
@@ -36,6 +38,18 @@ chosen_pieces (nexts.Piece d) = d ∷ []
 chosen_pieces (nexts.Wait w) = []
 chosen_pieces nexts.AllEnded = []
 chosen_pieces (nexts.Stuck i) = []
+
+-- the piece of a reply to the queueing of one for which the group is full
+abbrev pub full_of : Queue → Option Handed
+full_of (queues.Full d) = Some d
+full_of queues.Queued = None
+full_of (queues.Retry k) = None
+full_of queues.Failed = None
+full_of queues.Over = None
+full_of (queues.Dropped k) = None
+full_of queues.Exhausted = None
+full_of (queues.NoMemory d) = None
+full_of (queues.Closed n) = None
 
 -- the place of n among these numbers, counted from 0
 abbrev pub place_in : ℕ → List ℕ → Option ℕ

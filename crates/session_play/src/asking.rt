@@ -1,5 +1,7 @@
 // The lines `admit I`, `next` and `abort I`.
-ghost use Rattle.std.specs.Prelude.{◌≡◌, IfOk, IfErr, OnOk};
+ghost use Rattle.std.specs.Prelude.{◌≡◌, List, IfOk, IfErr, OnOk};
+ghost use Rattle.machine_model.specs.Replies.{Handed};
+ghost use Rattle.group_flush.specs.Queues.{AreQueued};
 ghost use Rattle.engine_calls.specs.Runs.{GoesOnAlone, IsReady};
 ghost use Rattle.session_play.specs.Answering.{IsAnswered, IsCut};
 ghost use Rattle.session_play.specs.Pieces.{session_of, AreHandedBy};
@@ -28,12 +30,13 @@ pub fn play_admit<R: Rack + Drop, B: Resource>(
     requires ready { IsReady B.meaning B.sort engine.old }
     requires handed { AreHandedBy engine.old.core pieces.old.items }
     ensures answered { IfOk result
-        (λ text. IsAnswered (play_admit
-        (session_of engine.old.core pieces.old.items) i) engine.new.core pieces.new.items text.items) }
+        (λ text. (queued : List Handed) → IsAnswered (play_admit
+        (session_of engine.old.core pieces.old.items queued) i) engine.new.core pieces.new.items queued text.items) }
     ensures handed { OnOk result (AreHandedBy engine.new.core pieces.new.items) }
     ensures cut { IfErr result
-        (λ cut. (cut ≡ NoMemory) × IsCut cut
-        (play_admit (session_of engine.old.core pieces.old.items) i) engine.old.core engine.new.core) }
+        (λ cut. (cut ≡ NoMemory) × ((queued : List Handed) → IsCut cut
+        (play_admit (session_of engine.old.core pieces.old.items queued) i) engine.old.core engine.new.core)) }
+    ensures queued { OnOk result ((queued : List Handed) → AreQueued engine.old queued → AreQueued engine.new queued) }
     ensures goes { GoesOnAlone R.disk R.faults engine.old engine.new }
     ensures ready { IsReady B.meaning B.sort engine.new }
 {
@@ -54,11 +57,13 @@ pub fn play_next<R: Rack + Drop, B: Resource>(
     requires ready { IsReady B.meaning B.sort engine.old }
     requires handed { AreHandedBy engine.old.core pieces.old.items }
     ensures answered { IfOk result
-        (λ text. IsAnswered (play_next (session_of engine.old.core pieces.old.items)) engine.new.core pieces.new.items text.items) }
+        (λ text. (queued : List Handed) → IsAnswered (play_next
+        (session_of engine.old.core pieces.old.items queued)) engine.new.core pieces.new.items queued text.items) }
     ensures handed { OnOk result (AreHandedBy engine.new.core pieces.new.items) }
     ensures cut { IfErr result
-        (λ cut. (cut ≡ NoMemory) × IsCut cut
-        (play_next (session_of engine.old.core pieces.old.items)) engine.old.core engine.new.core) }
+        (λ cut. (cut ≡ NoMemory) × ((queued : List Handed) → IsCut cut
+        (play_next (session_of engine.old.core pieces.old.items queued)) engine.old.core engine.new.core)) }
+    ensures queued { OnOk result ((queued : List Handed) → AreQueued engine.old queued → AreQueued engine.new queued) }
     ensures goes { GoesOnAlone R.disk R.faults engine.old engine.new }
     ensures ready { IsReady B.meaning B.sort engine.new }
 {
@@ -83,12 +88,13 @@ pub fn play_abort<R: Rack + Drop, B: Resource>(
     requires ready { IsReady B.meaning B.sort engine.old }
     requires handed { AreHandedBy engine.old.core pieces.now.items }
     ensures answered { IfOk result
-        (λ text. IsAnswered (play_abort
-        (session_of engine.old.core pieces.now.items) i) engine.new.core pieces.now.items text.items) }
+        (λ text. (queued : List Handed) → IsAnswered (play_abort
+        (session_of engine.old.core pieces.now.items queued) i) engine.new.core pieces.now.items queued text.items) }
     ensures handed { OnOk result (AreHandedBy engine.new.core pieces.now.items) }
     ensures cut { IfErr result
-        (λ cut. (cut ≡ NoMemory) × IsCut cut
-        (play_abort (session_of engine.old.core pieces.now.items) i) engine.old.core engine.new.core) }
+        (λ cut. (cut ≡ NoMemory) × ((queued : List Handed) → IsCut cut
+        (play_abort (session_of engine.old.core pieces.now.items queued) i) engine.old.core engine.new.core)) }
+    ensures queued { OnOk result ((queued : List Handed) → AreQueued engine.old queued → AreQueued engine.new queued) }
     ensures goes { GoesOnAlone R.disk R.faults engine.old engine.new }
     ensures ready { IsReady B.meaning B.sort engine.new }
 {

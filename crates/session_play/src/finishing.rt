@@ -8,7 +8,8 @@ ghost use Rattle.process_core.specs.Cores.{IsHandedBy};
 ghost use Rattle.history_files.specs.Standing.{EachFits};
 ghost use Rattle.engine_steps.specs.declared.engines.Phase.TheVariants as phase;
 ghost use Rattle.engine_calls.specs.Runs.{GoesOnAlone, IsReady};
-ghost use Rattle.session_text.specs.Answers.{no_piece_words, no_refusal_words};
+ghost use Rattle.group_flush.specs.Queues.{AreQueued};
+ghost use Rattle.session_text.specs.Answers.{group_open_words, no_piece_words, no_refusal_words};
 ghost use Rattle.session_play.specs.Answering.{finish_alone, IsAnswered, IsCut};
 ghost use Rattle.session_play.specs.Pieces.{session_of, AreHandedBy};
 ghost use Rattle.session_play.specs.Playing.{answer_of, is_refused_end, play_finish};
@@ -18,15 +19,17 @@ use crate::Cut;
 use crate::pieces::place_of;
 use crate::printing::put_finish;
 use engine_calls::finish;
+use group_flush::Queued;
 use process_core::{Piece, Work};
 use process_disk::Rack;
 use process_engine::{Answer, Engine};
 use process_tree::Outcome;
 use resource_box::Resource;
-use session_text::{put_no_piece, put_no_refusal};
+use session_text::{put_group_open, put_no_piece, put_no_refusal};
 use std::alloc::{AllocError, Global};
 
-fn answer_of(outcome: Outcome) -> Answer
+/// What a line says of the work of a piece.
+pub fn answer_of(outcome: Outcome) -> Answer
     ensures { result ≡ answer_of outcome }
 {
     match outcome {
@@ -72,8 +75,8 @@ fn finish_piece<R: Rack + Drop, B: Resource>(
     Ok(text)
 }
 
-// The line of a piece that isn't unfinished.
-fn no_piece(alloc: Global, n: u32) -> Result<Vec<u8>, AllocError>
+/// The line of a piece that isn't unfinished.
+pub fn no_piece(alloc: Global, n: u32) -> Result<Vec<u8>, AllocError>
     ensures { IfOk result (λ text. text.items ≡ line_of (no_piece_words n)) }
 {
     let mut text = Vec::new(alloc);
@@ -81,8 +84,8 @@ fn no_piece(alloc: Global, n: u32) -> Result<Vec<u8>, AllocError>
     Ok(text)
 }
 
-// The line of an end that is not refused.
-fn no_refusal(alloc: Global, n: u32) -> Result<Vec<u8>, AllocError>
+/// The line of an end that is not refused.
+pub fn no_refusal(alloc: Global, n: u32) -> Result<Vec<u8>, AllocError>
     ensures { IfOk result (λ text. text.items ≡ line_of (no_refusal_words n)) }
 {
     let mut text = Vec::new(alloc);
@@ -90,8 +93,17 @@ fn no_refusal(alloc: Global, n: u32) -> Result<Vec<u8>, AllocError>
     Ok(text)
 }
 
-// Whether it is an end, and told to be refused.
-fn is_refused_end(piece: &Piece, outcome: Outcome) -> bool
+// The line of a group that is open.
+fn group_open(alloc: Global) -> Result<Vec<u8>, AllocError>
+    ensures { IfOk result (λ text. text.items ≡ line_of group_open_words) }
+{
+    let mut text = Vec::new(alloc);
+    put_group_open(&mut text)?;
+    Ok(text)
+}
+
+/// Whether it is an end, and told to be refused.
+pub fn is_refused_end(piece: &Piece, outcome: Outcome) -> bool
     ensures { result ≡ is_refused_end piece.now.piece outcome }
 {
     match outcome {
@@ -100,11 +112,12 @@ fn is_refused_end(piece: &Piece, outcome: Outcome) -> bool
     }
 }
 
-/// Answers `finish N done` or `finish N refused`.
+/// Answers `finish N done` or `finish N refused`, beside these queued pieces.
 pub fn play_finish<R: Rack + Drop, B: Resource>(
     alloc: Global,
     engine: &mut Engine<R, B>,
     pieces: &mut Vec<Piece>,
+    queued: &Queued,
     n: u32,
     outcome: Outcome,
 ) -> Result<Vec<u8>, Cut>
@@ -112,11 +125,13 @@ pub fn play_finish<R: Rack + Drop, B: Resource>(
     requires handed { AreHandedBy engine.old.core pieces.old.items }
     ensures answered { IfOk result
         (λ text. IsAnswered (play_finish engine.old.catalog
-        (session_of engine.old.core pieces.old.items) n outcome) engine.new.core pieces.new.items text.items) }
+        (session_of engine.old.core pieces.old.items queued.now) n outcome)
+        engine.new.core pieces.new.items queued.now text.items) }
     ensures handed { OnOk result (AreHandedBy engine.new.core pieces.new.items) }
     ensures cut { IfErr result
         (λ cut. IsCut cut (play_finish engine.old.catalog
-        (session_of engine.old.core pieces.old.items) n outcome) engine.old.core engine.new.core) }
+        (session_of engine.old.core pieces.old.items queued.now) n outcome) engine.old.core engine.new.core) }
+    ensures queued { AreQueued engine.old queued.now → AreQueued engine.new queued.now }
     ensures fault { IfErr result
         (λ cut. cut ≡ DiskFault → (engine.new.phase ≡ phase.Closed)
         × Rose (R.faults engine.old.files.rack) (R.faults engine.new.files.rack)) }
@@ -128,6 +143,9 @@ pub fn play_finish<R: Rack + Drop, B: Resource>(
     let Some(place) = place_of(pieces, n) else {
         return Ok(no_piece(alloc, n)?);
     };
+    if queued.count() > 0 {
+        return Ok(group_open(alloc)?);
+    }
     if is_refused_end(&pieces[place], outcome) {
         return Ok(no_refusal(alloc, n)?);
     }

@@ -8,15 +8,16 @@ ghost use Rattle.history_files.specs.Standing.{EachFits};
 ghost use Rattle.engine_steps.specs.declared.engines.Phase.TheVariants as phase;
 ghost use Rattle.engine_calls.specs.Runs.{GoesOn, IsReady};
 ghost use Rattle.session_play.specs.Answering.{IsAnswered, IsCopy, IsCut};
-ghost use Rattle.session_play.specs.Pieces.{session_of, AreHandedBy};
+ghost use Rattle.session_play.specs.AtHand.{session_with, AreAtHand};
 ghost use Rattle.session_play.specs.Playing.{plan_for, play};
 ghost use Rattle.session_play.specs.declared.cut.Cut.TheVariants.{DiskFault};
 
-use crate::Cut;
 use crate::asking::{play_abort, play_admit, play_next};
 use crate::finishing::play_finish;
+use crate::flushing::play_flush;
+use crate::queueing::play_queue;
 use crate::starting::play_start;
-use process_core::Piece;
+use crate::{AtHand, Cut};
 use process_disk::Rack;
 use process_engine::Engine;
 use process_tree::Plan;
@@ -25,24 +26,25 @@ use scenario_run::report_now;
 use session_text::Line;
 use std::alloc::Global;
 
-/// Answers a line with these plans of the scenario.
+/// Answers a line with these plans of the scenario, and these pieces at hand.
 pub fn play_line<R: Rack + Drop, B: Resource>(
     alloc: Global,
     engine: &mut Engine<R, B>,
     plans: &[Plan],
-    pieces: &mut Vec<Piece>,
+    hand: &mut AtHand,
     line: &Line,
 ) -> Result<Vec<u8>, Cut>
     requires ready { IsReady B.meaning B.sort engine.old }
     requires plans { Each (IsPlanFor engine.old.catalog) plans.now }
-    requires handed { AreHandedBy engine.old.core pieces.old.items }
+    requires at_hand { AreAtHand engine.old hand.old }
     ensures answered { IfOk result (λ text. (copy : Option Plan) × IsCopy (plan_for plans.now line.now) copy
         × IsAnswered (play engine.old.catalog
-        (session_of engine.old.core pieces.old.items) line.now copy) engine.new.core pieces.new.items text.items) }
-    ensures handed { OnOk result (AreHandedBy engine.new.core pieces.new.items) }
+        (session_with engine.old.core hand.old) line.now copy)
+        engine.new.core hand.new.unfinished.items hand.new.queued text.items) }
+    ensures at_hand { OnOk result (AreAtHand engine.new hand.new) }
     ensures cut { IfErr result (λ cut. (copy : Option Plan) × IsCopy (plan_for plans.now line.now) copy
         × IsCut cut (play engine.old.catalog
-        (session_of engine.old.core pieces.old.items) line.now copy) engine.old.core engine.new.core) }
+        (session_with engine.old.core hand.old) line.now copy) engine.old.core engine.new.core) }
     ensures fault { IfErr result
         (λ cut. cut ≡ DiskFault → (engine.new.phase ≡ phase.Closed)
         × Rose (R.faults engine.old.files.rack) (R.faults engine.new.files.rack)) }
@@ -53,10 +55,30 @@ pub fn play_line<R: Rack + Drop, B: Resource>(
     engine.invariant_holds();
     match line {
         Line::Start(name) => play_start(alloc, engine, plans, name.bytes()),
-        Line::Admit(i) => play_admit(alloc, engine, pieces, *i),
-        Line::Next => play_next(alloc, engine, pieces),
-        Line::Finish(n, outcome) => play_finish(alloc, engine, pieces, *n, *outcome),
-        Line::Abort(i) => play_abort(alloc, engine, pieces, *i),
+        Line::Admit(i) => play_admit(alloc, engine, &mut hand.unfinished, *i),
+        Line::Next => play_next(alloc, engine, &mut hand.unfinished),
+        Line::Finish(n, outcome) => {
+            play_finish(
+                alloc,
+                engine,
+                &mut hand.unfinished,
+                &hand.queued,
+                *n,
+                *outcome,
+            )
+        }
+        Line::Queue(n, outcome) => {
+            play_queue(
+                alloc,
+                engine,
+                &mut hand.unfinished,
+                &mut hand.queued,
+                *n,
+                *outcome,
+            )
+        }
+        Line::Flush => play_flush(alloc, engine, &mut hand.queued),
+        Line::Abort(i) => play_abort(alloc, engine, &hand.unfinished, *i),
         Line::Show => Ok(report_now(alloc, engine)?),
         Line::Stop => Ok(Vec::new(alloc)),
     }

@@ -1,9 +1,11 @@
 // Pieces that a line may still finish.
 ghost use Rattle.std.specs.Prelude.{◌≡◌, ◌++◌, map, IfErr, OnOk};
-ghost use Rattle.session_play.specs.Pieces.{admitted_pieces, chosen_pieces, number_of, place_in};
+ghost use Rattle.std.specs.Option.{option_to_list};
+ghost use Rattle.session_play.specs.Pieces.{admitted_pieces, chosen_pieces, full_of, number_of, place_in};
 ghost use Rattle.session_play.specs.declared.cut.Cut.TheVariants.{NoMemory};
 
 use crate::Cut;
+use group_flush::Queue;
 use process_core::{Admit, Next, Piece};
 
 /// The place of the piece of this number.
@@ -42,5 +44,26 @@ pub fn keep_chosen(pieces: &mut Vec<Piece>, reply: Next) -> Result<(), Cut>
     match reply {
         Next::Piece(piece) => Ok(pieces.push(piece)?),
         Next::Wait(_) | Next::AllEnded | Next::Stuck(_) => Ok(()),
+    }
+}
+
+/// The piece for which the group is full, if it is.
+pub fn full_of(reply: Queue) -> Option<Piece>
+    ensures { result ≡ full_of reply }
+{
+    match reply {
+        Queue::Full(piece) => Some(piece),
+        _ => None,
+    }
+}
+
+/// Keeps a piece for which the group is full.
+pub fn keep_full(pieces: &mut Vec<Piece>, full: Option<Piece>) -> Result<(), Cut>
+    ensures kept { OnOk result (pieces.new.items ≡ pieces.old.items ++ option_to_list full) }
+    ensures cut { IfErr result (λ cut. cut ≡ NoMemory) }
+{
+    match full {
+        Some(piece) => Ok(pieces.push(piece)?),
+        None => Ok(()),
     }
 }

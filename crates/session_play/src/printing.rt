@@ -4,16 +4,19 @@ ghost use Rattle.std.specs.List.{filter_map};
 ghost use Rattle.std.specs.Option.{option_to_list};
 ghost use Rattle.process_text.specs.Canonical.{line_of};
 ghost use Rattle.machine_model.specs.Moment.{Piece as Piece'};
+ghost use Rattle.machine_model.specs.Groups.{Queue as QueueReply};
 ghost use Rattle.machine_model.specs.Replies.{Finish as FinishReply, Handed};
 ghost use Rattle.process_core.specs.Handing.{admit_reply_of};
 ghost use Rattle.process_core.specs.Rotation.{next_reply_of};
 ghost use Rattle.process_engine.specs.Finishing.{RepliesAs};
+ghost use Rattle.group_flush.specs.Queueing.{RepliesAs as IsReplyTo};
 ghost use Rattle.process_report.specs.Lines.{text_of};
-ghost use Rattle.session_text.specs.Answers.{admit_words, finish_words, next_words, numbered, piece_words};
+ghost use Rattle.session_text.specs.Answers.{admit_words, finish_words, next_words, numbered, piece_words, queue_words};
 ghost use Rattle.session_play.specs.Playing.{victim_of};
 ghost use Rattle.session_play.specs.declared.cut.Cut.TheVariants.{DiskFault, NoMemory};
 
 use crate::Cut;
+use group_flush::Queue;
 use process_core::{Admit, Kept, Next, Piece, Refusal};
 use process_engine::Finish;
 use schedule_model::History;
@@ -134,6 +137,36 @@ pub fn put_finish(
         Finish::DiskFault => return Err(Cut::DiskFault),
         Finish::NoMemory(_) => return Err(Cut::NoMemory),
         Finish::Closed(_) => unreachable!(),
+    }
+    Ok(())
+}
+
+/// Writes what came of the queueing of a piece: of this number, and of that step of its process.
+pub fn put_queue(
+    alloc: Global,
+    h: &History,
+    piece: (u32, u32, u16),
+    found: &Queue,
+    out: &mut Vec<u8>,
+) -> Result<(), Cut>
+    requires open { (n : ℕ) → found.now ≢ Queue.Closed n }
+    ensures told { (p : Piece') (reply : QueueReply) → p.number ≡ piece.0 → p.process ≡ piece.1 → p.step ≡ piece.2
+        → IsReplyTo found.now reply
+        → OnOk result (out.new.items ≡ out.old.items ++ line_of (queue_words h.now.plans p reply)) }
+    ensures cut { IfErr result (λ cut. cut ≡ NoMemory) }
+    ensures found { OnOk result ((p : Handed) → found.now ≢ Queue.NoMemory p) }
+{
+    let (number, process, step) = piece;
+    match found {
+        Queue::Queued => put_number(alloc, b"queued", number, out)?,
+        Queue::Full(_) => put_number(alloc, b"full", number, out)?,
+        Queue::Retry(count) => put_refusal(alloc, h, process, step, Refusal::Retry(*count), out)?,
+        Queue::Failed => put_refusal(alloc, h, process, step, Refusal::Alternative, out)?,
+        Queue::Exhausted => put_refusal(alloc, h, process, step, Refusal::Exhausted, out)?,
+        Queue::Over => put_no_piece(alloc, number, out)?,
+        Queue::Dropped(event) => put_number(alloc, b"dropped", *event, out)?,
+        Queue::NoMemory(_) => return Err(Cut::NoMemory),
+        Queue::Closed(_) => unreachable!(),
     }
     Ok(())
 }

@@ -11,6 +11,7 @@ ghost use Rattle.engine_steps.specs.Beginning.{IsPlanFor, of_start_why};
 ghost use Rattle.engine_steps.specs.declared.engines.Phase.TheVariants as phase;
 ghost use Rattle.engine_calls.specs.Acknowledged.{IsOneOf};
 ghost use Rattle.engine_calls.specs.Runs.{GoesOn, IsReady};
+ghost use Rattle.group_flush.specs.Queues.{AreQueued};
 ghost use Rattle.session_text.specs.Answers.{no_process_words, not_started_words};
 ghost use Rattle.session_play.specs.Answering.{IsAnswered, IsCopy, IsCut};
 ghost use Rattle.session_play.specs.Pieces.{session_of};
@@ -72,11 +73,12 @@ pub fn play_plan<R: Rack + Drop, B: Resource>(
     requires ready { IsReady B.meaning B.sort engine.old }
     requires plan { IsPlanFor engine.old.catalog plan }
     ensures answered { IfOk result
-        (λ text. (ps : List Handed) → IsAnswered
-        (play_start (session_of engine.old.core ps) name.now (Some plan)) engine.new.core ps text.items) }
+        (λ text. (ps queued : List Handed) → IsAnswered
+        (play_start (session_of engine.old.core ps queued) name.now (Some plan)) engine.new.core ps queued text.items) }
     ensures cut { IfErr result
-        (λ cut. (ps : List Handed) → IsCut cut
-        (play_start (session_of engine.old.core ps) name.now (Some plan)) engine.old.core engine.new.core) }
+        (λ cut. (ps queued : List Handed) → IsCut cut
+        (play_start (session_of engine.old.core ps queued) name.now (Some plan)) engine.old.core engine.new.core) }
+    ensures queued { OnOk result ((queued : List Handed) → AreQueued engine.old queued → AreQueued engine.new queued) }
     ensures fault { IfErr result
         (λ cut. cut ≡ DiskFault → (engine.new.phase ≡ phase.Closed)
         × Rose (R.faults engine.old.files.rack) (R.faults engine.new.files.rack)) }
@@ -84,6 +86,7 @@ pub fn play_plan<R: Rack + Drop, B: Resource>(
     ensures fits { EachFits B.meaning B.sort engine.new.files.stores }
     ensures ready { result ≢ Err DiskFault → IsReady B.meaning B.sort engine.new }
 {
+    engine.invariant_holds();
     let mut text = Vec::new(alloc);
     match start(engine, alloc, plan) {
         Ok(i) => put_started(alloc, i, name, &mut text)?,
@@ -111,11 +114,12 @@ pub fn play_start<R: Rack + Drop, B: Resource>(
     requires ready { IsReady B.meaning B.sort engine.old }
     requires plans { Each (IsPlanFor engine.old.catalog) plans.now }
     ensures answered { IfOk result (λ text. (copy : Option Plan) × IsCopy (plan_named plans.now name.now) copy
-        × ((ps : List Handed) → IsAnswered
-        (play_start (session_of engine.old.core ps) name.now copy) engine.new.core ps text.items)) }
+        × ((ps queued : List Handed) → IsAnswered
+        (play_start (session_of engine.old.core ps queued) name.now copy) engine.new.core ps queued text.items)) }
     ensures cut { IfErr result (λ cut. (copy : Option Plan) × IsCopy (plan_named plans.now name.now) copy
-        × ((ps : List Handed) → IsCut cut
-        (play_start (session_of engine.old.core ps) name.now copy) engine.old.core engine.new.core)) }
+        × ((ps queued : List Handed) → IsCut cut
+        (play_start (session_of engine.old.core ps queued) name.now copy) engine.old.core engine.new.core)) }
+    ensures queued { OnOk result ((queued : List Handed) → AreQueued engine.old queued → AreQueued engine.new queued) }
     ensures fault { IfErr result
         (λ cut. cut ≡ DiskFault → (engine.new.phase ≡ phase.Closed)
         × Rose (R.faults engine.old.files.rack) (R.faults engine.new.files.rack)) }

@@ -6,6 +6,7 @@ use Rattle.process_tree.specs.Blocks.{numbers_from}
 use Rattle.process_tree.specs.Form.{AreEqualPlans}
 use Rattle.process_tree.specs.declared.plan.Plan.{Plan}
 use Rattle.process_tree.specs.declared.play.Outcome.{Outcome}
+use Rattle.process_tree.specs.declared.play.Outcome.TheVariants.{Done, Refused}
 use Rattle.process_text.specs.Canonical.{line_of}
 use Rattle.process_tree.specs.declared.entry.Entry.{Entry}
 use Rattle.schedule_model.specs.Course.{Course, course_of, courses_of, op_of, key_of}
@@ -41,8 +42,13 @@ use Rattle.session_text.specs.declared.line.Line.TheVariants as lines
 use Rattle.session_play.specs.Answering.{IsCopy}
 use Rattle.session_run.specs.Alike.{AreAlike, AreAlikeSessions, with_plans}
 use Rattle.scenario_run.specs.Reports.{cause_of, causes_in}
-use Rattle.session_play.specs.Playing.{SessionState, Played, answer_of, called, finish_as, finish_piece, is_at, is_refused_end, just_began, play, play_abort, play_admit, play_next, play_show, play_start, reply_to_next, start_unless, stays, victim_of}
-use Rattle.session_run.proofs.EqualPlans.{admit_same, effect_same, effects_same, equal_count, equal_push, finish_same, next_lines_same, report_same}
+use Rattle.group_flush.specs.Queueing.{taken_by}
+use Rattle.machine_model.specs.Groups as groups
+use Rattle.machine_model.specs.Groups.{Queue as QueueReply, flush_reply, queue_reply}
+use Rattle.machine_model.specs.Pieces.{runs}
+use Rattle.session_text.specs.Answers.{flush_lines, group_open_words}
+use Rattle.session_play.specs.Playing.{SessionState, Played, after_effects, answer_of, called, core_after, finish_as, finish_piece, is_at, is_open, is_refused_end, just_began, play, play_abort, play_admit, play_flush, play_next, play_show, play_start, queue_piece, queue_with, reply_to_next, reply_to_queue, start_unless, stays, victim_of}
+use Rattle.session_run.proofs.EqualPlans.{admit_same, effect_same, effects_same, equal_count, equal_push, finish_same, queue_same, next_lines_same, report_same}
 
 -- the machine of a core with these courses in place of its own
 abbrev machine_with : CoreState → List Course → Machine
@@ -62,6 +68,15 @@ just_same : (c : CoreState) (qs : List Plan) → AreEqualInTurn c.plans qs → j
 just_same c qs equal =
     ap (λ cs. filter (λ i. is_at (length c.kept) (option_map (λ b. b.began) (beginning_of (now (relation c) (machine_with c cs)) i))) (numbers_from 1 (length c.plans))) (same_courses c.plans qs equal)
     ∙ ap (λ n. filter (λ i. is_at (length c.kept) (began_in (with_plans c qs) i)) (numbers_from 1 n)) (equal_count c.plans qs equal)
+
+-- alike machines are alike once these pieces took effect
+call_alike : (c : CoreState) (qs : List Plan) → AreEqualInTurn c.plans qs → (call : Call) → after_call (with_plans c qs) call ≡ with_plans (after_call c call) qs
+call_alike c qs equal call = ap (core_by c qs) (sym (ap (λ cs. answer (relation c) (machine_with c cs) call) (same_courses c.plans qs equal)))
+
+pub alike_effects : (c : CoreState) (qs : List Plan) → AreEqualInTurn c.plans qs → (ns : List ℕ) → AreAlike (after_effects c ns) (after_effects (with_plans c qs) ns)
+alike_effects c qs equal [] = record { same = refl; equal = equal }
+alike_effects c qs equal (n ∷ ns) =
+    subst (λ x. AreAlike (after_effects (after_call c (finish n Done)) ns) (after_effects x ns)) (sym (call_alike c qs equal (finish n Done))) (alike_effects (after_call c (finish n Done)) qs equal ns)
 
 module _ (c : CoreState) (qs : List Plan) (equal : AreEqualInTurn c.plans qs) where
   abbrev d : CoreState
@@ -106,18 +121,18 @@ module _ (c : CoreState) (qs : List Plan) (equal : AreEqualInTurn c.plans qs) wh
       acts_same : bars_act cat.ops (full_history c) (act_of c.plans p) ≡ bars_act cat.ops (full_history d) (act_of qs p)
       acts_same = ap (bars_act cat.ops (full_history c)) entry ∙ events (subsystem_of cat.ops (act_of qs p).op) (act_of qs p)
 
-  module _ (us : List ℕ) where
+  module _ (us gs : List ℕ) where
     abbrev s : SessionState
-    s = record { core = c; unfinished = us }
+    s = record { core = c; unfinished = us; group = gs }
 
     abbrev t : SessionState
-    t = record { core = d; unfinished = us }
+    t = record { core = d; unfinished = us; group = gs }
 
     stay_same : (words : Words) → ComeToSame (stays s words) (stays t words)
-    stay_same words = record { printed = refl; states = record { cores = alike; unfinished = refl } }
+    stay_same words = record { printed = refl; states = record { cores = alike; unfinished = refl; group = refl } }
 
     call_same : (call : Call) → AreAlikeSessions (called s call) (called t call)
-    call_same call = record { cores = alike_call call; unfinished = ap (λ (a : Answer). us ++ map (λ (p : Piece). p.number) (hands a.kept)) (answer_same call) }
+    call_same call = record { cores = alike_call call; unfinished = ap (λ (a : Answer). us ++ map (λ (p : Piece). p.number) (hands a.kept)) (answer_same call); group = refl }
 
     admit_too : (i : ℕ) → ComeToSame (play_admit s i) (play_admit t i)
     admit_too i = record {
@@ -141,7 +156,7 @@ module _ (c : CoreState) (qs : List Plan) (equal : AreEqualInTurn c.plans qs) wh
     finish_as_too p outcome = record {
       printed = ap line_of (finish_same c.plans qs equal p (finish_reply (relation c) (courses_in c) (moment_of c) p.number outcome)
           ∙ ap (λ cs. finish_words qs p (finish_reply (relation c) cs (now (relation c) (machine_with c cs)) p.number outcome)) pc);
-      states = record { cores = alike_call (finish p.number outcome); unfinished = refl };
+      states = record { cores = alike_call (finish p.number outcome); unfinished = refl; group = refl };
     }
 
     finish_by : (cat : Catalog) (p : Piece) (answer : GateAnswer) (refused : Bool)
@@ -150,9 +165,47 @@ module _ (c : CoreState) (qs : List Plan) (equal : AreEqualInTurn c.plans qs) wh
     finish_by cat p answer true = stay_same (no_refusal_words p.number)
     finish_by cat p answer false = subst (λ b. ComeToSame (finish_as s p (outcome_of answer (is_barred_in cat c p))) (finish_as t p (outcome_of answer b))) (barred_same cat p) (finish_as_too p (outcome_of answer (is_barred_in cat c p)))
 
+    finish_open : (cat : Catalog) (p : Piece) (outcome : Outcome) (queued : Bool)
+        → ComeToSame
+        (if queued then stays s group_open_words else if is_refused_end p outcome then stays s (no_refusal_words p.number) else finish_as s p (outcome_of (answer_of outcome) (is_barred_in cat c p)))
+        (if queued then stays t group_open_words else if is_refused_end p outcome then stays t (no_refusal_words p.number) else finish_as t p (outcome_of (answer_of outcome) (is_barred_in cat d p)))
+    finish_open cat p outcome true = stay_same group_open_words
+    finish_open cat p outcome false = finish_by cat p (answer_of outcome) (is_refused_end p outcome)
+
     finish_piece_too : (cat : Catalog) (n : ℕ) (outcome : Outcome) (o : Option Piece) → ComeToSame (finish_piece cat s n outcome o) (finish_piece cat t n outcome o)
     finish_piece_too cat n outcome None = stay_same (no_piece_words n)
-    finish_piece_too cat n outcome (Some p) = finish_by cat p (answer_of outcome) (is_refused_end p outcome)
+    finish_piece_too cat n outcome (Some p) = finish_open cat p outcome (is_open gs)
+
+    core_after_too : (n : ℕ) (r : QueueReply) → AreAlike (core_after c n r) (core_after d n r)
+    core_after_too n (groups.refused r) = alike_call (finish n Refused)
+    core_after_too n groups.queued = alike
+    core_after_too n groups.full = alike
+    core_after_too n groups.over = alike
+    core_after_too n (groups.dropped k) = alike
+    core_after_too n groups.no_piece = alike
+    core_after_too n groups.no_refusal = alike
+
+    queue_with_too : (p : Piece) (r : QueueReply) → ComeToSame (queue_with s p r) (queue_with t p r)
+    queue_with_too p r = record {
+      printed = ap line_of (queue_same c.plans qs equal p r);
+      states = record { cores = core_after_too p.number r; unfinished = refl; group = refl };
+    }
+
+    reply_to_queue_same : (cat : Catalog) (p : Piece) (answer : GateAnswer) → reply_to_queue cat s p answer ≡ reply_to_queue cat t p answer
+    reply_to_queue_same cat p answer =
+        ap (λ b. queue_reply (relation c) (subsystem_of cat.ops) (courses_in c) (moment_of c) gs p.number (taken_by answer b)) (barred_same cat p)
+        ∙ ap (λ cs. queue_reply (relation c) (subsystem_of cat.ops) cs (now (relation c) (machine_with c cs)) gs p.number (taken_by answer (is_barred_in cat d p))) pc
+
+    queue_by : (cat : Catalog) (p : Piece) (answer : GateAnswer) (refused : Bool)
+        → ComeToSame (if refused then stays s (no_refusal_words p.number) else queue_with s p (reply_to_queue cat s p answer))
+        (if refused then stays t (no_refusal_words p.number) else queue_with t p (reply_to_queue cat t p answer))
+    queue_by cat p answer true = stay_same (no_refusal_words p.number)
+    queue_by cat p answer false =
+        subst (λ r. ComeToSame (queue_with s p (reply_to_queue cat s p answer)) (queue_with t p r)) (reply_to_queue_same cat p answer) (queue_with_too p (reply_to_queue cat s p answer))
+
+    queue_piece_too : (cat : Catalog) (n : ℕ) (outcome : Outcome) (o : Option Piece) → ComeToSame (queue_piece cat s n outcome o) (queue_piece cat t n outcome o)
+    queue_piece_too cat n outcome None = stay_same (no_piece_words n)
+    queue_piece_too cat n outcome (Some p) = queue_by cat p (answer_of outcome) (is_refused_end p outcome)
 
     abort_printed : (i : ℕ) → (play_abort s i).printed ≡ (play_abort t i).printed
     abort_printed i = ap line_of (ap (λ is. abort_words i is (abort_reply (courses_in c) (moment_of c) i)) began ∙ ap (λ cs. abort_words i (just_began (after_call d (abort i))) (abort_reply cs (now (relation c) (machine_with c cs)) i)) pc)
@@ -168,7 +221,7 @@ module _ (c : CoreState) (qs : List Plan) (equal : AreEqualInTurn c.plans qs) wh
       printed = ap (λ es. report_text cat (record { plans = c.plans; events = es }) (causes_in c)) history_same
           ∙ ap (report_text cat (record { plans = c.plans; events = history_of d })) causes_same
           ∙ report_same c.plans qs equal cat (history_of d) (causes_in d);
-      states = record { cores = alike; unfinished = refl };
+      states = record { cores = alike; unfinished = refl; group = refl };
     }
 
     -- a start takes equal plans
@@ -185,6 +238,7 @@ module _ (c : CoreState) (qs : List Plan) (equal : AreEqualInTurn c.plans qs) wh
         states = record {
           cores = record { same = ap (core_by c (qs ++ q ∷ [])) (sym started); equal = equal_push c.plans qs p q equal one };
           unfinished = refl;
+          group = refl;
         };
       }
       start_by (Some why) = stay_same (not_started_words why)
@@ -198,18 +252,33 @@ module _ (c : CoreState) (qs : List Plan) (equal : AreEqualInTurn c.plans qs) wh
     start_too name (Some p) None copy = absurd copy
     start_too name (Some p) (Some q) copy = start_plan name p q copy
 
+    flush_too : ComeToSame (play_flush s) (play_flush t)
+    flush_too = record {
+      printed = ap (λ cs. text_of (flush_lines (flush_reply (now (relation c) (machine_with c cs)) (length (history (relation c) (machine_with c cs))) gs))) pc;
+      states = record {
+        cores = subst (λ ns. AreAlike (after_effects c (filter (runs (moment_of c)) gs)) (after_effects d ns)) (ap (λ cs. filter (runs (now (relation c) (machine_with c cs))) gs) pc)
+            (alike_effects c qs equal (filter (runs (moment_of c)) gs));
+        unfinished = refl;
+        group = refl;
+      };
+    }
+
     play_too : (cat : Catalog) (l : Line) (p q : Option Plan) → IsCopy p q → ComeToSame (play cat s l p) (play cat t l q)
     play_too cat (lines.Start name) p q copy = start_too name p q copy
     play_too cat (lines.Admit i) p q copy = admit_too i
     play_too cat lines.Next p q copy = next_too
     play_too cat (lines.Finish n outcome) p q copy = finish_piece_too cat n outcome (if is_in n us then piece_of c.kept n else None)
+    play_too cat (lines.Queue n outcome) p q copy = queue_piece_too cat n outcome (if is_in n us then piece_of c.kept n else None)
+    play_too cat lines.Flush p q copy = flush_too
     play_too cat (lines.Abort i) p q copy = abort_too i
     play_too cat lines.Show p q copy = show_too cat
-    play_too cat lines.Stop p q copy = record { printed = refl; states = record { cores = alike; unfinished = refl } }
+    play_too cat lines.Stop p q copy = record { printed = refl; states = record { cores = alike; unfinished = refl; group = refl } }
 
 -- Alike sessions come to the same by a line, where the plans that it takes are equal.
 pub play_same : (cat : Catalog) (s t : SessionState) (l : Line) (p q : Option Plan) → AreAlikeSessions s t → IsCopy p q → ComeToSame (play cat s l p) (play cat t l q)
 play_same cat s t l p q alike copy =
-    let is : t ≡ record { core = with_plans s.core t.core.plans; unfinished = s.unfinished } =
-    ap (λ core. record { core = core; unfinished = t.unfinished }) alike.cores.same ∙ ap (λ us. record { core = with_plans s.core t.core.plans; unfinished = us }) (sym alike.unfinished) in
-    subst (λ x. ComeToSame (play cat s l p) (play cat x l q)) (sym is) (play_too s.core t.core.plans alike.cores.equal s.unfinished cat l p q copy)
+    let is : t ≡ record { core = with_plans s.core t.core.plans; unfinished = s.unfinished; group = s.group } =
+    ap (λ core. record { core = core; unfinished = t.unfinished; group = t.group }) alike.cores.same
+    ∙ (ap (λ us. record { core = with_plans s.core t.core.plans; unfinished = us; group = t.group }) (sym alike.unfinished)
+    ∙ ap (λ gs. record { core = with_plans s.core t.core.plans; unfinished = s.unfinished; group = gs }) (sym alike.group)) in
+    subst (λ x. ComeToSame (play cat s l p) (play cat x l q)) (sym is) (play_too s.core t.core.plans alike.cores.equal s.unfinished s.group cat l p q copy)

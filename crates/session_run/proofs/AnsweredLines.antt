@@ -5,6 +5,7 @@ use Rattle.process_tree.specs.declared.plan.Plan.{Plan}
 use Rattle.commute_table.specs.declared.catalog.Catalog.{Catalog}
 use Rattle.machine_model.specs.Replies.{Handed}
 use Rattle.process_core.specs.Cores.{CoreState}
+use Rattle.command_refusals.specs.declared.status.Status.TheVariants as lacks
 use Rattle.command_refusals.specs.declared.status.Status.TheVariants.{Done}
 use Rattle.session_text.specs.declared.line.Line.{Line}
 use Rattle.session_play.specs.declared.cut.Cut.{Cut}
@@ -33,11 +34,11 @@ alike_itself c = record { same = refl; equal = equal_plans c.plans }
 
 module _ (c : Catalog) (plans : List Plan) (first : CoreState) where
   -- at first nothing is answered
-  pub answered_none : (lines : List Line) → HasAnswered c plans first first [] lines lines []
-  answered_none lines = record { answered = []; are = refl; printed = refl; alike = record { cores = alike_itself first; unfinished = refl } }
+  pub answered_none : (lines : List Line) → HasAnswered c plans first first [] [] lines lines []
+  answered_none lines = record { answered = []; are = refl; printed = refl; alike = record { cores = alike_itself first; unfinished = refl; group = refl } }
 
-  module _ (now : CoreState) (pieces : List Handed) (lines : List Line) (l : Line) (rest : List Line) (text : List ℕ) (copy : Option Plan)
-      (is : HasAnswered c plans first now pieces lines (l ∷ rest) text) (equal : IsCopy (plan_for plans l) copy) where
+  module _ (now : CoreState) (pieces queued : List Handed) (lines : List Line) (l : Line) (rest : List Line) (text : List ℕ) (copy : Option Plan)
+      (is : HasAnswered c plans first now pieces queued lines (l ∷ rest) text) (equal : IsCopy (plan_for plans l) copy) where
     -- what the lines before came to, and this line behind them
     abbrev before : Played
     before = play_all c plans (begun_on first) is.answered
@@ -46,22 +47,22 @@ module _ (c : Catalog) (plans : List Plan) (first : CoreState) where
     own = play c before.state l (plan_for plans l)
 
     abbrev here : Played
-    here = play c (session_of now pieces) l copy
+    here = play c (session_of now pieces queued) l copy
 
     same : ComeToSame own here
-    same = play_same c before.state (session_of now pieces) l (plan_for plans l) copy is.alike equal
+    same = play_same c before.state (session_of now pieces queued) l (plan_for plans l) copy is.alike equal
 
     more : play_all c plans (begun_on first) (is.answered ++ l ∷ []) ≡ behind before.printed own
     more = play_all-snoc c plans (begun_on first) is.answered l
 
     -- one line more is answered
-    pub answered_more : (now_then : CoreState) (pieces_then : List Handed) (printed : List ℕ) → IsAnswered here now_then pieces_then printed
-        → HasAnswered c plans first now_then pieces_then lines rest (text ++ printed)
-    answered_more now_then pieces_then printed answered = record {
+    pub answered_more : (now_then : CoreState) (pieces_then queued_then : List Handed) (printed : List ℕ) → IsAnswered here now_then pieces_then queued_then printed
+        → HasAnswered c plans first now_then pieces_then queued_then lines rest (text ++ printed)
+    answered_more now_then pieces_then queued_then printed answered = record {
       answered = is.answered ++ l ∷ [];
       are = is.are ∙ sym (append_assoc is.answered (l ∷ []) rest);
       printed = ap (λ xs. xs ++ printed) is.printed ∙ (ap (λ xs. before.printed ++ xs) (answered.printed ∙ sym same.printed) ∙ sym (ap (λ (p : Played). p.printed) more));
-      alike = subst (λ (p : Played). AreAlikeSessions p.state (session_of now_then pieces_then)) (sym more) (subst (AreAlikeSessions own.state) (sym answered.state) same.states);
+      alike = subst (λ (p : Played). AreAlikeSessions p.state (session_of now_then pieces_then queued_then)) (sym more) (subst (AreAlikeSessions own.state) (sym answered.state) same.states);
     }
 
     -- it isn't, and the session ends
@@ -93,9 +94,13 @@ module _ (c : Catalog) (plans : List Plan) (first : CoreState) where
         → HasPlayed c plans first now_then lines said (status_of cut)
     played_cut cut now_then said ends is_said = subst (λ xs. HasPlayed c plans first now_then lines xs (status_of cut)) (sym is_said) (ends_by cut now_then ends)
 
+  -- memory is wanting before the first line
+  pub played_none : (lines : List Line) (text : List ℕ) → text ≡ fault_line lacks.NoMemory → HasPlayed c plans first first lines text lacks.NoMemory
+  played_none lines text is = record { answered = []; rest = lines; are = refl; printed = is; ends = inl (alike_itself first) }
+
   -- all are answered
-  pub played_all : (now : CoreState) (pieces : List Handed) (lines : List Line) (text : List ℕ) → HasAnswered c plans first now pieces lines [] text → HasPlayed c plans first now lines text Done
-  played_all now pieces lines text is = record {
+  pub played_all : (now : CoreState) (pieces queued : List Handed) (lines : List Line) (text : List ℕ) → HasAnswered c plans first now pieces queued lines [] text → HasPlayed c plans first now lines text Done
+  played_all now pieces queued lines text is = record {
     answered = is.answered;
     rest = [];
     are = is.are;

@@ -20,6 +20,8 @@ use Rattle.machine_model.specs.declared.kept.Work.TheVariants as works
 use Rattle.machine_model.specs.declared.replies.Refusal.{Refusal}
 use Rattle.machine_model.specs.declared.replies.Refusal.TheVariants as refusals
 use Rattle.machine_model.specs.Moment.{Piece}
+use Rattle.machine_model.specs.Groups as groups
+use Rattle.machine_model.specs.Groups.{Queue}
 use Rattle.machine_model.specs.Replies.{Admit, piece, blocked, running, unknown, ended, exhausted, Next, chosen, wait, all_ended, stuck, BlockedProcess, Finish, effected, refused, over, dropped, no_piece, no_refusal}
 use Rattle.process_journal.specs.Laws.{AreEqualInTurn}
 use Rattle.process_journal.proofs.PlansAlike.{same_courses}
@@ -31,7 +33,7 @@ use Rattle.process_report.specs.Lines.{Line, cause_line, entry_line, event_line,
 use Rattle.process_report.specs.Blocks.{block_words, rule_word}
 use Rattle.process_report.specs.Report.{conflicts_lines, end_line, form_of, end_words, path_words, report_text, section}
 use Rattle.scenario_run.proofs.OneOf.{equal_plan}
-use Rattle.session_text.specs.Answers.{admit_words, exhausted_words, finish_words, next_lines, next_words, numbered, piece_words, refusal_words, wait_words, work_words}
+use Rattle.session_text.specs.Answers.{admit_words, exhausted_words, finish_words, next_lines, queue_words, next_words, numbered, piece_words, refusal_words, wait_words, work_words}
 
 -- what is the same of equal plans is the same of lists of them
 map_equal : {X : Type 0} (f : Plan → X) → ((p q : Plan) → AreEqualPlans p q → f p ≡ f q) → (ps qs : List Plan) → AreEqualInTurn ps qs → map f ps ≡ map f qs
@@ -124,6 +126,15 @@ module _ (ps qs : List Plan) (equal : AreEqualInTurn ps qs) where
   finish_same p (dropped k) = refl
   finish_same p no_piece = refl
   finish_same p no_refusal = refl
+
+  pub queue_same : (p : Piece) (r : Queue) → queue_words ps p r ≡ queue_words qs p r
+  queue_same p groups.queued = refl
+  queue_same p groups.full = refl
+  queue_same p (groups.refused r) = refusal_same p.process p.step r
+  queue_same p groups.over = refl
+  queue_same p (groups.dropped k) = refl
+  queue_same p groups.no_piece = refl
+  queue_same p groups.no_refusal = refl
 
   entry_same : (form : Form) (ops : List Op) (e : Entry) → entry_line form ps ops e ≡ entry_line form qs ops e
   entry_same form ops e = ap (λ w. (if e.undo then codes "undo" else codes "do") ∷ w ∷ op_name ops e.op ∷ key_words form e.key) (place_same e.process e.step)

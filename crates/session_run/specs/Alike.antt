@@ -14,7 +14,8 @@ pub record AreAlike (c d : CoreState) : Type 0 where
   pub same : d ≡ with_plans c d.plans
   pub equal : AreEqualInTurn c.plans d.plans
 
--- Two sessions are alike: their machines are, and the same pieces are unfinished.
+-- Two sessions are alike: their machines are, and the same pieces are unfinished and queued.
 pub record AreAlikeSessions (s t : SessionState) : Type 0 where
   pub cores : AreAlike s.core t.core
   pub unfinished : s.unfinished ≡ t.unfinished
+  pub group : s.group ≡ t.group

@@ -26,7 +26,7 @@ play_all c plans s (l ∷ ls) = let p = play c s l (plan_for plans l) in behind 
 
 -- a session that begins on this machine
 abbrev pub begun_on : CoreState → SessionState
-begun_on core = record { core = core; unfinished = [] }
+begun_on core = record { core = core; unfinished = []; group = [] }
 
 -- what these lines print, and what they make of the machine
 abbrev pub printed_by : Catalog → List Plan → CoreState → List Line → List ℕ
@@ -63,12 +63,12 @@ pub record HasPlayed (c : Catalog) (plans : List Plan) (first now : CoreState) (
   pub ends : EndsAt c plans first now answered rest status
 
 -- Of the lines of a session that began on a machine these are left: those before were answered, and this was printed.
-pub record HasAnswered (c : Catalog) (plans : List Plan) (first now : CoreState) (pieces : List Handed) (lines rest : List Line)
-    (text : List ℕ) : Type 0 where
+pub record HasAnswered (c : Catalog) (plans : List Plan) (first now : CoreState) (pieces queued : List Handed)
+    (lines rest : List Line) (text : List ℕ) : Type 0 where
   pub answered : List Line
   pub are : lines ≡ answered ++ rest
   pub printed : text ≡ printed_by c plans first answered
-  pub alike : AreAlikeSessions (play_all c plans (begun_on first) answered).state (session_of now pieces)
+  pub alike : AreAlikeSessions (play_all c plans (begun_on first) answered).state (session_of now pieces queued)
 
 -- what a session that was cut off ends with
 abbrev pub status_of : Cut → Status

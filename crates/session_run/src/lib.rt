@@ -9,4 +9,4 @@ mod playthrough;
 
 pub use command::session;
 pub use playthrough::play_lines;
-pub use session_play::{Cut, play_line};
+pub use session_play::{AtHand, Cut, play_line};

@@ -8,18 +8,17 @@ ghost use Rattle.engine_steps.specs.Beginning.{IsPlanFor};
 ghost use Rattle.engine_steps.specs.declared.engines.Phase.TheVariants as phase;
 ghost use Rattle.engine_calls.specs.Runs.{GoesOn, IsReady};
 ghost use Rattle.session_play.specs.Answering.{IsAnswered, IsCopy, IsCut};
-ghost use Rattle.session_play.specs.Pieces.{session_of, AreHandedBy};
+ghost use Rattle.session_play.specs.AtHand.{session_with, AreAtHand};
 ghost use Rattle.session_play.specs.Playing.{plan_for, play};
 ghost use Rattle.session_play.specs.declared.cut.Cut.TheVariants.{DiskFault};
 ghost use Rattle.session_run.specs.Playthrough.{fault_line, status_of, HasPlayed};
 
 use command_refusals::Status;
-use process_core::Piece;
 use process_disk::Rack;
 use process_engine::Engine;
 use process_tree::Plan;
 use resource_box::Resource;
-use session_play::{Cut, play_line};
+use session_play::{AtHand, Cut, play_line};
 use session_text::Line;
 use std::alloc::{AllocError, Global};
 
@@ -63,22 +62,22 @@ fn answer_line<R: Rack + Drop, B: Resource>(
     alloc: Global,
     engine: &mut Engine<R, B>,
     plans: &[Plan],
-    pieces: &mut Vec<Piece>,
+    hand: &mut AtHand,
     line: &Line,
     said: &mut Vec<u8>,
 ) -> Result<(), Cut>
     requires ready { IsReady B.meaning B.sort engine.old }
     requires plans { Each (IsPlanFor engine.old.catalog) plans.now }
-    requires handed { AreHandedBy engine.old.core pieces.old.items }
+    requires at_hand { AreAtHand engine.old hand.old }
     requires room { vec_len said.old + 11 ≤ vec_capacity said.old }
     ensures answered { OnOk result ((copy : Option Plan) × (text : List ℕ) × IsCopy (plan_for plans.now line.now) copy
         × IsAnswered (play engine.old.catalog
-        (session_of engine.old.core pieces.old.items) line.now copy) engine.new.core pieces.new.items text
+        (session_with engine.old.core hand.old) line.now copy) engine.new.core hand.new.unfinished.items hand.new.queued text
         × (said.new.items ≡ said.old.items ++ text)) }
-    ensures handed { OnOk result (AreHandedBy engine.new.core pieces.new.items) }
+    ensures at_hand { OnOk result (AreAtHand engine.new hand.new) }
     ensures cut { IfErr result (λ cut. (copy : Option Plan) × IsCopy (plan_for plans.now line.now) copy
         × IsCut cut (play engine.old.catalog
-        (session_of engine.old.core pieces.old.items) line.now copy) engine.old.core engine.new.core) }
+        (session_with engine.old.core hand.old) line.now copy) engine.old.core engine.new.core) }
     ensures left { OnErr result (said.new.items ≡ said.old.items) }
     ensures room { vec_len said.new + 11 ≤ vec_capacity said.new }
     ensures fault { IfErr result
@@ -88,7 +87,7 @@ fn answer_line<R: Rack + Drop, B: Resource>(
     ensures fits { EachFits B.meaning B.sort engine.new.files.stores }
     ensures ready { result ≢ Err DiskFault → IsReady B.meaning B.sort engine.new }
 {
-    let text = play_line(alloc, engine, plans, pieces, line)?;
+    let text = play_line(alloc, engine, plans, hand, line)?;
     add(said, &text)?;
     Ok(())
 }
@@ -113,11 +112,14 @@ pub fn play_lines<R: Rack + Drop, B: Resource>(
     ensures fits { EachFits B.meaning B.sort engine.new.files.stores }
     ensures ready { result ≢ Status.DiskFault → IsReady B.meaning B.sort engine.new }
 {
-    let mut pieces = Vec::new(alloc);
-    let mut rest = lines;
     engine.invariant_holds();
+    let Ok(mut hand) = AtHand::new(alloc) else {
+        add_fault(said, Cut::NoMemory);
+        return Status::NoMemory;
+    };
+    let mut rest = lines;
     while let [line, after @ ..] = rest {
-        if let Err(cut) = answer_line(alloc, engine, plans, &mut pieces, line, said) {
+        if let Err(cut) = answer_line(alloc, engine, plans, &mut hand, line, said) {
             engine.invariant_holds();
             add_fault(said, cut);
             return status_of(cut);

@@ -12,6 +12,8 @@ use Rattle.machine_model.specs.declared.replies.StartWhy.TheVariants.{TooMany, N
 use Rattle.machine_model.specs.Moment.{Piece}
 use Rattle.machine_model.specs.Replies.{Admit, piece, blocked, running, unknown, ended, exhausted, Next, chosen, wait, all_ended}
 use Rattle.machine_model.specs.Replies.{stuck, BlockedProcess, Finish, effected, refused, over, dropped, no_piece, no_refusal}
+use Rattle.machine_model.specs.Groups as groups
+use Rattle.machine_model.specs.Groups.{Ended, GroupEnd, Queue}
 use Rattle.process_report.specs.Lines.{Line, place_word}
 use Rattle.process_report.specs.Names.{step_name}
 use Rattle.process_report.specs.Blocks.{block_words}
@@ -104,6 +106,34 @@ finish_words plans p over = no_piece_words p.number
 finish_words plans p (dropped k) = numbered (codes "dropped") k
 finish_words plans p no_piece = no_piece_words p.number
 finish_words plans p no_refusal = no_refusal_words p.number
+
+-- `group open`: something is queued
+abbrev pub group_open_words : Line
+group_open_words = codes "group" ∷ codes "open" ∷ []
+
+-- the answer to the queueing of piece p
+abbrev pub queue_words : List Plan → Piece → Queue → Line
+queue_words plans p groups.queued = numbered (codes "queued") p.number
+queue_words plans p groups.full = numbered (codes "full") p.number
+queue_words plans p (groups.refused r) = refusal_words plans p.process p.step r
+queue_words plans p groups.over = no_piece_words p.number
+queue_words plans p (groups.dropped k) = numbered (codes "dropped") k
+queue_words plans p groups.no_piece = no_piece_words p.number
+queue_words plans p groups.no_refusal = no_refusal_words p.number
+
+-- what became of a piece of a group: `effected E`, or `dropped E`
+abbrev pub ending_words : GroupEnd → Line
+ending_words (groups.effected n) = numbered (codes "effected") n
+ending_words (groups.dropped_at_event k) = numbered (codes "dropped") k
+
+-- `nothing queued`
+abbrev pub nothing_queued_words : Line
+nothing_queued_words = codes "nothing" ∷ codes "queued" ∷ []
+
+-- the lines of `flush`: what became of each piece, in the order in which they were queued
+abbrev pub flush_lines : List Ended → List Line
+flush_lines [] = nothing_queued_words ∷ []
+flush_lines (e ∷ es) = map (λ e. ending_words e.ending) (e ∷ es)
 
 -- the answer to `abort I`, where these processes began to complete
 abbrev pub abort_words : ℕ → List ℕ → Aborted → Line

@@ -6,7 +6,7 @@ use Rattle.std.specs.declared.alloc.Global.{Global}
 use Rattle.process_tree.specs.Making.{same_text}
 use Rattle.trace_verify.specs.Lines.{parts}
 use Rattle.session_text.specs.declared.line.Line.{Line}
-use Rattle.session_text.specs.declared.line.Line.TheVariants.{Start, Admit, Next, Finish, Abort, Show, Stop}
+use Rattle.session_text.specs.declared.line.Line.TheVariants.{Start, Admit, Next, Finish, Queue, Flush, Abort, Show, Stop}
 use Rattle.session_text.specs.declared.line.LinesError.{LinesError}
 use Rattle.session_text.specs.declared.line.LinesError.TheVariants.{BadLine, NoMemory}
 use Rattle.session_text.specs.Forms.{line_of}
@@ -53,6 +53,8 @@ line_then n rest (Some (Start name)) = with_line (Start name) rest
 line_then n rest (Some (Admit i)) = with_line (Admit i) rest
 line_then n rest (Some Next) = with_line Next rest
 line_then n rest (Some (Finish k outcome)) = with_line (Finish k outcome) rest
+line_then n rest (Some (Queue k outcome)) = with_line (Queue k outcome) rest
+line_then n rest (Some Flush) = with_line Flush rest
 line_then n rest (Some (Abort i)) = with_line (Abort i) rest
 line_then n rest (Some Show) = with_line Show rest
 

@@ -1,7 +1,8 @@
 // The lines of `next` where no piece is free, and of the end of pieces.
 ghost use Rattle.std.specs.Prelude.{◌≡◌, ◌++◌, OnOk};
 ghost use Rattle.process_text.specs.Canonical.{line_of};
-ghost use Rattle.session_text.specs.Answers.{all_ended_words, no_piece_words, no_refusal_words, refusal_words, waiting_words};
+ghost use Rattle.session_text.specs.Answers.{all_ended_words, group_open_words, no_piece_words, no_refusal_words};
+ghost use Rattle.session_text.specs.Answers.{nothing_queued_words, refusal_words, waiting_words};
 
 use crate::answers::{put_exhausted, put_number};
 use crate::requests::put_counted;
@@ -55,4 +56,18 @@ pub fn put_no_refusal(alloc: Global, n: u32, out: &mut Vec<u8>) -> Result<(), Al
 {
     let number = format!(in alloc; "{n}")?;
     put_line(out, &[b"end", b"is", b"not", b"refused", number.as_bytes()])
+}
+
+/// Writes `group open`: something is queued.
+pub fn put_group_open(out: &mut Vec<u8>) -> Result<(), AllocError>
+    ensures { OnOk result (out.new.items ≡ out.old.items ++ line_of group_open_words) }
+{
+    put_line(out, &[b"group", b"open"])
+}
+
+/// Writes `nothing queued`.
+pub fn put_nothing_queued(out: &mut Vec<u8>) -> Result<(), AllocError>
+    ensures { OnOk result (out.new.items ≡ out.old.items ++ line_of nothing_queued_words) }
+{
+    put_line(out, &[b"nothing", b"queued"])
 }

@@ -3,7 +3,7 @@ ghost use Rattle.std.specs.Prelude.{◌≡◌, IfOk};
 ghost use Rattle.std.specs.Option.{option_map};
 ghost use Rattle.trace_verify.specs.Forms.{number_of};
 ghost use Rattle.session_text.specs.declared.line.Line.TheVariants.{Admit, Abort};
-ghost use Rattle.session_text.specs.Forms.{one_word, outcome_of, finish_of, start_of, more_words, line_of};
+ghost use Rattle.session_text.specs.Forms.{one_word, outcome_of, end_of, finish_of, queue_of, start_of, more_words, line_of};
 
 use crate::Line;
 use process_text::is_word;
@@ -11,12 +11,14 @@ use process_tree::{Name, NameError, Outcome};
 use std::alloc::{AllocError, Global};
 use trace_verify::{cut, number_of};
 
-// `next`, `show` or `stop`
+// `next`, `flush`, `show` or `stop`
 fn one_word(word: &[u8]) -> Option<Line>
     ensures { result ≡ one_word word.now }
 {
     if is_word(word, b"next") {
         Some(Line::Next)
+    } else if is_word(word, b"flush") {
+        Some(Line::Flush)
     } else if is_word(word, b"show") {
         Some(Line::Show)
     } else if is_word(word, b"stop") {
@@ -40,14 +42,34 @@ fn outcome_of(word: &[u8]) -> Option<Outcome>
 }
 
 // `N done` or `N refused`
-fn finish_of(text: &[u8]) -> Option<Line>
-    ensures { result ≡ finish_of text.now }
+fn end_of(text: &[u8]) -> Option<(u32, Outcome)>
+    ensures { result ≡ end_of text.now }
 {
     match cut(text, b' ') {
         Some((n, outcome)) => match (number_of(n), outcome_of(outcome)) {
-            (Some(n), Some(outcome)) => Some(Line::Finish(n, outcome)),
+            (Some(n), Some(outcome)) => Some((n, outcome)),
             _ => None,
         },
+        None => None,
+    }
+}
+
+// `finish N done` or `finish N refused`
+fn finish_of(text: &[u8]) -> Option<Line>
+    ensures { result ≡ finish_of text.now }
+{
+    match end_of(text) {
+        Some((n, outcome)) => Some(Line::Finish(n, outcome)),
+        None => None,
+    }
+}
+
+// `queue N done` or `queue N refused`
+fn queue_of(text: &[u8]) -> Option<Line>
+    ensures { result ≡ queue_of text.now }
+{
+    match end_of(text) {
+        Some((n, outcome)) => Some(Line::Queue(n, outcome)),
         None => None,
     }
 }
@@ -96,6 +118,8 @@ fn more_words(alloc: Global, word: &[u8], rest: &[u8]) -> Result<Option<Line>, A
         abort_of(rest)
     } else if is_word(word, b"finish") {
         finish_of(rest)
+    } else if is_word(word, b"queue") {
+        queue_of(rest)
     } else {
         None
     })

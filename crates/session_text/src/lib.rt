@@ -14,7 +14,10 @@ mod reading;
 mod requests;
 
 pub use answers::{put_block, put_exhausted, put_number, put_piece};
-pub use finishing::{put_all_ended, put_no_piece, put_no_refusal, put_refusal, put_waiting};
+pub use finishing::{
+    put_all_ended, put_group_open, put_no_piece, put_no_refusal, put_nothing_queued, put_refusal,
+    put_waiting,
+};
 pub use forms::line_of;
 pub use line::{Line, LinesError};
 pub use reading::{Divided, divide, read_lines};

@@ -16,6 +16,10 @@ pub enum Line {
     Next,
     /// The end of this piece.
     Finish(u32, Outcome),
+    /// That this piece takes effect with the next flush, if its work is done.
+    Queue(u32, Outcome),
+    /// That the queued pieces take effect.
+    Flush,
     /// That this process completes.
     Abort(u32),
     /// The report of this moment.

@@ -7,6 +7,7 @@ use Rattle.machine_model.specs.declared.blocked.Rule.TheVariants.{A5}
 use Rattle.machine_model.specs.Blocks.{blocks_of, least_block}
 use Rattle.admission.specs.Admission.{against_undo_of}
 use Rattle.admission.specs.Least.{least_on}
+use Rattle.admission.proofs.Order.{with_none}
 use Rattle.admission.proofs.StepPlaces.{first_found, none_found}
 use Rattle.admission.proofs.admission.least_of_undo.Goals as goal
 
@@ -24,6 +25,7 @@ returns-in-Some c = λ plan.
     let first = first_found c.args.process c.args.step t.net place x (sym c.place_of_step.ensures.place ∙ c.in-Some.is) in
     let same = c.net_at-own.ensures.entry x in
     c.least_between.ensures
+    ∙ with_none _
     ∙ ap (λ n. least_on table A5 x (drop (place + 1) (take n t.net))) c.net_len-end.ensures.len
     ∙ ap (λ es. least_on table A5 x (drop (place + 1) es)) (take-length t.net)
     ∙ ap (λ n. least_on table A5 x (drop n t.net)) (let next : place + 1 ≡ suc place = omega arith in next)

@@ -11,7 +11,7 @@ use Rattle.schedule_model.specs.Holdings.{reaches}
 use Rattle.admission.specs.Parts.{with_circle}
 use Rattle.admission.proofs.Clear.{none_against}
 use Rattle.admission.proofs.Assembled.{least_by}
-use Rattle.admission.proofs.WalksBack.{circle, circle-is, circle_more}
+use Rattle.admission.proofs.WalksBack.{circle, circle-is, circle_more, none_led}
 use Rattle.admission.proofs.Places.{rest_back, rest_none}
 use Rattle.admission.proofs.circle.least_in_circle.Goals as goal
 
@@ -60,3 +60,9 @@ returns-then-is_clear_of_net c =
     let led : Clash → Bool = λ x. reaches (do_conflict t.conflicts) (holdings_of t) own.process x.other.process in
     sym (circle-is t own c.net_len-place.ensures.tidy
     ∙ ap (λ (cs : List Clash). least_by A2 (filter led cs)) (none_against t.conflicts own t.net (c.is_clear_of_net.ensures.clear c.if-is_clear_of_net.true)))
+
+pub returns-then-leads_nowhere : goal.returns-then-leads_nowhere
+returns-then-leads_nowhere c =
+    let t = c.args.holds.now in
+    let tidy = c.net_len-place.ensures.tidy in
+    sym (circle-is t c.args.own tidy ∙ none_led t c.args.own (c.leads_nowhere.ensures.none c.if-leads_nowhere.true) t.net tidy.of_open)

@@ -5,12 +5,12 @@ use Rattle.hold_tables.specs.Tables.{is_open}
 use Rattle.admission.specs.Least.{least_over, lesser_of}
 use Rattle.admission.specs.Parts.{least_of_process}
 use Rattle.admission.specs.declared.processes.Sought.TheVariants.{Next}
-use Rattle.admission.proofs.HeldUp.{some_among, some_first, some_in}
+use Rattle.admission.proofs.HeldUp.{some_among, some_first}
 use Rattle.admission.proofs.Holders.{holder_more, holder_open}
 use Rattle.admission.proofs.held.is_held_at.Goals as goal
 
-pub least_of_process-requires-clause-open : goal.least_of_process-requires-clause-open
-least_of_process-requires-clause-open c =
+pub holds_against-requires-clause-open : goal.holds_against-requires-clause-open
+holds_against-requires-clause-open c =
     let t = c.args.holds.now in
     let len = c.open_len.ensures.len in
     let test = c.if-place-open_len.false in
@@ -26,8 +26,8 @@ returns-in-Some-clause-held c is =
     let f = least_of_process t Next e in
     let behind = least_over f (drop (place + 1) t.processes) in
     let same : place + 1 - 1 ≡ place = omega arith in
-    let found = some_in c.least_of_process.result (sym c.is_some.ensures ∙ is) in
+    let found = c.holds_against.ensures is in
     let first = some_first found.0 behind in
     let more = holder_more t Next e c.open_len.ensures.tidy.numbered (place + 1) (omega arith) (omega (arith, test, len)) (Some c.in-Some.process)
     (λ d. sym c.in-Some.is ∙ c.may_hold_at.ensures.number d ∙ ap (λ n. may_hold_number t.conflicts e.op (slice_index_or t.processes n d)) (sym same)) in
-    some_among f t.processes (place + 1 - 1) first.0 (sym more ∙ ap (λ o. lesser_of o behind) (sym c.least_of_process.ensures ∙ found.1) ∙ first.1)
+    some_among f t.processes (place + 1 - 1) first.0 (sym more ∙ ap (λ o. lesser_of o behind) found.1 ∙ first.1)

@@ -19,7 +19,7 @@ places-preserved c =
     let le = c.places.invariant.within in
     record {
       within = omega arith;
-      least = fronts_back (do_conflict t.conflicts) c.args.process t.net c.places.place c.least_at.result c.places.least c.lesser_of-least.result c.places-test.true le c.least_at.ensures c.lesser_of-least.ensures c.places.invariant.least;
+      least = fronts_back (do_conflict t.conflicts) c.args.process t.net c.places.place c.places.least c.least_at-least.result c.places-test.true le c.least_at-least.ensures c.places.invariant.least;
     }
 
 pub returns-clause-least : goal.returns-clause-least

@@ -18,8 +18,8 @@ owed-init c =
     let good = c.last_after-place.ensures.good in
     record {
       within = subst (IsOfTree plan.tree) (sym c.last_after-place.ensures.place) (next_within plan.tree c.args.step good);
-      least = ap (λ p. least_against_steps t plan c.args.process (steps_from plan p)) c.last_after-place.ensures.place
-          ∙ ap (least_against_steps t plan c.args.process) (sym (owed_from plan c.args.step good));
+      least = ap (lesser_of c.args.found) (ap (λ p. least_against_steps t plan c.args.process (steps_from plan p)) c.last_after-place.ensures.place
+          ∙ ap (least_against_steps t plan c.args.process) (sym (owed_from plan c.args.step good)));
     }
 
 pub owed-smaller : goal.owed-smaller
@@ -40,8 +40,8 @@ owed-preserved c =
     record {
       within = subst (IsOfTree plan.tree) (sym c.last_after-place-in-Step.ensures.place) (next_within plan.tree d good);
       least =
-          ap (λ p. lesser_of c.lesser_of-least.result (least_against_steps t plan c.args.process (steps_from plan p))) c.last_after-place-in-Step.ensures.place
-          ∙ ap (λ o. lesser_of o (least_against_steps t plan c.args.process (steps_from plan (last_place_after (shape_of plan.tree) d)))) (c.lesser_of-least.ensures ∙ ap (lesser_of c.owed.least) (c.least_against_owed.ensures ∙ ap (least_against_owed t) c.entry_of-own.ensures))
+          ap (λ p. lesser_of c.least_against_owed-least.result (least_against_steps t plan c.args.process (steps_from plan p))) c.last_after-place-in-Step.ensures.place
+          ∙ ap (λ o. lesser_of o (least_against_steps t plan c.args.process (steps_from plan (last_place_after (shape_of plan.tree) d)))) (c.least_against_owed-least.ensures ∙ ap (λ e. lesser_of c.owed.least (least_against_owed t e)) c.entry_of-own.ensures)
           ∙ one_owed plan (λ s. least_against_owed t (entry_of plan c.args.process s)) d c.owed.least good
           ∙ ap (λ p. lesser_of c.owed.least (least_against_steps t plan c.args.process (steps_from plan p))) (sym c.in-Step.is)
           ∙ c.owed.invariant.least;

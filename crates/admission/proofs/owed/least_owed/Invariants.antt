@@ -10,7 +10,7 @@ use Rattle.admission.proofs.owed.least_owed.Given as goal
 abbrev pub invariant-owed : goal.invariant-owed
 invariant-owed l = record {
   within : IsOfTree l.plan.tree l.place;
-  least : lesser_of l.least (least_against_steps l.holds l.plan l.process (steps_from l.plan l.place)) ≡ least_against_steps l.holds l.plan l.process (steps_owed_after l.plan l.step);
+  least : lesser_of l.least (least_against_steps l.holds l.plan l.process (steps_from l.plan l.place)) ≡ lesser_of l.fn.found (least_against_steps l.holds l.plan l.process (steps_owed_after l.plan l.step));
 }
 
 abbrev pub decreases-owed : goal.decreases-owed

@@ -2,11 +2,13 @@ use Rattle.std.proofs.Common.{◌≡◌, ◌∙◌, ◌⊎◌, List, [], ◌∷�
 use Rattle.process_tree.specs.declared.plan.Plan.{Plan}
 use Rattle.command_input.specs.Scenarios.{AreGoodPlans}
 use Rattle.machine_model.specs.Replies.{Handed}
-use Rattle.session_play.specs.Pieces.{AreHandedBy, session_of}
+use Rattle.group_flush.specs.Queues.{AreQueued}
+use Rattle.session_play.specs.AtHand.{AreAtHand}
+use Rattle.session_play.specs.Pieces.{session_of}
 use Rattle.session_play.specs.Playing.{play_start}
 use Rattle.session_play.specs.declared.cut.Cut.TheVariants.{DiskFault, NoMemory}
 use Rattle.session_play.proofs.AskedPieces.{all_stay}
-use Rattle.session_play.proofs.Outcomes.{err_map, ok_map, on_ok}
+use Rattle.session_play.proofs.Outcomes.{err_map, ok_map, on_ok_both}
 use Rattle.driver_requests.specs.Requests.{request_of}
 use Rattle.driver_requests.specs.declared.request.Request.TheVariants.{StartSpelled}
 use Rattle.driver_answers.specs.Serving.{IsLineAnswered, IsLineCut, IsSpelledAnswered}
@@ -49,38 +51,45 @@ returns-in-Some-StartSpelled-clause-goes g c =
     let goes = c.start_spelled.ensures.goes in
     (goes.0, goes.1 (plans ++ goes.0) (one_of_right plans goes.0))
 
-pub returns-in-Some-StartSpelled-clause-handed : goal.returns-in-Some-StartSpelled-clause-handed
-returns-in-Some-StartSpelled-clause-handed g c =
-    let new = c.start_spelled.new.engine.core in
+pub returns-in-Some-StartSpelled-clause-at_hand : goal.returns-in-Some-StartSpelled-clause-at_hand
+returns-in-Some-StartSpelled-clause-at_hand g c =
+    let old = c.args.engine.now in
+    let new = c.start_spelled.new.engine in
     let spelled = c.start_spelled.ensures.goes in
     let goes = spelled.1 spelled.0 (λ p one. one) in
-    on_ok c.start_spelled.result (AreHandedBy new c.args.pieces.now.items) (all_stay c.args.engine.now.core new goes.added c.args.pieces.now.items goes.kept c.requires.handed)
+    on_ok_both c.start_spelled.result ((queued : List Handed) → AreQueued old queued → AreQueued new queued) (AreAtHand new c.args.hand.now) c.start_spelled.ensures.queued
+    (λ stays. record {
+      handed = all_stay old.core new.core goes.added c.args.hand.now.unfinished.items goes.kept c.requires.at_hand.handed;
+      queued = stays c.args.hand.now.queued c.requires.at_hand.queued;
+    })
 
 pub returns-in-Some-StartSpelled-clause-answered : goal.returns-in-Some-StartSpelled-clause-answered
 returns-in-Some-StartSpelled-clause-answered g c =
     let old = c.args.engine.now in
     let new = c.start_spelled.new.engine in
-    let hs = c.args.pieces.now.items in
+    let hs = c.args.hand.now.unfinished.items in
+    let gs = c.args.hand.now.queued in
     let line = c.args.line.now in
     let plans = c.args.plans.now in
     let n = c.args.number in
     let some : length line ≡ 0 → ⊥ = λ none. absurd (let zero : nat_eq (length line) 0 ≡ true = ap (λ n. nat_eq n 0) none in cc) in
     let form : request_of line ≡ Some StartSpelled = sym c.in_ok-line.ensures ∙ (c.in-Some-StartSpelled.is ∙ ap Some c.in-Some-StartSpelled.field-0-is) in
-    ok_map c.start_spelled.result (λ text. (ps : List Handed) → IsSpelledAnswered old.catalog (record { core = old.core; unfinished = ps }) n c.behind.result.now (record { core = new.core; unfinished = ps }) text.items)
-    (λ text. IsLineAnswered old.catalog plans (record { core = old.core; unfinished = hs }) n line (record { core = new.core; unfinished = hs }) text.items) c.start_spelled.ensures.answered
-    (λ text is. line_answered old.catalog plans (record { core = old.core; unfinished = hs }) n line (Some StartSpelled) (record { core = new.core; unfinished = hs }) text.items some form
-    (subst (λ spelled. IsSpelledAnswered old.catalog (record { core = old.core; unfinished = hs }) n spelled (record { core = new.core; unfinished = hs }) text.items) c.behind.ensures (is hs)))
+    ok_map c.start_spelled.result (λ text. (ps qs : List Handed) → IsSpelledAnswered old.catalog (record { core = old.core; hand = record { unfinished = ps; queued = qs } }) n c.behind.result.now (record { core = new.core; hand = record { unfinished = ps; queued = qs } }) text.items)
+    (λ text. IsLineAnswered old.catalog plans (record { core = old.core; hand = record { unfinished = hs; queued = gs } }) n line (record { core = new.core; hand = record { unfinished = hs; queued = gs } }) text.items) c.start_spelled.ensures.answered
+    (λ text is. line_answered old.catalog plans (record { core = old.core; hand = record { unfinished = hs; queued = gs } }) n line (Some StartSpelled) (record { core = new.core; hand = record { unfinished = hs; queued = gs } }) text.items some form
+    (subst (λ spelled. IsSpelledAnswered old.catalog (record { core = old.core; hand = record { unfinished = hs; queued = gs } }) n spelled (record { core = new.core; hand = record { unfinished = hs; queued = gs } }) text.items) c.behind.ensures (is hs gs)))
 
 pub returns-in-Some-StartSpelled-clause-cut : goal.returns-in-Some-StartSpelled-clause-cut
 returns-in-Some-StartSpelled-clause-cut g c =
     let old = c.args.engine.now in
     let new = c.start_spelled.new.engine in
-    let hs = c.args.pieces.now.items in
+    let hs = c.args.hand.now.unfinished.items in
+    let gs = c.args.hand.now.queued in
     let line = c.args.line.now in
     let form : request_of line ≡ Some StartSpelled = sym c.in_ok-line.ensures ∙ (c.in-Some-StartSpelled.is ∙ ap Some c.in-Some-StartSpelled.field-0-is) in
     err_map c.start_spelled.result (λ cut. ((cut ≡ DiskFault) × (new.core ≡ old.core))
-    ⊎ ((cut ≡ NoMemory) × ((new.core ≡ old.core) ⊎ ((p : Plan) × AreGoodPlans old.catalog.ops c.behind.result.now (p ∷ []) × ((ps : List Handed) → new.core ≡ (play_start (session_of old.core ps) p.name (Some p)).state.core)))))
-    (λ cut. IsLineCut old.catalog c.args.plans.now (record { core = old.core; unfinished = hs }) line cut new.core) c.start_spelled.ensures.cut
-    (λ cut is. spelled_line_cut old.catalog c.args.plans.now old.core new.core hs line cut form
+    ⊎ ((cut ≡ NoMemory) × ((new.core ≡ old.core) ⊎ ((p : Plan) × AreGoodPlans old.catalog.ops c.behind.result.now (p ∷ []) × ((ps qs : List Handed) → new.core ≡ (play_start (session_of old.core ps qs) p.name (Some p)).state.core)))))
+    (λ cut. IsLineCut old.catalog c.args.plans.now (record { core = old.core; hand = record { unfinished = hs; queued = gs } }) line cut new.core) c.start_spelled.ensures.cut
+    (λ cut is. spelled_line_cut old.catalog c.args.plans.now old.core new.core hs gs line cut form
     (subst (λ spelled. ((cut ≡ DiskFault) × (new.core ≡ old.core))
-    ⊎ ((cut ≡ NoMemory) × ((new.core ≡ old.core) ⊎ ((p : Plan) × AreGoodPlans old.catalog.ops spelled (p ∷ []) × ((ps : List Handed) → new.core ≡ (play_start (session_of old.core ps) p.name (Some p)).state.core))))) c.behind.ensures is))
+    ⊎ ((cut ≡ NoMemory) × ((new.core ≡ old.core) ⊎ ((p : Plan) × AreGoodPlans old.catalog.ops spelled (p ∷ []) × ((ps qs : List Handed) → new.core ≡ (play_start (session_of old.core ps qs) p.name (Some p)).state.core))))) c.behind.ensures is))

@@ -15,15 +15,15 @@ returns-clause-answered g c =
     let same : c.deref.result.now ≡ c.args.plan.name = c.deref.ensures.value ∙ (c.in_ok-name.ensures.items_if_clones_equal (λ x y h. h) ∙ c.bytes.ensures.bytes) in
     let core = c.args.engine.now.core in
     let new = c.play_plan.new.engine.core in
-    ok_map c.play_plan.result (λ text. (ps : List Handed) → IsAnswered (play_start (session_of core ps) c.deref.result.now (Some c.args.plan)) new ps text.items)
-    (λ text. (ps : List Handed) → IsAnswered (play_start (session_of core ps) c.args.plan.name (Some c.args.plan)) new ps text.items) c.play_plan.ensures.answered
-    (λ text is ps. subst (λ name. IsAnswered (play_start (session_of core ps) name (Some c.args.plan)) new ps text.items) same (is ps))
+    ok_map c.play_plan.result (λ text. (ps qs : List Handed) → IsAnswered (play_start (session_of core ps qs) c.deref.result.now (Some c.args.plan)) new ps qs text.items)
+    (λ text. (ps qs : List Handed) → IsAnswered (play_start (session_of core ps qs) c.args.plan.name (Some c.args.plan)) new ps qs text.items) c.play_plan.ensures.answered
+    (λ text is ps qs. subst (λ name. IsAnswered (play_start (session_of core ps qs) name (Some c.args.plan)) new ps qs text.items) same (is ps qs))
 
 pub returns-clause-cut : goal.returns-clause-cut
 returns-clause-cut g c =
     let same : c.deref.result.now ≡ c.args.plan.name = c.deref.ensures.value ∙ (c.in_ok-name.ensures.items_if_clones_equal (λ x y h. h) ∙ c.bytes.ensures.bytes) in
     let core = c.args.engine.now.core in
     let new = c.play_plan.new.engine.core in
-    err_map c.play_plan.result (λ cut. (ps : List Handed) → IsCut cut (play_start (session_of core ps) c.deref.result.now (Some c.args.plan)) core new)
-    (λ cut. (ps : List Handed) → IsCut cut (play_start (session_of core ps) c.args.plan.name (Some c.args.plan)) core new) c.play_plan.ensures.cut
-    (λ cut is ps. subst (λ name. IsCut cut (play_start (session_of core ps) name (Some c.args.plan)) core new) same (is ps))
+    err_map c.play_plan.result (λ cut. (ps qs : List Handed) → IsCut cut (play_start (session_of core ps qs) c.deref.result.now (Some c.args.plan)) core new)
+    (λ cut. (ps qs : List Handed) → IsCut cut (play_start (session_of core ps qs) c.args.plan.name (Some c.args.plan)) core new) c.play_plan.ensures.cut
+    (λ cut is ps qs. subst (λ name. IsCut cut (play_start (session_of core ps qs) name (Some c.args.plan)) core new) same (is ps qs))

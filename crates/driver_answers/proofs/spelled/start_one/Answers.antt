@@ -26,8 +26,8 @@ returns-in-Some-clause-answered g c =
     let core = c.args.engine.now.core in
     let new = c.start_named.new.engine in
     let plan = c.in-Some.plan in
-    ok_map c.start_named.result (λ text. (ps : List Handed) → IsAnswered (play_start (session_of core ps) plan.name (Some plan)) new.core ps text.items)
-    (λ text. ((p : Plan) × (c.args.plans.items ≡ p ∷ []) × ((ps : List Handed) → IsAnswered (play_start (session_of core ps) p.name (Some p)) new.core ps text.items))
+    ok_map c.start_named.result (λ text. (ps qs : List Handed) → IsAnswered (play_start (session_of core ps qs) plan.name (Some plan)) new.core ps qs text.items)
+    (λ text. ((p : Plan) × (c.args.plans.items ≡ p ∷ []) × ((ps qs : List Handed) → IsAnswered (play_start (session_of core ps qs) p.name (Some p)) new.core ps qs text.items))
     ⊎ ((length c.args.plans.items ≢ 1) × (new ≡ c.args.engine.now) × (text.items ≡ line_of (bad_line_words c.args.number)))) c.start_named.ensures.answered
     (λ text is. inl (plan, c.in-Some.ensures.some, is))
 
@@ -36,7 +36,7 @@ returns-in-Some-clause-cut g c =
     let core = c.args.engine.now.core in
     let new = c.start_named.new.engine.core in
     let plan = c.in-Some.plan in
-    err_map c.start_named.result (λ cut. (ps : List Handed) → IsCut cut (play_start (session_of core ps) plan.name (Some plan)) core new)
+    err_map c.start_named.result (λ cut. (ps qs : List Handed) → IsCut cut (play_start (session_of core ps qs) plan.name (Some plan)) core new)
     (λ cut. ((cut ≡ DiskFault) × (new ≡ core))
-    ⊎ ((cut ≡ NoMemory) × ((new ≡ core) ⊎ ((p : Plan) × (c.args.plans.items ≡ p ∷ []) × ((ps : List Handed) → new ≡ (play_start (session_of core ps) p.name (Some p)).state.core))))) c.start_named.ensures.cut
+    ⊎ ((cut ≡ NoMemory) × ((new ≡ core) ⊎ ((p : Plan) × (c.args.plans.items ≡ p ∷ []) × ((ps qs : List Handed) → new ≡ (play_start (session_of core ps qs) p.name (Some p)).state.core))))) c.start_named.ensures.cut
     (λ cut is. cut_of_only core new plan c.args.plans.items c.in-Some.ensures.some cut is)

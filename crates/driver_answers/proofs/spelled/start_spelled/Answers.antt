@@ -38,9 +38,9 @@ returns-in-Ok-clause-answered g c =
     let new = c.start_one.new.engine in
     let plans = c.in-Ok.plans.items in
     let good : AreGoodPlans old.catalog.ops c.args.spelled.now plans = subst (λ (cat : Catalog). AreGoodPlans cat.ops c.args.spelled.now plans) c.catalog.ensures c.in-Ok.ensures.plans in
-    ok_map c.start_one.result (λ text. ((p : Plan) × (plans ≡ p ∷ []) × ((ps : List Handed) → IsAnswered (play_start (session_of old.core ps) p.name (Some p)) new.core ps text.items))
+    ok_map c.start_one.result (λ text. ((p : Plan) × (plans ≡ p ∷ []) × ((ps qs : List Handed) → IsAnswered (play_start (session_of old.core ps qs) p.name (Some p)) new.core ps qs text.items))
     ⊎ ((length plans ≢ 1) × (new ≡ old) × (text.items ≡ line_of (bad_line_words c.args.number))))
-    (λ text. (ps : List Handed) → IsSpelledAnswered old.catalog (record { core = old.core; unfinished = ps }) c.args.number c.args.spelled.now (record { core = new.core; unfinished = ps }) text.items) c.start_one.ensures.answered
+    (λ text. (ps qs : List Handed) → IsSpelledAnswered old.catalog (record { core = old.core; hand = record { unfinished = ps; queued = qs } }) c.args.number c.args.spelled.now (record { core = new.core; hand = record { unfinished = ps; queued = qs } }) text.items) c.start_one.ensures.answered
     (λ text is. spelled_started old.catalog c.args.number c.args.spelled.now plans good old new text.items is)
 
 pub returns-in-Ok-clause-cut : goal.returns-in-Ok-clause-cut
@@ -50,13 +50,13 @@ returns-in-Ok-clause-cut g c =
     let plans = c.in-Ok.plans.items in
     let good : AreGoodPlans old.catalog.ops c.args.spelled.now plans = subst (λ (cat : Catalog). AreGoodPlans cat.ops c.args.spelled.now plans) c.catalog.ensures c.in-Ok.ensures.plans in
     err_map c.start_one.result (λ cut. ((cut ≡ DiskFault) × (new.core ≡ old.core))
-    ⊎ ((cut ≡ NoMemory) × ((new.core ≡ old.core) ⊎ ((p : Plan) × (plans ≡ p ∷ []) × ((ps : List Handed) → new.core ≡ (play_start (session_of old.core ps) p.name (Some p)).state.core)))))
+    ⊎ ((cut ≡ NoMemory) × ((new.core ≡ old.core) ⊎ ((p : Plan) × (plans ≡ p ∷ []) × ((ps qs : List Handed) → new.core ≡ (play_start (session_of old.core ps qs) p.name (Some p)).state.core)))))
     (λ cut. ((cut ≡ DiskFault) × (new.core ≡ old.core))
-    ⊎ ((cut ≡ NoMemory) × ((new.core ≡ old.core) ⊎ ((p : Plan) × AreGoodPlans old.catalog.ops c.args.spelled.now (p ∷ []) × ((ps : List Handed) → new.core ≡ (play_start (session_of old.core ps) p.name (Some p)).state.core))))) c.start_one.ensures.cut
+    ⊎ ((cut ≡ NoMemory) × ((new.core ≡ old.core) ⊎ ((p : Plan) × AreGoodPlans old.catalog.ops c.args.spelled.now (p ∷ []) × ((ps qs : List Handed) → new.core ≡ (play_start (session_of old.core ps qs) p.name (Some p)).state.core))))) c.start_one.ensures.cut
     (λ cut is. spelled_cut old.catalog c.args.number c.args.spelled.now plans good old new cut is)
 
 pub returns-in_ok-no_plans_text-in-Err-clause-answered : goal.returns-in_ok-no_plans_text-in-Err-clause-answered
-returns-in_ok-no_plans_text-in-Err-clause-answered g c ps =
+returns-in_ok-no_plans_text-in-Err-clause-answered g c ps qs =
     let none = c.in-Err.none in
     let refused : AreNoGoodPlans c.args.engine.now.catalog.ops c.args.spelled.now none = subst (λ (cat : Catalog). AreNoGoodPlans cat.ops c.args.spelled.now none) c.catalog.ensures c.in-Err.ensures.refused in
     inr (inl (none, refused, c.in_ok-no_plans_text-in-Err.ensures.0, refl, c.in_ok-no_plans_text-in-Err.ensures.1))

@@ -1,10 +1,8 @@
-use Rattle.std.proofs.Common.{◌≡◌, ◌+◌, ◌∙◌, sym, subst, ap, arith}
-use Rattle.std.specs.Prelude.{nat_eq}
+use Rattle.std.proofs.Common.{◌≡◌, ◌∙◌, sym, ap, arith}
 use Rattle.process_tree.specs.Conflicts.{do_conflict}
 use Rattle.hold_tables.specs.Counts.{count_at}
-use Rattle.bit_rows.specs.Cells.{IsOneRow, one_if}
 use Rattle.hold_tables.specs.Places.{place_of}
-use Rattle.hold_tables.proofs.Counted.{counted_none, counted_one, counted_same, one_pair, one_self, pair_is}
+use Rattle.hold_tables.proofs.Counted.{counted_none, one_self, pair_counted, pair_is}
 use Rattle.hold_tables.proofs.Pairs.{no_conflict}
 use Rattle.hold_tables.proofs.counting.count_pair.Goals as goal
 
@@ -25,14 +23,5 @@ more-requires-clause-room c =
 
 pub returns-then-between : goal.returns-then-between
 returns-then-between c =
-    let rows = c.args.rows.now in
-    let counts = c.args.counts.now in
-    let p = c.args.x.process in
-    let q = c.args.y.process in
-    let new = c.more.new.self in
-    let a = c.place_of-from.ensures.place in
-    let b = c.place_of-to.ensures.place in
-    counted_same rows (one_pair p q) _ counts new (λ i k. sym (pair_is (do_conflict c.args.conflicts.now) c.args.x c.args.y (sym c.between.ensures ∙ c.if-between.true) i k))
-    (counted_one rows p q counts new c.requires.rows c.requires.first.1 c.requires.later.1 (subst (λ at. IsOneRow at counts new) a c.more.ensures.others)
-    (λ d. subst (λ at. count_at new at d ≡ count_at counts at d + one_if (nat_eq (place_of q rows) d)) a
-    (subst (λ at. count_at new c.place_of-from.result d ≡ count_at counts c.place_of-from.result d + one_if (nat_eq at d)) b (c.more.ensures.own d))))
+    pair_counted (do_conflict c.args.conflicts.now) c.args.rows.now c.args.x c.args.y c.place_of-from.result c.place_of-to.result c.args.counts.now c.more.new.self c.requires.rows
+    c.requires.first.1 c.requires.later.1 c.place_of-from.ensures.place c.place_of-to.ensures.place (sym c.between.ensures ∙ c.if-between.true) c.more.ensures.others c.more.ensures.own

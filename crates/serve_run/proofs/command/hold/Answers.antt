@@ -5,6 +5,7 @@ use Rattle.command_input.specs.Outputs.{output, IsTold}
 use Rattle.driver_requests.specs.Readiness.{ready_text}
 use Rattle.serve_run.specs.Dialogue.{IsBetween, state_at}
 use Rattle.serve_run.proofs.Spoken.{held, held_up}
+use Rattle.session_play.specs.AtHand.{none_at_hand}
 use Rattle.serve_run.proofs.command.hold.Goals as goal
 
 pub returns-in-None-clause-held : goal.returns-in-None-clause-held
@@ -19,7 +20,7 @@ returns-in-None-clause-held g c =
     let whole = c.in-None.ensures.whole in
     let told = c.converse.ensures.held in
     held g.S.Source g.K.Sink g.R.Rack g.met.R.Rack.honest c.args.plans.now
-    (state_at c.args.source.now c.args.reader.now c.give.new.sink c.complete_all.new.engine [] c.args.first)
+    (state_at c.args.source.now c.args.reader.now c.give.new.sink c.complete_all.new.engine none_at_hand c.args.first)
     (state_at c.converse.new.source c.converse.new.reader c.converse.new.sink c.converse.new.engine told.0 told.1)
     c.converse.result at told.2 c.args.engine.now c.args.sink.now c.requires.opened c.invariant_holds.ensures.run (ap (λ e. e.core) c.complete_all.ensures.engine) refl c.complete_all.ensures.goes
     (subst (Appends (g.K.Sink.taken c.args.sink.now) (g.K.Sink.taken c.give.new.sink)) text whole.0) whole.1

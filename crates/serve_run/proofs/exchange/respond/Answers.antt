@@ -3,6 +3,7 @@ use Rattle.process_flow.specs.Causes.{Rose}
 use Rattle.command_refusals.specs.declared.status.Status.TheVariants.{WriteFault}
 use Rattle.command_input.specs.Outputs.{output, IsTold}
 use Rattle.session_play.specs.declared.cut.Cut.TheVariants.{DiskFault}
+use Rattle.session_play.specs.AtHand.{hand_of}
 use Rattle.driver_answers.specs.Serving.{DriverState}
 use Rattle.serve_run.specs.Dialogue.{fault_line, status_of}
 use Rattle.serve_run.proofs.Turns.{cut_amid, given_amid}
@@ -10,8 +11,8 @@ use Rattle.serve_run.proofs.exchange.respond.Goals as goal
 
 pub returns-in-Ok-clause-over : goal.returns-in-Ok-clause-over
 returns-in-Ok-clause-over g c =
-    let old : DriverState = record { core = c.args.engine.now.core; unfinished = c.args.pieces.now.items } in
-    let new : DriverState = record { core = c.answer_line.new.engine.core; unfinished = c.answer_line.new.pieces.items } in
+    let old : DriverState = record { core = c.args.engine.now.core; hand = hand_of c.args.hand.now } in
+    let new : DriverState = record { core = c.answer_line.new.engine.core; hand = hand_of c.answer_line.new.hand } in
     let goes = c.answer_line.ensures.goes in
     let ready = c.answer_line.ensures.ready (λ bad. absurd (let is = c.in-Ok.is in cc)) in
     given_amid g.K.Sink g.R.Rack c.args.plans.now old c.args.number c.args.sink.now c.give.new.sink c.args.engine.now c.answer_line.new.engine goes.0 goes.1 c.give.result c.args.line.now c.in-Ok.text.items new
@@ -21,7 +22,7 @@ returns-in-Ok-clause-over g c =
 
 pub returns-in-Err-clause-over : goal.returns-in-Err-clause-over
 returns-in-Err-clause-over g c =
-    let old : DriverState = record { core = c.args.engine.now.core; unfinished = c.args.pieces.now.items } in
+    let old : DriverState = record { core = c.args.engine.now.core; hand = hand_of c.args.hand.now } in
     let goes = c.answer_line.ensures.goes in
     cut_amid g.K.Sink g.R.Rack c.args.plans.now old c.args.number c.args.sink.now c.tell_fault.new.sink c.args.engine.now c.answer_line.new.engine goes.0 goes.1 c.in-Err.cut c.tell_fault.result c.args.line.now
     c.in-Err.ensures.cut

@@ -1,6 +1,8 @@
 use Rattle.std.proofs.Common.{[], sym, subst}
 use Rattle.session_play.specs.Pieces.{AreHandedBy}
 use Rattle.session_play.proofs.AskedPieces.{admit_handed, all_stay}
+use Rattle.group_flush.specs.Queues.{AreQueued}
+use Rattle.group_flush.proofs.QueuedCalls.{queued_at_admit}
 use Rattle.session_play.proofs.asking.play_admit.Goals as goal
 
 pub returns-clause-handed : goal.returns-clause-handed
@@ -9,3 +11,6 @@ returns-clause-handed g c =
     let goes = c.admit-reply.ensures.goes [] in
     subst (AreHandedBy new) (sym c.in_ok-keep_admitted.ensures.kept)
     (admit_handed new c.args.pieces.now.items c.admit-reply.result (all_stay c.args.engine.now.core new goes.added c.args.pieces.now.items goes.kept c.requires.handed) c.admit-reply.ensures.given)
+
+pub returns-clause-queued : goal.returns-clause-queued
+returns-clause-queued g c queued was = subst (λ e. AreQueued e queued) (sym c.admit-reply.ensures.engine) (queued_at_admit c.args.engine.now queued was c.args.i)

@@ -14,6 +14,8 @@ use Rattle.session_play.specs.Answering.{IsAnswered}
 use Rattle.session_play.specs.Pieces.{AreHandedBy, session_of}
 use Rattle.session_play.specs.Playing.{play_next, victim_of}
 use Rattle.session_play.proofs.AskedPieces.{all_stay, next_answered, next_handed}
+use Rattle.group_flush.specs.Queues.{AreQueued}
+use Rattle.group_flush.proofs.QueuedCalls.{queued_at_next}
 use Rattle.session_play.proofs.asking.play_next.Goals as goal
 
 pub returns-clause-answered : goal.returns-clause-answered
@@ -27,8 +29,8 @@ returns-clause-answered g c =
     let said = c.in_ok-put_next.ensures ∙ (ap (λ (h : History). c.put_victims.new.out.items ++ line_of (next_words h.plans (next_reply_of c.next-reply.result))) c.history.ensures
     ∙ ap (λ text. text ++ line_of (next_words new.plans (next_reply_of c.next-reply.result)))
     (c.in_ok-put_victims.ensures ∙ (ap (λ text. text ++ text_of (map (numbered (codes "victim")) (filter_map victim_of c.split_at.result.1.now))) c.new-text.ensures.items ∙ ap (λ ks. text_of (map (numbered (codes "victim")) (filter_map victim_of ks))) kept))) in
-    subst (λ hs. IsAnswered (play_next (session_of old c.args.pieces.now.items)) new hs c.put_next.new.out.items) (sym c.in_ok-keep_chosen.ensures.kept)
-    (next_answered old new c.args.pieces.now.items c.next-reply.result c.put_next.new.out.items core c.next-reply.ensures.reply said)
+    λ qs. subst (λ hs. IsAnswered (play_next (session_of old c.args.pieces.now.items qs)) new hs qs c.put_next.new.out.items) (sym c.in_ok-keep_chosen.ensures.kept)
+    (next_answered old new c.args.pieces.now.items qs c.next-reply.result c.put_next.new.out.items core c.next-reply.ensures.reply said)
 
 pub returns-clause-handed : goal.returns-clause-handed
 returns-clause-handed g c =
@@ -36,3 +38,6 @@ returns-clause-handed g c =
     let goes = c.next-reply.ensures.goes [] in
     subst (AreHandedBy new) (sym c.in_ok-keep_chosen.ensures.kept)
     (next_handed new c.args.pieces.now.items c.next-reply.result (all_stay c.args.engine.now.core new goes.added c.args.pieces.now.items goes.kept c.requires.handed) c.next-reply.ensures.given)
+
+pub returns-clause-queued : goal.returns-clause-queued
+returns-clause-queued g c queued was = subst (λ e. AreQueued e queued) (sym c.next-reply.ensures.engine) (queued_at_next c.args.engine.now queued was)

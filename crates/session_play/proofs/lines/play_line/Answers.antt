@@ -1,7 +1,10 @@
+use Rattle.std.proofs.Common.{◌≡◌, List, [], arith, subst, sym}
 use Rattle.engine_calls.proofs.Goes.{goes_none}
-use Rattle.session_play.specs.Pieces.{AreHandedBy}
+use Rattle.machine_model.specs.Replies.{Handed}
+use Rattle.group_flush.specs.Queues.{AreQueued}
+use Rattle.session_play.specs.AtHand.{AreAtHand}
 use Rattle.session_play.proofs.AskedPieces.{all_stay}
-use Rattle.session_play.proofs.Outcomes.{on_ok}
+use Rattle.session_play.proofs.Outcomes.{on_ok_both}
 use Rattle.session_play.proofs.lines.play_line.Goals as goal
 
 pub returns-in_err-report_now-in-Show-clause-goes : goal.returns-in_err-report_now-in-Show-clause-goes
@@ -13,11 +16,34 @@ returns-in_ok-report_now-in-Show-clause-goes g c = goes_none g.R.Rack.disk g.R.R
 pub returns-in-Stop-clause-goes : goal.returns-in-Stop-clause-goes
 returns-in-Stop-clause-goes g c = goes_none g.R.Rack.disk g.R.Rack.faults c.args.plans.now c.args.engine.now c.invariant_holds.ensures.run (c.invariant_holds.ensures.each c.requires.ready.settled)
 
-pub returns-in-Start-clause-handed : goal.returns-in-Start-clause-handed
-returns-in-Start-clause-handed g c =
-    let new = c.play_start.new.engine.core in
+pub returns-in-Start-clause-at_hand : goal.returns-in-Start-clause-at_hand
+returns-in-Start-clause-at_hand g c =
+    let old = c.args.engine.now in
+    let new = c.play_start.new.engine in
     let goes = c.play_start.ensures.goes in
-    on_ok c.play_start.result (AreHandedBy new c.args.pieces.now.items) (all_stay c.args.engine.now.core new goes.added c.args.pieces.now.items goes.kept c.requires.handed)
+    on_ok_both c.play_start.result ((queued : List Handed) → AreQueued old queued → AreQueued new queued) (AreAtHand new c.args.hand.now) c.play_start.ensures.queued
+    (λ stays. record {
+      handed = all_stay old.core new.core goes.added c.args.hand.now.unfinished.items goes.kept c.requires.at_hand.handed;
+      queued = stays c.args.hand.now.queued c.requires.at_hand.queued;
+    })
+
+pub returns-in-Queue-clause-goes : goal.returns-in-Queue-clause-goes
+returns-in-Queue-clause-goes g c = c.play_queue.ensures.goes c.args.plans.now
+
+pub returns-in-Flush-clause-goes : goal.returns-in-Flush-clause-goes
+returns-in-Flush-clause-goes g c = c.play_flush.ensures.goes c.args.plans.now
+
+pub returns-in-Flush-clause-at_hand : goal.returns-in-Flush-clause-at_hand
+returns-in-Flush-clause-at_hand g c =
+    let old = c.args.engine.now.core in
+    let new = c.play_flush.new.engine in
+    let goes = c.play_flush.ensures.goes [] in
+    let queued = c.play_flush.new.queued in
+    on_ok_both c.play_flush.result (queued ≡ []) (AreAtHand new (record { unfinished = c.args.hand.now.unfinished; queued = queued })) c.play_flush.ensures.queued
+    (λ none. record {
+      handed = all_stay old new.core goes.added c.args.hand.now.unfinished.items goes.kept c.requires.at_hand.handed;
+      queued = subst (AreQueued new) (sym none) (record { unfinished = tt; distinct = tt; apart = tt; ends = omega arith; few = omega arith; room = tt });
+    })
 
 pub returns-in-Admit-clause-goes : goal.returns-in-Admit-clause-goes
 returns-in-Admit-clause-goes g c = c.play_admit.ensures.goes c.args.plans.now

@@ -25,8 +25,8 @@ pub returns-in_err-copy-in-Some-clause-cut : goal.returns-in_err-copy-in-Some-cl
 returns-in_err-copy-in-Some-clause-cut g c =
     let core = c.args.engine.now.core in
     let named = plan_named c.args.plans.now c.args.name.now in
-    err_all c.from_residual.result (λ cut. (copy : Option Plan) × IsCopy named copy × ((ps : List Handed) → IsCut cut (play_start (session_of core ps) c.args.name.now copy) core core))
-    (λ cut. (named, copy_itself named, (λ ps. cut_none cut (play_start (session_of core ps) c.args.name.now named) core)))
+    err_all c.from_residual.result (λ cut. (copy : Option Plan) × IsCopy named copy × ((ps qs : List Handed) → IsCut cut (play_start (session_of core ps qs) c.args.name.now copy) core core))
+    (λ cut. (named, copy_itself named, (λ ps qs. cut_none cut (play_start (session_of core ps qs) c.args.name.now named) core)))
 
 pub play_plan-requires-clause-plan : goal.play_plan-requires-clause-plan
 play_plan-requires-clause-plan g c =
@@ -48,8 +48,8 @@ returns-in_ok-copy-in-Some-clause-answered g c =
     let named = plan_named c.args.plans.now c.args.name.now in
     let copy = c.in_ok-copy-in-Some.copy in
     let equal : IsCopy named (Some copy) = subst (λ o. IsCopy o (Some copy)) (sym c.in-Some.ensures.some) (equal_swap copy c.in-Some.plan.now c.in_ok-copy-in-Some.ensures) in
-    ok_map c.play_plan.result (λ text. (ps : List Handed) → IsAnswered (play_start (session_of core ps) c.args.name.now (Some copy)) new ps text.items)
-    (λ text. (x : Option Plan) × IsCopy named x × ((ps : List Handed) → IsAnswered (play_start (session_of core ps) c.args.name.now x) new ps text.items)) c.play_plan.ensures.answered
+    ok_map c.play_plan.result (λ text. (ps qs : List Handed) → IsAnswered (play_start (session_of core ps qs) c.args.name.now (Some copy)) new ps qs text.items)
+    (λ text. (x : Option Plan) × IsCopy named x × ((ps qs : List Handed) → IsAnswered (play_start (session_of core ps qs) c.args.name.now x) new ps qs text.items)) c.play_plan.ensures.answered
     (λ text is. (Some copy, equal, is))
 
 pub returns-in_ok-copy-in-Some-clause-cut : goal.returns-in_ok-copy-in-Some-clause-cut
@@ -59,6 +59,6 @@ returns-in_ok-copy-in-Some-clause-cut g c =
     let named = plan_named c.args.plans.now c.args.name.now in
     let copy = c.in_ok-copy-in-Some.copy in
     let equal : IsCopy named (Some copy) = subst (λ o. IsCopy o (Some copy)) (sym c.in-Some.ensures.some) (equal_swap copy c.in-Some.plan.now c.in_ok-copy-in-Some.ensures) in
-    err_map c.play_plan.result (λ cut. (ps : List Handed) → IsCut cut (play_start (session_of core ps) c.args.name.now (Some copy)) core new)
-    (λ cut. (x : Option Plan) × IsCopy named x × ((ps : List Handed) → IsCut cut (play_start (session_of core ps) c.args.name.now x) core new)) c.play_plan.ensures.cut
+    err_map c.play_plan.result (λ cut. (ps qs : List Handed) → IsCut cut (play_start (session_of core ps qs) c.args.name.now (Some copy)) core new)
+    (λ cut. (x : Option Plan) × IsCopy named x × ((ps qs : List Handed) → IsCut cut (play_start (session_of core ps qs) c.args.name.now x) core new)) c.play_plan.ensures.cut
     (λ cut is. (Some copy, equal, is))

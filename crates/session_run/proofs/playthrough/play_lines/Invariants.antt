@@ -4,18 +4,18 @@ use Rattle.process_core.specs.Cores.{IsCore}
 use Rattle.engine_steps.specs.Beginning.{IsPlanFor}
 use Rattle.engine_calls.specs.Runs.{GoesOn, IsReady}
 use Rattle.session_run.specs.Playthrough.{HasAnswered}
-use Rattle.session_play.specs.Pieces.{AreHandedBy}
+use Rattle.session_play.specs.AtHand.{AreAtHand}
 use Rattle.session_run.proofs.playthrough.play_lines.Given as goal
 
 -- the lines before those that are left are answered
 abbrev pub invariant-loop-rest : goal.invariant-loop-rest
 invariant-loop-rest g l = record {
-  answered : HasAnswered l.fn.engine.catalog l.plans l.fn.engine.core l.engine.core l.pieces.items l.lines l.rest l.said.items;
+  answered : HasAnswered l.fn.engine.catalog l.plans l.fn.engine.core l.engine.core l.hand.unfinished.items l.hand.queued l.lines l.rest l.said.items;
   goes : GoesOn g.R.Rack.disk g.R.Rack.faults l.plans l.fn.engine l.engine;
   ready : IsReady g.B.Resource.meaning g.B.Resource.sort l.engine;
   core : IsCore l.engine.core;
   plans : Each (IsPlanFor l.engine.catalog) l.plans;
-  handed : AreHandedBy l.engine.core l.pieces.items;
+  at_hand : AreAtHand l.engine l.hand;
   room : vec_len l.said + 11 ≤ vec_capacity l.said;
 }
 

@@ -9,5 +9,5 @@ use Rattle.process_core.proofs.cores.Core.waits_for.Goals as goal
 pub returns-in-Task : goal.returns-in-Task
 returns-in-Task c is =
     let v = c.args.self.now in
-    ap piece_in (reply_is (courses_in v) (moment_of v) c.args.i (relation v) c.in-Some-seat.ensures.started (Task c.in-Task.todo c.in-Task.tried)
-    (ap upcoming (sym c.in-Some-seat.ensures.seat) ∙ (sym c.upcoming.ensures ∙ c.in-Task.is))) ∙ c.is_held.ensures is
+    ap piece_in (reply_is (courses_in v) (moment_of v) c.args.i (relation v) c.in-Some.ensures.started (Task c.in-Task.todo c.in-Task.tried)
+    (ap upcoming (sym c.in-Some.ensures.seat) ∙ (sym c.upcoming.ensures ∙ c.in-Task.is))) ∙ c.is_stopped.ensures is
