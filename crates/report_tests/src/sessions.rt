@@ -21,6 +21,9 @@ fn put_asked(alloc: Global, line: &Line, out: &mut Vec<u8>) -> Result<(), AllocE
         Line::Next => put_line(out, &[b"next"]),
         Line::Finish(n, Outcome::Done) => put_number(alloc, b"done", *n, out),
         Line::Finish(n, Outcome::Refused) => put_number(alloc, b"refused", *n, out),
+        Line::Queue(n, Outcome::Done) => put_number(alloc, b"queue done", *n, out),
+        Line::Queue(n, Outcome::Refused) => put_number(alloc, b"queue refused", *n, out),
+        Line::Flush => put_line(out, &[b"flush"]),
         Line::Abort(i) => put_number(alloc, b"abort", *i, out),
         Line::Show => put_line(out, &[b"show"]),
         Line::Stop => put_line(out, &[b"stop"]),
@@ -39,7 +42,7 @@ fn asked(alloc: Global, text: &[u8]) -> Result<Vec<u8>, LinesError> {
 }
 
 // The first line is the scenario's, so that the first behind the mark is line 3.
-const SCRIPTS: [(&[u8], Result<&[u8], u32>); 20] = [
+const SCRIPTS: [(&[u8], Result<&[u8], u32>); 23] = [
     (
         b"version = 1\n%%\nstart a\nstart b\nadmit 1\nfinish 1 done\nadmit 2\nfinish 2 done\nadmit 2\n",
         Ok(b"start a\nstart b\nadmit 1\ndone 1\nadmit 2\ndone 2\nadmit 2\n"),
@@ -60,6 +63,10 @@ const SCRIPTS: [(&[u8], Result<&[u8], u32>); 20] = [
         b"version = 1\n%%\nnext\nshow\nstop\nno line\n",
         Ok(b"next\nshow\n"),
     ),
+    (
+        b"version = 1\n%%\nadmit 1\nqueue 1 done\nqueue 2 refused\nflush\n",
+        Ok(b"admit 1\nqueue done 1\nqueue refused 2\nflush\n"),
+    ),
     (b"version = 1\n%%", Ok(b"")),
     (b"version = 1\n%%\n", Ok(b"")),
     (b"version = 1\n", Ok(b"")),
@@ -71,6 +78,8 @@ const SCRIPTS: [(&[u8], Result<&[u8], u32>); 20] = [
     (b"version = 1\n%%\nstart\n", Err(3)),
     (b"version = 1\n%%\nfinish 1\n", Err(3)),
     (b"version = 1\n%%\nfinish 1 failed\n", Err(3)),
+    (b"version = 1\n%%\nqueue 1\n", Err(3)),
+    (b"version = 1\n%%\nflush 1\n", Err(3)),
     (b"version = 1\n%%\nadmit  1\n", Err(3)),
     (b"version = 1\n%%\n next\n", Err(3)),
     (b"version = 1\n%%\nnext \n", Err(3)),
