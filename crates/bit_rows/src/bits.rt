@@ -1,14 +1,14 @@
 // Bits in rows and columns.
-ghost use Rattle.std.specs.Prelude.{◌≡◌, ◌<◌, ◌≤◌, ◌+◌, ◌||◌, [], ℕ, false, true, length, nat_eq, IfOk, if◌then◌else◌};
-ghost use Rattle.bit_rows.specs.Cells.{IsCleared, IsJoined, IsOneRow, IsPassed, IsPlaceTaken, cell};
+ghost use Rattle.std.specs.Prelude.{◌≡◌, ◌<◌, ◌≤◌, ◌+◌, ◌||◌, [], ℕ, false, true, length, nat_eq, slice_index_or, IfOk, if◌then◌else◌};
+ghost use Rattle.bit_rows.specs.Cells.{IsCleared, IsJoined, IsOneRow, IsPassed, IsPlaceTaken, IsTakenOut, cell};
 
 use crate::row::BitRow;
-use crate::rows::{clear_all, copy_all, is_nowhere, join, pass, reset_all, take_out_all};
+use crate::rows::{clear_all, copy_all, is_nowhere, join, pass, take_out_all};
 use crate::words::COLUMNS;
 use std::alloc::{AllocError, Global};
 use std::marker::Model;
 
-/// Rows of bits, at most 256.
+/// Rows of bits: one for each place, at most 256, or as many as were asked for.
 #[derive(Drop)]
 pub struct Bits {
     rows: Vec<BitRow>,
@@ -34,23 +34,23 @@ impl Bits {
         })
     }
 
-    /// All 256 rows, without a bit.
-    pub fn all_rows(alloc: Global) -> Result<Bits, AllocError>
-        ensures { IfOk result (λ bits. (length bits ≡ 256) × ((a b : ℕ) → cell bits a b ≡ false)) }
+    /// So many rows, without a bit.
+    pub fn with_rows(alloc: Global, count: usize) -> Result<Bits, AllocError>
+        ensures { IfOk result (λ bits. (length bits ≡ count) × ((a b : ℕ) → cell bits a b ≡ false)) }
     {
-        let mut bits = Bits::new(alloc)?;
-        for _ in 0..COLUMNS {
-            bits.push();
+        let mut rows = Vec::with_capacity(alloc, count.max(COLUMNS))?;
+        for _ in 0..count {
+            rows.push_reserved(BitRow::new());
         }
-        Ok(bits)
+        Ok(Bits { rows })
     }
 
-    /// Clears all columns of all rows.
-    pub fn reset(&mut self)
-        ensures count { length self.new ≡ length self.old }
-        ensures none { (a b : ℕ) → cell self.new a b ≡ false }
+    /// A row.
+    pub fn row(&self, row: usize) -> &BitRow
+        requires { row < length self.now }
+        ensures { result.now ≡ slice_index_or self.now row [] }
     {
-        reset_all(&mut self.rows);
+        &self.rows[row]
     }
 
     /// Whether the row has the column; a row that isn't there has none.
@@ -121,6 +121,24 @@ impl Bits {
     {
         self.rows.remove(place);
         take_out_all(&mut self.rows, place);
+    }
+
+    /// Clears a column of all rows.
+    pub fn clear_column(&mut self, column: usize)
+        requires { column < 256 }
+        ensures cells { IsCleared false column self.old self.new }
+        ensures count { length self.new ≡ length self.old }
+    {
+        clear_all(&mut self.rows, column);
+    }
+
+    /// Takes a column out of all rows; those behind it move up.
+    pub fn take_column(&mut self, column: usize)
+        requires { column < 256 }
+        ensures cells { IsTakenOut false column self.old self.new }
+        ensures count { length self.new ≡ length self.old }
+    {
+        take_out_all(&mut self.rows, column);
     }
 
     /// Sets, in each row that has the place, whatever the row of the place has.

@@ -80,13 +80,3 @@ pub fn is_nowhere(rows: &[BitRow], place: usize) -> bool
     }
     true
 }
-
-/// Clears all columns of all rows.
-pub fn reset_all(rows: &mut [BitRow])
-    ensures count { length rows.new ≡ length rows.old }
-    ensures none { (a b : ℕ) → cell rows.new a b ≡ false }
-{
-    for place in 0..rows.len() {
-        rows[place] = BitRow::new();
-    }
-}
