@@ -11,7 +11,7 @@ use Rattle.schedule_model.specs.Histories.{of_process}
 use Rattle.schedule_model.specs.Holdings.{reaches}
 use Rattle.machine_model.specs.declared.blocked.Blocked.{Blocked}
 use Rattle.machine_model.specs.declared.blocked.Rule.TheVariants.{A0, A1, A2, A3, A4}
-use Rattle.hold_tables.specs.Tables.{OpenProcess, Tables, holdings_of, kept_of, lasts, reserved_of, running_of}
+use Rattle.hold_tables.specs.Tables.{OpenProcess, Tables, holdings_of, lasts, reserved_of, running_of}
 use Rattle.admission.specs.declared.processes.Sought.{Sought}
 use Rattle.admission.specs.declared.processes.Sought.TheVariants.{Next, Owed}
 use Rattle.admission.specs.Admission.{is_of_step, steps_owed_after}
@@ -30,11 +30,6 @@ least_of_process t Next b r =
     (lesser_of (least_on table A1 b (reserved_of r)) (least_on table A1 b (pending_of t.net r)))
 least_of_process t Owed s r =
     let table = do_conflict t.conflicts in lesser_of (least_on table A4 s (running_of r)) (least_on table A4 s (reserved_of r))
-
--- what the process of this number has against an entry, if there is one, or else another block, the lesser of the two
-abbrev pub with_process : Tables → Sought → Entry → Option ℕ → Option Blocked → Option Blocked
-with_process t sought e None least = least
-with_process t sought e (Some i) least = lesser_of (least_of_process t sought e (kept_of t i)) least
 
 -- what all of them have
 abbrev pub least_of_all : Tables → Sought → Entry → Option Blocked

@@ -43,10 +43,7 @@ fn is_held_at(holds: &Holds, own: Entry, place: usize) -> bool
     if place >= holds.open_len() {
         return false;
     }
-    match holds.may_hold_at(place, own.op) {
-        None => false,
-        Some(process) => holds_against(holds, own, process),
-    }
+    holds_against(holds, own, holds.open_at(place))
 }
 
 /// Whether what a process does next is a step that the process at a place, counted from 0 in the order in which they were opened,

@@ -1,11 +1,11 @@
 // What the open processes have against a step.
-ghost use Rattle.std.specs.Prelude.{◌≡◌, IfSome, true};
+ghost use Rattle.std.specs.Prelude.{◌≡◌, true};
 ghost use Rattle.process_tree.specs.Conflicts.{do_conflict};
 ghost use Rattle.machine_model.specs.declared.blocked.Rule.TheVariants.{A1};
 ghost use Rattle.hold_tables.specs.Kept.{AreTidy, IsKnown};
 ghost use Rattle.hold_tables.specs.Tables.{is_open, kept_of, reserved_of, running_of};
 ghost use Rattle.admission.specs.Least.{least_on};
-ghost use Rattle.admission.specs.Parts.{least_of_all, least_of_process, pending_of, with_process};
+ghost use Rattle.admission.specs.Parts.{least_of_all, least_of_process, pending_of};
 
 use crate::least::{least_with, lesser_of};
 use hold_tables::{Blocked, Holds, Rule};
@@ -94,24 +94,6 @@ pub fn least_of_process(holds: &Holds, sought: Sought, own: Entry, process: u32)
     }
 }
 
-/// The least block on what a process holds beside its net, if there is one that may hold something, and of what was found.
-fn with_process(
-    holds: &Holds,
-    sought: Sought,
-    own: Entry,
-    holder: Option<u32>,
-    least: Option<Blocked>,
-) -> Option<Blocked>
-    requires open { IfSome holder (λ i. is_open holds.now i ≡ true) }
-    requires own { IsKnown holds.now.conflicts own }
-    ensures { result ≡ with_process holds.now sought own holder least }
-{
-    match holder {
-        Some(process) => lesser_of(least_of_process(holds, sought, own, process), least),
-        None => least,
-    }
-}
-
 /// The least block on what any process holds beside its net.
 pub fn least_of_all(holds: &Holds, sought: Sought, own: Entry) -> Option<Blocked>
     requires own { IsKnown holds.now.conflicts own }
@@ -119,14 +101,17 @@ pub fn least_of_all(holds: &Holds, sought: Sought, own: Entry) -> Option<Blocked
     ensures tidy { AreTidy holds.now }
 {
     let mut place = holds.open_len();
-    if holds.is_clear_beside(own.op) {
+    let who = holds.who_may_hold(own.op);
+    if who.is_empty() {
         return None;
     }
     let mut least = None;
     'places: while 0 < place {
         place -= 1;
-        let holder = holds.may_hold_at(place, own.op);
-        least = with_process(holds, sought, own, holder, least);
+        if who.has(place) {
+            let process = holds.open_at(place);
+            least = lesser_of(least_of_process(holds, sought, own, process), least);
+        }
     }
     least
 }

@@ -112,7 +112,7 @@ pub all_own : (t : Tables) → AreTidy t → Each IsOwn t.processes
 all_own t tidy = each_entry t.processes (λ (r : OpenProcess) is. own_running t.conflicts (of_process r.process t.net) r r.running is.running) tidy.tidy
 
 -- a process that isn't there is not dropped
-none_dropped : (i : ℕ) (rows : List OpenProcess) → has_number i rows ≡ false → other_processes i rows ≡ rows
+pub none_dropped : (i : ℕ) (rows : List OpenProcess) → has_number i rows ≡ false → other_processes i rows ≡ rows
 none_dropped i [] none = refl
 none_dropped i (r ∷ rows) none =
     let parts = neither_of (nat_eq r.process i) (has_number i rows) none in
@@ -127,7 +127,7 @@ not_among i (r ∷ rows) = by (nat_eq r.process i) refl (not_among i rows)
     by true is rest = ap (λ b. has_number i (if not b then r ∷ other_processes i rows else other_processes i rows)) is ∙ rest
     by false is rest = ap (λ b. has_number i (if not b then r ∷ other_processes i rows else other_processes i rows)) is ∙ ap (λ b. b || has_number i (other_processes i rows)) is ∙ rest
 
-none_behind : (i : ℕ) (r : OpenProcess) (rows : List OpenProcess) → are_numbered (r ∷ rows) ≡ true → nat_eq r.process i ≡ true → has_number i rows ≡ false
+pub none_behind : (i : ℕ) (r : OpenProcess) (rows : List OpenProcess) → are_numbered (r ∷ rows) ≡ true → nat_eq r.process i ≡ true → has_number i rows ≡ false
 none_behind i r rows once is =
     subst (λ k. has_number k rows ≡ false) (eqb-true r.process i is) (not-true (has_number r.process rows) (both-left (not (has_number r.process rows)) (are_numbered rows) once))
 
@@ -145,7 +145,7 @@ one_less_row i (r ∷ rows) once has = by (nat_eq r.process i) refl (one_less_ro
         let less = rest (subst (λ b. (b || has_number i rows) ≡ true) is has) in
         omega (arith, kept, less)
 
-before_suc : (p b : ℕ) → place_before (suc p) (suc b) ≡ suc (place_before p b)
+pub before_suc : (p b : ℕ) → place_before (suc p) (suc b) ≡ suc (place_before p b)
 before_suc p b = by (nat_lt b p) refl
   where
     by : (t : Bool) → nat_lt b p ≡ t → place_before (suc p) (suc b) ≡ suc (place_before p b)

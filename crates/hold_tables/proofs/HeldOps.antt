@@ -1,8 +1,7 @@
 -- Marks of operations: what they tell of those that are held.
-use Rattle.std.proofs.Common.{◌≡◌, ◌⊎◌, inl, inr, ◌<◌, ℕ, Bool, true, false, not, ◌||◌, ◌&&◌, List, [], ◌∷◌, ◌++◌, length, map, slice_index_or, sym, refl, ap, ◌∙◌, subst, arith, Option, Some, None, IfSome}
+use Rattle.std.proofs.Common.{◌≡◌, ◌⊎◌, inl, inr, ◌<◌, ℕ, Bool, true, false, not, ◌||◌, ◌&&◌, List, [], ◌∷◌, ◌++◌, length, slice_index_or, sym, refl, ap, ◌∙◌, subst, arith}
 use Rattle.std.specs.Prelude.{nat_eq, nat_lt, replicate}
 use Rattle.std.specs.List.{list_any}
-use Rattle.std.specs.Option.{option_to_list}
 use Rattle.std.proofs.lemmas.List.Folds.{list_any-append}
 use Rattle.std.proofs.lemmas.Bool.{eq-eqb, eqb-true, false≢true, ltb-false, ltb-true, or_cases, or_left, or_right}
 use Rattle.process_tree.specs.declared.entry.Entry.{Entry}
@@ -11,11 +10,10 @@ use Rattle.process_tree.specs.declared.conflicts.Mode.TheVariants.{Never, Key, A
 use Rattle.process_tree.specs.Conflicts.{Table, covers, do_conflict, mode_of, operations_in}
 use Rattle.process_tree.specs.Order.{Each}
 use Rattle.schedule_model.specs.Conflict.{conflict}
-use Rattle.schedule_model.specs.Histories.{of_process}
-use Rattle.hold_tables.specs.Tables.{OpenProcess, Tables, running_of}
-use Rattle.hold_tables.specs.Changes.{can_come, has_entry, without_last}
-use Rattle.hold_tables.specs.Kept.{AreKnown, AreTidy, IsKnown, IsTidy}
-use Rattle.hold_tables.specs.Operations.{AddsOps, AreKnownOps, CoverOps, IsClearOf, KeepOps, TellOps, all_beside, has_pending, has_slot, is_conflict, may_conflict, may_hold, ops_beside, ops_of, slot_of}
+use Rattle.hold_tables.specs.Tables.{Tables}
+use Rattle.hold_tables.specs.Changes.{has_entry, without_last}
+use Rattle.hold_tables.specs.Kept.{AreTidy, IsKnown}
+use Rattle.hold_tables.specs.Operations.{AddsOps, AreKnownOps, CoverOps, IsClearOf, KeepOps, TellOps, has_slot, is_conflict, may_conflict, ops_of, slot_of}
 use Rattle.hold_tables.specs.Walks.{conflicts_with}
 use Rattle.bit_rows.proofs.Cells.{none_in_row}
 use Rattle.hold_tables.proofs.Marks.{neither_of}
@@ -51,15 +49,7 @@ adds_on xs ys old mid new first second k less =
     second k less ∙ ap (has_slot k ys ||◌) (first k less) ∙ or_swapped (has_slot k xs) (has_slot k ys) (slice_index_or old k false)
     ∙ ap (λ b. b || slice_index_or old k false) (sym (list_any-append (λ op. nat_eq (slot_of op) k) xs ys))
 
--- no steps, no rows, no entries
-pub no_steps : (steps : List (ℕ × ℕ × ℕ)) (marks : List Bool) → length steps ≡ 0 → AddsOps (map (λ step. step.1) steps) marks marks
-no_steps [] marks none = adds_none marks
-no_steps (s ∷ steps) marks none = absurd (omega (arith, none))
-
-pub no_rows : (rows : List OpenProcess) (marks : List Bool) → length rows ≡ 0 → AddsOps (all_beside rows) marks marks
-no_rows [] marks none = adds_none marks
-no_rows (r ∷ rows) marks none = absurd (omega (arith, none))
-
+-- no entries
 pub no_entries : (es : List Entry) (marks : List Bool) → length es ≡ 0 → AddsOps (ops_of es) marks marks
 no_entries [] marks none = adds_none marks
 no_entries (e ∷ es) marks none = absurd (omega (arith, none))
@@ -156,40 +146,10 @@ clear_each table op marks (x ∷ ops) marked clear =
 pub clear_ops : (table : Table) (op : ℕ) (marks : List Bool) (ops : List ℕ) → CoverOps ops marks → IsClearOf table op marks → list_any (may_conflict table op) ops ≡ false
 clear_ops table op marks ops covers clear = clear_each table op marks ops covers clear
 
--- so no process holds anything against it, if nothing is to be undone
-pub clear_rows : (table : Table) (op : ℕ) (rows : List OpenProcess) → list_any has_pending rows ≡ false → list_any (may_conflict table op) (all_beside rows) ≡ false → list_any (may_hold table op) rows ≡ false
-clear_rows table op [] none clear = refl
-clear_rows table op (r ∷ rows) none clear =
-    let pending = neither_of (has_pending r) (list_any has_pending rows) none in
-    let ops = neither_of (list_any (may_conflict table op) (ops_beside r)) (list_any (may_conflict table op) (all_beside rows)) (sym (list_any-append (may_conflict table op) (ops_beside r) (all_beside rows)) ∙ clear) in
-    ap (λ b. (b || list_any (may_conflict table op) (ops_beside r)) || list_any (may_hold table op) rows) pending.0 ∙ ap (λ b. b || list_any (may_hold table op) rows) ops.0 ∙ clear_rows table op rows pending.1 ops.1
-
-each-append : {A : Type 0} (P : A → Type 0) (xs ys : List A) → Each P xs → Each P ys → Each P (xs ++ ys)
-each-append P [] ys first second = second
-each-append P (x ∷ xs) ys first second = (first.0, each-append P xs ys first.1 second)
-
--- all that is held is of operations of the table
+-- each net entry is of an operation of the table
 known_net : (table : Table) (es : List Entry) → Each (IsKnown table) es → Each (λ op. op < operations_in table) (ops_of es)
 known_net table [] each = tt
 known_net table (e ∷ es) each = (each.0, known_net table es each.1)
-
-known_steps : (table : Table) (steps : List (ℕ × ℕ × ℕ)) → AreKnown table steps → Each (λ op. op < operations_in table) (map (λ step. step.1) steps)
-known_steps table [] each = tt
-known_steps table (s ∷ steps) each = (each.0, known_steps table steps each.1)
-
-known_under_way : (table : Table) (es : List Entry) (r : OpenProcess) (o : Option Entry) → IfSome o (λ e. (e.process ≡ r.process) × (can_come es r e ≡ true) × IsKnown table e) → Each (λ op. op < operations_in table) (ops_of (option_to_list o))
-known_under_way table es r None is = tt
-known_under_way table es r (Some e) is = (is.2, tt)
-
-known_rows : (table : Table) (net : List Entry) (rows : List OpenProcess) → Each (IsTidy table net) rows → Each (λ op. op < operations_in table) (all_beside rows)
-known_rows table net [] each = tt
-known_rows table net (r ∷ rows) each =
-    each-append (λ op. op < operations_in table) (ops_beside r) (all_beside rows)
-    (each-append (λ op. op < operations_in table) (ops_of (running_of r)) (map (λ step. step.1) r.reserved) (known_under_way table (of_process r.process net) r r.running each.0.running) (known_steps table r.reserved each.0.reserved))
-    (known_rows table net rows each.1)
-
-pub known_beside : (t : Tables) → AreTidy t → Each (λ op. op < operations_in t.conflicts) (all_beside t.processes)
-known_beside t tidy = known_rows t.conflicts t.net t.processes tidy.tidy
 
 pub known_in_net : (t : Tables) → AreTidy t → Each (λ op. op < operations_in t.conflicts) (ops_of t.net)
 known_in_net t tidy = known_net t.conflicts t.net tidy.known

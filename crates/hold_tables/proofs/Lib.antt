@@ -12,6 +12,7 @@ pub mod Reaching
 pub mod Marks
 pub mod HeldOps
 pub mod Extended
+pub mod BesideRows
 pub mod SlotPlaces
 pub mod Arrows
 pub mod WalksStay
@@ -21,6 +22,7 @@ pub mod MoreWalks
 pub mod WalkEnds
 pub mod OpenedWalks
 pub mod DroppedWalks
+pub mod Told
 pub mod Closed
 pub mod Pairs
 pub mod PairBounds

@@ -93,7 +93,7 @@ others i net = filter (λ e. not (nat_eq e.process i)) net
 abbrev pub other_processes : ℕ → List OpenProcess → List OpenProcess
 other_processes i rows = filter (λ r. not (nat_eq r.process i)) rows
 
-same_of_others : (i k : ℕ) (net : List Entry) → nat_eq k i ≡ false → of_process k (others i net) ≡ of_process k net
+pub same_of_others : (i k : ℕ) (net : List Entry) → nat_eq k i ≡ false → of_process k (others i net) ≡ of_process k net
 same_of_others i k [] other = refl
 same_of_others i k (e ∷ net) other = by (nat_eq e.process i) (nat_eq e.process k) refl refl (same_of_others i k net other)
   where

@@ -1,10 +1,11 @@
--- A slot is the place of an open process: it is small, of one process, and has what its process has reserved.
+-- A slot is the place of an open process: it is small, of one process, and has what its process holds.
 use Rattle.std.proofs.Common.{◌≡◌, ◌<◌, ◌≤◌, ℕ, Bool, true, false, List, length, Option, Some, None, refl, sym, ap, ◌∙◌, arith, eqb-true, eq-eqb, if◌then◌else◌, slice_index_or}
 use Rattle.schedule_model.specs.Histories.{is_in}
 use Rattle.bit_rows.specs.Cells.{cell}
 use Rattle.hold_tables.specs.Places.{place_of}
-use Rattle.hold_tables.specs.Slots.{AreReserved, reserved_ops}
+use Rattle.hold_tables.specs.Operations.{TellRows}
 use Rattle.hold_tables.specs.Tables.{OpenProcess, has_number, holds_nothing, numbered}
+use Rattle.hold_tables.proofs.BesideRows.{row_is_in}
 use Rattle.hold_tables.proofs.Extended.{place_within, same_place}
 use Rattle.hold_tables.proofs.Places.{at_place}
 
@@ -38,11 +39,12 @@ slot_apart i k s rows first other =
     let b = slot_is k s rows other in
     eqb-true i k (sym (same_place rows i k a.0 b.0) ∙ eq-eqb (place_of i rows) (place_of k rows) (a.1 ∙ sym b.1))
 
--- at its slot stands what a process has reserved
-pub slot_reserved : (op i a : ℕ) (rows : List OpenProcess) (bits : List (List Bool)) → AreReserved rows bits → length rows ≤ 256 → op < 256 → slot_among i rows ≡ Some a
-    → cell bits op a ≡ is_in op (reserved_ops (numbered i rows))
-slot_reserved op i a rows bits are few less is =
+-- at its slot stand the operations of a process
+pub slot_told : (f : OpenProcess → List ℕ) (op i a : ℕ) (rows : List OpenProcess) (bits : List (List Bool)) → TellRows f rows bits → op < 256 → slot_among i rows ≡ Some a
+    → cell bits op a ≡ is_in op (f (numbered i rows))
+slot_told f op i a rows bits tells less is =
     let at = slot_is i a rows is in
-    are op a less (slot_small i a rows few is)
-    ∙ ap (λ p. is_in op (reserved_ops (slice_index_or rows p (holds_nothing 0 0)))) (sym at.1)
-    ∙ ap (λ r. is_in op (reserved_ops r)) (at_place i rows (holds_nothing 0 0) at.0)
+    tells.tell op a
+    ∙ row_is_in op (f (slice_index_or rows a (holds_nothing 0 0))) less
+    ∙ ap (λ p. is_in op (f (slice_index_or rows p (holds_nothing 0 0)))) (sym at.1)
+    ∙ ap (λ r. is_in op (f r)) (at_place i rows (holds_nothing 0 0) at.0)

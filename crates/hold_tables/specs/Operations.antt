@@ -1,14 +1,15 @@
 -- Operations: which operations are held, and which of them may be against another.
-use Rattle.std.specs.Prelude.{◌≡◌, ◌<◌, ℕ, Bool, true, false, not, ◌||◌, List, ◌++◌, map, flat_map, min, nat_eq, slice_index_or}
-use Rattle.std.specs.Prelude.{if◌then◌else◌, length, Option, Some, None}
+use Rattle.std.specs.Prelude.{◌≡◌, ◌<◌, ℕ, suc, zero, Bool, true, false, ◌&&◌, ◌||◌, List, ◌++◌, map, min, nat_eq, nat_le}
+use Rattle.std.specs.Prelude.{if◌then◌else◌, length, slice_index_or}
 use Rattle.std.specs.List.{list_any}
 use Rattle.process_tree.specs.declared.conflicts.Mode.{Mode}
 use Rattle.process_tree.specs.declared.conflicts.Mode.TheVariants.{Never, Key, Always}
 use Rattle.process_tree.specs.declared.entry.Entry.{Entry}
 use Rattle.process_tree.specs.Conflicts.{Table, mode_of, operations_in}
 use Rattle.hold_tables.specs.declared.operations.Beside.{Beside}
-use Rattle.hold_tables.specs.Slots.{AreReserved}
-use Rattle.hold_tables.specs.Tables.{OpenProcess, running_of}
+use Rattle.hold_tables.specs.Tables.{OpenProcess, Tables, holds_nothing, lasts, running_of}
+use Rattle.schedule_model.specs.Histories.{of_process}
+use Rattle.bit_rows.specs.Cells.{IsTakenOut, cell}
 
 -- whether steps conflict by this mode, if only their keys are so
 abbrev pub is_conflict : Mode → Bool
@@ -24,26 +25,97 @@ may_conflict table a b = is_conflict (mode_of table a b)
 abbrev pub ops_of : List Entry → List ℕ
 ops_of es = map (λ e. e.op) es
 
--- the operations of what is under way and reserved in a process
-abbrev pub ops_beside : OpenProcess → List ℕ
-ops_beside r = ops_of (running_of r) ++ map (λ step. step.1) r.reserved
+-- the operation of what is under way in a process
+abbrev pub running_ops : OpenProcess → List ℕ
+running_ops r = ops_of (running_of r)
 
--- the same of all these
-abbrev pub all_beside : List OpenProcess → List ℕ
-all_beside rows = flat_map ops_beside rows
+-- the operations of what is to be undone of it
+abbrev pub pending_ops : List Entry → OpenProcess → List ℕ
+pending_ops net r = ops_of (lasts r.pending (of_process r.process net))
 
--- whether something of a process is to be undone
-abbrev pub has_pending : OpenProcess → Bool
-has_pending r = not (nat_eq r.pending 0)
+-- the operations of its reserved steps
+abbrev pub reserved_ops : OpenProcess → List ℕ
+reserved_ops r = map (λ step. step.1) r.reserved
 
--- a process may hold something against the operation beside its net: something is to be undone, or what is under way or reserved
--- may conflict with it
-abbrev pub may_hold : Table → ℕ → OpenProcess → Bool
-may_hold table op r = has_pending r || list_any (may_conflict table op) (ops_beside r)
+-- the operations of all these
+abbrev pub ops_beside : List Entry → OpenProcess → List ℕ
+ops_beside net r = running_ops r ++ (pending_ops net r ++ reserved_ops r)
 
--- the number of a process that may
-abbrev pub may_hold_number : Table → ℕ → OpenProcess → Option ℕ
-may_hold_number table op r = if may_hold table op r then Some r.process else None
+-- whether a step of another operation may be against one of this operation: those from 256 on aren't told apart, so they may
+abbrev pub may_be_against : Table → ℕ → ℕ → Bool
+may_be_against table op other = nat_le 256 other || may_conflict table op other
+
+-- a process may hold something against the operation beside its net, or something that is to be undone
+abbrev pub may_hold : Tables → ℕ → OpenProcess → Bool
+may_hold t op r = list_any (may_be_against t.conflicts op) (ops_beside t.net r)
+
+-- the row of an operation: all from 256 on have the last
+abbrev pub row_of : ℕ → ℕ
+row_of op = min op 256
+
+-- whether one of these operations has the row
+abbrev pub has_row : ℕ → List ℕ → Bool
+has_row k ops = list_any (λ op. nat_eq (row_of op) k) ops
+
+-- at a place, the rows of these operations are set too
+abbrev pub AddsAt : ℕ → List ℕ → List (List Bool) → List (List Bool) → Type 0
+AddsAt place ops old new = (k p : ℕ) → cell new k p ≡ ((nat_eq p place && has_row k ops) || cell old k p)
+
+-- at a place, the rows of these operations are set and no others; elsewhere they stay
+pub record IsToldAt (place : ℕ) (ops : List ℕ) (old new : List (List Bool)) : Type 0 where
+  pub count : length new ≡ length old
+  pub tell : (k p : ℕ) → cell new k p ≡ (if nat_eq p place then has_row k ops else cell old k p)
+
+-- at the place of each process, the rows are set of its operations by f
+pub record TellRows (f : OpenProcess → List ℕ) (rows : List OpenProcess) (bits : List (List Bool)) : Type 0 where
+  pub count : length bits ≡ 257
+  pub tell : (k p : ℕ) → cell bits k p ≡ has_row k (f (slice_index_or rows p (holds_nothing 0 0)))
+
+-- what is kept tells what is under way, to be undone and reserved in each process
+pub record TellBeside (net : List Entry) (rows : List OpenProcess) (b : Beside) : Type 0 where
+  pub running : TellRows running_ops rows b.running
+  pub pending : TellRows (pending_ops net) rows b.pending
+  pub reserved : TellRows reserved_ops rows b.reserved
+
+-- there is a row for each operation
+pub record HasRows (b : Beside) : Type 0 where
+  pub running : length b.running ≡ 257
+  pub pending : length b.pending ≡ 257
+  pub reserved : length b.reserved ≡ 257
+
+-- it tells so of a process at one place, and of the others what it told
+pub record IsProcessToldAt (place : ℕ) (net : List Entry) (r : OpenProcess) (old new : Beside) : Type 0 where
+  pub running : IsToldAt place (running_ops r) old.running new.running
+  pub pending : IsToldAt place (pending_ops net r) old.pending new.pending
+  pub reserved : IsToldAt place (reserved_ops r) old.reserved new.reserved
+
+-- a place is taken out of all rows
+pub record IsColumnTaken (place : ℕ) (old new : List (List Bool)) : Type 0 where
+  pub count : length new ≡ length old
+  pub tell : IsTakenOut false place old new
+
+-- of all of it
+pub record IsProcessTaken (place : ℕ) (old new : Beside) : Type 0 where
+  pub running : IsColumnTaken place old.running new.running
+  pub pending : IsColumnTaken place old.pending new.pending
+  pub reserved : IsColumnTaken place old.reserved new.reserved
+
+-- whether something in the row is held at the place
+abbrev pub is_held_at : Beside → ℕ → ℕ → Bool
+is_held_at b k p = cell b.running k p || (cell b.pending k p || cell b.reserved k p)
+
+-- whether the operations of a row may be against this one
+abbrev pub is_row_against : Table → ℕ → ℕ → Bool
+is_row_against table op k = nat_eq k 256 || may_conflict table op k
+
+-- whether, in one of the first n rows, something is held at the place that may be against the operation
+unfoldable pub is_held_below : Table → Beside → ℕ → ℕ → ℕ → Bool
+is_held_below table b op p zero = false
+is_held_below table b op p (suc n) = (is_held_at b n p && is_row_against table op n) || is_held_below table b op p n
+
+-- each row of an operation in which something is held is of one of the table
+abbrev pub AreKnownRows : Table → Beside → Type 0
+AreKnownRows table b = (k p : ℕ) → k < 256 → is_held_at b k p ≡ true → k < operations_in table
 
 -- the place of an operation among marks: the last one is that of all from there on
 abbrev pub slot_of : ℕ → ℕ
@@ -60,14 +132,6 @@ AddsOps ops old new = (k : ℕ) → k < 256 → slice_index_or new k false ≡ (
 -- the places of these operations are marked, and no others
 abbrev pub TellOps : List ℕ → List Bool → Type 0
 TellOps ops marks = (k : ℕ) → k < 256 → slice_index_or marks k false ≡ has_slot k ops
-
--- what is kept tells which operations are under way or reserved, whether something is to be undone, and which operations each
--- process has reserved
-pub record TellBeside (rows : List OpenProcess) (b : Beside) : Type 0 where
-  pub ops : TellOps (all_beside rows) b.marks
-  pub pending : b.pending ≡ list_any has_pending rows
-  pub count : length b.reserved ≡ 256
-  pub reserved : AreReserved rows b.reserved
 
 -- each operation that is marked at a place of its own is one of the table
 abbrev pub AreKnownOps : Table → List Bool → Type 0

@@ -12,7 +12,7 @@ ghost use Rattle.hold_tables.specs.Spare.{IsRoomIn};
 
 use crate::graph::{Graph, close_if, tell_run, tell_step};
 use crate::looking::{all_steps, count_of, place_of, remove_last};
-use crate::operations::{Beside, mark_op, nothing_beside, ops_of, tell_beside};
+use crate::operations::{Beside, mark_op, nothing_beside, ops_of, tell_dropped, tell_place};
 use crate::reach::{Marks, leads_through, step_has_arrows};
 use crate::row::{MOST, Row};
 use crate::spare::Spare;
@@ -49,7 +49,7 @@ impl Model for Holds {
 
     ghost invariant = { λ h. Stands h.conflicts h.net.items h.rows.items (vec_capacity h.net)
         × TellGraph (record { conflicts = h.conflicts; net = h.net.items; processes = h.rows.items }) h.graph
-        × TellBeside h.rows.items h.beside × KeepOps h.conflicts (ops_of h.net.items) h.in_net };
+        × TellBeside h.net.items h.rows.items h.beside × KeepOps h.conflicts (ops_of h.net.items) h.in_net };
 }
 
 impl Holds {
@@ -109,7 +109,6 @@ impl Holds {
         self.rows.push_reserved(row);
         self.graph.counts.add_place();
         self.graph.walks.add_place();
-        tell_beside(&mut self.beside, &self.rows);
     }
 
     /// The entry comes under way in its process.
@@ -131,7 +130,7 @@ impl Holds {
             &self.net,
             e,
         );
-        tell_beside(&mut self.beside, &self.rows);
+        tell_place(&mut self.beside, at, &self.rows[at], &self.net);
     }
 
     /// Nothing is under way in the process.
@@ -155,7 +154,7 @@ impl Holds {
             &self.rows,
             &self.net,
         );
-        tell_beside(&mut self.beside, &self.rows);
+        tell_place(&mut self.beside, at, &self.rows[at], &self.net);
     }
 
     /// What is under way in the process took effect.
@@ -186,7 +185,7 @@ impl Holds {
         self.net.push_reserved(e);
         self.rows[at].run(None);
         tell_step(&mut self.graph, &self.conflicts, &self.rows, &self.net, e);
-        tell_beside(&mut self.beside, &self.rows);
+        tell_place(&mut self.beside, at, &self.rows[at], &self.net);
         mark_op(&mut self.in_net, e.op);
     }
 
@@ -214,7 +213,7 @@ impl Holds {
             &self.rows,
             &self.net,
         );
-        tell_beside(&mut self.beside, &self.rows);
+        tell_place(&mut self.beside, at, &self.rows[at], &self.net);
     }
 
     /// All net entries that the process has are fixed.
@@ -227,7 +226,7 @@ impl Holds {
         let most = usize::from(self.rows[at].steps());
         let fixed = count_of(&self.net, process).min(most);
         self.rows[at].fix(fixed as u16);
-        tell_beside(&mut self.beside, &self.rows);
+        tell_place(&mut self.beside, at, &self.rows[at], &self.net);
     }
 
     /// These, each a step with its operation and its key, are the reserved steps of the process.
@@ -239,7 +238,7 @@ impl Holds {
     {
         let at = place_of(&self.rows, process);
         self.rows[at].reserve(steps);
-        tell_beside(&mut self.beside, &self.rows);
+        tell_place(&mut self.beside, at, &self.rows[at], &self.net);
     }
 
     /// Only the first so many of the reserved steps of the process stay reserved.
@@ -249,7 +248,7 @@ impl Holds {
     {
         let at = place_of(&self.rows, process);
         self.rows[at].keep_reserved(count);
-        tell_beside(&mut self.beside, &self.rows);
+        tell_place(&mut self.beside, at, &self.rows[at], &self.net);
     }
 
     /// So many of the last net entries of the process are to be undone.
@@ -259,7 +258,7 @@ impl Holds {
     {
         let at = place_of(&self.rows, process);
         self.rows[at].pend(count);
-        tell_beside(&mut self.beside, &self.rows);
+        tell_place(&mut self.beside, at, &self.rows[at], &self.net);
     }
 
     /// The process holds nothing any more.
@@ -280,7 +279,7 @@ impl Holds {
             &self.rows,
             &self.net,
         );
-        tell_beside(&mut self.beside, &self.rows);
+        tell_dropped(&mut self.beside, at);
         self.in_net = ops_of(&self.net);
     }
 }

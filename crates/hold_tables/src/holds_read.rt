@@ -1,20 +1,22 @@
 // What the tables of holds are asked.
-ghost use Rattle.std.specs.Prelude.{◌≡◌, ◌<◌, ℕ, length, true, false, slice_index_or};
+ghost use Rattle.std.specs.Prelude.{◌≡◌, ◌<◌, ◌≤◌, ℕ, length, true, false, slice_index_or};
 ghost use Rattle.std.specs.List.{list_any};
 ghost use Rattle.process_tree.specs.Conflicts.{operations_in, do_conflict};
 ghost use Rattle.process_tree.specs.Order.{Each};
 ghost use Rattle.process_tree.specs.declared.entry.Entry.{Entry};
 ghost use Rattle.schedule_model.specs.Holdings.{reaches};
 ghost use Rattle.hold_tables.specs.Tables.{OpenProcess, is_open, kept_of, holdings_of};
-ghost use Rattle.hold_tables.specs.Operations.{may_conflict, may_hold, may_hold_number, ops_of};
+ghost use Rattle.hold_tables.specs.Operations.{may_conflict, ops_of};
+ghost use Rattle.hold_tables.specs.Slots.{TellWho};
 ghost use Rattle.hold_tables.specs.Reading.{next_open, holder_against};
 ghost use Rattle.hold_tables.specs.Kept.{IsKnown, AreTidy};
 
 use crate::against::{Sought, least_of, least_reserved, least_running};
 use crate::holds::Holds;
 use crate::looking::{least_from, place_of};
-use crate::operations::{is_clear_beside, is_clear_of, may_hold};
+use crate::operations::{is_clear_of, who_may_hold};
 use crate::row::Row;
+use bit_rows::BitRow;
 use process_tree::{Conflicts, Entry};
 
 impl Holds {
@@ -47,17 +49,19 @@ impl Holds {
     /// How many processes are open.
     pub fn open_len(&self) -> usize
         ensures len { result ≡ length self.now.processes }
+        ensures few { result ≤ 256 }
         ensures tidy { AreTidy self.now }
     {
         self.rows.len()
     }
 
-    /// Whether no process may hold something against the operation beside its net.
-    pub fn is_clear_beside(&self, op: u16) -> bool
+    /// Which processes may hold something against the operation beside their nets, or have something to be undone that may be
+    /// against it, by their places.
+    pub fn who_may_hold(&self, op: u16) -> BitRow
         requires op { op < operations_in self.now.conflicts }
-        ensures clear { result ≡ true → list_any (may_hold self.now.conflicts op) self.now.processes ≡ false }
+        ensures { TellWho self.now op result }
     {
-        is_clear_beside(&self.conflicts, &self.beside, op)
+        who_may_hold(&self.conflicts, &self.beside, op)
     }
 
     /// Whether no net entry may conflict with the operation.
@@ -68,20 +72,12 @@ impl Holds {
         is_clear_of(&self.conflicts, &self.in_net, op)
     }
 
-    /// The open process at a place, counted from 0 in the order in which they were opened, if it may hold something against the
-    /// operation beside its net.
-    pub fn may_hold_at(&self, place: usize, op: u16) -> Option<u32>
+    /// The open process at a place, counted from 0 in the order in which they were opened.
+    pub fn open_at(&self, place: usize) -> u32
         requires place { place < length self.now.processes }
-        requires op { op < operations_in self.now.conflicts }
-        ensures number { (d : OpenProcess) → result ≡ may_hold_number self.now.conflicts op
-            (slice_index_or self.now.processes place d) }
+        ensures number { (d : OpenProcess) → result ≡ (slice_index_or self.now.processes place d).process }
     {
-        let row = &self.rows[place];
-        if may_hold(&self.conflicts, op, row) {
-            Some(row.process())
-        } else {
-            None
-        }
+        self.rows[place].process()
     }
 
     /// How many net entries the open processes have.

@@ -3,7 +3,7 @@ ghost use Rattle.std.specs.Prelude.{◌≡◌, ◌<◌, ℕ, IfSome, Some, false
 ghost use Rattle.process_tree.specs.Conflicts.{do_conflict};
 ghost use Rattle.schedule_model.specs.Holdings.{reaches};
 ghost use Rattle.hold_tables.specs.Tables.{holdings_of, is_open};
-ghost use Rattle.hold_tables.specs.Slots.{TellReach, TellReserved, slot};
+ghost use Rattle.hold_tables.specs.Slots.{TellPending, TellReach, TellReserved, TellRunning, slot};
 
 use crate::holds::Holds;
 use crate::looking::{place_if, place_of};
@@ -38,7 +38,21 @@ impl Holds {
         self.graph.walks.is_row_empty(place_of(&self.rows, process))
     }
 
-    /// Which processes have a reserved step of an operation below 256, in the row of the operation.
+    /// Which processes have an operation below 256 under way, in the row of the operation.
+    pub fn running_rows(&self) -> &Bits
+        ensures { TellRunning self.now result.now }
+    {
+        &self.beside.running
+    }
+
+    /// Which processes have an entry of the operation to be undone.
+    pub fn pending_rows(&self) -> &Bits
+        ensures { TellPending self.now result.now }
+    {
+        &self.beside.pending
+    }
+
+    /// Which processes have a reserved step of the operation.
     pub fn reserved_rows(&self) -> &Bits
         ensures { TellReserved self.now result.now }
     {

@@ -1,26 +1,23 @@
 // Which operations are held, so that what nobody holds is found at once.
-ghost use Rattle.std.specs.Prelude.{◌≡◌, ◌<◌, ◌∷◌, [], ℕ, List, if◌then◌else◌, length, map, true, false, IfOk};
+ghost use Rattle.std.specs.Prelude.{◌≡◌, ◌<◌, ◌∷◌, ◌&&◌, ◌||◌, [], ℕ, List, length, true, false, slice_index_or, IfOk};
 ghost use Rattle.std.specs.List.{list_any};
-ghost use Rattle.std.specs.Option.{option_to_list};
 ghost use Rattle.process_tree.specs.Conflicts.{operations_in};
-ghost use Rattle.hold_tables.specs.Tables.{OpenProcess};
-ghost use Rattle.hold_tables.specs.Kept.{AreKnown, IsKnownRunning};
-ghost use Rattle.hold_tables.specs.Operations.{AddsOps, AreKnownOps, CoverOps, IsClearOf, TellBeside, TellOps, all_beside};
-ghost use Rattle.hold_tables.specs.Operations.{has_pending, may_conflict, may_hold, ops_beside, ops_of, slot_of};
+ghost use Rattle.hold_tables.specs.Operations.{AddsOps, AreKnownOps, AreKnownRows, CoverOps, HasRows, IsClearOf};
+ghost use Rattle.hold_tables.specs.Operations.{IsProcessTaken, IsProcessToldAt, TellBeside, TellOps, is_held_at, is_held_below};
+ghost use Rattle.hold_tables.specs.Operations.{is_row_against, may_conflict, ops_of, slot_of};
 
 use crate::reach::Marks;
 use crate::row::{MOST, Row};
-use crate::slots::set_reserved;
-use bit_rows::Bits;
+use crate::slots::{ROWS, take_place, tell_pending, tell_reserved, tell_running};
+use bit_rows::{BitRow, Bits};
 use process_tree::{Conflicts, Entry, Mode};
 use std::alloc::{AllocError, Global};
 
-/// Which operations are under way or reserved in any process, whether something of one is to be undone, and which operations are
-/// reserved at each place.
+/// Which operations are under way, to be undone and reserved: a row for each operation, and a column for the place of each process.
 #[derive(Drop)]
 pub struct Beside {
-    marks: Marks,
-    pending: bool,
+    pub running: Bits,
+    pub pending: Bits,
     pub reserved: Bits,
 }
 
@@ -38,82 +35,36 @@ pub fn mark_op(marks: &mut Marks, op: u16)
     marks[slot_of(op)] = true;
 }
 
-/// Marks the operation of what is under way.
-fn mark_running(marks: &mut Marks, running: Option<Entry>)
-    ensures { AddsOps (ops_of (option_to_list running)) marks.old marks.new }
+/// Tells what a process at a place holds beside its net entries, and what of them is to be undone.
+pub fn tell_place(beside: &mut Beside, place: usize, row: &Row, net: &[Entry])
+    requires rows { HasRows beside.old }
+    requires place { place < 256 }
+    ensures { IsProcessToldAt place net.now row.now beside.old beside.new }
 {
-    if let Some(e) = running {
-        mark_op(marks, e.op);
-    }
+    tell_running(&mut beside.running, place, row.running());
+    tell_pending(&mut beside.pending, place, row, net);
+    tell_reserved(&mut beside.reserved, place, row.reserved());
 }
 
-/// Marks those of reserved steps.
-fn mark_steps(marks: &mut Marks, steps: &[(u16, u16, u32)])
-    ensures { AddsOps (map (λ step. step.1) steps.now) marks.old marks.new }
+/// Tells no more of the process at a place, and of each behind it at the place before.
+pub fn tell_dropped(beside: &mut Beside, place: usize)
+    requires { place < 256 }
+    ensures { IsProcessTaken place beside.old beside.new }
 {
-    let mut rest = steps;
-    'steps: while let Some((step, after)) = rest.split_first() {
-        mark_op(marks, step.1);
-        rest = after;
-    }
-}
-
-/// Marks those of a process.
-fn mark_row(marks: &mut Marks, row: &Row)
-    ensures { AddsOps (ops_beside row.now) marks.old marks.new }
-{
-    mark_running(marks, row.running());
-    mark_steps(marks, row.reserved());
-}
-
-/// Marks those of all these.
-fn mark_rows(marks: &mut Marks, rows: &[Row])
-    ensures { AddsOps (all_beside rows.now) marks.old marks.new }
-{
-    let mut rest = rows;
-    'rows: while let Some((row, after)) = rest.split_first() {
-        mark_row(marks, row);
-        rest = after;
-    }
-}
-
-/// Whether something of one of these is to be undone.
-fn some_pending(rows: &[Row]) -> bool
-    ensures { result ≡ list_any has_pending rows.now }
-{
-    let mut rest = rows;
-    while let [row, after @ ..] = rest {
-        if row.pending() != 0 {
-            return true;
-        }
-        rest = after;
-    }
-    false
-}
-
-/// What these processes hold beside their net entries.
-pub fn tell_beside(beside: &mut Beside, rows: &[Row])
-    requires rows { length beside.old.reserved ≡ 256 }
-    ensures { TellBeside rows.now beside.new }
-{
-    let mut marks = [false; MOST];
-    mark_rows(&mut marks, rows);
-    beside.marks = marks;
-    beside.pending = some_pending(rows);
-    set_reserved(&mut beside.reserved, rows);
+    take_place(&mut beside.running, place);
+    take_place(&mut beside.pending, place);
+    take_place(&mut beside.reserved, place);
 }
 
 /// Nothing is held, with room for all.
 pub fn nothing_beside(alloc: Global) -> Result<Beside, AllocError>
-    ensures { IfOk result (λ beside. TellBeside [] beside) }
+    ensures { IfOk result (λ beside. TellBeside [] [] beside) }
 {
-    let mut beside = Beside {
-        marks: [false; MOST],
-        pending: false,
-        reserved: Bits::all_rows(alloc)?,
-    };
-    tell_beside(&mut beside, &[]);
-    Ok(beside)
+    Ok(Beside {
+        running: Bits::with_rows(alloc, ROWS)?,
+        pending: Bits::with_rows(alloc, ROWS)?,
+        reserved: Bits::with_rows(alloc, ROWS)?,
+    })
 }
 
 /// Marks those of these entries.
@@ -171,54 +122,53 @@ pub fn is_clear_of(c: &Conflicts, marks: &Marks, op: u16) -> bool
     is_clear(c, marks, op)
 }
 
-/// The same where nothing is to be undone.
-pub fn is_clear_beside(c: &Conflicts, beside: &Beside, op: u16) -> bool
-    requires op { op < operations_in c.now }
-    requires known { AreKnownOps c.now beside.now.marks }
-    ensures { (rows : List OpenProcess) → TellBeside rows beside.now → result ≡ true → list_any (may_hold c.now op) rows ≡ false }
+/// The places where something in a row is held.
+fn held_in(beside: &Beside, row: usize) -> BitRow
+    requires rows { HasRows beside.now }
+    requires row { row < 257 }
+    ensures { (p : ℕ) → slice_index_or result p false ≡ is_held_at beside.now row p }
 {
-    if beside.pending {
-        return false;
-    }
-    is_clear(c, &beside.marks, op)
+    let mut held = beside.reserved.row(row).copy();
+    held.add(beside.pending.row(row));
+    held.add(beside.running.row(row));
+    held
 }
 
-/// Whether what is under way may conflict with the operation.
-fn may_run_against(c: &Conflicts, op: u16, running: Option<Entry>) -> bool
+/// Whether the operations of a row may be against this one.
+fn is_row_against(c: &Conflicts, op: u16, row: usize) -> bool
+    requires row { row < 257 }
     requires op { op < operations_in c.now }
-    requires known { IsKnownRunning c.now running }
-    ensures { result ≡ list_any (may_conflict c.now op) (ops_of (option_to_list running)) }
+    requires known { row < 256 → row < operations_in c.now }
+    ensures { result ≡ is_row_against c.now op row }
 {
-    match running {
-        Some(e) => may_conflict(c, op, e.op),
-        None => false,
+    row == MOST || may_conflict(c, op, row as u16)
+}
+
+/// Adds the places where something in a row is held, if it may be against the operation.
+fn add_row(who: &mut BitRow, c: &Conflicts, beside: &Beside, op: u16, row: usize)
+    requires rows { HasRows beside.now }
+    requires row { row < 257 }
+    requires op { op < operations_in c.now }
+    requires known { AreKnownRows c.now beside.now }
+    ensures { (p : ℕ) → slice_index_or who.new p false
+        ≡ ((is_held_at beside.now row p && is_row_against c.now op row) || slice_index_or who.old p false) }
+{
+    let held = held_in(beside, row);
+    if !held.is_empty() && is_row_against(c, op, row) {
+        who.add(&held);
     }
 }
 
-/// Whether one of these reserved steps may.
-fn may_reserve_against(c: &Conflicts, op: u16, steps: &[(u16, u16, u32)]) -> bool
+/// The places where something is held that may be against the operation.
+pub fn who_may_hold(c: &Conflicts, beside: &Beside, op: u16) -> BitRow
+    requires rows { HasRows beside.now }
     requires op { op < operations_in c.now }
-    requires known { AreKnown c.now steps.now }
-    ensures { result ≡ list_any (may_conflict c.now op) (map (λ step. step.1) steps.now) }
+    requires known { AreKnownRows c.now beside.now }
+    ensures { (p : ℕ) → slice_index_or result p false ≡ is_held_below c.now beside.now op p 257 }
 {
-    let mut rest = steps;
-    while let [step, after @ ..] = rest {
-        if may_conflict(c, op, step.1) {
-            return true;
-        }
-        rest = after;
+    let mut who = BitRow::new();
+    for row in 0..ROWS {
+        add_row(&mut who, c, beside, op, row);
     }
-    false
-}
-
-/// Whether a process may hold something against the operation beside its net entries.
-pub fn may_hold(c: &Conflicts, op: u16, row: &Row) -> bool
-    requires op { op < operations_in c.now }
-    requires running { IsKnownRunning c.now row.now.running }
-    requires reserved { AreKnown c.now row.now.reserved }
-    ensures { result ≡ may_hold c.now op row.now }
-{
-    row.pending() != 0
-        || may_run_against(c, op, row.running())
-        || may_reserve_against(c, op, row.reserved())
+    who
 }

@@ -1,32 +1,51 @@
-// The reserved steps of the open processes, as rows of bits by operation.
-ghost use Rattle.std.specs.Prelude.{◌≡◌, ◌<◌, ◌&&◌, ◌||◌, ℕ, length, map, nat_eq};
-ghost use Rattle.schedule_model.specs.Histories.{is_in};
+// What the open processes hold beside their nets, as rows of bits by operation.
+ghost use Rattle.std.specs.Prelude.{◌≡◌, ◌<◌, ◌∷◌, ◌&&◌, ◌||◌, [], ℕ, length, map, nat_eq};
+ghost use Rattle.std.specs.Option.{option_to_list};
 ghost use Rattle.bit_rows.specs.Cells.{cell};
-ghost use Rattle.hold_tables.specs.Slots.{AreReserved};
+ghost use Rattle.hold_tables.specs.Operations.{AddsAt, IsColumnTaken, IsToldAt, has_row, ops_of, pending_ops, row_of};
 
 use crate::row::{MOST, Row};
 use bit_rows::Bits;
+use process_tree::Entry;
 
-/// Sets an operation at a place. There are rows for the operations below 256.
-fn set_op(bits: &mut Bits, place: usize, op: u16)
-    requires rows { length bits.old ≡ 256 }
-    requires place { place < 256 }
-    ensures count { length bits.new ≡ 256 }
-    ensures own { (k b : ℕ) → k < 256 → cell bits.new k b ≡ ((nat_eq b place && nat_eq k op) || cell bits.old k b) }
+/// How many rows there are: the last is that of all operations from 256 on.
+pub const ROWS: usize = MOST + 1;
+
+/// The row of an operation.
+fn row_of(op: u16) -> usize
+    ensures { result ≡ row_of op }
 {
-    let row = usize::from(op);
-    if row < MOST {
-        bits.set(row, place);
+    usize::from(op).min(MOST)
+}
+
+/// Sets an operation at a place.
+fn set_op(bits: &mut Bits, place: usize, op: u16)
+    requires rows { length bits.old ≡ 257 }
+    requires place { place < 256 }
+    ensures count { length bits.new ≡ 257 }
+    ensures own { (k p : ℕ) → cell bits.new k p ≡ ((nat_eq p place && nat_eq (row_of op) k) || cell bits.old k p) }
+{
+    bits.set(row_of(op), place);
+}
+
+/// Sets that of what is under way.
+fn set_running(bits: &mut Bits, place: usize, running: Option<Entry>)
+    requires rows { length bits.old ≡ 257 }
+    requires place { place < 256 }
+    ensures count { length bits.new ≡ 257 }
+    ensures own { AddsAt place (ops_of (option_to_list running)) bits.old bits.new }
+{
+    if let Some(e) = running {
+        set_op(bits, place, e.op);
     }
 }
 
 /// Sets those of reserved steps.
 fn set_steps(bits: &mut Bits, place: usize, steps: &[(u16, u16, u32)])
-    requires rows { length bits.old ≡ 256 }
+    requires rows { length bits.old ≡ 257 }
     requires place { place < 256 }
-    ensures count { length bits.new ≡ 256 }
-    ensures own { (k b : ℕ) → k < 256 → cell bits.new k b
-        ≡ ((nat_eq b place && is_in k (map (λ step. step.1) steps.now)) || cell bits.old k b) }
+    ensures count { length bits.new ≡ 257 }
+    ensures own { AddsAt place (map (λ step. step.1) steps.now) bits.old bits.new }
 {
     let mut rest = steps;
     while let [step, after @ ..] = rest {
@@ -35,14 +54,62 @@ fn set_steps(bits: &mut Bits, place: usize, steps: &[(u16, u16, u32)])
     }
 }
 
-/// Sets those of the reserved steps of all these, and no others.
-pub fn set_reserved(bits: &mut Bits, rows: &[Row])
-    requires rows { length bits.old ≡ 256 }
-    ensures count { length bits.new ≡ 256 }
-    ensures own { AreReserved rows.now bits.new }
+/// Sets those of the net entries that are to be undone of a process: so many of its last ones.
+fn set_pending(bits: &mut Bits, place: usize, row: &Row, net: &[Entry])
+    requires rows { length bits.old ≡ 257 }
+    requires place { place < 256 }
+    ensures count { length bits.new ≡ 257 }
+    ensures own { AddsAt place (pending_ops net.now row.now) bits.old bits.new }
 {
-    bits.reset();
-    for place in 0..rows.len().min(MOST) {
-        set_steps(bits, place, rows[place].reserved());
+    let process = row.process();
+    let mut left = row.pending();
+    let mut rest = net;
+    'entries: while let Some((last, front)) = rest.split_last() {
+        if left == 0 {
+            return;
+        }
+        if last.process == process {
+            set_op(bits, place, last.op);
+            left -= 1;
+        }
+        rest = front;
     }
+}
+
+/// Sets what is under way at a place, and nothing else there.
+pub fn tell_running(bits: &mut Bits, place: usize, running: Option<Entry>)
+    requires rows { length bits.old ≡ 257 }
+    requires place { place < 256 }
+    ensures { IsToldAt place (ops_of (option_to_list running)) bits.old bits.new }
+{
+    bits.clear_column(place);
+    set_running(bits, place, running);
+}
+
+/// The same of what is to be undone.
+pub fn tell_pending(bits: &mut Bits, place: usize, row: &Row, net: &[Entry])
+    requires rows { length bits.old ≡ 257 }
+    requires place { place < 256 }
+    ensures { IsToldAt place (pending_ops net.now row.now) bits.old bits.new }
+{
+    bits.clear_column(place);
+    set_pending(bits, place, row, net);
+}
+
+/// The same of reserved steps.
+pub fn tell_reserved(bits: &mut Bits, place: usize, steps: &[(u16, u16, u32)])
+    requires rows { length bits.old ≡ 257 }
+    requires place { place < 256 }
+    ensures { IsToldAt place (map (λ step. step.1) steps.now) bits.old bits.new }
+{
+    bits.clear_column(place);
+    set_steps(bits, place, steps);
+}
+
+/// Takes a place out; those behind it move up.
+pub fn take_place(bits: &mut Bits, place: usize)
+    requires { place < 256 }
+    ensures { IsColumnTaken place bits.old bits.new }
+{
+    bits.take_column(place);
 }

@@ -11,10 +11,11 @@ use Rattle.hold_tables.specs.Walks.{IsAtEnd}
 use Rattle.hold_tables.proofs.DroppedWalks.{dropped_counts, dropped_tells, rows_left}
 use Rattle.hold_tables.proofs.Opening.{drop_stands}
 use Rattle.hold_tables.proofs.GraphStays.{graph_lent}
-use Rattle.hold_tables.specs.Operations.{TellBeside, TellOps, ops_of}
+use Rattle.hold_tables.specs.Operations.{IsProcessTaken, TellOps, ops_of}
 use Rattle.process_tree.specs.Conflicts.{operations_in}
 use Rattle.process_tree.specs.Order.{Each}
 use Rattle.hold_tables.proofs.HeldOps.{known_in_net, known_ops, tell_covers}
+use Rattle.hold_tables.proofs.Told.{dropped_told, place_small}
 use Rattle.hold_tables.proofs.holds.Holds.drop_process.Goals as goal
 
 pub close_if-requires-clause-tidy : goal.close_if-requires-clause-tidy
@@ -29,10 +30,13 @@ invariant_of-self c =
     let i = c.args.process in
     let net = filter_same _ (λ (e : Entry). not (nat_eq e.process i)) _ (λ x b f' k. search rules) c.self.inside.net.items c.retain.new.self.items c.retain.ensures.filtered in
     let rows = filter_same _ (λ (r : OpenProcess). not (nat_eq r.process i)) _ (λ x b f' k. search rules) c.self.inside.rows.items c.retain-2.new.self.items c.retain-2.ensures.filtered in
-    let told : TellOps (ops_of c.retain.new.self.items) c.ops_of-self-inside.result = subst (λ (es : List Entry). TellOps (ops_of es) c.ops_of-self-inside.result) c.deref-5.ensures.value c.ops_of-self-inside.ensures in (
+    let has = is_among i c.self.inside.conflicts c.self.inside.net.items c.self.inside.rows.items c.args.self.now c.self.view_is c.requires.open in
+    let place = c.place_of-at.ensures.place ∙ ap (place_of i) c.deref.ensures.value in
+    let told : TellOps (ops_of c.retain.new.self.items) c.ops_of-self-inside.result = subst (λ (es : List Entry). TellOps (ops_of es) c.ops_of-self-inside.result) c.deref-4.ensures.value c.ops_of-self-inside.ensures in (
       rw (net, rows, c.retain.ensures.capacity) (drop_stands i c.self.inside.conflicts c.self.inside.net.items c.self.inside.rows.items _ c.self.invariant.0),
       graph_lent c.self.inside.conflicts _ _ _ _ c.close_if.new.graph.counts c.close_if.new.graph.walks c.deref-2.ensures.value c.deref-3.ensures.value c.close_if.ensures.tell,
-      subst (λ (rs : List OpenProcess). TellBeside rs c.tell_beside.new.beside) c.deref-4.ensures.value c.tell_beside.ensures,
+      rw (net, rows) (dropped_told i c.self.inside.net.items c.self.inside.rows.items c.self.inside.beside c.tell_dropped.new.beside c.self.invariant.0.0.numbered has c.self.invariant.2
+          (subst (λ p. IsProcessTaken p c.self.inside.beside c.tell_dropped.new.beside) place c.tell_dropped.ensures)),
       record {
         covers = tell_covers (ops_of c.retain.new.self.items) c.ops_of-self-inside.result told;
         known = known_ops c.self.inside.conflicts (ops_of c.retain.new.self.items) c.ops_of-self-inside.result (subst (λ (es : List Entry). Each (λ op. op < operations_in c.self.inside.conflicts) (ops_of es)) (sym net)
@@ -83,3 +87,6 @@ returns c =
     let net = filter_same _ (λ (e : Entry). not (nat_eq e.process i)) _ (λ x b f' k. search rules) c.self.inside.net.items c.retain.new.self.items c.retain.ensures.filtered in
     let rows = filter_same _ (λ (r : OpenProcess). not (nat_eq r.process i)) _ (λ x b f' k. search rules) c.self.inside.rows.items c.retain-2.new.self.items c.retain-2.ensures.filtered in
     ap (λ es. tables c.self.inside.conflicts es c.retain-2.new.self.items) net ∙ ap (tables c.self.inside.conflicts (filter (λ (e : Entry). not (nat_eq e.process i)) c.self.inside.net.items)) rows ∙ ap (dropped i) c.self.view_is
+
+pub tell_dropped-requires : goal.tell_dropped-requires
+tell_dropped-requires c = place_small c.deref.result.now c.self.inside.rows.items c.place_of-at.result c.deref.ensures.value c.place_of-at.ensures.within c.self.invariant.1.1.rows.1

@@ -1,4 +1,4 @@
-use Rattle.std.proofs.Common.{◌≡◌, ◌≤◌, length, refl, ◌∙◌, ap, subst, arith, List}
+use Rattle.std.proofs.Common.{◌≡◌, ◌≤◌, length, refl, ◌∙◌, ap, subst, arith}
 use Rattle.schedule_model.specs.Histories.{of_process}
 use Rattle.hold_tables.specs.Tables.{OpenProcess, Tables, numbered, kept_of}
 use Rattle.hold_tables.specs.Changes.{with_fixed}
@@ -7,7 +7,7 @@ use Rattle.hold_tables.specs.Places.{place_of}
 use Rattle.hold_tables.proofs.Tidy.{each_numbered, found_row, is_among, returned, stood}
 use Rattle.hold_tables.proofs.GraphStays.{graph_stood}
 use Rattle.hold_tables.proofs.Effects.{few_own, tidy_fixed}
-use Rattle.hold_tables.specs.Operations.{TellBeside}
+use Rattle.hold_tables.proofs.Told.{has_rows, place_small, place_within, told_lent}
 use Rattle.hold_tables.proofs.holds.Holds.fix.Goals as goal
 
 pub invariant_of-self : goal.invariant_of-self
@@ -31,7 +31,8 @@ invariant_of-self c =
           (tidy_fixed c.args.self.now.conflicts (of_process (kept_of c.args.self.now i).process c.args.self.now.net) (kept_of c.args.self.now i) c.requires.forward tidy)) c.self.invariant.0,
       graph_stood (with_fixed (length (of_process i c.args.self.now.net))) i c.self.inside.conflicts net rows c.self.inside.graph.counts c.self.inside.graph.walks c.place_of-at.result c.index_mut.result.now c.fix.new.self c.args.self.now c.self.view_is c.requires.open place c.index_mut.ensures.value (c.fix.ensures ∙ ap (λ n. with_fixed n c.index_mut.result.now) fixed)
           (λ r. (refl, refl)) c.self.invariant.1,
-      subst (λ (rs : List OpenProcess). TellBeside rs c.tell_beside.new.beside) c.deref-3.ensures.value c.tell_beside.ensures,
+      told_lent c.self.inside.net.items c.self.inside.net.items c.deref-3.result.now c.self.inside.rows.items c.place_of-at.result c.fix.new.self c.index-2.result.now c.self.inside.beside c.tell_place.new.beside
+          (place_within c.deref.result.now c.self.inside.rows.items c.place_of-at.result c.deref.ensures.value c.place_of-at.ensures.within) c.deref-3.ensures.value c.index-2.ensures c.self.invariant.2 c.tell_place.ensures (λ p other. refl),
       c.self.invariant.3,
     )
 
@@ -52,3 +53,9 @@ returns c =
     let all : c.min-fixed.result ≡ length (of_process i net) = omega (arith, few, count, steps, most, least) in
     let fixed = all ∙ ap (λ (t : Tables). length (of_process i t.net)) c.self.view_is in
     returned (with_fixed (length (of_process i c.args.self.now.net))) i c.self.inside.conflicts net rows c.place_of-at.result c.index_mut.result.now c.fix.new.self c.args.self.now c.self.view_is c.requires.open place c.index_mut.ensures.value (c.fix.ensures ∙ ap (λ n. with_fixed n c.index_mut.result.now) fixed)
+
+pub tell_place-requires-clause-rows : goal.tell_place-requires-clause-rows
+tell_place-requires-clause-rows c = has_rows c.self.inside.net.items c.self.inside.rows.items c.self.inside.beside c.self.invariant.2
+
+pub tell_place-requires-clause-place : goal.tell_place-requires-clause-place
+tell_place-requires-clause-place c = place_small c.deref.result.now c.self.inside.rows.items c.place_of-at.result c.deref.ensures.value c.place_of-at.ensures.within c.self.invariant.1.1.rows.1

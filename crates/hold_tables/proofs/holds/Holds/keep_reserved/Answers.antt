@@ -1,12 +1,11 @@
-use Rattle.std.proofs.Common.{refl, ◌∙◌, ap, List, subst}
+use Rattle.std.proofs.Common.{refl, ◌∙◌, ap}
 use Rattle.hold_tables.specs.Changes.{with_first_reserved}
 use Rattle.hold_tables.specs.Places.{place_of}
 use Rattle.hold_tables.specs.Tables.{kept_of}
 use Rattle.hold_tables.proofs.GraphStays.{graph_stood}
 use Rattle.hold_tables.proofs.FirstReserved.{few_first, known_first}
 use Rattle.hold_tables.proofs.Tidy.{returned, stood}
-use Rattle.hold_tables.specs.Tables.{OpenProcess}
-use Rattle.hold_tables.specs.Operations.{TellBeside}
+use Rattle.hold_tables.proofs.Told.{has_rows, place_small, place_within, told_lent}
 use Rattle.hold_tables.proofs.holds.Holds.keep_reserved.Goals as goal
 
 pub invariant_of-self : goal.invariant_of-self
@@ -15,10 +14,17 @@ invariant_of-self c = (
       (λ tidy own. record { within = tidy.within; once = tidy.once; fixed = tidy.fixed; running = tidy.running; reserved = known_first c.args.self.now.conflicts c.args.count (kept_of c.args.self.now c.args.process).reserved tidy.reserved; fits = few_first c.args.count (kept_of c.args.self.now c.args.process).steps (kept_of c.args.self.now c.args.process).reserved tidy.fits; small = tidy.small }) c.self.invariant.0,
   graph_stood (with_first_reserved c.args.count) c.args.process c.self.inside.conflicts c.self.inside.net.items c.self.inside.rows.items c.self.inside.graph.counts c.self.inside.graph.walks c.place_of-at.result c.index_mut.result.now c.keep_reserved.new.self c.args.self.now c.self.view_is c.requires.open (c.place_of-at.ensures.place ∙ ap (place_of c.args.process) c.deref.ensures.value) c.index_mut.ensures.value c.keep_reserved.ensures
       (λ r. (refl, refl)) c.self.invariant.1,
-  subst (λ (rs : List OpenProcess). TellBeside rs c.tell_beside.new.beside) c.deref-2.ensures.value c.tell_beside.ensures,
+  told_lent c.self.inside.net.items c.self.inside.net.items c.deref-2.result.now c.self.inside.rows.items c.place_of-at.result c.keep_reserved.new.self c.index.result.now c.self.inside.beside c.tell_place.new.beside
+      (place_within c.deref.result.now c.self.inside.rows.items c.place_of-at.result c.deref.ensures.value c.place_of-at.ensures.within) c.deref-2.ensures.value c.index.ensures c.self.invariant.2 c.tell_place.ensures (λ p other. refl),
   c.self.invariant.3,
 )
 
 pub returns : goal.returns
 returns c =
     returned (with_first_reserved c.args.count) c.args.process c.self.inside.conflicts c.self.inside.net.items c.self.inside.rows.items c.place_of-at.result c.index_mut.result.now c.keep_reserved.new.self c.args.self.now c.self.view_is c.requires.open (c.place_of-at.ensures.place ∙ ap (place_of c.args.process) c.deref.ensures.value) c.index_mut.ensures.value c.keep_reserved.ensures
+
+pub tell_place-requires-clause-rows : goal.tell_place-requires-clause-rows
+tell_place-requires-clause-rows c = has_rows c.self.inside.net.items c.self.inside.rows.items c.self.inside.beside c.self.invariant.2
+
+pub tell_place-requires-clause-place : goal.tell_place-requires-clause-place
+tell_place-requires-clause-place c = place_small c.deref.result.now c.self.inside.rows.items c.place_of-at.result c.deref.ensures.value c.place_of-at.ensures.within c.self.invariant.1.1.rows.1

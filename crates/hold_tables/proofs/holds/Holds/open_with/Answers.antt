@@ -9,8 +9,8 @@ use Rattle.hold_tables.specs.Spare.{IsRoomIn, SpareRoom}
 use Rattle.hold_tables.proofs.OpenedWalks.{opened_counts, opened_tells}
 use Rattle.hold_tables.proofs.Opening.{open_stands}
 use Rattle.process_tree.specs.declared.entry.Entry.{Entry}
-use Rattle.hold_tables.specs.Tables.{OpenProcess}
-use Rattle.hold_tables.specs.Operations.{KeepOps, TellBeside, ops_of}
+use Rattle.hold_tables.specs.Operations.{KeepOps, ops_of}
+use Rattle.hold_tables.proofs.Told.{opened_told}
 use Rattle.hold_tables.proofs.holds.Holds.open_with.Goals as goal
 
 pub invariant_of-self : goal.invariant_of-self
@@ -37,6 +37,6 @@ invariant_of-self c =
         opened_counts i steps c.self.inside.conflicts net rows c.self.invariant.0.0 fits.few counts c.add_place.new.self counts_cleared counts_count c.self.invariant.1.0,
         opened_tells i steps c.self.inside.conflicts net rows c.self.invariant.0.0 fits.few walks c.add_place-2.new.self walks_cleared walks_count stands.0 c.self.invariant.1.1,
       ),
-      subst (λ (rs : List OpenProcess). TellBeside rs c.tell_beside.new.beside) c.deref.ensures.value c.tell_beside.ensures,
+      rw (c.give_to.ensures.items, more) (opened_told net rows i steps c.self.inside.beside c.self.invariant.2),
       subst (λ (es : List Entry). KeepOps c.self.inside.conflicts (ops_of es) c.self.inside.in_net) (sym c.give_to.ensures.items) c.self.invariant.3,
     )

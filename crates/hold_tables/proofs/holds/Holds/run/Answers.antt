@@ -5,13 +5,13 @@ use Rattle.hold_tables.specs.Tables.{OpenProcess, Tables, has_number, kept_of, n
 use Rattle.hold_tables.specs.Kept.{AreTidy, IsKnown}
 use Rattle.hold_tables.specs.Counts.{pairs_to}
 use Rattle.hold_tables.specs.Walks.{arrows_to, step_has_arrows}
-use Rattle.hold_tables.specs.Operations.{TellBeside}
 use Rattle.hold_tables.specs.Changes.{change_numbered, with_running, can_come}
 use Rattle.schedule_model.specs.Histories.{of_process}
 use Rattle.hold_tables.specs.Places.{place_of}
 use Rattle.process_tree.specs.declared.entry.Entry.{Entry}
 use Rattle.hold_tables.proofs.GraphStays.{TellBoth, TellBothBut, arrow_of_step, graph_lent, run_both, run_same}
 use Rattle.hold_tables.proofs.Tidy.{is_among, numbers_stay, returned, row_changed, stood, tables}
+use Rattle.hold_tables.proofs.Told.{has_rows, place_small, place_within, told_lent}
 use Rattle.hold_tables.proofs.holds.Holds.run.Goals as goal
 
 pub invariant_of-self : goal.invariant_of-self
@@ -19,7 +19,8 @@ invariant_of-self c = (
   stood (with_running (Some c.args.e)) c.args.e.process c.self.inside.conflicts c.self.inside.net.items c.self.inside.rows.items c.place_of-at.result c.index_mut.result.now c.run.new.self c.args.self.now _ c.self.view_is c.requires.open (c.place_of-at.ensures.place ∙ ap (place_of c.args.e.process) c.deref.ensures.value) c.index_mut.ensures.value c.run.ensures (λ r. (refl, refl))
       (λ tidy own. record { within = tidy.within; once = tidy.once; fixed = tidy.fixed; running = (sym own, subst (λ n. can_come (of_process n c.args.self.now.net) (kept_of c.args.self.now c.args.e.process) c.args.e ≡ true) (sym own) c.requires.may, c.requires.known); reserved = tidy.reserved; fits = tidy.fits; small = tidy.small }) c.self.invariant.0,
   graph_lent c.self.inside.conflicts _ _ _ _ c.tell_run.new.graph.counts c.tell_run.new.graph.walks c.deref-3.ensures.value c.deref-4.ensures.value c.tell_run.ensures.tell,
-  subst (λ (rs : List OpenProcess). TellBeside rs c.tell_beside.new.beside) c.deref-5.ensures.value c.tell_beside.ensures,
+  told_lent c.self.inside.net.items c.self.inside.net.items c.deref-5.result.now c.self.inside.rows.items c.place_of-at.result c.run.new.self c.index.result.now c.self.inside.beside c.tell_place.new.beside
+      (place_within c.deref.result.now c.self.inside.rows.items c.place_of-at.result c.deref.ensures.value c.place_of-at.ensures.within) c.deref-5.ensures.value c.index.ensures c.self.invariant.2 c.tell_place.ensures (λ p other. refl),
   c.self.invariant.3,
 )
 
@@ -84,3 +85,9 @@ tell_run-requires-clause-same c =
 pub returns : goal.returns
 returns c =
     returned (with_running (Some c.args.e)) c.args.e.process c.self.inside.conflicts c.self.inside.net.items c.self.inside.rows.items c.place_of-at.result c.index_mut.result.now c.run.new.self c.args.self.now c.self.view_is c.requires.open (c.place_of-at.ensures.place ∙ ap (place_of c.args.e.process) c.deref.ensures.value) c.index_mut.ensures.value c.run.ensures
+
+pub tell_place-requires-clause-rows : goal.tell_place-requires-clause-rows
+tell_place-requires-clause-rows c = has_rows c.self.inside.net.items c.self.inside.rows.items c.self.inside.beside c.self.invariant.2
+
+pub tell_place-requires-clause-place : goal.tell_place-requires-clause-place
+tell_place-requires-clause-place c = place_small c.deref.result.now c.self.inside.rows.items c.place_of-at.result c.deref.ensures.value c.place_of-at.ensures.within c.self.invariant.1.1.rows.1

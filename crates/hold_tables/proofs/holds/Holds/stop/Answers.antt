@@ -8,9 +8,9 @@ use Rattle.hold_tables.specs.Kept.{AreTidy}
 use Rattle.hold_tables.specs.Walks.{TellWalks}
 use Rattle.hold_tables.specs.Changes.{with_running}
 use Rattle.hold_tables.specs.Places.{place_of}
-use Rattle.hold_tables.specs.Operations.{TellBeside}
 use Rattle.hold_tables.proofs.GraphStays.{graph_lent, stop_among, stop_counts, stop_walks, uncounted_lent}
 use Rattle.hold_tables.proofs.Tidy.{found_row, is_among, returned, row_changed, stood, tables}
+use Rattle.hold_tables.proofs.Told.{has_rows, place_small, place_within, told_lent}
 use Rattle.hold_tables.proofs.holds.Holds.stop.Goals as goal
 
 pub invariant_of-self : goal.invariant_of-self
@@ -18,7 +18,8 @@ invariant_of-self c = (
   stood (with_running None) c.args.process c.self.inside.conflicts c.self.inside.net.items c.self.inside.rows.items c.place_of-at.result c.index_mut.result.now c.run.new.self c.args.self.now _ c.self.view_is c.requires.open (c.place_of-at.ensures.place ∙ ap (place_of c.args.process) c.deref.ensures.value) c.index_mut.ensures.value c.run.ensures (λ r. (refl, refl))
       (λ tidy own. record { within = tidy.within; once = tidy.once; fixed = tidy.fixed; running = tt; reserved = tidy.reserved; fits = tidy.fits; small = tidy.small }) c.self.invariant.0,
   graph_lent c.self.inside.conflicts _ _ _ _ c.close_if.new.graph.counts c.close_if.new.graph.walks c.deref-4.ensures.value c.deref-5.ensures.value c.close_if.ensures.tell,
-  subst (λ (rs : List OpenProcess). TellBeside rs c.tell_beside.new.beside) c.deref-6.ensures.value c.tell_beside.ensures,
+  told_lent c.self.inside.net.items c.self.inside.net.items c.deref-6.result.now c.self.inside.rows.items c.place_of-at.result c.run.new.self c.index-2.result.now c.self.inside.beside c.tell_place.new.beside
+      (place_within c.deref.result.now c.self.inside.rows.items c.place_of-at.result c.deref.ensures.value c.place_of-at.ensures.within) c.deref-6.ensures.value c.index-2.ensures c.self.invariant.2 c.tell_place.ensures (λ p other. refl),
   c.self.invariant.3,
 )
 
@@ -89,3 +90,9 @@ close_if-requires-clause-same c =
     rw (c.deref-4.ensures.value, c.deref-5.ensures.value) (λ kept.
     subst (λ (rs : List OpenProcess). TellWalks (tables table net rs) walks) (sym same)
     (stop_walks i table net rows has old walks c.self.invariant.0.0 c.self.invariant.1 gone new off (subst (λ (rs : List OpenProcess). AreTidy (tables table net rs)) same tidy) kept))
+
+pub tell_place-requires-clause-rows : goal.tell_place-requires-clause-rows
+tell_place-requires-clause-rows c = has_rows c.self.inside.net.items c.self.inside.rows.items c.self.inside.beside c.self.invariant.2
+
+pub tell_place-requires-clause-place : goal.tell_place-requires-clause-place
+tell_place-requires-clause-place c = place_small c.deref.result.now c.self.inside.rows.items c.place_of-at.result c.deref.ensures.value c.place_of-at.ensures.within c.self.invariant.1.1.rows.1

@@ -1,4 +1,6 @@
 use Rattle.std.proofs.Common.{◌≡◌, List, sym, refl, ◌∙◌, ap, None, Some, subst}
+use Rattle.std.specs.Prelude.{slice_set}
+use Rattle.hold_tables.proofs.LastAway.{other_without}
 use Rattle.process_tree.specs.declared.entry.Entry.{Entry}
 use Rattle.process_tree.specs.Conflicts.{do_conflict}
 use Rattle.hold_tables.specs.Changes.{net_after, undoes, with_running, without_last}
@@ -11,6 +13,7 @@ use Rattle.hold_tables.proofs.Effects.{effect_returned, effect_stands}
 use Rattle.hold_tables.proofs.GraphStays.{graph_lent, uncounted_lent, undo_of, undone_counts, undone_walks}
 use Rattle.hold_tables.proofs.HeldOps.{kept_undo}
 use Rattle.hold_tables.proofs.Tidy.{is_among, row_changed}
+use Rattle.hold_tables.proofs.Told.{has_rows, pending_elsewhere, place_small, place_within, told_lent}
 use Rattle.hold_tables.proofs.holds.Holds.undone.Goals as goal
 
 pub invariant_of-self : goal.invariant_of-self
@@ -29,7 +32,9 @@ invariant_of-self c =
     let settled : net_after i (Some e) net ≡ without_last i net = rw undo.2 refl in (
       rw (c.remove_last.ensures.net, c.remove_last.ensures.capacity, same, ← settled) (effect_stands i table net rows _ e has undo.1 c.self.invariant.0),
       graph_lent table _ _ _ _ c.close_if.new.graph.counts c.close_if.new.graph.walks c.deref-4.ensures.value c.deref-5.ensures.value c.close_if.ensures.tell,
-      subst (λ (rs : List OpenProcess). TellBeside rs c.tell_beside.new.beside) c.deref-6.ensures.value c.tell_beside.ensures,
+      subst (λ (es : List Entry). TellBeside es (slice_set rows c.place_of-at.result c.run.new.self) c.tell_place.new.beside) (sym c.remove_last.ensures.net)
+          (told_lent c.self.inside.net.items (without_last i net) c.deref-6.result.now c.self.inside.rows.items c.place_of-at.result c.run.new.self c.index.result.now c.self.inside.beside c.tell_place.new.beside
+          (place_within c.deref.result.now c.self.inside.rows.items c.place_of-at.result c.deref.ensures.value c.place_of-at.ensures.within) (c.deref-6.ensures.value ∙ c.remove_last.ensures.net) c.index.ensures c.self.invariant.2 c.tell_place.ensures (λ p other. pending_elsewhere i net (without_last i net) rows c.self.invariant.0.0.numbered (λ k other. other_without i k net other) p (λ is. other (is ∙ sym place)))),
       subst (λ (es : List Entry). KeepOps table (ops_of es) c.self.inside.in_net) (sym c.remove_last.ensures.net) (kept_undo table i net c.self.inside.in_net c.self.invariant.3),
     )
 
@@ -111,3 +116,9 @@ returns c =
     let e = undo.0 in
     let settled : net_after i (Some e) net ≡ without_last i net = rw undo.2 refl in
     effect_returned i table net rows e c.remove_last.new.net.items _ c.args.self.now c.self.view_is undo.1 (c.remove_last.ensures.net ∙ sym settled) same
+
+pub tell_place-requires-clause-rows : goal.tell_place-requires-clause-rows
+tell_place-requires-clause-rows c = has_rows c.self.inside.net.items c.self.inside.rows.items c.self.inside.beside c.self.invariant.2
+
+pub tell_place-requires-clause-place : goal.tell_place-requires-clause-place
+tell_place-requires-clause-place c = place_small c.deref.result.now c.self.inside.rows.items c.place_of-at.result c.deref.ensures.value c.place_of-at.ensures.within c.self.invariant.1.1.rows.1
