@@ -1,14 +1,15 @@
 -- Rows of bits by operation: which operations have a row, and what all rows tell of one operation.
 use Rattle.std.proofs.Common.{◌≡◌, ◌≢◌, ◌⊎◌, inl, inr, ◌<◌, ◌+◌, ℕ, zero, suc, Bool, true, false, ◌||◌, ◌&&◌, List, [], ◌∷◌, sym, refl, ap, ◌∙◌, subst, arith}
-use Rattle.std.specs.Prelude.{nat_eq, nat_lt}
+use Rattle.std.specs.Prelude.{nat_eq, nat_le, nat_lt}
 use Rattle.std.specs.List.{list_any}
-use Rattle.std.proofs.lemmas.Bool.{eq-eqb, eqb-false, eqb-true, false≢true, le-leb, lt-leb, ltb-false, ltb-true, ne_eqb, or_cases, or_left, or_right}
+use Rattle.std.proofs.lemmas.Bool.{eq-eqb, eqb-false, eqb-true, false≢true, le-leb, lt-leb, ltb-false, ltb-true, ne_eqb, or_cases, or_left, or_parts, or_right}
 use Rattle.schedule_model.specs.Histories.{is_in}
 use Rattle.schedule_model.proofs.Legal.{both-left, both-right}
 use Rattle.process_tree.specs.Conflicts.{Table}
 use Rattle.process_tree.specs.Order.{Each}
 use Rattle.hold_tables.specs.declared.operations.Beside.{Beside}
-use Rattle.hold_tables.specs.Operations.{has_row, is_held_at, is_held_below, is_row_against, may_be_against, may_conflict, row_of}
+use Rattle.bit_rows.specs.Cells.{cell}
+use Rattle.hold_tables.specs.Operations.{IsClearOf, KeepOps, has_row, is_held_at, is_held_below, is_row_against, may_be_against, may_conflict, row_of}
 use Rattle.hold_tables.proofs.Reaching.{same_truth}
 
 pub row_small : (op : ℕ) → row_of op < 257
@@ -120,3 +121,16 @@ module _ (table : Table) (b : Beside) (op p : ℕ) where
       same_truth (is_held_below table b op p 257) (list_any (may_be_against table op) ops)
       (λ is. let (k, less, held, against) = row_below 257 is in op_of_row ops k (sym (tells k) ∙ held) against)
       (λ is. let (k, less, has, against) = row_of_op ops is in below_row 257 k less (tells k ∙ has) against)
+
+-- where no row with something may be against an operation, none of those that have something in their rows conflicts with it
+clear_each : (table : Table) (op : ℕ) (ops : List ℕ) (bits : List (List Bool)) → ((k : ℕ) → has_row k ops ≡ true → (p : ℕ) × (cell bits k p ≡ true)) → IsClearOf table op bits
+    → list_any (may_conflict table op) ops ≡ false
+clear_each table op [] bits covers clear = refl
+clear_each table op (x ∷ ops) bits covers clear =
+    let there = covers (row_of x) (or_left (nat_eq (row_of x) (row_of x)) (has_row (row_of x) ops) (eq-eqb (row_of x) (row_of x) refl)) in
+    let none : may_be_against table op x ≡ false = sym (against_row table op x) ∙ clear (row_of x) there.0 (row_small x) there.1 in
+    ap (λ b. b || list_any (may_conflict table op) ops) (or_parts (nat_le 256 x) (may_conflict table op x) none).1
+    ∙ clear_each table op ops bits (λ k is. covers k (or_right (nat_eq (row_of x) k) (has_row k ops) is)) clear
+
+pub clear_ops : (table : Table) (op : ℕ) (ops : List ℕ) (bits : List (List Bool)) → KeepOps table ops bits → IsClearOf table op bits → list_any (may_conflict table op) ops ≡ false
+clear_ops table op ops bits keeps clear = clear_each table op ops bits keeps.covers clear

@@ -45,7 +45,7 @@ numbered_more (x ∷ rows) r new once = by (nat_eq x.process r.process) refl (nu
         rw (none, later) refl
 
 -- no entry is of a process that isn't open
-none_of_closed : (i : ℕ) (rows : List OpenProcess) (net : List Entry) → has_number i rows ≡ false → Each (λ e. has_number e.process rows ≡ true) net → has_entry i net ≡ false
+pub none_of_closed : (i : ℕ) (rows : List OpenProcess) (net : List Entry) → has_number i rows ≡ false → Each (λ e. has_number e.process rows ≡ true) net → has_entry i net ≡ false
 none_of_closed i rows [] closed each = refl
 none_of_closed i rows (e ∷ net) closed each = by (nat_eq e.process i) refl (none_of_closed i rows net closed each.1)
   where

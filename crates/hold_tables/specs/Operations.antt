@@ -1,5 +1,5 @@
 -- Operations: which operations are held, and which of them may be against another.
-use Rattle.std.specs.Prelude.{◌≡◌, ◌<◌, ℕ, suc, zero, Bool, true, false, ◌&&◌, ◌||◌, List, ◌++◌, map, min, nat_eq, nat_le}
+use Rattle.std.specs.Prelude.{◌≡◌, ◌<◌, ℕ, suc, zero, Bool, true, false, ◌&&◌, ◌||◌, List, ◌++◌, map, min, nat_eq, nat_le, take}
 use Rattle.std.specs.Prelude.{if◌then◌else◌, length, slice_index_or}
 use Rattle.std.specs.List.{list_any}
 use Rattle.process_tree.specs.declared.conflicts.Mode.{Mode}
@@ -40,6 +40,10 @@ reserved_ops r = map (λ step. step.1) r.reserved
 -- the operations of all these
 abbrev pub ops_beside : List Entry → OpenProcess → List ℕ
 ops_beside net r = running_ops r ++ (pending_ops net r ++ reserved_ops r)
+
+-- the operations of its net entries, of which there are no more than its plan has steps
+abbrev pub net_ops : List Entry → OpenProcess → List ℕ
+net_ops net r = ops_of (take r.steps (of_process r.process net))
 
 -- whether a step of another operation may be against one of this operation: those from 256 on aren't told apart, so they may
 abbrev pub may_be_against : Table → ℕ → ℕ → Bool
@@ -117,37 +121,12 @@ is_held_below table b op p (suc n) = (is_held_at b n p && is_row_against table o
 abbrev pub AreKnownRows : Table → Beside → Type 0
 AreKnownRows table b = (k p : ℕ) → k < 256 → is_held_at b k p ≡ true → k < operations_in table
 
--- the place of an operation among marks: the last one is that of all from there on
-abbrev pub slot_of : ℕ → ℕ
-slot_of op = min op 255
+-- each of these operations has something in its row, there is a row for each operation, and each row with something is of one of the table
+pub record KeepOps (table : Table) (ops : List ℕ) (bits : List (List Bool)) : Type 0 where
+  pub count : length bits ≡ 257
+  pub covers : (k : ℕ) → has_row k ops ≡ true → (p : ℕ) × (cell bits k p ≡ true)
+  pub known : (k p : ℕ) → k < 256 → cell bits k p ≡ true → k < operations_in table
 
--- whether one of these operations has the place
-abbrev pub has_slot : ℕ → List ℕ → Bool
-has_slot k ops = list_any (λ op. nat_eq (slot_of op) k) ops
-
--- the places of these operations are marked too
-abbrev pub AddsOps : List ℕ → List Bool → List Bool → Type 0
-AddsOps ops old new = (k : ℕ) → k < 256 → slice_index_or new k false ≡ (has_slot k ops || slice_index_or old k false)
-
--- the places of these operations are marked, and no others
-abbrev pub TellOps : List ℕ → List Bool → Type 0
-TellOps ops marks = (k : ℕ) → k < 256 → slice_index_or marks k false ≡ has_slot k ops
-
--- each operation that is marked at a place of its own is one of the table
-abbrev pub AreKnownOps : Table → List Bool → Type 0
-AreKnownOps table marks = (k : ℕ) → k < 255 → slice_index_or marks k false ≡ true → k < operations_in table
-
--- the place of each of these operations is marked
-abbrev pub CoverOps : List ℕ → List Bool → Type 0
-CoverOps ops marks = (k : ℕ) → k < 256 → has_slot k ops ≡ true → slice_index_or marks k false ≡ true
-
--- and all that is marked is of the table
-pub record KeepOps (table : Table) (ops : List ℕ) (marks : List Bool) : Type 0 where
-  pub covers : CoverOps ops marks
-  pub known : AreKnownOps table marks
-
--- none of those that are marked may conflict with this one, and none is marked that has no place of its own
-abbrev pub IsClearOf : Table → ℕ → List Bool → Type 0
-IsClearOf table op marks =
-    ((k : ℕ) → k < 255 → slice_index_or marks k false ≡ true → may_conflict table op k ≡ false)
-    × (slice_index_or marks 255 false ≡ false)
+-- no row with something may be against this operation
+abbrev pub IsClearOf : Table → ℕ → List (List Bool) → Type 0
+IsClearOf table op bits = (k p : ℕ) → k < 257 → cell bits k p ≡ true → is_row_against table op k ≡ false

@@ -5,7 +5,7 @@ use Rattle.schedule_model.specs.Histories.{is_in}
 use Rattle.schedule_model.specs.Holdings.{reaches}
 use Rattle.bit_rows.specs.Cells.{cell}
 use Rattle.hold_tables.specs.Places.{place_of}
-use Rattle.hold_tables.specs.Operations.{may_hold, pending_ops, reserved_ops, running_ops}
+use Rattle.hold_tables.specs.Operations.{may_hold, net_ops, pending_ops, reserved_ops, running_ops}
 use Rattle.hold_tables.specs.Tables.{OpenProcess, Tables, holdings_of, is_open, kept_of}
 
 -- the slot of a process, if it is open: its place among the open ones
@@ -32,6 +32,10 @@ TellPending t bits = TellOpsOf (pending_ops t.net) t bits
 -- whether it is of a reserved step
 abbrev pub TellReserved : Tables → List (List Bool) → Type 0
 TellReserved t bits = TellOpsOf reserved_ops t bits
+
+-- whether it is of one of its net entries
+abbrev pub TellNet : Tables → List (List Bool) → Type 0
+TellNet t bits = TellOpsOf (net_ops t.net) t bits
 
 -- the row says of each place of an open process whether the process may hold something against the operation beside its net
 abbrev pub TellWho : Tables → ℕ → List Bool → Type 0

@@ -12,9 +12,10 @@ ghost use Rattle.hold_tables.specs.Spare.{IsRoomIn};
 
 use crate::graph::{Graph, close_if, tell_run, tell_step};
 use crate::looking::{all_steps, count_of, place_of, remove_last};
-use crate::operations::{Beside, mark_op, nothing_beside, ops_of, tell_dropped, tell_place};
-use crate::reach::{Marks, leads_through, step_has_arrows};
+use crate::operations::{Beside, nothing_beside, tell_dropped, tell_place};
+use crate::reach::{leads_through, step_has_arrows};
 use crate::row::{MOST, Row};
+use crate::slots::{ROWS, set_op, take_place, tell_net};
 use crate::spare::Spare;
 use crate::uncounting::{uncount_last, uncount_running};
 use bit_rows::{Bits, Counts};
@@ -32,8 +33,8 @@ pub struct Holds {
     pub(crate) graph: Graph,
     /// What is held beside the net.
     pub(crate) beside: Beside,
-    /// The operations of the net entries, and of some that were.
-    pub(crate) in_net: Marks,
+    /// The operations of the net entries, at the places of their processes.
+    pub(crate) in_net: Bits,
 }
 
 impl Model for Holds {
@@ -41,7 +42,7 @@ impl Model for Holds {
     ghost use Rattle.hold_tables.specs.Tables.{Tables};
     ghost use Rattle.hold_tables.specs.Kept.{Stands};
     ghost use Rattle.hold_tables.specs.Arrows.{TellGraph};
-    ghost use Rattle.hold_tables.specs.Operations.{KeepOps, TellBeside, ops_of};
+    ghost use Rattle.hold_tables.specs.Operations.{TellBeside, TellRows, net_ops};
 
     ghost Value = { Tables };
 
@@ -49,7 +50,7 @@ impl Model for Holds {
 
     ghost invariant = { λ h. Stands h.conflicts h.net.items h.rows.items (vec_capacity h.net)
         × TellGraph (record { conflicts = h.conflicts; net = h.net.items; processes = h.rows.items }) h.graph
-        × TellBeside h.net.items h.rows.items h.beside × KeepOps h.conflicts (ops_of h.net.items) h.in_net };
+        × TellBeside h.net.items h.rows.items h.beside × TellRows (net_ops h.net.items) h.rows.items h.in_net };
 }
 
 impl Holds {
@@ -67,7 +68,7 @@ impl Holds {
                 walks: Bits::new(alloc)?,
             },
             beside: nothing_beside(alloc)?,
-            in_net: ops_of(&[]),
+            in_net: Bits::with_rows(alloc, ROWS)?,
         })
     }
 
@@ -186,7 +187,7 @@ impl Holds {
         self.rows[at].run(None);
         tell_step(&mut self.graph, &self.conflicts, &self.rows, &self.net, e);
         tell_place(&mut self.beside, at, &self.rows[at], &self.net);
-        mark_op(&mut self.in_net, e.op);
+        set_op(&mut self.in_net, at, e.op);
     }
 
     // The undo took effect that is under way in the process.
@@ -214,6 +215,7 @@ impl Holds {
             &self.net,
         );
         tell_place(&mut self.beside, at, &self.rows[at], &self.net);
+        tell_net(&mut self.in_net, at, process, &self.net);
     }
 
     /// All net entries that the process has are fixed.
@@ -280,7 +282,7 @@ impl Holds {
             &self.net,
         );
         tell_dropped(&mut self.beside, at);
-        self.in_net = ops_of(&self.net);
+        take_place(&mut self.in_net, at);
     }
 }
 

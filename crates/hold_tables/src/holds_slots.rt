@@ -3,7 +3,7 @@ ghost use Rattle.std.specs.Prelude.{◌≡◌, ◌<◌, ℕ, IfSome, Some, false
 ghost use Rattle.process_tree.specs.Conflicts.{do_conflict};
 ghost use Rattle.schedule_model.specs.Holdings.{reaches};
 ghost use Rattle.hold_tables.specs.Tables.{holdings_of, is_open};
-ghost use Rattle.hold_tables.specs.Slots.{TellPending, TellReach, TellReserved, TellRunning, slot};
+ghost use Rattle.hold_tables.specs.Slots.{TellNet, TellPending, TellReach, TellReserved, TellRunning, slot};
 
 use crate::holds::Holds;
 use crate::looking::{place_if, place_of};
@@ -50,6 +50,13 @@ impl Holds {
         ensures { TellPending self.now result.now }
     {
         &self.beside.pending
+    }
+
+    /// Which processes have a net entry of the operation.
+    pub fn net_rows(&self) -> &Bits
+        ensures { TellNet self.now result.now }
+    {
+        &self.in_net
     }
 
     /// Which processes have a reserved step of the operation.

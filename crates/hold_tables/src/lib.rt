@@ -5,7 +5,7 @@
 //! stand for holdings of `schedule_model` (`holdings_of`), over which the blocking rules and the conflict graph are defined.
 //! Beside them it keeps how many pairs of entries make the arrow from one open process to another, and where walks over
 //! arrows lead (`specs/Counts`, `specs/Arrows`, `specs/Walks`); and rows of bits by operation, of what processes have under way,
-//! to undo and reserved (`specs/Operations`, `specs/Slots`).
+//! to undo, reserved and in the net (`specs/Operations`, `specs/Slots`).
 //! Each call changes what it names and nothing else. `new`, `open` and `spare` alone take memory: a `Spare` is the room for a
 //! process that opens later, by `open_with`.
 #![tactic(auto)]

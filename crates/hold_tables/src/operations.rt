@@ -1,12 +1,11 @@
 // Which operations are held, so that what nobody holds is found at once.
-ghost use Rattle.std.specs.Prelude.{◌≡◌, ◌<◌, ◌∷◌, ◌&&◌, ◌||◌, [], ℕ, List, length, true, false, slice_index_or, IfOk};
+ghost use Rattle.std.specs.Prelude.{◌≡◌, ◌<◌, ◌&&◌, ◌||◌, [], ℕ, List, length, true, false, slice_index_or, IfOk};
 ghost use Rattle.std.specs.List.{list_any};
 ghost use Rattle.process_tree.specs.Conflicts.{operations_in};
-ghost use Rattle.hold_tables.specs.Operations.{AddsOps, AreKnownOps, AreKnownRows, CoverOps, HasRows, IsClearOf};
-ghost use Rattle.hold_tables.specs.Operations.{IsProcessTaken, IsProcessToldAt, TellBeside, TellOps, is_held_at, is_held_below};
-ghost use Rattle.hold_tables.specs.Operations.{is_row_against, may_conflict, ops_of, slot_of};
+ghost use Rattle.bit_rows.specs.Cells.{cell};
+ghost use Rattle.hold_tables.specs.Operations.{AreKnownRows, HasRows, IsClearOf, IsProcessTaken, IsProcessToldAt, KeepOps};
+ghost use Rattle.hold_tables.specs.Operations.{TellBeside, is_held_at, is_held_below, is_row_against, may_conflict};
 
-use crate::reach::Marks;
 use crate::row::{MOST, Row};
 use crate::slots::{ROWS, take_place, tell_pending, tell_reserved, tell_running};
 use bit_rows::{BitRow, Bits};
@@ -19,20 +18,6 @@ pub struct Beside {
     pub running: Bits,
     pub pending: Bits,
     pub reserved: Bits,
-}
-
-/// The place of an operation among marks.
-fn slot_of(op: u16) -> usize
-    ensures { result ≡ slot_of op }
-{
-    usize::from(op).min(MOST - 1)
-}
-
-/// Marks an operation. What an undo takes away stays marked among those of the net until a process ends.
-pub fn mark_op(marks: &mut Marks, op: u16)
-    ensures { AddsOps (op ∷ []) marks.old marks.new }
-{
-    marks[slot_of(op)] = true;
 }
 
 /// Tells what a process at a place holds beside its net entries, and what of them is to be undone.
@@ -67,26 +52,6 @@ pub fn nothing_beside(alloc: Global) -> Result<Beside, AllocError>
     })
 }
 
-/// Marks those of these entries.
-fn mark_entries(marks: &mut Marks, entries: &[Entry])
-    ensures { AddsOps (ops_of entries.now) marks.old marks.new }
-{
-    let mut rest = entries;
-    'entries: while let Some((e, after)) = rest.split_first() {
-        mark_op(marks, e.op);
-        rest = after;
-    }
-}
-
-/// The operations of these entries.
-pub fn ops_of(entries: &[Entry]) -> Marks
-    ensures { TellOps (ops_of entries.now) result }
-{
-    let mut marks = [false; MOST];
-    mark_entries(&mut marks, entries);
-    marks
-}
-
 /// Whether steps of two operations may conflict.
 fn may_conflict(c: &Conflicts, a: u16, b: u16) -> bool
     requires a { a < operations_in c.now }
@@ -99,27 +64,50 @@ fn may_conflict(c: &Conflicts, a: u16, b: u16) -> bool
     }
 }
 
-/// Whether none of these operations may conflict with this one.
-fn is_clear(c: &Conflicts, marks: &Marks, op: u16) -> bool
+/// Whether the operations of a row may be against this one.
+fn is_row_against(c: &Conflicts, op: u16, row: usize) -> bool
+    requires row { row < 257 }
     requires op { op < operations_in c.now }
-    requires known { AreKnownOps c.now marks.now }
-    ensures { result ≡ true → IsClearOf c.now op marks.now }
+    requires known { row < 256 → row < operations_in c.now }
+    ensures { result ≡ is_row_against c.now op row }
 {
-    for place in 0..MOST - 1 {
-        if marks[place] && may_conflict(c, op, place as u16) {
+    row == MOST || may_conflict(c, op, row as u16)
+}
+
+/// Whether a row has nothing, or may not be against this operation.
+fn is_row_clear(c: &Conflicts, bits: &Bits, op: u16, row: usize) -> bool
+    requires rows { length bits.now ≡ 257 }
+    requires row { row < 257 }
+    requires op { op < operations_in c.now }
+    requires known { (k p : ℕ) → k < 256 → cell bits.now k p ≡ true → k < operations_in c.now }
+    ensures { result ≡ true → (p : ℕ) → cell bits.now row p ≡ true → is_row_against c.now op row ≡ false }
+{
+    bits.is_row_empty(row) || !is_row_against(c, op, row)
+}
+
+/// Whether no row with something may be against this operation.
+fn is_clear(c: &Conflicts, bits: &Bits, op: u16) -> bool
+    requires rows { length bits.now ≡ 257 }
+    requires op { op < operations_in c.now }
+    requires known { (k p : ℕ) → k < 256 → cell bits.now k p ≡ true → k < operations_in c.now }
+    ensures { result ≡ true → IsClearOf c.now op bits.now }
+{
+    for row in 0..ROWS {
+        if !is_row_clear(c, bits, op, row) {
             return false;
         }
     }
-    !marks[MOST - 1]
+    true
 }
 
-/// Whether none of these operations, which are marked, may conflict with this one.
-pub fn is_clear_of(c: &Conflicts, marks: &Marks, op: u16) -> bool
+/// Whether none of these operations, which have something in their rows, may conflict with this one.
+pub fn is_clear_of(c: &Conflicts, bits: &Bits, op: u16) -> bool
     requires op { op < operations_in c.now }
-    requires known { AreKnownOps c.now marks.now }
-    ensures { (ops : List ℕ) → CoverOps ops marks.now → result ≡ true → list_any (may_conflict c.now op) ops ≡ false }
+    requires rows { length bits.now ≡ 257 }
+    requires known { (k p : ℕ) → k < 256 → cell bits.now k p ≡ true → k < operations_in c.now }
+    ensures { (ops : List ℕ) → KeepOps c.now ops bits.now → result ≡ true → list_any (may_conflict c.now op) ops ≡ false }
 {
-    is_clear(c, marks, op)
+    is_clear(c, bits, op)
 }
 
 /// The places where something in a row is held.
@@ -132,16 +120,6 @@ fn held_in(beside: &Beside, row: usize) -> BitRow
     held.add(beside.pending.row(row));
     held.add(beside.running.row(row));
     held
-}
-
-/// Whether the operations of a row may be against this one.
-fn is_row_against(c: &Conflicts, op: u16, row: usize) -> bool
-    requires row { row < 257 }
-    requires op { op < operations_in c.now }
-    requires known { row < 256 → row < operations_in c.now }
-    ensures { result ≡ is_row_against c.now op row }
-{
-    row == MOST || may_conflict(c, op, row as u16)
 }
 
 /// Adds the places where something in a row is held, if it may be against the operation.

@@ -12,12 +12,9 @@ ghost use Rattle.hold_tables.specs.Walks.{IsAtEnd, step_has_arrows, steps_under_
 
 use crate::looking::place_of;
 use crate::operations::is_clear_of;
-use crate::row::{MOST, Row};
+use crate::row::Row;
 use bit_rows::Bits;
 use process_tree::{Conflicts, Entry};
-
-/// Which places are marked.
-pub type Marks = [bool; MOST];
 
 /// Adds the arrow that an entry makes to the process of another that comes later, where they conflict.
 pub fn follow(walks: &mut Bits, conflicts: &Conflicts, rows: &[Row], x: Entry, y: Entry)
@@ -86,7 +83,7 @@ pub fn conflicts_with(conflicts: &Conflicts, entries: &[Entry], e: Entry) -> boo
 }
 
 /// Whether the entry conflicts with a net entry. Their operations are marked, so that what conflicts with none is found at once.
-fn conflicts_in_net(conflicts: &Conflicts, net: &[Entry], in_net: &Marks, e: Entry) -> bool
+fn conflicts_in_net(conflicts: &Conflicts, net: &[Entry], in_net: &Bits, e: Entry) -> bool
     requires known { IsKnown conflicts.now e }
     requires net { Each (IsKnown conflicts.now) net.now }
     requires marks { KeepOps conflicts.now (ops_of net.now) in_net.now }
@@ -99,7 +96,7 @@ fn conflicts_in_net(conflicts: &Conflicts, net: &[Entry], in_net: &Marks, e: Ent
 pub fn step_has_arrows(
     conflicts: &Conflicts,
     net: &[Entry],
-    in_net: &Marks,
+    in_net: &Bits,
     running: Option<Entry>,
 ) -> bool
     requires known { IsKnownRunning conflicts.now running }

@@ -1,6 +1,7 @@
 // What the open processes hold beside their nets, as rows of bits by operation.
 ghost use Rattle.std.specs.Prelude.{◌≡◌, ◌<◌, ◌∷◌, ◌&&◌, ◌||◌, [], ℕ, length, map, nat_eq};
 ghost use Rattle.std.specs.Option.{option_to_list};
+ghost use Rattle.schedule_model.specs.Histories.{of_process};
 ghost use Rattle.bit_rows.specs.Cells.{cell};
 ghost use Rattle.hold_tables.specs.Operations.{AddsAt, IsColumnTaken, IsToldAt, has_row, ops_of, pending_ops, row_of};
 
@@ -19,7 +20,7 @@ fn row_of(op: u16) -> usize
 }
 
 /// Sets an operation at a place.
-fn set_op(bits: &mut Bits, place: usize, op: u16)
+pub fn set_op(bits: &mut Bits, place: usize, op: u16)
     requires rows { length bits.old ≡ 257 }
     requires place { place < 256 }
     ensures count { length bits.new ≡ 257 }
@@ -104,6 +105,32 @@ pub fn tell_reserved(bits: &mut Bits, place: usize, steps: &[(u16, u16, u32)])
 {
     bits.clear_column(place);
     set_steps(bits, place, steps);
+}
+
+/// Sets the operations of the entries of a process.
+fn set_own(bits: &mut Bits, place: usize, process: u32, net: &[Entry])
+    requires rows { length bits.old ≡ 257 }
+    requires place { place < 256 }
+    ensures count { length bits.new ≡ 257 }
+    ensures own { AddsAt place (ops_of (of_process process net.now)) bits.old bits.new }
+{
+    let mut rest = net;
+    while let [e, after @ ..] = rest {
+        if e.process == process {
+            set_op(bits, place, e.op);
+        }
+        rest = after;
+    }
+}
+
+/// Sets the operations of all entries of a process at its place, and nothing else there.
+pub fn tell_net(bits: &mut Bits, place: usize, process: u32, net: &[Entry])
+    requires rows { length bits.old ≡ 257 }
+    requires place { place < 256 }
+    ensures { IsToldAt place (ops_of (of_process process net.now)) bits.old bits.new }
+{
+    bits.clear_column(place);
+    set_own(bits, place, process, net);
 }
 
 /// Takes a place out; those behind it move up.

@@ -11,9 +11,8 @@ ghost use Rattle.hold_tables.specs.Walks.{AreDistinctRows, IsPlaced, IsPlacedIf,
 
 use crate::looking::{last_place, place_of};
 use crate::operations::is_clear_of;
-use crate::reach::Marks;
 use crate::row::Row;
-use bit_rows::Counts;
+use bit_rows::{Bits, Counts};
 use process_tree::{Conflicts, Entry};
 
 /// Whether one or the other.
@@ -183,7 +182,7 @@ fn uncount_marked(
     counts: &mut Counts,
     conflicts: &Conflicts,
     rows: &[Row],
-    in_net: &Marks,
+    in_net: &Bits,
     front: &[Entry],
     x: Entry,
     back: &[Entry],
@@ -212,7 +211,7 @@ pub fn uncount_last(
     conflicts: &Conflicts,
     rows: &[Row],
     net: &[Entry],
-    in_net: &Marks,
+    in_net: &Bits,
     process: u32,
 ) -> bool
     requires marks { KeepOps conflicts.now (ops_of net.now) in_net.now }

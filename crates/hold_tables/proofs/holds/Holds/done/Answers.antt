@@ -3,15 +3,15 @@ use Rattle.std.specs.Prelude.{slice_set}
 use Rattle.process_tree.specs.declared.entry.Entry.{Entry}
 use Rattle.hold_tables.specs.Tables.{OpenProcess, Tables, kept_of, numbered}
 use Rattle.hold_tables.specs.Changes.{net_after, with_running}
-use Rattle.hold_tables.specs.Operations.{KeepOps, TellBeside, ops_of}
+use Rattle.hold_tables.specs.Operations.{TellBeside, TellRows, net_ops}
 use Rattle.hold_tables.specs.Places.{place_of}
 use Rattle.hold_tables.specs.Walks.{IsPlaced, IsPlacedIf}
 use Rattle.hold_tables.proofs.Effects.{effect_returned, effect_stands, step_stands}
 use Rattle.hold_tables.proofs.GraphStays.{done_both, graph_lent}
-use Rattle.hold_tables.proofs.HeldOps.{kept_step}
 use Rattle.hold_tables.proofs.Reaching.{placed_running}
-use Rattle.hold_tables.proofs.Tidy.{each_numbered, is_among, numbers_stay, row_changed, tables}
-use Rattle.hold_tables.proofs.Told.{has_rows, pending_elsewhere, place_small, place_within, step_elsewhere, told_lent}
+use Rattle.hold_tables.specs.Kept.{AreTidy}
+use Rattle.hold_tables.proofs.Tidy.{each_numbered, found_row, is_among, numbers_stay, row_changed, tables}
+use Rattle.hold_tables.proofs.Told.{has_rows, net_done, net_elsewhere, own_running, pending_elsewhere, place_small, place_within, step_elsewhere, told_lent}
 use Rattle.hold_tables.proofs.holds.Holds.done.Goals as goal
 
 pub push_reserved-requires : goal.push_reserved-requires
@@ -35,14 +35,19 @@ invariant_of-self c =
     let place = c.place_of-at.ensures.place ∙ ap (place_of i) c.deref.ensures.value in
     let changed = row_changed (with_running None) i rows c.place_of-at.result c.index_mut.result.now c.run.new.self has place c.index_mut.ensures.value c.run.ensures in
     let settled : net_after i (Some e) net ≡ net ++ e ∷ [] = rw c.requires.step refl in
-    let is : IsPlaced table rows e = subst (IsPlacedIf table rows) under (each_numbered (λ (r : OpenProcess). IsPlacedIf table rows r.running) i rows has (placed_running (tables table net rows) c.self.invariant.0.0)).0 in (
+    let is : IsPlaced table rows e = subst (IsPlacedIf table rows) under (each_numbered (λ (r : OpenProcess). IsPlacedIf table rows r.running) i rows has (placed_running (tables table net rows) c.self.invariant.0.0)).0 in
+    let own : e.process ≡ c.index_mut.result.now.process =
+    own_running i table net rows e c.self.invariant.0.0 has under ∙ ap (λ (r : OpenProcess). r.process) (sym (found_row i rows c.place_of-at.result c.index_mut.result.now has place c.index_mut.ensures.value)) in
+    let after : AreTidy (tables table (net ++ e ∷ []) (slice_set rows c.place_of-at.result c.run.new.self)) = rw (changed, ← settled) (effect_stands i table net rows _ e has under c.self.invariant.0).0 in (
       rw (c.push_reserved.ensures.items, c.push_reserved.ensures.capacity, changed, ← settled) (effect_stands i table net rows _ e has under c.self.invariant.0),
       graph_lent table _ _ _ _ c.tell_step.new.graph.counts c.tell_step.new.graph.walks c.deref-2.ensures.value c.deref-3.ensures.value c.tell_step.ensures.tell,
       subst (λ (es : List Entry). TellBeside es (slice_set rows c.place_of-at.result c.run.new.self) c.tell_place.new.beside) (sym c.push_reserved.ensures.items)
           (told_lent c.self.inside.net.items (net ++ e ∷ []) c.deref-4.result.now c.self.inside.rows.items c.place_of-at.result c.run.new.self c.index.result.now c.self.inside.beside c.tell_place.new.beside
           (place_within c.deref.result.now c.self.inside.rows.items c.place_of-at.result c.deref.ensures.value c.place_of-at.ensures.within) (c.deref-4.ensures.value ∙ c.push_reserved.ensures.items) c.index.ensures c.self.invariant.2 c.tell_place.ensures (λ p other. pending_elsewhere i net (net ++ e ∷ []) rows c.self.invariant.0.0.numbered (step_elsewhere i table net rows e c.self.invariant.0.0 has under) p (λ is. other (is ∙ sym place)))),
-      subst (λ (es : List Entry). KeepOps table (ops_of es) c.mark_op.new.marks) (sym c.push_reserved.ensures.items)
-          (kept_step table net e c.self.inside.in_net c.mark_op.new.marks is.0 c.self.invariant.3 c.mark_op.ensures),
+      subst (λ (es : List Entry). TellRows (net_ops es) (slice_set rows c.place_of-at.result c.run.new.self) c.set_op.new.bits) (sym c.push_reserved.ensures.items)
+          (net_done table net rows c.place_of-at.result c.run.new.self c.index_mut.result.now e c.self.inside.in_net c.set_op.new.bits (place_within c.deref.result.now c.self.inside.rows.items c.place_of-at.result c.deref.ensures.value c.place_of-at.ensures.within)
+          c.index_mut.ensures.value c.run.ensures own c.self.invariant.0.0.tidy after.tidy c.self.invariant.3 c.set_op.ensures.count c.set_op.ensures.own
+          (λ p other. net_elsewhere i net (net ++ e ∷ []) rows c.self.invariant.0.0.numbered (step_elsewhere i table net rows e c.self.invariant.0.0 has under) p (λ is. other (is ∙ sym place)))),
     )
 
 pub tell_step-requires-clause-tidy : goal.tell_step-requires-clause-tidy
@@ -107,3 +112,9 @@ tell_place-requires-clause-rows c = has_rows c.self.inside.net.items c.self.insi
 
 pub tell_place-requires-clause-place : goal.tell_place-requires-clause-place
 tell_place-requires-clause-place c = place_small c.deref.result.now c.self.inside.rows.items c.place_of-at.result c.deref.ensures.value c.place_of-at.ensures.within c.self.invariant.1.1.rows.1
+
+pub set_op-requires-clause-rows : goal.set_op-requires-clause-rows
+set_op-requires-clause-rows c = c.self.invariant.3.count
+
+pub set_op-requires-clause-place : goal.set_op-requires-clause-place
+set_op-requires-clause-place c = place_small c.deref.result.now c.self.inside.rows.items c.place_of-at.result c.deref.ensures.value c.place_of-at.ensures.within c.self.invariant.1.1.rows.1

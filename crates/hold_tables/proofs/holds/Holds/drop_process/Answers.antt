@@ -1,4 +1,4 @@
-use Rattle.std.proofs.Common.{◌<◌, List, false, not, filter, rules, sym, subst, ap, ◌∙◌}
+use Rattle.std.proofs.Common.{false, not, filter, rules, subst, ap, ◌∙◌}
 use Rattle.std.specs.Prelude.{nat_eq}
 use Rattle.std.proofs.lemmas.Fn.{filter_same}
 use Rattle.process_tree.specs.declared.entry.Entry.{Entry}
@@ -11,11 +11,8 @@ use Rattle.hold_tables.specs.Walks.{IsAtEnd}
 use Rattle.hold_tables.proofs.DroppedWalks.{dropped_counts, dropped_tells, rows_left}
 use Rattle.hold_tables.proofs.Opening.{drop_stands}
 use Rattle.hold_tables.proofs.GraphStays.{graph_lent}
-use Rattle.hold_tables.specs.Operations.{IsProcessTaken, TellOps, ops_of}
-use Rattle.process_tree.specs.Conflicts.{operations_in}
-use Rattle.process_tree.specs.Order.{Each}
-use Rattle.hold_tables.proofs.HeldOps.{known_in_net, known_ops, tell_covers}
-use Rattle.hold_tables.proofs.Told.{dropped_told, place_small}
+use Rattle.hold_tables.specs.Operations.{IsColumnTaken, IsProcessTaken}
+use Rattle.hold_tables.proofs.Told.{dropped_told, net_dropped, place_small}
 use Rattle.hold_tables.proofs.holds.Holds.drop_process.Goals as goal
 
 pub close_if-requires-clause-tidy : goal.close_if-requires-clause-tidy
@@ -31,17 +28,13 @@ invariant_of-self c =
     let net = filter_same _ (λ (e : Entry). not (nat_eq e.process i)) _ (λ x b f' k. search rules) c.self.inside.net.items c.retain.new.self.items c.retain.ensures.filtered in
     let rows = filter_same _ (λ (r : OpenProcess). not (nat_eq r.process i)) _ (λ x b f' k. search rules) c.self.inside.rows.items c.retain-2.new.self.items c.retain-2.ensures.filtered in
     let has = is_among i c.self.inside.conflicts c.self.inside.net.items c.self.inside.rows.items c.args.self.now c.self.view_is c.requires.open in
-    let place = c.place_of-at.ensures.place ∙ ap (place_of i) c.deref.ensures.value in
-    let told : TellOps (ops_of c.retain.new.self.items) c.ops_of-self-inside.result = subst (λ (es : List Entry). TellOps (ops_of es) c.ops_of-self-inside.result) c.deref-4.ensures.value c.ops_of-self-inside.ensures in (
+    let place = c.place_of-at.ensures.place ∙ ap (place_of i) c.deref.ensures.value in (
       rw (net, rows, c.retain.ensures.capacity) (drop_stands i c.self.inside.conflicts c.self.inside.net.items c.self.inside.rows.items _ c.self.invariant.0),
       graph_lent c.self.inside.conflicts _ _ _ _ c.close_if.new.graph.counts c.close_if.new.graph.walks c.deref-2.ensures.value c.deref-3.ensures.value c.close_if.ensures.tell,
       rw (net, rows) (dropped_told i c.self.inside.net.items c.self.inside.rows.items c.self.inside.beside c.tell_dropped.new.beside c.self.invariant.0.0.numbered has c.self.invariant.2
           (subst (λ p. IsProcessTaken p c.self.inside.beside c.tell_dropped.new.beside) place c.tell_dropped.ensures)),
-      record {
-        covers = tell_covers (ops_of c.retain.new.self.items) c.ops_of-self-inside.result told;
-        known = known_ops c.self.inside.conflicts (ops_of c.retain.new.self.items) c.ops_of-self-inside.result (subst (λ (es : List Entry). Each (λ op. op < operations_in c.self.inside.conflicts) (ops_of es)) (sym net)
-            (known_in_net (tables c.self.inside.conflicts (filter (λ (e : Entry). not (nat_eq e.process i)) c.self.inside.net.items) (filter (λ (r : OpenProcess). not (nat_eq r.process i)) c.self.inside.rows.items)) (drop_stands i c.self.inside.conflicts c.self.inside.net.items c.self.inside.rows.items _ c.self.invariant.0).0)) told;
-      },
+      rw (net, rows) (net_dropped i c.self.inside.net.items c.self.inside.rows.items c.self.inside.in_net c.take_place-3.new.bits c.self.invariant.0.0.numbered has c.self.invariant.3
+          (subst (λ p. IsColumnTaken p c.self.inside.in_net c.take_place-3.new.bits) place c.take_place-3.ensures)),
     )
 
 pub close_if-requires-clause-same : goal.close_if-requires-clause-same
@@ -90,3 +83,6 @@ returns c =
 
 pub tell_dropped-requires : goal.tell_dropped-requires
 tell_dropped-requires c = place_small c.deref.result.now c.self.inside.rows.items c.place_of-at.result c.deref.ensures.value c.place_of-at.ensures.within c.self.invariant.1.1.rows.1
+
+pub take_place-requires-3 : goal.take_place-requires-3
+take_place-requires-3 c = place_small c.deref.result.now c.self.inside.rows.items c.place_of-at.result c.deref.ensures.value c.place_of-at.ensures.within c.self.invariant.1.1.rows.1

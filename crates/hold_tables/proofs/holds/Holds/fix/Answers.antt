@@ -7,7 +7,8 @@ use Rattle.hold_tables.specs.Places.{place_of}
 use Rattle.hold_tables.proofs.Tidy.{each_numbered, found_row, is_among, returned, stood}
 use Rattle.hold_tables.proofs.GraphStays.{graph_stood}
 use Rattle.hold_tables.proofs.Effects.{few_own, tidy_fixed}
-use Rattle.hold_tables.proofs.Told.{has_rows, place_small, place_within, told_lent}
+use Rattle.hold_tables.specs.Operations.{net_ops}
+use Rattle.hold_tables.proofs.Told.{has_rows, place_small, place_within, rows_kept, told_lent}
 use Rattle.hold_tables.proofs.holds.Holds.fix.Goals as goal
 
 pub invariant_of-self : goal.invariant_of-self
@@ -33,7 +34,8 @@ invariant_of-self c =
           (λ r. (refl, refl)) c.self.invariant.1,
       told_lent c.self.inside.net.items c.self.inside.net.items c.deref-3.result.now c.self.inside.rows.items c.place_of-at.result c.fix.new.self c.index-2.result.now c.self.inside.beside c.tell_place.new.beside
           (place_within c.deref.result.now c.self.inside.rows.items c.place_of-at.result c.deref.ensures.value c.place_of-at.ensures.within) c.deref-3.ensures.value c.index-2.ensures c.self.invariant.2 c.tell_place.ensures (λ p other. refl),
-      c.self.invariant.3,
+      rows_kept (net_ops c.self.inside.net.items) c.self.inside.rows.items c.place_of-at.result c.fix.new.self c.index_mut.result.now c.self.inside.in_net
+          (place_within c.deref.result.now c.self.inside.rows.items c.place_of-at.result c.deref.ensures.value c.place_of-at.ensures.within) c.index_mut.ensures.value (ap (net_ops c.self.inside.net.items) c.fix.ensures) c.self.invariant.3,
     )
 
 pub returns : goal.returns

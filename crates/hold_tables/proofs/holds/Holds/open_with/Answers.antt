@@ -1,4 +1,4 @@
-use Rattle.std.proofs.Common.{◌≡◌, ◌≤◌, ◌+◌, ◌++◌, ◌∷◌, [], length, false, vec_capacity, sym, ap, ◌∙◌, subst, arith, List}
+use Rattle.std.proofs.Common.{◌≡◌, ◌≤◌, ◌+◌, ◌++◌, ◌∷◌, [], length, false, vec_capacity, sym, ap, ◌∙◌, subst, arith}
 use Rattle.hold_tables.specs.Tables.{Tables, holds_nothing, has_number, is_open}
 use Rattle.hold_tables.specs.Places.{all_steps}
 use Rattle.std.specs.Prelude.{if◌then◌else◌, nat_eq}
@@ -8,9 +8,7 @@ use Rattle.bit_rows.specs.Cells.{cell}
 use Rattle.hold_tables.specs.Spare.{IsRoomIn, SpareRoom}
 use Rattle.hold_tables.proofs.OpenedWalks.{opened_counts, opened_tells}
 use Rattle.hold_tables.proofs.Opening.{open_stands}
-use Rattle.process_tree.specs.declared.entry.Entry.{Entry}
-use Rattle.hold_tables.specs.Operations.{KeepOps, ops_of}
-use Rattle.hold_tables.proofs.Told.{opened_told}
+use Rattle.hold_tables.proofs.Told.{net_opened, opened_told}
 use Rattle.hold_tables.proofs.holds.Holds.open_with.Goals as goal
 
 pub invariant_of-self : goal.invariant_of-self
@@ -38,5 +36,5 @@ invariant_of-self c =
         opened_tells i steps c.self.inside.conflicts net rows c.self.invariant.0.0 fits.few walks c.add_place-2.new.self walks_cleared walks_count stands.0 c.self.invariant.1.1,
       ),
       rw (c.give_to.ensures.items, more) (opened_told net rows i steps c.self.inside.beside c.self.invariant.2),
-      subst (λ (es : List Entry). KeepOps c.self.inside.conflicts (ops_of es) c.self.inside.in_net) (sym c.give_to.ensures.items) c.self.invariant.3,
+      rw (c.give_to.ensures.items, more) (net_opened i steps c.self.inside.conflicts net rows c.self.inside.in_net closed c.self.invariant.0.0 c.self.invariant.3),
     )

@@ -11,7 +11,8 @@ use Rattle.hold_tables.specs.Places.{place_of}
 use Rattle.process_tree.specs.declared.entry.Entry.{Entry}
 use Rattle.hold_tables.proofs.GraphStays.{TellBoth, TellBothBut, arrow_of_step, graph_lent, run_both, run_same}
 use Rattle.hold_tables.proofs.Tidy.{is_among, numbers_stay, returned, row_changed, stood, tables}
-use Rattle.hold_tables.proofs.Told.{has_rows, place_small, place_within, told_lent}
+use Rattle.hold_tables.specs.Operations.{net_ops}
+use Rattle.hold_tables.proofs.Told.{has_rows, net_kept_of, place_small, place_within, rows_kept, told_lent}
 use Rattle.hold_tables.proofs.holds.Holds.run.Goals as goal
 
 pub invariant_of-self : goal.invariant_of-self
@@ -21,7 +22,8 @@ invariant_of-self c = (
   graph_lent c.self.inside.conflicts _ _ _ _ c.tell_run.new.graph.counts c.tell_run.new.graph.walks c.deref-3.ensures.value c.deref-4.ensures.value c.tell_run.ensures.tell,
   told_lent c.self.inside.net.items c.self.inside.net.items c.deref-5.result.now c.self.inside.rows.items c.place_of-at.result c.run.new.self c.index.result.now c.self.inside.beside c.tell_place.new.beside
       (place_within c.deref.result.now c.self.inside.rows.items c.place_of-at.result c.deref.ensures.value c.place_of-at.ensures.within) c.deref-5.ensures.value c.index.ensures c.self.invariant.2 c.tell_place.ensures (λ p other. refl),
-  c.self.invariant.3,
+  rows_kept (net_ops c.self.inside.net.items) c.self.inside.rows.items c.place_of-at.result c.run.new.self c.index_mut.result.now c.self.inside.in_net
+      (place_within c.deref.result.now c.self.inside.rows.items c.place_of-at.result c.deref.ensures.value c.place_of-at.ensures.within) c.index_mut.ensures.value (ap (net_ops c.self.inside.net.items) c.run.ensures) c.self.invariant.3,
 )
 
 pub tell_run-requires-clause-tidy : goal.tell_run-requires-clause-tidy
@@ -91,3 +93,6 @@ tell_place-requires-clause-rows c = has_rows c.self.inside.net.items c.self.insi
 
 pub tell_place-requires-clause-place : goal.tell_place-requires-clause-place
 tell_place-requires-clause-place c = place_small c.deref.result.now c.self.inside.rows.items c.place_of-at.result c.deref.ensures.value c.place_of-at.ensures.within c.self.invariant.1.1.rows.1
+
+pub step_has_arrows-changed-requires-clause-marks : goal.step_has_arrows-changed-requires-clause-marks
+step_has_arrows-changed-requires-clause-marks c = net_kept_of c.self.inside.conflicts c.self.inside.net.items c.deref-2.result.now c.self.inside.rows.items c.self.inside.in_net c.self.invariant.0.0 c.self.invariant.3 c.deref-2.ensures.value

@@ -10,7 +10,8 @@ use Rattle.hold_tables.specs.Changes.{with_running}
 use Rattle.hold_tables.specs.Places.{place_of}
 use Rattle.hold_tables.proofs.GraphStays.{graph_lent, stop_among, stop_counts, stop_walks, uncounted_lent}
 use Rattle.hold_tables.proofs.Tidy.{found_row, is_among, returned, row_changed, stood, tables}
-use Rattle.hold_tables.proofs.Told.{has_rows, place_small, place_within, told_lent}
+use Rattle.hold_tables.specs.Operations.{net_ops}
+use Rattle.hold_tables.proofs.Told.{has_rows, place_small, place_within, rows_kept, told_lent}
 use Rattle.hold_tables.proofs.holds.Holds.stop.Goals as goal
 
 pub invariant_of-self : goal.invariant_of-self
@@ -20,7 +21,8 @@ invariant_of-self c = (
   graph_lent c.self.inside.conflicts _ _ _ _ c.close_if.new.graph.counts c.close_if.new.graph.walks c.deref-4.ensures.value c.deref-5.ensures.value c.close_if.ensures.tell,
   told_lent c.self.inside.net.items c.self.inside.net.items c.deref-6.result.now c.self.inside.rows.items c.place_of-at.result c.run.new.self c.index-2.result.now c.self.inside.beside c.tell_place.new.beside
       (place_within c.deref.result.now c.self.inside.rows.items c.place_of-at.result c.deref.ensures.value c.place_of-at.ensures.within) c.deref-6.ensures.value c.index-2.ensures c.self.invariant.2 c.tell_place.ensures (λ p other. refl),
-  c.self.invariant.3,
+  rows_kept (net_ops c.self.inside.net.items) c.self.inside.rows.items c.place_of-at.result c.run.new.self c.index_mut.result.now c.self.inside.in_net
+      (place_within c.deref.result.now c.self.inside.rows.items c.place_of-at.result c.deref.ensures.value c.place_of-at.ensures.within) c.index_mut.ensures.value (ap (net_ops c.self.inside.net.items) c.run.ensures) c.self.invariant.3,
 )
 
 pub close_if-requires-clause-tidy : goal.close_if-requires-clause-tidy

@@ -5,15 +5,15 @@ use Rattle.process_tree.specs.declared.entry.Entry.{Entry}
 use Rattle.process_tree.specs.Conflicts.{do_conflict}
 use Rattle.hold_tables.specs.Changes.{net_after, undoes, with_running, without_last}
 use Rattle.hold_tables.specs.Counts.{IsUncounted, pairs_of_last}
-use Rattle.hold_tables.specs.Operations.{KeepOps, TellBeside, ops_of}
+use Rattle.hold_tables.specs.Operations.{TellBeside, TellRows, net_ops}
 use Rattle.hold_tables.specs.Places.{place_of}
 use Rattle.hold_tables.specs.Tables.{OpenProcess, Tables, kept_of, numbered}
 use Rattle.hold_tables.specs.Walks.{steps_under_way}
 use Rattle.hold_tables.proofs.Effects.{effect_returned, effect_stands}
 use Rattle.hold_tables.proofs.GraphStays.{graph_lent, uncounted_lent, undo_of, undone_counts, undone_walks}
-use Rattle.hold_tables.proofs.HeldOps.{kept_undo}
-use Rattle.hold_tables.proofs.Tidy.{is_among, row_changed}
-use Rattle.hold_tables.proofs.Told.{has_rows, pending_elsewhere, place_small, place_within, told_lent}
+use Rattle.hold_tables.specs.Kept.{AreTidy, IsTidy}
+use Rattle.hold_tables.proofs.Tidy.{each_numbered, found_row, is_among, row_changed, tables}
+use Rattle.hold_tables.proofs.Told.{has_rows, net_elsewhere, net_kept_of, net_undone, pending_elsewhere, place_small, place_within, told_lent}
 use Rattle.hold_tables.proofs.holds.Holds.undone.Goals as goal
 
 pub invariant_of-self : goal.invariant_of-self
@@ -29,13 +29,20 @@ invariant_of-self c =
     let same = row_changed (with_running None) i rows c.place_of-at.result c.index_mut.result.now c.run.new.self has place c.index_mut.ensures.value c.run.ensures in
     let undo = undo_of (numbered i rows).running (ap (λ (t : Tables). undoes (kept_of t i).running) c.self.view_is ∙ c.requires.undo) in
     let e = undo.0 in
-    let settled : net_after i (Some e) net ≡ without_last i net = rw undo.2 refl in (
+    let settled : net_after i (Some e) net ≡ without_last i net = rw undo.2 refl in
+    let own : c.run.new.self.process ≡ i =
+    ap (λ (r : OpenProcess). r.process) c.run.ensures ∙ ap (λ (r : OpenProcess). r.process) (found_row i rows c.place_of-at.result c.index_mut.result.now has place c.index_mut.ensures.value)
+    ∙ (each_numbered (IsTidy table net) i rows has c.self.invariant.0.0.tidy).1 in
+    let after : AreTidy (tables table (without_last i net) (slice_set rows c.place_of-at.result c.run.new.self)) = rw (same, ← settled) (effect_stands i table net rows _ e has undo.1 c.self.invariant.0).0 in (
       rw (c.remove_last.ensures.net, c.remove_last.ensures.capacity, same, ← settled) (effect_stands i table net rows _ e has undo.1 c.self.invariant.0),
       graph_lent table _ _ _ _ c.close_if.new.graph.counts c.close_if.new.graph.walks c.deref-4.ensures.value c.deref-5.ensures.value c.close_if.ensures.tell,
       subst (λ (es : List Entry). TellBeside es (slice_set rows c.place_of-at.result c.run.new.self) c.tell_place.new.beside) (sym c.remove_last.ensures.net)
           (told_lent c.self.inside.net.items (without_last i net) c.deref-6.result.now c.self.inside.rows.items c.place_of-at.result c.run.new.self c.index.result.now c.self.inside.beside c.tell_place.new.beside
           (place_within c.deref.result.now c.self.inside.rows.items c.place_of-at.result c.deref.ensures.value c.place_of-at.ensures.within) (c.deref-6.ensures.value ∙ c.remove_last.ensures.net) c.index.ensures c.self.invariant.2 c.tell_place.ensures (λ p other. pending_elsewhere i net (without_last i net) rows c.self.invariant.0.0.numbered (λ k other. other_without i k net other) p (λ is. other (is ∙ sym place)))),
-      subst (λ (es : List Entry). KeepOps table (ops_of es) c.self.inside.in_net) (sym c.remove_last.ensures.net) (kept_undo table i net c.self.inside.in_net c.self.invariant.3),
+      subst (λ (es : List Entry). TellRows (net_ops es) (slice_set rows c.place_of-at.result c.run.new.self) c.tell_net.new.bits) (sym c.remove_last.ensures.net)
+          (net_undone table net (without_last i net) c.deref-7.result.now rows c.place_of-at.result c.run.new.self i c.self.inside.in_net c.tell_net.new.bits (place_within c.deref.result.now c.self.inside.rows.items c.place_of-at.result c.deref.ensures.value c.place_of-at.ensures.within)
+          (c.deref-7.ensures.value ∙ c.remove_last.ensures.net) own after.tidy c.self.invariant.3 c.tell_net.ensures
+          (λ p other. net_elsewhere i net (without_last i net) rows c.self.invariant.0.0.numbered (λ k other. other_without i k net other) p (λ is. other (is ∙ sym place)))),
     )
 
 pub close_if-requires-clause-tidy : goal.close_if-requires-clause-tidy
@@ -122,3 +129,12 @@ tell_place-requires-clause-rows c = has_rows c.self.inside.net.items c.self.insi
 
 pub tell_place-requires-clause-place : goal.tell_place-requires-clause-place
 tell_place-requires-clause-place c = place_small c.deref.result.now c.self.inside.rows.items c.place_of-at.result c.deref.ensures.value c.place_of-at.ensures.within c.self.invariant.1.1.rows.1
+
+pub tell_net-requires-clause-rows : goal.tell_net-requires-clause-rows
+tell_net-requires-clause-rows c = c.self.invariant.3.count
+
+pub tell_net-requires-clause-place : goal.tell_net-requires-clause-place
+tell_net-requires-clause-place c = place_small c.deref.result.now c.self.inside.rows.items c.place_of-at.result c.deref.ensures.value c.place_of-at.ensures.within c.self.invariant.1.1.rows.1
+
+pub uncount_last-gone-requires-clause-marks : goal.uncount_last-gone-requires-clause-marks
+uncount_last-gone-requires-clause-marks c = net_kept_of c.self.inside.conflicts c.self.inside.net.items c.deref-3.result.now c.self.inside.rows.items c.self.inside.in_net c.self.invariant.0.0 c.self.invariant.3 c.deref-3.ensures.value
