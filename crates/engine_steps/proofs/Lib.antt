@@ -17,3 +17,4 @@ pub mod ExactFiles
 pub mod GroupSteps
 pub mod KeptEffects
 pub mod MadeRoom
+pub mod EmptyGroups

@@ -1,5 +1,5 @@
 // Several events take effect together: prepared, recorded, committed, and kept.
-ghost use Rattle.std.specs.Prelude.{◌≡◌, ◌≢◌, ◌≤◌, ◌<◌, ◌+◌, ◌*◌, ◌^◌, ◌++◌, [], List, Option, length, map, IsErr, OnOk};
+ghost use Rattle.std.specs.Prelude.{◌≡◌, ◌≢◌, ◌≤◌, ◌<◌, ◌+◌, ◌*◌, ◌^◌, ◌++◌, [], false, List, Option, length, map, IsErr, OnOk};
 ghost use Rattle.process_tree.specs.Order.{Each};
 ghost use Rattle.process_tree.specs.declared.play.Outcome.TheVariants.{Done};
 ghost use Rattle.process_disk.specs.Disk.{Told};
@@ -25,7 +25,7 @@ ghost use Rattle.history_files.specs.Sound.{IsSound, IsSoundForEither};
 ghost use Rattle.history_files.specs.Standing.{EachFits};
 ghost use Rattle.engine_steps.specs.Engines.{AreAtRest, full_history, with_core};
 ghost use Rattle.engine_steps.specs.Groups.{AreGroupEvents, IsGroupCommitted, IsGroupPrepared, IsGroupRecorded, IsNoStart};
-ghost use Rattle.engine_steps.specs.Groups.{LeavesCore, MayBeRecorded, settled_as};
+ghost use Rattle.engine_steps.specs.Groups.{HasNoDoubt, LeavesCore, MayBeRecorded, has_effect, settled_as};
 ghost use Rattle.engine_steps.specs.Groups.{bodies_of, record_for, staging_all, with_events};
 ghost use Rattle.engine_steps.specs.declared.engines.Phase.TheVariants as phase;
 
@@ -39,6 +39,29 @@ use process_journal::{Record, journals_keep_histories};
 use resource_box::Resource;
 use schedule_model::Event;
 use subsystem_store::Effect;
+
+// Whether there is an effect at some place.
+fn has_effect(group: &[Option<Effect>]) -> bool
+    ensures { result ≡ has_effect group.now }
+{
+    group.iter().any(Option::is_some)
+}
+
+// Whether an effect is in doubt in the store of some subsystem.
+fn is_in_doubt<R: Rack + Drop, B: Resource>(files: &Files<R, B>) -> bool
+    ensures settled { result ≡ false → HasNoDoubt files.now.stores }
+    ensures some { HasNoDoubt files.now.stores → result ≡ false }
+{
+    files.are_stores();
+    let mut q = 0;
+    while q < 8 {
+        if files.in_doubt(q).is_some() {
+            return true;
+        }
+        q += 1;
+    }
+    false
+}
 
 /// The number of a process fits its bytes.
 fn fits_its_bytes(process: u32, step: u16)
@@ -77,7 +100,7 @@ fn stage_each<R: Rack + Drop, B: Resource>(files: &mut Files<R, B>, events: &[Ev
 
 impl<R: Rack + Drop, B: Resource> Engine<R, B> {
     /// Prepares effects, each in the store of its subsystem, with two syncs for all. A crash leaves files that are sound for the
-    /// history without them.
+    /// history without them. With no effect it makes no call of the rack.
     pub fn prepare_group(&mut self, group: &[Option<Effect>]) -> Result<(), DiskFault>
         requires fits { EachFits B.meaning B.sort self.old.files.stores }
         requires settled { self.old.phase ≡ phase.Settled }
@@ -89,9 +112,15 @@ impl<R: Rack + Drop, B: Resource> Engine<R, B> {
         ensures any_moment { Told (R.disk self.old.files.rack)
             → EachImage (R.disk self.new.files.rack) (R.disk self.old.files.rack).moment
             (IsSound self.old.catalog (full_history self.old.core)) }
+        ensures none { has_effect group.now ≡ false → self.new.files ≡ self.old.files }
         ensures fits { EachFits B.meaning B.sort self.new.files.stores }
         ensures rack { LeavesImages R.disk R.faults self.old.files.rack self.new.files.rack (IsErr result) }
     {
+        self.files.are_sound();
+        if !has_effect(group) {
+            self.phase = Phase::UnderWay;
+            return Ok(());
+        }
         match self.files.prepare_staged(group) {
             Ok(()) => {
                 self.phase = Phase::UnderWay;
@@ -134,7 +163,7 @@ impl<R: Rack + Drop, B: Resource> Engine<R, B> {
     }
 
     /// Commits the effects of a recorded group, with two syncs for all. A crash leaves files that are sound for the history with
-    /// its events.
+    /// its events. With no effect it makes no call of the rack.
     pub fn commit_group(&mut self) -> Result<(), DiskFault>
         requires fits { EachFits B.meaning B.sort self.old.files.stores }
         requires recorded { (group : List (Option Effect)) × (h : History)
@@ -146,10 +175,15 @@ impl<R: Rack + Drop, B: Resource> Engine<R, B> {
         ensures any_moment { Told (R.disk self.old.files.rack) → (group : List (Option Effect)) (h : History)
             → IsGroupRecorded self.old (R.disk self.old.files.rack) group h
             → EachImage (R.disk self.new.files.rack) (R.disk self.old.files.rack).moment (IsSound self.old.catalog h) }
+        ensures none { HasNoDoubt self.old.files.stores → self.new ≡ self.old }
         ensures fits { EachFits B.meaning B.sort self.new.files.stores }
         ensures rack { LeavesImages R.disk R.faults self.old.files.rack self.new.files.rack (IsErr result) }
     {
         books_come_to_groups::<B>();
+        self.files.are_sound();
+        if !is_in_doubt(&self.files) {
+            return Ok(());
+        }
         match self.files.commit_staged() {
             Ok(()) => Ok(()),
             Err(fault) => {
