@@ -1,5 +1,6 @@
 // Bits in rows and columns.
-ghost use Rattle.std.specs.Prelude.{◌≡◌, ◌<◌, ◌≤◌, ◌+◌, ◌||◌, [], ℕ, false, true, length, nat_eq, slice_index_or, IfOk, if◌then◌else◌};
+ghost use Rattle.std.specs.Prelude.{◌≡◌, ◌<◌, ◌≤◌, ◌+◌, ◌||◌, [], ℕ, false, true, length, nat_eq, slice_index_or, IfOk};
+ghost use Rattle.std.specs.Prelude.{if◌then◌else◌};
 ghost use Rattle.bit_rows.specs.Cells.{IsCleared, IsJoined, IsOneRow, IsPassed, IsPlaceTaken, IsTakenOut, cell};
 
 use crate::row::BitRow;

@@ -121,7 +121,8 @@ is_held_below table b op p (suc n) = (is_held_at b n p && is_row_against table o
 abbrev pub AreKnownRows : Table → Beside → Type 0
 AreKnownRows table b = (k p : ℕ) → k < 256 → is_held_at b k p ≡ true → k < operations_in table
 
--- each of these operations has something in its row, there is a row for each operation, and each row with something is of one of the table
+-- there is a row for each operation, each of these has something in its row, and each row with something is of an operation of
+-- the table
 pub record KeepOps (table : Table) (ops : List ℕ) (bits : List (List Bool)) : Type 0 where
   pub count : length bits ≡ 257
   pub covers : (k : ℕ) → has_row k ops ≡ true → (p : ℕ) × (cell bits k p ≡ true)
