@@ -124,13 +124,13 @@ fn set_own(bits: &mut Bits, place: usize, process: u32, net: &[Entry])
 }
 
 /// Sets the operations of all entries of a process at its place, and nothing else there.
-pub fn tell_net(bits: &mut Bits, place: usize, process: u32, net: &[Entry])
+pub fn tell_net(bits: &mut Bits, at: usize, process: u32, net: &[Entry])
     requires rows { length bits.old ≡ 257 }
-    requires place { place < 256 }
-    ensures { IsToldAt place (ops_of (of_process process net.now)) bits.old bits.new }
+    requires place { at < 256 }
+    ensures { IsToldAt at (ops_of (of_process process net.now)) bits.old bits.new }
 {
-    bits.clear_column(place);
-    set_own(bits, place, process, net);
+    bits.clear_column(at);
+    set_own(bits, at, process, net);
 }
 
 /// Takes a place out; those behind it move up.
