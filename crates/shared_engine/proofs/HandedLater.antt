@@ -1,5 +1,5 @@
 -- What a core handed out in one turn it has handed out in each later one.
-use Rattle.std.proofs.Common.{◌≡◌, ◌∙◌, ℕ, Bool, true, false, eqb, List, [], ◌∷◌, ◌++◌, Some, if◌then◌else◌, refl, ap, sym, subst, append-nil, append_assoc}
+use Rattle.std.proofs.Common.{◌≡◌, ◌∙◌, ℕ, Bool, true, false, eqb, List, [], ◌∷◌, ◌++◌, filter, Some, if◌then◌else◌, refl, ap, sym, subst, append-nil, append_assoc}
 use Rattle.process_tree.specs.declared.plan.Plan.{Plan}
 use Rattle.process_tree.specs.declared.play.Outcome.TheVariants as outcome
 use Rattle.schedule_model.specs.Course.{courses_of}
@@ -9,20 +9,22 @@ use Rattle.machine_model.specs.declared.kept.Work.{Work}
 use Rattle.machine_model.specs.Calls.{Call, finish, next}
 use Rattle.machine_model.specs.Groups.{Subsystems}
 use Rattle.machine_model.specs.Moment.{Piece}
-use Rattle.machine_model.specs.Pieces.{piece_of, refusals}
+use Rattle.machine_model.specs.Pieces.{piece_of, refusals, runs}
 use Rattle.machine_model.specs.Replies.{Handed, refuse_by}
 use Rattle.process_core.specs.Answers.{after_call, answer_in}
 use Rattle.machine_model.proofs.TidyMoments.{piece_of-more}
-use Rattle.process_core.specs.Cores.{CoreState, courses_in}
+use Rattle.process_core.specs.Cores.{CoreState, courses_in, moment_of}
 use Rattle.engine_calls.specs.GateAnswers.{IsHandedAs, kept_before}
 use Rattle.engine_calls.proofs.HandedPieces.{stays_handed}
 use Rattle.shared_engine.specs.declared.entries.NextSaid.{NextSaid}
 use Rattle.shared_engine.specs.declared.entries.NextSaid.TheVariants as asked
-use Rattle.shared_engine.specs.declared.entries.FinishSaid.{FinishSaid}
-use Rattle.shared_engine.specs.declared.entries.FinishSaid.TheVariants as ended
+use Rattle.shared_engine.specs.declared.entries.QueueSaid.{QueueSaid}
+use Rattle.shared_engine.specs.declared.entries.QueueSaid.TheVariants as put
+use Rattle.shared_engine.specs.declared.entries.FlushSaid.{FlushSaid}
+use Rattle.shared_engine.specs.declared.entries.FlushSaid.TheVariants as flushed
 use Rattle.shared_engine.specs.declared.entries.TurnEntry.{TurnEntry}
-use Rattle.shared_engine.specs.declared.entries.TurnEntry.TheVariants.{Next, Finish}
-use Rattle.shared_engine.specs.Progress.{AreTold, Progress, after, after_all, after_finish, after_next}
+use Rattle.shared_engine.specs.declared.entries.TurnEntry.TheVariants.{Next, Queue, Flush}
+use Rattle.shared_engine.specs.Progress.{AreTold, Progress, after, after_all, after_effects, after_flush, after_next, after_queue}
 use Rattle.shared_engine.specs.Tallies.{IsOfHanded, gate_asked, is_worked_on}
 
 -- a core keeps more, and none started
@@ -51,20 +53,32 @@ grows_next c asked.AllEnded = grows_call c next
 grows_next c (asked.Stuck i) = grows_call c next
 grows_next c (asked.Closed k) = grows_none c
 
-grows_finish : (p : Progress) (n : ℕ) (said : FinishSaid) → Grows p.core (after_finish p n said).core
-grows_finish p n (ended.Effected k) = grows_call p.core (finish n outcome.Done)
-grows_finish p n (ended.Retry k) = grows_call p.core (finish n outcome.Refused)
-grows_finish p n ended.Failed = grows_call p.core (finish n outcome.Refused)
-grows_finish p n ended.Exhausted = grows_call p.core (finish n outcome.Refused)
-grows_finish p n ended.Over = grows_none p.core
-grows_finish p n (ended.Dropped k) = grows_none p.core
-grows_finish p n ended.DiskFault = grows_none p.core
-grows_finish p n (ended.NoMemory k) = grows_none p.core
-grows_finish p n (ended.Closed k) = grows_none p.core
+grows_queue : (c : CoreState) (n : ℕ) (said : QueueSaid) → Grows c (after_queue c n said)
+grows_queue c n put.Queued = grows_none c
+grows_queue c n (put.Full k) = grows_none c
+grows_queue c n (put.Retry k) = grows_call c (finish n outcome.Refused)
+grows_queue c n put.Failed = grows_call c (finish n outcome.Refused)
+grows_queue c n put.Exhausted = grows_call c (finish n outcome.Refused)
+grows_queue c n put.Over = grows_none c
+grows_queue c n (put.Dropped k) = grows_none c
+grows_queue c n (put.NoMemory k) = grows_none c
+grows_queue c n (put.Closed k) = grows_none c
+
+grows_effects : (c : CoreState) (ns : List ℕ) → Grows c (after_effects c ns)
+grows_effects c [] = grows_none c
+grows_effects c (n ∷ ns) =
+    let next : CoreState = after_call c (finish n outcome.Done) in
+    grows_then c next (after_effects next ns) (grows_call c (finish n outcome.Done)) (grows_effects next ns)
+
+grows_flush : (p : Progress) (said : FlushSaid) → Grows p.core (after_flush p said).core
+grows_flush p (flushed.Flushed n) = grows_effects p.core (filter (runs (moment_of p.core)) p.group)
+grows_flush p flushed.DiskFault = grows_none p.core
+grows_flush p (flushed.Closed k) = grows_none p.core
 
 grows_entry : (p : Progress) (e : TurnEntry) → Grows p.core (after p e).core
 grows_entry p (Next said) = grows_next p.core said
-grows_entry p (Finish n answer reply) = grows_finish p n reply
+grows_entry p (Queue n answer reply) = grows_queue p.core n reply
+grows_entry p (Flush said) = grows_flush p said
 
 -- entry after entry
 pub grows_all : (p : Progress) (es : List TurnEntry) → Grows p.core (after_all p es).core
@@ -121,7 +135,8 @@ requested_grows c d grows (Next (asked.Wait w)) is = tt
 requested_grows c d grows (Next asked.AllEnded) is = tt
 requested_grows c d grows (Next (asked.Stuck i)) is = tt
 requested_grows c d grows (Next (asked.Closed k)) is = tt
-requested_grows c d grows (Finish n a reply) is = tt
+requested_grows c d grows (Queue n a reply) is = tt
+requested_grows c d grows (Flush said) is = tt
 
 -- and is the same piece
 pub asked_grows : (c d : CoreState) → Grows c d → (e : TurnEntry) → IsOfHanded c e → gate_asked d e ≡ gate_asked c e
@@ -130,7 +145,8 @@ asked_grows c d grows (Next (asked.Wait w)) is = refl
 asked_grows c d grows (Next asked.AllEnded) is = refl
 asked_grows c d grows (Next (asked.Stuck i)) is = refl
 asked_grows c d grows (Next (asked.Closed k)) is = refl
-asked_grows c d grows (Finish n a reply) is = refl
+asked_grows c d grows (Queue n a reply) is = refl
+asked_grows c d grows (Flush said) is = refl
 
 -- A piece that was handed out with what is told of it is so later.
 pub handed_later : (p : Progress) (es more : List TurnEntry) (h : Handed) → IsHandedAs (after_all p es).core h → IsHandedAs (after_all p (es ++ more)).core h

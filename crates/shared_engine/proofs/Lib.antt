@@ -1,6 +1,9 @@
-pub mod EndedTurns
+pub mod Effects
+pub mod FlushTurns
 pub mod HandedLater
 pub mod Leading
 pub mod MadeTurns
 pub mod NextTurns
+pub mod QueueTurns
 pub mod Tallies
+pub mod ToldTurns

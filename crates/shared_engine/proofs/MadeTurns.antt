@@ -8,7 +8,7 @@ use Rattle.engine_steps.specs.Engines.{EngineState}
 use Rattle.history_lock.specs.declared.view.View.{View}
 use Rattle.shared_engine.specs.declared.entries.TurnEntry.{TurnEntry}
 use Rattle.shared_engine.specs.declared.shared.SharedEngine.{SharedEngine}
-use Rattle.shared_engine.specs.Progress.{Progress, progress}
+use Rattle.shared_engine.specs.Progress.{Progress, opened, progress}
 use Rattle.shared_engine.specs.Seats.{HasAdded, core_at}
 use Rattle.shared_engine.specs.Shared.{AreOf, IsOpening, StandsFor}
 use Rattle.shared_engine.proofs.HandedLater.{led_to}
@@ -19,13 +19,13 @@ if_map (Some x) P Q so some = so x some
 
 module _ {R B : Type 0} (disk : R → Disk) (faults : R → ℕ) (meaning : B → Pairs) (sort : B → Kind) where
   -- what the state of a turn stands for, where the opening is known
-  pub turn_stands : (m : Maybe (SharedEngine R B)) (o x : SharedEngine R B) (es : List TurnEntry) → IfSome m (λ z. StandsFor disk faults meaning sort z.engine es x.engine) → m ≡ Some o
-      → IsOpening disk meaning sort o.engine → AreOf disk faults meaning sort o.engine es x.engine
-  turn_stands m o x es stands known sound = subst (λ (k : Maybe (SharedEngine R B)). IfSome k (λ z. StandsFor disk faults meaning sort z.engine es x.engine)) known stands sound
+  pub turn_stands : (m : Maybe (SharedEngine R B)) (o x : SharedEngine R B) (es : List TurnEntry) → IfSome m (λ z. StandsFor disk faults meaning sort z es x) → m ≡ Some o
+      → IsOpening disk meaning sort o → AreOf disk faults meaning sort o.engine es x
+  turn_stands m o x es stands known sound = subst (λ (k : Maybe (SharedEngine R B)). IfSome k (λ z. StandsFor disk faults meaning sort z es x)) known stands sound
 
   -- its core is what the entries make
-  pub core_is : (o x : EngineState R B) (es : List TurnEntry) → AreOf disk faults meaning sort o es x → x.core ≡ core_at o es
-  core_is o x es are = ap (λ (p : Progress). p.core) (led_to (subsystem_of o.catalog.ops) (progress o) es (progress x) are.told)
+  pub core_is : (o : EngineState R B) (x : SharedEngine R B) (es : List TurnEntry) → AreOf disk faults meaning sort o es x → x.engine.core ≡ core_at o es
+  core_is o x es are = ap (λ (p : Progress). p.core) (led_to (subsystem_of o.catalog.ops) (opened o) es (progress x) are.told)
 
 module _ {R B : Type 0} where
   pub added_by : (e : TurnEntry) (v t w : View (SharedEngine R B) TurnEntry) (more : List TurnEntry) → t.opening ≡ v.opening → t.places ≡ v.places → t.share ≡ v.share → t.seen ≡ v.seen ++ more

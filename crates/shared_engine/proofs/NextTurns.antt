@@ -1,9 +1,9 @@
 -- A request for any piece is a turn of the machine.
-use Rattle.std.proofs.Common.{◌≡◌, ◌∙◌, ℕ, List, [], ◌∷◌, ◌++◌, length, refl, ap, sym, subst}
+use Rattle.std.proofs.Common.{◌≡◌, ◌∙◌, ℕ, Bool, true, List, [], ◌∷◌, ◌++◌, length, refl, ap, sym, subst}
 use Rattle.machine_model.specs.Calls.{Reply, next, next_is}
 use Rattle.machine_model.specs.Groups.{Subsystems}
 use Rattle.machine_model.specs.Replies.{Next as NextReply}
-use Rattle.machine_model.specs.Turns.{nexts, says, is_closed, after_next as board_after}
+use Rattle.machine_model.specs.Turns.{nexts, queues, flushes, says, is_closed, after_next as board_after}
 use Rattle.process_core.specs.Answers.{after_call, answer_in}
 use Rattle.process_core.specs.Cores.{CoreState, relation}
 use Rattle.process_core.specs.Rotation.{next_reply_of}
@@ -12,8 +12,12 @@ use Rattle.process_core.specs.declared.replies.Next.TheVariants as core
 use Rattle.engine_steps.specs.declared.engines.Phase.{Phase}
 use Rattle.engine_steps.specs.declared.engines.Phase.TheVariants.{Settled, Closed}
 use Rattle.shared_engine.specs.declared.entries.NextSaid.TheVariants as asked
+use Rattle.process_engine.specs.declared.gates.Answer.{Answer}
+use Rattle.shared_engine.specs.GroupTurns.{outcome_as}
+use Rattle.shared_engine.specs.declared.entries.QueueSaid.TheVariants as put
+use Rattle.shared_engine.specs.declared.entries.FlushSaid.TheVariants as flushed
 use Rattle.shared_engine.specs.declared.entries.TurnEntry.{TurnEntry}
-use Rattle.shared_engine.specs.declared.entries.TurnEntry.TheVariants.{Next}
+use Rattle.shared_engine.specs.declared.entries.TurnEntry.TheVariants.{Next, Queue, Flush}
 use Rattle.shared_engine.specs.Entries.{IsAsked, said_of}
 use Rattle.shared_engine.specs.Progress.{AreTold, IsTold, Progress, after, after_next, board_of}
 
@@ -34,36 +38,57 @@ core_after c (core.Wait w) = refl
 core_after c core.AllEnded = refl
 core_after c (core.Stuck i) = refl
 
-abbrev settled_at : CoreState → Progress
-settled_at c = record { core = c; phase = Settled }
+abbrev at : CoreState → List ℕ → Phase → Bool → Progress
+at c group p due = record { core = c; group = group; phase = p; due = due }
 
-next_told_open : (subsystems : Subsystems) (c : CoreState) (r : CoreNext) → next_is (next_reply_of r) ≡ (answer_in c next).reply → IsTold subsystems (settled_at c) (Next (said_of r))
-next_told_open subsystems c r replied =
+next_told_open : (subsystems : Subsystems) (c : CoreState) (group : List ℕ) (due : Bool) (r : CoreNext) → next_is (next_reply_of r) ≡ (answer_in c next).reply → IsTold subsystems (at c group Settled due) (Next (said_of r))
+next_told_open subsystems c group due r replied =
     let told = ap (λ x. reply_in x (next_reply_of r)) (sym replied) in
     record {
       turn = nexts (says (next_reply_of r));
       entry = (said_of r, refl, asked_so r);
-      is_turn = (sym replied, ap (λ (d : CoreState). board_of (settled_at d)) (core_after c r) ∙ ap (board_after (relation c) (board_of (settled_at c))) told);
+      is_turn = (sym replied, ap (λ (d : CoreState). board_of (at d group Settled due)) (core_after c r) ∙ ap (board_after (relation c) (board_of (at c group Settled due))) told);
+      due = tt;
     }
 
 -- A request that is answered as the machine answers it is a turn;
-pub next_told : (subsystems : Subsystems) (c : CoreState) (on : Phase) → on ≡ Settled → (r : CoreNext) → next_is (next_reply_of r) ≡ (answer_in c next).reply
-    → IsTold subsystems (record { core = c; phase = on }) (Next (said_of r))
-next_told subsystems c on settled r replied =
-    subst (λ (p : Phase). IsTold subsystems (record { core = c; phase = p }) (Next (said_of r))) (sym settled) (next_told_open subsystems c r replied)
+pub next_told : (subsystems : Subsystems) (c : CoreState) (group : List ℕ) (on : Phase) (due : Bool) → on ≡ Settled → (r : CoreNext) → next_is (next_reply_of r) ≡ (answer_in c next).reply
+    → IsTold subsystems (at c group on due) (Next (said_of r))
+next_told subsystems c group on due settled r replied =
+    subst (λ (p : Phase). IsTold subsystems (at c group p due) (Next (said_of r))) (sym settled) (next_told_open subsystems c group due r replied)
 
-closed_told_shut : (subsystems : Subsystems) (c : CoreState) → IsTold subsystems (record { core = c; phase = Closed }) (Next (asked.Closed (length c.kept)))
-closed_told_shut subsystems c = record {
-  turn = nexts (is_closed (length c.kept));
-  entry = (asked.Closed (length c.kept), refl, refl);
-  is_turn = (refl, refl);
-}
+module _ (subsystems : Subsystems) (c : CoreState) (group : List ℕ) (on : Phase) (due : Bool) (shut : on ≡ Closed) (k : ℕ) (is : k ≡ length c.kept) where
+  closed_by : (e : ℕ → TurnEntry) → IsTold subsystems (at c group Closed due) (e (length c.kept)) → IsTold subsystems (at c group on due) (e k)
+  closed_by e told =
+      subst (λ (p : Phase). IsTold subsystems (at c group p due) (e k)) (sym shut)
+      (subst (λ (n : ℕ). IsTold subsystems (at c group Closed due) (e n)) (sym is) told)
 
--- and so is one that a closed engine answers.
-pub closed_told : (subsystems : Subsystems) (c : CoreState) (on : Phase) → on ≡ Closed → (k : ℕ) → k ≡ length c.kept → IsTold subsystems (record { core = c; phase = on }) (Next (asked.Closed k))
-closed_told subsystems c on shut k is =
-    subst (λ (p : Phase). IsTold subsystems (record { core = c; phase = p }) (Next (asked.Closed k))) (sym shut)
-    (subst (λ (n : ℕ). IsTold subsystems (record { core = c; phase = Closed }) (Next (asked.Closed n))) (sym is) (closed_told_shut subsystems c))
+  -- and so is one that a closed engine answers,
+  pub closed_told : IsTold subsystems (at c group on due) (Next (asked.Closed k))
+  closed_told = closed_by (λ n. Next (asked.Closed n)) (record {
+    turn = nexts (is_closed (length c.kept));
+    entry = (asked.Closed (length c.kept), refl, refl);
+    is_turn = (refl, refl);
+    due = tt;
+  })
+
+  -- or the queueing of a piece,
+  pub closed_queue : (n : ℕ) (a : Answer) → IsTold subsystems (at c group on due) (Queue n a (put.Closed k))
+  closed_queue n a = closed_by (λ m. Queue n a (put.Closed m)) (record {
+    turn = queues n (outcome_as a) (is_closed (length c.kept));
+    entry = (a, put.Closed (length c.kept), refl, refl, refl);
+    is_turn = (refl, refl);
+    due = tt;
+  })
+
+  -- or a flush that is due.
+  pub closed_flush : due ≡ true → IsTold subsystems (at c group on due) (Flush (flushed.Closed k))
+  closed_flush is_due = closed_by (λ m. Flush (flushed.Closed m)) (record {
+    turn = flushes (is_closed (length c.kept));
+    entry = (flushed.Closed (length c.kept), refl, refl);
+    is_turn = (refl, refl);
+    due = is_due;
+  })
 
 -- one entry more
 pub told-snoc : (subsystems : Subsystems) (p : Progress) (es : List TurnEntry) (x : Progress) (e : TurnEntry) (y : Progress) → AreTold subsystems p es x → IsTold subsystems x e → y ≡ after x e

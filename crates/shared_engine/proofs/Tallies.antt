@@ -1,12 +1,12 @@
 -- What is kept of one entry behind others.
-use Rattle.std.proofs.Common.{◌≡◌, ◌∙◌, ◌≤◌, ◌+◌, ◌-◌, ◌^◌, ℕ, zero, suc, Bool, true, false, not, filter, List, [], ◌∷◌, ◌++◌, length, Option, Some, None, if◌then◌else◌, refl, ap, subst, sym, append-nil, append_assoc, length-append, arith}
+use Rattle.std.proofs.Common.{◌≡◌, ◌∙◌, ◌⊎◌, inl, inr, ◌≤◌, ◌+◌, ◌-◌, ◌^◌, ℕ, zero, suc, Bool, true, false, cond, not, filter, map, List, [], ◌∷◌, ◌++◌, length, Option, Some, None, if◌then◌else◌, refl, ap, subst, sym, append-nil, append_assoc, length-append, arith}
+use Rattle.std.specs.Bool.{IsTrue}
 use Rattle.std.specs.Prelude.{◌≢◌, IfSome}
+use Rattle.std.proofs.lemmas.Bool.{false≢true}
 use Rattle.std.proofs.lemmas.List.Elements.{filter-append}
-use Rattle.process_disk.specs.Disk.{Disk}
 use Rattle.process_tree.specs.Order.{Each}
 use Rattle.process_tree.specs.Conflicts.{Table}
 use Rattle.process_tree.specs.declared.plan.Plan.{Plan}
-use Rattle.process_tree.specs.declared.play.Outcome.{Outcome}
 use Rattle.process_tree.proofs.Every.{Each-append, Each-weaker}
 use Rattle.schedule_model.specs.Conflict.{ConflictRelation}
 use Rattle.schedule_model.specs.Course.{Course}
@@ -14,7 +14,7 @@ use Rattle.schedule_model.specs.Histories.{active}
 use Rattle.schedule_model.specs.declared.event.Event.{Event}
 use Rattle.commute_table.specs.declared.catalog.Catalog.{Catalog}
 use Rattle.machine_model.specs.declared.kept.Kept.{Kept}
-use Rattle.machine_model.specs.declared.kept.Kept.TheVariants.{Victim}
+use Rattle.machine_model.specs.declared.kept.Kept.TheVariants.{Effect, Refuse, Victim}
 use Rattle.machine_model.specs.declared.kept.Work.TheVariants.{End}
 use Rattle.machine_model.specs.Advance.{advance}
 use Rattle.machine_model.specs.Calls.{next_kept}
@@ -27,22 +27,21 @@ use Rattle.process_core.specs.Handing.{with_all, with_kept, with_served}
 use Rattle.process_core.specs.Rotation.{next_reply_of}
 use Rattle.process_core.specs.declared.replies.Next.{Next as CoreNext}
 use Rattle.process_core.specs.declared.replies.Next.TheVariants as core
-use Rattle.engine_steps.specs.Engines.{EngineState}
-use Rattle.process_engine.specs.Finishing.{Finishes, is_barred, outcome_of}
 use Rattle.process_engine.specs.declared.gates.Answer.{Answer}
 use Rattle.process_engine.specs.declared.gates.Answer.TheVariants.{Done, Refused}
-use Rattle.process_engine.specs.declared.finishing.Finish.{Finish as EngineFinish}
-use Rattle.process_engine.specs.declared.finishing.Finish.TheVariants as finished
-use Rattle.engine_calls.specs.GateAnswers.{AreAnswered, GateCounts, IsByGate, IsGiven, IsHandedAs, is_step_hand, kept_since, steps_handed, unbarred_refusals}
-use Rattle.engine_calls.proofs.GateEnds.{end_by_gate, kept_by, kept_of}
+use Rattle.group_flush.specs.Pieces.{numbers_of}
+use Rattle.group_flush.specs.Queues.{pieces_of}
+use Rattle.engine_calls.specs.GateAnswers.{AreAnswered, GateCounts, IsAnswered, IsByGate, IsGiven, IsHandedAs, as_handed, is_barred_in, is_step_hand, is_unbarred, kept_since, steps_handed, unbarred_refusals}
 use Rattle.engine_calls.proofs.GateRuns.{EndsNone, by_gate_none, by_gate_then, gate_from, keeping, kept_is}
 use Rattle.history_lock.specs.Weights.{total}
 use Rattle.history_lock.proofs.Sums.{total-append}
 use Rattle.shared_engine.specs.declared.entries.NextSaid.TheVariants as asked
+use Rattle.shared_engine.specs.declared.entries.FlushSaid.{FlushSaid}
+use Rattle.shared_engine.specs.declared.entries.QueueSaid.{QueueSaid}
 use Rattle.shared_engine.specs.declared.entries.TurnEntry.{TurnEntry}
-use Rattle.shared_engine.specs.declared.entries.TurnEntry.TheVariants.{Next, Finish}
-use Rattle.shared_engine.specs.Entries.{finish_said, said_of}
-use Rattle.shared_engine.specs.Tallies.{IsByEntries, IsOfHanded, IsToldOf, gate_asked, gate_refused, is_worked_on}
+use Rattle.shared_engine.specs.declared.entries.TurnEntry.TheVariants.{Next, Queue, Flush}
+use Rattle.shared_engine.specs.Entries.{said_of}
+use Rattle.shared_engine.specs.Tallies.{IsAnswerTo, IsByEntries, IsOfHanded, IsToldOf, gate_asked, gate_refused, is_worked_on}
 use Rattle.shared_engine.proofs.HandedLater.{Grows, asked_grows, handed_grows, requested_grows}
 
 module _ (P : Kept → Type 0) where
@@ -61,18 +60,6 @@ no_steps (k ∷ ks) none = rw (none.0) (no_steps ks none.1)
 
 steps-append : (ks js : List Kept) → steps_handed (ks ++ js) ≡ steps_handed ks + steps_handed js
 steps-append ks js = ap length (filter-append is_step_hand ks js) ∙ length-append (filter is_step_hand ks) (filter is_step_hand js)
-
--- the end of a piece is the hand of none
-no_steps_ended : (n : ℕ) (a : EngineFinish) → steps_handed (kept_by n a) ≡ 0
-no_steps_ended n (finished.Effected k) = refl
-no_steps_ended n (finished.Retry k) = refl
-no_steps_ended n finished.Failed = refl
-no_steps_ended n finished.Exhausted = refl
-no_steps_ended n finished.Over = refl
-no_steps_ended n (finished.Dropped k) = refl
-no_steps_ended n finished.DiskFault = refl
-no_steps_ended n (finished.NoMemory q) = refl
-no_steps_ended n (finished.Closed k) = refl
 
 -- refusals behind others
 refusals-append : (catalog : Catalog) (c : CoreState) (ks js : List Kept) → unbarred_refusals catalog c (ks ++ js) ≡ unbarred_refusals catalog c ks + unbarred_refusals catalog (keeping c ks) js
@@ -104,8 +91,12 @@ by_full : (answers : Handed → Option Answer) (catalog : Catalog) (old new : Co
     → IsByGate (gate_from answers full full) catalog old new
 by_full answers catalog old new are = record { answered = are; counted = λ low. absurd (omega (arith, low)); later = omega arith }
 
-module _ (catalog : Catalog) (old mid new : CoreState) (es : List TurnEntry) (e : TurnEntry) (one two : List Kept) (conflicts : mid.conflicts ≡ old.conflicts) (opening : mid.opening ≡ old.opening)
-    (first : mid.kept ≡ old.kept ++ one) (plans : new.plans ≡ mid.plans) (second : new.kept ≡ mid.kept ++ two) (before : IsByEntries catalog old mid es) where
+-- each of these is done, as gates tell it
+abbrev AllDone : (Handed → Option Answer) → List Handed → Type 0
+AllDone answers ds = Each (λ d. IsAnswerTo answers d Done) ds
+
+module _ (catalog : Catalog) (old mid new : CoreState) (was is_now : List Handed) (es : List TurnEntry) (e : TurnEntry) (one two : List Kept) (conflicts : mid.conflicts ≡ old.conflicts)
+    (opening : mid.opening ≡ old.opening) (first : mid.kept ≡ old.kept ++ one) (plans : new.plans ≡ mid.plans) (second : new.kept ≡ mid.kept ++ two) (before : IsByEntries catalog old mid was es) where
   abbrev grows : Grows mid new
   grows = record { plans = plans; added = two; kept = second }
 
@@ -116,14 +107,16 @@ module _ (catalog : Catalog) (old mid new : CoreState) (es : List TurnEntry) (e 
   -- what is told of all pieces that are handed out now was told of those that were then
   told_before : (answers : Handed → Option Answer) (f : TurnEntry) → IsToldOf answers new f → IsToldOf answers mid f
   told_before answers (Next said) told = tt
-  told_before answers (Finish n a reply) told = λ d is handed. told d is (handed_grows mid new d grows handed)
+  told_before answers (Queue n a reply) told = λ d is handed. told d is (handed_grows mid new d grows handed)
+  told_before answers (Flush said) told = tt
 
   told_parts : (answers : Handed → Option Answer) (fs : List TurnEntry) → Each (IsToldOf answers new) (fs ++ e ∷ []) → Each (IsToldOf answers mid) fs × IsToldOf answers new e
   told_parts answers [] told = (tt, told.0)
   told_parts answers (f ∷ fs) told = let rest = told_parts answers fs told.1 in ((told_before answers f told.0, rest.0), rest.1)
 
-  pub by_snoc : IsOfHanded new e → steps_handed two ≡ gate_asked new e → ((answers : Handed → Option Answer) → IsToldOf answers new e → AreAnswered answers catalog (with_served mid 0) two)
-      → unbarred_refusals catalog (with_served mid 0) two ≤ gate_refused e → IsByEntries catalog old new (es ++ e ∷ [])
+  pub by_snoc : IsOfHanded new e → steps_handed two ≡ gate_asked new e
+      → ((answers : Handed → Option Answer) → AllDone answers was → IsToldOf answers new e → AreAnswered answers catalog (with_served mid 0) two × AllDone answers is_now)
+      → unbarred_refusals catalog (with_served mid 0) two ≤ gate_refused e → IsByEntries catalog old new is_now (es ++ e ∷ [])
   by_snoc here steps answered few =
       let c = with_served old 0 in
       let all = kept_is old new (one ++ two) (second ∙ (ap (λ ks. ks ++ two) first ∙ append_assoc old.kept one two)) in
@@ -145,8 +138,9 @@ module _ (catalog : Catalog) (old mid new : CoreState) (es : List TurnEntry) (e 
         answered = λ answers told.
             let parts = told_parts answers es told in
             let a = by_full answers catalog old mid (before.answered answers parts.0) in
-            let b = by_full answers catalog mid new (subst (AreAnswered answers catalog (with_served mid 0)) (sym twos) (answered answers parts.1)) in
+            let b = by_full answers catalog mid new (subst (AreAnswered answers catalog (with_served mid 0)) (sym twos) (answered answers (before.done answers parts.0) parts.1).0) in
             (by_gate_then answers catalog full full full old mid new one two conflicts before.plans opening first second a b).answered;
+        done = λ answers told. let parts = told_parts answers es told in (answered answers (before.done answers parts.0) parts.1).1;
         refused = omega (arith, count, count_one, count_two, before.refused, few, refused_all);
       }
 
@@ -181,9 +175,9 @@ next_ends_none core.AllEnded = tt
 next_ends_none (core.Stuck i) = tt
 
 -- What is kept of a request is by its entry,
-pub by_next : (catalog : Catalog) (old mid new : CoreState) (es : List TurnEntry) (one : List Kept) (r : CoreNext) → mid.conflicts ≡ old.conflicts → mid.opening ≡ old.opening → mid.kept ≡ old.kept ++ one
-    → new.plans ≡ mid.plans → new.kept ≡ mid.kept ++ kept_by_next mid r → IsGiven new r → IsByEntries catalog old mid es → IsByEntries catalog old new (es ++ Next (said_of r) ∷ [])
-by_next catalog old mid new es one r conflicts opening first plans second given before =
+pub by_next : (catalog : Catalog) (old mid new : CoreState) (queued : List Handed) (es : List TurnEntry) (one : List Kept) (r : CoreNext) → mid.conflicts ≡ old.conflicts → mid.opening ≡ old.opening → mid.kept ≡ old.kept ++ one
+    → new.plans ≡ mid.plans → new.kept ≡ mid.kept ++ kept_by_next mid r → IsGiven new r → IsByEntries catalog old mid queued es → IsByEntries catalog old new queued (es ++ Next (said_of r) ∷ [])
+by_next catalog old mid new queued es one r conflicts opening first plans second given before =
     let vs = all_victims (relation mid) (courses_in mid) (moment_of mid) in
     let two = kept_by_next mid r in
     let ends_none = Each-append EndsNone vs (next_kept (next_reply_of r)) (victims_each EndsNone (λ i. tt) (relation mid) (courses_in mid) (length (active (moment_of mid).events)) (moment_of mid)) (next_ends_none r) in
@@ -193,52 +187,107 @@ by_next catalog old mid new es one r conflicts opening first plans second given 
     let sum = steps-append vs (next_kept (next_reply_of r)) in
     let given_steps = steps_given new r given in
     let few = (by (λ d. None)).counted (omega arith) in
-    by_snoc catalog old mid new es (Next (said_of r)) one two conflicts opening first plans second before (given_handed new r given) (omega (arith, no_victims, sum, given_steps))
-    (λ answers told. subst (AreAnswered answers catalog (with_served mid 0)) twos (by answers).answered)
+    by_snoc catalog old mid new queued queued es (Next (said_of r)) one two conflicts opening first plans second before (given_handed new r given) (omega (arith, no_victims, sum, given_steps))
+    (λ answers done told. (subst (AreAnswered answers catalog (with_served mid 0)) twos (by answers).answered, done))
     (subst (λ ks. unbarred_refusals catalog (with_served mid 0) ks ≤ 0) twos (omega (arith, few)))
 
-refused_count : (n : ℕ) (a : Answer) (said : EngineFinish) → gate_refused (Finish n a (finish_said said)) ≤ 1
-refused_count n Done said = omega arith
-refused_count n Refused said = omega arith
+-- a piece that is answered done or barred, or refused
+some_so : {X : Type 0} (P Q : X → Type 0) (o : Option X) → ((x : X) → P x → Q x) → IfSome o P → IfSome o Q
+some_so P Q None so some = tt
+some_so P Q (Some x) so some = so x some
 
-refused_once : (n : ℕ) (a : Answer) (said : EngineFinish) → a ≡ Refused → gate_refused (Finish n a (finish_said said)) ≡ 1
-refused_once n Refused said is = refl
-refused_once n Done said is = absurd cc
+some_always : {X : Type 0} (Q : X → Type 0) (o : Option X) → ((x : X) → Q x) → IfSome o Q
+some_always Q None all = tt
+some_always Q (Some x) all = all x
 
--- the end of a piece leaves the plans
-pub finish_plans : {R B : Type 0} (disk : R → Disk) (old new : EngineState R B) (p : Handed) (outcome : Outcome) (a : EngineFinish) → Finishes disk old new p outcome a → new.core.plans ≡ old.core.plans
-finish_plans disk old new p outcome (finished.Effected k) fin = ap (λ (c : CoreState). c.plans) fin.left.core
-finish_plans disk old new p outcome (finished.Retry k) fin = ap (λ (c : CoreState). c.plans) fin.left.0.core
-finish_plans disk old new p outcome finished.Failed fin = ap (λ (c : CoreState). c.plans) fin.left.0.core
-finish_plans disk old new p outcome finished.Exhausted fin = ap (λ (c : CoreState). c.plans) fin.left.0.core
-finish_plans {R = R} {B = B} disk old new p outcome finished.Over fin = ap (λ (e : EngineState R B). e.core.plans) fin.left
-finish_plans {R = R} {B = B} disk old new p outcome (finished.Dropped k) fin = ap (λ (e : EngineState R B). e.core.plans) fin.left
-finish_plans disk old new p outcome finished.DiskFault fin = ap (λ (c : CoreState). c.plans) fin.left.core
-finish_plans disk old new p outcome (finished.NoMemory q) fin = ap (λ (c : CoreState). c.plans) fin.left.0.core
-finish_plans disk old new p outcome (finished.Closed k) fin = absurd fin.reply
+refused_isnt_done : Refused ≡ Done → ⊥
+refused_isnt_done is = absurd cc
 
--- that of the end of a piece is by its entry,
-pub by_finish : {R B : Type 0} (disk : R → Disk) (old : CoreState) (x y : EngineState R B) (es : List TurnEntry) (one : List Kept) (d : Handed) (a : Answer) (said : EngineFinish) → IsHandedAs x.core d
-    → Finishes disk x y d (outcome_of a (is_barred x d.piece)) said → (d.piece.work ≡ End → a ≡ Done) → y.core.plans ≡ x.core.plans
-    → x.core.conflicts ≡ old.conflicts → x.core.opening ≡ old.opening → x.core.kept ≡ old.kept ++ one → IsByEntries x.catalog old x.core es
-    → IsByEntries x.catalog old y.core (es ++ Finish d.piece.number a (finish_said said) ∷ [])
-by_finish disk old x y es one d a said handed fin end plans conflicts opening first before =
+module _ (answers : Handed → Option Answer) (catalog : Catalog) (c : CoreState) (d : Handed) (is : IsHandedAs c d) where
+  abbrev barred : Bool
+  barred = is_barred_in catalog c d.piece
+
+  refused_so : (a : Answer) → IsAnswerTo answers d a → (a ≡ Refused) ⊎ (barred ≡ true) → IfSome (answers d) (λ b. (b ≡ Refused) ⊎ IsTrue barred)
+  refused_so a told (inl refuses) =
+      some_so (λ b. a ≡ b) (λ b. (b ≡ Refused) ⊎ IsTrue barred) (answers d) (λ b same. inl (sym same ∙ refuses))
+      (told.1 (λ at. refused_isnt_done (sym refuses ∙ told.0 at)))
+  refused_so a told (inr bars) = some_always (λ b. (b ≡ Refused) ⊎ IsTrue barred) (answers d) (λ b. inr bars)
+
+  -- a refusal is by the answer, or by the values,
+  pub refusal_answered : (a : Answer) → IsAnswerTo answers d a → (a ≡ Refused) ⊎ (barred ≡ true) → IsAnswered answers catalog c (Refuse d.piece.number)
+  refusal_answered a told cause =
+      subst (λ o. IfSome o (λ q. IfSome (answers (as_handed c q)) (λ b. (b ≡ Refused) ⊎ IsTrue (is_barred_in catalog c q)))) (sym is.handed)
+      (subst (λ h. IfSome (answers h) (λ b. (b ≡ Refused) ⊎ IsTrue barred)) (sym is.told) (refused_so a told cause))
+
+  -- and an effect of a piece that is done
+  pub effect_answered : IsAnswerTo answers d Done → IsAnswered answers catalog c (Effect d.piece.number)
+  effect_answered told =
+      subst (λ o. IfSome o (λ q. q.work ≢ End → IfSome (answers (as_handed c q)) (λ b. b ≡ Done))) (sym is.handed)
+      (λ no_end. subst (λ h. IfSome (answers h) (λ b. b ≡ Done)) (sym is.told) (some_so (λ b. Done ≡ b) (λ b. b ≡ Done) (answers d) (λ b same. sym same) (told.1 no_end)))
+
+counted_by : (n : ℕ) (a : Answer) (said : QueueSaid) (t : Bool) → (a ≡ Refused) ⊎ (t ≡ true) → ((if not t then 1 else 0) + 0) ≤ gate_refused (Queue n a said)
+counted_by n Refused said true cause = omega arith
+counted_by n Refused said false cause = omega arith
+counted_by n Done said true cause = omega arith
+counted_by n Done said false (inl is) = absurd cc
+counted_by n Done said false (inr is) = absurd (false≢true is)
+
+handed_served : (c : CoreState) (d : Handed) → IsHandedAs c d → IsHandedAs (with_served c 0) d
+handed_served c d is = record { handed = is.handed; told = is.told }
+
+kept_more : (c : CoreState) (k : Kept) (d : Handed) → IsHandedAs c d → IsHandedAs (with_kept c k) d
+kept_more c k d is = handed_grows c (with_kept c k) d (record { plans = refl; added = k ∷ []; kept = refl }) is
+
+module _ (answers : Handed → Option Answer) (catalog : Catalog) where
+  effects_step : (c : CoreState) (n : ℕ) (ns : List ℕ) (b : Bool) → IsAnswered answers catalog c (Effect n) → AreAnswered answers catalog (with_kept c (Effect n)) (map Effect ns) → AreAnswered answers catalog c (map Effect ns)
+      → AreAnswered answers catalog c (map Effect (cond b (n ∷ ns) ns))
+  effects_step c n ns true here after otherwise = (here, after)
+  effects_step c n ns false here after otherwise = otherwise
+
+  -- the effects of those among queued pieces that run
+  pub effects_answered : (t : ℕ → Bool) (c : CoreState) (ds : List Handed) → Each (IsHandedAs c) ds → AllDone answers ds → AreAnswered answers catalog c (map Effect (filter t (numbers_of (pieces_of ds))))
+  effects_answered t c [] handed done = tt
+  effects_answered t c (d ∷ ds) handed done =
+      let n = d.piece.number in
+      effects_step c n (filter t (numbers_of (pieces_of ds))) (t n) (effect_answered answers catalog c d handed.0 done.0)
+      (effects_answered t (with_kept c (Effect n)) ds (Each-weaker (IsHandedAs c) (IsHandedAs (with_kept c (Effect n))) (λ q is. kept_more c (Effect n) q is) ds handed.1) done.1)
+      (effects_answered t c ds handed.1 done.1)
+
+no_refusals : (catalog : Catalog) (c : CoreState) (ns : List ℕ) → unbarred_refusals catalog c (map Effect ns) ≡ 0
+no_refusals catalog c [] = refl
+no_refusals catalog c (n ∷ ns) = let rest = no_refusals catalog (with_kept c (Effect n)) ns in omega (arith, rest)
+
+no_hands : (ns : List ℕ) → Each (λ k. is_step_hand k ≡ false) (map Effect ns)
+no_hands [] = tt
+no_hands (n ∷ ns) = (refl, no_hands ns)
+
+-- What is kept of a piece whose queueing is refused is by its entry,
+pub by_refusal : (catalog : Catalog) (old mid new : CoreState) (queued : List Handed) (es : List TurnEntry) (one : List Kept) (d : Handed) (a : Answer) (said : QueueSaid) → mid.conflicts ≡ old.conflicts → mid.opening ≡ old.opening
+    → mid.kept ≡ old.kept ++ one → new.plans ≡ mid.plans → new.kept ≡ mid.kept ++ Refuse d.piece.number ∷ [] → IsHandedAs mid d → (a ≡ Refused) ⊎ (is_barred_in catalog mid d.piece ≡ true)
+    → IsByEntries catalog old mid queued es → IsByEntries catalog old new queued (es ++ Queue d.piece.number a said ∷ [])
+by_refusal catalog old mid new queued es one d a said conflicts opening first plans second handed cause before =
     let n = d.piece.number in
-    let e = Finish n a (finish_said said) in
-    let two = kept_by n said in
-    let second = kept_of disk x y d (outcome_of a (is_barred x d.piece)) said fin in
-    let twos = kept_is x.core y.core two second in
-    let grows : Grows x.core y.core = record { plans = plans; added = two; kept = second } in
-    let one_more = refused_count n a said in
-    let by : (answers : Handed → Option Answer) → (d.piece.work ≢ End → IfSome (answers d) (λ b. a ≡ b)) → IsByGate (gate_from answers none_yet (record { asked = 0; refusals = gate_refused e })) x.catalog x.core y.core =
-    λ answers told. end_by_gate disk x y d (gate_from answers none_yet (record { asked = 0; refusals = gate_refused e })) handed a end told (omega arith) (λ refuses. let once = refused_once n a said refuses in omega (arith, once)) said fin in
-    let few = (by (λ q. None) (λ no_end. tt)).counted (omega (arith, one_more)) in
-    by_snoc x.catalog old x.core y.core es e one two conflicts opening first plans second before tt (no_steps_ended n said)
-    (λ answers told. subst (AreAnswered answers x.catalog (with_served x.core 0)) twos (by answers (told d refl (handed_grows x.core y.core d grows handed)).1).answered)
-    (subst (λ ks. unbarred_refusals x.catalog (with_served x.core 0) ks ≤ gate_refused e) twos (omega (arith, few)))
+    let two = Refuse n ∷ [] in
+    let grows : Grows mid new = record { plans = plans; added = two; kept = second } in
+    let here = handed_served mid d handed in
+    by_snoc catalog old mid new queued queued es (Queue n a said) one two conflicts opening first plans second before tt refl
+    (λ answers done told. ((refusal_answered answers catalog (with_served mid 0) d here a (told d refl (handed_grows mid new d grows handed)) cause, tt), done))
+    (subst (λ o. ((if is_unbarred catalog (with_served mid 0) o then 1 else 0) + 0) ≤ gate_refused (Queue n a said)) (sym handed.handed) (counted_by n a said (is_barred_in catalog mid d.piece) cause))
+
+-- that of a flush is by the entries that queued its pieces,
+pub by_flush : (catalog : Catalog) (old mid new : CoreState) (queued : List Handed) (es : List TurnEntry) (one : List Kept) (t : ℕ → Bool) (said : FlushSaid) → mid.conflicts ≡ old.conflicts → mid.opening ≡ old.opening
+    → mid.kept ≡ old.kept ++ one → new.plans ≡ mid.plans → new.kept ≡ mid.kept ++ map Effect (filter t (numbers_of (pieces_of queued))) → Each (IsHandedAs mid) queued
+    → IsByEntries catalog old mid queued es → IsByEntries catalog old new [] (es ++ Flush said ∷ [])
+by_flush catalog old mid new queued es one t said conflicts opening first plans second handed before =
+    let ns = filter t (numbers_of (pieces_of queued)) in
+    let few = no_refusals catalog (with_served mid 0) ns in
+    by_snoc catalog old mid new queued [] es (Flush said) one (map Effect ns) conflicts opening first plans second before tt (no_steps (map Effect ns) (no_hands ns))
+    (λ answers done told. (effects_answered answers catalog t (with_served mid 0) queued (Each-weaker (IsHandedAs mid) (IsHandedAs (with_served mid 0)) (handed_served mid) queued handed) done, tt))
+    (omega (arith, few))
 
 -- and so is nothing, where an entry keeps none.
-pub by_still : (catalog : Catalog) (old mid : CoreState) (es : List TurnEntry) (e : TurnEntry) (one : List Kept) → mid.conflicts ≡ old.conflicts → mid.opening ≡ old.opening → mid.kept ≡ old.kept ++ one
-    → gate_asked mid e ≡ 0 → IsOfHanded mid e → IsByEntries catalog old mid es → IsByEntries catalog old mid (es ++ e ∷ [])
-by_still catalog old mid es e one conflicts opening first none here before =
-    by_snoc catalog old mid mid es e one [] conflicts opening first refl (sym (append-nil mid.kept)) before here (sym none) (λ answers told. tt) (omega arith)
+pub by_still : (catalog : Catalog) (old mid : CoreState) (was is_now : List Handed) (es : List TurnEntry) (e : TurnEntry) (one : List Kept) → mid.conflicts ≡ old.conflicts → mid.opening ≡ old.opening → mid.kept ≡ old.kept ++ one
+    → gate_asked mid e ≡ 0 → IsOfHanded mid e → ((answers : Handed → Option Answer) → AllDone answers was → IsToldOf answers mid e → AllDone answers is_now) → IsByEntries catalog old mid was es
+    → IsByEntries catalog old mid is_now (es ++ e ∷ [])
+by_still catalog old mid was is_now es e one conflicts opening first none here done before =
+    by_snoc catalog old mid mid was is_now es e one [] conflicts opening first refl (sym (append-nil mid.kept)) before here (sym none) (λ answers all told. (tt, done answers all told)) (omega arith)

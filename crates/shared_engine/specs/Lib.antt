@@ -1,4 +1,6 @@
 pub mod Entries
+pub mod GroupTurns
+pub mod Outcomes
 pub mod Progress
 pub mod Seats
 pub mod Shared

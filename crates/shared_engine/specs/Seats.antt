@@ -10,24 +10,24 @@ use Rattle.history_lock.specs.declared.held.Held.{Ghosts as Helds}
 use Rattle.history_lock.specs.declared.view.View.{View}
 use Rattle.shared_engine.specs.declared.entries.TurnEntry.{TurnEntry}
 use Rattle.shared_engine.specs.declared.shared.SharedEngine.{SharedEngine}
-use Rattle.shared_engine.specs.Progress.{after_all, progress}
+use Rattle.shared_engine.specs.Progress.{after_all, opened}
 use Rattle.shared_engine.specs.Shared.{IsOpening}
 
 -- the core that these entries make of that of an engine
 abbrev pub core_at : {R B : Type 0} → EngineState R B → List TurnEntry → CoreState
-core_at o es = (after_all (progress o) es).core
+core_at o es = (after_all (opened o) es).core
 
 -- all that a seat knows
 abbrev pub knowledge : {S X : Type 0} {h : Helds S X} → Seat S X h → View S X
 knowledge s = s.place.me.0
 
 module _ {R B : Type 0} where
-  -- what the seat knows of the opening: it was settled and sound
+  -- what the seat knows of the opening: it was settled and sound, and nothing was queued
   pub record HasOpened (disk : R → Disk) (meaning : B → Pairs) (sort : B → Kind)
       (v : View (SharedEngine R B) TurnEntry) : Type 0 where
     pub opening : SharedEngine R B
     pub known : v.opening ≡ Some opening
-    pub sound : IsOpening disk meaning sort opening.engine
+    pub sound : IsOpening disk meaning sort opening
 
   -- a turn was made with this entry, behind what others did meanwhile
   pub record HasAdded (e : TurnEntry) (before after : View (SharedEngine R B) TurnEntry) : Type 0 where

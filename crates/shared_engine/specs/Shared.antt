@@ -1,23 +1,51 @@
 -- What an engine that is shared stands for.
-use Rattle.std.specs.Prelude.{⊤, ℕ, List, []}
-use Rattle.std.proofs.Common.{refl, subst, sym}
+use Rattle.std.specs.Prelude.{⊤, ℕ, Bool, true, false, not, List, [], length, nat_eq}
+use Rattle.std.proofs.Common.{◌≡◌, arith, refl, subst, sym}
 use Rattle.process_flow.specs.Causes.{Rose}
 use Rattle.process_disk.specs.Disk.{Disk, Told}
 use Rattle.process_disk.specs.Images.{EachImage}
+use Rattle.process_tree.specs.Order.{Each}
 use Rattle.resource_box.specs.declared.call.Kind.{Kind}
 use Rattle.resource_box.specs.Meaning.{Pairs}
+use Rattle.machine_model.specs.Replies.{Handed}
 use Rattle.process_core.specs.Cores.{IsCore}
+use Rattle.process_core.specs.declared.replies.Next.{Next as CoreNext}
+use Rattle.process_core.specs.declared.replies.Next.TheVariants as next
 use Rattle.history_files.specs.Effects.{subsystem_of}
 use Rattle.history_files.specs.Sound.{IsSound}
 use Rattle.history_files.specs.Standing.{EachFits}
 use Rattle.engine_steps.specs.Engines.{EngineState, full_history}
 use Rattle.engine_steps.specs.declared.engines.Phase.{Phase}
 use Rattle.engine_steps.specs.declared.engines.Phase.TheVariants.{Settled, UnderWay, Closed}
+use Rattle.group_flush.specs.Queues.{AreQueued}
+use Rattle.group_flush.specs.declared.replies.Queue.{Queue as EngineQueue}
+use Rattle.group_flush.specs.declared.replies.Queue.TheVariants as queue
+use Rattle.engine_calls.specs.GateAnswers.{IsHandedAs}
 use Rattle.engine_calls.specs.Runs.{GoesOnAlone, IsReady}
 use Rattle.engine_calls.proofs.Goes.{goes_none}
 use Rattle.shared_engine.specs.declared.entries.TurnEntry.{TurnEntry}
-use Rattle.shared_engine.specs.Progress.{AreTold, progress}
+use Rattle.shared_engine.specs.declared.shared.SharedEngine.{SharedEngine}
+use Rattle.shared_engine.specs.Progress.{AreTold, opened, progress}
 use Rattle.shared_engine.specs.Tallies.{IsByEntries, by_none}
+
+-- a request that is answered so has to wait while so many pieces are queued
+abbrev pub asks_for_flush : CoreNext → ℕ → Bool
+asks_for_flush (next.Wait w) k = not (nat_eq k 0)
+asks_for_flush (next.Piece d) k = false
+asks_for_flush next.AllEnded k = false
+asks_for_flush (next.Stuck i) k = false
+
+-- a piece found the group full
+abbrev pub is_full : EngineQueue → Bool
+is_full (queue.Full d) = true
+is_full queue.Queued = false
+is_full (queue.Retry k) = false
+is_full queue.Failed = false
+is_full queue.Over = false
+is_full (queue.Dropped k) = false
+is_full queue.Exhausted = false
+is_full (queue.NoMemory d) = false
+is_full (queue.Closed n) = false
 
 -- no piece is half done
 abbrev pub IsAtRest : Phase → Type 0
@@ -31,39 +59,61 @@ IfClosed Settled P = ⊤
 IfClosed UnderWay P = ⊤
 IfClosed Closed P = P
 
--- An engine with which a history of turns may begin: it is settled, and its files are sound for what happened.
-pub record IsOpening {R B : Type 0} (disk : R → Disk) (meaning : B → Pairs) (sort : B → Kind) (o : EngineState R B) : Type 0 where
-  pub ready : IsReady meaning sort o
-  pub core : IsCore o.core
-  pub each : Told (disk o.files.rack) → EachImage (disk o.files.rack) (disk o.files.rack).moment
-      (IsSound o.catalog (full_history o.core))
+-- An engine with which a history of turns may begin: it is settled, its files are sound for what happened, nothing is queued at it,
+-- and no flush is due.
+pub record IsOpening {R B : Type 0} (disk : R → Disk) (meaning : B → Pairs) (sort : B → Kind) (o : SharedEngine R B) : Type 0 where
+  pub ready : IsReady meaning sort o.engine
+  pub core : IsCore o.engine.core
+  pub each : Told (disk o.engine.files.rack) → EachImage (disk o.engine.files.rack) (disk o.engine.files.rack).moment
+      (IsSound o.engine.catalog (full_history o.engine.core))
+  pub none : o.queued ≡ []
+  pub clear : o.due ≡ false
 
--- These entries led from one engine to another: each is the machine's turn at its place; the engine went on meanwhile, and asked
--- for no start; each box has the values of its book; it is closed only where a call of the rack failed; and what was kept is by
--- the answers that the entries tell of.
+-- A turn may be made: no piece is half done, each box has the values of its book, and while the engine is open what is queued may
+-- take effect.
+pub record MayBeCalled {R B : Type 0} (meaning : B → Pairs) (sort : B → Kind) (x : SharedEngine R B) : Type 0 where
+  pub rest : IsAtRest x.engine.phase
+  pub fits : EachFits meaning sort x.engine.files.stores
+  pub queued : x.engine.phase ≡ Settled → AreQueued x.engine x.queued
+
+-- These entries led from an engine, at which nothing was queued, to another: each is the machine's turn at its place, and a flush
+-- only where one was due; the engine went on meanwhile, and asked for no start; a turn may be made; it is closed only where a call
+-- of the rack failed; what is queued was handed out; and what was kept is by the answers that the entries tell of.
 pub record AreOf {R B : Type 0} (disk : R → Disk) (faults : R → ℕ) (meaning : B → Pairs) (sort : B → Kind) (o : EngineState R B)
-    (entries : List TurnEntry) (x : EngineState R B) : Type 0 where
-  pub told : AreTold (subsystem_of o.catalog.ops) (progress o) entries (progress x)
-  pub goes : GoesOnAlone disk faults o x
-  pub fits : EachFits meaning sort x.files.stores
-  pub rest : IsAtRest x.phase
-  pub fault : IfClosed x.phase (Rose (faults o.files.rack) (faults x.files.rack))
-  pub by_entries : IsByEntries o.catalog o.core x.core entries
+    (entries : List TurnEntry) (x : SharedEngine R B) : Type 0 where
+  pub told : AreTold (subsystem_of o.catalog.ops) (opened o) entries (progress x)
+  pub goes : GoesOnAlone disk faults o x.engine
+  pub called : MayBeCalled meaning sort x
+  pub fault : IfClosed x.engine.phase (Rose (faults o.files.rack) (faults x.engine.files.rack))
+  pub handed : Each (IsHandedAs x.engine.core) x.queued
+  pub by_entries : IsByEntries o.catalog o.core x.engine.core x.queued entries
 
 -- an engine stands for an opening one and these entries, if that may be an opening
-abbrev pub StandsFor : {R B : Type 0} → (R → Disk) → (R → ℕ) → (B → Pairs) → (B → Kind) → EngineState R B → List TurnEntry
-    → EngineState R B
+abbrev pub StandsFor : {R B : Type 0} → (R → Disk) → (R → ℕ) → (B → Pairs) → (B → Kind) → SharedEngine R B → List TurnEntry
+    → SharedEngine R B
     → Type 0
-StandsFor disk faults meaning sort o entries x = IsOpening disk meaning sort o → AreOf disk faults meaning sort o entries x
+StandsFor disk faults meaning sort o entries x = IsOpening disk meaning sort o → AreOf disk faults meaning sort o.engine entries x
+
+-- an engine at which nothing is queued
+abbrev none_queued : {R B : Type 0} → EngineState R B → Bool → SharedEngine R B
+none_queued e starved = record { engine = e; queued = []; due = false; starved = starved }
+
+alone : {R B : Type 0} (disk : R → Disk) (meaning : B → Pairs) (sort : B → Kind) (o : SharedEngine R B) → IsOpening disk meaning sort o
+    → none_queued o.engine o.starved ≡ o
+alone disk meaning sort o is = λ i. record { engine = o.engine; queued = (sym is.none) i; due = (sym is.clear) i; starved = o.starved }
 
 -- with no entry it stands for itself
-pub opens : {R B : Type 0} (disk : R → Disk) (faults : R → ℕ) (meaning : B → Pairs) (sort : B → Kind) (o : EngineState R B)
+pub opens : {R B : Type 0} (disk : R → Disk) (faults : R → ℕ) (meaning : B → Pairs) (sort : B → Kind) (o : SharedEngine R B)
     → StandsFor disk faults meaning sort o [] o
-opens disk faults meaning sort o is = record {
+opens disk faults meaning sort o is = subst (AreOf disk faults meaning sort o.engine []) (alone disk meaning sort o is) (record {
   told = refl;
-  goes = λ may_start. goes_none disk faults may_start o is.core is.each;
-  fits = is.ready.fits;
-  rest = subst IsAtRest (sym is.ready.settled) tt;
-  fault = subst (λ p. IfClosed p (Rose (faults o.files.rack) (faults o.files.rack))) (sym is.ready.settled) tt;
-  by_entries = by_none o.catalog o.core;
-}
+  goes = λ may_start. goes_none disk faults may_start o.engine is.core is.each;
+  called = record {
+    rest = subst IsAtRest (sym is.ready.settled) tt;
+    fits = is.ready.fits;
+    queued = λ settled. record { unfinished = tt; distinct = tt; apart = tt; ends = omega arith; few = omega arith; room = tt };
+  };
+  fault = subst (λ p. IfClosed p (Rose (faults o.engine.files.rack) (faults o.engine.files.rack))) (sym is.ready.settled) tt;
+  handed = tt;
+  by_entries = by_none o.engine.catalog o.engine.core;
+})

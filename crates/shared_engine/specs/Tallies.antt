@@ -17,7 +17,7 @@ use Rattle.engine_calls.proofs.GateRuns.{kept_is}
 use Rattle.history_lock.specs.Weights.{total}
 use Rattle.shared_engine.specs.declared.entries.NextSaid.TheVariants as asked
 use Rattle.shared_engine.specs.declared.entries.TurnEntry.{TurnEntry}
-use Rattle.shared_engine.specs.declared.entries.TurnEntry.TheVariants.{Next, Finish}
+use Rattle.shared_engine.specs.declared.entries.TurnEntry.TheVariants.{Next, Queue, Flush}
 
 -- the piece is there, and is a step or an undo: a gate is asked for it
 abbrev pub is_worked_on : Option Piece → Bool
@@ -31,13 +31,15 @@ gate_asked c (Next (asked.Wait w)) = 0
 gate_asked c (Next asked.AllEnded) = 0
 gate_asked c (Next (asked.Stuck i)) = 0
 gate_asked c (Next (asked.Closed k)) = 0
-gate_asked c (Finish n answer reply) = 0
+gate_asked c (Queue n answer reply) = 0
+gate_asked c (Flush said) = 0
 
--- 1 for the end of a piece whose work was refused
+-- 1 for the queueing of a piece whose work was refused
 abbrev pub gate_refused : TurnEntry → ℕ
 gate_refused (Next said) = 0
-gate_refused (Finish n Done reply) = 0
-gate_refused (Finish n Refused reply) = 1
+gate_refused (Queue n Done reply) = 0
+gate_refused (Queue n Refused reply) = 1
+gate_refused (Flush said) = 0
 
 -- this is what came of the work of a piece: what the gate tells of it, if it tells; the end of a process asks no gate, and is done
 abbrev pub IsAnswerTo : (Handed → Option Answer) → Handed → Answer → Type 0
@@ -50,26 +52,30 @@ IsOfHanded c (Next (asked.Wait w)) = ⊤
 IsOfHanded c (Next asked.AllEnded) = ⊤
 IsOfHanded c (Next (asked.Stuck i)) = ⊤
 IsOfHanded c (Next (asked.Closed k)) = ⊤
-IsOfHanded c (Finish n answer reply) = ⊤
+IsOfHanded c (Queue n answer reply) = ⊤
+IsOfHanded c (Flush said) = ⊤
 
--- the end of a piece that the core has handed out is answered as gates tell it
+-- the queueing of a piece that the core has handed out is answered as gates tell it
 abbrev pub IsToldOf : (Handed → Option Answer) → CoreState → TurnEntry → Type 0
 IsToldOf answers c (Next said) = ⊤
-IsToldOf answers c (Finish n answer reply) = (d : Handed) → d.piece.number ≡ n → IsHandedAs c d → IsAnswerTo answers d answer
+IsToldOf answers c (Queue n answer reply) = (d : Handed) → d.piece.number ≡ n → IsHandedAs c d → IsAnswerTo answers d answer
+IsToldOf answers c (Flush said) = ⊤
 
 -- What a core has kept since it was another one, by the entries that led there: none started; each step and undo that was handed
--- out is that of a request; where the ends of pieces are answered as gates tell it, what was kept is by these answers; and no more
--- pieces were refused that are not barred than were answered so.
-pub record IsByEntries (catalog : Catalog) (old new : CoreState) (entries : List TurnEntry) : Type 0 where
+-- out is that of a request; where pieces are queued as gates tell it, what was kept is by these answers, and each piece that is
+-- queued is done; and no more pieces were refused that are not barred than were answered so.
+pub record IsByEntries (catalog : Catalog) (old new : CoreState) (queued : List Handed) (entries : List TurnEntry) : Type 0 where
   pub plans : new.plans ≡ old.plans
   pub requests : Each (IsOfHanded new) entries
   pub handed : steps_handed (kept_since old new) ≡ total (gate_asked new) entries
   pub answered : (answers : Handed → Option Answer) → Each (IsToldOf answers new) entries
       → AreAnswered answers catalog (with_served old 0) (kept_since old new)
+  pub done : (answers : Handed → Option Answer) → Each (IsToldOf answers new) entries
+      → Each (λ d. IsAnswerTo answers d Done) queued
   pub refused : unbarred_refusals catalog (with_served old 0) (kept_since old new) ≤ total gate_refused entries
 
 -- with no entry nothing is kept
-pub by_none : (catalog : Catalog) (c : CoreState) → IsByEntries catalog c c []
+pub by_none : (catalog : Catalog) (c : CoreState) → IsByEntries catalog c c [] []
 by_none catalog c =
     let none = kept_is c c [] (sym (append-nil c.kept)) in
     record {
@@ -77,5 +83,6 @@ by_none catalog c =
       requests = tt;
       handed = ap steps_handed none;
       answered = λ answers told. subst (AreAnswered answers catalog (with_served c 0)) (sym none) tt;
+      done = λ answers told. tt;
       refused = omega (arith, ap (unbarred_refusals catalog (with_served c 0)) none);
     }

@@ -1,77 +1,159 @@
 // The engine in a desk.
-ghost use Rattle.std.specs.Prelude.{◌≡◌, List, [], ◌∷◌, ◌++◌, ◌||◌, IfOk};
+ghost use Rattle.std.specs.Prelude.{◌≡◌, ℕ, List, [], ◌∷◌, ◌++◌, ◌||◌, ◌&&◌, true, length, IfOk};
 ghost use Rattle.machine_model.specs.declared.kept.Work.TheVariants.{End};
-ghost use Rattle.history_files.specs.Standing.{EachFits};
 ghost use Rattle.engine_steps.specs.Engines.{EngineState};
 ghost use Rattle.engine_calls.specs.GateAnswers.{IsGiven, IsHandedAs};
 ghost use Rattle.shared_engine.specs.declared.entries.TurnEntry.TheVariants as entry;
-ghost use Rattle.shared_engine.specs.Entries.{finish_said, lacks_memory, next_said};
-ghost use Rattle.shared_engine.specs.Shared.{AreOf, IsAtRest, StandsFor, opens};
+ghost use Rattle.shared_engine.specs.Entries.{flush_said, lacks_memory, next_said};
+ghost use Rattle.shared_engine.specs.Outcomes.{HandsBack, HandsBackAgain, IsGivenBy, entry_of_queue, flushes_first, is_flush};
+ghost use Rattle.shared_engine.specs.Outcomes.{lacks_memory_again, next_entry, queue_entry};
+ghost use Rattle.shared_engine.specs.Shared.{AreOf, MayBeCalled, StandsFor, asks_for_flush, is_full, opens};
 
 use crate::entries::TurnEntry;
-use engine_calls::{finish, next};
+use crate::outcomes::{NextTurn, QueueTurn};
+use engine_calls::{flush, next, queue};
+use group_flush::{Flush, Queue, Queued};
 use history_lock::Held;
 use process_core::{Next, Piece};
 use process_disk::Rack;
-use process_engine::{Answer, Closed, Engine, Finish};
+use process_engine::{Answer, Closed, Engine};
 use resource_box::Resource;
 
-/// An engine, and whether the end of a piece has found no memory.
+/// An engine, and what is queued at it.
 pub struct SharedEngine<R: Rack + Drop, B: Resource> {
     pub engine: Engine<R, B>,
+    pub queued: Queued,
+    /// Since the last flush a piece found the group full, or a request had to wait while something was queued.
+    pub due: bool,
+    /// The queueing of a piece has found no memory.
     pub starved: bool,
 }
 
 impl<R: Rack + Drop, B: Resource> SharedEngine<R, B> {
-    /// Hands out the first free piece in rotation, or says why there is none; a closed engine says so. Tells too whether the end of
-    /// a piece has found no memory.
-    pub fn next(&mut self) -> (Result<Next, Closed>, bool)
-        requires rest { IsAtRest self.old.engine.phase }
-        requires fits { EachFits B.meaning B.sort self.old.engine.files.stores }
-        ensures leads { (o : EngineState R B) (es : List TurnEntry) → AreOf R.disk R.faults B.meaning B.sort o es self.old.engine
-            → AreOf R.disk R.faults B.meaning B.sort o (es ++ entry.Next (next_said result.0) ∷ []) self.new.engine }
-        ensures given { IfOk result.0 (IsGiven self.new.engine.core) }
-        ensures starved { (self.new.starved ≡ self.old.starved) × (result.1 ≡ self.old.starved) }
+    /// Hands out the first free piece in rotation, or says why there is none; a closed engine says so. Where the caller was told to
+    /// wait in its last turn, a flush that is due is made in its place. Tells too whether one is due then, and whether the queueing
+    /// of a piece has found no memory.
+    pub fn ask(&mut self, waited: bool) -> (NextTurn, bool, bool)
+        requires called { MayBeCalled B.meaning B.sort self.old }
+        ensures leads { (o : EngineState R B) (es : List TurnEntry) → AreOf R.disk R.faults B.meaning B.sort o es self.old
+            → AreOf R.disk R.faults B.meaning B.sort o (es ++ next_entry result.0 ∷ []) self.new }
+        ensures given { IsGivenBy self.new.engine.core result.0 }
+        ensures flushes { is_flush result.0 ≡ (waited && self.old.due) }
+        ensures told { (result.1 ≡ self.new.due) × (result.2 ≡ self.new.starved) }
+        ensures starved { self.new.starved ≡ self.old.starved }
     {
-        self.engine.invariant_holds();
-        if let Err(closed) = self.engine.not_closed() {
-            return (Err(closed), self.starved);
-        }
-        (Ok(next(&mut self.engine)), self.starved)
+        let reply = if waited && self.due {
+            NextTurn::Flushed(self.flush())
+        } else {
+            NextTurn::Answered(self.next())
+        };
+        (reply, self.due, self.starved)
     }
 
-    /// Ends a piece that this engine handed out, by what came of its work; a closed engine says so.
-    pub fn finish(&mut self, piece: Piece, answer: Answer) -> Finish
-        requires rest { IsAtRest self.old.engine.phase }
-        requires fits { EachFits B.meaning B.sort self.old.engine.files.stores }
+    /// Queues a piece that this engine handed out, by what came of its work; a closed engine says so.
+    pub fn hand_in(&mut self, piece: Piece, answer: Answer) -> Queue
+        requires called { MayBeCalled B.meaning B.sort self.old }
         requires handed { IsHandedAs self.old.engine.core piece }
         requires end { piece.piece.work ≡ End → answer ≡ Answer.Done }
-        ensures leads { (o : EngineState R B) (es : List TurnEntry) → AreOf R.disk R.faults B.meaning B.sort o es self.old.engine
-            → AreOf R.disk R.faults B.meaning B.sort o
-            (es ++ entry.Finish piece.piece.number answer (finish_said result) ∷ []) self.new.engine }
+        ensures leads { (o : EngineState R B) (es : List TurnEntry) → AreOf R.disk R.faults B.meaning B.sort o es self.old
+            → AreOf R.disk R.faults B.meaning B.sort o (es ++ entry_of_queue piece.piece.number answer result ∷ []) self.new }
+        ensures back { HandsBack piece answer result }
         ensures starved { self.new.starved ≡ self.old.starved || lacks_memory result }
     {
         self.engine.invariant_holds();
         if let Err(Closed(count)) = self.engine.not_closed() {
-            return Finish::Closed(count);
+            return Queue::Closed(count);
         }
-        let reply = finish(&mut self.engine, piece, answer);
-        self.starved = self.starved || finds_no_memory(&reply);
+        let reply = queue(&mut self.engine, &mut self.queued, piece, answer);
+        self.due = either(self.due, finds_full(&reply));
+        self.starved = either(self.starved, finds_no_memory(&reply));
         reply
+    }
+
+    /// Queues a piece whose work is done, and for which the group was full when it was last to be queued. A flush that is due is
+    /// made in its place.
+    pub fn hand_in_again(&mut self, piece: Piece) -> QueueTurn
+        requires called { MayBeCalled B.meaning B.sort self.old }
+        requires handed { IsHandedAs self.old.engine.core piece }
+        ensures leads { (o : EngineState R B) (es : List TurnEntry) → AreOf R.disk R.faults B.meaning B.sort o es self.old
+            → AreOf R.disk R.faults B.meaning B.sort o (es ++ queue_entry piece.piece.number result ∷ []) self.new }
+        ensures back { HandsBackAgain piece result }
+        ensures flushes { flushes_first result ≡ self.old.due }
+        ensures starved { self.new.starved ≡ self.old.starved || lacks_memory_again result }
+    {
+        if self.due {
+            return QueueTurn::Flushed(self.flush(), piece);
+        }
+        QueueTurn::Answered(self.hand_in(piece, Answer::Done))
+    }
+
+    // A request for any piece.
+    fn next(&mut self) -> Result<Next, Closed>
+        requires called { MayBeCalled B.meaning B.sort self.old }
+        ensures leads { (o : EngineState R B) (es : List TurnEntry) → AreOf R.disk R.faults B.meaning B.sort o es self.old
+            → AreOf R.disk R.faults B.meaning B.sort o (es ++ entry.Next (next_said result) ∷ []) self.new }
+        ensures given { IfOk result (IsGiven self.new.engine.core) }
+        ensures starved { self.new.starved ≡ self.old.starved }
+    {
+        self.engine.invariant_holds();
+        if let Err(closed) = self.engine.not_closed() {
+            return Err(closed);
+        }
+        let reply = next(&mut self.engine);
+        let asks = asks_for_flush(&reply, self.queued.count());
+        self.due = either(self.due, asks);
+        Ok(reply)
+    }
+
+    // The queued pieces take effect; it is no more due.
+    fn flush(&mut self) -> Flush
+        requires called { MayBeCalled B.meaning B.sort self.old }
+        requires due { self.old.due ≡ true }
+        ensures leads { (o : EngineState R B) (es : List TurnEntry) → AreOf R.disk R.faults B.meaning B.sort o es self.old
+            → AreOf R.disk R.faults B.meaning B.sort o (es ++ entry.Flush (flush_said result) ∷ []) self.new }
+        ensures starved { self.new.starved ≡ self.old.starved }
+    {
+        self.engine.invariant_holds();
+        self.due = false;
+        if let Err(Closed(count)) = self.engine.not_closed() {
+            return Flush::Closed(count);
+        }
+        flush(&mut self.engine, &mut self.queued)
     }
 }
 
-// Whether the end of a piece found no memory.
-fn finds_no_memory(reply: &Finish) -> bool
+// A mark that stays, and may be set.
+fn either(mark: bool, sets: bool) -> bool
+    ensures { result ≡ mark || sets }
+{
+    mark || sets
+}
+
+// Whether a request that is answered so has to wait while so many pieces are queued.
+fn asks_for_flush(reply: &Next, count: usize) -> bool
+    ensures { result ≡ asks_for_flush reply.now count }
+{
+    matches!(reply, Next::Wait(_)) && count != 0
+}
+
+// Whether a piece found the group full.
+fn finds_full(reply: &Queue) -> bool
+    ensures { result ≡ is_full reply.now }
+{
+    matches!(reply, Queue::Full(_))
+}
+
+// Whether the queueing of a piece found no memory.
+fn finds_no_memory(reply: &Queue) -> bool
     ensures { result ≡ lacks_memory reply.now }
 {
-    matches!(reply, Finish::NoMemory(_))
+    matches!(reply, Queue::NoMemory(_))
 }
 
 impl<R: Rack + Drop, B: Resource> Held for SharedEngine<R, B> {
     type Entry = TurnEntry;
 
-    ghost stands_for = { λ opening entries now. StandsFor R.disk R.faults B.meaning B.sort opening.engine entries now.engine };
+    ghost stands_for = { λ opening entries now. StandsFor R.disk R.faults B.meaning B.sort opening entries now };
 
-    ghost opens = { λ x. opens R.disk R.faults B.meaning B.sort x.engine };
+    ghost opens = { λ x. opens R.disk R.faults B.meaning B.sort x };
 }

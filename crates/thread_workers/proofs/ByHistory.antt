@@ -1,5 +1,5 @@
 -- What workers did is a run by their gates.
-use Rattle.std.proofs.Common.{◌≡◌, ◌⊎◌, inl, inr, ◌∙◌, ◌<◌, ◌≤◌, ℕ, zero, suc, ◌+◌, Bool, true, false, eqb, if◌then◌else◌, List, [], ◌∷◌, length, unwrap_or, Option as Maybe, refl, sym, ap, subst, arith}
+use Rattle.std.proofs.Common.{◌≡◌, inl, inr, ◌∙◌, ◌<◌, ◌≤◌, ℕ, zero, suc, ◌+◌, Bool, true, false, eqb, if◌then◌else◌, List, [], ◌∷◌, filter, length, unwrap_or, Option as Maybe, refl, sym, ap, subst, arith}
 use Rattle.std.proofs.lemmas.Bool.{eq-eqb, eqb-true}
 use mathlib.Core.Option.{some, some-injective, some-ne-none}
 use lib.ListN.{get_elem?}
@@ -9,56 +9,82 @@ use Rattle.process_tree.specs.declared.play.Outcome.TheVariants as outcome
 use Rattle.process_tree.proofs.Every.{Each-append}
 use Rattle.resource_box.specs.declared.call.Kind.{Kind}
 use Rattle.resource_box.specs.Meaning.{Pairs}
-use Rattle.machine_model.specs.Pieces.{piece_of}
+use Rattle.machine_model.specs.Calls.{finish, next}
+use Rattle.machine_model.specs.Pieces.{piece_of, runs}
 use Rattle.machine_model.specs.Replies.{Handed}
-use Rattle.process_core.specs.Cores.{CoreState}
+use Rattle.process_core.specs.Answers.{after_call}
+use Rattle.process_core.specs.Cores.{CoreState, moment_of}
 use Rattle.process_engine.specs.declared.gates.Answer.{Answer}
 use Rattle.engine_steps.specs.Engines.{EngineState}
 use Rattle.engine_calls.specs.GateAnswers.{GateCounts, as_handed}
+use Rattle.engine_calls.specs.Runs.{GoesOnAlone}
 use Rattle.worker_gate.specs.ManyGates.{AreAskedInAll, AreCalls, AskedGates, IsCall, IsLow, RanByGates, all_refusals}
 use Rattle.worker_gate.proofs.ManyCalls.{calls_running}
 use Rattle.history_lock.specs.Weights.{total, weigh, weigh_from, AllStand, StandsAt}
 use Rattle.history_lock.proofs.Sums.{weigh-append}
 use Rattle.history_files.specs.Effects.{subsystem_of}
 use Rattle.shared_engine.specs.declared.entries.NextSaid.TheVariants as asked
-use Rattle.shared_engine.specs.declared.entries.FinishSaid.TheVariants as ended
+use Rattle.shared_engine.specs.declared.entries.FlushSaid.TheVariants as flushed
+use Rattle.shared_engine.specs.declared.entries.QueueSaid.TheVariants as put
 use Rattle.shared_engine.specs.declared.entries.TurnEntry.{TurnEntry}
-use Rattle.shared_engine.specs.declared.entries.TurnEntry.TheVariants.{Next, Finish}
-use Rattle.shared_engine.specs.Progress.{Progress, after, after_all, progress}
-use Rattle.shared_engine.specs.Tallies.{IsAnswerTo, IsToldOf, gate_asked, gate_refused}
+use Rattle.shared_engine.specs.declared.entries.TurnEntry.TheVariants.{Next, Queue, Flush}
+use Rattle.shared_engine.specs.Progress.{Progress, after, after_all, after_effects, opened, progress}
+use Rattle.shared_engine.specs.Tallies.{IsAnswerTo, IsByEntries, IsToldOf, gate_asked, gate_refused}
 use Rattle.shared_engine.proofs.HandedLater.{led_to}
 use Rattle.thread_workers.specs.History.{AreOfWorker, AreTallied, IsOneHistory, flat}
 use Rattle.thread_workers.specs.Workers.{AreWorked, IsWorked}
-
--- an entry is a call of the machine, or leaves it as it is
-entry_call : (p : Progress) (e : TurnEntry) → IsCall p.core (after p e).core ⊎ ((after p e).core ≡ p.core)
-entry_call p (Next (asked.Piece n)) = inl (inl refl)
-entry_call p (Next (asked.Wait w)) = inl (inl refl)
-entry_call p (Next asked.AllEnded) = inl (inl refl)
-entry_call p (Next (asked.Stuck i)) = inl (inl refl)
-entry_call p (Next (asked.Closed k)) = inr refl
-entry_call p (Finish n a (ended.Effected k)) = inl (inr (n, outcome.Done, refl))
-entry_call p (Finish n a (ended.Retry k)) = inl (inr (n, outcome.Refused, refl))
-entry_call p (Finish n a ended.Failed) = inl (inr (n, outcome.Refused, refl))
-entry_call p (Finish n a ended.Exhausted) = inl (inr (n, outcome.Refused, refl))
-entry_call p (Finish n a ended.Over) = inr refl
-entry_call p (Finish n a (ended.Dropped k)) = inr refl
-entry_call p (Finish n a ended.DiskFault) = inr refl
-entry_call p (Finish n a (ended.NoMemory k)) = inr refl
-entry_call p (Finish n a (ended.Closed k)) = inr refl
 
 -- calls led from one core to another
 record CallsTo (old new : CoreState) : Type 0 where
   pub cores : List CoreState
   pub calls : AreCalls cores old new
 
-calls_behind : (c d x : CoreState) → IsCall c d ⊎ (d ≡ c) → CallsTo d x → CallsTo c x
-calls_behind c d x (inl call) rest = record { cores = d ∷ rest.cores; calls = (call, rest.calls) }
-calls_behind c d x (inr same) rest = subst (λ z. CallsTo z x) same rest
+no_calls : (c : CoreState) → CallsTo c c
+no_calls c = record { cores = []; calls = refl }
+
+one_call : (c d : CoreState) → IsCall c d → CallsTo c d
+one_call c d call = record { cores = d ∷ []; calls = (call, refl) }
+
+behind : (c d x : CoreState) (cores more : List CoreState) → AreCalls cores c d → AreCalls more d x → CallsTo c x
+behind c d x [] more are rest = record { cores = more; calls = subst (λ z. AreCalls more z x) are rest }
+behind c d x (m ∷ cores) more are rest = let all = behind m d x cores more are.1 rest in record { cores = m ∷ all.cores; calls = (are.0, all.calls) }
+
+calls_behind : (c d x : CoreState) → CallsTo c d → CallsTo d x → CallsTo c x
+calls_behind c d x one two = behind c d x one.cores two.cores one.calls two.calls
+
+-- Each effect of a flush is the end of a piece.
+effects_calls : (c : CoreState) (ns : List ℕ) → CallsTo c (after_effects c ns)
+effects_calls c [] = no_calls c
+effects_calls c (n ∷ ns) =
+    let next : CoreState = after_call c (finish n outcome.Done) in
+    calls_behind c next (after_effects next ns) (one_call c next (inr (n, outcome.Done, refl))) (effects_calls next ns)
+
+refusal_call : (c : CoreState) (n : ℕ) → CallsTo c (after_call c (finish n outcome.Refused))
+refusal_call c n = one_call c (after_call c (finish n outcome.Refused)) (inr (n, outcome.Refused, refl))
+
+-- an entry is calls of the machine: one, or those of a flush, or none
+entry_calls : (p : Progress) (e : TurnEntry) → CallsTo p.core (after p e).core
+entry_calls p (Next (asked.Piece n)) = one_call p.core (after_call p.core next) (inl refl)
+entry_calls p (Next (asked.Wait w)) = one_call p.core (after_call p.core next) (inl refl)
+entry_calls p (Next asked.AllEnded) = one_call p.core (after_call p.core next) (inl refl)
+entry_calls p (Next (asked.Stuck i)) = one_call p.core (after_call p.core next) (inl refl)
+entry_calls p (Next (asked.Closed k)) = no_calls p.core
+entry_calls p (Queue n a put.Queued) = no_calls p.core
+entry_calls p (Queue n a (put.Full k)) = no_calls p.core
+entry_calls p (Queue n a (put.Retry k)) = refusal_call p.core n
+entry_calls p (Queue n a put.Failed) = refusal_call p.core n
+entry_calls p (Queue n a put.Exhausted) = refusal_call p.core n
+entry_calls p (Queue n a put.Over) = no_calls p.core
+entry_calls p (Queue n a (put.Dropped k)) = no_calls p.core
+entry_calls p (Queue n a (put.NoMemory k)) = no_calls p.core
+entry_calls p (Queue n a (put.Closed k)) = no_calls p.core
+entry_calls p (Flush (flushed.Flushed n)) = effects_calls p.core (filter (runs (moment_of p.core)) p.group)
+entry_calls p (Flush flushed.DiskFault) = no_calls p.core
+entry_calls p (Flush (flushed.Closed k)) = no_calls p.core
 
 entries_calls : (p : Progress) (es : List TurnEntry) → CallsTo p.core (after_all p es).core
-entries_calls p [] = record { cores = []; calls = refl }
-entries_calls p (e ∷ es) = calls_behind p.core (after p e).core (after_all (after p e) es).core (entry_call p e) (entries_calls (after p e) es)
+entries_calls p [] = no_calls p.core
+entries_calls p (e ∷ es) = calls_behind p.core (after p e).core (after_all (after p e) es).core (entry_calls p e) (entries_calls (after p e) es)
 
 -- a place that has a property, and to which h gives a weight
 abbrev Found : {X : Type 0} → (ℕ × X → Type 0) → (ℕ → X → ℕ) → Type 0
@@ -118,7 +144,8 @@ module _ (answers : Handed → Maybe Answer) (c : CoreState) (history : List Tur
   -- the answers of a worker are told of whichever piece has that number
   worked_told : (e : TurnEntry) → IsWorked answers c e → IsToldOf answers c e
   worked_told (Next said) is = tt
-  worked_told (Finish n a reply) is = λ d number handed.
+  worked_told (Flush said) is = tt
+  worked_told (Queue n a reply) is = λ d number handed.
       let numbers : is.0.piece.number ≡ d.piece.number = is.1 ∙ sym number in
       let pieces : is.0.piece ≡ d.piece = ap (λ o. unwrap_or o d.piece) (sym is.2.handed ∙ (ap (piece_of c.kept) numbers ∙ handed.handed)) in
       let same : is.0 ≡ d = sym is.2.told ∙ (ap (as_handed c) pieces ∙ handed.told) in
@@ -136,7 +163,7 @@ module _ (answers : Handed → Maybe Answer) (c : CoreState) (history : List Tur
         let same : call.0.1 ≡ e = some-injective call.0.1 e (sym stands.2 ∙ (ap (λ k. get_elem? history k) here ∙ at)) in
         subst (IsToldOf answers c) same (worked_told call.0.1 call.2.1)
 
-    -- each end of a piece is answered as gates tell it
+    -- each piece is queued as gates tell it
     each_told : Each (IsToldOf answers c) history
     each_told = each_elem (IsToldOf answers c) history told_at
 
@@ -173,17 +200,17 @@ asked_all c (x ∷ xs) (y ∷ ys) [] are = absurd are
 -- One history of workers is a run of the engine by their gates.
 pub ran_by_history : {R B : Type 0} (disk : R → Disk) (faults : R → ℕ) (meaning : B → Pairs) (sort : B → Kind) (gates : AskedGates) (o x : EngineState R B)
     → IsOneHistory disk faults meaning sort gates o x → RanByGates disk faults gates o x
-ran_by_history disk faults meaning sort gates o x one =
+ran_by_history {R = R} {B = B} disk faults meaning sort gates o x one =
     let c = x.core in
     let led = one.led in
-    let by = led.by_entries in
-    let calls = entries_calls (progress o) one.history in
-    let core = ap (λ (p : Progress). p.core) (led_to (subsystem_of o.catalog.ops) (progress o) one.history (progress x) led.told) in
+    let by = subst (λ (e : EngineState R B). IsByEntries o.catalog o.core e.core one.last.queued one.history) one.engine led.by_entries in
+    let calls = entries_calls (opened o) one.history in
+    let core = sym (ap (λ (e : EngineState R B). e.core) one.engine) ∙ ap (λ (p : Progress). p.core) (led_to (subsystem_of o.catalog.ops) (opened o) one.history (progress one.last) led.told) in
     let all = subst (AreCalls calls.cores o.core) (sym core) calls.calls in
     let refused = one.once (λ n e. gate_refused e) ∙ weighs_total gate_refused 0 one.history in
     let asks = one.once (λ n e. gate_asked c e) ∙ (weighs_total (gate_asked c) 0 one.history ∙ sym by.handed) in
     record {
-      goes = led.goes;
+      goes = subst (GoesOnAlone disk faults o) one.engine led.goes;
       plans = by.plans;
       running = calls_running calls.cores o.core c all;
       by_gates = record {

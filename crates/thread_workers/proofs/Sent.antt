@@ -73,7 +73,13 @@ module _ (R B : RattleType) (g : Racks R.Denot) where
   pub shared_send : IsSend R → IsSend B → IsSend (shared.the_row R B g)
   shared_send r b =
       recorded_send (shared.the_field R B g).row _ _ (shared.the_type R B g).to_one
-      (struct_send (shape (shared.the_type R B g)) (engine_send r b, (search (crosses, sendable) depth 60 fits 20000, tt)))
+      (struct_send (shape (shared.the_type R B g)) (
+        engine_send r b,
+        (
+          search (crosses, knot.crosses, sendable) depth 60 fits 20000,
+          (search (crosses, sendable) depth 60 fits 20000, (search (crosses, sendable) depth 60 fits 20000, tt)),
+        ),
+      ))
 
 -- a closure that holds two things which may be shared may be shared
 pub two_sync : (name : Sym) (T U : RattleType) → IsSync T → IsSync U → IsSync (TupleAt name (T ∷ U ∷ []))

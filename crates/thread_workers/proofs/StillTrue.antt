@@ -18,6 +18,7 @@ use Rattle.machine_model.specs.CallLaws.{IsStuck}
 use Rattle.machine_model.specs.Calls.{Call, IsNoStart, finish, next, next_is}
 use Rattle.machine_model.specs.Groups.{Subsystems}
 use Rattle.machine_model.specs.Moment.{Moment, Piece}
+use Rattle.machine_model.specs.Pieces.{runs}
 use Rattle.machine_model.specs.Replies.{all_ended, all_victims, next_reply, none_free_by_active, piece_of_free, stuck, victims}
 use Rattle.machine_model.specs.Runs.{is_run}
 use Rattle.machine_model.specs.State.{is_free}
@@ -25,7 +26,6 @@ use Rattle.machine_model.proofs.CallsKept.{call-makes_run}
 use Rattle.machine_model.proofs.OwnOrder.{run-own_order}
 use Rattle.process_core.specs.Answers.{after_call, answer_in}
 use Rattle.process_core.specs.Cores.{CoreState, IsCore, courses_in, history_of, machine_of, moment_of, relation}
-use Rattle.engine_steps.specs.Engines.{EngineState}
 use Rattle.engine_steps.specs.declared.engines.Phase.TheVariants.{Closed}
 use Rattle.worker_gate.specs.declared.alone.RunOutcome.{RunOutcome}
 use Rattle.worker_gate.specs.declared.alone.RunOutcome.TheVariants.{AllEnded, Stuck, DiskFault, NoMemory}
@@ -33,13 +33,16 @@ use Rattle.worker_gate.specs.Running.{IsOutcome}
 use Rattle.worker_gate.proofs.AloneReplies.{all_have_ended, stuck_again, stuck_stays}
 use Rattle.shared_engine.specs.declared.entries.NextSaid.{NextSaid}
 use Rattle.shared_engine.specs.declared.entries.NextSaid.TheVariants as asked
-use Rattle.shared_engine.specs.declared.entries.FinishSaid.{FinishSaid}
-use Rattle.shared_engine.specs.declared.entries.FinishSaid.TheVariants as ended
+use Rattle.shared_engine.specs.declared.entries.FlushSaid.{FlushSaid}
+use Rattle.shared_engine.specs.declared.entries.FlushSaid.TheVariants as flushed
+use Rattle.shared_engine.specs.declared.entries.QueueSaid.{QueueSaid}
+use Rattle.shared_engine.specs.declared.entries.QueueSaid.TheVariants as put
+use Rattle.shared_engine.specs.declared.shared.SharedEngine.{SharedEngine}
 use Rattle.shared_engine.specs.declared.entries.TurnEntry.{TurnEntry}
-use Rattle.shared_engine.specs.declared.entries.TurnEntry.TheVariants.{Next, Finish}
-use Rattle.shared_engine.specs.Progress.{AreTold, IsTold, Progress, after, after_finish, after_next, progress}
+use Rattle.shared_engine.specs.declared.entries.TurnEntry.TheVariants.{Next, Queue, Flush}
+use Rattle.shared_engine.specs.Progress.{AreTold, IsTold, Progress, after, after_effects, after_flush, after_next, after_queue, progress}
 use Rattle.thread_workers.specs.Workers.{Has, Stops}
-use Rattle.thread_workers.proofs.Reported.{moves, none_moves, reported, reported_closed}
+use Rattle.thread_workers.proofs.Reported.{flush_closed, moves, none_moves, none_running, reported, reported_closed}
 
 -- The machine of a core: its plans are good, it opened on a legal history, and it is a run.
 pub record IsRunning (c : CoreState) : Type 0 where
@@ -65,20 +68,30 @@ next_core c (asked.Closed k) = inr refl
 by_request : (P : CoreState → Type 0) (c : CoreState) (said : NextSaid) → P c → P (after_call c next) → P (after_next c said)
 by_request P c said here there = ⊎_elim (λ is. subst P (sym is) there) (λ is. subst P (sym is) here) (next_core c said)
 
-running_finish : (p : Progress) (n : ℕ) (s : FinishSaid) → IsRunning p.core → IsRunning (after_finish p n s).core
-running_finish p n (ended.Effected k) is = running_call p.core (finish n outcome.Done) tt is
-running_finish p n (ended.Retry k) is = running_call p.core (finish n outcome.Refused) tt is
-running_finish p n ended.Failed is = running_call p.core (finish n outcome.Refused) tt is
-running_finish p n ended.Exhausted is = running_call p.core (finish n outcome.Refused) tt is
-running_finish p n ended.Over is = is
-running_finish p n (ended.Dropped k) is = is
-running_finish p n ended.DiskFault is = is
-running_finish p n (ended.NoMemory k) is = is
-running_finish p n (ended.Closed k) is = is
+running_queue : (c : CoreState) (n : ℕ) (s : QueueSaid) → IsRunning c → IsRunning (after_queue c n s)
+running_queue c n put.Queued is = is
+running_queue c n (put.Full k) is = is
+running_queue c n (put.Retry k) is = running_call c (finish n outcome.Refused) tt is
+running_queue c n put.Failed is = running_call c (finish n outcome.Refused) tt is
+running_queue c n put.Exhausted is = running_call c (finish n outcome.Refused) tt is
+running_queue c n put.Over is = is
+running_queue c n (put.Dropped k) is = is
+running_queue c n (put.NoMemory k) is = is
+running_queue c n (put.Closed k) is = is
+
+running_effects : (c : CoreState) (ns : List ℕ) → IsRunning c → IsRunning (after_effects c ns)
+running_effects c [] is = is
+running_effects c (n ∷ ns) is = running_effects (after_call c (finish n outcome.Done)) ns (running_call c (finish n outcome.Done) tt is)
+
+running_flush : (p : Progress) (s : FlushSaid) → IsRunning p.core → IsRunning (after_flush p s).core
+running_flush p (flushed.Flushed n) is = running_effects p.core (filter (runs (moment_of p.core)) p.group) is
+running_flush p flushed.DiskFault is = is
+running_flush p (flushed.Closed k) is = is
 
 running_after : (p : Progress) (e : TurnEntry) → IsRunning p.core → IsRunning (after p e).core
 running_after p (Next said) is = by_request IsRunning p.core said is (running_call p.core next tt is)
-running_after p (Finish n a s) is = running_finish p n s is
+running_after p (Queue n a s) is = running_queue p.core n s is
+running_after p (Flush s) is = running_flush p s is
 
 none_out : (es : List Event) (ps : List Piece) → Each (λ (p : Piece). is_active es p.process ≡ true) ps → active es ≡ [] → ps ≡ []
 none_out es [] each none = refl
@@ -117,44 +130,49 @@ IsOver (Stuck i) p = IsStuckAt i p.core
 IsOver DiskFault p = p.phase ≡ Closed
 IsOver NoMemory p = ⊤
 
-pub outcome_is : {R B : Type 0} (o : RunOutcome) (e : EngineState R B) → IsOver o (progress e) → IsOutcome e o
-outcome_is AllEnded e over = over
-outcome_is (Stuck i) e over = over
-outcome_is DiskFault e over = over
-outcome_is NoMemory e over = tt
+pub outcome_is : {R B : Type 0} (o : RunOutcome) (x : SharedEngine R B) → IsOver o (progress x) → IsOutcome x.engine o
+outcome_is AllEnded x over = over
+outcome_is (Stuck i) x over = over
+outcome_is DiskFault x over = over
+outcome_is NoMemory x over = tt
 
--- the end of a piece that moves nothing
-still : (p : Progress) (n : ℕ) (s : FinishSaid) → moves s ≡ false → after_finish p n s ≡ p
-still p n (ended.Effected k) is = absurd (false≢true (sym is))
-still p n (ended.Retry k) is = absurd (false≢true (sym is))
-still p n ended.Failed is = absurd (false≢true (sym is))
-still p n ended.Exhausted is = absurd (false≢true (sym is))
-still p n ended.DiskFault is = absurd (false≢true (sym is))
-still p n ended.Over is = refl
-still p n (ended.Dropped k) is = refl
-still p n (ended.NoMemory k) is = refl
-still p n (ended.Closed k) is = refl
+-- a piece that is queued and moves nothing
+still : (c : CoreState) (n : ℕ) (s : QueueSaid) → moves s ≡ false → after_queue c n s ≡ c
+still c n (put.Retry k) is = absurd (false≢true (sym is))
+still c n put.Failed is = absurd (false≢true (sym is))
+still c n put.Exhausted is = absurd (false≢true (sym is))
+still c n put.Queued is = refl
+still c n (put.Full k) is = refl
+still c n put.Over is = refl
+still c n (put.Dropped k) is = refl
+still c n (put.NoMemory k) is = refl
+still c n (put.Closed k) is = refl
 
-closed_finish : (p : Progress) (n : ℕ) (s : FinishSaid) → p.phase ≡ Closed → (after_finish p n s).phase ≡ Closed
-closed_finish p n (ended.Effected k) is = is
-closed_finish p n (ended.Retry k) is = is
-closed_finish p n ended.Failed is = is
-closed_finish p n ended.Exhausted is = is
-closed_finish p n ended.Over is = is
-closed_finish p n (ended.Dropped k) is = is
-closed_finish p n ended.DiskFault is = refl
-closed_finish p n (ended.NoMemory k) is = is
-closed_finish p n (ended.Closed k) is = is
+-- a flush where no piece is out
+flush_still : (p : Progress) (s : FlushSaid) → (moment_of p.core).out ≡ [] → (after_flush p s).core ≡ p.core
+flush_still p (flushed.Flushed n) idle = ap (after_effects p.core) (none_running p.core idle p.group)
+flush_still p flushed.DiskFault idle = refl
+flush_still p (flushed.Closed k) idle = refl
+
+closed_flush : (p : Progress) (s : FlushSaid) → p.phase ≡ Closed → (after_flush p s).phase ≡ Closed
+closed_flush p (flushed.Flushed n) is = is
+closed_flush p flushed.DiskFault is = refl
+closed_flush p (flushed.Closed k) is = is
 
 module _ (subsystems : Subsystems) where
   -- it is so after another entry,
   over_after : (o : RunOutcome) (p : Progress) (e : TurnEntry) → IsRunning p.core → IsOver o p → IsTold subsystems p e → IsOver o (after p e)
   over_after AllEnded p (Next said) is over told = by_request (λ c. active (history_of c) ≡ []) p.core said over (ended_again p.core over)
-  over_after AllEnded p (Finish n a s) is over told = subst (IsOver AllEnded) (sym (still p n s (none_moves subsystems p.core (idle_ended p.core is over) p.phase n a s told))) over
+  over_after AllEnded p (Queue n a s) is over told =
+      subst (λ c. active (history_of c) ≡ []) (sym (still p.core n s (none_moves subsystems p.core p.group p.due (idle_ended p.core is over) p.phase n a s told))) over
+  over_after AllEnded p (Flush s) is over told = subst (λ c. active (history_of c) ≡ []) (sym (flush_still p s (idle_ended p.core is over))) over
   over_after (Stuck i) p (Next said) is over told = by_request (IsStuckAt i) p.core said over (stuck_after p.core i (sym over.0))
-  over_after (Stuck i) p (Finish n a s) is over told = subst (IsOver (Stuck i)) (sym (still p n s (none_moves subsystems p.core over.1.nothing_runs p.phase n a s told))) over
+  over_after (Stuck i) p (Queue n a s) is over told =
+      subst (IsStuckAt i) (sym (still p.core n s (none_moves subsystems p.core p.group p.due over.1.nothing_runs p.phase n a s told))) over
+  over_after (Stuck i) p (Flush s) is over told = subst (IsStuckAt i) (sym (flush_still p s over.1.nothing_runs)) over
   over_after DiskFault p (Next said) is over told = over
-  over_after DiskFault p (Finish n a s) is over told = closed_finish p n s over
+  over_after DiskFault p (Queue n a s) is over told = over
+  over_after DiskFault p (Flush s) is over told = closed_flush p s over
   over_after NoMemory p e is over told = tt
 
   -- after all that come,
@@ -165,13 +183,15 @@ module _ (subsystems : Subsystems) where
   -- and after the entry by which the worker stopped.
   stops_over : (o : RunOutcome) (p : Progress) (e : TurnEntry) → Stops o e → IsTold subsystems p e → IsOver o (after p e)
   stops_over AllEnded p e is told =
-      subst (λ (f : TurnEntry). IsOver AllEnded (after p f)) (sym is) (all_have_ended p.core (after_call p.core next) refl (reported subsystems p.core p.phase asked.AllEnded (subst (IsTold subsystems p) is told)))
+      subst (λ (f : TurnEntry). IsOver AllEnded (after p f)) (sym is)
+      (all_have_ended p.core (after_call p.core next) refl (reported subsystems p.core p.group p.due p.phase asked.AllEnded (subst (IsTold subsystems p) is told)))
   stops_over (Stuck i) p e is told =
-      subst (λ (f : TurnEntry). IsOver (Stuck i) (after p f)) (sym is) (stuck_after p.core i (reported subsystems p.core p.phase (asked.Stuck i) (subst (IsTold subsystems p) is told)))
-  stops_over DiskFault p (Next said) is told = reported subsystems p.core p.phase (asked.Closed is.0) (subst (λ (s : NextSaid). IsTold subsystems p (Next s)) is.1 told)
-  stops_over DiskFault p (Finish n a s) (inl is) told = subst (λ (r : FinishSaid). (after_finish p n r).phase ≡ Closed) (sym is) refl
-  stops_over DiskFault p (Finish n a s) (inr is) told =
-      subst (λ (r : FinishSaid). (after_finish p n r).phase ≡ Closed) (sym is.1) (reported_closed subsystems p.core p.phase n a is.0 (subst (λ (r : FinishSaid). IsTold subsystems p (Finish n a r)) is.1 told))
+      subst (λ (f : TurnEntry). IsOver (Stuck i) (after p f)) (sym is) (stuck_after p.core i (reported subsystems p.core p.group p.due p.phase (asked.Stuck i) (subst (IsTold subsystems p) is told)))
+  stops_over DiskFault p (Next said) is told = reported subsystems p.core p.group p.due p.phase (asked.Closed is.0) (subst (λ (s : NextSaid). IsTold subsystems p (Next s)) is.1 told)
+  stops_over DiskFault p (Queue n a s) is told = reported_closed subsystems p.core p.group p.due p.phase n a is.0 (subst (λ (r : QueueSaid). IsTold subsystems p (Queue n a r)) is.1 told)
+  stops_over DiskFault p (Flush s) (inl is) told = subst (λ (r : FlushSaid). (after_flush p r).phase ≡ Closed) (sym is) refl
+  stops_over DiskFault p (Flush s) (inr is) told =
+      subst (λ (r : FlushSaid). (after_flush p r).phase ≡ Closed) (sym is.1) (flush_closed subsystems p.core p.group p.due p.phase is.0 (subst (λ (r : FlushSaid). IsTold subsystems p (Flush r)) is.1 told))
   stops_over NoMemory p e is told = tt
 
   stopped_in : (o : RunOutcome) (p x : Progress) (e : TurnEntry) (before rest : List TurnEntry) → Stops o e → IsRunning p.core → AreTold subsystems p (before ++ e ∷ rest) x → IsOver o x

@@ -1,17 +1,20 @@
 -- What the whole run leaves.
-use Rattle.std.proofs.Common.{◌≡◌, ◌∙◌, ℕ, suc, List, [], ◌∷◌, ◌++◌, length, map, append_assoc, append-nil, sym, refl, ap, subst, subst₂, Option as Maybe, Some, None, unwrap_or, IfSome}
+use Rattle.std.proofs.Common.{◌≡◌, ◌∙◌, ℕ, suc, false, List, [], ◌∷◌, ◌++◌, length, map, append_assoc, append-nil, sym, refl, ap, subst, subst₂, Option as Maybe, Some, None, unwrap_or, IfSome}
 use Rattle.atomic_table.specs.Seated.{TableId}
-use Rattle.process_disk.specs.Disk.{Disk}
+use Rattle.process_disk.specs.Disk.{Disk, Told}
+use Rattle.process_disk.specs.Images.{EachImage}
 use Rattle.process_tree.specs.Order.{Each}
 use Rattle.resource_box.specs.declared.call.Kind.{Kind}
 use Rattle.resource_box.specs.Meaning.{Pairs}
 use Rattle.machine_model.specs.Replies.{Handed}
 use Rattle.history_files.specs.Effects.{subsystem_of}
-use Rattle.engine_steps.specs.Engines.{EngineState}
-use Rattle.process_core.specs.Cores.{CoreState}
+use Rattle.history_files.specs.Sound.{IsSound}
+use Rattle.engine_steps.specs.Engines.{EngineState, full_history}
+use Rattle.process_core.specs.Cores.{CoreState, IsCore}
 use Rattle.process_engine.specs.declared.gates.Answer.{Answer}
 use Rattle.process_engine.specs.declared.gates.Gate.{Ghosts as Gates}
 use Rattle.engine_calls.specs.GateAnswers.{GateCounts, counts_of}
+use Rattle.engine_calls.specs.Runs.{IsReady}
 use Rattle.worker_gate.specs.declared.alone.RunOutcome.{RunOutcome}
 use Rattle.worker_gate.specs.ManyGates.{asked_gates}
 use Rattle.worker_gate.specs.Running.{IsOutcome}
@@ -20,7 +23,7 @@ use Rattle.history_lock.specs.Weights.{weigh, AllStand}
 use Rattle.history_lock.specs.declared.held.Held.{Ghosts as Helds}
 use Rattle.shared_engine.specs.declared.entries.TurnEntry.{TurnEntry}
 use Rattle.shared_engine.specs.declared.shared.SharedEngine.{SharedEngine}
-use Rattle.shared_engine.specs.Progress.{progress}
+use Rattle.shared_engine.specs.Progress.{opened, progress}
 use Rattle.shared_engine.specs.Seats.{core_at}
 use Rattle.shared_engine.specs.Shared.{AreOf, IsOpening, StandsFor, opens}
 use Rattle.shared_engine.proofs.MadeTurns.{core_is}
@@ -71,6 +74,15 @@ abbrev nothing_done : {X G : Type 0} → List G → List (List X)
 nothing_done [] = []
 nothing_done (gate ∷ gates) = [] ∷ nothing_done gates
 
+-- an engine with what is queued at it, where no flush is due
+abbrev pub shared_at : {R B : Type 0} → EngineState R B → List Handed → SharedEngine R B
+shared_at e queued = record { engine = e; queued = queued; due = false; starved = false }
+
+-- a settled engine at which nothing is queued is an opening
+abbrev pub sound_at : {R B : Type 0} (disk : R → Disk) (meaning : B → Pairs) (sort : B → Kind) (e : EngineState R B) (queued : List Handed) → queued ≡ [] → IsReady meaning sort e → IsCore e.core
+    → (Told (disk e.files.rack) → EachImage (disk e.files.rack) (disk e.files.rack).moment (IsSound e.catalog (full_history e.core))) → IsOpening disk meaning sort (shared_at e queued)
+sound_at disk meaning sort e queued none ready core each = record { ready = ready; core = core; each = each; none = none; clear = refl }
+
 module _ {R B G : Type 0} (disk : R → Disk) (faults : R → ℕ) (meaning : B → Pairs) (sort : B → Kind) (ghosts : Gates G) where
   nothing_each : (o : EngineState R B) (gates : List G) → Each (AreOfWorker ghosts.answers o.core []) (nothing_done gates)
   nothing_each o [] = tt
@@ -85,12 +97,14 @@ module _ {R B G : Type 0} (disk : R → Disk) (faults : R → ℕ) (meaning : B 
   nothing_tallied c (gate ∷ gates) = (tally_none c (counts_of ghosts gate), nothing_tallied c gates)
 
   -- With no call the engine is as it was, and so are the gates.
-  pub no_call : (gates : List G) (o x : EngineState R B) → x ≡ o → IsOpening disk meaning sort o → IsOneHistory disk faults meaning sort (asked_gates ghosts gates gates) o x
+  pub no_call : (gates : List G) (o x : EngineState R B) → x ≡ o → IsOpening disk meaning sort (shared_at o []) → IsOneHistory disk faults meaning sort (asked_gates ghosts gates gates) o x
   no_call gates o x is sound =
       let counts = map (counts_of ghosts) gates in
       subst (IsOneHistory disk faults meaning sort (asked_gates ghosts gates gates) o) (sym is) (record {
         history = [];
-        led = opens disk faults meaning sort o sound;
+        last = shared_at o [];
+        engine = refl;
+        led = opens disk faults meaning sort (shared_at o []) sound;
         calls = nothing_done gates;
         workers = as_many o.core (nothing_done gates) counts counts (nothing_tallied o.core gates);
         each = nothing_each o gates;
@@ -103,7 +117,7 @@ module _ {R B G : Type 0} {h : Helds (SharedEngine R B) TurnEntry} (disk : R →
   flat_calls [] = refl
   flat_calls (job ∷ jobs) = flat-snoc (all_calls jobs) (job_places job) ∙ ap (λ l. l ++ job_places job) (flat_calls jobs)
 
-  module _ (o x : SharedEngine R B) (seen more : List TurnEntry) (led : AreOf disk faults meaning sort o.engine (seen ++ more) x.engine) where
+  module _ (o x : SharedEngine R B) (seen more : List TurnEntry) (led : AreOf disk faults meaning sort o.engine (seen ++ more) x) where
     -- what a worker did and what its gate counted, as all of the history shows it
     module _ (begun : GateCounts) (job : Job (SharedEngine R B) G TurnEntry h) (done : IsDoneSince disk meaning sort answers counts desk begun job) (opening : job_opening job ≡ Some o) (begins : IsBeginning (job_seen job) seen) where
       abbrev own : List (ℕ × TurnEntry)
@@ -125,7 +139,7 @@ module _ {R B G : Type 0} {h : Helds (SharedEngine R B) TurnEntry} (disk : R →
       worked_seen = subst (λ es. AreWorked answers (core_at o.engine es) own) begins.1 (worked_later answers o.engine (job_seen job) begins.0 own worked_at)
 
       core : x.engine.core ≡ core_at o.engine (seen ++ more)
-      core = core_is disk faults meaning sort o.engine x.engine (seen ++ more) led
+      core = core_is disk faults meaning sort o.engine x (seen ++ more) led
 
       worker_did : AllStand (seen ++ more) (job_places job) → AreOfWorker answers x.engine.core (seen ++ more) (job_places job)
       worker_did stand = (
@@ -163,17 +177,19 @@ module _ {R B G : Type 0} {h : Helds (SharedEngine R B) TurnEntry} (disk : R →
 -- What all workers did is one history.
 pub one_history : {R B G : Type 0} {h : Helds (SharedEngine R B) TurnEntry} (disk : R → Disk) (faults : R → ℕ) (meaning : B → Pairs) (sort : B → Kind) (ghosts : Gates G) (desk : TableId)
     (befores jobs : List (Job (SharedEngine R B) G TurnEntry h)) (gates gates_after : List G) (o x : SharedEngine R B) (first : Maybe (SharedEngine R B)) (seen : List TurnEntry) (places : List (ℕ × TurnEntry))
-    → IsWhole (λ (w : SharedEngine R B) (es : List TurnEntry) (z : SharedEngine R B). StandsFor disk faults meaning sort w.engine es z.engine) first seen places x → first ≡ Some o → IsOpening disk meaning sort o.engine
+    → IsWhole (λ (w : SharedEngine R B) (es : List TurnEntry) (z : SharedEngine R B). StandsFor disk faults meaning sort w es z) first seen places x → first ≡ Some o → IsOpening disk meaning sort o
     → places ≡ all_places jobs → Each (IsDone disk meaning sort ghosts.answers (counts_of ghosts) desk) jobs → Each (λ j. job_opening j ≡ Some o) jobs → Each (λ j. IsBeginning (job_seen j) seen) jobs
     → HaveRun disk meaning sort ghosts.answers (counts_of ghosts) desk befores jobs → all_gates befores ≡ gates → gates_after ≡ all_gates jobs
     → IsOneHistory disk faults meaning sort (asked_gates ghosts gates gates_after) o.engine x.engine
 one_history {R} {B} disk faults meaning sort ghosts desk befores jobs gates gates_after o x first seen places whole known sound all done opening begins ran given back =
     let answers = ghosts.answers in
     let counts = counts_of ghosts in
-    let led = subst (λ (m : Maybe (SharedEngine R B)). IfSome m (λ z. StandsFor disk faults meaning sort z.engine (seen ++ whole.0) x.engine)) known whole.1 sound in
+    let led = subst (λ (m : Maybe (SharedEngine R B)). IfSome m (λ z. StandsFor disk faults meaning sort z (seen ++ whole.0) x)) known whole.1 sound in
     let tallies = subst₂ (λ b a. AreTallied x.engine.core (all_calls jobs) (map counts b) (map counts a)) given (sym back) (tallied disk faults meaning sort answers counts desk o x seen whole.0 led befores jobs ran opening begins) in
     record {
       history = seen ++ whole.0;
+      last = x;
+      engine = refl;
       led = led;
       calls = all_calls jobs;
       workers = as_many x.engine.core (all_calls jobs) (map counts gates) (map counts gates_after) tallies;
@@ -184,17 +200,17 @@ one_history {R} {B} disk faults meaning sort ghosts desk befores jobs gates gate
 
 -- How a worker stopped is so of the engine that comes back.
 pub outcome_at_end : {R B : Type 0} (disk : R → Disk) (faults : R → ℕ) (meaning : B → Pairs) (sort : B → Kind) (outcome : RunOutcome) (o x : SharedEngine R B) (first : Maybe (SharedEngine R B)) (seen : List TurnEntry)
-    (places : List (ℕ × TurnEntry)) → IsWhole (λ (w : SharedEngine R B) (es : List TurnEntry) (z : SharedEngine R B). StandsFor disk faults meaning sort w.engine es z.engine) first seen places x → first ≡ Some o
-    → IsOpening disk meaning sort o.engine → HasStopped outcome places → IsOutcome x.engine outcome
+    (places : List (ℕ × TurnEntry)) → IsWhole (λ (w : SharedEngine R B) (es : List TurnEntry) (z : SharedEngine R B). StandsFor disk faults meaning sort w es z) first seen places x → first ≡ Some o
+    → IsOpening disk meaning sort o → HasStopped outcome places → IsOutcome x.engine outcome
 outcome_at_end {R} {B} disk faults meaning sort outcome o x first seen places whole known sound stopped =
     let history = seen ++ whole.0 in
-    let led = subst (λ (m : Maybe (SharedEngine R B)). IfSome m (λ z. StandsFor disk faults meaning sort z.engine history x.engine)) known whole.1 sound in
-    outcome_is outcome x.engine (stays_over (subsystem_of o.engine.catalog.ops) outcome (progress o.engine) (progress x.engine) history stopped.0.1 (has_entry history places stopped.0 whole.2 stopped.1) stopped.2
+    let led = subst (λ (m : Maybe (SharedEngine R B)). IfSome m (λ z. StandsFor disk faults meaning sort z history x)) known whole.1 sound in
+    outcome_is outcome x (stays_over (subsystem_of o.engine.catalog.ops) outcome (opened o.engine) (progress x) history stopped.0.1 (has_entry history places stopped.0 whole.2 stopped.1) stopped.2
     (running_core o.engine.core sound.core) led.told)
 
 -- The entries that led from the opening engine to the one that comes back.
 pub led_at_end : {R B : Type 0} (disk : R → Disk) (faults : R → ℕ) (meaning : B → Pairs) (sort : B → Kind) (o x : SharedEngine R B) (first : Maybe (SharedEngine R B)) (seen : List TurnEntry) (places : List (ℕ × TurnEntry))
-    → IsWhole (λ (w : SharedEngine R B) (es : List TurnEntry) (z : SharedEngine R B). StandsFor disk faults meaning sort w.engine es z.engine) first seen places x → first ≡ Some o → IsOpening disk meaning sort o.engine
-    → (es : List TurnEntry) × AreOf disk faults meaning sort o.engine es x.engine
+    → IsWhole (λ (w : SharedEngine R B) (es : List TurnEntry) (z : SharedEngine R B). StandsFor disk faults meaning sort w es z) first seen places x → first ≡ Some o → IsOpening disk meaning sort o
+    → (es : List TurnEntry) × AreOf disk faults meaning sort o.engine es x
 led_at_end {R} {B} disk faults meaning sort o x first seen places whole known sound =
-    (seen ++ whole.0, subst (λ (m : Maybe (SharedEngine R B)). IfSome m (λ z. StandsFor disk faults meaning sort z.engine (seen ++ whole.0) x.engine)) known whole.1 sound)
+    (seen ++ whole.0, subst (λ (m : Maybe (SharedEngine R B)). IfSome m (λ z. StandsFor disk faults meaning sort z (seen ++ whole.0) x)) known whole.1 sound)

@@ -12,6 +12,7 @@ use Rattle.engine_calls.specs.GateAnswers.{GateCounts}
 use Rattle.worker_gate.specs.ManyGates.{AskedGates}
 use Rattle.history_lock.specs.Weights.{weigh, weigh_from, AllStand}
 use Rattle.shared_engine.specs.declared.entries.TurnEntry.{TurnEntry}
+use Rattle.shared_engine.specs.declared.shared.SharedEngine.{SharedEngine}
 use Rattle.shared_engine.specs.Shared.{AreOf}
 use Rattle.thread_workers.specs.Workers.{AreWorked, IsTally}
 
@@ -26,7 +27,7 @@ ComesInOrder low [] = ⊤
 ComesInOrder low (p ∷ ps) = (low < p.0) × ComesInOrder p.0 ps
 
 -- The calls of one worker with their places in the history: they stand there, in the worker's own order; and each piece that it
--- ended was handed out, and worked on by its gate.
+-- queued was handed out, and worked on by its gate.
 abbrev pub AreOfWorker : (Handed → Option Answer) → CoreState → List TurnEntry → List (ℕ × TurnEntry) → Type 0
 AreOfWorker answers c history calls = AllStand history calls × ComesInOrder 0 calls × AreWorked answers c calls
 
@@ -41,7 +42,10 @@ AreTallied c calls before after = ⊥
 pub record IsOneHistory {R B : Type 0} (disk : R → Disk) (faults : R → ℕ) (meaning : B → Pairs) (sort : B → Kind)
     (gates : AskedGates) (o x : EngineState R B) : Type 0 where
   pub history : List TurnEntry
-  pub led : AreOf disk faults meaning sort o history x
+  -- the engine that comes back, with what is queued at it in the end
+  pub last : SharedEngine R B
+  pub engine : last.engine ≡ x
+  pub led : AreOf disk faults meaning sort o history last
   -- the calls of each worker
   pub calls : List (List (ℕ × TurnEntry))
   pub workers : length calls ≡ length gates.before

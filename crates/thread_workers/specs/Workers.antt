@@ -15,9 +15,10 @@ use Rattle.worker_gate.specs.declared.alone.RunOutcome.TheVariants.{AllEnded, St
 use Rattle.history_lock.specs.Weights.{weigh}
 use Rattle.history_lock.specs.declared.view.View.{View}
 use Rattle.shared_engine.specs.declared.entries.NextSaid.TheVariants as asked
-use Rattle.shared_engine.specs.declared.entries.FinishSaid.TheVariants as ended
+use Rattle.shared_engine.specs.declared.entries.FlushSaid.TheVariants as flushed
+use Rattle.shared_engine.specs.declared.entries.QueueSaid.TheVariants as put
 use Rattle.shared_engine.specs.declared.entries.TurnEntry.{TurnEntry}
-use Rattle.shared_engine.specs.declared.entries.TurnEntry.TheVariants.{Next, Finish}
+use Rattle.shared_engine.specs.declared.entries.TurnEntry.TheVariants.{Next, Queue, Flush}
 use Rattle.shared_engine.specs.declared.shared.SharedEngine.{SharedEngine}
 use Rattle.shared_engine.specs.Seats.{HasOpened, core_at}
 use Rattle.shared_engine.specs.Tallies.{IsAnswerTo, IsOfHanded, gate_asked, gate_refused, is_worked_on}
@@ -35,11 +36,12 @@ abbrev pub GoesUp : {X : Type 0} → ℕ → List (ℕ × X) → ℕ → Type 0
 GoesUp low [] high = low ≤ high
 GoesUp low (p ∷ ps) high = (low < p.0) × GoesUp p.0 ps high
 
--- an entry of a worker with such a gate: a piece that it got was handed out; who ends a piece had got it from the engine, and
+-- an entry of a worker with such a gate: a piece that it got was handed out; who queues a piece had got it from the engine, and
 -- answers what came of its work
 abbrev pub IsWorked : (Handed → Option Answer) → CoreState → TurnEntry → Type 0
 IsWorked answers c (Next said) = IsOfHanded c (Next said)
-IsWorked answers c (Finish n answer reply) = (d : Handed) × (d.piece.number ≡ n) × IsHandedAs c d × IsAnswerTo answers d answer
+IsWorked answers c (Queue n answer reply) = (d : Handed) × (d.piece.number ≡ n) × IsHandedAs c d × IsAnswerTo answers d answer
+IsWorked answers c (Flush said) = ⊤
 
 -- each of these is one
 abbrev pub AreWorked : (Handed → Option Answer) → CoreState → List (ℕ × TurnEntry) → Type 0
@@ -53,7 +55,7 @@ asks_for d = if is_worked_on (Some d.piece) then 1 else 0
 abbrev pub asks_in : CoreState → List (ℕ × TurnEntry) → ℕ
 asks_in c calls = weigh (λ n e. gate_asked c e) calls
 
--- how many pieces it ended whose work was refused
+-- how many pieces it queued whose work was refused
 abbrev pub refused_in : List (ℕ × TurnEntry) → ℕ
 refused_in calls = weigh (λ n e. gate_refused e) calls
 
@@ -73,8 +75,12 @@ pub record IsTally (owed : ℕ) (c : CoreState) (calls : List (ℕ × TurnEntry)
   pub later : before.refusals ≤ after.refusals
 
 module _ {R B : Type 0} where
+  -- the piece was handed out, by what the seat has seen
+  abbrev pub HasGot : Handed → View (SharedEngine R B) TurnEntry → Type 0
+  HasGot d v = (o : SharedEngine R B) → v.opening ≡ Some o → IsHandedAs (core_at o.engine v.seen) d
+
   -- What a worker's seat knows: how the engine was opened; its own entries came in the order in which it saw the history grow;
-  -- each end of a piece was worked; and the gate, which had the first counts at first, has these now by the worker's entries.
+  -- each piece that it queued was worked on; and the gate, which had the first counts at first, has these now by the worker's entries.
   pub record WorkerKnows (disk : R → Disk) (meaning : B → Pairs) (sort : B → Kind) (answers : Handed → Option Answer) (owed : ℕ)
       (begun now : GateCounts) (v : View (SharedEngine R B) TurnEntry) : Type 0 where
     pub opened : HasOpened disk meaning sort v
@@ -88,7 +94,8 @@ abbrev pub Stops : RunOutcome → TurnEntry → Type 0
 Stops AllEnded e = e ≡ Next asked.AllEnded
 Stops (Stuck i) e = e ≡ Next (asked.Stuck i)
 Stops DiskFault (Next said) = (k : ℕ) × (said ≡ asked.Closed k)
-Stops DiskFault (Finish n answer reply) = (reply ≡ ended.DiskFault) ⊎ ((k : ℕ) × (reply ≡ ended.Closed k))
+Stops DiskFault (Queue n answer reply) = (k : ℕ) × (reply ≡ put.Closed k)
+Stops DiskFault (Flush said) = (said ≡ flushed.DiskFault) ⊎ ((k : ℕ) × (said ≡ flushed.Closed k))
 Stops NoMemory e = ⊤
 
 -- a worker stopped by one of its own entries

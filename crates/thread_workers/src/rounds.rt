@@ -5,17 +5,17 @@ ghost use Rattle.history_lock.specs.Seats.{IsOf, opening, places, share};
 ghost use Rattle.shared_engine.specs.Seats.{HasOpened, knowledge};
 ghost use Rattle.thread_workers.specs.Workers.{HasStopped, WorkerKnows};
 
-use crate::working::work;
+use crate::working::{flush_failure, work};
 use history_lock::{Desk, Seat};
 use process_core::Next;
 use process_disk::Rack;
 use process_engine::{Closed, Gate};
 use resource_box::Resource;
-use shared_engine::{Pause, SharedEngine, ask};
+use shared_engine::{NextTurn, Pause, SharedEngine, ask};
 use std::sync::Wait;
 use worker_gate::RunOutcome;
 
-// Sleeps until a piece has ended, or stops where memory was lacking.
+// Sleeps until there is a change, unless a flush is due; or stops where memory was lacking.
 fn rest<H: Wait, R: Rack + Drop, B: Resource>(
     rt: &H,
     desk: &Desk<SharedEngine<R, B>>,
@@ -26,17 +26,20 @@ fn rest<H: Wait, R: Rack + Drop, B: Resource>(
     if pause.starved {
         return Some(RunOutcome::NoMemory);
     }
-    desk.wait_for_change(rt, pause.changes);
+    if !pause.due {
+        desk.wait_for_change(rt, pause.changes);
+    }
     None
 }
 
-// One round, and why it was the last, if it was.
+// One round, and why it was the last, if it was; and whether the worker was told to wait, as it may have been in the round before.
 fn round<H: Wait, R: Rack + Drop, B: Resource, G: Gate>(
     rt: &H,
     desk: &Desk<SharedEngine<R, B>>,
     seat: Seat<SharedEngine<R, B>>,
     gate: &mut G,
-) -> (Seat<SharedEngine<R, B>>, Option<RunOutcome>)
+    waited: bool,
+) -> (Seat<SharedEngine<R, B>>, Option<RunOutcome>, bool)
     requires desk { IsOf desk.now seat }
     requires opened { HasOpened R.disk B.meaning B.sort (knowledge seat) }
     ensures desk { IsOf desk.now result.0 }
@@ -46,13 +49,21 @@ fn round<H: Wait, R: Rack + Drop, B: Resource, G: Gate>(
         → WorkerKnows R.disk B.meaning B.sort G.answers 0 begun (counts_of G.Gate gate.new) (knowledge result.0) }
     ensures stopped { IfSome result.1 (λ o. HasStopped o (places result.0)) }
 {
-    let (seat, reply, pause) = ask(rt, desk, seat);
+    let (seat, reply, pause) = ask(rt, desk, seat, waited);
     match reply {
-        Ok(Next::Piece(piece)) => work(rt, desk, seat, gate, piece, pause.starved),
-        Ok(Next::Wait(_)) => (seat, rest(rt, desk, pause)),
-        Ok(Next::AllEnded) => (seat, Some(RunOutcome::AllEnded)),
-        Ok(Next::Stuck(process)) => (seat, Some(RunOutcome::Stuck(process))),
-        Err(Closed(_)) => (seat, Some(RunOutcome::DiskFault)),
+        NextTurn::Flushed(reply) => (seat, flush_failure(&reply), false),
+        NextTurn::Answered(Ok(Next::Piece(piece))) => {
+            let (seat, ended) = work(rt, desk, seat, gate, piece, pause.starved);
+            (seat, ended, false)
+        }
+        NextTurn::Answered(Ok(Next::Wait(_))) => (seat, rest(rt, desk, pause), true),
+        NextTurn::Answered(Ok(Next::AllEnded)) => (seat, Some(RunOutcome::AllEnded), false),
+        NextTurn::Answered(Ok(Next::Stuck(process))) => (
+            seat,
+            Some(RunOutcome::Stuck(process)),
+            false,
+        ),
+        NextTurn::Answered(Err(Closed(_))) => (seat, Some(RunOutcome::DiskFault), false),
     }
 }
 
@@ -73,9 +84,11 @@ pub fn rounds<H: Wait, R: Rack + Drop, B: Resource, G: Gate>(
     ensures stopped { HasStopped result.1 (places result.0) }
 {
     let mut seat = seat;
+    let mut waited = false;
     for _ in rt.forever() {
-        let (after, ended) = round(rt, desk, seat, gate);
+        let (after, ended, waits) = round(rt, desk, seat, gate, waited);
         seat = after;
+        waited = waits;
         if let Some(outcome) = ended {
             return (seat, outcome);
         }

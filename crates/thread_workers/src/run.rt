@@ -10,6 +10,7 @@ ghost use Rattle.thread_workers.specs.History.{IsOneHistory};
 
 use crate::crew::run_jobs;
 use crate::seats::{give_jobs, take_all_in};
+use group_flush::Queued;
 use history_lock::{Desk, DeskRefused};
 use process_disk::Rack;
 use process_engine::{Engine, Gate};
@@ -72,15 +73,33 @@ pub fn run_workers<
             };
         }
     };
+    let queued = match Queued::new(alloc) {
+        Ok(queued) => queued,
+        Err(_) => {
+            jobs.destroy_empty();
+            return Ran {
+                engine,
+                gates,
+                outcome: RunOutcome::NoMemory,
+            };
+        }
+    };
     let shared = SharedEngine {
         engine,
+        queued,
+        due: false,
         starved: false,
     };
     let (desk, seat) = match Desk::new(alloc, shared) {
         Ok(made) => made,
         Err(DeskRefused { state }) => {
             jobs.destroy_empty();
-            let SharedEngine { engine, starved: _ } = state;
+            let SharedEngine {
+                engine,
+                queued: _,
+                due: _,
+                starved: _,
+            } = state;
             return Ran {
                 engine,
                 gates,
@@ -92,7 +111,12 @@ pub fn run_workers<
     let seat = give_jobs(&desk, seat, &mut gates, &mut jobs);
     run_jobs(rt, &desk, &mut jobs);
     let (seat, first) = take_all_in(&desk, seat, jobs, &mut gates);
-    let SharedEngine { engine, starved: _ } = desk.close(seat);
+    let SharedEngine {
+        engine,
+        queued: _,
+        due: _,
+        starved: _,
+    } = desk.close(seat);
     let outcome = outcome_of(&engine, first);
     Ran {
         engine,

@@ -1,21 +1,24 @@
-// A worker's piece: its gate works on it outside of any turn, and a turn ends it.
-ghost use Rattle.std.specs.Prelude.{◌≡◌, ℕ, IfSome, Some};
+// A worker's piece: its gate works on it outside of any turn, and a turn queues it.
+ghost use Rattle.std.specs.Prelude.{◌≡◌, ℕ, IfErr, IfOk, IfSome, Option};
 ghost use Rattle.machine_model.specs.declared.kept.Work.TheVariants.{End};
+ghost use Rattle.machine_model.specs.Replies.{Handed};
 ghost use Rattle.process_engine.specs.declared.gates.Answer.{Answer as Answer'};
-ghost use Rattle.engine_calls.specs.GateAnswers.{GateCounts, IsHandedAs, counts_of};
-ghost use Rattle.history_lock.specs.Seats.{IsOf, opening, places, seen, share};
+ghost use Rattle.engine_calls.specs.GateAnswers.{GateCounts, counts_of};
+ghost use Rattle.history_lock.specs.Seats.{IsOf, opening, places, share};
 ghost use Rattle.shared_engine.specs.declared.entries.TurnEntry.TheVariants as entry;
-ghost use Rattle.shared_engine.specs.Entries.{finish_said};
-ghost use Rattle.shared_engine.specs.Seats.{HasOpened, core_at, knowledge};
+ghost use Rattle.shared_engine.specs.Entries.{flush_said};
+ghost use Rattle.shared_engine.specs.Outcomes.{HandsBack, entry_of_queue};
+ghost use Rattle.shared_engine.specs.Seats.{HasOpened, knowledge};
 ghost use Rattle.shared_engine.specs.Tallies.{IsAnswerTo};
-ghost use Rattle.thread_workers.specs.Workers.{HasAnswered, HasStopped, Stops, WorkerKnows, asks_for};
+ghost use Rattle.thread_workers.specs.Workers.{HasAnswered, HasGot, HasStopped, Stops, WorkerKnows, asks_for};
 
+use group_flush::{Flush, Queue};
 use history_lock::{Desk, Seat};
 use process_core::{Piece, Work};
 use process_disk::Rack;
-use process_engine::{Answer, Finish, Gate};
+use process_engine::{Answer, Gate};
 use resource_box::Resource;
-use shared_engine::{SharedEngine, tell};
+use shared_engine::{QueueTurn, SharedEngine, hand_in, hand_in_again};
 use std::sync::Wait;
 use worker_gate::RunOutcome;
 
@@ -30,13 +33,13 @@ fn answer_to<G: Gate>(gate: &mut G, piece: &Piece) -> Answer
     gate.work(piece)
 }
 
-// Why a worker stops after the end of a piece, if it does. A piece that found no memory is let go, and stays out.
-fn failure(finish: Finish, starved: bool) -> Option<RunOutcome>
-    ensures { (n : ℕ) (a : Answer') → IfSome result (λ o. Stops o (entry.Finish n a (finish_said finish))) }
+// Why a worker stops after the queueing of a piece, if it does. A piece that found no memory is let go, and stays out.
+fn failure(reply: &Queue, starved: bool) -> Option<RunOutcome>
+    ensures { (n : ℕ) (a : Answer') → IfSome result (λ o. Stops o (entry_of_queue n a reply.now)) }
 {
-    match finish {
-        Finish::DiskFault | Finish::Closed(_) => Some(RunOutcome::DiskFault),
-        Finish::NoMemory(_) => Some(RunOutcome::NoMemory),
+    match reply {
+        Queue::Closed(_) => Some(RunOutcome::DiskFault),
+        Queue::NoMemory(_) => Some(RunOutcome::NoMemory),
         _ => if starved {
             Some(RunOutcome::NoMemory)
         } else {
@@ -45,8 +48,86 @@ fn failure(finish: Finish, starved: bool) -> Option<RunOutcome>
     }
 }
 
-/// A gate works on a piece, or refuses it, and the piece ends so. Says whether the worker stops then, as it does too where memory
-/// was lacking before.
+/// Why a worker stops after a flush, if it does.
+pub fn flush_failure(reply: &Flush) -> Option<RunOutcome>
+    ensures { IfSome result (λ o. Stops o (entry.Flush (flush_said reply.now))) }
+{
+    match reply {
+        Flush::Flushed(_) => None,
+        Flush::DiskFault | Flush::Closed(_) => Some(RunOutcome::DiskFault),
+    }
+}
+
+// A piece whose work is done, and that found the group full, is queued again: after a flush, if one is due. Says whether the worker
+// stops, where that flush failed.
+fn try_again<H: Wait, R: Rack + Drop, B: Resource>(
+    rt: &H,
+    desk: &Desk<SharedEngine<R, B>>,
+    seat: Seat<SharedEngine<R, B>>,
+    piece: Piece,
+) -> (Seat<SharedEngine<R, B>>, Result<Queue, RunOutcome>)
+    requires desk { IsOf desk.now seat }
+    requires opened { HasOpened R.disk B.meaning B.sort (knowledge seat) }
+    requires handed { HasGot piece (knowledge seat) }
+    ensures desk { IsOf desk.now result.0 }
+    ensures keeps { (opening result.0 ≡ opening seat) × (share result.0 ≡ share seat) }
+    ensures handed { HasGot piece (knowledge result.0) }
+    ensures knows { (answers : Handed → Option Answer') → IsAnswerTo answers piece Answer.Done → (begun now : GateCounts)
+        → WorkerKnows R.disk B.meaning B.sort answers 0 begun now (knowledge seat)
+        → WorkerKnows R.disk B.meaning B.sort answers 0 begun now (knowledge result.0) }
+    ensures back { IfOk result.1 (HandsBack piece Answer.Done) }
+    ensures queued { IfOk result.1 (λ reply. (o : RunOutcome) → Stops o (entry_of_queue piece.piece.number Answer.Done reply)
+        → HasStopped o (places result.0)) }
+    ensures stopped { IfErr result.1 (λ o. HasStopped o (places result.0)) }
+{
+    let (seat, reply) = hand_in_again(rt, desk, seat, piece);
+    match reply {
+        QueueTurn::Answered(reply) => (seat, Ok(reply)),
+        QueueTurn::Flushed(reply, piece) => match flush_failure(&reply) {
+            Some(outcome) => (seat, Err(outcome)),
+            None => {
+                let (seat, reply) = hand_in(rt, desk, seat, piece, Answer::Done);
+                (seat, Ok(reply))
+            }
+        },
+    }
+}
+
+// A piece whose work is done, and that found the group full, is queued as soon as it has a place. Says whether the worker stops
+// then.
+fn hand_in_late<H: Wait, R: Rack + Drop, B: Resource>(
+    rt: &H,
+    desk: &Desk<SharedEngine<R, B>>,
+    seat: Seat<SharedEngine<R, B>>,
+    piece: Piece,
+    starved: bool,
+) -> (Seat<SharedEngine<R, B>>, Option<RunOutcome>)
+    requires desk { IsOf desk.now seat }
+    requires opened { HasOpened R.disk B.meaning B.sort (knowledge seat) }
+    requires handed { HasGot piece (knowledge seat) }
+    ensures desk { IsOf desk.now result.0 }
+    ensures keeps { (opening result.0 ≡ opening seat) × (share result.0 ≡ share seat) }
+    ensures knows { (answers : Handed → Option Answer') → IsAnswerTo answers piece Answer.Done → (begun now : GateCounts)
+        → WorkerKnows R.disk B.meaning B.sort answers 0 begun now (knowledge seat)
+        → WorkerKnows R.disk B.meaning B.sort answers 0 begun now (knowledge result.0) }
+    ensures stopped { IfSome result.1 (λ o. HasStopped o (places result.0)) }
+{
+    let mut seat = seat;
+    let mut piece = piece;
+    for _ in rt.forever() {
+        let (after, reply) = try_again(rt, desk, seat, piece);
+        seat = after;
+        match reply {
+            Ok(Queue::Full(back)) => piece = back,
+            Ok(reply) => return (seat, failure(&reply, starved)),
+            Err(outcome) => return (seat, Some(outcome)),
+        }
+    }
+    unreachable!()
+}
+
+/// A gate works on a piece, or refuses it, and the piece is queued so. Says whether the worker stops then, as it does too where
+/// memory was lacking before.
 pub fn work<H: Wait, R: Rack + Drop, B: Resource, G: Gate>(
     rt: &H,
     desk: &Desk<SharedEngine<R, B>>,
@@ -57,7 +138,7 @@ pub fn work<H: Wait, R: Rack + Drop, B: Resource, G: Gate>(
 ) -> (Seat<SharedEngine<R, B>>, Option<RunOutcome>)
     requires desk { IsOf desk.now seat }
     requires opened { HasOpened R.disk B.meaning B.sort (knowledge seat) }
-    requires handed { (o : SharedEngine R B) → opening seat ≡ Some o → IsHandedAs (core_at o.engine (seen seat)) piece }
+    requires handed { HasGot piece (knowledge seat) }
     ensures desk { IsOf desk.now result.0 }
     ensures keeps { (opening result.0 ≡ opening seat) × (share result.0 ≡ share seat) }
     ensures knows { (begun : GateCounts)
@@ -66,6 +147,9 @@ pub fn work<H: Wait, R: Rack + Drop, B: Resource, G: Gate>(
     ensures stopped { IfSome result.1 (λ o. HasStopped o (places result.0)) }
 {
     let answer = answer_to(gate, &piece);
-    let (seat, finish) = tell(rt, desk, seat, piece, answer);
-    (seat, failure(finish, starved))
+    let (seat, reply) = hand_in(rt, desk, seat, piece, answer);
+    match reply {
+        Queue::Full(piece) => hand_in_late(rt, desk, seat, piece, starved),
+        reply => (seat, failure(&reply, starved)),
+    }
 }
