@@ -80,6 +80,13 @@ impl Conflicts {
 }
 
 impl Conflicts {
+    /// How many operations there are.
+    pub fn operations(&self) -> usize
+        ensures { result ≡ operations_in self.now }
+    {
+        self.rows.len()
+    }
+
     /// The mode of two operations.
     pub fn mode(&self, a: u16, b: u16) -> Mode
         requires a_is_one { a < operations_in self.now }
