@@ -1,15 +1,14 @@
 -- Rows of bits by operation: which operations have a row, and what all rows tell of one operation.
-use Rattle.std.proofs.Common.{◌≡◌, ◌≢◌, ◌⊎◌, inl, inr, ◌<◌, ◌+◌, ℕ, zero, suc, Bool, true, false, ◌||◌, ◌&&◌, List, [], ◌∷◌, sym, refl, ap, ◌∙◌, subst, arith}
-use Rattle.std.specs.Prelude.{nat_eq, nat_le, nat_lt}
+use Rattle.std.proofs.Common.{◌≡◌, ◌≢◌, ◌⊎◌, inl, inr, ◌<◌, ℕ, Bool, true, false, ◌||◌, List, [], ◌∷◌, sym, refl, ap, ◌∙◌, arith}
+use Rattle.std.specs.Prelude.{nat_eq, nat_le, nat_lt, slice_index_or}
 use Rattle.std.specs.List.{list_any}
-use Rattle.std.proofs.lemmas.Bool.{eq-eqb, eqb-false, eqb-true, false≢true, le-leb, lt-leb, ltb-false, ltb-true, ne_eqb, or_cases, or_left, or_parts, or_right}
+use Rattle.std.proofs.lemmas.Bool.{eq-eqb, eqb-true, false≢true, le-leb, lt-leb, ltb-false, ltb-true, ne_eqb, or_cases, or_left, or_parts, or_right}
 use Rattle.schedule_model.specs.Histories.{is_in}
-use Rattle.schedule_model.proofs.Legal.{both-left, both-right}
-use Rattle.process_tree.specs.Conflicts.{Table}
+use Rattle.process_tree.specs.Conflicts.{Table, operations_in}
 use Rattle.process_tree.specs.Order.{Each}
 use Rattle.hold_tables.specs.declared.operations.Beside.{Beside}
 use Rattle.bit_rows.specs.Cells.{cell}
-use Rattle.hold_tables.specs.Operations.{IsClearOf, KeepOps, has_row, is_held_at, is_held_below, is_row_against, may_be_against, may_conflict, row_of}
+use Rattle.hold_tables.specs.Operations.{AreHolders, IsClearOf, IsRowOf, KeepOps, has_row, is_held_at, is_row_against, may_be_against, may_conflict, row_of}
 use Rattle.hold_tables.proofs.Reaching.{same_truth}
 
 pub row_small : (op : ℕ) → row_of op < 257
@@ -29,13 +28,13 @@ pub row_is_in : (k : ℕ) (ops : List ℕ) → k < 256 → has_row k ops ≡ is_
 row_is_in k [] less = refl
 row_is_in k (op ∷ ops) less = ap (λ b. b || has_row k ops) (same_row op k less) ∙ ap (nat_eq k op ||◌) (row_is_in k ops less)
 
--- an operation of the first rows is among those that each satisfy something
-pub each_row : (n k : ℕ) (ops : List ℕ) → Each (λ op. op < n) ops → k < 256 → has_row k ops ≡ true → k < n
-each_row n k [] each less is = absurd (false≢true is)
-each_row n k (op ∷ ops) each less is = by (or_cases (nat_eq (row_of op) k) (has_row k ops) is) (each_row n k ops each.1 less)
+-- a row that one of these operations has, each of which is of the table, is one of the table
+pub each_row : (table : Table) (k : ℕ) (ops : List ℕ) → Each (λ op. op < operations_in table) ops → has_row k ops ≡ true → IsRowOf table k
+each_row table k [] each is = absurd (false≢true is)
+each_row table k (op ∷ ops) each is = by (or_cases (nat_eq (row_of op) k) (has_row k ops) is) (each_row table k ops each.1)
   where
-    by : (nat_eq (row_of op) k ≡ true) ⊎ (has_row k ops ≡ true) → (has_row k ops ≡ true → k < n) → k < n
-    by (inl here) rest = subst (λ m. m < n) (own_row op k less here) each.0
+    by : (nat_eq (row_of op) k ≡ true) ⊎ (has_row k ops ≡ true) → (has_row k ops ≡ true → IsRowOf table k) → IsRowOf table k
+    by (inl here) rest = let same = eqb-true (row_of op) k here in let own = each.0 in (omega (arith, same), omega (arith, same, own))
     by (inr later) rest = rest later
 
 -- an operation may be against one where its row may
@@ -53,47 +52,7 @@ against_row table op x = by (nat_lt x 256) refl
         let last : row_of x ≡ 256 = omega (arith, past) in
         ap (is_row_against table op) last ∙ sym (ap (λ b. b || may_conflict table op x) (le-leb 256 x past))
 
-module _ (table : Table) (b : Beside) (op p : ℕ) where
-  -- so far none is, and with one more row it may be
-  pub none_below : is_held_below table b op p 0 ≡ false
-  unfolding is_held_below
-  none_below = refl
-
-  next_row : (n : ℕ) → is_held_below table b op p (suc n) ≡ ((is_held_at b n p && is_row_against table op n) || is_held_below table b op p n)
-  unfolding is_held_below
-  next_row n = refl
-
-  pub one_row_more : (n : ℕ) → is_held_below table b op p (n + 1) ≡ ((is_held_at b n p && is_row_against table op n) || is_held_below table b op p n)
-  one_row_more n = ap (is_held_below table b op p) (let next : n + 1 ≡ suc n = omega arith in next) ∙ next_row n
-
-  -- one of the rows below a number is such
-  row_below : (n : ℕ) → is_held_below table b op p n ≡ true → (k : ℕ) × (k < n) × (is_held_at b k p ≡ true) × (is_row_against table op k ≡ true)
-  row_below zero is = absurd (false≢true (sym none_below ∙ is))
-  row_below (suc n) is = by (or_cases (is_held_at b n p && is_row_against table op n) (is_held_below table b op p n) (sym (next_row n) ∙ is)) (row_below n)
-    where
-      by : ((is_held_at b n p && is_row_against table op n) ≡ true) ⊎ (is_held_below table b op p n ≡ true)
-          → (is_held_below table b op p n ≡ true → (k : ℕ) × (k < n) × (is_held_at b k p ≡ true) × (is_row_against table op k ≡ true))
-          → (k : ℕ) × (k < suc n) × (is_held_at b k p ≡ true) × (is_row_against table op k ≡ true)
-      by (inl here) rest = (n, omega arith, both-left (is_held_at b n p) (is_row_against table op n) here, both-right (is_held_at b n p) (is_row_against table op n) here)
-      by (inr later) rest = let (k, less, held, against) = rest later in (k, omega (arith, less), held, against)
-
-  below_row : (n k : ℕ) → k < n → is_held_at b k p ≡ true → is_row_against table op k ≡ true → is_held_below table b op p n ≡ true
-  below_row zero k less held against = absurd (omega (arith, less))
-  below_row (suc n) k less held against = next_row n ∙ by (nat_eq k n) refl (below_row n k)
-    where
-      by : (t : Bool) → nat_eq k n ≡ t → (k < n → is_held_at b k p ≡ true → is_row_against table op k ≡ true → is_held_below table b op p n ≡ true)
-          → ((is_held_at b n p && is_row_against table op n) || is_held_below table b op p n) ≡ true
-      by true is rest =
-          let same = eqb-true k n is in
-          let there : (is_held_at b n p && is_row_against table op n) ≡ true = subst (λ m. (is_held_at b m p && is_row_against table op m) ≡ true) same (rw (held, against) refl) in
-          or_left (is_held_at b n p && is_row_against table op n) (is_held_below table b op p n) there
-      by false is rest =
-          or_right (is_held_at b n p && is_row_against table op n) (is_held_below table b op p n)
-          (rest (below is less) held against)
-        where
-          below : nat_eq k n ≡ false → k < suc n → k < n
-          below other less = let apart = eqb-false k n other in omega (arith, apart, less)
-
+module _ (table : Table) (op : ℕ) where
   -- one of these operations has a row that may be against it
   op_of_row : (ops : List ℕ) (k : ℕ) → has_row k ops ≡ true → is_row_against table op k ≡ true → list_any (may_be_against table op) ops ≡ true
   op_of_row [] k has against = absurd (false≢true has)
@@ -105,22 +64,23 @@ module _ (table : Table) (b : Beside) (op p : ℕ) where
           (sym (against_row table op x) ∙ ap (is_row_against table op) (eqb-true (row_of x) k here) ∙ against)
       by (inr later) rest = or_right (may_be_against table op x) (list_any (may_be_against table op) ops) (rest later)
 
-  row_of_op : (ops : List ℕ) → list_any (may_be_against table op) ops ≡ true → (k : ℕ) × (k < 257) × (has_row k ops ≡ true) × (is_row_against table op k ≡ true)
+  row_of_op : (ops : List ℕ) → list_any (may_be_against table op) ops ≡ true → (k : ℕ) × (has_row k ops ≡ true) × (is_row_against table op k ≡ true)
   row_of_op [] is = absurd (false≢true is)
   row_of_op (x ∷ ops) is = by (or_cases (may_be_against table op x) (list_any (may_be_against table op) ops) is) (row_of_op ops)
     where
       by : (may_be_against table op x ≡ true) ⊎ (list_any (may_be_against table op) ops ≡ true)
-          → (list_any (may_be_against table op) ops ≡ true → (k : ℕ) × (k < 257) × (has_row k ops ≡ true) × (is_row_against table op k ≡ true))
-          → (k : ℕ) × (k < 257) × (has_row k (x ∷ ops) ≡ true) × (is_row_against table op k ≡ true)
-      by (inl here) rest = (row_of x, row_small x, or_left (nat_eq (row_of x) (row_of x)) (has_row (row_of x) ops) (eq-eqb (row_of x) (row_of x) refl), against_row table op x ∙ here)
-      by (inr later) rest = let (k, less, has, against) = rest later in (k, less, or_right (nat_eq (row_of x) k) (has_row k ops) has, against)
+          → (list_any (may_be_against table op) ops ≡ true → (k : ℕ) × (has_row k ops ≡ true) × (is_row_against table op k ≡ true))
+          → (k : ℕ) × (has_row k (x ∷ ops) ≡ true) × (is_row_against table op k ≡ true)
+      by (inl here) rest = (row_of x, or_left (nat_eq (row_of x) (row_of x)) (has_row (row_of x) ops) (eq-eqb (row_of x) (row_of x) refl), against_row table op x ∙ here)
+      by (inr later) rest = let (k, has, against) = rest later in (k, or_right (nat_eq (row_of x) k) (has_row k ops) has, against)
 
-  -- the rows tell of a place what the operations there do
-  pub held_ops : (ops : List ℕ) → ((k : ℕ) → is_held_at b k p ≡ has_row k ops) → is_held_below table b op p 257 ≡ list_any (may_be_against table op) ops
-  held_ops ops tells =
-      same_truth (is_held_below table b op p 257) (list_any (may_be_against table op) ops)
-      (λ is. let (k, less, held, against) = row_below 257 is in op_of_row ops k (sym (tells k) ∙ held) against)
-      (λ is. let (k, less, has, against) = row_of_op ops is in below_row 257 k less (tells k ∙ has) against)
+  -- who holds something is found at a place by the operations there
+  pub held_ops : (b : Beside) (who : List Bool) → AreHolders table b op who → (p : ℕ) (ops : List ℕ) → ((k : ℕ) → is_held_at b k p ≡ has_row k ops)
+      → slice_index_or who p false ≡ list_any (may_be_against table op) ops
+  held_ops b who holders p ops tells =
+      same_truth (slice_index_or who p false) (list_any (may_be_against table op) ops)
+      (λ is. let (k, held, against) = holders.only p is in op_of_row ops k (sym (tells k) ∙ held) against)
+      (λ is. let (k, has, against) = row_of_op ops is in holders.all k p (tells k ∙ has) against)
 
 -- where no row with something may be against an operation, none of those that have something in their rows conflicts with it
 clear_each : (table : Table) (op : ℕ) (ops : List ℕ) (bits : List (List Bool)) → ((k : ℕ) → has_row k ops ≡ true → (p : ℕ) × (cell bits k p ≡ true)) → IsClearOf table op bits

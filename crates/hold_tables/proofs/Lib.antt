@@ -23,6 +23,7 @@ pub mod WalkEnds
 pub mod OpenedWalks
 pub mod DroppedWalks
 pub mod Told
+pub mod ToldNet
 pub mod Closed
 pub mod Pairs
 pub mod PairBounds

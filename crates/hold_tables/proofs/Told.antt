@@ -1,10 +1,10 @@
 -- What the rows of bits tell stays true as the tables change.
-use Rattle.std.proofs.Common.{◌≡◌, ◌≢◌, ◌⊎◌, inl, inr, ◌<◌, ◌≤◌, ◌-◌, ℕ, zero, suc, Bool, true, false, not, ◌||◌, ◌&&◌, if◌then◌else◌, List, [], ◌∷◌, ◌++◌, length, drop, take, map, Option, Some, None, IfSome, sym, refl, ap, ◌∙◌, subst, arith, get_or-set_same, get_or-set_other}
+use Rattle.std.proofs.Common.{◌≡◌, ◌≢◌, ◌<◌, ◌≤◌, ◌-◌, ℕ, zero, suc, Bool, true, false, not, ◌||◌, ◌&&◌, if◌then◌else◌, List, [], ◌∷◌, ◌++◌, length, drop, map, Option, Some, None, IfSome, sym, refl, ap, ◌∙◌, subst, arith, get_or-set_same, get_or-set_other}
 use Rattle.std.specs.Prelude.{nat_eq, nat_lt, filter, slice_index_or, slice_set}
 use Rattle.std.specs.Option.{option_to_list}
 use Rattle.std.specs.List.{list_any}
-use Rattle.std.proofs.lemmas.Bool.{eq-eqb, eqb-true, eqb-false, false≢true, ltb-false, ltb-true, ne_eqb, or_cases, or_left, or_right}
-use Rattle.std.proofs.lemmas.List.{get_or_past, length-set, take_all}
+use Rattle.std.proofs.lemmas.Bool.{eq-eqb, eqb-true, eqb-false, ltb-false, ltb-true, ne_eqb}
+use Rattle.std.proofs.lemmas.List.{get_or_past}
 use Rattle.std.proofs.lemmas.List.Folds.{list_any-append}
 use Rattle.std.proofs.Math.Seq.{drop-length}
 use Rattle.process_tree.specs.declared.entry.Entry.{Entry}
@@ -15,20 +15,18 @@ use Rattle.schedule_model.proofs.Legal.{both-right}
 use Rattle.bit_rows.specs.Cells.{cell, place_before}
 use Rattle.bit_rows.proofs.Cells.{before_above, before_below}
 use Rattle.hold_tables.specs.declared.operations.Beside.{Beside}
-use Rattle.hold_tables.specs.Changes.{can_come, with_running}
+use Rattle.hold_tables.specs.Changes.{can_come}
 use Rattle.hold_tables.specs.Kept.{AreKnown, AreTidy, IsKnown, IsTidy, are_numbered}
-use Rattle.hold_tables.specs.Operations.{AreKnownRows, HasRows, IsColumnTaken, IsProcessTaken, IsProcessToldAt, IsToldAt, KeepOps, TellBeside, TellRows, has_row, is_held_at, is_held_below, may_hold, net_ops, ops_beside, ops_of, pending_ops, reserved_ops, row_of, running_ops}
+use Rattle.hold_tables.specs.Operations.{AddsAt, AreHolders, AreKnownRows, HasRows, IsColumnTaken, IsProcessTaken, IsSetAt, IsToldAt, TellBeside, TellRows, has_row, is_held_at, may_hold, ops_beside, ops_of, pending_ops, reserved_ops, row_of, running_ops}
 use Rattle.hold_tables.specs.Places.{place_of}
 use Rattle.hold_tables.specs.Tables.{OpenProcess, Tables, has_number, holds_nothing, lasts, numbered}
 use Rattle.hold_tables.specs.Slots.{TellWho}
 use Rattle.hold_tables.proofs.BesideRows.{each_row, held_ops}
 use Rattle.hold_tables.proofs.DroppedWalks.{before_suc, none_behind, none_dropped}
-use Rattle.hold_tables.proofs.Opening.{none_of_closed, other_processes, others, same_of_others}
+use Rattle.hold_tables.proofs.Opening.{other_processes, others, same_of_others}
 use Rattle.hold_tables.proofs.OthersSame.{SameElsewhere}
-use Rattle.hold_tables.proofs.Effects.{few_own}
-use Rattle.hold_tables.proofs.Entries.{none_more, one_more}
-use Rattle.hold_tables.proofs.LastAway.{none_own}
-use Rattle.hold_tables.proofs.Places.{at_place, each_place, place-is}
+use Rattle.hold_tables.proofs.Entries.{none_more}
+use Rattle.hold_tables.proofs.Places.{each_place, place-is}
 use Rattle.hold_tables.proofs.Tidy.{each_numbered, tables}
 
 -- where there is no process, nothing is held
@@ -52,21 +50,83 @@ rows_told f g rows at x old new within tells told same = record { count = told.c
         let other = eqb-false p at is in
         tells.tell k p ∙ ap (has_row k) (sym (same p other)) ∙ ap (λ r. has_row k (g r)) (sym (get_or-set_other rows at p x nobody other))
 
-pub told_at : (net after : List Entry) (rows : List OpenProcess) (at : ℕ) (x : OpenProcess) (old new : Beside) → at < length rows → TellBeside net rows old → IsProcessToldAt at after x old new
+pub same_there : (rows : List OpenProcess) (p : ℕ) (d : OpenProcess) → p < length rows → slice_index_or rows p nobody ≡ slice_index_or rows p d
+same_there [] p d within = absurd (omega (arith, within))
+same_there (r ∷ rows) zero d within = refl
+same_there (r ∷ rows) (suc p) d within = same_there rows p d (omega (arith, within))
+
+-- what a process has is set at its place
+pub set_there : (f : OpenProcess → List ℕ) (rows : List OpenProcess) (at : ℕ) (before : OpenProcess) (bits : List (List Bool)) → at < length rows → before ≡ slice_index_or rows at before
+    → TellRows f rows bits → IsSetAt at (f before) bits
+set_there f rows at before bits within was tells k = tells.tell k at ∙ ap (λ r. has_row k (f r)) (same_there rows at before within ∙ sym was)
+
+-- where it has the same as before, that is told at its place
+pub stays_told : (f : OpenProcess → List ℕ) (rows : List OpenProcess) (at : ℕ) (before : OpenProcess) (ops : List ℕ) (bits : List (List Bool)) → at < length rows
+    → before ≡ slice_index_or rows at before → ops ≡ f before → TellRows f rows bits → IsToldAt at ops bits bits
+stays_told f rows at before ops bits within was same tells = record { count = refl; tell = λ k p. by k p (nat_eq p at) refl }
+  where
+    by : (k p : ℕ) (t : Bool) → nat_eq p at ≡ t → cell bits k p ≡ (if t then has_row k ops else cell bits k p)
+    by k p true is = ap (cell bits k) (eqb-true p at is) ∙ set_there f rows at before bits within was tells k ∙ ap (has_row k) (sym same)
+    by k p false is = refl
+
+-- what is set there once nothing is, is all that is told
+pub told_anew : (at : ℕ) (ops : List ℕ) (old between new : List (List Bool)) → IsToldAt at [] old between → length new ≡ length between → AddsAt at ops between new → IsToldAt at ops old new
+told_anew at ops old between new none count adds = record { count = count ∙ none.count; tell = λ k p. adds k p ∙ ap ((nat_eq p at && has_row k ops) ||◌) (none.tell k p) ∙ by (nat_eq p at) (has_row k ops) (cell old k p) }
+  where
+    by : (here has was : Bool) → ((here && has) || (if here then false else was)) ≡ (if here then has else was)
+    by true true was = refl
+    by true false was = refl
+    by false has was = refl
+
+-- so the three are told, each of them anew or as it was
+pub beside_told : (net after : List Entry) (rows : List OpenProcess) (at : ℕ) (x : OpenProcess) (old new : Beside) → at < length rows → TellBeside net rows old
+    → IsToldAt at (running_ops x) old.running new.running → IsToldAt at (pending_ops after x) old.pending new.pending → IsToldAt at (reserved_ops x) old.reserved new.reserved
     → ((p : ℕ) → p ≢ at → pending_ops after (slice_index_or rows p nobody) ≡ pending_ops net (slice_index_or rows p nobody)) → TellBeside after (slice_set rows at x) new
-told_at net after rows at x old new within tells told same = record {
-  running = rows_told running_ops running_ops rows at x old.running new.running within tells.running told.running (λ p other. refl);
-  pending = rows_told (pending_ops net) (pending_ops after) rows at x old.pending new.pending within tells.pending told.pending same;
-  reserved = rows_told reserved_ops reserved_ops rows at x old.reserved new.reserved within tells.reserved told.reserved (λ p other. refl);
+beside_told net after rows at x old new within tells running pending reserved same = record {
+  running = rows_told running_ops running_ops rows at x old.running new.running within tells.running running (λ p other. refl);
+  pending = rows_told (pending_ops net) (pending_ops after) rows at x old.pending new.pending within tells.pending pending same;
+  reserved = rows_told reserved_ops reserved_ops rows at x old.reserved new.reserved within tells.reserved reserved (λ p other. refl);
 }
 
--- the same of what was lent
-pub told_lent : (net after lent : List Entry) (rows : List OpenProcess) (at : ℕ) (x row : OpenProcess) (old new : Beside) → at < length rows → lent ≡ after
-    → row ≡ slice_index_or (slice_set rows at x) at row → TellBeside net rows old → IsProcessToldAt at lent row old new
-    → ((p : ℕ) → p ≢ at → pending_ops after (slice_index_or rows p nobody) ≡ pending_ops net (slice_index_or rows p nobody)) → TellBeside after (slice_set rows at x) new
-told_lent net after lent rows at x row old new within lent_is row_is tells told same =
-    told_at net after rows at x old new within tells
-    (subst (λ (r : OpenProcess). IsProcessToldAt at after r old new) (row_is ∙ get_or-set_same rows at x row within) (subst (λ (es : List Entry). IsProcessToldAt at es row old new) lent_is told)) same
+-- what is to be undone is told over what was lent
+pub pending_lent : (after lent : List Entry) (rows : List OpenProcess) (at : ℕ) (x row : OpenProcess) (old new : List (List Bool)) → at < length rows → lent ≡ after
+    → row ≡ slice_index_or (slice_set rows at x) at row → IsToldAt at (pending_ops lent row) old new → IsToldAt at (pending_ops after x) old new
+pending_lent after lent rows at x row old new within lent_is row_is told =
+    subst (λ ops. IsToldAt at ops old new) (ap (λ es. pending_ops es row) lent_is ∙ ap (pending_ops after) (row_is ∙ get_or-set_same rows at x row within)) told
+
+-- it is told of as many operations that are the same
+pub told_by : (at : ℕ) (a b : List ℕ) (old new : List (List Bool)) → a ≡ b → IsToldAt at b old new → IsToldAt at a old new
+told_by at a b old new same told = subst (λ ops. IsToldAt at ops old new) (sym same) told
+
+-- what was under way is set
+pub running_set : (rows : List OpenProcess) (at : ℕ) (before : OpenProcess) (bits : List (List Bool)) (o : Option Entry) → at < length rows → before ≡ slice_index_or rows at before
+    → TellRows running_ops rows bits → before.running ≡ o → IsSetAt at (ops_of (option_to_list o)) bits
+running_set rows at before bits o within was tells is = subst (λ o. IsSetAt at (ops_of (option_to_list o)) bits) is (set_there running_ops rows at before bits within was tells)
+
+-- so the steps that were reserved are set
+pub steps_set : (rows : List OpenProcess) (at : ℕ) (before : OpenProcess) (bits : List (List Bool)) (steps : List (ℕ × ℕ × ℕ)) → at < length rows → before ≡ slice_index_or rows at before
+    → TellRows reserved_ops rows bits → steps ≡ before.reserved → IsSetAt at (map (λ (step : ℕ × ℕ × ℕ). step.1) steps) bits
+steps_set rows at before bits steps within was tells is =
+    subst (λ ops. IsSetAt at ops bits) (ap (map (λ (step : ℕ × ℕ × ℕ). step.1)) (sym is)) (set_there reserved_ops rows at before bits within was tells)
+
+-- what is told at a place is set there
+pub told_there : (at : ℕ) (ops : List ℕ) (old new : List (List Bool)) → IsToldAt at ops old new → IsSetAt at ops new
+told_there at ops old new told k = told.tell k at ∙ ap (λ b. if b then has_row k ops else cell old k at) (eq-eqb at at refl)
+
+-- what is told last there is told
+pub told_over : (at : ℕ) (a b : List ℕ) (old between new : List (List Bool)) → IsToldAt at a old between → IsToldAt at b between new → IsToldAt at b old new
+told_over at a b old between new first last = record { count = last.count ∙ first.count; tell = λ k p. last.tell k p ∙ by k p (nat_eq p at) refl }
+  where
+    by : (k p : ℕ) (t : Bool) → nat_eq p at ≡ t → (if t then has_row k b else cell between k p) ≡ (if t then has_row k b else cell old k p)
+    by k p true is = refl
+    by k p false is = first.tell k p ∙ ap (λ t. if t then has_row k a else cell old k p) is
+
+-- where nothing was to be undone, nothing is set
+pub none_set : (net : List Entry) (rows : List OpenProcess) (at : ℕ) (before : OpenProcess) (bits : List (List Bool)) → at < length rows → before ≡ slice_index_or rows at before
+    → TellRows (pending_ops net) rows bits → before.pending ≡ 0 → IsSetAt at [] bits
+none_set net rows at before bits within was tells none k =
+    set_there (pending_ops net) rows at before bits within was tells k
+    ∙ ap (has_row k) (ap (λ n. ops_of (lasts n (of_process before.process net))) none ∙ ap ops_of (none_last (of_process before.process net)))
 
 -- a place among the rows that were lent
 pub place_within : (lent rows : List OpenProcess) (at : ℕ) → lent ≡ rows → at < length lent → at < length rows
@@ -103,7 +163,7 @@ row_more [] i steps (suc p) f none = refl
 row_more (r ∷ rows) i steps zero f none = refl
 row_more (r ∷ rows) i steps (suc p) f none = row_more rows i steps p f none
 
-more_told : (f : OpenProcess → List ℕ) (rows : List OpenProcess) (i steps : ℕ) (bits : List (List Bool)) → f (holds_nothing i steps) ≡ f nobody → TellRows f rows bits
+pub more_told : (f : OpenProcess → List ℕ) (rows : List OpenProcess) (i steps : ℕ) (bits : List (List Bool)) → f (holds_nothing i steps) ≡ f nobody → TellRows f rows bits
     → TellRows f (rows ++ holds_nothing i steps ∷ []) bits
 more_told f rows i steps bits none tells = record { count = tells.count; tell = λ k p. tells.tell k p ∙ ap (has_row k) (sym (row_more rows i steps p f none)) }
 
@@ -138,7 +198,7 @@ dropped_at i (r ∷ rows) p once has = by (nat_eq r.process i) refl (λ q. dropp
         ∙ kept p (λ q. rest q (subst (λ b. (b || has_number i rows) ≡ true) is has))
         ∙ sym (ap (λ b. slice_index_or (r ∷ rows) (place_before (if b then 0 else suc (place_of i rows)) p) nobody) is)
 
-less_told : (f g : OpenProcess → List ℕ) (i : ℕ) (rows : List OpenProcess) (old new : List (List Bool)) → are_numbered rows ≡ true → has_number i rows ≡ true → TellRows f rows old
+pub less_told : (f g : OpenProcess → List ℕ) (i : ℕ) (rows : List OpenProcess) (old new : List (List Bool)) → are_numbered rows ≡ true → has_number i rows ≡ true → TellRows f rows old
     → IsColumnTaken (place_of i rows) old new → ((p : ℕ) → p ≢ place_of i rows → g (slice_index_or rows p nobody) ≡ f (slice_index_or rows p nobody)) → TellRows g (other_processes i rows) new
 less_told f g i rows old new once has tells taken same = record {
   count = taken.count ∙ tells.count;
@@ -185,7 +245,7 @@ each-drop P zero (x ∷ xs) each = each
 each-drop P (suc n) [] each = each
 each-drop P (suc n) (x ∷ xs) each = each-drop P n xs each.1
 
-each-filter : {A : Type 0} (P : A → Type 0) (test : A → Bool) (xs : List A) → Each P xs → Each P (filter test xs)
+pub each-filter : {A : Type 0} (P : A → Type 0) (test : A → Bool) (xs : List A) → Each P xs → Each P (filter test xs)
 each-filter P test [] each = each
 each-filter P test (x ∷ xs) each = by (test x) (each-filter P test xs each.1)
   where
@@ -193,7 +253,7 @@ each-filter P test (x ∷ xs) each = by (test x) (each-filter P test xs each.1)
     by true rest = (each.0, rest)
     by false rest = rest
 
-known_entries : (table : Table) (es : List Entry) → Each (IsKnown table) es → Each (λ op. op < operations_in table) (ops_of es)
+pub known_entries : (table : Table) (es : List Entry) → Each (IsKnown table) es → Each (λ op. op < operations_in table) (ops_of es)
 known_entries table [] each = tt
 known_entries table (e ∷ es) each = (each.0, known_entries table es each.1)
 
@@ -219,187 +279,18 @@ known_nobody table net = subst (λ ops. Each (λ op. op < operations_in table) (
 
 -- so each row in which something is held is of an operation of the table
 pub known_rows : (t : Tables) → AreTidy t → (b : Beside) → TellBeside t.net t.processes b → AreKnownRows t.conflicts b
-known_rows t tidy b tells k p less is =
-    each_row (operations_in t.conflicts) k (ops_beside t.net (slice_index_or t.processes p nobody)) (by (nat_lt p (length t.processes)) refl) less (sym (held_told t.net t.processes b tells p k) ∙ is)
+known_rows t tidy b tells k p is =
+    each_row t.conflicts k (ops_beside t.net (slice_index_or t.processes p nobody)) (by (nat_lt p (length t.processes)) refl) (sym (held_told t.net t.processes b tells p k) ∙ is)
   where
     by : (s : Bool) → nat_lt p (length t.processes) ≡ s → Each (λ op. op < operations_in t.conflicts) (ops_beside t.net (slice_index_or t.processes p nobody))
     by true there = known_row t.conflicts t.net (slice_index_or t.processes p nobody) tidy.known (each_place (IsTidy t.conflicts t.net) t.processes p nobody (ltb-true p (length t.processes) there) tidy.tidy)
     by false there = rw (get_or_past t.processes p nobody (ltb-false p (length t.processes) there)) (known_nobody t.conflicts t.net)
 
-same_there : (rows : List OpenProcess) (p : ℕ) (d : OpenProcess) → p < length rows → slice_index_or rows p nobody ≡ slice_index_or rows p d
-same_there [] p d within = absurd (omega (arith, within))
-same_there (r ∷ rows) zero d within = refl
-same_there (r ∷ rows) (suc p) d within = same_there rows p d (omega (arith, within))
-
 -- the rows of what may be against an operation tell who may hold something against it
-pub who_told : (t : Tables) (b : Beside) → TellBeside t.net t.processes b → (op : ℕ) (who : List Bool) → ((p : ℕ) → slice_index_or who p false ≡ is_held_below t.conflicts b op p 257)
-    → (u : Tables) → t ≡ u → TellWho u op who
-who_told t b tells op who is u same = subst (λ (x : Tables). TellWho x op who) same told
+pub who_told : (t : Tables) (b : Beside) → TellBeside t.net t.processes b → (op : ℕ) (who : List Bool) → AreHolders t.conflicts b op who → (u : Tables) → t ≡ u → TellWho u op who
+who_told t b tells op who holders u same = subst (λ (x : Tables). TellWho x op who) same told
   where
     told : TellWho t op who
     told p d within =
-        is p ∙ held_ops t.conflicts b op p (ops_beside t.net (slice_index_or t.processes p nobody)) (held_told t.net t.processes b tells p)
+        held_ops t.conflicts op b who holders p (ops_beside t.net (slice_index_or t.processes p nobody)) (held_told t.net t.processes b tells p)
         ∙ ap (may_hold t op) (same_there t.processes p d within)
-
--- The operations of net entries.
-
-none_first : {A : Type 0} (xs : List A) → take 0 xs ≡ []
-none_first [] = refl
-none_first (x ∷ xs) = refl
-
-net_nobody : (net : List Entry) → net_ops net nobody ≡ []
-net_nobody net = ap ops_of (none_first (of_process 0 net))
-
--- a change that leaves what a process has there leaves what is told
-pub rows_kept : (g : OpenProcess → List ℕ) (rows : List OpenProcess) (at : ℕ) (x before : OpenProcess) (bits : List (List Bool)) → at < length rows → before ≡ slice_index_or rows at before → g x ≡ g before
-    → TellRows g rows bits → TellRows g (slice_set rows at x) bits
-rows_kept g rows at x before bits within was same tells = record { count = tells.count; tell = λ k p. tells.tell k p ∙ by k p (nat_eq p at) refl }
-  where
-    by : (k p : ℕ) (t : Bool) → nat_eq p at ≡ t → has_row k (g (slice_index_or rows p nobody)) ≡ has_row k (g (slice_index_or (slice_set rows at x) p nobody))
-    by k p true is =
-        let here = eqb-true p at is in
-        ap (λ n. has_row k (g (slice_index_or rows n nobody))) here
-        ∙ ap (λ r. has_row k (g r)) (same_there rows at before within ∙ sym was) ∙ ap (has_row k) (sym same)
-        ∙ ap (λ r. has_row k (g r)) (sym (get_or-set_same rows at x nobody within))
-        ∙ ap (λ n. has_row k (g (slice_index_or (slice_set rows at x) n nobody))) (sym here)
-    by k p false is = ap (λ r. has_row k (g r)) (sym (get_or-set_other rows at p x nobody (eqb-false p at is)))
-
--- the net of the others stays
-pub net_elsewhere : (i : ℕ) (net after : List Entry) (rows : List OpenProcess) → are_numbered rows ≡ true → SameElsewhere i net after
-    → (p : ℕ) → p ≢ place_of i rows → net_ops after (slice_index_or rows p nobody) ≡ net_ops net (slice_index_or rows p nobody)
-net_elsewhere i net after rows once same p other = by (nat_lt p (length rows)) (nat_eq (slice_index_or rows p nobody).process i) refl refl
-  where
-    by : (s t : Bool) → nat_lt p (length rows) ≡ s → nat_eq (slice_index_or rows p nobody).process i ≡ t
-        → net_ops after (slice_index_or rows p nobody) ≡ net_ops net (slice_index_or rows p nobody)
-    by s false there is = ap (λ es. ops_of (take (slice_index_or rows p nobody).steps es)) (same (slice_index_or rows p nobody).process is)
-    by true true there is = absurd (other (place-is i rows p nobody once (ltb-true p (length rows) there) (eqb-true (slice_index_or rows p nobody).process i is)))
-    by false true there is = rw (get_or_past rows p nobody (ltb-false p (length rows) there)) (net_nobody after ∙ sym (net_nobody net))
-
--- no process has more net entries than its plan has steps
-whole_net : (table : Table) (net : List Entry) (r : OpenProcess) → IsTidy table net r → net_ops net r ≡ ops_of (of_process r.process net)
-whole_net table net r tidy = ap ops_of (take_all r.steps (of_process r.process net) (few_own table (of_process r.process net) r tidy))
-
-pub whole_at : (table : Table) (net : List Entry) (rows : List OpenProcess) (at : ℕ) (x : OpenProcess) → at < length rows → Each (IsTidy table net) (slice_set rows at x)
-    → net_ops net x ≡ ops_of (of_process x.process net)
-whole_at table net rows at x within each =
-    whole_net table net x
-    (subst (IsTidy table net) (get_or-set_same rows at x nobody within)
-    (each_place (IsTidy table net) (slice_set rows at x) at nobody (let same = length-set rows at x in omega (arith, same, within)) each))
-
--- a step more of the process at a place
-pub net_done : (table : Table) (net : List Entry) (rows : List OpenProcess) (at : ℕ) (x before : OpenProcess) (e : Entry) (old new : List (List Bool)) → at < length rows
-    → before ≡ slice_index_or rows at before → x ≡ with_running None before → e.process ≡ before.process → Each (IsTidy table net) rows → Each (IsTidy table (net ++ e ∷ [])) (slice_set rows at x)
-    → TellRows (net_ops net) rows old → length new ≡ 257 → ((k p : ℕ) → cell new k p ≡ ((nat_eq p at && nat_eq (row_of e.op) k) || cell old k p))
-    → ((p : ℕ) → p ≢ at → net_ops (net ++ e ∷ []) (slice_index_or rows p nobody) ≡ net_ops net (slice_index_or rows p nobody)) → TellRows (net_ops (net ++ e ∷ [])) (slice_set rows at x) new
-net_done table net rows at x before e old new within was is own each after tells count adds same =
-    rows_told (net_ops net) (net_ops (net ++ e ∷ [])) rows at x old new within tells (record { count = count ∙ sym tells.count; tell = λ k p. adds k p ∙ by k p (nat_eq p at) refl }) same
-  where
-    there : net_ops net (slice_index_or rows at nobody) ≡ ops_of (of_process before.process net)
-    there =
-        ap (net_ops net) (same_there rows at before within ∙ sym was)
-        ∙ whole_net table net before (subst (IsTidy table net) (same_there rows at before within ∙ sym was) (each_place (IsTidy table net) rows at nobody within each))
-
-    now : net_ops (net ++ e ∷ []) x ≡ ops_of (of_process before.process net ++ e ∷ [])
-    now =
-        whole_at table (net ++ e ∷ []) rows at x within after
-        ∙ ap (λ (r : OpenProcess). ops_of (of_process r.process (net ++ e ∷ []))) is ∙ ap ops_of (one_more before.process net e own)
-
-    ops-append : (xs : List Entry) → ops_of (xs ++ e ∷ []) ≡ ops_of xs ++ e.op ∷ []
-    ops-append [] = refl
-    ops-append (y ∷ xs) = ap (y.op ∷◌) (ops-append xs)
-
-    swapped : (a b : Bool) → (a || b) ≡ (b || (a || false))
-    swapped true true = refl
-    swapped true false = refl
-    swapped false true = refl
-    swapped false false = refl
-
-    by : (k p : ℕ) (t : Bool) → nat_eq p at ≡ t → ((t && nat_eq (row_of e.op) k) || cell old k p) ≡ (if t then has_row k (net_ops (net ++ e ∷ []) x) else cell old k p)
-    by k p true here =
-        ap (nat_eq (row_of e.op) k ||◌) (tells.tell k p ∙ ap (λ n. has_row k (net_ops net (slice_index_or rows n nobody))) (eqb-true p at here) ∙ ap (has_row k) there)
-        ∙ swapped (nat_eq (row_of e.op) k) (has_row k (ops_of (of_process before.process net)))
-        ∙ sym (ap (has_row k) (now ∙ ops-append (of_process before.process net)) ∙ list_any-append (λ (op : ℕ). nat_eq (row_of op) k) (ops_of (of_process before.process net)) (e.op ∷ []))
-    by k p false here = refl
-
--- one less
-pub net_undone : (table : Table) (net after lent : List Entry) (rows : List OpenProcess) (at : ℕ) (x : OpenProcess) (i : ℕ) (old new : List (List Bool)) → at < length rows → lent ≡ after → x.process ≡ i
-    → Each (IsTidy table after) (slice_set rows at x) → TellRows (net_ops net) rows old → IsToldAt at (ops_of (of_process i lent)) old new
-    → ((p : ℕ) → p ≢ at → net_ops after (slice_index_or rows p nobody) ≡ net_ops net (slice_index_or rows p nobody)) → TellRows (net_ops after) (slice_set rows at x) new
-net_undone table net after lent rows at x i old new within lent_is own each tells told same =
-    rows_told (net_ops net) (net_ops after) rows at x old new within tells
-    (subst (λ ops. IsToldAt at ops old new)
-    (ap (λ (es : List Entry). ops_of (of_process i es)) lent_is ∙ ap (λ n. ops_of (of_process n after)) (sym own) ∙ sym (whole_at table after rows at x within each)) told) same
-
--- one opens, and one is dropped
-pub net_opened : (i steps : ℕ) (table : Table) (net : List Entry) (rows : List OpenProcess) (bits : List (List Bool)) → has_number i rows ≡ false → AreTidy (tables table net rows)
-    → TellRows (net_ops net) rows bits → TellRows (net_ops net) (rows ++ holds_nothing i steps ∷ []) bits
-net_opened i steps table net rows bits closed tidy tells =
-    more_told (net_ops net) rows i steps bits (ap (λ es. ops_of (take steps es)) (none_own i net (none_of_closed i rows net closed tidy.of_open)) ∙ no_steps steps ∙ sym (net_nobody net)) tells
-  where
-    no_steps : (n : ℕ) → ops_of (take n []) ≡ []
-    no_steps zero = refl
-    no_steps (suc n) = refl
-
-pub net_dropped : (i : ℕ) (net : List Entry) (rows : List OpenProcess) (old new : List (List Bool)) → are_numbered rows ≡ true → has_number i rows ≡ true → TellRows (net_ops net) rows old
-    → IsColumnTaken (place_of i rows) old new → TellRows (net_ops (others i net)) (other_processes i rows) new
-net_dropped i net rows old new once has tells taken =
-    less_told (net_ops net) (net_ops (others i net)) i rows old new once has tells taken (net_elsewhere i net (others i net) rows once (λ k other. same_of_others i k net other))
-
--- an operation of the net is one of an open process
-op_of_open : (rows : List OpenProcess) (k : ℕ) (net : List Entry) → Each (λ e. has_number e.process rows ≡ true) net → has_row k (ops_of net) ≡ true
-    → (i : ℕ) × (has_number i rows ≡ true) × (has_row k (ops_of (of_process i net)) ≡ true)
-op_of_open rows k [] each is = absurd (false≢true is)
-op_of_open rows k (e ∷ net) each is = by (or_cases (nat_eq (row_of e.op) k) (has_row k (ops_of net)) is) (op_of_open rows k net each.1)
-  where
-    still : (i : ℕ) (b : Bool) → has_row k (ops_of (of_process i net)) ≡ true → has_row k (ops_of (if b then e ∷ of_process i net else of_process i net)) ≡ true
-    still i true there = or_right (nat_eq (row_of e.op) k) (has_row k (ops_of (of_process i net))) there
-    still i false there = there
-
-    by : (nat_eq (row_of e.op) k ≡ true) ⊎ (has_row k (ops_of net) ≡ true) → (has_row k (ops_of net) ≡ true → (i : ℕ) × (has_number i rows ≡ true) × (has_row k (ops_of (of_process i net)) ≡ true))
-        → (i : ℕ) × (has_number i rows ≡ true) × (has_row k (ops_of (of_process i (e ∷ net))) ≡ true)
-    by (inl here) rest = (
-      e.process,
-      each.0,
-      ap (λ b. has_row k (ops_of (if b then e ∷ of_process e.process net else of_process e.process net))) (eq-eqb e.process e.process refl)
-          ∙ or_left (nat_eq (row_of e.op) k) (has_row k (ops_of (of_process e.process net))) here,
-    )
-    by (inr later) rest = let (i, has, there) = rest later in (i, has, still i (nat_eq e.process i) there)
-
-each-take : {A : Type 0} (P : A → Type 0) (n : ℕ) (xs : List A) → Each P xs → Each P (take n xs)
-each-take P zero [] each = tt
-each-take P zero (x ∷ xs) each = tt
-each-take P (suc n) [] each = tt
-each-take P (suc n) (x ∷ xs) each = (each.0, each-take P n xs each.1)
-
--- so the rows have all operations of the net, and others of none
-pub net_kept : (t : Tables) → AreTidy t → (bits : List (List Bool)) → TellRows (net_ops t.net) t.processes bits → KeepOps t.conflicts (ops_of t.net) bits
-net_kept t tidy bits tells = record {
-  count = tells.count;
-  covers = λ k is.
-      let (i, has, there) = op_of_open t.processes k t.net tidy.of_open is in
-      let own = each_numbered (IsTidy t.conflicts t.net) i t.processes has tidy.tidy in
-      let row = at_place i t.processes nobody has in (
-        place_of i t.processes,
-        tells.tell k (place_of i t.processes) ∙ ap (λ r. has_row k (net_ops t.net r)) row
-            ∙ ap (has_row k) (whole_net t.conflicts t.net (numbered i t.processes) own.0) ∙ ap (λ n. has_row k (ops_of (of_process n t.net))) own.1 ∙ there,
-      );
-  known = λ k p less is.
-      each_row (operations_in t.conflicts) k (net_ops t.net (slice_index_or t.processes p nobody))
-      (known_entries t.conflicts (take (slice_index_or t.processes p nobody).steps (of_process (slice_index_or t.processes p nobody).process t.net))
-      (each-take (IsKnown t.conflicts) (slice_index_or t.processes p nobody).steps (of_process (slice_index_or t.processes p nobody).process t.net)
-      (each-filter (IsKnown t.conflicts) (λ e. nat_eq e.process (slice_index_or t.processes p nobody).process) t.net tidy.known)))
-      less (sym (tells.tell k p) ∙ is);
-}
-
--- over what was lent
-pub net_kept_of : (table : Table) (net lent : List Entry) (rows : List OpenProcess) (bits : List (List Bool)) → AreTidy (tables table net rows) → TellRows (net_ops net) rows bits → lent ≡ net
-    → KeepOps table (ops_of lent) bits
-net_kept_of table net lent rows bits tidy tells same = subst (λ (es : List Entry). KeepOps table (ops_of es) bits) (sym same) (net_kept (tables table net rows) tidy bits tells)
-
--- what is under way in a process is its own
-pub own_running : (i : ℕ) (table : Table) (net : List Entry) (rows : List OpenProcess) (e : Entry) → AreTidy (tables table net rows) → has_number i rows ≡ true → (numbered i rows).running ≡ Some e
-    → e.process ≡ (numbered i rows).process
-own_running i table net rows e tidy has under =
-    let (own, is_own) = each_numbered (IsTidy table net) i rows has tidy.tidy in
-    let r = numbered i rows in
-    (subst (λ o. IfSome o (λ (x : Entry). (x.process ≡ r.process) × (can_come (of_process r.process net) r x ≡ true) × IsKnown table x)) under own.running).0

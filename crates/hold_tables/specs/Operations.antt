@@ -1,5 +1,5 @@
 -- Operations: which operations are held, and which of them may be against another.
-use Rattle.std.specs.Prelude.{◌≡◌, ◌<◌, ℕ, suc, zero, Bool, true, false, ◌&&◌, ◌||◌, List, ◌++◌, map, min, nat_eq, nat_le, take}
+use Rattle.std.specs.Prelude.{◌≡◌, ◌<◌, ℕ, Bool, true, false, ◌&&◌, ◌||◌, List, ◌++◌, map, min, nat_eq, nat_le, take}
 use Rattle.std.specs.Prelude.{if◌then◌else◌, length, slice_index_or}
 use Rattle.std.specs.List.{list_any}
 use Rattle.process_tree.specs.declared.conflicts.Mode.{Mode}
@@ -70,6 +70,10 @@ pub record IsToldAt (place : ℕ) (ops : List ℕ) (old new : List (List Bool)) 
   pub count : length new ≡ length old
   pub tell : (k p : ℕ) → cell new k p ≡ (if nat_eq p place then has_row k ops else cell old k p)
 
+-- at a place, the rows of these operations are set and no others
+abbrev pub IsSetAt : ℕ → List ℕ → List (List Bool) → Type 0
+IsSetAt place ops bits = (k : ℕ) → cell bits k place ≡ has_row k ops
+
 -- at the place of each process, the rows are set of its operations by f
 pub record TellRows (f : OpenProcess → List ℕ) (rows : List OpenProcess) (bits : List (List Bool)) : Type 0 where
   pub count : length bits ≡ 257
@@ -86,12 +90,6 @@ pub record HasRows (b : Beside) : Type 0 where
   pub running : length b.running ≡ 257
   pub pending : length b.pending ≡ 257
   pub reserved : length b.reserved ≡ 257
-
--- it tells so of a process at one place, and of the others what it told
-pub record IsProcessToldAt (place : ℕ) (net : List Entry) (r : OpenProcess) (old new : Beside) : Type 0 where
-  pub running : IsToldAt place (running_ops r) old.running new.running
-  pub pending : IsToldAt place (pending_ops net r) old.pending new.pending
-  pub reserved : IsToldAt place (reserved_ops r) old.reserved new.reserved
 
 -- a place is taken out of all rows
 pub record IsColumnTaken (place : ℕ) (old new : List (List Bool)) : Type 0 where
@@ -112,21 +110,29 @@ is_held_at b k p = cell b.running k p || (cell b.pending k p || cell b.reserved 
 abbrev pub is_row_against : Table → ℕ → ℕ → Bool
 is_row_against table op k = nat_eq k 256 || may_conflict table op k
 
--- whether, in one of the first n rows, something is held at the place that may be against the operation
-unfoldable pub is_held_below : Table → Beside → ℕ → ℕ → ℕ → Bool
-is_held_below table b op p zero = false
-is_held_below table b op p (suc n) = (is_held_at b n p && is_row_against table op n) || is_held_below table b op p n
+-- these are all places where something is held that may be against the operation
+pub record AreHolders (table : Table) (b : Beside) (op : ℕ) (who : List Bool) : Type 0 where
+  pub all : (k p : ℕ) → is_held_at b k p ≡ true → is_row_against table op k ≡ true → slice_index_or who p false ≡ true
+  pub only : (p : ℕ) → slice_index_or who p false ≡ true → (k : ℕ) × (is_held_at b k p ≡ true) × (is_row_against table op k ≡ true)
 
--- each row of an operation in which something is held is of one of the table
+-- an operation of the table has the row
+abbrev pub IsRowOf : Table → ℕ → Type 0
+IsRowOf table k = (k < 257) × (k < operations_in table)
+
+-- each row with something is of an operation of the table
+abbrev pub AreRowsOf : Table → List (List Bool) → Type 0
+AreRowsOf table bits = (k p : ℕ) → cell bits k p ≡ true → IsRowOf table k
+
+-- each row in which something is held is of an operation of the table
 abbrev pub AreKnownRows : Table → Beside → Type 0
-AreKnownRows table b = (k p : ℕ) → k < 256 → is_held_at b k p ≡ true → k < operations_in table
+AreKnownRows table b = (k p : ℕ) → is_held_at b k p ≡ true → IsRowOf table k
 
 -- there is a row for each operation, each of these has something in its row, and each row with something is of an operation of
 -- the table
 pub record KeepOps (table : Table) (ops : List ℕ) (bits : List (List Bool)) : Type 0 where
   pub count : length bits ≡ 257
   pub covers : (k : ℕ) → has_row k ops ≡ true → (p : ℕ) × (cell bits k p ≡ true)
-  pub known : (k p : ℕ) → k < 256 → cell bits k p ≡ true → k < operations_in table
+  pub known : AreRowsOf table bits
 
 -- no row with something may be against this operation
 abbrev pub IsClearOf : Table → ℕ → List (List Bool) → Type 0

@@ -12,10 +12,12 @@ ghost use Rattle.hold_tables.specs.Spare.{IsRoomIn};
 
 use crate::graph::{Graph, close_if, tell_run, tell_step};
 use crate::looking::{all_steps, count_of, place_of, remove_last};
-use crate::operations::{Beside, nothing_beside, tell_dropped, tell_place};
+use crate::operations::{Beside, nothing_beside, tell_dropped};
 use crate::reach::{leads_through, step_has_arrows};
 use crate::row::{MOST, Row};
-use crate::slots::{ROWS, set_op, take_place, tell_net};
+use crate::slots::{
+    ROWS, clear_steps, set_op, take_place, tell_net, tell_pending, tell_reserved, tell_running,
+};
 use crate::spare::Spare;
 use crate::uncounting::{uncount_last, uncount_running};
 use bit_rows::{Bits, Counts};
@@ -131,7 +133,7 @@ impl Holds {
             &self.net,
             e,
         );
-        tell_place(&mut self.beside, at, &self.rows[at], &self.net);
+        tell_running(&mut self.beside.running, at, None, Some(e));
     }
 
     /// Nothing is under way in the process.
@@ -140,12 +142,13 @@ impl Holds {
         ensures { self.new ≡ stopped process self.old }
     {
         let at = place_of(&self.rows, process);
+        let running = self.rows[at].running();
         let gone = uncount_running(
             &mut self.graph.counts,
             &self.conflicts,
             &self.rows,
             &self.net,
-            self.rows[at].running(),
+            running,
         );
         self.rows[at].run(None);
         close_if(
@@ -155,7 +158,7 @@ impl Holds {
             &self.rows,
             &self.net,
         );
-        tell_place(&mut self.beside, at, &self.rows[at], &self.net);
+        tell_running(&mut self.beside.running, at, running, None);
     }
 
     /// What is under way in the process took effect.
@@ -186,7 +189,14 @@ impl Holds {
         self.net.push_reserved(e);
         self.rows[at].run(None);
         tell_step(&mut self.graph, &self.conflicts, &self.rows, &self.net, e);
-        tell_place(&mut self.beside, at, &self.rows[at], &self.net);
+        tell_running(&mut self.beside.running, at, Some(e), None);
+        tell_pending(
+            &mut self.beside.pending,
+            at,
+            self.rows[at].pending(),
+            &self.rows[at],
+            &self.net,
+        );
         set_op(&mut self.in_net, at, e.op);
     }
 
@@ -206,6 +216,7 @@ impl Holds {
             process,
         );
         remove_last(&mut self.net, process);
+        let running = self.rows[at].running();
         self.rows[at].run(None);
         close_if(
             gone,
@@ -214,7 +225,14 @@ impl Holds {
             &self.rows,
             &self.net,
         );
-        tell_place(&mut self.beside, at, &self.rows[at], &self.net);
+        tell_running(&mut self.beside.running, at, running, None);
+        tell_pending(
+            &mut self.beside.pending,
+            at,
+            self.rows[at].pending(),
+            &self.rows[at],
+            &self.net,
+        );
         tell_net(&mut self.in_net, at, process, &self.net);
     }
 
@@ -228,7 +246,6 @@ impl Holds {
         let most = usize::from(self.rows[at].steps());
         let fixed = count_of(&self.net, process).min(most);
         self.rows[at].fix(fixed as u16);
-        tell_place(&mut self.beside, at, &self.rows[at], &self.net);
     }
 
     /// These, each a step with its operation and its key, are the reserved steps of the process.
@@ -239,8 +256,9 @@ impl Holds {
         ensures { self.new ≡ changed (with_reserved steps.now) process self.old }
     {
         let at = place_of(&self.rows, process);
+        clear_steps(&mut self.beside.reserved, at, self.rows[at].reserved());
         self.rows[at].reserve(steps);
-        tell_place(&mut self.beside, at, &self.rows[at], &self.net);
+        tell_reserved(&mut self.beside.reserved, at, self.rows[at].reserved());
     }
 
     /// Only the first so many of the reserved steps of the process stay reserved.
@@ -249,8 +267,9 @@ impl Holds {
         ensures { self.new ≡ changed (with_first_reserved count) process self.old }
     {
         let at = place_of(&self.rows, process);
+        clear_steps(&mut self.beside.reserved, at, self.rows[at].reserved());
         self.rows[at].keep_reserved(count);
-        tell_place(&mut self.beside, at, &self.rows[at], &self.net);
+        tell_reserved(&mut self.beside.reserved, at, self.rows[at].reserved());
     }
 
     /// So many of the last net entries of the process are to be undone.
@@ -259,8 +278,15 @@ impl Holds {
         ensures { self.new ≡ changed (with_pending count) process self.old }
     {
         let at = place_of(&self.rows, process);
+        let before = self.rows[at].pending();
         self.rows[at].pend(count);
-        tell_place(&mut self.beside, at, &self.rows[at], &self.net);
+        tell_pending(
+            &mut self.beside.pending,
+            at,
+            before,
+            &self.rows[at],
+            &self.net,
+        );
     }
 
     /// The process holds nothing any more.

@@ -1,9 +1,9 @@
 // What the open processes hold beside their nets, as rows of bits by operation.
-ghost use Rattle.std.specs.Prelude.{◌≡◌, ◌<◌, ◌∷◌, ◌&&◌, ◌||◌, [], ℕ, length, map, nat_eq};
+ghost use Rattle.std.specs.Prelude.{◌≡◌, ◌<◌, ◌∷◌, ◌&&◌, ◌||◌, [], ℕ, false, if◌then◌else◌, length, map, nat_eq};
 ghost use Rattle.std.specs.Option.{option_to_list};
 ghost use Rattle.schedule_model.specs.Histories.{of_process};
 ghost use Rattle.bit_rows.specs.Cells.{cell};
-ghost use Rattle.hold_tables.specs.Operations.{AddsAt, IsColumnTaken, IsToldAt, has_row, ops_of, pending_ops, row_of};
+ghost use Rattle.hold_tables.specs.Operations.{AddsAt, IsColumnTaken, IsSetAt, IsToldAt, has_row, ops_of, pending_ops, row_of};
 
 use crate::row::{MOST, Row};
 use bit_rows::Bits;
@@ -77,18 +77,55 @@ fn set_pending(bits: &mut Bits, place: usize, row: &Row, net: &[Entry])
     }
 }
 
-/// Sets what is under way at a place, and nothing else there.
-pub fn tell_running(bits: &mut Bits, place: usize, running: Option<Entry>)
+/// Clears an operation at a place.
+fn clear_op(bits: &mut Bits, place: usize, op: u16)
     requires rows { length bits.old ≡ 257 }
     requires place { place < 256 }
+    ensures count { length bits.new ≡ 257 }
+    ensures own { (k p : ℕ) → cell bits.new k p ≡ (if nat_eq p place && nat_eq (row_of op) k then false else cell bits.old k p) }
+{
+    bits.clear(row_of(op), place);
+}
+
+/// Clears that of what was under way, which alone is set there.
+fn clear_running(bits: &mut Bits, place: usize, running: Option<Entry>)
+    requires rows { length bits.old ≡ 257 }
+    requires place { place < 256 }
+    requires own { IsSetAt place (ops_of (option_to_list running)) bits.old }
+    ensures { IsToldAt place [] bits.old bits.new }
+{
+    if let Some(e) = running {
+        clear_op(bits, place, e.op);
+    }
+}
+
+/// Sets what is under way at a place in place of what was.
+pub fn tell_running(bits: &mut Bits, place: usize, before: Option<Entry>, running: Option<Entry>)
+    requires rows { length bits.old ≡ 257 }
+    requires place { place < 256 }
+    requires own { IsSetAt place (ops_of (option_to_list before)) bits.old }
     ensures { IsToldAt place (ops_of (option_to_list running)) bits.old bits.new }
 {
-    bits.clear_column(place);
+    clear_running(bits, place, before);
     set_running(bits, place, running);
 }
 
-/// The same of what is to be undone.
-pub fn tell_pending(bits: &mut Bits, place: usize, row: &Row, net: &[Entry])
+/// Clears those of reserved steps, which alone are set there.
+pub fn clear_steps(bits: &mut Bits, place: usize, steps: &[(u16, u16, u32)])
+    requires rows { length bits.old ≡ 257 }
+    requires place { place < 256 }
+    requires own { IsSetAt place (map (λ step. step.1) steps.now) bits.old }
+    ensures { IsToldAt place [] bits.old bits.new }
+{
+    let mut rest = steps;
+    while let [step, after @ ..] = rest {
+        clear_op(bits, place, step.1);
+        rest = after;
+    }
+}
+
+/// Sets at a place what is to be undone, and nothing else there.
+fn tell_all_pending(bits: &mut Bits, place: usize, row: &Row, net: &[Entry])
     requires rows { length bits.old ≡ 257 }
     requires place { place < 256 }
     ensures { IsToldAt place (pending_ops net.now row.now) bits.old bits.new }
@@ -97,13 +134,25 @@ pub fn tell_pending(bits: &mut Bits, place: usize, row: &Row, net: &[Entry])
     set_pending(bits, place, row, net);
 }
 
-/// The same of reserved steps.
+/// The same at a place where so many entries were to be undone: the net isn't looked at where none were and none are.
+pub fn tell_pending(bits: &mut Bits, place: usize, before: u16, row: &Row, net: &[Entry])
+    requires rows { length bits.old ≡ 257 }
+    requires place { place < 256 }
+    requires none { before ≡ 0 → IsSetAt place [] bits.old }
+    ensures { IsToldAt place (pending_ops net.now row.now) bits.old bits.new }
+{
+    if before > 0 || row.pending() > 0 {
+        tell_all_pending(bits, place, row, net);
+    }
+}
+
+/// Sets reserved steps where nothing is set.
 pub fn tell_reserved(bits: &mut Bits, place: usize, steps: &[(u16, u16, u32)])
     requires rows { length bits.old ≡ 257 }
     requires place { place < 256 }
+    requires none { IsSetAt place [] bits.old }
     ensures { IsToldAt place (map (λ step. step.1) steps.now) bits.old bits.new }
 {
-    bits.clear_column(place);
     set_steps(bits, place, steps);
 }
 

@@ -12,7 +12,8 @@ use Rattle.hold_tables.proofs.DroppedWalks.{dropped_counts, dropped_tells, rows_
 use Rattle.hold_tables.proofs.Opening.{drop_stands}
 use Rattle.hold_tables.proofs.GraphStays.{graph_lent}
 use Rattle.hold_tables.specs.Operations.{IsColumnTaken, IsProcessTaken}
-use Rattle.hold_tables.proofs.Told.{dropped_told, net_dropped, place_small}
+use Rattle.hold_tables.proofs.Told.{dropped_told, place_small}
+use Rattle.hold_tables.proofs.ToldNet.{net_dropped}
 use Rattle.hold_tables.proofs.holds.Holds.drop_process.Goals as goal
 
 pub close_if-requires-clause-tidy : goal.close_if-requires-clause-tidy

@@ -7,8 +7,9 @@ use Rattle.hold_tables.specs.Places.{place_of}
 use Rattle.hold_tables.proofs.Tidy.{each_numbered, found_row, is_among, returned, stood}
 use Rattle.hold_tables.proofs.GraphStays.{graph_stood}
 use Rattle.hold_tables.proofs.Effects.{few_own, tidy_fixed}
-use Rattle.hold_tables.specs.Operations.{net_ops}
-use Rattle.hold_tables.proofs.Told.{has_rows, place_small, place_within, rows_kept, told_lent}
+use Rattle.hold_tables.specs.Operations.{net_ops, pending_ops, reserved_ops, running_ops}
+use Rattle.hold_tables.proofs.Told.{beside_told, place_within, stays_told}
+use Rattle.hold_tables.proofs.ToldNet.{rows_kept}
 use Rattle.hold_tables.proofs.holds.Holds.fix.Goals as goal
 
 pub invariant_of-self : goal.invariant_of-self
@@ -32,8 +33,11 @@ invariant_of-self c =
           (tidy_fixed c.args.self.now.conflicts (of_process (kept_of c.args.self.now i).process c.args.self.now.net) (kept_of c.args.self.now i) c.requires.forward tidy)) c.self.invariant.0,
       graph_stood (with_fixed (length (of_process i c.args.self.now.net))) i c.self.inside.conflicts net rows c.self.inside.graph.counts c.self.inside.graph.walks c.place_of-at.result c.index_mut.result.now c.fix.new.self c.args.self.now c.self.view_is c.requires.open place c.index_mut.ensures.value (c.fix.ensures ∙ ap (λ n. with_fixed n c.index_mut.result.now) fixed)
           (λ r. (refl, refl)) c.self.invariant.1,
-      told_lent c.self.inside.net.items c.self.inside.net.items c.deref-3.result.now c.self.inside.rows.items c.place_of-at.result c.fix.new.self c.index-2.result.now c.self.inside.beside c.tell_place.new.beside
-          (place_within c.deref.result.now c.self.inside.rows.items c.place_of-at.result c.deref.ensures.value c.place_of-at.ensures.within) c.deref-3.ensures.value c.index-2.ensures c.self.invariant.2 c.tell_place.ensures (λ p other. refl),
+      beside_told c.self.inside.net.items c.self.inside.net.items c.self.inside.rows.items c.place_of-at.result c.fix.new.self c.self.inside.beside _ (place_within c.deref.result.now c.self.inside.rows.items c.place_of-at.result c.deref.ensures.value c.place_of-at.ensures.within) c.self.invariant.2
+          (stays_told running_ops c.self.inside.rows.items c.place_of-at.result c.index_mut.result.now (running_ops c.fix.new.self) c.self.inside.beside.running (place_within c.deref.result.now c.self.inside.rows.items c.place_of-at.result c.deref.ensures.value c.place_of-at.ensures.within) c.index_mut.ensures.value (ap running_ops c.fix.ensures) c.self.invariant.2.running)
+          (stays_told (pending_ops c.self.inside.net.items) c.self.inside.rows.items c.place_of-at.result c.index_mut.result.now ((pending_ops c.self.inside.net.items) c.fix.new.self) c.self.inside.beside.pending (place_within c.deref.result.now c.self.inside.rows.items c.place_of-at.result c.deref.ensures.value c.place_of-at.ensures.within) c.index_mut.ensures.value (ap (pending_ops c.self.inside.net.items) c.fix.ensures) c.self.invariant.2.pending)
+          (stays_told reserved_ops c.self.inside.rows.items c.place_of-at.result c.index_mut.result.now (reserved_ops c.fix.new.self) c.self.inside.beside.reserved (place_within c.deref.result.now c.self.inside.rows.items c.place_of-at.result c.deref.ensures.value c.place_of-at.ensures.within) c.index_mut.ensures.value (ap reserved_ops c.fix.ensures) c.self.invariant.2.reserved)
+          (λ p other. refl),
       rows_kept (net_ops c.self.inside.net.items) c.self.inside.rows.items c.place_of-at.result c.fix.new.self c.index_mut.result.now c.self.inside.in_net
           (place_within c.deref.result.now c.self.inside.rows.items c.place_of-at.result c.deref.ensures.value c.place_of-at.ensures.within) c.index_mut.ensures.value (ap (net_ops c.self.inside.net.items) c.fix.ensures) c.self.invariant.3,
     )
@@ -55,9 +59,3 @@ returns c =
     let all : c.min-fixed.result ≡ length (of_process i net) = omega (arith, few, count, steps, most, least) in
     let fixed = all ∙ ap (λ (t : Tables). length (of_process i t.net)) c.self.view_is in
     returned (with_fixed (length (of_process i c.args.self.now.net))) i c.self.inside.conflicts net rows c.place_of-at.result c.index_mut.result.now c.fix.new.self c.args.self.now c.self.view_is c.requires.open place c.index_mut.ensures.value (c.fix.ensures ∙ ap (λ n. with_fixed n c.index_mut.result.now) fixed)
-
-pub tell_place-requires-clause-rows : goal.tell_place-requires-clause-rows
-tell_place-requires-clause-rows c = has_rows c.self.inside.net.items c.self.inside.rows.items c.self.inside.beside c.self.invariant.2
-
-pub tell_place-requires-clause-place : goal.tell_place-requires-clause-place
-tell_place-requires-clause-place c = place_small c.deref.result.now c.self.inside.rows.items c.place_of-at.result c.deref.ensures.value c.place_of-at.ensures.within c.self.invariant.1.1.rows.1

@@ -3,7 +3,7 @@ use Rattle.std.specs.List.{list_any}
 use Rattle.hold_tables.specs.Operations.{may_conflict, ops_of}
 use Rattle.hold_tables.specs.Tables.{Tables}
 use Rattle.hold_tables.proofs.Tidy.{tables}
-use Rattle.hold_tables.proofs.Told.{net_kept}
+use Rattle.hold_tables.proofs.ToldNet.{net_kept}
 use Rattle.hold_tables.proofs.holds.Holds.is_clear_of_net.Goals as goal
 
 pub is_clear_of-requires-clause-rows : goal.is_clear_of-requires-clause-rows

@@ -8,7 +8,8 @@ use Rattle.bit_rows.specs.Cells.{cell}
 use Rattle.hold_tables.specs.Spare.{IsRoomIn, SpareRoom}
 use Rattle.hold_tables.proofs.OpenedWalks.{opened_counts, opened_tells}
 use Rattle.hold_tables.proofs.Opening.{open_stands}
-use Rattle.hold_tables.proofs.Told.{net_opened, opened_told}
+use Rattle.hold_tables.proofs.Told.{opened_told}
+use Rattle.hold_tables.proofs.ToldNet.{net_opened}
 use Rattle.hold_tables.proofs.holds.Holds.open_with.Goals as goal
 
 pub invariant_of-self : goal.invariant_of-self
