@@ -19,8 +19,8 @@ invariant_of-self c = (
       (stays_told running_ops c.self.inside.rows.items c.place_of-at.result c.index_mut.result.now (running_ops c.reserve.new.self) c.self.inside.beside.running (place_within c.deref.result.now c.self.inside.rows.items c.place_of-at.result c.deref.ensures.value c.place_of-at.ensures.within) c.index_mut.ensures.value (ap running_ops c.reserve.ensures) c.self.invariant.2.running)
       (stays_told (pending_ops c.self.inside.net.items) c.self.inside.rows.items c.place_of-at.result c.index_mut.result.now ((pending_ops c.self.inside.net.items) c.reserve.new.self) c.self.inside.beside.pending (place_within c.deref.result.now c.self.inside.rows.items c.place_of-at.result c.deref.ensures.value c.place_of-at.ensures.within) c.index_mut.ensures.value (ap (pending_ops c.self.inside.net.items) c.reserve.ensures) c.self.invariant.2.pending)
       (told_by c.place_of-at.result (reserved_ops c.reserve.new.self) (map (λ (step : ℕ × ℕ × ℕ). step.1) c.reserved-2.result.now) c.self.inside.beside.reserved c.tell_reserved.new.bits
-          (sym (ap (map (λ (step : ℕ × ℕ × ℕ). step.1)) (c.reserved-2.ensures ∙ ap (λ (r : OpenProcess). r.reserved) (c.index-2.ensures ∙ get_or-set_same c.self.inside.rows.items c.place_of-at.result c.reserve.new.self c.index-2.result.now (place_within c.deref.result.now c.self.inside.rows.items c.place_of-at.result c.deref.ensures.value c.place_of-at.ensures.within)))))
-          (told_over c.place_of-at.result [] (map (λ (step : ℕ × ℕ × ℕ). step.1) c.reserved-2.result.now) c.self.inside.beside.reserved c.clear_steps.new.bits c.tell_reserved.new.bits c.clear_steps.ensures c.tell_reserved.ensures))
+      (sym (ap (map (λ (step : ℕ × ℕ × ℕ). step.1)) (c.reserved-2.ensures ∙ ap (λ (r : OpenProcess). r.reserved) (c.index-2.ensures ∙ get_or-set_same c.self.inside.rows.items c.place_of-at.result c.reserve.new.self c.index-2.result.now (place_within c.deref.result.now c.self.inside.rows.items c.place_of-at.result c.deref.ensures.value c.place_of-at.ensures.within)))))
+      (told_over c.place_of-at.result [] (map (λ (step : ℕ × ℕ × ℕ). step.1) c.reserved-2.result.now) c.self.inside.beside.reserved c.clear_steps.new.bits c.tell_reserved.new.bits c.clear_steps.ensures c.tell_reserved.ensures))
       (λ p other. refl),
   rows_kept (net_ops c.self.inside.net.items) c.self.inside.rows.items c.place_of-at.result c.reserve.new.self c.index_mut.result.now c.self.inside.in_net
       (place_within c.deref.result.now c.self.inside.rows.items c.place_of-at.result c.deref.ensures.value c.place_of-at.ensures.within) c.index_mut.ensures.value (ap (net_ops c.self.inside.net.items) c.reserve.ensures) c.self.invariant.3,
