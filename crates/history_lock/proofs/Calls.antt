@@ -1,5 +1,5 @@
 -- What each call of the table asks, for a seat as its clauses have it.
-use Rattle.std.proofs.Common.{◌≡◌, ℕ, ◌+◌, ◌%◌, ◌^◌, ◌≤◌, List, [], ◌∷◌, ◌++◌, sym, ap, subst, subst₂, ◌∙◌, Option as Maybe, Some, None, IfSome, unwrap_or}
+use Rattle.std.proofs.Common.{◌≡◌, ℕ, ◌+◌, ◌%◌, ◌^◌, ◌≤◌, List, [], ◌∷◌, ◌++◌, sym, ap, arith, subst, subst₂, zero, suc, ◌∙◌, Option as Maybe, Some, None, IfSome, unwrap_or}
 use mathlib.Core.Option.{Option as Opt, some, some-injective}
 use lib.ListN.{get_elem?}
 use Rattle.atomic_table.specs.Table.{Me, Allows, Splits, Joins, Final, Seen}
@@ -29,8 +29,11 @@ module _ {S X : Type 0} (stands_for : S → List X → S → Type 0) (o : S) (sl
   pub may_pass : (x : S) → HasCounted (Some x) m → IfSome m.0.opening (λ z. stands_for z m.0.seen x) → Allows (DeskInvariant stands_for o) slots id m 0 (λ n. (n + 1) % 2 ^ 64) (Passed m)
   may_pass x is stands = subst (λ (y : M). Allows (DeskInvariant stands_for o) slots id y 0 (λ n. (n + 1) % 2 ^ 64) (Passed y)) (sym is.0) (passes stands_for o slots id _ _ _ _ _ x stands)
 
-  pub may_announce : Allows (DeskInvariant stands_for o) slots id m 3 (λ n. (n + 1) % 2 ^ 64) (λ _ after. Announced m after)
-  may_announce = announces stands_for o slots id m
+  pub may_announce : (word : ℕ) → 3 ≤ word → Allows (DeskInvariant stands_for o) slots id m word (λ n. (n + 1) % 2 ^ 64) (λ _ after. Announced m after)
+  may_announce zero behind = absurd (omega (arith, behind))
+  may_announce (suc zero) behind = absurd (omega (arith, behind))
+  may_announce (suc (suc zero)) behind = absurd (omega (arith, behind))
+  may_announce (suc (suc (suc word))) behind = announces stands_for o slots id m word
 
   pub may_learn : m ≡ (record (resting m.0.opening m.0.seen m.0.places m.0.share) { heard = m.0.heard }, []) → 1 ≤ m.0.share → Allows (DeskInvariant stands_for o) slots id m 0 (λ n. n) (Learned m)
   may_learn is some_share = subst (λ (x : M). Allows (DeskInvariant stands_for o) slots id x 0 (λ n. n) (Learned x)) (sym is) (learns stands_for o slots id _ _ _ _ _ some_share)

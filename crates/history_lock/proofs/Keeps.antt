@@ -57,7 +57,7 @@ module _ {S X : Type 0} (stands_for : S → List X → S → Type 0) (o : S) whe
   -- one view changes, and the words, the slot and the history with it
   pub changed : (s : St) (old : DeskInvariant stands_for o s) (id : ℕ) (v w : V) → get_elem? s.views id ≡ some v → (new : St) (history : List X) (serving tickets : ℕ)
       → new.views ≡ set s.views id w
-      → new.words ≡ serving ∷ tickets ∷ length history ∷ old.changes ∷ []
+      → new.words ≡ serving ∷ tickets ∷ length history ∷ old.counts
       → ((k : ℕ) (u : V) → k ≢ id → get_elem? s.views k ≡ some u → SeatInvariant o old.history old.serving old.tickets u → SeatInvariant o history serving tickets u)
       → SeatInvariant o history serving tickets w
       → ((k : ℕ) (u : V) → k ≢ id → get_elem? s.views k ≡ some u → u.drawn ≡ 1 → w.drawn ≡ 1 → u.ticket ≡ w.ticket → ⊥)
@@ -71,7 +71,7 @@ module _ {S X : Type 0} (stands_for : S → List X → S → Type 0) (o : S) whe
     history = history;
     serving = serving;
     tickets = tickets;
-    changes = old.changes;
+    counts = old.counts;
     words = words;
     each = subst (λ (l : List V). (k : ℕ) (u : V) → get_elem? l k ≡ some u → SeatInvariant o history serving tickets u) (sym views) (each_set s.views id w old.each others mine);
     alone = subst NoSharedTicket (sym views) (alone_set s.views id w old.alone other);
@@ -136,7 +136,7 @@ module _ {S X : Type 0} (stands_for : S → List X → S → Type 0) (o : S) whe
         keeps,
         tt,
         changed s k id v w at new k.history k.serving (k.tickets + 1) refl
-            (ap (λ (l : List ℕ). set l 1 ((t + 1) % 2 ^ 64)) k.words ∙ ap (λ (n : ℕ). k.serving ∷ n ∷ length k.history ∷ k.changes ∷ []) low)
+            (ap (λ (l : List ℕ). set l 1 ((t + 1) % 2 ^ 64)) k.words ∙ ap (λ (n : ℕ). k.serving ∷ n ∷ length k.history ∷ k.counts) low)
             (λ j u n there old. alike s k (k.tickets + 1) (omega arith) j u old)
             (record {
               opened = mine.opened;
@@ -172,7 +172,7 @@ module _ {S X : Type 0} (stands_for : S → List X → S → Type 0) (o : S) whe
         keeps,
         tt,
         changed s k id v v at (stepped s 0 (get_or s.words 0 0) id c v keeps) k.history k.serving k.tickets refl
-            (ap (λ (l : List ℕ). set l 0 (get_or s.words 0 0)) k.words ∙ ap (λ (n : ℕ). n ∷ k.tickets ∷ length k.history ∷ k.changes ∷ []) e0)
+            (ap (λ (l : List ℕ). set l 0 (get_or s.words 0 0)) k.words ∙ ap (λ (n : ℕ). n ∷ k.tickets ∷ length k.history ∷ k.counts) e0)
             (λ j u n there old. old)
             mine
             (λ j u n there d q same. absurd (omega arith))
@@ -193,7 +193,7 @@ module _ {S X : Type 0} (stands_for : S → List X → S → Type 0) (o : S) whe
         keeps,
         tt,
         changed s k id v w at (stepped s 0 (get_or s.words 0 0) id c w keeps) k.history k.serving k.tickets refl
-            (ap (λ (l : List ℕ). set l 0 (get_or s.words 0 0)) k.words ∙ ap (λ (n : ℕ). n ∷ k.tickets ∷ length k.history ∷ k.changes ∷ []) e0)
+            (ap (λ (l : List ℕ). set l 0 (get_or s.words 0 0)) k.words ∙ ap (λ (n : ℕ). n ∷ k.tickets ∷ length k.history ∷ k.counts) e0)
             (λ j u n there old. old)
             (record {
               opened = mine.opened;
@@ -216,19 +216,20 @@ module _ {S X : Type 0} (stands_for : S → List X → S → Type 0) (o : S) whe
         ((λ _. refl), λ late. absurd (omega (arith, early))),
       ))
 
-  -- a change is announced: nothing depends on how many were
-  pub announces : (slots id : ℕ) (m : Me (Maybe S) V) → Allows (DeskInvariant stands_for o) slots id m 3 (λ n. (n + 1) % 2 ^ 64) (λ found after. after ≡ m)
-  announces slots id m s k wide at small =
-      let changes = (get_or s.words 3 0 + 1) % 2 ^ 64 in (
+  -- one of the counts behind the first three words rises: nothing depends on them
+  pub announces : (slots id : ℕ) (m : Me (Maybe S) V) (word : ℕ) → Allows (DeskInvariant stands_for o) slots id m (suc (suc (suc word))) (λ n. (n + 1) % 2 ^ 64) (λ found after. after ≡ m)
+  announces slots id m word s k wide at small =
+      let i = suc (suc (suc word)) in
+      let raised = (get_or s.words i 0 + 1) % 2 ^ 64 in (
         m.0,
         keeps,
         tt,
-        subst (λ (l : List V). DeskInvariant stands_for o (record { words = set s.words 3 changes; homes = s.homes; views = l })) (sym (set_again s.views id m.0 at)) (record {
+        subst (λ (l : List V). DeskInvariant stands_for o (record { words = set s.words i raised; homes = s.homes; views = l })) (sym (set_again s.views id m.0 at)) (record {
           history = k.history;
           serving = k.serving;
           tickets = k.tickets;
-          changes = changes;
-          words = ap (λ (l : List ℕ). set l 3 changes) k.words;
+          counts = set k.counts word raised;
+          words = ap (λ (l : List ℕ). set l i raised) k.words;
           each = k.each;
           alone = k.alone;
           slot = k.slot;
@@ -266,7 +267,7 @@ module _ {S X : Type 0} (stands_for : S → List X → S → Type 0) (o : S) whe
         takes 0 (Some h.0),
         ap (λ (l : List Slot). get_elem? l 0) h.1,
         changed s k id v w at new k.history k.serving k.tickets refl
-            (ap (λ (l : List ℕ). set l 0 (get_or s.words 0 0)) k.words ∙ ap (λ (m : ℕ). m ∷ k.tickets ∷ length k.history ∷ k.changes ∷ []) e0)
+            (ap (λ (l : List ℕ). set l 0 (get_or s.words 0 0)) k.words ∙ ap (λ (m : ℕ). m ∷ k.tickets ∷ length k.history ∷ k.counts) e0)
             (λ j u m there old. old)
             (record {
               opened = mine.opened;
@@ -306,7 +307,7 @@ module _ {S X : Type 0} (stands_for : S → List X → S → Type 0) (o : S) whe
         keeps,
         tt,
         changed s k id v v at (stepped s 0 (get_or s.words 0 0) id [] v keeps) k.history k.serving k.tickets refl
-            (ap (λ (l : List ℕ). set l 0 (get_or s.words 0 0)) k.words ∙ ap (λ (m : ℕ). m ∷ k.tickets ∷ length k.history ∷ k.changes ∷ []) e0)
+            (ap (λ (l : List ℕ). set l 0 (get_or s.words 0 0)) k.words ∙ ap (λ (m : ℕ). m ∷ k.tickets ∷ length k.history ∷ k.counts) e0)
             (λ j u n there old. old)
             mine
             (λ j u m there d q same. m (k.alone j id u v there at d refl same))
@@ -339,7 +340,7 @@ module _ {S X : Type 0} (stands_for : S → List X → S → Type 0) (o : S) whe
         keeps,
         tt,
         changed s k id v w at new (k.history ++ e ∷ []) k.serving k.tickets refl
-            (ap (λ (l : List ℕ). set l 2 ((m + 1) % 2 ^ 64)) k.words ∙ ap (λ (q : ℕ). k.serving ∷ k.tickets ∷ q ∷ k.changes ∷ []) next)
+            (ap (λ (l : List ℕ). set l 2 ((m + 1) % 2 ^ 64)) k.words ∙ ap (λ (q : ℕ). k.serving ∷ k.tickets ∷ q ∷ k.counts) next)
             (λ j u q there old. seated_on old (e ∷ []) (k.history ++ e ∷ []) k.serving k.tickets refl (omega arith) (λ d. (old.queued d).0) (λ t. absurd (q (only_turn s k id j v u at there refl served t))))
             (record {
               opened = mine.opened;
@@ -382,7 +383,7 @@ module _ {S X : Type 0} (stands_for : S → List X → S → Type 0) (o : S) whe
         gives,
         tt,
         changed s k id v w at new k.history (k.serving + 1) k.tickets refl
-            (ap (λ (l : List ℕ). set l 0 ((m + 1) % 2 ^ 64)) k.words ∙ ap (λ (q : ℕ). q ∷ k.tickets ∷ length k.history ∷ k.changes ∷ []) next)
+            (ap (λ (l : List ℕ). set l 0 ((m + 1) % 2 ^ 64)) k.words ∙ ap (λ (q : ℕ). q ∷ k.tickets ∷ length k.history ∷ k.counts) next)
             (λ j u q there old. seated_on old [] k.history (k.serving + 1) k.tickets (append-nil k.history) (omega arith)
             (λ d. let low = (old.queued d).0 in let ne : u.ticket ≢ n = λ same. q (k.alone j id u v there at d refl same) in omega (arith, low, ne, served))
             (λ t. absurd (q (only_turn s k id j v u at there refl served t))))

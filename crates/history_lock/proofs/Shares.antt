@@ -64,12 +64,12 @@ module _ {S X : Type 0} (stands_for : S → List X → S → Type 0) (o : S) whe
   single P mine zero u e = subst P (some-injective seat u e) mine
   single P mine (suc k) u e = absurd (some-ne-none u (sym e))
 
-  pub begins : (x : S) → stands_for o [] x → DeskInvariant stands_for o (opening (0 ∷ 0 ∷ 0 ∷ 0 ∷ []) (Some x ∷ []) (resting (Some o) [] [] (2 ^ 62)))
-  begins x stands = record {
+  pub begins : (counts : List ℕ) (x : S) → stands_for o [] x → DeskInvariant stands_for o (opening (0 ∷ 0 ∷ 0 ∷ counts) (Some x ∷ []) (resting (Some o) [] [] (2 ^ 62)))
+  begins counts x stands = record {
     history = [];
     serving = 0;
     tickets = 0;
-    changes = 0;
+    counts = counts;
     words = refl;
     each = single (SeatInvariant o [] 0 0) (record {
       opened = λ _. refl;
@@ -123,7 +123,7 @@ module _ {S X : Type 0} (stands_for : S → List X → S → Type 0) (o : S) whe
         history = k.history;
         serving = k.serving;
         tickets = k.tickets;
-        changes = k.changes;
+        counts = k.counts;
         words = k.words;
         each = each_snoc {P = SeatInvariant o k.history k.serving k.tickets} (set s.views id a) b
             (each_set {P = SeatInvariant o k.history k.serving k.tickets} {Q = SeatInvariant o k.history k.serving k.tickets} s.views id a k.each (λ j u n there old. old)
@@ -158,7 +158,7 @@ module _ {S X : Type 0} (stands_for : S → List X → S → Type 0) (o : S) whe
         history = k.history;
         serving = k.serving;
         tickets = k.tickets;
-        changes = k.changes;
+        counts = k.counts;
         words = k.words;
         each = each_set {P = SeatInvariant o k.history k.serving k.tickets} {Q = SeatInvariant o k.history k.serving k.tickets} middle other spent
             (each_set {P = SeatInvariant o k.history k.serving k.tickets} {Q = SeatInvariant o k.history k.serving k.tickets} s.views id m k.each (λ j u n there old. old)
@@ -208,7 +208,7 @@ module _ {S X : Type 0} (stands_for : S → List X → S → Type 0) (o : S) whe
         keeps,
         tt,
         changed stands_for o s k id v w at (stepped s 0 (get_or s.words 0 0) id [] w keeps) k.history k.serving k.tickets refl
-            (ap (λ (l : List ℕ). set l 0 (get_or s.words 0 0)) k.words ∙ ap (λ (m : ℕ). m ∷ k.tickets ∷ length k.history ∷ k.changes ∷ []) (word_0 stands_for o s k))
+            (ap (λ (l : List ℕ). set l 0 (get_or s.words 0 0)) k.words ∙ ap (λ (m : ℕ). m ∷ k.tickets ∷ length k.history ∷ k.counts) (word_0 stands_for o s k))
             (λ j u n there old. old)
             (rested k.history k.serving k.tickets p seen places share mine.later some_share (mine.opened some_share) mine.prefix mine.stand)
             (λ j u m there d q same. absurd (omega arith))

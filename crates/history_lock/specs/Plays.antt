@@ -68,7 +68,7 @@ module _ {O T X : Type 0} where
   abbrev pub Passed : Me (Maybe T) (View O X) → ℕ → Me (Maybe T) (View O X) → Type 0
   Passed me found after = after ≡ rested me
 
-  -- a change was announced
+  -- a change was announced, or a bell was rung
   abbrev pub Announced : Me (Maybe T) (View O X) → Me (Maybe T) (View O X) → Type 0
   Announced me after = after ≡ me
 

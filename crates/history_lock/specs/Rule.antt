@@ -1,5 +1,6 @@
--- What is true of a desk between any two steps. Its words are the ticket that is served now, the next ticket, how many entries
--- the history has, and how many changes were announced. Its one slot has the state.
+-- What is true of a desk between any two steps. Its first words are the ticket that is served now, the next ticket, and how many
+-- entries the history has. Behind them stand counts on which threads sleep: of the changes that were announced, and of the rings of
+-- each bell. Its one slot has the state.
 use Rattle.std.specs.Prelude.{◌≡◌, ◌≢◌, ◌⊎◌, ◌<◌, ◌≤◌, ℕ, ◌+◌, ◌-◌, ◌/◌, ◌^◌, List, [], ◌∷◌, ◌++◌, length, cond, nat_lt, nat_eq}
 use Rattle.std.specs.Prelude.{IfSome, Some, None, Option as Maybe}
 use mathlib.Core.Option.{none, some}
@@ -95,8 +96,9 @@ pub record DeskInvariant {S X : Type 0} (stands_for : S → List X → S → Typ
   pub history : List X
   pub serving : ℕ
   pub tickets : ℕ
-  pub changes : ℕ
-  pub words : state.words ≡ serving ∷ tickets ∷ length history ∷ changes ∷ []
+  -- nothing depends on these
+  pub counts : List ℕ
+  pub words : state.words ≡ serving ∷ tickets ∷ length history ∷ counts
   pub each : (k : ℕ) (v : View S X) → get_elem? state.views k ≡ some v → SeatInvariant opening history serving tickets v
   pub alone : NoSharedTicket state.views
   pub slot : AtHome stands_for opening history serving state ⊎ IsOut state

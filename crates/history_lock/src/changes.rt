@@ -5,12 +5,13 @@ ghost use Rattle.history_lock.specs.Turns.{desk_at, history, opening_at, places_
 
 use crate::desk::{Desk, Seat, Turn};
 use crate::held::Held;
+use crate::steps::CHANGES;
 use std::sync::Wait;
 
 impl<'a, S: Held> Turn<'a, S> {
     /// How many changes were announced before this turn. One that is read in a turn was read before any later change.
     pub fn changes(&self) -> u64 {
-        self.desk.table.shared.peek(3)
+        self.desk.table.shared.peek(CHANGES)
     }
 
     /// `done`, and whoever waits for a change is woken.
@@ -29,10 +30,10 @@ impl<'a, S: Held> Turn<'a, S> {
         } = self;
         let mut place = place;
         desk.count(&mut place, entry);
-        desk.announce(&mut place);
+        desk.announce(&mut place, CHANGES);
         desk.put(&mut place, state);
         desk.pass(&mut place);
-        desk.table.shared.wake_all(3);
+        desk.table.shared.wake_all(CHANGES);
         Seat { place }
     }
 }
@@ -41,10 +42,12 @@ impl<S: Held> Desk<S> {
     /// Waits until another change is announced than the first `changes`, by whichever turn. No seat is needed.
     pub fn wait_for_change<H: Wait>(&self, rt: &H, changes: u64) {
         for _ in rt.forever() {
-            if self.table.shared.peek(3) != changes {
+            if self.table.shared.peek(CHANGES) != changes {
                 return;
             }
-            self.table.shared.park(rt, 3, (changes % 4294967296) as u32);
+            self.table
+                .shared
+                .park(rt, CHANGES, (changes % 4294967296) as u32);
         }
         unreachable!()
     }

@@ -15,7 +15,7 @@ pub type Place<S> = atomic_table::Seat<Option<S>, View<S, <S as Held>::Entry>>;
 /// A state and the tickets for it. It is not `Drop`: end it by `close`.
 pub struct Desk<S: Held> {
     pub(crate) table: Table<Option<S>, View<S, S::Entry>, Snapshot<S>, Law<S>, Global>,
-    ghost sized: { (table.shared.table_id.words ≡ 4) × (table.shared.table_id.slots ≡ 1) },
+    ghost sized: { (table.shared.table_id.words ≡ 20) × (table.shared.table_id.slots ≡ 1) },
 }
 
 /// A seat between two turns. The share and the places of one that is dropped are lost, and its desk then never closes.

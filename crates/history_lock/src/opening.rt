@@ -50,7 +50,7 @@ impl<S: Held> Desk<S> {
         let opening = Snapshot::of(&state);
         match listed(alloc, state) {
             Err(state) => Err(DeskRefused { state }),
-            Ok(slots) => match Table::new(alloc, &[0, 0, 0, 0], slots, &opening) {
+            Ok(slots) => match Table::new(alloc, &[0; 20], slots, &opening) {
                 Ok((table, place)) => Ok((Desk { table }, Seat { place })),
                 Err(Refused { slots }) => Err(DeskRefused { state: only(slots) }),
             },

@@ -1,5 +1,6 @@
 // One step each on a desk's table. Its words: 0 the ticket that is served, 1 the next ticket, 2 how many entries, 3 how many
-// changes.
+// changes, and from 4 on how often each bell was rung. A ticket's bell is rung once the ticket is served, so who has another one
+// sleeps on.
 ghost use Rattle.std.specs.Prelude.{◌≡◌, ℕ, ◌+◌, [], ◌∷◌, ◌++◌, ◌<◌, ◌≤◌, length, Some, None, IfSome};
 ghost use Rattle.history_lock.specs.Rule.{Took};
 ghost use Rattle.history_lock.specs.Plays.{IsResting, IsClear, IsWaiting, IsTurning, HasCounted, cleared, counting, queued, rested};
@@ -9,6 +10,18 @@ use crate::held::Held;
 use crate::law::{Announce, Clear, Count, Draw, Look, Pass, Says};
 use std::marker::Brand;
 use std::sync::Wait;
+
+/// The word that counts the changes.
+pub(crate) const CHANGES: usize = 3;
+
+const BELLS: u64 = 16;
+
+// The word of a ticket's bell.
+fn bell_of(ticket: u64) -> usize
+    ensures { (3 ≤ result) × (result < 20) }
+{
+    4 + (ticket % BELLS) as usize
+}
 
 impl<S: Held> Desk<S> {
     // Waits until the seat is cleared to draw, as it is while fewer than 2^63 turns are over.
@@ -44,12 +57,16 @@ impl<S: Held> Desk<S> {
         ensures took { Took S.stands_for place.old.me.0.opening place.old.me.0.seen place.old.me.0.places place.old.me.0.share
             ticket place.new.me }
     {
+        let bell = bell_of(ticket);
         for _ in rt.forever() {
+            let rings = self.table.shared.peek(bell);
             let found = self.table.shared.load::<Look<S>>(place, 0);
             if found == ticket {
                 return;
             }
-            self.table.shared.park(rt, 0, (found % 4294967296) as u32);
+            self.table
+                .shared
+                .park(rt, bell, (rings % 4294967296) as u32);
         }
         unreachable!()
     }
@@ -101,7 +118,7 @@ impl<S: Held> Desk<S> {
         }
     }
 
-    // The next ticket is served.
+    // The next ticket is served, and who sleeps until it is, is woken.
     pub(crate) fn pass(&self, place: &mut Place<S>)
         requires table { place.old.table_id ≡ self.now.table.shared.table_id }
         requires stands { (x : S) × HasCounted (Some x) place.old.me
@@ -109,16 +126,19 @@ impl<S: Held> Desk<S> {
         ensures table { place.new.table_id ≡ place.old.table_id }
         ensures rests { place.new.me ≡ rested place.old.me }
     {
-        self.table.shared.fetch_add::<Pass>(place, 0, 1);
-        self.table.shared.wake_all(0);
+        let ticket = self.table.shared.fetch_add::<Pass>(place, 0, 1);
+        let bell = bell_of(ticket.wrapping_add(1));
+        self.announce(place, bell);
+        self.table.shared.wake_all(bell);
     }
 
-    // One change more.
-    pub(crate) fn announce(&self, place: &mut Place<S>)
-        requires { place.old.table_id ≡ self.now.table.shared.table_id }
+    // One more change, or ring of a bell.
+    pub(crate) fn announce(&self, place: &mut Place<S>, count: usize)
+        requires table { place.old.table_id ≡ self.now.table.shared.table_id }
+        requires count { (3 ≤ count) × (count < 20) }
         ensures table { place.new.table_id ≡ place.old.table_id }
         ensures same { place.new.me ≡ place.old.me }
     {
-        self.table.shared.fetch_add::<Announce>(place, 3, 1);
+        self.table.shared.fetch_add::<Announce>(place, count, 1);
     }
 }
