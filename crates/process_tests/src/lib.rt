@@ -1,5 +1,6 @@
-//! Tests of processes on their way through the program, over racks in memory: a session that a fault ends; and nine files with the
-//! program's own boxes, which are opened, settled or refused. Runs and sessions over real files are rows (`tests/rows`).
+//! Tests of processes on their way through the program, over racks in memory: a session that a fault ends; how many device calls
+//! groups save; and nine files with the program's own boxes, which are opened, settled or refused. Runs and sessions over real
+//! files are rows (`tests/rows`).
 #![tactic(auto)]
 
 #[cfg(test)]
@@ -10,5 +11,7 @@ mod cases;
 mod expected;
 #[cfg(test)]
 mod faults;
+#[cfg(test)]
+mod groups;
 #[cfg(test)]
 mod openings;

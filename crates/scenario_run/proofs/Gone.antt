@@ -14,9 +14,9 @@ use Rattle.engine_steps.specs.Engines.{EngineState, full_history}
 use Rattle.engine_steps.specs.Opening.{IsOpened}
 use Rattle.process_engine.specs.declared.gates.Answer.{Answer}
 use Rattle.engine_calls.specs.GateAnswers.{AreAnswered, AskedGate, GateCounts, kept_since, steps_handed, unbarred_refusals}
-use Rattle.worker_gate.specs.ManyGates.{AreAskedInAll, AreTurnsOfOne, AskedGates, RanByGates, WasRunByGates}
+use Rattle.worker_gate.specs.ManyGates.{AreAskedInAll, AskedGates, RanByGates, WasRunByGates}
 use Rattle.worker_gate.specs.Running.{IsOfRunning, RanBy}
-use Rattle.worker_gate.proofs.ManyCalls.{ran_by_one, turns_of_one}
+use Rattle.worker_gate.proofs.ManyCalls.{ran_by_one}
 use Rattle.scenario_run.specs.Run.{HasGone, one_gate}
 use Rattle.scenario_run.specs.Starting.{started_on, with_started}
 
@@ -55,13 +55,12 @@ run_none answers counts c core is table =
       };
       cores = [];
       calls = refl;
-      alone = λ one. ([], refl);
     }
 
 -- it has where an engine was only run
 run_by : {R B : Type 0} (disk : R → Disk) (faults : R → ℕ) (gates : AskedGates) (old new : EngineState R B) → IsCore new.core → old.core.conflicts ≡ old.catalog.conflicts → RanByGates disk faults gates old new
-    → AreTurnsOfOne gates old.core new.core → WasRunByGates gates old.catalog old.core new.core
-run_by disk faults gates old new core table ran turns =
+    → WasRunByGates gates old.catalog old.core new.core
+run_by disk faults gates old new core table ran =
     let goes = ran.goes [] in
     record {
       machine = core;
@@ -73,7 +72,6 @@ run_by disk faults gates old new core table ran turns =
       by_gates = ran.by_gates;
       cores = ran.cores;
       calls = ran.calls;
-      alone = turns;
     }
 
 module _ {R B : Type 0} (opening : EngineState R B) (opened : IsOpened opening) (idle : active (history_of opening.core) ≡ []) (started : List Plan) where
@@ -96,18 +94,18 @@ module _ {R B : Type 0} (opening : EngineState R B) (opened : IsOpened opening) 
 
   -- and once they were run too.
   pub gone_run : (disk : R → Disk) (faults : R → ℕ) (gates : AskedGates) (mid now : EngineState R B) → IsCore now.core → mid.catalog ≡ opening.catalog → mid.core ≡ with_started opening.core started
-      → RanByGates disk faults gates mid now → AreTurnsOfOne gates mid.core now.core → HasGone gates opening.catalog h started now.core
-  gone_run disk faults gates mid now core catalog is ran turns =
+      → RanByGates disk faults gates mid now → HasGone gates opening.catalog h started now.core
+  gone_run disk faults gates mid now core catalog is ran =
       let same = on_is mid.core is in
       let table = ap (λ (c : CoreState). c.conflicts) same ∙ ap (λ (c : Catalog). c.conflicts) (sym catalog) in
       record {
         idle = idle;
         run = subst (λ c. WasRunByGates gates c on now.core) catalog
-            (subst (λ core. WasRunByGates gates mid.catalog core now.core) same (run_by disk faults gates mid now core table ran turns));
+            (subst (λ core. WasRunByGates gates mid.catalog core now.core) same (run_by disk faults gates mid now core table ran));
       }
 
   -- So it is of one gate, by which a thread ran them.
   pub gone_run_by_one : (disk : R → Disk) (faults : R → ℕ) (gate : AskedGate) (mid now : EngineState R B) → IsCore now.core → mid.catalog ≡ opening.catalog
       → mid.core ≡ with_started opening.core started → RanBy disk faults gate mid now → HasGone (one_gate gate) opening.catalog h started now.core
   gone_run_by_one disk faults gate mid now core catalog is ran =
-      gone_run disk faults (one_gate gate) mid now core catalog is (ran_by_one disk faults gate mid now ran) (turns_of_one disk faults gate mid now ran)
+      gone_run disk faults (one_gate gate) mid now core catalog is (ran_by_one disk faults gate mid now ran)

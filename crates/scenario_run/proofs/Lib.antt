@@ -7,7 +7,6 @@ pub mod Gone
 pub mod IdleStarts
 pub mod NotRefused
 pub mod NothingWrong
-pub mod OneGate
 pub mod OneOf
 pub mod OnlyOpened
 pub mod OpeningParts

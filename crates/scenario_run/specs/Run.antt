@@ -39,8 +39,7 @@ abbrev pub one_gate : AskedGate → AskedGates
 one_gate gate = record { answers = gate.answers; before = gate.before ∷ []; after = gate.after ∷ [] }
 
 -- The machine opened on this history, in which no process is active. Processes of these plans started, in this order, and since
--- then all were only run, by these gates: by one in turns, each of which hands out a piece and ends it, or not; by several in calls
--- of their workers.
+-- then all were only run, by these gates, in calls one after another, each of which hands out a piece or ends one, or neither.
 pub record HasGone (gates : AskedGates) (c : Catalog) (h : History) (started : List Plan) (now : CoreState) : Type 0 where
   pub idle : active h.events ≡ []
   pub run : WasRunByGates gates c (started_on c h started) now

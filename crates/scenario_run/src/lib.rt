@@ -5,19 +5,19 @@
 //! (`specs/Scenario`); `opened_with` gives an engine on files of its catalog and `opened` one for it, or they say which refusal is
 //! due (`specs/Opening`); `all_fit` refuses its processes where they would pass a limit, and `start_all` starts them
 //! (`specs/Starting`); `report_now` prints the history of an engine, `stuck_step` tells of a stuck process which step has no try
-//! left, and `stuck_report` adds the line that says so (`specs/Reports`). With one gate the caller's own thread runs the processes,
-//! and with more as many workers.
+//! left, and `stuck_report` adds the line that says so (`specs/Reports`). As many workers run the processes as there are gates, one
+//! too.
 #![tactic(auto)]
 
-mod gates;
 mod opening;
+mod racks;
 mod reporting;
 mod running;
 mod scenario;
 mod starting;
 
-pub use gates::racks_are_honest;
 pub use opening::{NotOpened, open_refusal, opened, opened_with};
+pub use racks::racks_are_honest;
 pub use reporting::{report_now, stuck_report, stuck_step};
 pub use running::{RunEnd, all_fit, run};
 pub use scenario::{said_of_none, scenario_from};

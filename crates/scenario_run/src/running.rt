@@ -16,8 +16,8 @@ ghost use Rattle.process_engine.specs.Fitting.{limit_passed};
 ghost use Rattle.process_engine.specs.declared.fitting.StartLimit.{StartLimit as Limit'};
 ghost use Rattle.engine_steps.specs.declared.engines.Phase.TheVariants as phase;
 ghost use Rattle.engine_calls.specs.Runs.{GoesOn, IsReady};
-ghost use Rattle.worker_gate.specs.ManyGates.{AreTurnsOfOne, RanByGates, asked_gates};
-ghost use Rattle.worker_gate.specs.Running.{IsOutcome, NothingRuns};
+ghost use Rattle.worker_gate.specs.ManyGates.{RanByGates, asked_gates};
+ghost use Rattle.worker_gate.specs.Running.{IsOutcome};
 ghost use Rattle.command_input.specs.Inputs.{input};
 ghost use Rattle.command_input.specs.FilesLeft.{files};
 ghost use Rattle.command_input.specs.Early.{comes_before_files};
@@ -25,8 +25,8 @@ ghost use Rattle.scenario_run.specs.Completeness.{IsRunComplete};
 ghost use Rattle.scenario_run.specs.Run.{HasGone, IsRefusedOn, IsRunDue, IsRunOf, SaysRun, limit_refusal};
 ghost use Rattle.scenario_run.specs.Stops.{IsStopped};
 
-use crate::gates::{racks_are_honest, run_by_gates};
 use crate::opening::opened;
+use crate::racks::racks_are_honest;
 use crate::reporting::{report_now, stuck_report};
 use crate::scenario::{said_of_none, scenario_from};
 use crate::starting::start_all;
@@ -41,7 +41,7 @@ use resource_box::Resource;
 use std::alloc::Global;
 use std::sync::Wait;
 use std::thread::Threads;
-use thread_workers::Ran;
+use thread_workers::{Ran, run_workers};
 use worker_gate::RunOutcome;
 
 fn limit_refusal(limit: StartLimit) -> Refusal
@@ -115,7 +115,7 @@ struct EngineEnd<R: Rack + Drop, B: Resource, G> {
     found: Result<Said, Refusal>,
 }
 
-// Runs the processes of a settled engine of which no piece is out; what there is to say then.
+// Runs the processes of a settled engine by as many workers as there are gates; what there is to say then.
 fn run_started<H: Threads + Wait + Sync, R: Rack + Drop + Send, B: Resource + Send, G: Gate + Send>(
     rt: &H,
     alloc: Global,
@@ -124,10 +124,8 @@ fn run_started<H: Threads + Wait + Sync, R: Rack + Drop + Send, B: Resource + Se
 ) -> EngineEnd<R, B, G>
     requires workers { (1 ≤ vec_len gates) × (vec_len gates ≤ 16) }
     requires ready { IsReady B.meaning B.sort engine }
-    requires alone { NothingRuns engine.core }
     ensures gates { (vec_len result.gates ≡ vec_len gates) × (vec_capacity gates ≤ vec_capacity result.gates) }
     ensures ran { RanByGates R.disk R.faults (asked_gates G.Gate gates.items result.gates.items) engine result.engine }
-    ensures turns { AreTurnsOfOne (asked_gates G.Gate gates.items result.gates.items) engine.core result.engine.core }
     ensures said { IfOk result.found
         (λ s. (result.engine.phase ≡ phase.Settled) × SaysRun result.engine.catalog result.engine.core s) }
     ensures refused { IfErr result.found
@@ -140,7 +138,7 @@ fn run_started<H: Threads + Wait + Sync, R: Rack + Drop + Send, B: Resource + Se
         engine,
         gates,
         outcome,
-    } = run_by_gates(rt, alloc, engine, gates);
+    } = run_workers(rt, alloc, engine, gates);
     let mut engine = engine;
     let found = said_of(alloc, &mut engine, outcome);
     EngineEnd {
@@ -246,8 +244,8 @@ fn run_bound<H: Threads + Wait + Sync, R: Rack + Drop + Send, B: Resource + Send
     }
 }
 
-/// Runs each process of the source's scenario once, on the files of the parts: with one gate by the caller's own thread, with more
-/// by as many workers. The report of the history is written once all have ended or one is stuck. As many gates come back.
+/// Runs each process of the source's scenario once, on the files of the parts, by as many workers as there are gates. The report of
+/// the history is written once all have ended or one is stuck. As many gates come back.
 pub fn run<
     H: Threads + Wait + Sync,
     S: Source,

@@ -12,7 +12,7 @@ use Rattle.process_core.specs.Cores.{CoreState, courses_in, moment_of, relation}
 use Rattle.engine_steps.specs.Engines.{EngineState}
 use Rattle.engine_calls.specs.GateAnswers.{AskedGate, kept_since, steps_handed}
 use Rattle.engine_calls.proofs.GateRuns.{kept_is}
-use Rattle.worker_gate.specs.ManyGates.{AreCalls, AreTurnsOfOne, AskedGates, IsCall, RanByGates}
+use Rattle.worker_gate.specs.ManyGates.{AreCalls, AskedGates, IsCall, RanByGates}
 use Rattle.worker_gate.specs.Running.{AreTurns, IsOfRunning, RanBy}
 use Rattle.worker_gate.proofs.RanRuns.{next_each}
 
@@ -44,9 +44,6 @@ ran_by_one disk faults gate old new ran =
       cores = all.0;
       calls = all.1;
     }
-
-pub turns_of_one : {R B : Type 0} (disk : R → Disk) (faults : R → ℕ) (gate : AskedGate) (old new : EngineState R B) → RanBy disk faults gate old new → AreTurnsOfOne (of_one gate) old.core new.core
-turns_of_one disk faults gate old new ran = λ alone. (ran.cores, ran.turns)
 
 ended_each : (n : ℕ) (r : Finish) → Each IsOfRunning (finish_kept n r)
 ended_each n (effected e) = (tt, tt)

@@ -1,5 +1,5 @@
 -- What the answers of several gates have to do with what an engine keeps, and machines that several threads ran.
-use Rattle.std.specs.Prelude.{◌≡◌, ◌⊎◌, ◌≤◌, ◌<◌, ℕ, ◌+◌, ◌-◌, ◌^◌, List, [], ◌∷◌, ◌++◌, length, map, Option}
+use Rattle.std.specs.Prelude.{◌≡◌, ◌⊎◌, ◌≤◌, ◌<◌, ℕ, ◌+◌, ◌-◌, ◌^◌, List, [], ◌∷◌, ◌++◌, map, Option}
 use Rattle.process_disk.specs.Disk.{Disk}
 use Rattle.process_tree.specs.Order.{Each}
 use Rattle.process_tree.specs.declared.play.Outcome.{Outcome}
@@ -15,7 +15,7 @@ use Rattle.engine_steps.specs.Engines.{EngineState}
 use Rattle.engine_calls.specs.GateAnswers.{AreAnswered, GateCounts, count_after, counts_of, kept_since, steps_handed}
 use Rattle.engine_calls.specs.GateAnswers.{unbarred_refusals}
 use Rattle.engine_calls.specs.Runs.{GoesOnAlone}
-use Rattle.worker_gate.specs.Running.{AreTurns, IsOfRunning}
+use Rattle.worker_gate.specs.Running.{IsOfRunning}
 
 -- The gates of a call, in their order: what gates of their type tell of their answers, and their counts before and after.
 pub record AskedGates : Type 0 where
@@ -61,10 +61,6 @@ abbrev pub AreCalls : List CoreState → CoreState → CoreState → Type 0
 AreCalls [] old new = new ≡ old
 AreCalls (core ∷ cores) old new = IsCall old core × AreCalls cores core new
 
--- one gate works for one thread, which ends each piece before it asks for another
-abbrev pub AreTurnsOfOne : AskedGates → CoreState → CoreState → Type 0
-AreTurnsOfOne gates old new = length gates.before ≡ 1 → (cores : List CoreState) × AreTurns cores old new
-
 -- An engine was only run from one state to another, by these gates, each of which works for a thread.
 pub record RanByGates {R B : Type 0} (disk : R → Disk) (faults : R → ℕ) (gates : AskedGates)
     (old new : EngineState R B) : Type 0 where
@@ -88,4 +84,3 @@ pub record WasRunByGates (gates : AskedGates) (c : Catalog) (begun now : CoreSta
   pub by_gates : IsByGates gates c begun now
   pub cores : List CoreState
   pub calls : AreCalls cores begun now
-  pub alone : AreTurnsOfOne gates begun now

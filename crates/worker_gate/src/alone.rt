@@ -63,7 +63,8 @@ fn turn<R: Rack + Drop, B: Resource, G: Gate>(
 }
 
 /// Runs the processes of a settled engine of which no piece is out, until all have ended or one is stuck, or a call fails. The gate
-/// works on one piece after another; the end of a process asks no gate.
+/// works on one piece after another, each of which is finished by itself; the end of a process asks no gate. `bulk` goes by it, and
+/// so do callers that have no threads.
 pub fn run_alone<R: Rack + Drop, B: Resource, G: Gate>(
     engine: &mut Engine<R, B>,
     gate: &mut G,

@@ -1,4 +1,4 @@
-use Rattle.scenario_run.proofs.gates.racks_are_honest.Goals as goal
+use Rattle.scenario_run.proofs.racks.racks_are_honest.Goals as goal
 
 pub returns : goal.returns
 returns g c = g.met.R.Rack.honest

@@ -7,7 +7,6 @@ use Rattle.worker_gate.specs.ManyGates.{asked_gates}
 use Rattle.scenario_run.specs.Run.{HasGone, SaysRun}
 use Rattle.scenario_run.proofs.Causes.{so_ok}
 use Rattle.scenario_run.proofs.Gone.{gone_run, gone_started}
-use Rattle.scenario_run.proofs.IdleStarts.{nothing_out}
 use Rattle.scenario_run.proofs.Stopped.{all_started}
 use Rattle.scenario_run.proofs.running.run_on.Goals as goal
 
@@ -26,9 +25,6 @@ returns-in-Err-start_all-clause-refused g c =
       ⊎_elim (λ memory. inl (memory.0, memory.1.settled)) (λ fault. inr fault) c.in-Err-start_all.ensures.why,
     )
 
-pub run_started-ran-requires-clause-alone : goal.run_started-ran-requires-clause-alone
-run_started-ran-requires-clause-alone g c = λ κs lives. nothing_out c.args.engine c.start_all.new.engine.core c.args.plans.items c.requires.opened c.in_default-start_all.ensures.started
-
 pub returns-clause-goes : goal.returns-clause-goes
 returns-clause-goes g c =
     goes_then g.R.Rack.disk g.R.Rack.faults c.args.plans.items c.args.engine c.start_all.new.engine c.run_started-ran.result.engine c.in_default-start_all.ensures.ready.settled c.invariant_holds-2.ensures.run.session.one_each
@@ -42,7 +38,7 @@ returns-clause-ran g c =
     let ran = c.run_started-ran.ensures.ran in
     let first = c.start_all.ensures.goes in
     let gates = asked_gates g.G.Gate c.args.gates.items c.run_started-ran.result.gates.items in
-    let gone = gone_run old c.requires.opened c.requires.idle c.args.plans.items g.R.Rack.disk g.R.Rack.faults gates mid now c.invariant_holds-3.ensures.run first.catalog c.in_default-start_all.ensures.started ran c.run_started-ran.ensures.turns in
+    let gone = gone_run old c.requires.opened c.requires.idle c.args.plans.items g.R.Rack.disk g.R.Rack.faults gates mid now c.invariant_holds-3.ensures.run first.catalog c.in_default-start_all.ensures.started ran in
     so_ok c.run_started-ran.result.found (λ s. (now.phase ≡ Settled) × SaysRun now.catalog now.core s)
     (λ s. HasGone gates old.catalog (full_history old.core) c.args.plans.items now.core × (now.phase ≡ Settled) × SaysRun old.catalog now.core s)
     (λ s said. (gone, said.0, subst (λ d. SaysRun d now.core s) ((ran.goes []).catalog ∙ first.catalog) said.1)) c.run_started-ran.ensures.said
@@ -54,5 +50,5 @@ returns-clause-refused g c =
     let now = c.run_started-ran.result.engine in
     let first = c.start_all.ensures.goes in
     let gates = asked_gates g.G.Gate c.args.gates.items c.run_started-ran.result.gates.items in
-    let gone = gone_run old c.requires.opened c.requires.idle c.args.plans.items g.R.Rack.disk g.R.Rack.faults gates mid now c.invariant_holds-3.ensures.run first.catalog c.in_default-start_all.ensures.started c.run_started-ran.ensures.ran c.run_started-ran.ensures.turns in
+    let gone = gone_run old c.requires.opened c.requires.idle c.args.plans.items g.R.Rack.disk g.R.Rack.faults gates mid now c.invariant_holds-3.ensures.run first.catalog c.in_default-start_all.ensures.started c.run_started-ran.ensures.ran in
     all_started g.R.Rack.faults gates old mid now c.args.plans.items first.later gone c.run_started-ran.result.found c.run_started-ran.ensures.refused
