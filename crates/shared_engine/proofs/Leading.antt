@@ -1,6 +1,5 @@
 -- Each turn leads an engine on from its opening.
-use Rattle.std.proofs.Common.{◌≡◌, ◌≢◌, ◌≤◌, ◌∙◌, ◌||◌, ◌⊎◌, inl, inr, ⊎_elim, ℕ, Bool, true, false, not, List, [], ◌∷◌, ◌++◌, filter, length, map, Option, ap, refl, sym, subst, append-nil, arith}
-use Rattle.std.specs.Prelude.{nat_eq}
+use Rattle.std.proofs.Common.{◌≡◌, ◌≢◌, ◌≤◌, ◌∙◌, ◌||◌, ◌⊎◌, inl, inr, ⊎_elim, ℕ, Bool, true, false, List, [], ◌∷◌, ◌++◌, filter, length, map, Option, ap, refl, sym, subst, append-nil, arith}
 use Rattle.std.proofs.lemmas.List.{length-map}
 use Rattle.std.proofs.Math.Bool.{or-false}
 use Rattle.process_flow.specs.Causes.{Rose}
@@ -27,7 +26,6 @@ use Rattle.process_core.specs.Cores.{CoreState, IsCore, courses_in, moment_of, r
 use Rattle.process_core.specs.Handing.{with_all}
 use Rattle.process_core.specs.Rotation.{next_reply_of}
 use Rattle.process_core.specs.declared.replies.Next.{Next as CoreNext}
-use Rattle.process_core.specs.declared.replies.Next.TheVariants as core
 use Rattle.history_files.specs.Effects.{subsystem_of}
 use Rattle.history_files.specs.Standing.{EachFits}
 use Rattle.engine_steps.specs.Engines.{EngineState, with_core}
@@ -58,9 +56,9 @@ use Rattle.shared_engine.specs.declared.entries.TurnEntry.{TurnEntry}
 use Rattle.shared_engine.specs.declared.entries.TurnEntry.TheVariants.{Next, Queue, Flush}
 use Rattle.shared_engine.specs.declared.shared.SharedEngine.{SharedEngine}
 use Rattle.shared_engine.specs.Entries.{flush_said, queue_said, said_of}
-use Rattle.shared_engine.specs.Outcomes.{HandsBack, entry_of_queue}
-use Rattle.shared_engine.specs.Progress.{IsTold, after, opened, progress, waits_for_flush}
-use Rattle.shared_engine.specs.Shared.{AreOf, IfClosed, IsAtRest, MayBeCalled, asks_for_flush, is_full}
+use Rattle.shared_engine.specs.Outcomes.{HandsBack, queue_entry}
+use Rattle.shared_engine.specs.Progress.{IsTold, after, finds_full, opened, progress, waits_for_flush}
+use Rattle.shared_engine.specs.Shared.{AreOf, IfClosed, IsAtRest, MayBeCalled}
 use Rattle.shared_engine.specs.Tallies.{IsAnswerTo, IsByEntries, IsOfHanded, IsToldOf, gate_asked}
 use Rattle.shared_engine.proofs.ToldTurns.{flush_after, flush_told, progress_of, queue_after, queue_told}
 use Rattle.shared_engine.proofs.HandedLater.{Grows, handed_grows}
@@ -77,11 +75,8 @@ settled_of Closed rest not_closed = absurd (not_closed refl)
 as_many : (ds : List Handed) → length (numbers_of (pieces_of ds)) ≡ length ds
 as_many ds = length-map (pieces_of ds) (λ (p : Piece). p.number) ∙ length-map ds (λ (d : Handed). d.piece)
 
-waits_alike : (r : CoreNext) (ds : List Handed) → waits_for_flush (numbers_of (pieces_of ds)) (said_of r) ≡ asks_for_flush r (length ds)
-waits_alike (core.Piece d) ds = refl
-waits_alike (core.Wait w) ds = ap (λ k. not (nat_eq k 0)) (as_many ds)
-waits_alike core.AllEnded ds = refl
-waits_alike (core.Stuck i) ds = refl
+waits_alike : (r : CoreNext) (ds : List Handed) → waits_for_flush (length (numbers_of (pieces_of ds))) (said_of r) ≡ waits_for_flush (length ds) (said_of r)
+waits_alike r ds = ap (λ k. waits_for_flush k (said_of r)) (as_many ds)
 
 -- one phase isn't another
 not_both : (p : Phase) → p ≡ Closed → p ≡ Settled → ⊥
@@ -110,7 +105,7 @@ module _ {R B : Type 0} (disk : R → Disk) (faults : R → ℕ) (meaning : B �
 
     -- A request for any piece,
     pub next_leads : (r : CoreNext) → next_is (next_reply_of r) ≡ (answer_in x.engine.core next).reply → y.engine ≡ with_core x.engine (after_call x.engine.core next) → y.queued ≡ x.queued
-        → y.due ≡ (x.due || asks_for_flush r (length x.queued)) → IsGiven y.engine.core r → IsReady meaning sort y.engine → AreOf disk faults meaning sort o (es ++ Next (said_of r) ∷ []) y
+        → y.due ≡ (x.due || waits_for_flush (length x.queued) (said_of r)) → IsGiven y.engine.core r → IsReady meaning sort y.engine → AreOf disk faults meaning sort o (es ++ Next (said_of r) ∷ []) y
     next_leads r replied is left due given ready =
         let core' = ap (λ (e : EngineState R B). e.core) is in
         let told = ap (λ q. reply_in q (next_reply_of r)) (sym replied) in
@@ -130,7 +125,7 @@ module _ {R B : Type 0} (disk : R → Disk) (faults : R → ℕ) (meaning : B �
         }
 
     -- the queueing of a piece,
-    module _ (d : Handed) (a : Answer) (handed : IsHandedAs x.engine.core d) (q : EngineQueue) (queues : Queues x.engine y.engine x.queued y.queued d a q) (due : y.due ≡ (x.due || is_full q))
+    module _ (d : Handed) (a : Answer) (handed : IsHandedAs x.engine.core d) (q : EngineQueue) (queues : Queues x.engine y.engine x.queued y.queued d a q) (due : y.due ≡ (x.due || finds_full (queue_said q)))
         (queued : AreQueued y.engine y.queued) (ready : IsReady meaning sort y.engine) where
       abbrev entry : TurnEntry
       entry = Queue d.piece.number a (queue_said q)
@@ -186,7 +181,7 @@ module _ {R B : Type 0} (disk : R → Disk) (faults : R → ℕ) (meaning : B �
       by_reply (queue.NoMemory p) l = left_so l.left.0.core l.left.1
       by_reply (queue.Closed k) l = absurd l.reply
 
-      pub queue_leads : AreOf disk faults meaning sort o (es ++ entry_of_queue d.piece.number a q ∷ []) y
+      pub queue_leads : AreOf disk faults meaning sort o (es ++ queue_entry d.piece.number a q ∷ []) y
       queue_leads = record {
         told = told-snoc table (opened o) es (progress x) entry (progress y) led.told
             (subst (λ s. IsTold s (progress x) entry) (sym same_table) (queue_told disk x y settled d a handed.handed q queues due)) (queue_after disk x y settled d a handed.handed q queues due);

@@ -36,8 +36,7 @@ use Rattle.shared_engine.specs.declared.entries.TurnEntry.{TurnEntry}
 use Rattle.shared_engine.specs.declared.entries.TurnEntry.TheVariants.{Queue, Flush}
 use Rattle.shared_engine.specs.declared.shared.SharedEngine.{SharedEngine}
 use Rattle.shared_engine.specs.Entries.{IsPut, SaysFlush, SaysQueue, flush_said, queue_said}
-use Rattle.shared_engine.specs.Progress.{IsTold, Progress, after, after_effects, board_of, progress}
-use Rattle.shared_engine.specs.Shared.{is_full}
+use Rattle.shared_engine.specs.Progress.{IsTold, Progress, after, after_effects, board_of, finds_full, progress}
 
 pub progress_of : (c d : CoreState) (g h : List ℕ) (p q : Phase) (x y : Bool) → c ≡ d → g ≡ h → p ≡ q → x ≡ y
     → ◌≡◌ {A = Progress} (record { core = c; group = g; phase = p; due = x }) (record { core = d; group = h; phase = q; due = y })
@@ -59,7 +58,7 @@ module _ {R B : Type 0} (disk : R → Disk) (x y : SharedEngine R B) (settled : 
   group = numbers_of (pieces_of x.queued)
 
   -- The queueing of a piece
-  module _ (d : Handed) (a : Answer) (handed : IsHandedBy x.engine.core d.piece) (q : EngineQueue) (queues' : Queues x.engine y.engine x.queued y.queued d a q) (due : y.due ≡ (x.due || is_full q)) where
+  module _ (d : Handed) (a : Answer) (handed : IsHandedBy x.engine.core d.piece) (q : EngineQueue) (queues' : Queues x.engine y.engine x.queued y.queued d a q) (due : y.due ≡ (x.due || finds_full (queue_said q))) where
     abbrev n : ℕ
     n = d.piece.number
 
@@ -69,7 +68,7 @@ module _ {R B : Type 0} (disk : R → Disk) (x y : SharedEngine R B) (settled : 
     abbrev entry : TurnEntry
     entry = Queue n a (queue_said q)
 
-    same_due : is_full q ≡ false → y.due ≡ (x.due || false)
+    same_due : finds_full (queue_said q) ≡ false → y.due ≡ (x.due || false)
     same_due is = due ∙ ap (λ b. x.due || b) is
 
     kept : new ≡ e → y.queued ≡ x.queued → y.due ≡ (x.due || false) → progress y ≡ record { core = e.core; group = group; phase = e.phase; due = x.due || false }
@@ -81,7 +80,7 @@ module _ {R B : Type 0} (disk : R → Disk) (x y : SharedEngine R B) (settled : 
     adds : new.core ≡ e.core → new.phase ≡ e.phase → y.queued ≡ x.queued ++ d ∷ [] → y.due ≡ (x.due || false) → progress y ≡ record { core = e.core; group = group ++ n ∷ []; phase = e.phase; due = x.due || false }
     adds core phase left clear = progress_of _ _ _ _ _ _ _ _ core (ap (λ ds. numbers_of (pieces_of ds)) left ∙ numbers-snoc x.queued d) phase clear
 
-    after_by : (r : EngineQueue) → q ≡ r → Queues x.engine y.engine x.queued y.queued d a r → y.due ≡ (x.due || is_full r) → progress y ≡ after (progress x) (Queue n a (queue_said r))
+    after_by : (r : EngineQueue) → q ≡ r → Queues x.engine y.engine x.queued y.queued d a r → y.due ≡ (x.due || finds_full (queue_said r)) → progress y ≡ after (progress x) (Queue n a (queue_said r))
     after_by queue.Queued is l clear = ⊎_elim
         (λ (room : MakesRoomFor e new d.piece). adds room.core room.phase l.left.1 clear)
         (λ (same : new ≡ e). adds (ap (λ (z : EngineState R B). z.core) same) (ap (λ (z : EngineState R B). z.phase) same) l.left.1 clear) l.left.0

@@ -16,8 +16,8 @@ use Rattle.shared_engine.specs.declared.outcomes.QueueTurn.TheVariants as again
 use Rattle.shared_engine.specs.Entries.{flush_said, lacks_memory, next_said, queue_said}
 
 -- the entry of a turn in which piece n was queued
-abbrev pub entry_of_queue : ℕ → Answer → EngineQueue → TurnEntry
-entry_of_queue n answer reply = Queue n answer (queue_said reply)
+abbrev pub queue_entry : ℕ → Answer → EngineQueue → TurnEntry
+queue_entry n answer reply = Queue n answer (queue_said reply)
 
 -- the entry of a turn for a request
 abbrev pub next_entry : NextTurn → TurnEntry
@@ -25,9 +25,9 @@ next_entry (next.Flushed reply) = Flush (flush_said reply)
 next_entry (next.Answered reply) = Next (next_said reply)
 
 -- the entry of a turn for piece n, whose work is done and that found the group full
-abbrev pub queue_entry : ℕ → QueueTurn → TurnEntry
-queue_entry n (again.Flushed reply d) = Flush (flush_said reply)
-queue_entry n (again.Answered reply) = entry_of_queue n Done reply
+abbrev pub queue_entry_again : ℕ → QueueTurn → TurnEntry
+queue_entry_again n (again.Flushed reply d) = Flush (flush_said reply)
+queue_entry_again n (again.Answered reply) = queue_entry n Done reply
 
 -- a flush was made in place of a request
 abbrev pub is_flush : NextTurn → Bool

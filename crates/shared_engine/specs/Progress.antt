@@ -44,13 +44,13 @@ progress x = record {
   due = x.due;
 }
 
--- a request is told to wait while something is queued
-abbrev pub waits_for_flush : List ℕ → NextSaid → Bool
-waits_for_flush group (asked.Wait w) = not (nat_eq (length group) 0)
-waits_for_flush group (asked.Piece n) = false
-waits_for_flush group asked.AllEnded = false
-waits_for_flush group (asked.Stuck i) = false
-waits_for_flush group (asked.Closed k) = false
+-- a request is told to wait while so many pieces are queued, one at least
+abbrev pub waits_for_flush : ℕ → NextSaid → Bool
+waits_for_flush count (asked.Wait w) = not (nat_eq count 0)
+waits_for_flush count (asked.Piece n) = false
+waits_for_flush count asked.AllEnded = false
+waits_for_flush count (asked.Stuck i) = false
+waits_for_flush count (asked.Closed k) = false
 
 -- a piece finds the group full
 abbrev pub finds_full : QueueSaid → Bool
@@ -118,7 +118,7 @@ after p (Next said) = record {
   core = after_next p.core said;
   group = p.group;
   phase = p.phase;
-  due = p.due || waits_for_flush p.group said;
+  due = p.due || waits_for_flush (length p.group) said;
 }
 after p (Queue n answer reply) = record {
   core = after_queue p.core n reply;

@@ -1,5 +1,5 @@
 -- What an engine that is shared stands for.
-use Rattle.std.specs.Prelude.{⊤, ℕ, Bool, true, false, not, List, [], length, nat_eq}
+use Rattle.std.specs.Prelude.{⊤, ℕ, Bool, false, List, []}
 use Rattle.std.proofs.Common.{◌≡◌, arith, refl, subst, sym}
 use Rattle.process_flow.specs.Causes.{Rose}
 use Rattle.process_disk.specs.Disk.{Disk, Told}
@@ -9,8 +9,6 @@ use Rattle.resource_box.specs.declared.call.Kind.{Kind}
 use Rattle.resource_box.specs.Meaning.{Pairs}
 use Rattle.machine_model.specs.Replies.{Handed}
 use Rattle.process_core.specs.Cores.{IsCore}
-use Rattle.process_core.specs.declared.replies.Next.{Next as CoreNext}
-use Rattle.process_core.specs.declared.replies.Next.TheVariants as next
 use Rattle.history_files.specs.Effects.{subsystem_of}
 use Rattle.history_files.specs.Sound.{IsSound}
 use Rattle.history_files.specs.Standing.{EachFits}
@@ -18,8 +16,6 @@ use Rattle.engine_steps.specs.Engines.{EngineState, full_history}
 use Rattle.engine_steps.specs.declared.engines.Phase.{Phase}
 use Rattle.engine_steps.specs.declared.engines.Phase.TheVariants.{Settled, UnderWay, Closed}
 use Rattle.group_flush.specs.Queues.{AreQueued}
-use Rattle.group_flush.specs.declared.replies.Queue.{Queue as EngineQueue}
-use Rattle.group_flush.specs.declared.replies.Queue.TheVariants as queue
 use Rattle.engine_calls.specs.GateAnswers.{IsHandedAs}
 use Rattle.engine_calls.specs.Runs.{GoesOnAlone, IsReady}
 use Rattle.engine_calls.proofs.Goes.{goes_none}
@@ -27,25 +23,6 @@ use Rattle.shared_engine.specs.declared.entries.TurnEntry.{TurnEntry}
 use Rattle.shared_engine.specs.declared.shared.SharedEngine.{SharedEngine}
 use Rattle.shared_engine.specs.Progress.{AreTold, opened, progress}
 use Rattle.shared_engine.specs.Tallies.{IsByEntries, by_none}
-
--- a request that is answered so has to wait while so many pieces are queued
-abbrev pub asks_for_flush : CoreNext → ℕ → Bool
-asks_for_flush (next.Wait w) k = not (nat_eq k 0)
-asks_for_flush (next.Piece d) k = false
-asks_for_flush next.AllEnded k = false
-asks_for_flush (next.Stuck i) k = false
-
--- a piece found the group full
-abbrev pub is_full : EngineQueue → Bool
-is_full (queue.Full d) = true
-is_full queue.Queued = false
-is_full (queue.Retry k) = false
-is_full queue.Failed = false
-is_full queue.Over = false
-is_full (queue.Dropped k) = false
-is_full queue.Exhausted = false
-is_full (queue.NoMemory d) = false
-is_full (queue.Closed n) = false
 
 -- no piece is half done
 abbrev pub IsAtRest : Phase → Type 0
@@ -98,9 +75,14 @@ StandsFor disk faults meaning sort o entries x = IsOpening disk meaning sort o �
 abbrev none_queued : {R B : Type 0} → EngineState R B → Bool → SharedEngine R B
 none_queued e starved = record { engine = e; queued = []; due = false; starved = starved }
 
-alone : {R B : Type 0} (disk : R → Disk) (meaning : B → Pairs) (sort : B → Kind) (o : SharedEngine R B) → IsOpening disk meaning sort o
-    → none_queued o.engine o.starved ≡ o
-alone disk meaning sort o is = λ i. record { engine = o.engine; queued = (sym is.none) i; due = (sym is.clear) i; starved = o.starved }
+alone : {R B : Type 0} (disk : R → Disk) (meaning : B → Pairs) (sort : B → Kind) (o : SharedEngine R B)
+    → IsOpening disk meaning sort o → none_queued o.engine o.starved ≡ o
+alone disk meaning sort o is = λ i. record {
+  engine = o.engine;
+  queued = (sym is.none) i;
+  due = (sym is.clear) i;
+  starved = o.starved;
+}
 
 -- with no entry it stands for itself
 pub opens : {R B : Type 0} (disk : R → Disk) (faults : R → ℕ) (meaning : B → Pairs) (sort : B → Kind) (o : SharedEngine R B)

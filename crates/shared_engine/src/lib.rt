@@ -2,8 +2,8 @@
 //!
 //! A `SharedEngine` is what a desk of `history_lock` holds: an engine with the pieces that are queued at it. Each turn is a request
 //! for any piece (`ask`), the queueing of a piece (`hand_in`, `hand_in_again`), or a flush where one is due, and leaves a
-//! `TurnEntry` with what was asked and answered. It stands for an opening engine and a list of entries where each entry is a turn of
-//! the machine at its place, and the engine went on from the opening meanwhile (`specs/Shared`).
+//! `TurnEntry` with what was asked and answered. It stands for an opening engine and a list of entries where each entry is a turn
+//! of the machine at its place, and the engine went on from the opening meanwhile (`specs/Shared`).
 #![tactic(auto)]
 
 mod entries;

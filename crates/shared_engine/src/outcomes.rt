@@ -1,6 +1,6 @@
 // What a turn comes to in which a piece is asked for, or queued once more.
 ghost use Rattle.std.specs.Prelude.{◌≡◌};
-ghost use Rattle.shared_engine.specs.Outcomes.{entry_of_queue, is_flush, next_entry, queue_entry};
+ghost use Rattle.shared_engine.specs.Outcomes.{is_flush, next_entry, queue_entry, queue_entry_again};
 
 use crate::entries::{TurnEntry, asked, flushed, queued};
 use group_flush::{Flush, Queue};
@@ -45,7 +45,7 @@ impl NextTurn {
 impl QueueTurn {
     /// The entry of the turn, for a piece of this number whose work is done.
     pub fn entry(&self, number: u32) -> TurnEntry
-        ensures { result ≡ queue_entry number self.now }
+        ensures { result ≡ queue_entry_again number self.now }
     {
         match self {
             QueueTurn::Flushed(reply, _) => TurnEntry::Flush(flushed(reply)),
@@ -56,7 +56,7 @@ impl QueueTurn {
 
 /// The entry of a turn in which the piece of this number was queued, by what came of its work.
 pub fn queue_entry(number: u32, answer: Answer, reply: &Queue) -> TurnEntry
-    ensures { result ≡ entry_of_queue number answer reply.now }
+    ensures { result ≡ queue_entry number answer reply.now }
 {
     TurnEntry::Queue {
         piece: number,

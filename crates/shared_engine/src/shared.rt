@@ -4,10 +4,11 @@ ghost use Rattle.machine_model.specs.declared.kept.Work.TheVariants.{End};
 ghost use Rattle.engine_steps.specs.Engines.{EngineState};
 ghost use Rattle.engine_calls.specs.GateAnswers.{IsGiven, IsHandedAs};
 ghost use Rattle.shared_engine.specs.declared.entries.TurnEntry.TheVariants as entry;
-ghost use Rattle.shared_engine.specs.Entries.{flush_said, lacks_memory, next_said};
-ghost use Rattle.shared_engine.specs.Outcomes.{HandsBack, HandsBackAgain, IsGivenBy, entry_of_queue, flushes_first, is_flush};
-ghost use Rattle.shared_engine.specs.Outcomes.{lacks_memory_again, next_entry, queue_entry};
-ghost use Rattle.shared_engine.specs.Shared.{AreOf, MayBeCalled, StandsFor, asks_for_flush, is_full, opens};
+ghost use Rattle.shared_engine.specs.Entries.{flush_said, lacks_memory, next_said, queue_said, said_of};
+ghost use Rattle.shared_engine.specs.Outcomes.{HandsBack, HandsBackAgain, IsGivenBy, flushes_first, is_flush};
+ghost use Rattle.shared_engine.specs.Outcomes.{lacks_memory_again, next_entry, queue_entry, queue_entry_again};
+ghost use Rattle.shared_engine.specs.Progress.{finds_full, waits_for_flush};
+ghost use Rattle.shared_engine.specs.Shared.{AreOf, MayBeCalled, StandsFor, opens};
 
 use crate::entries::TurnEntry;
 use crate::outcomes::{NextTurn, QueueTurn};
@@ -56,7 +57,7 @@ impl<R: Rack + Drop, B: Resource> SharedEngine<R, B> {
         requires handed { IsHandedAs self.old.engine.core piece }
         requires end { piece.piece.work ≡ End → answer ≡ Answer.Done }
         ensures leads { (o : EngineState R B) (es : List TurnEntry) → AreOf R.disk R.faults B.meaning B.sort o es self.old
-            → AreOf R.disk R.faults B.meaning B.sort o (es ++ entry_of_queue piece.piece.number answer result ∷ []) self.new }
+            → AreOf R.disk R.faults B.meaning B.sort o (es ++ queue_entry piece.piece.number answer result ∷ []) self.new }
         ensures back { HandsBack piece answer result }
         ensures starved { self.new.starved ≡ self.old.starved || lacks_memory result }
     {
@@ -76,7 +77,7 @@ impl<R: Rack + Drop, B: Resource> SharedEngine<R, B> {
         requires called { MayBeCalled B.meaning B.sort self.old }
         requires handed { IsHandedAs self.old.engine.core piece }
         ensures leads { (o : EngineState R B) (es : List TurnEntry) → AreOf R.disk R.faults B.meaning B.sort o es self.old
-            → AreOf R.disk R.faults B.meaning B.sort o (es ++ queue_entry piece.piece.number result ∷ []) self.new }
+            → AreOf R.disk R.faults B.meaning B.sort o (es ++ queue_entry_again piece.piece.number result ∷ []) self.new }
         ensures back { HandsBackAgain piece result }
         ensures flushes { flushes_first result ≡ self.old.due }
         ensures starved { self.new.starved ≡ self.old.starved || lacks_memory_again result }
@@ -100,8 +101,8 @@ impl<R: Rack + Drop, B: Resource> SharedEngine<R, B> {
             return Err(closed);
         }
         let reply = next(&mut self.engine);
-        let asks = asks_for_flush(&reply, self.queued.count());
-        self.due = either(self.due, asks);
+        let waits = waits_for_flush(&reply, self.queued.count());
+        self.due = either(self.due, waits);
         Ok(reply)
     }
 
@@ -129,16 +130,16 @@ fn either(mark: bool, sets: bool) -> bool
     mark || sets
 }
 
-// Whether a request that is answered so has to wait while so many pieces are queued.
-fn asks_for_flush(reply: &Next, count: usize) -> bool
-    ensures { result ≡ asks_for_flush reply.now count }
+// Whether a request that is answered so has to wait while so many pieces are queued, one at least.
+fn waits_for_flush(reply: &Next, count: usize) -> bool
+    ensures { result ≡ waits_for_flush count (said_of reply.now) }
 {
     matches!(reply, Next::Wait(_)) && count != 0
 }
 
 // Whether a piece found the group full.
 fn finds_full(reply: &Queue) -> bool
-    ensures { result ≡ is_full reply.now }
+    ensures { result ≡ finds_full (queue_said reply.now) }
 {
     matches!(reply, Queue::Full(_))
 }

@@ -4,7 +4,7 @@ ghost use Rattle.machine_model.specs.declared.kept.Work.TheVariants.{End};
 ghost use Rattle.history_lock.specs.Seats.{IsOf, desk_of, opening, places, seen, share};
 ghost use Rattle.history_lock.specs.Turns.{desk_at, history, opening_at, places_at, share_at, state_at};
 ghost use Rattle.engine_calls.specs.GateAnswers.{IsHandedAs};
-ghost use Rattle.shared_engine.specs.Outcomes.{HandsBack, HandsBackAgain, IsGivenBy, entry_of_queue, next_entry, queue_entry};
+ghost use Rattle.shared_engine.specs.Outcomes.{HandsBack, HandsBackAgain, IsGivenBy, next_entry, queue_entry, queue_entry_again};
 ghost use Rattle.shared_engine.specs.Seats.{HasAdded, HasOpened, core_at, knowledge};
 ghost use Rattle.shared_engine.specs.Shared.{IsOpening};
 
@@ -87,7 +87,7 @@ pub fn hand_in<H: Wait, R: Rack + Drop, B: Resource>(
     requires handed { (o : SharedEngine R B) → opening seat ≡ Some o → IsHandedAs (core_at o.engine (seen seat)) piece }
     requires end { piece.piece.work ≡ End → answer ≡ Answer.Done }
     ensures desk { IsOf desk.now result.0 }
-    ensures turn { HasAdded (entry_of_queue piece.piece.number answer result.1) (knowledge seat) (knowledge result.0) }
+    ensures turn { HasAdded (queue_entry piece.piece.number answer result.1) (knowledge seat) (knowledge result.0) }
     ensures back { HandsBack piece answer result.1 }
 {
     let number = piece.number();
@@ -110,7 +110,7 @@ pub fn hand_in_again<H: Wait, R: Rack + Drop, B: Resource>(
     requires opened { HasOpened R.disk B.meaning B.sort (knowledge seat) }
     requires handed { (o : SharedEngine R B) → opening seat ≡ Some o → IsHandedAs (core_at o.engine (seen seat)) piece }
     ensures desk { IsOf desk.now result.0 }
-    ensures turn { HasAdded (queue_entry piece.piece.number result.1) (knowledge seat) (knowledge result.0) }
+    ensures turn { HasAdded (queue_entry_again piece.piece.number result.1) (knowledge seat) (knowledge result.0) }
     ensures back { HandsBackAgain piece result.1 }
 {
     let number = piece.number();

@@ -80,7 +80,8 @@ module _ {R B : Type 0} where
   HasGot d v = (o : SharedEngine R B) → v.opening ≡ Some o → IsHandedAs (core_at o.engine v.seen) d
 
   -- What a worker's seat knows: how the engine was opened; its own entries came in the order in which it saw the history grow;
-  -- each piece that it queued was worked on; and the gate, which had the first counts at first, has these now by the worker's entries.
+  -- each piece that it queued was worked on; and the gate, which had the first counts at first, has these now by the worker's
+  -- entries.
   pub record WorkerKnows (disk : R → Disk) (meaning : B → Pairs) (sort : B → Kind) (answers : Handed → Option Answer) (owed : ℕ)
       (begun now : GateCounts) (v : View (SharedEngine R B) TurnEntry) : Type 0 where
     pub opened : HasOpened disk meaning sort v

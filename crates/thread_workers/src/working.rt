@@ -7,7 +7,7 @@ ghost use Rattle.engine_calls.specs.GateAnswers.{GateCounts, counts_of};
 ghost use Rattle.history_lock.specs.Seats.{IsOf, opening, places, share};
 ghost use Rattle.shared_engine.specs.declared.entries.TurnEntry.TheVariants as entry;
 ghost use Rattle.shared_engine.specs.Entries.{flush_said};
-ghost use Rattle.shared_engine.specs.Outcomes.{HandsBack, entry_of_queue};
+ghost use Rattle.shared_engine.specs.Outcomes.{HandsBack, queue_entry};
 ghost use Rattle.shared_engine.specs.Seats.{HasOpened, knowledge};
 ghost use Rattle.shared_engine.specs.Tallies.{IsAnswerTo};
 ghost use Rattle.thread_workers.specs.Workers.{HasAnswered, HasGot, HasStopped, Stops, WorkerKnows, asks_for};
@@ -35,7 +35,7 @@ fn answer_to<G: Gate>(gate: &mut G, piece: &Piece) -> Answer
 
 // Why a worker stops after the queueing of a piece, if it does. A piece that found no memory is let go, and stays out.
 fn failure(reply: &Queue, starved: bool) -> Option<RunOutcome>
-    ensures { (n : ℕ) (a : Answer') → IfSome result (λ o. Stops o (entry_of_queue n a reply.now)) }
+    ensures { (n : ℕ) (a : Answer') → IfSome result (λ o. Stops o (queue_entry n a reply.now)) }
 {
     match reply {
         Queue::Closed(_) => Some(RunOutcome::DiskFault),
@@ -76,7 +76,7 @@ fn try_again<H: Wait, R: Rack + Drop, B: Resource>(
         → WorkerKnows R.disk B.meaning B.sort answers 0 begun now (knowledge seat)
         → WorkerKnows R.disk B.meaning B.sort answers 0 begun now (knowledge result.0) }
     ensures back { IfOk result.1 (HandsBack piece Answer.Done) }
-    ensures queued { IfOk result.1 (λ reply. (o : RunOutcome) → Stops o (entry_of_queue piece.piece.number Answer.Done reply)
+    ensures queued { IfOk result.1 (λ reply. (o : RunOutcome) → Stops o (queue_entry piece.piece.number Answer.Done reply)
         → HasStopped o (places result.0)) }
     ensures stopped { IfErr result.1 (λ o. HasStopped o (places result.0)) }
 {

@@ -1,6 +1,6 @@
 use Rattle.std.proofs.Common.{◌∙◌, ap, sym, subst}
 use Rattle.engine_calls.specs.GateAnswers.{IsHandedAs}
-use Rattle.shared_engine.specs.Outcomes.{entry_of_queue}
+use Rattle.shared_engine.specs.Outcomes.{queue_entry}
 use Rattle.shared_engine.specs.Progress.{opened}
 use Rattle.shared_engine.specs.Seats.{HasAdded, core_at}
 use Rattle.shared_engine.specs.Shared.{MayBeCalled}
@@ -33,5 +33,5 @@ pub returns-clause-turn : goal.returns-clause-turn
 returns-clause-turn g c =
     let t = c.turn-turn.ensures in
     let d = c.end.ensures in
-    subst (λ e. HasAdded e c.args.seat.place.me.0 c.end.result.place.me.0) (c.queue_entry-entry.ensures ∙ ap (λ n. entry_of_queue n c.args.answer c.hand_in-reply.result) c.number-number.ensures)
+    subst (λ e. HasAdded e c.args.seat.place.me.0 c.end.result.place.me.0) (c.queue_entry-entry.ensures ∙ ap (λ n. queue_entry n c.args.answer c.hand_in-reply.result) c.number-number.ensures)
     (added_by c.queue_entry-entry.result c.args.seat.place.me.0 c.turn-turn.result.place.me.0 c.end.result.place.me.0 t.seen.0 t.keeps.0 t.keeps.1 t.keeps.2 t.seen.1 d.keeps.0 d.keeps.1 d.seen d.places)

@@ -3,7 +3,7 @@ use Rattle.machine_model.specs.Replies.{Handed}
 use Rattle.process_engine.specs.declared.gates.Answer.TheVariants.{Done}
 use Rattle.group_flush.specs.declared.replies.Queue.{Queue}
 use Rattle.worker_gate.specs.declared.alone.RunOutcome.{RunOutcome}
-use Rattle.shared_engine.specs.Outcomes.{HandsBack, entry_of_queue}
+use Rattle.shared_engine.specs.Outcomes.{HandsBack, queue_entry}
 use Rattle.shared_engine.specs.Tallies.{IsAnswerTo}
 use Rattle.shared_engine.proofs.MadeTurns.{if_map}
 use Rattle.thread_workers.specs.Workers.{HasGot, HasStopped, Stops}
@@ -39,8 +39,8 @@ returns-in-Ok g c =
     let e = c.try_again-after.ensures in
     let n = c.loop.piece.piece.number in
     let w = c.try_again-after.result.0.place.me.0 in
-    let entry = entry_of_queue n Done c.in-Ok.reply in
-    let queued = subst (λ (r : Result Queue RunOutcome). IfOk r (λ reply. (o : RunOutcome) → Stops o (entry_of_queue n Done reply) → HasStopped o w.places))
+    let entry = queue_entry n Done c.in-Ok.reply in
+    let queued = subst (λ (r : Result Queue RunOutcome). IfOk r (λ reply. (o : RunOutcome) → Stops o (queue_entry n Done reply) → HasStopped o w.places))
     c.in-Ok.is e.queued in
     record {
       desk = e.desk;

@@ -4,7 +4,7 @@ use Rattle.process_engine.specs.declared.gates.Answer.{Answer}
 use Rattle.process_engine.specs.declared.gates.Answer.TheVariants.{Done}
 use Rattle.engine_calls.specs.GateAnswers.{counts_of}
 use Rattle.shared_engine.specs.Entries.{queue_said}
-use Rattle.shared_engine.specs.Outcomes.{HandsBack, entry_of_queue}
+use Rattle.shared_engine.specs.Outcomes.{HandsBack, queue_entry}
 use Rattle.shared_engine.specs.Tallies.{IsAnswerTo}
 use Rattle.shared_engine.proofs.MadeTurns.{if_map}
 use Rattle.thread_workers.specs.Workers.{HasGot, HasStopped, Stops}
@@ -22,7 +22,7 @@ hand_in_late-requires-clause-handed g c =
     let a = c.answer_to-answer.result in
     let w = c.hand_in-seat.result.0.place.me.0 in
     let back = subst (HandsBack d a) c.in-Full.is c.hand_in-seat.ensures.back in
-    let got = still_got d (entry_of_queue d.piece.number a c.hand_in-seat.result.1) c.args.seat.place.me.0 w c.hand_in-seat.ensures.turn
+    let got = still_got d (queue_entry d.piece.number a c.hand_in-seat.result.1) c.args.seat.place.me.0 w c.hand_in-seat.ensures.turn
     c.requires.handed in
     subst (λ (q : Handed). HasGot q w) (sym back.0) got
 
@@ -49,7 +49,7 @@ returns-in_default g c =
     let w = c.hand_in-seat.result.0.place.me.0 in
     let before = counts_of g.G.Gate c.args.gate.now in
     let after = counts_of g.G.Gate c.answer_to-answer.new.gate in
-    let entry = entry_of_queue d.piece.number a c.hand_in-seat.result.1 in
+    let entry = queue_entry d.piece.number a c.hand_in-seat.result.1 in
     record {
       desk = e.desk;
       keeps = (e.turn.opening, e.turn.share);
