@@ -1,5 +1,6 @@
 -- Several events that take effect together: prepared in their stores, recorded by one write of the journal, and committed.
-use Rattle.std.specs.Prelude.{◌≡◌, ◌≢◌, ◌≤◌, ℕ, ◌+◌, ⊤, List, [], ◌∷◌, ◌++◌, length, map, Bool, Option, None, is_some, Result, OnErr}
+use Rattle.std.specs.Prelude.{◌≡◌, ◌≢◌, ◌≤◌, ℕ, ◌+◌, ⊤, List, [], ◌∷◌, ◌++◌, length, map, Bool, Option, None, is_some, Result}
+use Rattle.std.specs.Prelude.{OnErr}
 use Rattle.std.specs.List.{list_any}
 use Rattle.process_tree.specs.Order.{Each}
 use Rattle.process_disk.specs.Disk.{Disk, Told}
