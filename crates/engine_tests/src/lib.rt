@@ -1,4 +1,4 @@
-//! Tests of the engine: stops within every device call of a run, and runs with gates.
+//! Tests of the engine: stops within every device call of a run and of a flush, and runs with gates.
 //!
 //! They stand apart from the crates that they test, since a crate with tests is proved twice.
 #![tactic(auto)]
@@ -7,6 +7,8 @@
 mod beginnings;
 #[cfg(test)]
 mod boxes;
+#[cfg(test)]
+mod flushes;
 #[cfg(test)]
 mod gates;
 #[cfg(test)]

@@ -1,6 +1,7 @@
 // Stops within each device call of a run of three processes that conflict: one is done, one goes back and drags the third along.
 ghost use Rattle.std.specs.Prelude.{IfOk};
 ghost use Rattle.history_files.specs.Boxes.{AreBoxes};
+ghost use Rattle.history_files.specs.Standing.{EachFits};
 
 use crate::beginnings::{created, opened, start_all};
 use crate::turns::{Turn, take_turns};
@@ -24,18 +25,25 @@ const MOST_TURNS: u32 = 60;
 
 // The history that a stop within a device call leaves.
 #[derive(Clone, Copy, Debug, PartialEq, Eq)]
-enum Left {
+pub enum Left {
     Before,
     // the one with the event where the gate of its record isn't 0
     ByGate,
     WithEvent,
 }
 
-// The device calls of a record: its bytes, a sync, its gate, a sync.
-const RECORD: [Left; 4] = [Left::Before, Left::Before, Left::ByGate, Left::ByGate];
+/// How many events a history has before what is under way, and with it.
+#[derive(Clone, Copy)]
+pub struct Around {
+    pub before: usize,
+    pub with: usize,
+}
 
-// Those of a step or an undo, which is prepared, recorded and committed.
-const ACT: [Left; 12] = [
+/// The device calls of a record: its bytes, a sync, its gate, a sync.
+pub const RECORD: [Left; 4] = [Left::Before, Left::Before, Left::ByGate, Left::ByGate];
+
+/// Those of a step or an undo, which is prepared, recorded and committed.
+pub const ACT: [Left; 12] = [
     Left::Before,
     Left::Before,
     Left::Before,
@@ -74,13 +82,13 @@ struct Stop {
     fill: u8,
 }
 
-// A run without a stop: its events, the books at its end, and the calls of its rack, of which so many made the files.
+/// A run without a stop: its events, the books at its end, and the calls of its rack, of which so many came before the stops.
 #[derive(Drop)]
-struct Whole {
-    events: Vec<Event>,
+pub struct Whole {
+    pub events: Vec<Event>,
     books: Vec<Vec<Effect>>,
-    rack: MemoryRack,
-    made: u32,
+    pub rack: MemoryRack,
+    pub made: u32,
 }
 
 fn calls_of(event: Event) -> &'static [Left] {
@@ -98,6 +106,15 @@ fn has_event(left: Left, stop: Stop) -> bool {
     }
 }
 
+// How many events the history has after a stop.
+fn count_after(around: Around, left: Left, stop: Stop) -> usize {
+    if has_event(left, stop) {
+        around.with
+    } else {
+        around.before
+    }
+}
+
 fn books_of<R: Rack + Drop, B: Resource>(
     alloc: Global,
     engine: &Engine<R, B>,
@@ -109,8 +126,8 @@ fn books_of<R: Rack + Drop, B: Resource>(
     Ok(books)
 }
 
-// A count that is small.
-fn short<H: Abort>(rt: &H, count: u64) -> u32 {
+/// A count that is small.
+pub fn short<H: Abort>(rt: &H, count: u64) -> u32 {
     assert!(rt; count < 100);
     count as u32
 }
@@ -129,6 +146,27 @@ fn calls_to_create<H: Abort, B: Resource>(
     Ok((short(rt, rack.calls()), resources))
 }
 
+/// A run that has come to its end; the boxes are handed back.
+pub fn whole_of<B: Resource>(
+    alloc: Global,
+    engine: Engine<MemoryRack, B>,
+    made: u32,
+) -> Result<(Whole, Vec<B>), Fail>
+    requires { EachFits B.meaning B.sort engine.files.stores }
+    ensures { IfOk result (λ run. AreBoxes B.sort run.1.items) }
+{
+    let events = engine.history().events.as_slice().to_vec(alloc)?;
+    let books = books_of(alloc, &engine)?;
+    let Parts { rack, resources } = engine.into_parts();
+    let whole = Whole {
+        events,
+        books,
+        rack,
+        made,
+    };
+    Ok((whole, resources))
+}
+
 fn whole_run<H: Abort, B: Resource>(
     rt: &H,
     alloc: Global,
@@ -142,16 +180,7 @@ fn whole_run<H: Abort, B: Resource>(
     start_all(alloc, &mut engine, &TEXTS)?;
     let end = take_turns(&mut engine, &mut PlainGate::new(), MOST_TURNS);
     assert_eq!(rt; end, Turn::AllEnded);
-    let events = engine.history().events.as_slice().to_vec(alloc)?;
-    let books = books_of(alloc, &engine)?;
-    let Parts { rack, resources } = engine.into_parts();
-    let whole = Whole {
-        events,
-        books,
-        rack,
-        made,
-    };
-    Ok((whole, resources))
+    whole_of(alloc, engine, made)
 }
 
 // The book has the effects of so many acts of the whole run.
@@ -239,13 +268,13 @@ fn expect_stop<H: Abort, B: Resource>(
     Ok(engine.into_parts().resources)
 }
 
-// Stops within a device call of the event behind so many others.
+// Stops within a device call.
 fn expect_stops<H: Abort, B: Resource>(
     rt: &H,
     alloc: Global,
     whole: &Whole,
     call: u32,
-    count: usize,
+    around: Around,
     left: Left,
     resources: Vec<B>,
 ) -> Result<Vec<B>, Fail>
@@ -259,19 +288,19 @@ fn expect_stops<H: Abort, B: Resource>(
             keep: *keep,
             fill: *fill,
         };
-        let there = count.wrapping_add(usize::from(has_event(left, stop)));
-        resources = expect_stop(rt, alloc, whole, stop, there, resources)?;
+        let count = count_after(around, left, stop);
+        resources = expect_stop(rt, alloc, whole, stop, count, resources)?;
     }
     Ok(resources)
 }
 
-// Stops within each device call of the event behind so many others, the first of which has this number; the number of the next.
-fn expect_event<H: Abort, B: Resource>(
+/// Stops within each device call of what is under way, the first of which has this number; the number of the next.
+pub fn expect_calls<H: Abort, B: Resource>(
     rt: &H,
     alloc: Global,
     whole: &Whole,
     first: u32,
-    count: usize,
+    around: Around,
     lefts: &[Left],
     resources: Vec<B>,
 ) -> Result<(u32, Vec<B>), Fail>
@@ -281,7 +310,7 @@ fn expect_event<H: Abort, B: Resource>(
     let mut resources = resources;
     let mut call = first;
     for left in lefts {
-        resources = expect_stops(rt, alloc, whole, call, count, *left, resources)?;
+        resources = expect_stops(rt, alloc, whole, call, around, *left, resources)?;
         call = call.wrapping_add(1);
     }
     Ok((call, resources))
@@ -300,7 +329,11 @@ pub fn expect_any_stop<H: Abort, B: Resource>(
     let mut call = whole.made;
     for (count, event) in whole.events.iter().enumerate() {
         let lefts = calls_of(*event);
-        let (next, boxes) = expect_event(rt, alloc, &whole, call, count, lefts, resources)?;
+        let around = Around {
+            before: count,
+            with: count.wrapping_add(1),
+        };
+        let (next, boxes) = expect_calls(rt, alloc, &whole, call, around, lefts, resources)?;
         call = next;
         resources = boxes;
     }

@@ -2,6 +2,7 @@
 ghost use Rattle.history_files.specs.Boxes.{AreBoxes};
 
 use crate::boxes::boxes;
+use crate::flushes::expect_flushes;
 use crate::gates::{expect_room, expect_runs};
 use crate::stops::expect_any_stop;
 use resource_box::Resource;
@@ -11,6 +12,7 @@ use std::test::Fail;
 
 #[derive(Clone, Copy)]
 enum Test {
+    Flushes,
     Room,
     Runs,
     Stops,
@@ -26,6 +28,7 @@ fn run<H: Abort>(
     requires { AreBoxes (λ b. sort b) boxes.items }
 {
     match test {
+        Test::Flushes => expect_flushes(rt, alloc, boxes),
         Test::Room => expect_room(rt, alloc, boxes),
         Test::Runs => expect_runs(rt, alloc, boxes),
         Test::Stops => expect_any_stop(rt, alloc, boxes),
@@ -53,4 +56,11 @@ fn a_stop_within_any_device_call_leaves_the_history_before_or_with_the_event(
     rt: HostRuntime,
 ) -> Result<(), Fail> {
     with_boxes(&rt, rt.alloc(), Test::Stops)
+}
+
+#[test]
+fn a_stop_within_any_device_call_of_a_flush_leaves_the_history_before_or_with_the_whole_group(
+    rt: HostRuntime,
+) -> Result<(), Fail> {
+    with_boxes(&rt, rt.alloc(), Test::Flushes)
 }

@@ -1,0 +1,367 @@
+// Pieces that are queued and take effect together: what each queueing and flush says, and stops within each device call of a flush.
+ghost use Rattle.std.specs.Prelude.{IfOk};
+ghost use Rattle.history_files.specs.Boxes.{AreBoxes};
+ghost use Rattle.engine_tests.specs.Ready.{IsReady, MayQueue};
+ghost use Rattle.engine_calls.specs.Runs.{IsReady as IsReadyToRun};
+
+use crate::beginnings::{created, start_all};
+use crate::stops::{ACT, Around, Left, RECORD, Whole, expect_calls, short, whole_of};
+use crate::turns::take_turns;
+use engine_calls::{abort, flush, next, queue};
+use group_flush::{Flush, Group, GroupEnd, Queue, Queued};
+use process_core::{Aborted, Next};
+use process_disk::{MemoryRack, Rack};
+use process_engine::{Answer, Engine, Parts};
+use resource_box::Resource;
+use std::alloc::Global;
+use std::process::Abort;
+use std::test::Fail;
+use worker_gate::PlainGate;
+
+// What is done with pieces.
+enum Line {
+    // The next one is done and queued.
+    Queue(Said),
+    // This process is asked to complete.
+    Abort(u32),
+    // What is queued takes effect: the number of each piece, and what became of it.
+    Flush(&'static [(u32, GroupEnd)]),
+}
+
+#[derive(Clone, Copy, Debug, PartialEq, Eq)]
+enum Said {
+    Queued,
+    // The piece of this number came back.
+    Full(u32),
+    Else,
+}
+
+struct Row {
+    name: &'static str,
+    // processes that take a turn each before the others start
+    ahead: &'static [&'static [u8]],
+    beside: &'static [&'static [u8]],
+    lines: &'static [Line],
+    // the device calls of the last line
+    lefts: &'static [Left],
+    // how many events come with the last line
+    size: usize,
+}
+
+// The device calls of three steps and two ends: each of three stores is written, a sync, their gates, a sync; and the other way
+// round behind the record.
+const GROUP: [Left; 20] = [
+    Left::Before,
+    Left::Before,
+    Left::Before,
+    Left::Before,
+    Left::Before,
+    Left::Before,
+    Left::Before,
+    Left::Before,
+    Left::Before,
+    Left::Before,
+    Left::ByGate,
+    Left::ByGate,
+    Left::WithEvent,
+    Left::WithEvent,
+    Left::WithEvent,
+    Left::WithEvent,
+    Left::WithEvent,
+    Left::WithEvent,
+    Left::WithEvent,
+    Left::WithEvent,
+];
+
+const SHIPS: &[u8] = b"process d c s ship 1 1 end";
+
+const BOOKS: &[u8] = b"process e c t book 7 3 end";
+
+const ADDS: &[u8] = b"process a c x add 1 5 end";
+
+const ADDS_MORE: &[u8] = b"process b c x add 2 5 end";
+
+const PAYS: &[u8] = b"process b c y pay 2 2 end";
+
+const NOTES: &[u8] = b"process c c z note 4 9 end";
+
+const ROWS: [Row; 5] = [
+    Row {
+        name: "three steps and two ends take effect together",
+        ahead: &[SHIPS, BOOKS],
+        beside: &[ADDS, PAYS, NOTES],
+        lines: &[
+            Line::Queue(Said::Queued),
+            Line::Queue(Said::Queued),
+            Line::Queue(Said::Queued),
+            Line::Queue(Said::Queued),
+            Line::Queue(Said::Queued),
+            Line::Flush(&[
+                (3, GroupEnd::Effected(8)),
+                (4, GroupEnd::Effected(9)),
+                (5, GroupEnd::Effected(10)),
+                (6, GroupEnd::Effected(11)),
+                (7, GroupEnd::Effected(12)),
+            ]),
+        ],
+        lefts: &GROUP,
+        size: 5,
+    },
+    Row {
+        name: "two ends are neither prepared nor committed",
+        ahead: &[SHIPS, BOOKS],
+        beside: &[],
+        lines: &[
+            Line::Queue(Said::Queued),
+            Line::Queue(Said::Queued),
+            Line::Flush(&[(3, GroupEnd::Effected(5)), (4, GroupEnd::Effected(6))]),
+        ],
+        lefts: &RECORD,
+        size: 2,
+    },
+    Row {
+        name: "a step on the subsystem of one that is queued comes back",
+        ahead: &[],
+        beside: &[ADDS, ADDS_MORE],
+        lines: &[
+            Line::Queue(Said::Queued),
+            Line::Queue(Said::Full(2)),
+            Line::Flush(&[(1, GroupEnd::Effected(3))]),
+        ],
+        lefts: &ACT,
+        size: 1,
+    },
+    Row {
+        name: "a step whose process begins to complete once it is queued is dropped",
+        ahead: &[],
+        beside: &[ADDS, PAYS],
+        lines: &[
+            Line::Queue(Said::Queued),
+            Line::Queue(Said::Queued),
+            Line::Abort(1),
+            Line::Flush(&[(1, GroupEnd::Dropped(5)), (2, GroupEnd::Effected(3))]),
+        ],
+        lefts: &ACT,
+        size: 1,
+    },
+    Row {
+        name: "nothing is recorded where all were dropped",
+        ahead: &[],
+        beside: &[ADDS],
+        lines: &[
+            Line::Queue(Said::Queued),
+            Line::Abort(1),
+            Line::Flush(&[(1, GroupEnd::Dropped(3))]),
+        ],
+        lefts: &[],
+        size: 0,
+    },
+];
+
+fn said_of(reply: &Queue) -> Said {
+    match reply {
+        Queue::Queued => Said::Queued,
+        Queue::Full(piece) => Said::Full(piece.number()),
+        _ => Said::Else,
+    }
+}
+
+// The next piece is done and queued, which keeps nothing.
+fn queue_next<H: Abort, R: Rack + Drop, B: Resource>(
+    rt: &H,
+    engine: &mut Engine<R, B>,
+    queued: &mut Queued,
+) -> Said
+    requires { MayQueue B.meaning B.sort engine.old queued.old }
+    ensures { MayQueue B.meaning B.sort engine.new queued.new }
+{
+    let Next::Piece(piece) = next(engine) else {
+        panic!(rt; "no piece");
+    };
+    let kept = engine.kept().len();
+    let reply = queue(engine, queued, piece, Answer::Done);
+    assert_eq!(rt; engine.kept().len(), kept);
+    said_of(&reply)
+}
+
+// A process is asked to complete.
+fn complete<H: Abort, R: Rack + Drop, B: Resource>(
+    rt: &H,
+    engine: &mut Engine<R, B>,
+    queued: &Queued,
+    i: u32,
+)
+    requires { MayQueue B.meaning B.sort engine.old queued.now }
+    ensures { MayQueue B.meaning B.sort engine.new queued.now }
+{
+    let answer = abort(engine, i);
+    assert_eq!(rt; answer, Aborted::Ok);
+}
+
+fn expect_ends<H: Abort>(rt: &H, group: &Group, wanted: &[(u32, GroupEnd)], name: &str) {
+    assert_eq!(rt; usize::from(group.len()), wanted.len(), "{name}");
+    let mut n = 0;
+    while n < group.len() {
+        assert_eq!(rt; Some(&group.at(n)), wanted.get(usize::from(n)), "{name}");
+        n += 1;
+    }
+}
+
+// What is queued takes effect.
+fn expect_flush<H: Abort, R: Rack + Drop, B: Resource>(
+    rt: &H,
+    engine: &mut Engine<R, B>,
+    queued: &mut Queued,
+    wanted: &[(u32, GroupEnd)],
+    name: &str,
+)
+    requires { MayQueue B.meaning B.sort engine.old queued.old }
+    ensures { MayQueue B.meaning B.sort engine.new queued.new }
+{
+    let Flush::Flushed(group) = flush(engine, queued) else {
+        panic!(rt; "not flushed");
+    };
+    expect_ends(rt, &group, wanted, name);
+}
+
+fn expect_line<H: Abort, R: Rack + Drop, B: Resource>(
+    rt: &H,
+    engine: &mut Engine<R, B>,
+    queued: &mut Queued,
+    line: &Line,
+    name: &str,
+)
+    requires { MayQueue B.meaning B.sort engine.old queued.old }
+    ensures { MayQueue B.meaning B.sort engine.new queued.new }
+{
+    match line {
+        Line::Queue(wanted) => {
+            let said = queue_next(rt, engine, queued);
+            assert_eq!(rt; said, *wanted, "{name}");
+        }
+        Line::Abort(i) => complete(rt, engine, queued, *i),
+        Line::Flush(ends) => expect_flush(rt, engine, queued, ends, name),
+    }
+}
+
+// Nothing is queued yet at an engine that isn't closed.
+fn none_queued<R: Rack + Drop, B: Resource>(
+    alloc: Global,
+    engine: &Engine<R, B>,
+) -> Result<Queued, Fail>
+    requires { IsReady B.meaning B.sort engine.now }
+    ensures { IfOk result (MayQueue B.meaning B.sort engine.now) }
+{
+    let Ok(()) = engine.not_closed() else {
+        return Err("closed".into());
+    };
+    Ok(Queued::new(alloc)?)
+}
+
+// The processes of a row have started, and some have taken a turn.
+fn started<B: Resource>(
+    alloc: Global,
+    row: &Row,
+    resources: Vec<B>,
+) -> Result<Engine<MemoryRack, B>, Fail>
+    requires { AreBoxes B.sort resources.items }
+    ensures { IfOk result (IsReady B.meaning B.sort) }
+{
+    let mut engine = created(alloc, resources)?;
+    start_all(alloc, &mut engine, row.ahead)?;
+    for _ in row.ahead {
+        take_turns(&mut engine, &mut PlainGate::new(), 1);
+    }
+    start_all(alloc, &mut engine, row.beside)?;
+    Ok(engine)
+}
+
+// The engine behind these lines.
+fn played<H: Abort, B: Resource>(
+    rt: &H,
+    alloc: Global,
+    row: &Row,
+    lines: &[Line],
+    resources: Vec<B>,
+) -> Result<Engine<MemoryRack, B>, Fail>
+    requires { AreBoxes B.sort resources.items }
+    ensures { IfOk result (IsReadyToRun B.meaning B.sort) }
+{
+    let mut engine = started(alloc, row, resources)?;
+    let mut queued = none_queued(alloc, &engine)?;
+    for line in lines {
+        expect_line(rt, &mut engine, &mut queued, line, row.name);
+    }
+    Ok(engine)
+}
+
+// How many device calls come before the last line; the boxes are handed back.
+fn calls_before<H: Abort, B: Resource>(
+    rt: &H,
+    alloc: Global,
+    row: &Row,
+    resources: Vec<B>,
+) -> Result<(u32, Vec<B>), Fail>
+    requires { AreBoxes B.sort resources.items }
+    ensures { IfOk result (λ made. AreBoxes B.sort made.1.items) }
+{
+    let Some((_, before)) = row.lines.split_last() else {
+        return Err("no line".into());
+    };
+    let engine = played(rt, alloc, row, before, resources)?;
+    let Parts { rack, resources } = engine.into_parts();
+    Ok((short(rt, rack.calls()), resources))
+}
+
+// All lines of a row; the boxes are handed back.
+fn whole_row<H: Abort, B: Resource>(
+    rt: &H,
+    alloc: Global,
+    row: &Row,
+    resources: Vec<B>,
+) -> Result<(Whole, Vec<B>), Fail>
+    requires { AreBoxes B.sort resources.items }
+    ensures { IfOk result (λ run. AreBoxes B.sort run.1.items) }
+{
+    let (made, resources) = calls_before(rt, alloc, row, resources)?;
+    let engine = played(rt, alloc, row, row.lines, resources)?;
+    whole_of(alloc, engine, made)
+}
+
+// Stops within each device call of the last line of a row.
+fn expect_row<H: Abort, B: Resource>(
+    rt: &H,
+    alloc: Global,
+    row: &Row,
+    resources: Vec<B>,
+) -> Result<Vec<B>, Fail>
+    requires { AreBoxes B.sort resources.items }
+    ensures { IfOk result (λ boxes. AreBoxes B.sort boxes.items) }
+{
+    let (whole, resources) = whole_row(rt, alloc, row, resources)?;
+    let with = whole.events.len();
+    let around = Around {
+        before: with.wrapping_sub(row.size),
+        with,
+    };
+    let (next, resources) = expect_calls(
+        rt, alloc, &whole, whole.made, around, row.lefts, resources,
+    )?;
+    assert_eq!(rt; u64::from(next), whole.rack.calls(), "{}", row.name);
+    Ok(resources)
+}
+
+/// A stop within any device call of a flush leaves the history before or with all that takes effect.
+pub fn expect_flushes<H: Abort, B: Resource>(
+    rt: &H,
+    alloc: Global,
+    resources: Vec<B>,
+) -> Result<(), Fail>
+    requires { AreBoxes B.sort resources.items }
+{
+    let mut resources = resources;
+    for row in &ROWS {
+        resources = expect_row(rt, alloc, row, resources)?;
+    }
+    Ok(())
+}
