@@ -15,6 +15,7 @@ pub record IsReady {R B : Type 0} (meaning : B → Pairs) (sort : B → Kind) (e
   pub whole : e.phase ≢ phase.UnderWay
 
 -- It may be called, and these are queued at it.
-pub record MayQueue {R B : Type 0} (meaning : B → Pairs) (sort : B → Kind) (e : EngineState R B) (group : List Handed) : Type 0 where
+pub record MayQueue {R B : Type 0} (meaning : B → Pairs) (sort : B → Kind) (e : EngineState R B)
+    (group : List Handed) : Type 0 where
   pub ready : IsReadyToRun meaning sort e
   pub queued : AreQueued e group
