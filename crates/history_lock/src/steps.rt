@@ -118,7 +118,8 @@ impl<S: Held> Desk<S> {
         }
     }
 
-    // The next ticket is served, and who sleeps until it is, is woken.
+    // The next ticket is served, and who sleeps until it is, is woken. Nobody does where it isn't drawn yet: who draws it later finds
+    // it served.
     pub(crate) fn pass(&self, place: &mut Place<S>)
         requires table { place.old.table_id ≡ self.now.table.shared.table_id }
         requires stands { (x : S) × HasCounted (Some x) place.old.me
@@ -127,9 +128,12 @@ impl<S: Held> Desk<S> {
         ensures rests { place.new.me ≡ rested place.old.me }
     {
         let ticket = self.table.shared.fetch_add::<Pass>(place, 0, 1);
-        let bell = bell_of(ticket.wrapping_add(1));
-        self.announce(place, bell);
-        self.table.shared.wake_all(bell);
+        let next = ticket.wrapping_add(1);
+        if next < self.table.shared.peek(1) {
+            let bell = bell_of(next);
+            self.announce(place, bell);
+            self.table.shared.wake_all(bell);
+        }
     }
 
     // One more change, or ring of a bell.
