@@ -1,8 +1,8 @@
--- An engine stays ready, and the piece that it hands out was handed out by its core.
-use Rattle.std.proofs.Common.{◌≡◌, ◌∙◌, [], refl, sym, subst}
+-- An engine stays ready, the piece that it hands out was handed out by its core, and what is queued at it stays so.
+use Rattle.std.proofs.Common.{◌≡◌, ◌∙◌, ℕ, List, [], arith, refl, sym, subst}
 use Rattle.resource_box.specs.declared.call.Kind.{Kind}
 use Rattle.resource_box.specs.Meaning.{Pairs}
-use Rattle.machine_model.specs.Calls.{next, next_is}
+use Rattle.machine_model.specs.Calls.{abort, next, next_is}
 use Rattle.machine_model.specs.Replies.{Handed, chosen}
 use Rattle.process_core.specs.Answers.{after_call, answer_in}
 use Rattle.process_core.specs.Cores.{CoreState, IsCore, IsHandedBy}
@@ -11,8 +11,10 @@ use Rattle.history_files.specs.Standing.{EachFits}
 use Rattle.engine_steps.specs.Engines.{EngineState, with_core}
 use Rattle.engine_steps.specs.declared.engines.Phase.{Phase}
 use Rattle.engine_steps.specs.declared.engines.Phase.TheVariants as phase
+use Rattle.group_flush.specs.Queues.{AreQueued}
+use Rattle.group_flush.proofs.QueuedCalls.{queued_at_abort, queued_at_next}
 use Rattle.engine_calls.specs.Runs.{IsReady as IsReadyToRun}
-use Rattle.engine_tests.specs.Ready.{IsReady}
+use Rattle.engine_tests.specs.Ready.{IsReady, MayQueue}
 
 -- after a request, which touches no file
 pub ready_asked : {R B : Type 0} (meaning : B → Pairs) (sort : B → Kind) (old new : EngineState R B) (core : CoreState)
@@ -40,3 +42,27 @@ ready_for_runs meaning sort e ready open' = record { settled = by_phase e.phase 
     by_phase phase.Settled whole open' = refl
     by_phase phase.UnderWay whole open' = absurd (whole refl)
     by_phase phase.Closed whole open' = absurd (open' refl)
+
+-- nothing is queued at one that may be run
+pub none_queued : {R B : Type 0} (meaning : B → Pairs) (sort : B → Kind) (e : EngineState R B) (group : List Handed) → IsReadyToRun meaning sort e
+    → group ≡ [] → MayQueue meaning sort e group
+none_queued meaning sort e group ready none = record {
+  ready = ready;
+  queued = subst (AreQueued e) (sym none) (record { unfinished = tt; distinct = tt; apart = tt; ends = omega arith; few = omega arith; room = tt });
+}
+
+-- what is queued stays so where any piece is asked for,
+pub queued_asked : {R B : Type 0} (meaning : B → Pairs) (sort : B → Kind) (old new : EngineState R B) (group : List Handed)
+    → new ≡ with_core old (after_call old.core next) → IsReadyToRun meaning sort new → MayQueue meaning sort old group → MayQueue meaning sort new group
+queued_asked meaning sort old new group is ready may = record {
+  ready = ready;
+  queued = subst (λ e. AreQueued e group) (sym is) (queued_at_next old group may.queued);
+}
+
+-- or a process is asked to complete
+pub queued_aborted : {R B : Type 0} (meaning : B → Pairs) (sort : B → Kind) (old new : EngineState R B) (group : List Handed) (i : ℕ)
+    → new ≡ with_core old (after_call old.core (abort i)) → IsReadyToRun meaning sort new → MayQueue meaning sort old group → MayQueue meaning sort new group
+queued_aborted meaning sort old new group i is ready may = record {
+  ready = ready;
+  queued = subst (λ e. AreQueued e group) (sym is) (queued_at_abort old group may.queued i);
+}

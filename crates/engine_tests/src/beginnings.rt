@@ -124,17 +124,18 @@ pub fn start<R: Rack + Drop, B: Resource>(
     Ok(number)
 }
 
-/// The processes of these texts start.
+/// An engine in which the processes of these texts have started too.
 pub fn start_all<R: Rack + Drop, B: Resource>(
     alloc: Global,
-    engine: &mut Engine<R, B>,
+    engine: Engine<R, B>,
     texts: &[&[u8]],
-) -> Result<(), Fail>
-    requires { IsReady B.meaning B.sort engine.old }
-    ensures { IfOk result (λ _. IsReady B.meaning B.sort engine.new) }
+) -> Result<Engine<R, B>, Fail>
+    requires { IsReady B.meaning B.sort engine }
+    ensures { IfOk result (IsReady B.meaning B.sort) }
 {
+    let mut engine = engine;
     for text in texts {
-        start(alloc, engine, text)?;
+        start(alloc, &mut engine, text)?;
     }
-    Ok(())
+    Ok(engine)
 }

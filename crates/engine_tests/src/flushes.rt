@@ -1,12 +1,13 @@
 // Pieces that are queued and take effect together: what each queueing and flush says, and stops within each device call of a flush.
-ghost use Rattle.std.specs.Prelude.{IfOk};
+ghost use Rattle.std.specs.Prelude.{◌≡◌, [], IfOk};
 ghost use Rattle.history_files.specs.Boxes.{AreBoxes};
-ghost use Rattle.engine_tests.specs.Ready.{IsReady, MayQueue};
+ghost use Rattle.engine_calls.specs.GateAnswers.{IsGiven};
 ghost use Rattle.engine_calls.specs.Runs.{IsReady as IsReadyToRun};
+ghost use Rattle.engine_tests.specs.Ready.{IsReady, MayQueue};
 
 use crate::beginnings::{created, start_all};
 use crate::stops::{ACT, Around, Left, RECORD, Whole, expect_calls, short, whole_of};
-use crate::turns::take_turns;
+use crate::turns::take_turn;
 use engine_calls::{abort, flush, next, queue};
 use group_flush::{Flush, Group, GroupEnd, Queue, Queued};
 use process_core::{Aborted, Next};
@@ -85,7 +86,8 @@ const PAYS: &[u8] = b"process b c y pay 2 2 end";
 
 const NOTES: &[u8] = b"process c c z note 4 9 end";
 
-const ROWS: [Row; 5] = [
+// Groups of pieces.
+const GROUPS: [Row; 2] = [
     Row {
         name: "three steps and two ends take effect together",
         ahead: &[SHIPS, BOOKS],
@@ -119,6 +121,10 @@ const ROWS: [Row; 5] = [
         lefts: &RECORD,
         size: 2,
     },
+];
+
+// Pieces that keep nothing.
+const IDLE: [Row; 3] = [
     Row {
         name: "a step on the subsystem of one that is queued comes back",
         ahead: &[],
@@ -166,6 +172,16 @@ fn said_of(reply: &Queue) -> Said {
     }
 }
 
+// Any piece is asked for.
+fn ask<R: Rack + Drop, B: Resource>(engine: &mut Engine<R, B>, queued: &Queued) -> Next
+    requires { MayQueue B.meaning B.sort engine.old queued.now }
+    ensures queue { MayQueue B.meaning B.sort engine.new queued.now }
+    ensures given { IsGiven engine.new.core result }
+{
+    let reply = next(engine);
+    reply
+}
+
 // The next piece is done and queued, which keeps nothing.
 fn queue_next<H: Abort, R: Rack + Drop, B: Resource>(
     rt: &H,
@@ -175,7 +191,7 @@ fn queue_next<H: Abort, R: Rack + Drop, B: Resource>(
     requires { MayQueue B.meaning B.sort engine.old queued.old }
     ensures { MayQueue B.meaning B.sort engine.new queued.new }
 {
-    let Next::Piece(piece) = next(engine) else {
+    let Next::Piece(piece) = ask(engine, queued) else {
         panic!(rt; "no piece");
     };
     let kept = engine.kept().len();
@@ -244,18 +260,26 @@ fn expect_line<H: Abort, R: Rack + Drop, B: Resource>(
     }
 }
 
-// Nothing is queued yet at an engine that isn't closed.
-fn none_queued<R: Rack + Drop, B: Resource>(
-    alloc: Global,
-    engine: &Engine<R, B>,
-) -> Result<Queued, Fail>
+// The engine isn't closed.
+fn expect_open<H: Abort, R: Rack + Drop, B: Resource>(rt: &H, engine: &Engine<R, B>)
     requires { IsReady B.meaning B.sort engine.now }
-    ensures { IfOk result (MayQueue B.meaning B.sort engine.now) }
+    ensures { IsReadyToRun B.meaning B.sort engine.now }
 {
     let Ok(()) = engine.not_closed() else {
-        return Err("closed".into());
+        panic!(rt; "closed");
     };
-    Ok(Queued::new(alloc)?)
+}
+
+// So many turns.
+fn after_turns<R: Rack + Drop, B: Resource>(engine: Engine<R, B>, turns: usize) -> Engine<R, B>
+    requires { IsReady B.meaning B.sort engine }
+    ensures { IsReady B.meaning B.sort result }
+{
+    let mut engine = engine;
+    for _ in 0..turns {
+        take_turn(&mut engine, &mut PlainGate::new());
+    }
+    engine
 }
 
 // The processes of a row have started, and some have taken a turn.
@@ -267,13 +291,28 @@ fn started<B: Resource>(
     requires { AreBoxes B.sort resources.items }
     ensures { IfOk result (IsReady B.meaning B.sort) }
 {
-    let mut engine = created(alloc, resources)?;
-    start_all(alloc, &mut engine, row.ahead)?;
-    for _ in row.ahead {
-        take_turns(&mut engine, &mut PlainGate::new(), 1);
+    let engine = created(alloc, resources)?;
+    let engine = start_all(alloc, engine, row.ahead)?;
+    let engine = after_turns(engine, row.ahead.len());
+    start_all(alloc, engine, row.beside)
+}
+
+// These lines are played at an engine where nothing is queued.
+fn play<H: Abort, R: Rack + Drop, B: Resource>(
+    rt: &H,
+    engine: &mut Engine<R, B>,
+    queued: &mut Queued,
+    row: &Row,
+    lines: &[Line],
+)
+    requires ready { IsReady B.meaning B.sort engine.old }
+    requires none { queued.old ≡ [] }
+    ensures { MayQueue B.meaning B.sort engine.new queued.new }
+{
+    expect_open(rt, engine);
+    for line in lines {
+        expect_line(rt, engine, queued, line, row.name);
     }
-    start_all(alloc, &mut engine, row.beside)?;
-    Ok(engine)
 }
 
 // The engine behind these lines.
@@ -287,11 +326,9 @@ fn played<H: Abort, B: Resource>(
     requires { AreBoxes B.sort resources.items }
     ensures { IfOk result (IsReadyToRun B.meaning B.sort) }
 {
+    let mut queued = Queued::new(alloc)?;
     let mut engine = started(alloc, row, resources)?;
-    let mut queued = none_queued(alloc, &engine)?;
-    for line in lines {
-        expect_line(rt, &mut engine, &mut queued, line, row.name);
-    }
+    play(rt, &mut engine, &mut queued, row, lines);
     Ok(engine)
 }
 
@@ -325,7 +362,7 @@ fn whole_row<H: Abort, B: Resource>(
 {
     let (made, resources) = calls_before(rt, alloc, row, resources)?;
     let engine = played(rt, alloc, row, row.lines, resources)?;
-    whole_of(alloc, engine, made)
+    Ok(whole_of(rt, alloc, engine, made))
 }
 
 // Stops within each device call of the last line of a row.
@@ -351,17 +388,40 @@ fn expect_row<H: Abort, B: Resource>(
     Ok(resources)
 }
 
-/// A stop within any device call of a flush leaves the history before or with all that takes effect.
-pub fn expect_flushes<H: Abort, B: Resource>(
+// Stops within each device call of the last line of these rows.
+fn expect_rows<H: Abort, B: Resource>(
+    rt: &H,
+    alloc: Global,
+    rows: &[Row],
+    resources: Vec<B>,
+) -> Result<(), Fail>
+    requires { AreBoxes B.sort resources.items }
+{
+    let mut resources = resources;
+    for row in rows {
+        resources = expect_row(rt, alloc, row, resources)?;
+    }
+    Ok(())
+}
+
+/// A stop within any device call of a flush leaves the history before or with the whole group.
+pub fn expect_groups<H: Abort, B: Resource>(
     rt: &H,
     alloc: Global,
     resources: Vec<B>,
 ) -> Result<(), Fail>
     requires { AreBoxes B.sort resources.items }
 {
-    let mut resources = resources;
-    for row in &ROWS {
-        resources = expect_row(rt, alloc, row, resources)?;
-    }
-    Ok(())
+    expect_rows(rt, alloc, &GROUPS, resources)
+}
+
+/// A piece for which the group is full, and one that is dropped, keep nothing.
+pub fn expect_idle<H: Abort, B: Resource>(
+    rt: &H,
+    alloc: Global,
+    resources: Vec<B>,
+) -> Result<(), Fail>
+    requires { AreBoxes B.sort resources.items }
+{
+    expect_rows(rt, alloc, &IDLE, resources)
 }

@@ -2,7 +2,7 @@
 ghost use Rattle.std.specs.Prelude.{IfOk};
 ghost use Rattle.history_files.specs.Boxes.{AreBoxes};
 
-use crate::beginnings::{created, planned, start};
+use crate::beginnings::{created, planned, start_all};
 use crate::turns::{Turn, take_turn};
 use process_disk::Rack;
 use process_engine::{Engine, StartLimit, fits};
@@ -116,8 +116,8 @@ fn expect_turns<H: Abort, B: Resource, G: Gate>(
     requires { AreBoxes B.sort resources.items }
     ensures { IfOk result (λ boxes. AreBoxes B.sort boxes.items) }
 {
-    let mut engine = created(alloc, resources)?;
-    start(alloc, &mut engine, run.text)?;
+    let engine = created(alloc, resources)?;
+    let mut engine = start_all(alloc, engine, &[run.text])?;
     for (place, wanted) in run.turns.iter().enumerate() {
         let came = take_turn(&mut engine, gate);
         assert_eq!(rt; came, *wanted, "{}, turn {place}", run.name);
@@ -178,8 +178,8 @@ pub fn expect_room<H: Abort, B: Resource>(
 ) -> Result<(), Fail>
     requires { AreBoxes B.sort resources.items }
 {
-    let mut engine = created(alloc, resources)?;
-    start(alloc, &mut engine, FIRST)?;
+    let engine = created(alloc, resources)?;
+    let engine = start_all(alloc, engine, &[FIRST])?;
     let plan = planned(alloc, &engine, SECOND)?;
     assert_eq!(rt; limit_with(&engine, plan), Ok(()));
     Ok(())

@@ -9,7 +9,7 @@ use process_disk::{MemoryRack, Rack};
 use process_engine::{Engine, Parts};
 use resource_box::Resource;
 use schedule_model::Event;
-use std::alloc::Global;
+use std::alloc::{AllocError, Global};
 use std::process::Abort;
 use std::test::Fail;
 use subsystem_store::Effect;
@@ -118,7 +118,7 @@ fn count_after(around: Around, left: Left, stop: Stop) -> usize {
 fn books_of<R: Rack + Drop, B: Resource>(
     alloc: Global,
     engine: &Engine<R, B>,
-) -> Result<Vec<Vec<Effect>>, Fail> {
+) -> Result<Vec<Vec<Effect>>, AllocError> {
     let mut books = Vec::new(alloc);
     for q in 0..8 {
         books.push(engine.book(q).to_vec(alloc)?)?;
@@ -147,16 +147,21 @@ fn calls_to_create<H: Abort, B: Resource>(
 }
 
 /// A run that has come to its end; the boxes are handed back.
-pub fn whole_of<B: Resource>(
+pub fn whole_of<H: Abort, B: Resource>(
+    rt: &H,
     alloc: Global,
     engine: Engine<MemoryRack, B>,
     made: u32,
-) -> Result<(Whole, Vec<B>), Fail>
+) -> (Whole, Vec<B>)
     requires { EachFits B.meaning B.sort engine.files.stores }
-    ensures { IfOk result (λ run. AreBoxes B.sort run.1.items) }
+    ensures { AreBoxes B.sort result.1.items }
 {
-    let events = engine.history().events.as_slice().to_vec(alloc)?;
-    let books = books_of(alloc, &engine)?;
+    let Ok(events) = engine.history().events.as_slice().to_vec(alloc) else {
+        panic!(rt; "no memory");
+    };
+    let Ok(books) = books_of(alloc, &engine) else {
+        panic!(rt; "no memory");
+    };
     let Parts { rack, resources } = engine.into_parts();
     let whole = Whole {
         events,
@@ -164,7 +169,7 @@ pub fn whole_of<B: Resource>(
         rack,
         made,
     };
-    Ok((whole, resources))
+    (whole, resources)
 }
 
 fn whole_run<H: Abort, B: Resource>(
@@ -176,11 +181,11 @@ fn whole_run<H: Abort, B: Resource>(
     ensures { IfOk result (λ run. AreBoxes B.sort run.1.items) }
 {
     let (made, resources) = calls_to_create(rt, alloc, resources)?;
-    let mut engine = created(alloc, resources)?;
-    start_all(alloc, &mut engine, &TEXTS)?;
+    let engine = created(alloc, resources)?;
+    let mut engine = start_all(alloc, engine, &TEXTS)?;
     let end = take_turns(&mut engine, &mut PlainGate::new(), MOST_TURNS);
     assert_eq!(rt; end, Turn::AllEnded);
-    whole_of(alloc, engine, made)
+    Ok(whole_of(rt, alloc, engine, made))
 }
 
 // The book has the effects of so many acts of the whole run.

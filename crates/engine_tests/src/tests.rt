@@ -2,7 +2,7 @@
 ghost use Rattle.history_files.specs.Boxes.{AreBoxes};
 
 use crate::boxes::boxes;
-use crate::flushes::expect_flushes;
+use crate::flushes::{expect_groups, expect_idle};
 use crate::gates::{expect_room, expect_runs};
 use crate::stops::expect_any_stop;
 use resource_box::Resource;
@@ -12,7 +12,8 @@ use std::test::Fail;
 
 #[derive(Clone, Copy)]
 enum Test {
-    Flushes,
+    Groups,
+    Idle,
     Room,
     Runs,
     Stops,
@@ -28,7 +29,8 @@ fn run<H: Abort>(
     requires { AreBoxes (λ b. sort b) boxes.items }
 {
     match test {
-        Test::Flushes => expect_flushes(rt, alloc, boxes),
+        Test::Groups => expect_groups(rt, alloc, boxes),
+        Test::Idle => expect_idle(rt, alloc, boxes),
         Test::Room => expect_room(rt, alloc, boxes),
         Test::Runs => expect_runs(rt, alloc, boxes),
         Test::Stops => expect_any_stop(rt, alloc, boxes),
@@ -62,5 +64,10 @@ fn a_stop_within_any_device_call_leaves_the_history_before_or_with_the_event(
 fn a_stop_within_any_device_call_of_a_flush_leaves_the_history_before_or_with_the_whole_group(
     rt: HostRuntime,
 ) -> Result<(), Fail> {
-    with_boxes(&rt, rt.alloc(), Test::Flushes)
+    with_boxes(&rt, rt.alloc(), Test::Groups)
+}
+
+#[test]
+fn a_piece_that_is_full_or_dropped_keeps_nothing(rt: HostRuntime) -> Result<(), Fail> {
+    with_boxes(&rt, rt.alloc(), Test::Idle)
 }

@@ -34,13 +34,13 @@ fn expect_meeting<H: Abort + Threads + Wait + Sync, B: Resource + Send>(
 ) -> Result<(), Fail>
     requires { AreBoxes B.sort resources.items }
 {
-    let mut engine = created(alloc, resources)?;
-    start_all(alloc, &mut engine, &TEXTS)?;
-    let Ok(()) = engine.not_closed() else {
-        return Err("closed".into());
-    };
     let (one, other) = MeetingGate::pair(alloc, LOOKS)?;
     let gates = vec![in alloc; one, other]?;
+    let engine = created(alloc, resources)?;
+    let engine = start_all(alloc, engine, &TEXTS)?;
+    let Ok(()) = engine.not_closed() else {
+        panic!(rt; "closed");
+    };
     let Ran {
         engine,
         gates,
