@@ -9,25 +9,33 @@ use cascade::{Members, closure, undo_ready};
 use hold_tables::{Admitted, Blocked, Holds, Rule};
 use process_tree::Mode;
 use std::alloc::Global;
+use std::process::Abort;
 use std::test::Fail;
 
 /// The three are open.
-fn all_open(alloc: Global) -> Result<Holds, Fail>
+fn all_open<H: Abort>(rt: &H, alloc: Global) -> Result<Holds, Fail>
     ensures { IfOk result
         (λ holds. holds ≡ opened 3 1 (opened 2 1 (opened 1 1 (none_open (with_mode (no_conflicts 1) 0 0 Mode.Always))))) }
 {
     let conflicts = one_conflict(alloc, Mode::Always)?;
     let plan = one_step(alloc)?;
     let mut holds = Holds::new(alloc, &conflicts)?;
-    holds.open(1, &plan)?;
-    holds.open(2, &plan)?;
-    holds.open(3, &plan)?;
+    let Ok(()) = holds.open(1, &plan) else {
+        panic!(rt; "no memory");
+    };
+    let Ok(()) = holds.open(2, &plan) else {
+        panic!(rt; "no memory");
+    };
+    let Ok(()) = holds.open(3, &plan) else {
+        panic!(rt; "no memory");
+    };
     Ok(holds)
 }
 
 #[test]
 fn whoever_has_built_on_it_goes_back(rt: HostRuntime) -> Result<(), Fail> {
-    let mut holds = all_open(rt.alloc())?;
+    let mut members = Members::new(rt.alloc(), 3)?;
+    let mut holds = all_open(&rt, rt.alloc())?;
     holds.run(entry(1, 0, 0, 0));
     holds.take_effect(1);
     holds.run(entry(2, 0, 0, 0));
@@ -35,7 +43,6 @@ fn whoever_has_built_on_it_goes_back(rt: HostRuntime) -> Result<(), Fail> {
     holds.run(entry(3, 0, 0, 0));
     holds.pend(1, 1);
     holds.pend(2, 1);
-    let mut members = Members::new(rt.alloc(), 3)?;
     for (root, count, first, second, third) in [
         (1, 1, true, true, true),
         (2, 1, false, true, true),

@@ -7,23 +7,28 @@ use crate::plans::{entry, one_conflict, one_step};
 use hold_tables::Holds;
 use process_tree::Mode;
 use std::alloc::Global;
+use std::process::Abort;
 use std::test::Fail;
 
 /// Processes 1 and 2 are open, whose steps conflict in this mode.
-fn both_open(alloc: Global, mode: Mode) -> Result<Holds, Fail>
+fn both_open<H: Abort>(rt: &H, alloc: Global, mode: Mode) -> Result<Holds, Fail>
     ensures { IfOk result (λ holds. holds ≡ opened 2 1 (opened 1 1 (none_open (with_mode (no_conflicts 1) 0 0 mode)))) }
 {
     let conflicts = one_conflict(alloc, mode)?;
     let plan = one_step(alloc)?;
     let mut holds = Holds::new(alloc, &conflicts)?;
-    holds.open(1, &plan)?;
-    holds.open(2, &plan)?;
+    let Ok(()) = holds.open(1, &plan) else {
+        panic!(rt; "no memory");
+    };
+    let Ok(()) = holds.open(2, &plan) else {
+        panic!(rt; "no memory");
+    };
     Ok(holds)
 }
 
 #[test]
 fn what_is_held_stands_against_the_other_process(rt: HostRuntime) -> Result<(), Fail> {
-    let mut holds = both_open(rt.alloc(), Mode::Always)?;
+    let mut holds = both_open(&rt, rt.alloc(), Mode::Always)?;
     holds.run(entry(1, 0, 0, 0));
     holds.take_effect(1);
     holds.reserve(2, &[(0, 0, 0)]);
@@ -42,7 +47,7 @@ fn what_is_held_on_another_key_stands_only_against_what_conflicts_always(
     rt: HostRuntime,
 ) -> Result<(), Fail> {
     for (mode, on_another_key) in [(Mode::Key, None), (Mode::Always, Some((2, 0)))] {
-        let mut holds = both_open(rt.alloc(), mode)?;
+        let mut holds = both_open(&rt, rt.alloc(), mode)?;
         holds.reserve(2, &[(0, 0, 7)]);
         assert_eq!(rt; holds.holder_against(1, 0, 7), Some((2, 0)));
         assert_eq!(rt; holds.holder_against(1, 0, 8), on_another_key);
