@@ -7,7 +7,7 @@ ghost use Rattle.core_tests.specs.Pieces.{AreHandedBy, StayHanded};
 
 use machine_model::{Blocked, Rule};
 use process_core::{Aborted, Admit, Core, Next, Piece, PieceState, Refusal, Waiting, Work};
-use std::test::Fail;
+use std::alloc::AllocError;
 
 /// A call of a core.
 #[derive(Clone, Copy, Debug, PartialEq, Eq)]
@@ -92,7 +92,7 @@ fn wait_of(waiting: Option<Waiting>) -> Answer {
 }
 
 // Asks for a piece of a process, and keeps it.
-fn admitted(core: &mut Core, pieces: &mut Vec<Piece>, i: u32) -> Result<Answer, Fail>
+fn admitted(core: &mut Core, pieces: &mut Vec<Piece>, i: u32) -> Result<Answer, AllocError>
     requires { AreHandedBy core.old pieces.old.items }
     ensures pieces { IfOk result (λ _. AreHandedBy core.new pieces.new.items) }
     ensures conflicts { IfOk result (λ _. core.new.conflicts ≡ core.old.conflicts) }
@@ -114,7 +114,7 @@ fn admitted(core: &mut Core, pieces: &mut Vec<Piece>, i: u32) -> Result<Answer, 
 }
 
 // Asks for any piece, and keeps it.
-fn chosen(core: &mut Core, pieces: &mut Vec<Piece>) -> Result<Answer, Fail>
+fn chosen(core: &mut Core, pieces: &mut Vec<Piece>) -> Result<Answer, AllocError>
     requires { AreHandedBy core.old pieces.old.items }
     ensures pieces { IfOk result (λ _. AreHandedBy core.new pieces.new.items) }
     ensures conflicts { IfOk result (λ _. core.new.conflicts ≡ core.old.conflicts) }
@@ -186,7 +186,7 @@ fn finished(core: &mut Core, pieces: &mut Vec<Piece>, number: u32, is_done: bool
 }
 
 /// What a call answers.
-pub fn reply_to(core: &mut Core, pieces: &mut Vec<Piece>, call: Call) -> Result<Answer, Fail>
+pub fn reply_to(core: &mut Core, pieces: &mut Vec<Piece>, call: Call) -> Result<Answer, AllocError>
     requires { AreHandedBy core.old pieces.old.items }
     ensures pieces { IfOk result (λ _. AreHandedBy core.new pieces.new.items) }
     ensures conflicts { IfOk result (λ _. core.new.conflicts ≡ core.old.conflicts) }

@@ -1,5 +1,5 @@
 // Plays: calls of a core on which processes have started, and what comes of them.
-ghost use Rattle.std.specs.Prelude.{◌≡◌, IfOk};
+ghost use Rattle.std.specs.Prelude.{◌≡◌};
 ghost use Rattle.core_tests.specs.Pieces.{AreHandedBy};
 
 use crate::calls::{Answer, Call, reply_to};
@@ -70,16 +70,17 @@ fn expect_turns<H: Abort>(
     pieces: &mut Vec<Piece>,
     name: &str,
     turns: &[(Call, Answer)],
-) -> Result<(), Fail>
+)
     requires { AreHandedBy core.old pieces.old.items }
-    ensures pieces { IfOk result (λ _. AreHandedBy core.new pieces.new.items) }
-    ensures conflicts { IfOk result (λ _. core.new.conflicts ≡ core.old.conflicts) }
+    ensures pieces { AreHandedBy core.new pieces.new.items }
+    ensures conflicts { core.new.conflicts ≡ core.old.conflicts }
 {
     for (turn, (call, wanted)) in turns.iter().enumerate() {
-        let answered = reply_to(core, pieces, *call)?;
+        let Ok(answered) = reply_to(core, pieces, *call) else {
+            panic!(rt; "no memory");
+        };
         assert_eq!(rt; answered, *wanted, "{name}, turn {turn}: {call:?}");
     }
-    Ok(())
 }
 
 /// Each call has its answer, those of an opening and then these.
@@ -90,12 +91,12 @@ pub fn expect_answers<H: Abort>(
     name: &str,
     opening: &[(Call, Answer)],
     turns: &[(Call, Answer)],
-) -> Result<(), Fail>
-    ensures { IfOk result (λ _. core.new.conflicts ≡ core.old.conflicts) }
+)
+    ensures { core.new.conflicts ≡ core.old.conflicts }
 {
     let mut pieces = Vec::new(alloc);
-    expect_turns(rt, core, &mut pieces, name, opening)?;
-    expect_turns(rt, core, &mut pieces, name, turns)
+    expect_turns(rt, core, &mut pieces, name, opening);
+    expect_turns(rt, core, &mut pieces, name, turns);
 }
 
 fn expect_history<H: Abort>(rt: &H, core: &Core, play: &Play) {
@@ -122,7 +123,7 @@ fn expect_beginnings<H: Abort>(rt: &H, core: &Core, play: &Play) {
 fn expect_play<H: Abort>(rt: &H, alloc: Global, play: &Play) -> Result<(), Fail> {
     let catalog = catalog(alloc)?;
     let mut core = started(alloc, &catalog, play.texts)?;
-    expect_answers(rt, alloc, &mut core, play.name, play.opening, play.turns)?;
+    expect_answers(rt, alloc, &mut core, play.name, play.opening, play.turns);
     expect_history(rt, &core, play);
     expect_beginnings(rt, &core, play);
     Ok(())

@@ -1,6 +1,6 @@
 // What no clause says: that each call which wants memory succeeds where there is enough. A core opens, and a process starts in room
 // that was made before.
-ghost use Rattle.std.specs.Prelude.{◌≡◌, ◌<◌, IfOk};
+ghost use Rattle.std.specs.Prelude.{◌≡◌, ◌<◌};
 ghost use Rattle.process_tree.specs.Conflicts.{operations_in};
 ghost use Rattle.process_tree.specs.Order.{Each};
 ghost use Rattle.schedule_model.specs.Laws.{IsGoodPlan};
@@ -30,34 +30,34 @@ fn a_core_opens_on_nothing(rt: HostRuntime) -> Result<(), Fail> {
 }
 
 // The room for a process of this plan.
-fn room_for(core: &Core, plan: Plan) -> Result<StartRoom, Fail>
+fn room_for<H: Abort>(rt: &H, core: &Core, plan: Plan) -> StartRoom
     requires good { IsGoodPlan plan }
     requires known { Each (λ op. op < operations_in core.now.conflicts) plan.ops }
-    ensures room { IfOk result (λ room. IsRoomFor core.now room) }
-    ensures plan { IfOk result (λ room. room.plan ≡ plan) }
+    ensures room { IsRoomFor core.now result }
+    ensures plan { result.plan ≡ plan }
 {
-    match core.make_room(plan) {
-        Ok(room) => Ok(room),
-        Err(_) => Err("no room".into()),
-    }
+    let Ok(room) = core.make_room(plan) else {
+        panic!(rt; "no room");
+    };
+    room
 }
 
 // The process of a plan starts in room that was made for it, given back with the plan and made again. The answer is its number.
-fn start_in_room(core: &mut Core, plan: Plan) -> Result<u32, Fail>
+fn start_in_room<H: Abort>(rt: &H, core: &mut Core, plan: Plan) -> u32
     requires good { IsGoodPlan plan }
     requires known { Each (λ op. op < operations_in core.old.conflicts) plan.ops }
 {
-    let given_back = room_for(core, plan)?.into_plan();
-    let room = room_for(core, given_back)?;
-    Ok(core.start_in(room))
+    let given_back = room_for(rt, core, plan).into_plan();
+    let room = room_for(rt, core, given_back);
+    core.start_in(room)
 }
 
 // A core on which a purchase has started, and a sale in room that was made before, with the number of the sale.
-fn sale_in_room(alloc: Global) -> Result<(Core, u32), Fail> {
+fn sale_in_room<H: Abort>(rt: &H, alloc: Global) -> Result<(Core, u32), Fail> {
     let catalog = catalog(alloc)?;
-    let mut core = started(alloc, &catalog, &[PURCHASE])?;
     let plan = planned(alloc, SALE, &catalog)?;
-    let number = start_in_room(&mut core, plan)?;
+    let mut core = started(alloc, &catalog, &[PURCHASE])?;
+    let number = start_in_room(rt, &mut core, plan);
     Ok((core, number))
 }
 
@@ -75,8 +75,9 @@ const SOLD: &[(Call, Answer)] = &[
 #[test]
 fn a_process_starts_in_room_that_was_made_before(rt: HostRuntime) -> Result<(), Fail> {
     let alloc = rt.alloc();
-    let (mut core, number) = sale_in_room(alloc)?;
+    let (mut core, number) = sale_in_room(&rt, alloc)?;
     assert_eq!(rt; number, 2);
     expect_two_starts(&rt, &core);
-    expect_answers(&rt, alloc, &mut core, "started in room", &[], SOLD)
+    expect_answers(&rt, alloc, &mut core, "started in room", &[], SOLD);
+    Ok(())
 }

@@ -8,6 +8,7 @@ use process_core::{Core, Refusal, Work};
 use process_tree::Conflicts;
 use schedule_model::{Events, History, Plans};
 use std::alloc::Global;
+use std::process::Abort;
 use std::test::Fail;
 
 // A core that opens on the history of another of one process.
@@ -49,14 +50,22 @@ const LATER: [(Call, Answer); 8] = [
     (Call::Done(4), Answer::Effected(4)),
 ];
 
-#[test]
-fn each_session_counts_its_own_tries(rt: HostRuntime) -> Result<(), Fail> {
-    let alloc = rt.alloc();
+// A core of a second session, on the history of a first.
+fn second_session<H: Abort>(rt: &H, alloc: Global) -> Result<Core, Fail> {
     let catalog = catalog(alloc)?;
     let texts: [&[u8]; 1] = [b"process a p x pay 1 5 r y ship 1 1 tries 3 end"];
     let mut core = started(alloc, &catalog, &texts)?;
-    expect_answers(&rt, alloc, &mut core, "the first session", &[], &FIRST)?;
-    let conflicts = catalog.conflicts.copy(alloc)?;
-    let mut later = opened_again(alloc, &core, conflicts)?;
-    expect_answers(&rt, alloc, &mut later, "the later session", &[], &LATER)
+    expect_answers(rt, alloc, &mut core, "the first session", &[], &FIRST);
+    let Ok(conflicts) = catalog.conflicts.copy(alloc) else {
+        panic!(rt; "no memory");
+    };
+    opened_again(alloc, &core, conflicts)
+}
+
+#[test]
+fn each_session_counts_its_own_tries(rt: HostRuntime) -> Result<(), Fail> {
+    let alloc = rt.alloc();
+    let mut later = second_session(&rt, alloc)?;
+    expect_answers(&rt, alloc, &mut later, "the later session", &[], &LATER);
+    Ok(())
 }
