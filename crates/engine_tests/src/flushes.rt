@@ -216,10 +216,8 @@ fn complete<H: Abort, R: Rack + Drop, B: Resource>(
 
 fn expect_ends<H: Abort>(rt: &H, group: &Group, wanted: &[(u32, GroupEnd)], name: &str) {
     assert_eq!(rt; usize::from(group.len()), wanted.len(), "{name}");
-    let mut n = 0;
-    while n < group.len() {
+    for n in 0..group.len() {
         assert_eq!(rt; Some(&group.at(n)), wanted.get(usize::from(n)), "{name}");
-        n += 1;
     }
 }
 
