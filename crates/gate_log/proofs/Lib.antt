@@ -8,3 +8,4 @@ mod Retracting
 pub mod Staging
 pub mod StagedImages
 pub mod Standing
+mod WholeFile

@@ -24,7 +24,8 @@ pub fn write_and_sync<R: Rack>(rack: &mut R, file: u8, at: u64, bytes: &[u8]) ->
     rack.sync()
 }
 
-/// All the bytes of a file.
+/// All the bytes of a file. Where a writer beside it makes the file longer, it reads on up to an end: so it has the body of each gate
+/// that it sees open.
 pub fn whole_file<R: Rack>(alloc: Global, rack: &mut R, file: u8) -> Result<Vec<u8>, LogError>
     requires { file < 9 }
     ensures bytes { Told (R.disk rack.old) → IfOk result (λ bytes. bytes.items ≡ file_of (R.disk rack.old).files file) }
@@ -33,10 +34,14 @@ pub fn whole_file<R: Rack>(alloc: Global, rack: &mut R, file: u8) -> Result<Vec<
     ensures quiet { OnOk result (R.faults rack.new ≡ R.faults rack.old) }
     ensures refused { IfErr result (λ e. (e ≡ LogError.DiskFault) ⊎ (e ≡ LogError.NoMemory)) }
 {
-    let len = rack.len(file)?;
     let mut bytes = Vec::new(alloc);
-    bytes.resize(len as usize, 0)?;
-    let count = rack.read(file, 0, &mut bytes)?;
+    let mut count = 0;
+    while count == bytes.len() {
+        let len = rack.len(file)?;
+        bytes.resize(count.max(len as usize).saturating_add(1), 0)?;
+        let (_, rest) = bytes.split_at_mut(count);
+        count += rack.read(file, count as u64, rest)?;
+    }
     bytes.truncate(count);
     Ok(bytes)
 }

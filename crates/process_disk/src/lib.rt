@@ -16,4 +16,4 @@ mod rack;
 mod stop;
 
 pub use memory::MemoryRack;
-pub use rack::Rack;
+pub use rack::{Rack, racks_are_honest};

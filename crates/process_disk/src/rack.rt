@@ -49,3 +49,8 @@ pub trait Rack {
 
     ghost honest: { (rack : Self) → Told (disk rack) → IsHonest (disk rack) };
 }
+
+/// A rack that tells its bytes tells what a crash may leave of them: its law, for who runs it in threads.
+pub fn racks_are_honest<R: Rack>()
+    ensures { (rack : R) → Told (R.disk rack) → IsHonest (R.disk rack) }
+{}

@@ -9,11 +9,11 @@ ghost use Rattle.process_top.specs.Run.{first_gates, gates_asked};
 ghost use Rattle.process_top.specs.Worlds.{files, input, gates as told_gates};
 
 use command_refusals::{Refusal, Status};
-use process_disk::Rack;
+use process_disk::{Rack, racks_are_honest};
 use process_engine::{Gate, Parts};
 use process_flow::Source;
 use resource_box::Resource;
-use scenario_run::{RunEnd, racks_are_honest, run};
+use scenario_run::{RunEnd, run};
 use std::alloc::Global;
 use std::sync::Wait;
 use std::thread::Threads;

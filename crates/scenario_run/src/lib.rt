@@ -10,14 +10,12 @@
 #![tactic(auto)]
 
 mod opening;
-mod racks;
 mod reporting;
 mod running;
 mod scenario;
 mod starting;
 
 pub use opening::{NotOpened, open_refusal, opened, opened_with};
-pub use racks::racks_are_honest;
 pub use reporting::{report_now, stuck_report, stuck_step};
 pub use running::{RunEnd, all_fit, run};
 pub use scenario::{said_of_none, scenario_from};

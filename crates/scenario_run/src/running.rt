@@ -26,14 +26,13 @@ ghost use Rattle.scenario_run.specs.Run.{HasGone, IsRefusedOn, IsRunDue, IsRunOf
 ghost use Rattle.scenario_run.specs.Stops.{IsStopped};
 
 use crate::opening::opened;
-use crate::racks::racks_are_honest;
 use crate::reporting::{report_now, stuck_report};
 use crate::scenario::{said_of_none, scenario_from};
 use crate::starting::start_all;
 use command_input::{Bound, CommandEnd, Said};
 use command_refusals::{Quantity, Refusal, Status};
 use history_opening::sound_files_are_opened;
-use process_disk::Rack;
+use process_disk::{Rack, racks_are_honest};
 use process_engine::{Engine, Gate, Parts, StartLimit, fits};
 use process_flow::Source;
 use process_tree::Plan;

@@ -1,4 +1,0 @@
-use Rattle.scenario_run.proofs.racks.racks_are_honest.Goals as goal
-
-pub returns : goal.returns
-returns g c = g.met.R.Rack.honest
