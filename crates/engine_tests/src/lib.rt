@@ -8,6 +8,8 @@ mod beginnings;
 #[cfg(test)]
 mod boxes;
 #[cfg(test)]
+mod flush_rows;
+#[cfg(test)]
 mod flushes;
 #[cfg(test)]
 mod gates;
