@@ -1,4 +1,5 @@
 pub mod BulkParts
 pub mod Complete
 pub mod Counted
+pub mod GoneAlone
 pub mod MadeAnew

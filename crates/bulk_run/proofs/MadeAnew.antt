@@ -28,10 +28,10 @@ use Rattle.command_refusals.specs.declared.refusal.Refusal.{Refusal}
 use Rattle.command_input.specs.declared.said.Said.{Said}
 use Rattle.command_input.specs.FilesLeft.{files}
 use Rattle.init_run.specs.Init.{AreMade}
-use Rattle.scenario_run.specs.Run.{HasGone, one_gate}
-use Rattle.scenario_run.specs.Stops.{IsStopped}
+use Rattle.scenario_run.specs.Run.{one_gate}
+use Rattle.scenario_run.specs.Stops.{IsStoppedBy}
 use Rattle.history_opening.proofs.Rising.{rose_later}
-use Rattle.bulk_run.specs.Bulk.{AreMadeAndKept, IsBulkOf, SaysBulk}
+use Rattle.bulk_run.specs.Bulk.{AreMadeAndKept, HasGoneAlone, IsBulkOf, SaysBulk}
 
 -- an engine in which nothing has happened
 module _ {R B : Type 0} (d : Catalog) (e : EngineState R B) (new : IsNew d e) where
@@ -56,7 +56,7 @@ module _ {R B : Type 0} (r : Racks R) (honest : (rack : R) → Told (r.disk rack
     (empty : Told (r.disk entry) → first_used (r.disk entry).files ≡ None)
     (made : Told (r.disk opening.files.rack) → IsSound opening.catalog (full_history opening.core) (r.disk opening.files.rack).files)
     (made_each : Told (r.disk opening.files.rack) → EachImage (r.disk opening.files.rack) (r.disk opening.files.rack).moment (IsSound opening.catalog (full_history opening.core)))
-    (goes : GoesOn r.disk r.faults plans opening now)
+    (goes : GoesOn r plans opening now)
     (read : now.phase ≡ Settled → Told (r.disk now.files.rack) → IsSound now.catalog (full_history now.core) (r.disk now.files.rack).files)
     (each : now.phase ≡ Settled → Told (r.disk now.files.rack) → EachImage (r.disk now.files.rack) (r.disk now.files.rack).moment (IsSound now.catalog (full_history now.core)))
     (handed : back ≡ now.files.rack) where
@@ -113,10 +113,10 @@ module _ {R B : Type 0} (r : Racks R) (honest : (rack : R) → Told (r.disk rack
             (subst (λ h. EachImage settled settled.moment (IsSound opening.catalog h)) (no_history_yet d opening new) (made_each (told_settled told)));
       })
 
-  gone_anew : (started : List Plan) → HasGone (one_gate gate) opening.catalog (full_history opening.core) started now.core → HasGone (one_gate gate) d no_history started now.core
-  gone_anew started gone = subst (λ c. HasGone (one_gate gate) c no_history started now.core) new.catalog (subst (λ h. HasGone (one_gate gate) opening.catalog h started now.core) (no_history_yet d opening new) gone)
+  gone_anew : (started : List Plan) → HasGoneAlone gate opening.catalog (full_history opening.core) started now.core → HasGoneAlone gate d no_history started now.core
+  gone_anew started gone = subst (λ c. HasGoneAlone gate c no_history started now.core) new.catalog (subst (λ h. HasGoneAlone gate opening.catalog h started now.core) (no_history_yet d opening new) gone)
 
-  stopped : (x : Refusal) → IsStopped (one_gate gate) r.faults opening now plans x → IsBulkOf gate d plans (files r entry) (files r back) (Err x)
+  stopped : (x : Refusal) → IsStoppedBy (HasGoneAlone gate opening.catalog (full_history opening.core)) (one_gate gate) r.faults opening now plans x → IsBulkOf gate d plans (files r entry) (files r back) (Err x)
   stopped x (inl (limit, said, passed, same, unasked)) =
       inr (inl (limit, said, subst (λ (core : CoreState). limit_passed core plans ≡ Some limit) new.core passed, made_still same))
   stopped x (inr (started, rest, all, gone, inl (said, on))) = inr (inr (started, rest, now.core, all, inl (said, (gone_anew started gone, kept_on Settled on))))
@@ -133,7 +133,7 @@ module _ {R B : Type 0} (r : Racks R) (honest : (rack : R) → Told (r.disk rack
         ),
       ))
 
-  pub run_anew_due : (found : Result Said Refusal) → IfOk found (λ s. HasGone (one_gate gate) opening.catalog (full_history opening.core) plans now.core × (now.phase ≡ Settled) × SaysBulk now.core s)
-      → IfErr found (IsStopped (one_gate gate) r.faults opening now plans) → IsBulkOf gate d plans (files r entry) (files r back) found
+  pub run_anew_due : (found : Result Said Refusal) → IfOk found (λ s. HasGoneAlone gate opening.catalog (full_history opening.core) plans now.core × (now.phase ≡ Settled) × SaysBulk now.core s)
+      → IfErr found (IsStoppedBy (HasGoneAlone gate opening.catalog (full_history opening.core)) (one_gate gate) r.faults opening now plans) → IsBulkOf gate d plans (files r entry) (files r back) found
   run_anew_due (Ok s) ran why = (now.core, (gone_anew plans ran.0, kept_on Settled ran.1), ran.2)
   run_anew_due (Err x) ran why = stopped x why

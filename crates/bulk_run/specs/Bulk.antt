@@ -6,6 +6,7 @@ use Rattle.process_disk.specs.Disk.{Disk, FileSet, Told}
 use Rattle.process_disk.specs.Images.{EachImage}
 use Rattle.process_tree.specs.declared.plan.Plan.{Plan}
 use Rattle.schedule_model.specs.declared.event.Event.{Event}
+use Rattle.schedule_model.specs.declared.history.History.{History}
 use Rattle.schedule_model.specs.Histories.{active}
 use Rattle.machine_model.specs.Calls.{next, next_is}
 use Rattle.machine_model.specs.Replies.{stuck}
@@ -22,6 +23,7 @@ use Rattle.engine_steps.specs.declared.engines.Phase.{Phase}
 use Rattle.engine_steps.specs.declared.engines.Phase.TheVariants.{Settled, Closed}
 use Rattle.engine_calls.specs.Acknowledged.{ComeInTurn, IsOneAhead, events_of}
 use Rattle.engine_calls.specs.GateAnswers.{AskedGate}
+use Rattle.worker_gate.specs.Running.{AreTurns}
 use Rattle.command_refusals.specs.declared.refusal.Refusal.{Refusal}
 use Rattle.command_refusals.specs.declared.refusal.Refusal.TheVariants.{DiskFault, NoMemory}
 use Rattle.command_refusals.specs.declared.status.Status.TheVariants as statuses
@@ -31,9 +33,10 @@ use Rattle.command_input.specs.declared.scenario.NoPlans.{NoPlans}
 use Rattle.command_input.specs.FilesLeft.{Files, before_files}
 use Rattle.command_input.specs.Scenarios.{all_refusing, scenario_tests, IsBound}
 use Rattle.init_run.specs.Init.{empty_test, AreMade, AreNotMade}
-use Rattle.scenario_run.specs.Reports.{exhausted_line}
+use Rattle.scenario_run.specs.Reports.{HasUsedUp, exhausted_line}
 use Rattle.scenario_run.specs.Run.{HasGone, limit_refusal, one_gate}
 use Rattle.scenario_run.specs.Scenario.{IsSaidOfNone}
+use Rattle.scenario_run.specs.Starting.{started_on}
 use Rattle.bulk_run.specs.Summary.{summary_line, summary_of}
 
 -- At some moment between an earlier disk and a later one the files were made; of that moment this holds.
@@ -54,11 +57,18 @@ pub record AreMadeAndKept (c : Catalog) (now : CoreState) (IsAhead : FileSet →
   pub read : on ≡ Settled → Told old → IsSound c (full_history now) new.files
   pub each : on ≡ Settled → Told old → EachImage new new.moment (IsSound c (full_history now))
 
+-- The machine opened on this history, in which no process is active. Processes of these plans started, in this order, and since
+-- then all were only run, by this gate, in turns one after another, each of which hands out a piece and ends it, or not.
+pub record HasGoneAlone (gate : AskedGate) (c : Catalog) (h : History) (started : List Plan) (now : CoreState) : Type 0 where
+  pub gone : HasGone (one_gate gate) c h started now
+  pub cores : List CoreState
+  pub turns : AreTurns cores (started_on c h started) now
+
 -- A run on files that were made for it, up to now. The machine opened on a history without events; processes of these plans
--- started, in this order, and since then all were only run, by the gate.
+-- started, in this order, and since then all were only run, by the gate, turn by turn.
 abbrev pub IsRunAnew : AskedGate → Catalog → List Plan → List Plan → CoreState → Phase → Files → Files → Type 0
 IsRunAnew gate c plans started now on before after =
-    HasGone (one_gate gate) c no_history started now × AreMadeAndKept c now (IsOneAhead c plans now on) on before.disk after.disk
+    HasGoneAlone gate c no_history started now × AreMadeAndKept c now (IsOneAhead c plans now on) on before.disk after.disk
 
 -- The files were made, and the processes don't all fit within the limits: nothing was kept.
 abbrev pub IsPastLimitAnew : Catalog → List Plan → Files → Files → Refusal → Type 0
@@ -93,12 +103,12 @@ IsCutOffAnew gate c plans before after r =
 abbrev pub line_in : CoreState → List ℕ
 line_in core = summary_line (summary_of (full_history core))
 
--- All have ended, and the line of the history is printed; or this process is stuck, since it has no try left, and behind the line
--- stands one that says so.
+-- All have ended, and the line of the history is printed; or this process is stuck, since its next piece was refused as often as it
+-- may be tried, and behind the line stands one that says so.
 abbrev pub SaysBulk : CoreState → Said → Type 0
 SaysBulk now said =
     ((said.status ≡ statuses.Done) × (active (history_of now) ≡ []) × (said.text.items ≡ line_in now))
-    ⊎ ((i : ℕ) × (said.status ≡ statuses.Exhausted) × ((answer_in now next).reply ≡ next_is (stuck i))
+    ⊎ ((i : ℕ) × (said.status ≡ statuses.Exhausted) × ((answer_in now next).reply ≡ next_is (stuck i)) × HasUsedUp now i
     × (said.text.items ≡ line_in now ++ exhausted_line now i))
 
 -- What there is to say of a run of these processes on files that are made for them: its line. Else it is refused, in this order:

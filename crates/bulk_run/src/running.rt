@@ -16,12 +16,12 @@ ghost use Rattle.engine_calls.specs.GateAnswers.{asked};
 ghost use Rattle.engine_calls.specs.Runs.{GoesOn, IsReady};
 ghost use Rattle.worker_gate.specs.Running.{NothingRuns, RanBy};
 ghost use Rattle.command_input.specs.Early.{comes_before_files};
-ghost use Rattle.command_input.specs.FilesLeft.{files};
+ghost use Rattle.command_input.specs.FilesLeft.{AreLeft, files};
 ghost use Rattle.command_input.specs.Scenarios.{IsBound, IsNotBound};
 ghost use Rattle.scenario_gen.specs.Generated.{generated};
-ghost use Rattle.scenario_run.specs.Run.{HasGone, one_gate};
-ghost use Rattle.scenario_run.specs.Stops.{IsStopped};
-ghost use Rattle.bulk_run.specs.Bulk.{IsBulkDue, IsBulkOf, SaysBulk};
+ghost use Rattle.scenario_run.specs.Run.{one_gate};
+ghost use Rattle.scenario_run.specs.Stops.{IsStoppedBy};
+ghost use Rattle.bulk_run.specs.Bulk.{HasGoneAlone, IsBulkDue, IsBulkOf, SaysBulk};
 ghost use Rattle.bulk_run.specs.Completeness.{IsBulkComplete};
 
 use crate::saying::said_of;
@@ -54,15 +54,15 @@ fn run_started<R: Rack + Drop, B: Resource, G: Gate>(
     engine: &mut Engine<R, B>,
     gate: &mut G,
 ) -> Result<Said, Refusal>
-    requires ready { IsReady B.meaning B.sort engine.old }
+    requires ready { IsReady B.Resource engine.old }
     requires alone { NothingRuns engine.old.core }
-    ensures ran { RanBy R.disk R.faults (asked G.Gate gate.old gate.new) engine.old engine.new }
+    ensures ran { RanBy R.Rack (asked G.Gate gate.old gate.new) engine.old engine.new }
     ensures said { IfOk result (λ s. (engine.new.phase ≡ phase.Settled) × SaysBulk engine.new.core s) }
     ensures refused { IfErr result
         (λ r. ((r ≡ Refusal.NoMemory) × (engine.new.phase ≡ phase.Settled))
         ⊎ ((r ≡ Refusal.DiskFault) × (engine.new.phase ≡ phase.Closed)
         × Rose (R.faults engine.old.files.rack) (R.faults engine.new.files.rack))) }
-    ensures fits { EachFits B.meaning B.sort engine.new.files.stores }
+    ensures fits { EachFits B.Resource engine.new.files.stores }
 {
     let outcome = run_alone(engine, gate);
     said_of(alloc, engine, outcome)
@@ -77,16 +77,17 @@ fn run_on<R: Rack + Drop, B: Resource, G: Gate>(
 ) -> Result<Said, Refusal>
     requires opened { IsOpened engine.old }
     requires idle { active (history_of engine.old.core) ≡ [] }
-    requires fits { EachFits B.meaning B.sort engine.old.files.stores }
+    requires fits { EachFits B.Resource engine.old.files.stores }
     requires plans { Each (λ p. IsPlanFor engine.old.catalog p × IsGoodPlan p) plans.items }
     requires few { length plans.items ≤ 256 }
-    ensures goes { GoesOn R.disk R.faults plans.items engine.old engine.new }
+    ensures goes { GoesOn R.Rack plans.items engine.old engine.new }
     ensures ran { IfOk result
-        (λ s. HasGone (one_gate (asked G.Gate gate.old gate.new)) engine.old.catalog (full_history engine.old.core) plans.items
+        (λ s. HasGoneAlone (asked G.Gate gate.old gate.new) engine.old.catalog (full_history engine.old.core) plans.items
         engine.new.core × (engine.new.phase ≡ phase.Settled) × SaysBulk engine.new.core s) }
     ensures refused { IfErr result
-        (λ r. IsStopped (one_gate (asked G.Gate gate.old gate.new)) R.faults engine.old engine.new plans.items r) }
-    ensures fits { EachFits B.meaning B.sort engine.new.files.stores }
+        (λ r. IsStoppedBy (HasGoneAlone (asked G.Gate gate.old gate.new) engine.old.catalog (full_history engine.old.core))
+        (one_gate (asked G.Gate gate.old gate.new)) R.faults engine.old engine.new plans.items r) }
+    ensures fits { EachFits B.Resource engine.new.files.stores }
 {
     engine.invariant_holds();
     all_fit(engine, &plans)?;
@@ -116,8 +117,7 @@ fn run_anew<R: Rack + Drop, B: Resource, G: Gate>(
     ensures late { IfErr result.found (λ r. comes_before_files r ≡ false) }
     ensures said { IfOk result.found (λ s. s.status ≢ Status.IllFormed) }
     ensures back { AreBoxes B.sort result.parts.resources.items }
-    ensures tells { (R.disk result.parts.rack).tells ≡ (R.disk parts.rack).tells }
-    ensures later { R.faults parts.rack ≤ R.faults result.parts.rack }
+    ensures left { AreLeft (files R.Rack parts.rack) (files R.Rack result.parts.rack) }
 {
     let Bound { catalog, plans } = bound;
     match Engine::create(alloc, parts, catalog) {
@@ -156,8 +156,7 @@ pub fn bulk<R: Rack + Drop, B: Resource, G: Gate>(
     ensures early { IfErr result.found (λ r. comes_before_files r ≡ true → result.parts.rack ≡ parts.rack) }
     ensures ill_formed { IfOk result.found (λ s. s.status ≡ Status.IllFormed → result.parts.rack ≡ parts.rack) }
     ensures back { AreBoxes B.sort result.parts.resources.items }
-    ensures tells { (R.disk result.parts.rack).tells ≡ (R.disk parts.rack).tells }
-    ensures later { R.faults parts.rack ≤ R.faults result.parts.rack }
+    ensures left { AreLeft (files R.Rack parts.rack) (files R.Rack result.parts.rack) }
 {
     match generated_scenario(alloc, number, count) {
         Ok(bound) => run_anew(alloc, bound, parts, gate),

@@ -7,7 +7,7 @@ ghost use Rattle.process_core.specs.Answers.{answer_in};
 ghost use Rattle.process_core.specs.Cores.{courses_in, moment_of, relation};
 ghost use Rattle.engine_calls.specs.Runs.{IsReady};
 ghost use Rattle.worker_gate.specs.Running.{IsOutcome};
-ghost use Rattle.scenario_run.specs.Reports.{exhausted_line};
+ghost use Rattle.scenario_run.specs.Reports.{HasUsedUp, exhausted_line};
 ghost use Rattle.bulk_run.specs.Bulk.{line_in, SaysBulk};
 
 use crate::summing::{summary_line, summed_up};
@@ -42,10 +42,11 @@ fn stuck_line<R: Rack + Drop, B: Resource>(
     engine: &mut Engine<R, B>,
     i: u32,
 ) -> Result<Vec<u8>, AllocError>
-    requires ready { IsReady B.meaning B.sort engine.old }
+    requires ready { IsReady B.Resource engine.old }
     requires replied { (answer_in engine.old.core next).reply ≡ next_is (stuck i) }
     requires stuck { IsStuck (relation engine.old.core) (courses_in engine.old.core) (moment_of engine.old.core) i }
     ensures text { IfOk result (λ text. text.items ≡ line_in engine.old.core ++ exhausted_line engine.old.core i) }
+    ensures used_up { HasUsedUp engine.old.core i }
     ensures left { engine.new ≡ engine.old }
 {
     let step = stuck_step(engine, i);
@@ -61,7 +62,7 @@ pub fn said_of<R: Rack + Drop, B: Resource>(
     outcome: RunOutcome,
 ) -> Result<Said, Refusal>
     requires outcome { IsOutcome engine.old outcome }
-    requires ready { outcome ≢ RunOutcome.DiskFault → IsReady B.meaning B.sort engine.old }
+    requires ready { outcome ≢ RunOutcome.DiskFault → IsReady B.Resource engine.old }
     ensures said { IfOk result (SaysBulk engine.old.core) }
     ensures settled { IfOk result (λ s. outcome ≢ RunOutcome.DiskFault) }
     ensures refused { IfErr result

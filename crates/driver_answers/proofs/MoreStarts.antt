@@ -1,6 +1,7 @@
 -- An engine that went on went on whichever more plans may start.
 use Rattle.std.proofs.Common.{◌⊎◌, ℕ, List, [], ◌∷◌, ◌++◌, inl, inr}
 use Rattle.std.proofs.lemmas.List.Elements.{Contains-append_left, Contains-append_right}
+use Rattle.process_disk.specs.declared.rack.Rack.{Ghosts as Racks}
 use Rattle.process_disk.specs.Disk.{Disk, FileSet, Told}
 use Rattle.process_disk.specs.Images.{EachImage}
 use Rattle.process_tree.specs.declared.plan.Plan.{Plan}
@@ -50,8 +51,8 @@ module _ (may may' : List Plan) (more : AreAmong may may') where
     in_turn (e ∷ came) there t (some, until, rest) = (some, until, in_turn came (there ++ e.1) e.0 rest)
 
 -- It went on, whichever more may start.
-pub goes_wider : {R B : Type 0} (disk : R → Disk) (faults : R → ℕ) (old new : EngineState R B) (may may' : List Plan) → AreAmong may may' → GoesOn disk faults may old new → GoesOn disk faults may' old new
-goes_wider disk faults old new may may' more goes = record {
+pub goes_wider : {R B : Type 0} (racks : Racks R) (old new : EngineState R B) (may may' : List Plan) → AreAmong may may' → GoesOn racks may old new → GoesOn racks may' old new
+goes_wider racks old new may may' more goes = record {
   catalog = goes.catalog;
   conflicts = goes.conflicts;
   opening = goes.opening;
@@ -64,10 +65,10 @@ goes_wider disk faults old new may may' more goes = record {
   tells = goes.tells;
   later = goes.later;
   follow = goes.follow;
-  images = λ told. in_turn may may' more new.catalog (full_history new.core) new.core new.phase (disk new.files.rack) goes.came (history_of old.core) (disk old.files.rack).moment (goes.images told);
+  images = λ told. in_turn may may' more new.catalog (full_history new.core) new.core new.phase (racks.disk new.files.rack) goes.came (history_of old.core) (racks.disk old.files.rack).moment (goes.images told);
 }
 
 -- So did one that nothing was asked of.
-pub goes_at_rest : {R B : Type 0} (disk : R → Disk) (faults : R → ℕ) (plans : List Plan) (e : EngineState R B) → IsCore e.core
-    → (Told (disk e.files.rack) → EachImage (disk e.files.rack) (disk e.files.rack).moment (IsSound e.catalog (full_history e.core))) → (more : List Plan) × GoesOn disk faults (plans ++ more) e e
-goes_at_rest disk faults plans e core each = ([], goes_none disk faults (plans ++ []) e core each)
+pub goes_at_rest : {R B : Type 0} (racks : Racks R) (plans : List Plan) (e : EngineState R B) → IsCore e.core
+    → (Told (racks.disk e.files.rack) → EachImage (racks.disk e.files.rack) (racks.disk e.files.rack).moment (IsSound e.catalog (full_history e.core))) → (more : List Plan) × GoesOn racks (plans ++ more) e e
+goes_at_rest racks plans e core each = ([], goes_none racks (plans ++ []) e core each)

@@ -51,7 +51,7 @@ fn answer_session<R: Rack + Drop, B: Resource>(
     hand: &mut AtHand,
     line: &Line,
 ) -> Result<Vec<u8>, Cut>
-    requires ready { IsReady B.meaning B.sort engine.old }
+    requires ready { IsReady B.Resource engine.old }
     requires plans { Each (IsPlanFor engine.old.catalog) plans.now }
     requires at_hand { AreAtHand engine.old hand.old }
     ensures answered { IfOk result (λ text. (copy : Option Plan') × (printed : List ℕ) × IsCopy (plan_for plans.now line.now) copy
@@ -67,9 +67,9 @@ fn answer_session<R: Rack + Drop, B: Resource>(
     ensures fault { IfErr result
         (λ cut. cut ≡ DiskFault → (engine.new.phase ≡ phase.Closed)
         × Rose (R.faults engine.old.files.rack) (R.faults engine.new.files.rack)) }
-    ensures goes { GoesOn R.disk R.faults plans.now engine.old engine.new }
-    ensures fits { EachFits B.meaning B.sort engine.new.files.stores }
-    ensures ready { result ≢ Err DiskFault → IsReady B.meaning B.sort engine.new }
+    ensures goes { GoesOn R.Rack plans.now engine.old engine.new }
+    ensures fits { EachFits B.Resource engine.new.files.stores }
+    ensures ready { result ≢ Err DiskFault → IsReady B.Resource engine.new }
 {
     let before = hand.unfinished.len();
     let mut text = play_line(alloc, engine, plans, hand, line)?;
@@ -91,7 +91,7 @@ pub fn answer_line<R: Rack + Drop, B: Resource>(
     line: &[u8],
     number: u64,
 ) -> Result<Vec<u8>, Cut>
-    requires ready { IsReady B.meaning B.sort engine.old }
+    requires ready { IsReady B.Resource engine.old }
     requires plans { Each (IsPlanFor engine.old.catalog) plans.now }
     requires at_hand { AreAtHand engine.old hand.old }
     ensures answered { IfOk result
@@ -105,9 +105,9 @@ pub fn answer_line<R: Rack + Drop, B: Resource>(
         (λ cut. cut ≡ DiskFault → (engine.new.phase ≡ phase.Closed)
         × Rose (R.faults engine.old.files.rack) (R.faults engine.new.files.rack)) }
     // No start was under way but of a plan of the scenario, or of one that the line spells.
-    ensures goes { (spelled : List Plan') × GoesOn R.disk R.faults (plans.now ++ spelled) engine.old engine.new }
-    ensures fits { EachFits B.meaning B.sort engine.new.files.stores }
-    ensures ready { result ≢ Err DiskFault → IsReady B.meaning B.sort engine.new }
+    ensures goes { (spelled : List Plan') × GoesOn R.Rack (plans.now ++ spelled) engine.old engine.new }
+    ensures fits { EachFits B.Resource engine.new.files.stores }
+    ensures ready { result ≢ Err DiskFault → IsReady B.Resource engine.new }
 {
     engine.invariant_holds();
     if line.is_empty() {

@@ -68,7 +68,7 @@ fn start_named<R: Rack + Drop, B: Resource>(
     engine: &mut Engine<R, B>,
     plan: Plan,
 ) -> Result<Vec<u8>, Cut>
-    requires ready { IsReady B.meaning B.sort engine.old }
+    requires ready { IsReady B.Resource engine.old }
     requires plan { IsPlanFor engine.old.catalog plan }
     ensures answered { IfOk result
         (λ text. (ps qs : List Handed) → IsAnswered
@@ -80,9 +80,9 @@ fn start_named<R: Rack + Drop, B: Resource>(
         (λ cut. cut ≡ DiskFault → (engine.new.phase ≡ phase.Closed)
         × Rose (R.faults engine.old.files.rack) (R.faults engine.new.files.rack)) }
     ensures queued { OnOk result ((queued : List Handed) → AreQueued engine.old queued → AreQueued engine.new queued) }
-    ensures goes { (may_start : List Plan') → IsOneOf may_start plan → GoesOn R.disk R.faults may_start engine.old engine.new }
-    ensures fits { EachFits B.meaning B.sort engine.new.files.stores }
-    ensures ready { result ≢ Err DiskFault → IsReady B.meaning B.sort engine.new }
+    ensures goes { (may_start : List Plan') → IsOneOf may_start plan → GoesOn R.Rack may_start engine.old engine.new }
+    ensures fits { EachFits B.Resource engine.new.files.stores }
+    ensures ready { result ≢ Err DiskFault → IsReady B.Resource engine.new }
 {
     engine.invariant_holds();
     let name = plan.name.bytes().to_vec(alloc)?;
@@ -96,7 +96,7 @@ fn start_one<R: Rack + Drop, B: Resource>(
     plans: Vec<Plan>,
     number: u64,
 ) -> Result<Vec<u8>, Cut>
-    requires ready { IsReady B.meaning B.sort engine.old }
+    requires ready { IsReady B.Resource engine.old }
     requires plans { Each (IsPlanFor engine.old.catalog) plans.items }
     ensures answered { IfOk result
         (λ text. ((p : Plan') × (plans.items ≡ p ∷ [])
@@ -112,9 +112,9 @@ fn start_one<R: Rack + Drop, B: Resource>(
         × Rose (R.faults engine.old.files.rack) (R.faults engine.new.files.rack)) }
     ensures queued { OnOk result ((queued : List Handed) → AreQueued engine.old queued → AreQueued engine.new queued) }
     ensures goes { (may_start : List Plan') → ((p : Plan') → plans.items ≡ p ∷ [] → IsOneOf may_start p)
-        → GoesOn R.disk R.faults may_start engine.old engine.new }
-    ensures fits { EachFits B.meaning B.sort engine.new.files.stores }
-    ensures ready { result ≢ Err DiskFault → IsReady B.meaning B.sort engine.new }
+        → GoesOn R.Rack may_start engine.old engine.new }
+    ensures fits { EachFits B.Resource engine.new.files.stores }
+    ensures ready { result ≢ Err DiskFault → IsReady B.Resource engine.new }
 {
     engine.invariant_holds();
     match only_one(plans) {
@@ -130,7 +130,7 @@ pub fn start_spelled<R: Rack + Drop, B: Resource>(
     spelled: &[u8],
     number: u64,
 ) -> Result<Vec<u8>, Cut>
-    requires ready { IsReady B.meaning B.sort engine.old }
+    requires ready { IsReady B.Resource engine.old }
     ensures answered { IfOk result
         (λ text. (ps qs : List Handed) → IsSpelledAnswered engine.old.catalog
         (record { core = engine.old.core; hand = record { unfinished = ps; queued = qs } }) number spelled.now
@@ -147,9 +147,9 @@ pub fn start_spelled<R: Rack + Drop, B: Resource>(
     // No start was under way but of a plan that the text spells.
     ensures goes { (spelled : List Plan') ×
         ((may_start : List Plan') → ((p : Plan') → IsOneOf spelled p → IsOneOf may_start p)
-        → GoesOn R.disk R.faults may_start engine.old engine.new) }
-    ensures fits { EachFits B.meaning B.sort engine.new.files.stores }
-    ensures ready { result ≢ Err DiskFault → IsReady B.meaning B.sort engine.new }
+        → GoesOn R.Rack may_start engine.old engine.new) }
+    ensures fits { EachFits B.Resource engine.new.files.stores }
+    ensures ready { result ≢ Err DiskFault → IsReady B.Resource engine.new }
 {
     engine.invariant_holds();
     match good_plans(alloc, spelled, engine.catalog()) {

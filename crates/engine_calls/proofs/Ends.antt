@@ -1,11 +1,11 @@
 -- What each call of a settled engine makes of it: it goes on.
 use Rattle.std.proofs.Common.{◌≡◌, ◌≢◌, ◌∙◌, ◌≤◌, ◌+◌, ℕ, List, [], ◌∷◌, ◌++◌, length, Option, Some, None, inl, inr, ⊎_elim, refl, ap, subst, sym, append-nil, arith}
-use Rattle.process_disk.specs.Disk.{Disk, FileSet, Told}
+use Rattle.process_disk.specs.declared.rack.Rack.{Ghosts as Racks}
+use Rattle.process_disk.specs.Disk.{FileSet, Told}
 use Rattle.process_disk.specs.Images.{EachImage, ImagesFollow}
 use Rattle.process_disk.proofs.Images.{follow_none}
 use Rattle.process_tree.specs.declared.plan.Plan.{Plan}
-use Rattle.resource_box.specs.declared.call.Kind.{Kind}
-use Rattle.resource_box.specs.Meaning.{Pairs}
+use Rattle.resource_box.specs.declared.resource.Resource.{Ghosts as Resources}
 use Rattle.process_tree.specs.declared.play.Outcome.{Outcome}
 use Rattle.process_tree.specs.declared.play.Outcome.TheVariants.{Done as Succeeds, Refused as Fails}
 use Rattle.schedule_model.specs.declared.event.Event.{Event}
@@ -65,11 +65,11 @@ out_of_effect core p outcome n handed is =
     (subst (λ o. finish_piece (relation core) (courses_in core) (moment_of core) outcome o ≡ effected n) (ap (λ ks. piece_of ks p.number) (now-kept (relation core) (machine_of core)) ∙ handed) is)
 
 -- an engine with another core is as ready
-pub still_ready : {R B : Type 0} (meaning : B → Pairs) (sort : B → Kind) (old new : EngineState R B) (c : CoreState) → new ≡ with_core old c → IsReady meaning sort old → IsReady meaning sort new
-still_ready meaning sort old new c is ready = subst (IsReady meaning sort) (sym is) (record { settled = ready.settled; fits = ready.fits })
+pub still_ready : {R B : Type 0} (box : Resources B) (old new : EngineState R B) (c : CoreState) → new ≡ with_core old c → IsReady box old → IsReady box new
+still_ready box old new c is ready = subst (IsReady box) (sym is) (record { settled = ready.settled; fits = ready.fits })
 
-module _ {R B : Type 0} (disk : R → Disk) (faults : R → ℕ) (may_start : List Plan) (old new : EngineState R B) (core : IsCore old.core)
-    (each : Told (disk old.files.rack) → EachImage (disk old.files.rack) (disk old.files.rack).moment (IsSound old.catalog (full_history old.core))) where
+module _ {R B : Type 0} (racks : Racks R) (may_start : List Plan) (old new : EngineState R B) (core : IsCore old.core)
+    (each : Told (racks.disk old.files.rack) → EachImage (racks.disk old.files.rack) (racks.disk old.files.rack).moment (IsSound old.catalog (full_history old.core))) where
   abbrev Ahead : FileSet → Type 0
   Ahead = IsOneAhead new.catalog may_start new.core new.phase
 
@@ -90,7 +90,7 @@ module _ {R B : Type 0} (disk : R → Disk) (faults : R → ℕ) (may_start : Li
 
   -- A call that adds no event to the history and touches no file,
   pub still_goes : (mid : CoreState) (added : List Kept) → new.core ≡ mid → mid.conflicts ≡ old.core.conflicts → mid.opening ≡ old.core.opening → mid.kept ≡ old.core.kept ++ added
-      → full_history mid ≡ full_history old.core → new.catalog ≡ old.catalog → new.files.rack ≡ old.files.rack → GoesOn disk faults may_start old new
+      → full_history mid ≡ full_history old.core → new.catalog ≡ old.catalog → new.files.rack ≡ old.files.rack → GoesOn racks may_start old new
   still_goes mid added is conflicts opening kept same catalog rack =
       let history : full_history new.core ≡ full_history old.core = ap full_history is ∙ same in
       let all = ap (λ (h : History). h.plans) history ∙ sym (append-nil old.core.plans) in
@@ -106,27 +106,27 @@ module _ {R B : Type 0} (disk : R → Disk) (faults : R → ℕ) (may_start : Li
         plans = all;
         came = [];
         events = events;
-        tells = ap (λ r. (disk r).tells) rack;
-        later = omega (arith, ap faults rack);
-        follow = λ told. subst (λ r. ImagesFollow (disk old.files.rack) (disk r)) (sym rack) (follow_none (disk old.files.rack));
+        tells = ap (λ r. (racks.disk r).tells) rack;
+        later = omega (arith, ap racks.faults rack);
+        follow = λ told. subst (λ r. ImagesFollow (racks.disk old.files.rack) (racks.disk r)) (sym rack) (follow_none (racks.disk old.files.rack));
         images = λ told. record {
-          has = λ files left. inl (sound_before catalog on files ((each told).has files (subst (λ r. (disk r).left_since (disk old.files.rack).moment files) rack left)));
+          has = λ files left. inl (sound_before catalog on files ((each told).has files (subst (λ r. (racks.disk r).left_since (racks.disk old.files.rack).moment files) rack left)));
         };
       }
 
   pub quiet_goes : (call : Call) → new.core ≡ after_call old.core call → full_history (after_call old.core call) ≡ full_history old.core → new.catalog ≡ old.catalog → new.files.rack ≡ old.files.rack
-      → GoesOn disk faults may_start old new
+      → GoesOn racks may_start old new
   quiet_goes call is same catalog rack = still_goes (after_call old.core call) (answer_in old.core call).kept is refl refl refl same catalog rack
 
-  pub called_goes : (call : Call) → new ≡ with_core old (after_call old.core call) → full_history (after_call old.core call) ≡ full_history old.core → GoesOn disk faults may_start old new
+  pub called_goes : (call : Call) → new ≡ with_core old (after_call old.core call) → full_history (after_call old.core call) ≡ full_history old.core → GoesOn racks may_start old new
   called_goes call is same = quiet_goes call (ap (λ (e : EngineState R B). e.core) is) same (ap (λ (e : EngineState R B). e.catalog) is) (ap (λ (e : EngineState R B). e.files.rack) is)
 
   -- one of the rack, which may fail,
-  module _ (tells : (disk new.files.rack).tells ≡ (disk old.files.rack).tells) (later : faults old.files.rack ≤ faults new.files.rack)
-      (follow : Told (disk old.files.rack) → ImagesFollow (disk old.files.rack) (disk new.files.rack)) where
+  module _ (tells : (racks.disk new.files.rack).tells ≡ (racks.disk old.files.rack).tells) (later : racks.faults old.files.rack ≤ racks.faults new.files.rack)
+      (follow : Told (racks.disk old.files.rack) → ImagesFollow (racks.disk old.files.rack) (racks.disk new.files.rack)) where
     -- one that adds none, as a call of the rack failed,
     pub fault_goes : (k : History) → IsUnderWay may_start old.core k → new.core ≡ old.core → new.catalog ≡ old.catalog → new.phase ≡ phase.Closed
-        → (Told (disk old.files.rack) → EachImage (disk new.files.rack) (disk old.files.rack).moment (IsSoundForEither old.catalog (full_history old.core) k)) → GoesOn disk faults may_start old new
+        → (Told (racks.disk old.files.rack) → EachImage (racks.disk new.files.rack) (racks.disk old.files.rack).moment (IsSoundForEither old.catalog (full_history old.core) k)) → GoesOn racks may_start old new
     fault_goes k under same catalog closed either =
         let all = ap (λ (c : CoreState). c.plans) same ∙ sym (append-nil old.core.plans) in
         let events = ap history_of same ∙ sym (append-nil (history_of old.core)) in
@@ -155,9 +155,9 @@ module _ {R B : Type 0} (disk : R → Disk) (faults : R → ℕ) (may_start : Li
     -- one that adds events and plans of processes that start, which come at once,
     pub events_goes : (k : History) (es : List Event) (plans : List Plan) (added : List Kept) → es ≢ [] → k.events ≡ history_of old.core ++ es → k.plans ≡ old.core.plans ++ plans → IsCore new.core
         → new.core.conflicts ≡ old.core.conflicts → new.core.opening ≡ old.core.opening → new.core.kept ≡ old.core.kept ++ added → new.catalog ≡ old.catalog → full_history new.core ≡ k
-        → (Told (disk old.files.rack) → EachImage (disk new.files.rack) (disk old.files.rack).moment (IsSoundForEither old.catalog (full_history old.core) k))
-        → (Told (disk old.files.rack) → EachImage (disk new.files.rack) (disk new.files.rack).moment (IsSound new.catalog (full_history new.core)))
-        → GoesOn disk faults may_start old new
+        → (Told (racks.disk old.files.rack) → EachImage (racks.disk new.files.rack) (racks.disk old.files.rack).moment (IsSoundForEither old.catalog (full_history old.core) k))
+        → (Told (racks.disk old.files.rack) → EachImage (racks.disk new.files.rack) (racks.disk new.files.rack).moment (IsSound new.catalog (full_history new.core)))
+        → GoesOn racks may_start old new
     events_goes k es plans added some more_events more_plans now conflicts opening kept catalog history either at_end =
         let all = ap (λ (h : History). h.plans) history ∙ more_plans in
         let events = ap (λ (h : History). h.events) history ∙ more_events in
@@ -170,7 +170,7 @@ module _ {R B : Type 0} (disk : R → Disk) (faults : R → ℕ) (may_start : Li
           kept = kept;
           started = plans;
           plans = all;
-          came = ((disk new.files.rack).moment, es) ∷ [];
+          came = ((racks.disk new.files.rack).moment, es) ∷ [];
           events = events ∙ ap (λ more. history_of old.core ++ more) (sym (append-nil es));
           tells = tells;
           later = later;
@@ -190,17 +190,17 @@ module _ {R B : Type 0} (disk : R → Disk) (faults : R → ℕ) (may_start : Li
         }
 
     effect_goes : (p : Handed) (outcome : Outcome) → IsCore new.core → new.core ≡ after_call old.core (finish p.piece.number outcome) → new.catalog ≡ old.catalog → full_history new.core ≡ history_with old.core p.piece
-        → (Told (disk old.files.rack) → EachImage (disk new.files.rack) (disk old.files.rack).moment (IsSoundForEither old.catalog (full_history old.core) (history_with old.core p.piece)))
-        → (Told (disk old.files.rack) → EachImage (disk new.files.rack) (disk new.files.rack).moment (IsSound new.catalog (full_history new.core)))
-        → GoesOn disk faults may_start old new
+        → (Told (racks.disk old.files.rack) → EachImage (racks.disk new.files.rack) (racks.disk old.files.rack).moment (IsSoundForEither old.catalog (full_history old.core) (history_with old.core p.piece)))
+        → (Told (racks.disk old.files.rack) → EachImage (racks.disk new.files.rack) (racks.disk new.files.rack).moment (IsSound new.catalog (full_history new.core)))
+        → GoesOn racks may_start old new
     effect_goes p outcome now is catalog history either at_end =
         events_goes (history_with old.core p.piece) (event_of (courses_in old.core) p.piece ∷ []) [] (answer_in old.core (finish p.piece.number outcome)).kept (λ none. cc) refl (sym (append-nil old.core.plans)) now
         (ap (λ (c : CoreState). c.conflicts) is) (ap (λ (c : CoreState). c.opening) is) (ap (λ (c : CoreState). c.kept) is) catalog history either at_end
 
     pub start_goes : (p : Plan) (i : ℕ) → IsCore new.core → (answer_in old.core (start (course_of p))).reply ≡ started i → new.core ≡ after_start old.core p → new.catalog ≡ old.catalog
-        → (Told (disk old.files.rack) → EachImage (disk new.files.rack) (disk old.files.rack).moment (IsSoundForEither old.catalog (full_history old.core) (started_with old.core p)))
-        → (Told (disk old.files.rack) → EachImage (disk new.files.rack) (disk new.files.rack).moment (IsSound new.catalog (full_history new.core)))
-        → GoesOn disk faults may_start old new
+        → (Told (racks.disk old.files.rack) → EachImage (racks.disk new.files.rack) (racks.disk old.files.rack).moment (IsSoundForEither old.catalog (full_history old.core) (started_with old.core p)))
+        → (Told (racks.disk old.files.rack) → EachImage (racks.disk new.files.rack) (racks.disk new.files.rack).moment (IsSound new.catalog (full_history new.core)))
+        → GoesOn racks may_start old new
     start_goes p i now reply is catalog either at_end =
         let free = free_by _ _ i (course_of p) (start_refusal (courses_in old.core) (moment_of old.core) (course_of p)) reply in
         events_goes (started_with old.core p) (Started (length old.core.plans + 1) ∷ []) (p ∷ []) (answer_in old.core (start (course_of p))).kept (λ none. cc) refl refl now
@@ -208,14 +208,14 @@ module _ {R B : Type 0} (disk : R → Disk) (faults : R → ℕ) (may_start : Li
 
     -- a start that is refused, whatever the cause,
     pub refused_start_goes : (p : Plan) (why : EngineStartWhy) → IsOneOf may_start p → (why ≡ whys.DiskFault → IsFree old.core p) → (why ≢ whys.DiskFault → new ≡ old) → (why ≡ whys.DiskFault → (new.phase ≡ phase.Closed) × (new.core ≡ old.core)) → new.catalog ≡ old.catalog
-        → (Told (disk old.files.rack) → EachImage (disk new.files.rack) (disk old.files.rack).moment (IsSoundForEither old.catalog (full_history old.core) (started_with old.core p)))
-        → GoesOn disk faults may_start old new
+        → (Told (racks.disk old.files.rack) → EachImage (racks.disk new.files.rack) (racks.disk old.files.rack).moment (IsSoundForEither old.catalog (full_history old.core) (started_with old.core p)))
+        → GoesOn racks may_start old new
     refused_start_goes p why one free left closed catalog either = by why free left closed
       where
-        nothing : new ≡ old → GoesOn disk faults may_start old new
-        nothing same = subst (λ e. GoesOn disk faults may_start old e) (sym same) (goes_none disk faults may_start old core each)
+        nothing : new ≡ old → GoesOn racks may_start old new
+        nothing same = subst (λ e. GoesOn racks may_start old e) (sym same) (goes_none racks may_start old core each)
 
-        by : (w : EngineStartWhy) → (w ≡ whys.DiskFault → IsFree old.core p) → (w ≢ whys.DiskFault → new ≡ old) → (w ≡ whys.DiskFault → (new.phase ≡ phase.Closed) × (new.core ≡ old.core)) → GoesOn disk faults may_start old new
+        by : (w : EngineStartWhy) → (w ≡ whys.DiskFault → IsFree old.core p) → (w ≢ whys.DiskFault → new ≡ old) → (w ≡ whys.DiskFault → (new.phase ≡ phase.Closed) × (new.core ≡ old.core)) → GoesOn racks may_start old new
         by whys.DiskFault free' left closed = fault_goes (started_with old.core p) (inr (inl (p, one, free' refl, refl))) (closed refl).1 catalog (closed refl).0 either
         by (whys.Closed n) free' left closed = nothing (left (λ is. cc))
         by (whys.TooMany n) free' left closed = nothing (left (λ is. cc))
@@ -223,15 +223,15 @@ module _ {R B : Type 0} (disk : R → Disk) (faults : R → ℕ) (may_start : Li
         by whys.NoMemory free' left closed = nothing (left (λ is. cc))
 
     -- and the end of a piece, whatever it answers.
-    pub finish_goes : IsCore new.core → (p : Handed) → IsHandedBy old.core p.piece → (outcome : Outcome) (a : Finish) → Finishes disk old new p outcome a
-        → (Told (disk new.files.rack) → new.phase ≡ phase.Settled → EachImage (disk new.files.rack) (disk new.files.rack).moment (IsSound new.catalog (full_history new.core))) → GoesOn disk faults may_start old new
+    pub finish_goes : IsCore new.core → (p : Handed) → IsHandedBy old.core p.piece → (outcome : Outcome) (a : Finish) → Finishes racks.disk old new p outcome a
+        → (Told (racks.disk new.files.rack) → new.phase ≡ phase.Settled → EachImage (racks.disk new.files.rack) (racks.disk new.files.rack).moment (IsSound new.catalog (full_history new.core))) → GoesOn racks may_start old new
     finish_goes now p handed outcome (Effected n) fin at_end = effect_goes p Succeeds now fin.left.core fin.left.catalog fin.acknowledged.history fin.any_moment
-        (λ told. at_end (still_told (disk old.files.rack) (disk new.files.rack) tells told) fin.left.phase)
+        (λ told. at_end (still_told (racks.disk old.files.rack) (racks.disk new.files.rack) tells told) fin.left.phase)
     finish_goes now p handed outcome (Retry k) fin at_end = quiet_goes (finish p.piece.number Fails) fin.left.0.core (refused_same old.core p.piece.number) fin.left.0.catalog fin.left.1
     finish_goes now p handed outcome Failed fin at_end = quiet_goes (finish p.piece.number Fails) fin.left.0.core (refused_same old.core p.piece.number) fin.left.0.catalog fin.left.1
     finish_goes now p handed outcome Exhausted fin at_end = quiet_goes (finish p.piece.number Fails) fin.left.0.core (refused_same old.core p.piece.number) fin.left.0.catalog fin.left.1
-    finish_goes now p handed outcome Over fin at_end = subst (λ e. GoesOn disk faults may_start old e) (sym fin.left) (goes_none disk faults may_start old core each)
-    finish_goes now p handed outcome (Dropped k) fin at_end = subst (λ e. GoesOn disk faults may_start old e) (sym fin.left) (goes_none disk faults may_start old core each)
+    finish_goes now p handed outcome Over fin at_end = subst (λ e. GoesOn racks may_start old e) (sym fin.left) (goes_none racks may_start old core each)
+    finish_goes now p handed outcome (Dropped k) fin at_end = subst (λ e. GoesOn racks may_start old e) (sym fin.left) (goes_none racks may_start old core each)
     finish_goes now p handed outcome DiskFault fin at_end = fault_goes (history_with old.core p.piece) (inl (p.piece, handed, out_of_effect old.core p.piece outcome fin.reply.0 handed fin.reply.1, refl)) fin.left.core fin.left.catalog fin.left.phase fin.any_moment
     finish_goes now p handed outcome (NoMemory q) fin at_end = still_goes old.core [] fin.left.0.core refl refl (sym (append-nil old.core.kept)) refl fin.left.0.catalog fin.left.3
     finish_goes now p handed outcome (Closed n) fin at_end = absurd fin.reply

@@ -1,7 +1,8 @@
 -- That an engine goes on: by no call, and by one run of calls after another.
-use Rattle.std.proofs.Common.{◌≡◌, ◌∙◌, ◌≤◌, ℕ, List, [], ◌++◌, length, take, inl, refl, ap, subst, sym, append-nil, append_assoc, length-append, arith}
+use Rattle.std.proofs.Common.{◌≡◌, ◌∙◌, ◌≤◌, List, [], ◌++◌, length, take, inl, refl, ap, subst, sym, append-nil, append_assoc, length-append, arith}
 use Rattle.std.proofs.lemmas.List.{take-append-le}
-use Rattle.process_disk.specs.Disk.{Disk, FileSet, IsHonest, Told}
+use Rattle.process_disk.specs.declared.rack.Rack.{Ghosts as Racks}
+use Rattle.process_disk.specs.Disk.{FileSet, IsHonest, Told}
 use Rattle.process_disk.specs.Images.{EachImage}
 use Rattle.process_disk.proofs.Images.{follow_none, follow_then, still_told}
 use Rattle.process_tree.specs.declared.plan.Plan.{Plan}
@@ -39,13 +40,13 @@ begins_alike h k each on g rest is = ap (λ ps. record { plans = ps; events = g 
 pub sound_now : (c : Catalog) (core : CoreState) → OneEach (full_history core) → (files : FileSet) → IsSound c (full_history core) files → IsSound c (beginning (full_history core) (history_of core)) files
 sound_now c core each files sound = subst (λ h. IsSound c h files) (is_beginning (full_history core) (full_history core) each (continues_none (full_history core))) sound
 
-module _ {R B : Type 0} (disk : R → Disk) (faults : R → ℕ) (may_start : List Plan) where
-  pub continues : (old new : EngineState R B) → GoesOn disk faults may_start old new → Continues (full_history old.core) (full_history new.core)
+module _ {R B : Type 0} (racks : Racks R) (may_start : List Plan) where
+  pub continues : (old new : EngineState R B) → GoesOn racks may_start old new → Continues (full_history old.core) (full_history new.core)
   continues old new goes = record { events = events_of goes.came; is = goes.events; plans = goes.started; are = goes.plans }
 
   -- By no call an engine whose files are sound for its history goes on,
-  pub goes_none : (e : EngineState R B) → IsCore e.core → (Told (disk e.files.rack) → EachImage (disk e.files.rack) (disk e.files.rack).moment (IsSound e.catalog (full_history e.core)))
-      → GoesOn disk faults may_start e e
+  pub goes_none : (e : EngineState R B) → IsCore e.core → (Told (racks.disk e.files.rack) → EachImage (racks.disk e.files.rack) (racks.disk e.files.rack).moment (IsSound e.catalog (full_history e.core)))
+      → GoesOn racks may_start e e
   goes_none e core each = record {
     catalog = refl;
     conflicts = refl;
@@ -58,23 +59,23 @@ module _ {R B : Type 0} (disk : R → Disk) (faults : R → ℕ) (may_start : Li
     events = sym (append-nil (history_of e.core));
     tells = refl;
     later = omega arith;
-    follow = λ told. follow_none (disk e.files.rack);
+    follow = λ told. follow_none (racks.disk e.files.rack);
     images = λ told. record { has = λ files left. inl (sound_now e.catalog e.core core.session.one_each files ((each told).has files left)) };
   }
 
   -- and by one run of calls after another that left it settled.
-  module _ (old mid new : EngineState R B) (settled : mid.phase ≡ phase.Settled) (one_each : OneEach (full_history mid.core)) (honest : Told (disk new.files.rack) → IsHonest (disk new.files.rack))
-      (first : GoesOn disk faults may_start old mid) (second : GoesOn disk faults may_start mid new) where
-    told_mid : Told (disk old.files.rack) → Told (disk mid.files.rack)
-    told_mid told = still_told (disk old.files.rack) (disk mid.files.rack) first.tells told
+  module _ (old mid new : EngineState R B) (settled : mid.phase ≡ phase.Settled) (one_each : OneEach (full_history mid.core)) (honest : Told (racks.disk new.files.rack) → IsHonest (racks.disk new.files.rack))
+      (first : GoesOn racks may_start old mid) (second : GoesOn racks may_start mid new) where
+    told_mid : Told (racks.disk old.files.rack) → Told (racks.disk mid.files.rack)
+    told_mid told = still_told (racks.disk old.files.rack) (racks.disk mid.files.rack) first.tells told
 
-    told_new : Told (disk old.files.rack) → Told (disk new.files.rack)
-    told_new told = still_told (disk mid.files.rack) (disk new.files.rack) second.tells (told_mid told)
+    told_new : Told (racks.disk old.files.rack) → Told (racks.disk new.files.rack)
+    told_new told = still_told (racks.disk mid.files.rack) (racks.disk new.files.rack) second.tells (told_mid told)
 
     abbrev Turns : Catalog → Type 0
-    Turns c = ComeInTurn c (full_history mid.core) (IsOneAhead c may_start mid.core mid.phase) (disk mid.files.rack) (history_of old.core) (disk old.files.rack).moment first.came
+    Turns c = ComeInTurn c (full_history mid.core) (IsOneAhead c may_start mid.core mid.phase) (racks.disk mid.files.rack) (history_of old.core) (racks.disk old.files.rack).moment first.came
 
-    pub goes_then : GoesOn disk faults may_start old new
+    pub goes_then : GoesOn racks may_start old new
     goes_then = record {
       catalog = second.catalog ∙ first.catalog;
       conflicts = second.conflicts ∙ first.conflicts;
@@ -88,13 +89,13 @@ module _ {R B : Type 0} (disk : R → Disk) (faults : R → ℕ) (may_start : Li
           ∙ ap (λ es. history_of old.core ++ es) (sym (events_of-append first.came second.came))));
       tells = second.tells ∙ first.tells;
       later = omega (arith, first.later, second.later);
-      follow = λ told. follow_then (disk old.files.rack) (disk mid.files.rack) (disk new.files.rack) (honest (told_new told)) (first.follow told) (second.follow (told_mid told));
+      follow = λ told. follow_then (racks.disk old.files.rack) (racks.disk mid.files.rack) (racks.disk new.files.rack) (honest (told_new told)) (first.follow told) (second.follow (told_mid told));
       images = λ told. in_turn_then new.catalog (full_history mid.core) (full_history new.core) (IsOneAhead new.catalog may_start mid.core mid.phase) (IsOneAhead new.catalog may_start new.core new.phase)
-          (disk mid.files.rack) (disk new.files.rack) (honest (told_new told)) (second.follow (told_mid told)) (λ files ahead. not_both mid.phase settled ahead.0)
-          first.came (history_of old.core) (disk old.files.rack).moment second.came
+          (racks.disk mid.files.rack) (racks.disk new.files.rack) (honest (told_new told)) (second.follow (told_mid told)) (λ files ahead. not_both mid.phase settled ahead.0)
+          first.came (history_of old.core) (racks.disk old.files.rack).moment second.came
           (λ g rest is. begins_alike (full_history mid.core) (full_history new.core) one_each (continues mid new second) g rest (first.events ∙ is))
           (first.follow told).later
           (subst Turns (sym second.catalog) (first.images told))
-          (subst (λ es. ComeInTurn new.catalog (full_history new.core) (IsOneAhead new.catalog may_start new.core new.phase) (disk new.files.rack) es (disk mid.files.rack).moment second.came)
+          (subst (λ es. ComeInTurn new.catalog (full_history new.core) (IsOneAhead new.catalog may_start new.core new.phase) (racks.disk new.files.rack) es (racks.disk mid.files.rack).moment second.came)
           first.events (second.images (told_mid told)));
     }

@@ -1,6 +1,7 @@
 -- What the calls of groups make of a settled engine: it goes on.
-use Rattle.std.proofs.Common.{◌≡◌, ◌≢◌, ◌∙◌, ◌≤◌, ℕ, List, [], ◌∷◌, ◌++◌, inl, inr, ⊎_elim, refl, ap, subst, sym, append-nil, append_assoc}
-use Rattle.process_disk.specs.Disk.{Disk, FileSet, Told}
+use Rattle.std.proofs.Common.{◌≡◌, ◌≢◌, ◌∙◌, ◌≤◌, List, [], ◌∷◌, ◌++◌, inl, inr, ⊎_elim, refl, ap, subst, sym, append-nil, append_assoc}
+use Rattle.process_disk.specs.declared.rack.Rack.{Ghosts as Racks}
+use Rattle.process_disk.specs.Disk.{FileSet, Told}
 use Rattle.process_disk.specs.Images.{EachImage, ImagesFollow}
 use Rattle.process_disk.proofs.Images.{still_told}
 use Rattle.process_tree.specs.declared.plan.Plan.{Plan}
@@ -67,19 +68,19 @@ keeps_all core (p ∷ ps) =
       kept = rest.kept ∙ append_assoc core.kept (answer_in core call).kept rest.added;
     }
 
-module _ {R B : Type 0} (disk : R → Disk) (faults : R → ℕ) (may_start : List Plan) (old new : EngineState R B) (core : IsCore old.core)
-    (each : Told (disk old.files.rack) → EachImage (disk old.files.rack) (disk old.files.rack).moment (IsSound old.catalog (full_history old.core))) where
-  room_goes : (p : Handed) → MakesRoomFor old new p.piece → GoesOn disk faults may_start old new
-  room_goes p room = still_goes disk faults may_start old new core each old.core [] room.core refl refl (sym (append-nil old.core.kept)) refl room.catalog room.rack
+module _ {R B : Type 0} (racks : Racks R) (may_start : List Plan) (old new : EngineState R B) (core : IsCore old.core)
+    (each : Told (racks.disk old.files.rack) → EachImage (racks.disk old.files.rack) (racks.disk old.files.rack).moment (IsSound old.catalog (full_history old.core))) where
+  room_goes : (p : Handed) → MakesRoomFor old new p.piece → GoesOn racks may_start old new
+  room_goes p room = still_goes racks may_start old new core each old.core [] room.core refl refl (sym (append-nil old.core.kept)) refl room.catalog room.rack
 
-  none_goes : new ≡ old → GoesOn disk faults may_start old new
-  none_goes same = subst (λ e. GoesOn disk faults may_start old e) (sym same) (goes_none disk faults may_start old core each)
+  none_goes : new ≡ old → GoesOn racks may_start old new
+  none_goes same = subst (λ e. GoesOn racks may_start old e) (sym same) (goes_none racks may_start old core each)
 
-  refused_goes : (p : Handed) → IsRefusedIn old new p → GoesOn disk faults may_start old new
-  refused_goes p is = called_goes disk faults may_start old new core each (finish p.piece.number Fails) is (refused_same old.core p.piece.number)
+  refused_goes : (p : Handed) → IsRefusedIn old new p → GoesOn racks may_start old new
+  refused_goes p is = called_goes racks may_start old new core each (finish p.piece.number Fails) is (refused_same old.core p.piece.number)
 
   -- The queueing of a piece, whatever it answers,
-  pub queue_goes : (group rest : List Handed) (p : Handed) (answer : Answer) (a : Queue) → Queues old new group rest p answer a → GoesOn disk faults may_start old new
+  pub queue_goes : (group rest : List Handed) (p : Handed) (answer : Answer) (a : Queue) → Queues old new group rest p answer a → GoesOn racks may_start old new
   queue_goes group rest p answer Queued q = ⊎_elim (room_goes p) none_goes q.left.0
   queue_goes group rest p answer (Full d) q = none_goes q.left.0
   queue_goes group rest p answer (Retry k) q = refused_goes p q.left.0
@@ -91,13 +92,13 @@ module _ {R B : Type 0} (disk : R → Disk) (faults : R → ℕ) (may_start : Li
   queue_goes group rest p answer (Closed n) q = absurd q.left
 
   -- and a flush.
-  module _ (tells : (disk new.files.rack).tells ≡ (disk old.files.rack).tells) (later : faults old.files.rack ≤ faults new.files.rack)
-      (follow : Told (disk old.files.rack) → ImagesFollow (disk old.files.rack) (disk new.files.rack)) (group rest : List Handed) (queued : AreQueued old group) where
+  module _ (tells : (racks.disk new.files.rack).tells ≡ (racks.disk old.files.rack).tells) (later : racks.faults old.files.rack ≤ racks.faults new.files.rack)
+      (follow : Told (racks.disk old.files.rack) → ImagesFollow (racks.disk old.files.rack) (racks.disk new.files.rack)) (group rest : List Handed) (queued : AreQueued old group) where
     abbrev running : List Piece
     running = running_of old.core group
 
     abbrev WithoutOrWith : History → Type 0
-    WithoutOrWith k = Told (disk old.files.rack) → EachImage (disk new.files.rack) (disk old.files.rack).moment (IsSoundForEither old.catalog (full_history old.core) k)
+    WithoutOrWith k = Told (racks.disk old.files.rack) → EachImage (racks.disk new.files.rack) (racks.disk old.files.rack).moment (IsSoundForEither old.catalog (full_history old.core) k)
 
     are_out : running ≢ [] → AreOut old.core running
     are_out some = record {
@@ -107,7 +108,7 @@ module _ {R B : Type 0} (disk : R → Disk) (faults : R → ℕ) (may_start : Li
     }
 
     -- Where none runs nothing came,
-    none_flushed : new.core ≡ old.core → new.catalog ≡ old.catalog → WithoutOrWith (full_history old.core) → GoesOn disk faults may_start old new
+    none_flushed : new.core ≡ old.core → new.catalog ≡ old.catalog → WithoutOrWith (full_history old.core) → GoesOn racks may_start old new
     none_flushed same catalog either = record {
       catalog = catalog;
       conflicts = ap (λ (c : CoreState). c.conflicts) same;
@@ -132,19 +133,19 @@ module _ {R B : Type 0} (disk : R → Disk) (faults : R → ℕ) (may_start : Li
     -- and where some do their events came together.
     flushed_goes : (ps : List Piece) → IsCore new.core → new.core ≡ after_all old.core ps → new.catalog ≡ old.catalog → full_history new.core ≡ with_events (full_history old.core) (events_of (courses_in old.core) ps)
         → WithoutOrWith (with_events (full_history old.core) (events_of (courses_in old.core) ps))
-        → (Told (disk old.files.rack) → EachImage (disk new.files.rack) (disk new.files.rack).moment (IsSound new.catalog (full_history new.core))) → GoesOn disk faults may_start old new
+        → (Told (racks.disk old.files.rack) → EachImage (racks.disk new.files.rack) (racks.disk new.files.rack).moment (IsSound new.catalog (full_history new.core))) → GoesOn racks may_start old new
     flushed_goes [] now is catalog history either at_end = none_flushed is catalog either
     flushed_goes (p ∷ ps) now is catalog history either at_end =
         let events = events_of (courses_in old.core) (p ∷ ps) in
         let keeps = keeps_all old.core (p ∷ ps) in
-        events_goes disk faults may_start old new core each tells later follow (with_events (full_history old.core) events) events [] keeps.added (λ none. cc) (events_with (full_history old.core) events)
+        events_goes racks may_start old new core each tells later follow (with_events (full_history old.core) events) events [] keeps.added (λ none. cc) (events_with (full_history old.core) events)
         (plans_with (full_history old.core) events ∙ sym (append-nil old.core.plans)) now (ap (λ (c : CoreState). c.conflicts) is ∙ keeps.conflicts) (ap (λ (c : CoreState). c.opening) is ∙ keeps.opening)
         (ap (λ (c : CoreState). c.kept) is ∙ keeps.kept) catalog history either at_end
 
-    pub flush_goes : IsCore new.core → (a : Flush) → Flushes disk old new group rest a
-        → (Told (disk new.files.rack) → new.phase ≡ phase.Settled → EachImage (disk new.files.rack) (disk new.files.rack).moment (IsSound new.catalog (full_history new.core))) → GoesOn disk faults may_start old new
+    pub flush_goes : IsCore new.core → (a : Flush) → Flushes racks.disk old new group rest a
+        → (Told (racks.disk new.files.rack) → new.phase ≡ phase.Settled → EachImage (racks.disk new.files.rack) (racks.disk new.files.rack).moment (IsSound new.catalog (full_history new.core))) → GoesOn racks may_start old new
     flush_goes now (Flushed ends) flush at_end =
-        flushed_goes running now flush.left.core flush.left.catalog flush.acknowledged.0 flush.any_moment (λ told. at_end (still_told (disk old.files.rack) (disk new.files.rack) tells told) flush.left.phase)
+        flushed_goes running now flush.left.core flush.left.catalog flush.acknowledged.0 flush.any_moment (λ told. at_end (still_told (racks.disk old.files.rack) (racks.disk new.files.rack) tells told) flush.left.phase)
     flush_goes now DiskFault flush at_end =
-        fault_goes disk faults may_start old new core each tells later follow (history_with_group old group) (inr (inr (running, are_out flush.left.some, refl))) flush.left.core flush.left.catalog flush.left.phase flush.any_moment
+        fault_goes racks may_start old new core each tells later follow (history_with_group old group) (inr (inr (running, are_out flush.left.some, refl))) flush.left.core flush.left.catalog flush.left.phase flush.any_moment
     flush_goes now (flushes.Closed n) flush at_end = absurd flush.left

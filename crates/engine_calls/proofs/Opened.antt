@@ -23,7 +23,7 @@ module _ {R B : Type 0} (may_start : List Plan) (r : Racks R) (honest : (rack : 
     (was_sound : Told (r.disk entry) → IsSound opening.catalog (full_history opening.core) (r.disk entry).files)
     (became : Told (r.disk entry) → BecomesSound opening.catalog (full_history opening.core) (r.disk entry) (r.disk opening.files.rack))
     (invariant_holds : Told (r.disk entry) → EachImage (r.disk opening.files.rack) (r.disk opening.files.rack).moment (IsSound opening.catalog (full_history opening.core)))
-    (goes : GoesOn r.disk r.faults may_start opening now) where
+    (goes : GoesOn r may_start opening now) where
   abbrev before : Disk
   before = r.disk entry
 
@@ -67,7 +67,7 @@ module _ {R B : Type 0} (may_start : List Plan) (r : Racks R) (honest : (rack : 
     own = subst (λ c. ComeInTurn c (full_history now.core) (IsOneAhead c may_start now.core now.phase) after (history_of opening.core) settled.moment goes.came) goes.catalog (goes.images told_settled)
 
     alike : beginning (full_history opening.core) (history_of opening.core) ≡ beginning (full_history now.core) (history_of opening.core)
-    alike = begins_alike (full_history opening.core) (full_history now.core) one_each (continues r.disk r.faults may_start opening now goes) (history_of opening.core) [] (sym (append-nil (history_of opening.core)))
+    alike = begins_alike (full_history opening.core) (full_history now.core) one_each (continues r may_start opening now goes) (history_of opening.core) [] (sym (append-nil (history_of opening.core)))
 
     old_sound : (fs : FileSet) → IsOld fs → IsSound opening.catalog (beginning (full_history opening.core) (history_of opening.core)) fs
     old_sound fs sound = subst (λ h. IsSound opening.catalog h fs) (is_beginning (full_history opening.core) (full_history opening.core) one_each (continues_none (full_history opening.core))) sound

@@ -1,12 +1,12 @@
 -- An engine goes on: what it has kept, and what a crash may have left, from one moment of an engine to a later one.
 use Rattle.std.specs.Prelude.{◌≡◌, ◌≤◌, ℕ, List, ◌++◌}
+use Rattle.process_disk.specs.declared.rack.Rack.{Ghosts as Racks}
 use Rattle.process_disk.specs.Disk.{Disk, Told}
 use Rattle.process_disk.specs.Images.{ImagesFollow}
 use Rattle.process_tree.specs.declared.plan.Plan.{Plan}
 use Rattle.process_tree.specs.declared.play.Outcome.{Outcome}
 use Rattle.schedule_model.specs.declared.event.Event.{Event}
-use Rattle.resource_box.specs.declared.call.Kind.{Kind}
-use Rattle.resource_box.specs.Meaning.{Pairs}
+use Rattle.resource_box.specs.declared.resource.Resource.{Ghosts as Resources}
 use Rattle.machine_model.specs.declared.kept.Kept.{Kept}
 use Rattle.machine_model.specs.Replies.{Handed}
 use Rattle.process_core.specs.Cores.{history_of}
@@ -18,9 +18,9 @@ use Rattle.process_engine.specs.declared.finishing.Finish.{Finish}
 use Rattle.engine_calls.specs.Acknowledged.{ComeInTurn, IsOneAhead, events_of}
 
 -- A settled engine that may be called: nothing is under way, and each box has the values of its book.
-pub record IsReady {R B : Type 0} (meaning : B → Pairs) (sort : B → Kind) (e : EngineState R B) : Type 0 where
+pub record IsReady {R B : Type 0} (box : Resources B) (e : EngineState R B) : Type 0 where
   pub settled : e.phase ≡ phase.Settled
-  pub fits : EachFits meaning sort e.files.stores
+  pub fits : EachFits box e.files.stores
 
 -- A piece ended by one of its two outcomes, with this answer.
 pub record EndsPiece {R B : Type 0} (disk : R → Disk) (old new : EngineState R B) (p : Handed) (result : Finish) : Type 0 where
@@ -28,7 +28,7 @@ pub record EndsPiece {R B : Type 0} (disk : R → Disk) (old new : EngineState R
   pub finishes : Finishes disk old new p outcome result
 
 -- An engine went on from one state to another; no start was under way but of one of these plans.
-pub record GoesOn {R B : Type 0} (disk : R → Disk) (faults : R → ℕ) (may_start : List Plan)
+pub record GoesOn {R B : Type 0} (racks : Racks R) (may_start : List Plan)
     (old new : EngineState R B) : Type 0 where
   pub catalog : new.catalog ≡ old.catalog
   pub conflicts : new.core.conflicts ≡ old.core.conflicts
@@ -42,14 +42,14 @@ pub record GoesOn {R B : Type 0} (disk : R → Disk) (faults : R → ℕ) (may_s
   -- what happened meanwhile, and from which moment on it is kept
   pub came : List (ℕ × List Event)
   pub events : history_of new.core ≡ history_of old.core ++ events_of came
-  pub tells : (disk new.files.rack).tells ≡ (disk old.files.rack).tells
-  pub later : faults old.files.rack ≤ faults new.files.rack
-  pub follow : Told (disk old.files.rack) → ImagesFollow (disk old.files.rack) (disk new.files.rack)
+  pub tells : (racks.disk new.files.rack).tells ≡ (racks.disk old.files.rack).tells
+  pub later : racks.faults old.files.rack ≤ racks.faults new.files.rack
+  pub follow : Told (racks.disk old.files.rack) → ImagesFollow (racks.disk old.files.rack) (racks.disk new.files.rack)
   -- whatever a crash meanwhile may have left
-  pub images : Told (disk old.files.rack)
-      → ComeInTurn new.catalog (full_history new.core) (IsOneAhead new.catalog may_start new.core new.phase) (disk new.files.rack)
-      (history_of old.core) (disk old.files.rack).moment came
+  pub images : Told (racks.disk old.files.rack)
+      → ComeInTurn new.catalog (full_history new.core) (IsOneAhead new.catalog may_start new.core new.phase) (racks.disk new.files.rack)
+      (history_of old.core) (racks.disk old.files.rack).moment came
 
 -- It went on and nobody asked for a start: so it did whichever plans may start.
-abbrev pub GoesOnAlone : {R B : Type 0} → (R → Disk) → (R → ℕ) → EngineState R B → EngineState R B → Type 0
-GoesOnAlone disk faults old new = (may_start : List Plan) → GoesOn disk faults may_start old new
+abbrev pub GoesOnAlone : {R B : Type 0} → Racks R → EngineState R B → EngineState R B → Type 0
+GoesOnAlone racks old new = (may_start : List Plan) → GoesOn racks may_start old new

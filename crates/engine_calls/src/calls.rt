@@ -27,12 +27,12 @@ use std::alloc::Global;
 
 /// Makes the victims of a stall, and hands out the first free piece in rotation, or says why there is none.
 pub fn next<R: Rack + Drop, B: Resource>(engine: &mut Engine<R, B>) -> Next
-    requires ready { IsReady B.meaning B.sort engine.old }
+    requires ready { IsReady B.Resource engine.old }
     ensures reply { next_is (next_reply_of result) ≡ (answer_in engine.old.core next).reply }
     ensures engine { engine.new ≡ with_core engine.old (after_call engine.old.core next) }
     ensures given { IsGiven engine.new.core result }
-    ensures goes { GoesOnAlone R.disk R.faults engine.old engine.new }
-    ensures ready { IsReady B.meaning B.sort engine.new }
+    ensures goes { GoesOnAlone R.Rack engine.old engine.new }
+    ensures ready { IsReady B.Resource engine.new }
 {
     engine.invariant_holds();
     match engine.next() {
@@ -46,12 +46,12 @@ pub fn next<R: Rack + Drop, B: Resource>(engine: &mut Engine<R, B>) -> Next
 
 /// Hands out the next piece of a process, or says why not.
 pub fn admit<R: Rack + Drop, B: Resource>(engine: &mut Engine<R, B>, i: u32) -> Admit
-    requires ready { IsReady B.meaning B.sort engine.old }
+    requires ready { IsReady B.Resource engine.old }
     ensures reply { admitted (admit_reply_of result) ≡ (answer_in engine.old.core (admit i)).reply }
     ensures engine { engine.new ≡ with_core engine.old (after_call engine.old.core (admit i)) }
     ensures given { IsAdmitted engine.new.core result }
-    ensures goes { GoesOnAlone R.disk R.faults engine.old engine.new }
-    ensures ready { IsReady B.meaning B.sort engine.new }
+    ensures goes { GoesOnAlone R.Rack engine.old engine.new }
+    ensures ready { IsReady B.Resource engine.new }
 {
     engine.invariant_holds();
     match engine.admit(i) {
@@ -65,11 +65,11 @@ pub fn admit<R: Rack + Drop, B: Resource>(engine: &mut Engine<R, B>, i: u32) -> 
 
 /// Asks a process to complete.
 pub fn abort<R: Rack + Drop, B: Resource>(engine: &mut Engine<R, B>, i: u32) -> Aborted
-    requires ready { IsReady B.meaning B.sort engine.old }
+    requires ready { IsReady B.Resource engine.old }
     ensures reply { aborted result ≡ (answer_in engine.old.core (abort i)).reply }
     ensures engine { engine.new ≡ with_core engine.old (after_call engine.old.core (abort i)) }
-    ensures goes { GoesOnAlone R.disk R.faults engine.old engine.new }
-    ensures ready { IsReady B.meaning B.sort engine.new }
+    ensures goes { GoesOnAlone R.Rack engine.old engine.new }
+    ensures ready { IsReady B.Resource engine.new }
 {
     engine.invariant_holds();
     match engine.abort(i) {
@@ -80,10 +80,10 @@ pub fn abort<R: Rack + Drop, B: Resource>(engine: &mut Engine<R, B>, i: u32) -> 
 
 /// Every active process that has not begun to complete begins to.
 pub fn complete_all<R: Rack + Drop, B: Resource>(engine: &mut Engine<R, B>)
-    requires ready { IsReady B.meaning B.sort engine.old }
+    requires ready { IsReady B.Resource engine.old }
     ensures engine { engine.new ≡ with_core engine.old (after_call engine.old.core complete_all) }
-    ensures goes { GoesOnAlone R.disk R.faults engine.old engine.new }
-    ensures ready { IsReady B.meaning B.sort engine.new }
+    ensures goes { GoesOnAlone R.Rack engine.old engine.new }
+    ensures ready { IsReady B.Resource engine.new }
 {
     engine.invariant_holds();
     match engine.complete_all() {
@@ -98,16 +98,16 @@ pub fn start<R: Rack + Drop, B: Resource>(
     alloc: Global,
     plan: Plan,
 ) -> Result<u32, EngineStart>
-    requires ready { IsReady B.meaning B.sort engine.old }
+    requires ready { IsReady B.Resource engine.old }
     requires plan { IsPlanFor engine.old.catalog plan }
     ensures reply { IfOk result (λ i. (answer_in engine.old.core (start (course_of plan))).reply ≡ started i) }
     ensures core { OnOk result (engine.new.core ≡ after_start engine.old.core plan) }
     ensures refused { IfErr result (IsNotStarted engine.old engine.new plan) }
     ensures stores { engine.new.files.stores ≡ engine.old.files.stores }
     ensures fault { IsFault result → Rose (R.faults engine.old.files.rack) (R.faults engine.new.files.rack) }
-    ensures goes { (may_start : List Plan') → IsOneOf may_start plan → GoesOn R.disk R.faults may_start engine.old engine.new }
-    ensures ready { OnOk result (IsReady B.meaning B.sort engine.new) }
-    ensures fits { EachFits B.meaning B.sort engine.new.files.stores }
+    ensures goes { (may_start : List Plan') → IsOneOf may_start plan → GoesOn R.Rack may_start engine.old engine.new }
+    ensures ready { OnOk result (IsReady B.Resource engine.new) }
+    ensures fits { EachFits B.Resource engine.new.files.stores }
 {
     engine.invariant_holds();
     match engine.start(alloc, plan) {
@@ -126,14 +126,14 @@ pub fn finish<R: Rack + Drop, B: Resource>(
     piece: Piece,
     answer: Answer,
 ) -> Finish
-    requires ready { IsReady B.meaning B.sort engine.old }
+    requires ready { IsReady B.Resource engine.old }
     requires handed { IsHandedBy engine.old.core piece.piece }
     requires end { piece.piece.work ≡ End → answer ≡ Answer.Done }
     ensures finishes { Finishes R.disk engine.old engine.new piece (outcome_of answer (is_barred engine.old piece.piece)) result }
     ensures fault { result ≡ Finish.DiskFault → Rose (R.faults engine.old.files.rack) (R.faults engine.new.files.rack) }
-    ensures goes { GoesOnAlone R.disk R.faults engine.old engine.new }
-    ensures ready { result ≢ Finish.DiskFault → IsReady B.meaning B.sort engine.new }
-    ensures fits { EachFits B.meaning B.sort engine.new.files.stores }
+    ensures goes { GoesOnAlone R.Rack engine.old engine.new }
+    ensures ready { result ≢ Finish.DiskFault → IsReady B.Resource engine.new }
+    ensures fits { EachFits B.Resource engine.new.files.stores }
 {
     engine.invariant_holds();
     let result = finish_piece(engine, piece, answer);

@@ -24,14 +24,14 @@ pub fn queue<R: Rack + Drop, B: Resource>(
     piece: Piece,
     answer: Answer,
 ) -> Queue
-    requires ready { IsReady B.meaning B.sort engine.old }
+    requires ready { IsReady B.Resource engine.old }
     requires handed { IsHandedBy engine.old.core piece.piece }
     requires end { piece.piece.work ≡ End → answer ≡ Answer.Done }
     requires queued { AreQueued engine.old queued.old }
     ensures queues { Queues engine.old engine.new queued.old queued.new piece answer result }
     ensures queued { AreQueued engine.new queued.new }
-    ensures goes { GoesOnAlone R.disk R.faults engine.old engine.new }
-    ensures ready { IsReady B.meaning B.sort engine.new }
+    ensures goes { GoesOnAlone R.Rack engine.old engine.new }
+    ensures ready { IsReady B.Resource engine.new }
 {
     engine.invariant_holds();
     group_flush::queue(engine, queued, piece, answer)
@@ -40,14 +40,14 @@ pub fn queue<R: Rack + Drop, B: Resource>(
 /// The queued pieces that run take effect together, in the order in which they were queued. After a fault of the rack the engine is
 /// closed.
 pub fn flush<R: Rack + Drop, B: Resource>(engine: &mut Engine<R, B>, queued: &mut Queued) -> Flush
-    requires ready { IsReady B.meaning B.sort engine.old }
+    requires ready { IsReady B.Resource engine.old }
     requires queued { AreQueued engine.old queued.old }
     ensures flushes { Flushes R.disk engine.old engine.new queued.old queued.new result }
     ensures fault { result ≡ Flush.DiskFault → Rose (R.faults engine.old.files.rack) (R.faults engine.new.files.rack) }
-    ensures goes { GoesOnAlone R.disk R.faults engine.old engine.new }
-    ensures ready { result ≢ Flush.DiskFault → IsReady B.meaning B.sort engine.new }
+    ensures goes { GoesOnAlone R.Rack engine.old engine.new }
+    ensures ready { result ≢ Flush.DiskFault → IsReady B.Resource engine.new }
     ensures queued { result ≢ Flush.DiskFault → AreQueued engine.new queued.new }
-    ensures fits { EachFits B.meaning B.sort engine.new.files.stores }
+    ensures fits { EachFits B.Resource engine.new.files.stores }
 {
     engine.invariant_holds();
     let result = group_flush::flush(engine, queued);

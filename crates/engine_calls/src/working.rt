@@ -36,13 +36,13 @@ pub fn work<R: Rack + Drop, B: Resource, G: Gate>(
     gate: &mut G,
     piece: Piece,
 ) -> Finish
-    requires ready { IsReady B.meaning B.sort engine.old }
+    requires ready { IsReady B.Resource engine.old }
     requires handed { IsHandedAs engine.old.core piece }
     ensures ends { EndsPiece R.disk engine.old engine.new piece result }
     ensures fault { result ≡ Finish.DiskFault → Rose (R.faults engine.old.files.rack) (R.faults engine.new.files.rack) }
-    ensures goes { GoesOnAlone R.disk R.faults engine.old engine.new }
-    ensures ready { result ≢ Finish.DiskFault → IsReady B.meaning B.sort engine.new }
-    ensures fits { EachFits B.meaning B.sort engine.new.files.stores }
+    ensures goes { GoesOnAlone R.Rack engine.old engine.new }
+    ensures ready { result ≢ Finish.DiskFault → IsReady B.Resource engine.new }
+    ensures fits { EachFits B.Resource engine.new.files.stores }
     ensures gate { IsByGate (asked G.Gate gate.old gate.new) engine.old.catalog engine.old.core engine.new.core }
     ensures unasked { piece.piece.work ≡ End → gate.new ≡ gate.old }
     ensures asked { piece.piece.work ≢ End → G.asked gate.new ≡ min (G.asked gate.old + 1) (2 ^ 64 - 1) }

@@ -87,7 +87,7 @@ impl<R: Rack + Drop, B: Resource> Engine<R, B> {
         ensures any_moment { Told (R.disk self.old.files.rack)
             → EachImage (R.disk self.new.files.rack) (R.disk self.old.files.rack).moment
             (IsSoundForEither self.old.catalog (full_history self.old.core) (history_with self.old.core room.plan)) }
-        ensures rack { LeavesImages R.disk R.faults self.old.files.rack self.new.files.rack (IsErr result) }
+        ensures rack { LeavesImages R.Rack self.old.files.rack self.new.files.rack (IsErr result) }
     {
         events_add_effects();
         journals_keep_histories();
@@ -123,7 +123,7 @@ impl<R: Rack + Drop, B: Resource> Engine<R, B> {
         ensures any_moment { self.old.phase ≡ phase.Settled → Told (R.disk self.old.files.rack)
             → EachImage (R.disk self.new.files.rack) (R.disk self.old.files.rack).moment
             (IsSoundForEither self.old.catalog (full_history self.old.core) (history_with self.old.core plan)) }
-        ensures rack { LeavesImages R.disk R.faults self.old.files.rack self.new.files.rack (IsFault result) }
+        ensures rack { LeavesImages R.Rack self.old.files.rack self.new.files.rack (IsFault result) }
     {
         if let Err(Closed(kept)) = self.not_closed() {
             return Err(EngineStart {

@@ -30,7 +30,7 @@ impl<R: Rack + Drop, B: Resource> Engine<R, B> {
     /// Adds the record of the end of a process to the journal, and keeps the end; the answer is how many events the history has
     /// then. A crash leaves files that are sound for the history without it or with it.
     pub fn end_piece(&mut self, piece: Piece) -> Result<u32, DiskFault>
-        requires fits { EachFits B.meaning B.sort self.old.files.stores }
+        requires fits { EachFits B.Resource self.old.files.stores }
         requires settled { self.old.phase ≡ phase.Settled }
         requires handed { IsHandedBy self.old.core piece.piece }
         requires out { state_of (moment_of self.old.core) piece.piece.number ≡ Out }
@@ -39,8 +39,8 @@ impl<R: Rack + Drop, B: Resource> Engine<R, B> {
         ensures any_moment { Told (R.disk self.old.files.rack)
             → EachImage (R.disk self.new.files.rack) (R.disk self.old.files.rack).moment
             (IsSoundForEither self.old.catalog (full_history self.old.core) (history_with self.old.core piece.piece)) }
-        ensures fits { EachFits B.meaning B.sort self.new.files.stores }
-        ensures rack { LeavesImages R.disk R.faults self.old.files.rack self.new.files.rack (IsErr result) }
+        ensures fits { EachFits B.Resource self.new.files.stores }
+        ensures rack { LeavesImages R.Rack self.old.files.rack self.new.files.rack (IsErr result) }
     {
         journals_keep_histories();
         events_add_effects();

@@ -102,7 +102,7 @@ impl<R: Rack + Drop, B: Resource> Engine<R, B> {
     /// Prepares effects, each in the store of its subsystem, with two syncs for all. A crash leaves files that are sound for the
     /// history without them. With no effect it makes no call of the rack.
     pub fn prepare_group(&mut self, group: &[Option<Effect>]) -> Result<(), DiskFault>
-        requires fits { EachFits B.meaning B.sort self.old.files.stores }
+        requires fits { EachFits B.Resource self.old.files.stores }
         requires settled { self.old.phase ≡ phase.Settled }
         requires may { MayPrepareEach group.now self.old.files.stores }
         requires bytes { FitEach group.now }
@@ -113,8 +113,8 @@ impl<R: Rack + Drop, B: Resource> Engine<R, B> {
             → EachImage (R.disk self.new.files.rack) (R.disk self.old.files.rack).moment
             (IsSound self.old.catalog (full_history self.old.core)) }
         ensures none { has_effect group.now ≡ false → self.new.files ≡ self.old.files }
-        ensures fits { EachFits B.meaning B.sort self.new.files.stores }
-        ensures rack { LeavesImages R.disk R.faults self.old.files.rack self.new.files.rack (IsErr result) }
+        ensures fits { EachFits B.Resource self.new.files.stores }
+        ensures rack { LeavesImages R.Rack self.old.files.rack self.new.files.rack (IsErr result) }
     {
         self.files.are_sound();
         if !has_effect(group) {
@@ -136,7 +136,7 @@ impl<R: Rack + Drop, B: Resource> Engine<R, B> {
     /// Adds the records of the events of a prepared group to the journal. A crash leaves files that are sound for the history
     /// without them or with all of them.
     pub fn record_group(&mut self, events: &[Event]) -> Result<(), DiskFault>
-        requires fits { EachFits B.meaning B.sort self.old.files.stores }
+        requires fits { EachFits B.Resource self.old.files.stores }
         requires may { (group : List (Option Effect)) × MayBeRecorded self.old (R.disk self.old.files.rack) events.now group }
         requires events { AreGroupEvents events.now }
         ensures step { LeavesCore self.old self.new result }
@@ -146,8 +146,8 @@ impl<R: Rack + Drop, B: Resource> Engine<R, B> {
         ensures any_moment { Told (R.disk self.old.files.rack)
             → EachImage (R.disk self.new.files.rack) (R.disk self.old.files.rack).moment
             (IsSoundForEither self.old.catalog (full_history self.old.core) (with_events (full_history self.old.core) events.now)) }
-        ensures fits { EachFits B.meaning B.sort self.new.files.stores }
-        ensures rack { LeavesImages R.disk R.faults self.old.files.rack self.new.files.rack (IsErr result) }
+        ensures fits { EachFits B.Resource self.new.files.stores }
+        ensures rack { LeavesImages R.Rack self.old.files.rack self.new.files.rack (IsErr result) }
     {
         books_come_to_groups::<B>();
         self.core.is_run();
@@ -165,7 +165,7 @@ impl<R: Rack + Drop, B: Resource> Engine<R, B> {
     /// Commits the effects of a recorded group, with two syncs for all. A crash leaves files that are sound for the history with
     /// its events. With no effect it makes no call of the rack.
     pub fn commit_group(&mut self) -> Result<(), DiskFault>
-        requires fits { EachFits B.meaning B.sort self.old.files.stores }
+        requires fits { EachFits B.Resource self.old.files.stores }
         requires recorded { (group : List (Option Effect)) × (h : History)
             × IsGroupRecorded self.old (R.disk self.old.files.rack) group h }
         ensures step { LeavesCore self.old self.new result }
@@ -176,8 +176,8 @@ impl<R: Rack + Drop, B: Resource> Engine<R, B> {
             → IsGroupRecorded self.old (R.disk self.old.files.rack) group h
             → EachImage (R.disk self.new.files.rack) (R.disk self.old.files.rack).moment (IsSound self.old.catalog h) }
         ensures none { HasNoDoubt self.old.files.stores → self.new ≡ self.old }
-        ensures fits { EachFits B.meaning B.sort self.new.files.stores }
-        ensures rack { LeavesImages R.disk R.faults self.old.files.rack self.new.files.rack (IsErr result) }
+        ensures fits { EachFits B.Resource self.new.files.stores }
+        ensures rack { LeavesImages R.Rack self.old.files.rack self.new.files.rack (IsErr result) }
     {
         books_come_to_groups::<B>();
         self.files.are_sound();

@@ -24,7 +24,7 @@ impl<R: Rack + Drop, B: Resource> Engine<R, B> {
 
     /// The rack, and the boxes with the values of their books. It takes no memory.
     pub fn into_parts(self) -> Parts<R, B>
-        requires fits { EachFits B.meaning B.sort self.files.stores }
+        requires fits { EachFits B.Resource self.files.stores }
         ensures rack { result.rack ≡ self.files.rack }
         ensures boxes { result.resources.items ≡ map (λ s. s.resource) self.files.stores }
         ensures kinds { AreBoxes B.sort result.resources.items }

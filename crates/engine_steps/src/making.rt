@@ -60,12 +60,12 @@ impl<R: Rack + Drop, B: Resource> Engine<R, B> {
         ensures rest { IfOk result (λ e. AreAtRest catalog no_history e.files (R.disk e.files.rack)) }
         ensures sound { Told (R.disk parts.rack) → IfOk result
             (λ e. WereMade catalog (R.disk parts.rack) (R.disk e.files.rack)) }
-        ensures fits { IfOk result (λ e. EachFits B.meaning B.sort e.files.stores) }
+        ensures fits { IfOk result (λ e. EachFits B.Resource e.files.stores) }
         ensures refused { Told (R.disk parts.rack) → IfErr result
             (λ r. IsRefusedMaking (R.disk parts.rack) (R.disk r.parts.rack) r.why) }
         ensures back { IfErr result (λ r. AreBoxes B.sort r.parts.resources.items × AreEmpty B.meaning r.parts.resources.items) }
-        ensures rack { IfOk result (λ e. LeavesImages R.disk R.faults parts.rack e.files.rack ⊥) }
-        ensures rack_back { IfErr result (λ r. LeavesImages R.disk R.faults parts.rack r.parts.rack (r.why ≡ Fault)) }
+        ensures rack { IfOk result (λ e. LeavesImages R.Rack parts.rack e.files.rack ⊥) }
+        ensures rack_back { IfErr result (λ r. LeavesImages R.Rack parts.rack r.parts.rack (r.why ≡ Fault)) }
     {
         calls_make_good_books();
         let Ok(core) = new_core(alloc, &catalog) else {

@@ -33,7 +33,7 @@ fn opened_core(alloc: Global, catalog: &Catalog, history: History) -> Result<Cor
 
 // Hands the parts of files back with their boxes empty, for want of memory.
 fn closed<R: Rack + Drop, B: Resource>(files: Files<R, B>) -> OpenRefused<R, B>
-    requires fits { EachFits B.meaning B.sort files.stores }
+    requires fits { EachFits B.Resource files.stores }
     ensures rack { result.parts.rack ≡ files.rack }
     ensures boxes { AreBoxes B.sort result.parts.resources.items × AreEmpty B.meaning result.parts.resources.items }
     ensures why { result.why ≡ NoMemory }
@@ -55,7 +55,7 @@ fn engine_on<R: Rack + Drop, B: Resource>(
 ) -> Result<Engine<R, B>, OpenRefused<R, B>>
     requires history { IsHistoryUnder catalog history }
     requires rest { AreAtRest catalog history files (R.disk files.rack) }
-    requires fits { EachFits B.meaning B.sort files.stores }
+    requires fits { EachFits B.Resource files.stores }
     ensures opened { IfOk result IsOpened }
     ensures on { IfOk result (IsOn catalog history files) }
     ensures rack { IfErr result (λ r. r.parts.rack ≡ files.rack) }
@@ -83,12 +83,12 @@ impl<R: Rack + Drop, B: Resource> Engine<R, B> {
         ensures rest { IfOk result (λ e. AreAtRest e.catalog (full_history e.core) e.files (R.disk e.files.rack)) }
         ensures sound { Told (R.disk parts.rack) → IfOk result
             (λ e. WereSettledFor e.catalog (full_history e.core) (R.disk parts.rack) (R.disk e.files.rack)) }
-        ensures fits { IfOk result (λ e. EachFits B.meaning B.sort e.files.stores) }
+        ensures fits { IfOk result (λ e. EachFits B.Resource e.files.stores) }
         ensures refused { Told (R.disk parts.rack) → IfErr result
             (λ r. IsRefusedOpening (R.disk parts.rack) (R.disk r.parts.rack) r.why) }
         ensures back { IfErr result (λ r. AreBoxes B.sort r.parts.resources.items × AreEmpty B.meaning r.parts.resources.items) }
-        ensures rack { IfOk result (λ e. LeavesImages R.disk R.faults parts.rack e.files.rack ⊥) }
-        ensures rack_back { IfErr result (λ r. LeavesImages R.disk R.faults parts.rack r.parts.rack (r.why ≡ Fault)) }
+        ensures rack { IfOk result (λ e. LeavesImages R.Rack parts.rack e.files.rack ⊥) }
+        ensures rack_back { IfErr result (λ r. LeavesImages R.Rack parts.rack r.parts.rack (r.why ≡ Fault)) }
     {
         match open_files(alloc, parts) {
             Ok((files, catalog, history)) => {

@@ -150,7 +150,7 @@ impl<R: Rack + Drop, B: Resource> Engine<R, B> {
 
     /// Prepares the effect of an act, which comes next.
     fn prepare_effect(&mut self, q: u8, entry: &Entry) -> Prepare
-        requires fits { EachFits B.meaning B.sort self.old.files.stores }
+        requires fits { EachFits B.Resource self.old.files.stores }
         requires settled { self.old.phase ≡ phase.Settled }
         requires subsystem { q ≡ subsystem_of self.old.catalog.ops entry.now.op }
         requires low { q < 8 }
@@ -171,8 +171,8 @@ impl<R: Rack + Drop, B: Resource> Engine<R, B> {
         ensures any_moment { Told (R.disk self.old.files.rack)
             → EachImage (R.disk self.new.files.rack) (R.disk self.old.files.rack).moment
             (IsSound self.old.catalog (full_history self.old.core)) }
-        ensures fits { EachFits B.meaning B.sort self.new.files.stores }
-        ensures rack { LeavesImages R.disk R.faults self.old.files.rack self.new.files.rack (result ≡ Prepare.DiskFault) }
+        ensures fits { EachFits B.Resource self.new.files.stores }
+        ensures rack { LeavesImages R.Rack self.old.files.rack self.new.files.rack (result ≡ Prepare.DiskFault) }
     {
         next_effects_may_be_prepared();
         events_add_effects();
@@ -187,7 +187,7 @@ impl<R: Rack + Drop, B: Resource> Engine<R, B> {
     /// Prepares the effect of a piece in the store of its subsystem, where the values don't bar it. A crash leaves files that are
     /// sound for the history without it.
     pub fn prepare_piece(&mut self, piece: Piece) -> PreparePiece
-        requires fits { EachFits B.meaning B.sort self.old.files.stores }
+        requires fits { EachFits B.Resource self.old.files.stores }
         requires settled { self.old.phase ≡ phase.Settled }
         requires out { IsStepOut self.old.core piece.piece }
         ensures core { self.new.core ≡ self.old.core }
@@ -198,8 +198,8 @@ impl<R: Rack + Drop, B: Resource> Engine<R, B> {
         ensures any_moment { Told (R.disk self.old.files.rack)
             → EachImage (R.disk self.new.files.rack) (R.disk self.old.files.rack).moment
             (IsSound self.old.catalog (full_history self.old.core)) }
-        ensures fits { EachFits B.meaning B.sort self.new.files.stores }
-        ensures rack { LeavesImages R.disk R.faults self.old.files.rack self.new.files.rack (result ≡ PreparePiece.DiskFault) }
+        ensures fits { EachFits B.Resource self.new.files.stores }
+        ensures rack { LeavesImages R.Rack self.old.files.rack self.new.files.rack (result ≡ PreparePiece.DiskFault) }
     {
         journals_keep_histories();
         self.core.is_run();
@@ -221,7 +221,7 @@ impl<R: Rack + Drop, B: Resource> Engine<R, B> {
     /// Adds the record of a prepared piece to the journal. A crash leaves files that are sound for the history without it or with
     /// it.
     pub fn record_piece(&mut self, p: Prepared) -> Result<Recorded, DiskFault>
-        requires fits { EachFits B.meaning B.sort self.old.files.stores }
+        requires fits { EachFits B.Resource self.old.files.stores }
         requires prepared { IsPrepared self.old (R.disk self.old.files.rack) p }
         ensures core { self.new.core ≡ self.old.core }
         ensures catalog { self.new.catalog ≡ self.old.catalog }
@@ -230,8 +230,8 @@ impl<R: Rack + Drop, B: Resource> Engine<R, B> {
         ensures any_moment { Told (R.disk self.old.files.rack)
             → EachImage (R.disk self.new.files.rack) (R.disk self.old.files.rack).moment
             (IsSoundForEither self.old.catalog (full_history self.old.core) (history_with self.old.core p.piece.piece)) }
-        ensures fits { EachFits B.meaning B.sort self.new.files.stores }
-        ensures rack { LeavesImages R.disk R.faults self.old.files.rack self.new.files.rack (IsErr result) }
+        ensures fits { EachFits B.Resource self.new.files.stores }
+        ensures rack { LeavesImages R.Rack self.old.files.rack self.new.files.rack (IsErr result) }
     {
         books_come_to_acts::<B>();
         self.core.is_run();
@@ -256,14 +256,14 @@ impl<R: Rack + Drop, B: Resource> Engine<R, B> {
     /// Commits the effect of a recorded piece; the answer is how many events the history has then. A crash leaves files that are
     /// sound for the history with it.
     pub fn settle_piece(&mut self, r: Recorded) -> Result<u32, DiskFault>
-        requires fits { EachFits B.meaning B.sort self.old.files.stores }
+        requires fits { EachFits B.Resource self.old.files.stores }
         requires recorded { IsRecorded self.old (R.disk self.old.files.rack) r }
         ensures settles { SettlesPiece self.old self.new r.piece result }
         ensures any_moment { Told (R.disk self.old.files.rack)
             → EachImage (R.disk self.new.files.rack) (R.disk self.old.files.rack).moment
             (IsSound self.old.catalog (history_with self.old.core r.piece.piece)) }
-        ensures fits { EachFits B.meaning B.sort self.new.files.stores }
-        ensures rack { LeavesImages R.disk R.faults self.old.files.rack self.new.files.rack (IsErr result) }
+        ensures fits { EachFits B.Resource self.new.files.stores }
+        ensures rack { LeavesImages R.Rack self.old.files.rack self.new.files.rack (IsErr result) }
     {
         events_add_effects();
         books_come_to_acts::<B>();

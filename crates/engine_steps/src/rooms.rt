@@ -44,7 +44,7 @@ impl<R: Rack + Drop, B: Resource> Engine<R, B> {
 
     /// Whether the values bar a step. An undo is never barred.
     pub fn bars(&self, piece: &Piece) -> bool
-        requires fits { EachFits B.meaning B.sort self.now.files.stores }
+        requires fits { EachFits B.Resource self.now.files.stores }
         requires settled { self.now.phase ≡ phase.Settled }
         ensures { result ≡ bars_act self.now.catalog.ops (full_history self.now.core) (act_of self.now.core.plans piece.now.piece) }
     {
@@ -57,11 +57,11 @@ impl<R: Rack + Drop, B: Resource> Engine<R, B> {
 
     /// Makes room in its store for the effect of a step, so that preparing it needs no memory. It makes no call of the rack.
     pub fn make_room(&mut self, piece: &Piece) -> Result<(), AllocError>
-        requires fits { EachFits B.meaning B.sort self.old.files.stores }
+        requires fits { EachFits B.Resource self.old.files.stores }
         ensures room { MakesRoomFor self.old self.new piece.now.piece }
         ensures ok { OnOk result (HasRoomAt (subsystem_of self.old.catalog.ops (act_of self.old.core.plans piece.now.piece).op)
             (effect_of self.old piece.now.piece).call.key self.new.files.stores) }
-        ensures fits { EachFits B.meaning B.sort self.new.files.stores }
+        ensures fits { EachFits B.Resource self.new.files.stores }
     {
         let entry = act_of(self.core.history().plans.as_slice(), piece);
         let q = subsystem_of(self.catalog.ops.as_slice(), entry.op);

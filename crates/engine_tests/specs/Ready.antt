@@ -1,7 +1,6 @@
 -- Engines that may take a call.
 use Rattle.std.specs.Prelude.{◌≢◌, List}
-use Rattle.resource_box.specs.declared.call.Kind.{Kind}
-use Rattle.resource_box.specs.Meaning.{Pairs}
+use Rattle.resource_box.specs.declared.resource.Resource.{Ghosts as Resources}
 use Rattle.machine_model.specs.Replies.{Handed}
 use Rattle.history_files.specs.Standing.{EachFits}
 use Rattle.engine_steps.specs.Engines.{EngineState}
@@ -10,12 +9,12 @@ use Rattle.group_flush.specs.Queues.{AreQueued}
 use Rattle.engine_calls.specs.Runs.{IsReady as IsReadyToRun}
 
 -- Its boxes fit the books, and no piece is on its way through the files.
-pub record IsReady {R B : Type 0} (meaning : B → Pairs) (sort : B → Kind) (e : EngineState R B) : Type 0 where
-  pub fits : EachFits meaning sort e.files.stores
+pub record IsReady {R B : Type 0} (box : Resources B) (e : EngineState R B) : Type 0 where
+  pub fits : EachFits box e.files.stores
   pub whole : e.phase ≢ phase.UnderWay
 
 -- It may be called, and these are queued at it.
-pub record MayQueue {R B : Type 0} (meaning : B → Pairs) (sort : B → Kind) (e : EngineState R B)
+pub record MayQueue {R B : Type 0} (box : Resources B) (e : EngineState R B)
     (group : List Handed) : Type 0 where
-  pub ready : IsReadyToRun meaning sort e
+  pub ready : IsReadyToRun box e
   pub queued : AreQueued e group

@@ -44,7 +44,7 @@ fn catalog(alloc: Global) -> Result<Catalog, Fail>
 /// An engine in which nothing has happened.
 pub fn created<B: Resource>(alloc: Global, resources: Vec<B>) -> Result<Engine<MemoryRack, B>, Fail>
     requires { AreBoxes B.sort resources.items }
-    ensures { IfOk result (IsReady B.meaning B.sort) }
+    ensures { IfOk result (IsReady B.Resource) }
 {
     let catalog = catalog(alloc)?;
     let rack = MemoryRack::new(alloc, Vec::new(alloc))?;
@@ -61,7 +61,7 @@ pub fn opened<B: Resource>(
     resources: Vec<B>,
 ) -> Result<Engine<MemoryRack, B>, OpenRefused<MemoryRack, B>>
     requires { AreBoxes B.sort resources.items }
-    ensures ready { IfOk result (IsReady B.meaning B.sort) }
+    ensures ready { IfOk result (IsReady B.Resource) }
     ensures boxes { IfErr result (λ refused. AreBoxes B.sort refused.parts.resources.items) }
 {
     Engine::open(alloc, Parts { rack, resources })
@@ -114,8 +114,8 @@ pub fn start<R: Rack + Drop, B: Resource>(
     engine: &mut Engine<R, B>,
     text: &[u8],
 ) -> Result<u32, Fail>
-    requires { IsReady B.meaning B.sort engine.old }
-    ensures { IfOk result (λ _. IsReady B.meaning B.sort engine.new) }
+    requires { IsReady B.Resource engine.old }
+    ensures { IfOk result (λ _. IsReady B.Resource engine.new) }
 {
     let plan = planned(alloc, engine, text)?;
     let Ok(number) = engine.start(alloc, plan) else {
@@ -130,8 +130,8 @@ pub fn start_all<R: Rack + Drop, B: Resource>(
     engine: Engine<R, B>,
     texts: &[&[u8]],
 ) -> Result<Engine<R, B>, Fail>
-    requires { IsReady B.meaning B.sort engine }
-    ensures { IfOk result (IsReady B.meaning B.sort) }
+    requires { IsReady B.Resource engine }
+    ensures { IfOk result (IsReady B.Resource) }
 {
     let mut engine = engine;
     for text in texts {

@@ -30,8 +30,8 @@ fn said_of(reply: &Queue) -> Said {
 
 // Any piece is asked for.
 fn ask<R: Rack + Drop, B: Resource>(engine: &mut Engine<R, B>, queued: &Queued) -> Next
-    requires { MayQueue B.meaning B.sort engine.old queued.now }
-    ensures queue { MayQueue B.meaning B.sort engine.new queued.now }
+    requires { MayQueue B.Resource engine.old queued.now }
+    ensures queue { MayQueue B.Resource engine.new queued.now }
     ensures given { IsGiven engine.new.core result }
 {
     let reply = next(engine);
@@ -44,8 +44,8 @@ fn queue_next<H: Abort, R: Rack + Drop, B: Resource>(
     engine: &mut Engine<R, B>,
     queued: &mut Queued,
 ) -> Said
-    requires { MayQueue B.meaning B.sort engine.old queued.old }
-    ensures { MayQueue B.meaning B.sort engine.new queued.new }
+    requires { MayQueue B.Resource engine.old queued.old }
+    ensures { MayQueue B.Resource engine.new queued.new }
 {
     let Next::Piece(piece) = ask(engine, queued) else {
         panic!(rt; "no piece");
@@ -63,8 +63,8 @@ fn complete<H: Abort, R: Rack + Drop, B: Resource>(
     queued: &Queued,
     i: u32,
 )
-    requires { MayQueue B.meaning B.sort engine.old queued.now }
-    ensures { MayQueue B.meaning B.sort engine.new queued.now }
+    requires { MayQueue B.Resource engine.old queued.now }
+    ensures { MayQueue B.Resource engine.new queued.now }
 {
     let answer = abort(engine, i);
     assert_eq!(rt; answer, Aborted::Ok);
@@ -85,8 +85,8 @@ fn expect_flush<H: Abort, R: Rack + Drop, B: Resource>(
     wanted: &[(u32, GroupEnd)],
     name: &str,
 )
-    requires { MayQueue B.meaning B.sort engine.old queued.old }
-    ensures { MayQueue B.meaning B.sort engine.new queued.new }
+    requires { MayQueue B.Resource engine.old queued.old }
+    ensures { MayQueue B.Resource engine.new queued.new }
 {
     let Flush::Flushed(group) = flush(engine, queued) else {
         panic!(rt; "not flushed");
@@ -101,8 +101,8 @@ fn expect_line<H: Abort, R: Rack + Drop, B: Resource>(
     line: &Line,
     name: &str,
 )
-    requires { MayQueue B.meaning B.sort engine.old queued.old }
-    ensures { MayQueue B.meaning B.sort engine.new queued.new }
+    requires { MayQueue B.Resource engine.old queued.old }
+    ensures { MayQueue B.Resource engine.new queued.new }
 {
     match line {
         Line::Queue(wanted) => {
@@ -116,8 +116,8 @@ fn expect_line<H: Abort, R: Rack + Drop, B: Resource>(
 
 // The engine isn't closed.
 fn expect_open<H: Abort, R: Rack + Drop, B: Resource>(rt: &H, engine: &Engine<R, B>)
-    requires { IsReady B.meaning B.sort engine.now }
-    ensures { IsReadyToRun B.meaning B.sort engine.now }
+    requires { IsReady B.Resource engine.now }
+    ensures { IsReadyToRun B.Resource engine.now }
 {
     let Ok(()) = engine.not_closed() else {
         panic!(rt; "closed");
@@ -126,8 +126,8 @@ fn expect_open<H: Abort, R: Rack + Drop, B: Resource>(rt: &H, engine: &Engine<R,
 
 // So many turns.
 fn after_turns<R: Rack + Drop, B: Resource>(engine: Engine<R, B>, turns: usize) -> Engine<R, B>
-    requires { IsReady B.meaning B.sort engine }
-    ensures { IsReady B.meaning B.sort result }
+    requires { IsReady B.Resource engine }
+    ensures { IsReady B.Resource result }
 {
     let mut engine = engine;
     for _ in 0..turns {
@@ -143,7 +143,7 @@ fn started<B: Resource>(
     resources: Vec<B>,
 ) -> Result<Engine<MemoryRack, B>, Fail>
     requires { AreBoxes B.sort resources.items }
-    ensures { IfOk result (IsReady B.meaning B.sort) }
+    ensures { IfOk result (IsReady B.Resource) }
 {
     let engine = created(alloc, resources)?;
     let engine = start_all(alloc, engine, row.ahead)?;
@@ -159,9 +159,9 @@ fn play<H: Abort, R: Rack + Drop, B: Resource>(
     row: &Row,
     lines: &[Line],
 )
-    requires ready { IsReady B.meaning B.sort engine.old }
+    requires ready { IsReady B.Resource engine.old }
     requires none { queued.old ≡ [] }
-    ensures { MayQueue B.meaning B.sort engine.new queued.new }
+    ensures { MayQueue B.Resource engine.new queued.new }
 {
     expect_open(rt, engine);
     for line in lines {
@@ -178,7 +178,7 @@ fn played<H: Abort, B: Resource>(
     resources: Vec<B>,
 ) -> Result<Engine<MemoryRack, B>, Fail>
     requires { AreBoxes B.sort resources.items }
-    ensures { IfOk result (IsReadyToRun B.meaning B.sort) }
+    ensures { IfOk result (IsReadyToRun B.Resource) }
 {
     let mut queued = Queued::new(alloc)?;
     let mut engine = started(alloc, row, resources)?;

@@ -153,7 +153,7 @@ pub fn whole_of<H: Abort, B: Resource>(
     engine: Engine<MemoryRack, B>,
     made: u32,
 ) -> (Whole, Vec<B>)
-    requires { EachFits B.meaning B.sort engine.files.stores }
+    requires { EachFits B.Resource engine.files.stores }
     ensures { AreBoxes B.sort result.1.items }
 {
     let Ok(events) = engine.history().events.as_slice().to_vec(alloc) else {

@@ -55,8 +55,8 @@ fn work<G: Gate>(gate: &mut G, piece: &Piece) -> Answer
 
 /// The next piece, or what a turn without one comes to.
 pub fn next_piece<R: Rack + Drop, B: Resource>(engine: &mut Engine<R, B>) -> Result<Piece, Turn>
-    requires ready { IsReady B.meaning B.sort engine.old }
-    ensures ready { IsReady B.meaning B.sort engine.new }
+    requires ready { IsReady B.Resource engine.old }
+    ensures ready { IsReady B.Resource engine.new }
     ensures handed { IfOk result (λ piece. IsHandedBy engine.new.core piece.piece) }
 {
     let reply = engine.next();
@@ -76,9 +76,9 @@ pub fn finish<R: Rack + Drop, B: Resource, G: Gate>(
     gate: &mut G,
     piece: Piece,
 ) -> Turn
-    requires ready { IsReady B.meaning B.sort engine.old }
+    requires ready { IsReady B.Resource engine.old }
     requires handed { IsHandedBy engine.old.core piece.piece }
-    ensures { IsReady B.meaning B.sort engine.new }
+    ensures { IsReady B.Resource engine.new }
 {
     let answer = work(gate, &piece);
     turn_of(&finish_piece(engine, piece, answer))
@@ -89,8 +89,8 @@ pub fn take_turn<R: Rack + Drop, B: Resource, G: Gate>(
     engine: &mut Engine<R, B>,
     gate: &mut G,
 ) -> Turn
-    requires { IsReady B.meaning B.sort engine.old }
-    ensures { IsReady B.meaning B.sort engine.new }
+    requires { IsReady B.Resource engine.old }
+    ensures { IsReady B.Resource engine.new }
 {
     match next_piece(engine) {
         Ok(piece) => finish(engine, gate, piece),
@@ -104,8 +104,8 @@ pub fn take_turns<R: Rack + Drop, B: Resource, G: Gate>(
     gate: &mut G,
     most: u32,
 ) -> Turn
-    requires { IsReady B.meaning B.sort engine.old }
-    ensures { IsReady B.meaning B.sort engine.new }
+    requires { IsReady B.Resource engine.old }
+    ensures { IsReady B.Resource engine.new }
 {
     for _ in 0..most {
         if let Turn::AllEnded = take_turn(engine, gate) {

@@ -17,20 +17,20 @@ pub fn write_and_sync<R: Rack>(rack: &mut R, file: u8, at: u64, bytes: &[u8]) ->
         ((R.disk rack.new).files ≡ put (R.disk rack.old).files file at bytes.now) }
     ensures durable { Told (R.disk rack.old) → OnOk result (Only (R.disk rack.new).files (R.disk rack.new).may_leave) }
     ensures run { Told (R.disk rack.old) → RunBy (TornIn file at (length bytes.now)) (R.disk rack.old) (R.disk rack.new) }
-    ensures rack { LeavesRack R.disk R.faults rack.old rack.new (IsErr result) }
+    ensures rack { LeavesRack R.Rack rack.old rack.new (IsErr result) }
     ensures quiet { OnOk result (R.faults rack.new ≡ R.faults rack.old) }
 {
     rack.write_at(file, at, bytes)?;
     rack.sync()
 }
 
-/// All the bytes of a file. Where a writer beside it makes the file longer, it reads on up to an end: so it has the body of each gate
-/// that it sees open.
+/// All the bytes of a file. Where a writer beside it makes the file longer, it reads on up to an end: so it has the body of each
+/// gate that it sees open.
 pub fn whole_file<R: Rack>(alloc: Global, rack: &mut R, file: u8) -> Result<Vec<u8>, LogError>
     requires { file < 9 }
     ensures bytes { Told (R.disk rack.old) → IfOk result (λ bytes. bytes.items ≡ file_of (R.disk rack.old).files file) }
     ensures all { Told (R.disk rack.old) → AllAsBefore (R.disk rack.old) (R.disk rack.new) }
-    ensures rack { LeavesRack R.disk R.faults rack.old rack.new (IsErrOf result LogError.DiskFault) }
+    ensures rack { LeavesRack R.Rack rack.old rack.new (IsErrOf result LogError.DiskFault) }
     ensures quiet { OnOk result (R.faults rack.new ≡ R.faults rack.old) }
     ensures refused { IfErr result (λ e. (e ≡ LogError.DiskFault) ⊎ (e ≡ LogError.NoMemory)) }
 {

@@ -59,7 +59,7 @@ impl Log {
         // Whatever it answers, at most the nine bytes of an empty log were written.
         ensures run { Told (R.disk rack.old) → RunBy (TornIn file 0 9) (R.disk rack.old) (R.disk rack.new) }
         ensures err { IfErr result (λ e. IsUnmade NoMemory LogError.DiskFault e (rack.new ≡ rack.old)) }
-        ensures rack { LeavesRack R.disk R.faults rack.old rack.new (IsErrOf result LogError.DiskFault) }
+        ensures rack { LeavesRack R.Rack rack.old rack.new (IsErrOf result LogError.DiskFault) }
         // No failed call of the rack is passed over.
         ensures quiet { OnOk result (R.faults rack.new ≡ R.faults rack.old) }
     {
@@ -87,7 +87,7 @@ impl Log {
         ensures stands { Told (R.disk rack.old) → IfOk result (λ opened. StandsFor opened.0 opened.1.items (R.disk rack.new)) }
         ensures log { IfOk result (λ opened. IsFreshLog file opened.1.items opened.0) }
         ensures all { Told (R.disk rack.old) → AllAsBefore (R.disk rack.old) (R.disk rack.new) }
-        ensures rack { LeavesRack R.disk R.faults rack.old rack.new (IsErrOf result LogError.DiskFault) }
+        ensures rack { LeavesRack R.Rack rack.old rack.new (IsErrOf result LogError.DiskFault) }
         ensures quiet { OnOk result (R.faults rack.new ≡ R.faults rack.old) }
     {
         let buffer = Buffer::new(alloc)?;
@@ -133,7 +133,7 @@ impl Log {
         // What was staged is let go.
         ensures ok { OnOk result (HasOneMore self.old self.new) }
         ensures err { OnErr result (self.new ≡ self.old) }
-        ensures rack { LeavesRack R.disk R.faults rack.old rack.new (IsErr result) }
+        ensures rack { LeavesRack R.Rack rack.old rack.new (IsErr result) }
         ensures quiet { OnOk result (R.faults rack.new ≡ R.faults rack.old) }
     {
         let size = self.buffer.fill(body);
@@ -180,7 +180,7 @@ impl Log {
         ensures any_moment { Told (R.disk rack.old) → (bodies : List (List ℕ)) → StandsFor self.now bodies (R.disk rack.old) →
             EachImage (R.disk rack.new) (R.disk rack.old).moment (Logs self.now.file bodies) }
         ensures others { Told (R.disk rack.old) → OthersAsBefore self.now.file (R.disk rack.old) (R.disk rack.new) }
-        ensures rack { LeavesRack R.disk R.faults rack.old rack.new (IsErr result) }
+        ensures rack { LeavesRack R.Rack rack.old rack.new (IsErr result) }
         ensures quiet { OnOk result (R.faults rack.new ≡ R.faults rack.old) }
     {
         write(rack, self.file, self.end + 1, self.staged.behind_gate())
@@ -197,7 +197,7 @@ impl Log {
         ensures any_moment { Told (R.disk rack.old) → (bodies : List (List ℕ)) → AreOnDisk self.now bodies (R.disk rack.old) →
             EachImage (R.disk rack.new) (R.disk rack.old).moment (LogsBeforeOrWithAll self.now.file bodies self.now.staged) }
         ensures others { Told (R.disk rack.old) → OthersAsBefore self.now.file (R.disk rack.old) (R.disk rack.new) }
-        ensures rack { LeavesRack R.disk R.faults rack.old rack.new (IsErr result) }
+        ensures rack { LeavesRack R.Rack rack.old rack.new (IsErr result) }
         ensures quiet { OnOk result (R.faults rack.new ≡ R.faults rack.old) }
     {
         write(rack, self.file, self.end, &[1])
@@ -229,7 +229,7 @@ impl Log {
         ensures others { Told (R.disk rack.old) → OthersAsBefore self.old.file (R.disk rack.old) (R.disk rack.new) }
         ensures ok { OnOk result ((self.new ≡ with_staged self.old) × CanRetract self.new) }
         ensures err { OnErr result (self.new ≡ self.old) }
-        ensures rack { LeavesRack R.disk R.faults rack.old rack.new (IsErr result) }
+        ensures rack { LeavesRack R.Rack rack.old rack.new (IsErr result) }
         ensures quiet { OnOk result (R.faults rack.new ≡ R.faults rack.old) }
     {
         let _ = &self.file;
@@ -251,7 +251,7 @@ impl Log {
         ensures any_moment { Told (R.disk rack.old) → (bodies : List (List ℕ)) → StandsFor self.now bodies (R.disk rack.old) →
             EachImage (R.disk rack.new) (R.disk rack.old).moment (Logs self.now.file bodies) }
         ensures others { Told (R.disk rack.old) → OthersAsBefore self.now.file (R.disk rack.old) (R.disk rack.new) }
-        ensures rack { LeavesRack R.disk R.faults rack.old rack.new (IsErr result) }
+        ensures rack { LeavesRack R.Rack rack.old rack.new (IsErr result) }
         ensures quiet { OnOk result (R.faults rack.new ≡ R.faults rack.old) }
     {
         self.write_staged(rack)?;
@@ -268,7 +268,7 @@ impl Log {
         ensures any_moment { Told (R.disk rack.old) → (bodies : List (List ℕ)) → AreOnDisk self.now bodies (R.disk rack.old) →
             EachImage (R.disk rack.new) (R.disk rack.old).moment (LogsBeforeOrWithAll self.now.file bodies self.now.staged) }
         ensures others { Told (R.disk rack.old) → OthersAsBefore self.now.file (R.disk rack.old) (R.disk rack.new) }
-        ensures rack { LeavesRack R.disk R.faults rack.old rack.new (IsErr result) }
+        ensures rack { LeavesRack R.Rack rack.old rack.new (IsErr result) }
         ensures quiet { OnOk result (R.faults rack.new ≡ R.faults rack.old) }
     {
         self.open_gate(rack)?;
@@ -297,7 +297,7 @@ impl Log {
             ((self.new.file ≡ self.old.file) × (self.new.count + 1 ≡ self.old.count) × (self.new.last ≡ None)) }
         ensures unstaged { OnOk result (self.new.staged ≡ []) }
         ensures err { OnErr result (self.new ≡ self.old) }
-        ensures rack { LeavesRack R.disk R.faults rack.old rack.new (IsErr result) }
+        ensures rack { LeavesRack R.Rack rack.old rack.new (IsErr result) }
     {
         let Some(size) = self.last else {
             unreachable!();

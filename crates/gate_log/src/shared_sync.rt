@@ -14,7 +14,7 @@ pub fn write<R: Rack>(rack: &mut R, file: u8, at: u64, bytes: &[u8]) -> Result<(
     ensures written { Told (R.disk rack.old) → OnOk result
         ((R.disk rack.new).files ≡ put (R.disk rack.old).files file at bytes.now) }
     ensures run { Told (R.disk rack.old) → RunBy (TornIn file at (length bytes.now)) (R.disk rack.old) (R.disk rack.new) }
-    ensures rack { LeavesRack R.disk R.faults rack.old rack.new (IsErr result) }
+    ensures rack { LeavesRack R.Rack rack.old rack.new (IsErr result) }
     ensures quiet { OnOk result (R.faults rack.new ≡ R.faults rack.old) }
 {
     rack.write_at(file, at, bytes)?;
@@ -25,7 +25,7 @@ pub fn write<R: Rack>(rack: &mut R, file: u8, at: u64, bytes: &[u8]) -> Result<(
 pub fn sync<R: Rack>(rack: &mut R) -> Result<(), DiskFault>
     ensures durable { Told (R.disk rack.old) → OnOk result (Only (R.disk rack.new).files (R.disk rack.new).may_leave) }
     ensures all { Told (R.disk rack.old) → AllAsBefore (R.disk rack.old) (R.disk rack.new) }
-    ensures rack { LeavesRack R.disk R.faults rack.old rack.new (IsErr result) }
+    ensures rack { LeavesRack R.Rack rack.old rack.new (IsErr result) }
     ensures quiet { OnOk result (R.faults rack.new ≡ R.faults rack.old) }
 {
     rack.sync()?;

@@ -12,10 +12,10 @@ use Rattle.machine_model.specs.Pieces.{state_of}
 use Rattle.process_core.specs.Answers.{after_call}
 use Rattle.core_state.specs.Cores.{CoreState, IsHandedBy, moment_of}
 
--- the core once these pieces have taken effect, one after another
-abbrev pub after_all : CoreState → List Piece → CoreState
-after_all core [] = core
-after_all core (p ∷ ps) = after_all (after_call core (finish p.number Done)) ps
+-- the core once the pieces of these numbers have taken effect, one after another
+abbrev pub after_effects : CoreState → List ℕ → CoreState
+after_effects core [] = core
+after_effects core (n ∷ ns) = after_effects (after_call core (finish n Done)) ns
 
 -- their events
 abbrev pub events_of : List Course → List Piece → List Event
@@ -24,6 +24,10 @@ events_of courses ps = map (event_of courses) ps
 -- their numbers
 abbrev pub numbers_of : List Piece → List ℕ
 numbers_of ps = map (λ p. p.number) ps
+
+-- the core once these pieces have taken effect, one after another
+abbrev pub after_all : CoreState → List Piece → CoreState
+after_all core ps = after_effects core (numbers_of ps)
 
 -- this core handed the piece out, and it is out
 pub record IsOut (core : CoreState) (p : Piece) : Type 0 where

@@ -88,7 +88,7 @@ fn put_group<R: Rack + Drop, B: Resource>(
     engine: &mut Engine<R, B>,
     events: &[Event],
 ) -> Result<(), DiskFault>
-    requires fits { EachFits B.meaning B.sort engine.old.files.stores }
+    requires fits { EachFits B.Resource engine.old.files.stores }
     requires settled { engine.old.phase ≡ phase.Settled }
     requires group { (ps : List MachinePiece) × IsGroup engine.old ps × (events.now ≡ events_of (courses_in engine.old.core) ps) }
     ensures step { LeavesCore engine.old engine.new result }
@@ -98,8 +98,8 @@ fn put_group<R: Rack + Drop, B: Resource>(
         → EachImage (R.disk engine.new.files.rack) (R.disk engine.old.files.rack).moment
         (IsSoundForEither engine.old.catalog (full_history engine.old.core)
         (with_events (full_history engine.old.core) events.now)) }
-    ensures fits { EachFits B.meaning B.sort engine.new.files.stores }
-    ensures rack { LeavesImages R.disk R.faults engine.old.files.rack engine.new.files.rack (IsErr result) }
+    ensures fits { EachFits B.Resource engine.new.files.stores }
+    ensures rack { LeavesImages R.Rack engine.old.files.rack engine.new.files.rack (IsErr result) }
 {
     events_add_effects();
     next_effects_may_be_prepared();
@@ -185,14 +185,14 @@ fn flush_listed<R: Rack + Drop, B: Resource>(
     pieces: &mut Vec<Piece>,
     events: &[Event],
 ) -> Flush
-    requires fits { EachFits B.meaning B.sort engine.old.files.stores }
+    requires fits { EachFits B.Resource engine.old.files.stores }
     requires settled { engine.old.phase ≡ phase.Settled }
     requires queued { AreQueued engine.old pieces.old.items }
     requires events { events.now ≡ events_of (courses_in engine.old.core) (running_of engine.old.core pieces.old.items) }
     ensures flushes { Flushes R.disk engine.old engine.new pieces.old.items pieces.new.items result }
     ensures capacity { vec_capacity pieces.new ≡ vec_capacity pieces.old }
-    ensures fits { EachFits B.meaning B.sort engine.new.files.stores }
-    ensures rack { LeavesImages R.disk R.faults engine.old.files.rack engine.new.files.rack (result ≡ Flush.DiskFault) }
+    ensures fits { EachFits B.Resource engine.new.files.stores }
+    ensures rack { LeavesImages R.Rack engine.old.files.rack engine.new.files.rack (result ≡ Flush.DiskFault) }
 {
     pieces_fit(pieces);
     if events.is_empty() {
@@ -209,14 +209,14 @@ fn flush_listed<R: Rack + Drop, B: Resource>(
 
 /// The queued pieces that run take effect together, in the order in which they were queued. It takes no memory.
 pub fn flush<R: Rack + Drop, B: Resource>(engine: &mut Engine<R, B>, queued: &mut Queued) -> Flush
-    requires fits { EachFits B.meaning B.sort engine.old.files.stores }
+    requires fits { EachFits B.Resource engine.old.files.stores }
     requires rest { engine.old.phase ≢ phase.UnderWay }
     requires queued { AreQueued engine.old queued.old }
     ensures flushes { engine.old.phase ≡ phase.Settled → Flushes R.disk engine.old engine.new queued.old queued.new result }
     ensures closed { engine.old.phase ≡ phase.Closed → (result ≡ Flush.Closed (length engine.old.core.kept))
         × (engine.new ≡ engine.old) × (queued.new ≡ queued.old) }
-    ensures fits { EachFits B.meaning B.sort engine.new.files.stores }
-    ensures rack { LeavesImages R.disk R.faults engine.old.files.rack engine.new.files.rack (result ≡ Flush.DiskFault) }
+    ensures fits { EachFits B.Resource engine.new.files.stores }
+    ensures rack { LeavesImages R.Rack engine.old.files.rack engine.new.files.rack (result ≡ Flush.DiskFault) }
 {
     if let Err(Closed(count)) = engine.not_closed() {
         return Flush::Closed(count);

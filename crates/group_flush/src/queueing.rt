@@ -142,14 +142,14 @@ fn queue_step<R: Rack + Drop, B: Resource>(
     queued: &mut Queued,
     piece: Piece,
 ) -> Queue
-    requires fits { EachFits B.meaning B.sort engine.old.files.stores }
+    requires fits { EachFits B.Resource engine.old.files.stores }
     requires settled { engine.old.phase ≡ phase.Settled }
     requires out { IsStepOut engine.old.core piece.piece }
     requires forward { piece.piece.work ≡ Forward }
     requires place { HasPlace engine.old queued.old piece.piece }
     ensures queues { Queues engine.old engine.new queued.old queued.new piece Answer.Done result }
     ensures queued { AreQueued engine.new queued.new }
-    ensures fits { EachFits B.meaning B.sort engine.new.files.stores }
+    ensures fits { EachFits B.Resource engine.new.files.stores }
     ensures rack { engine.new.files.rack ≡ engine.old.files.rack }
 {
     engine.invariant_holds();
@@ -171,7 +171,7 @@ fn queue_done<R: Rack + Drop, B: Resource>(
     queued: &mut Queued,
     piece: Piece,
 ) -> Queue
-    requires fits { EachFits B.meaning B.sort engine.old.files.stores }
+    requires fits { EachFits B.Resource engine.old.files.stores }
     requires settled { engine.old.phase ≡ phase.Settled }
     requires handed { IsHandedBy engine.old.core piece.piece }
     requires out { state_of (moment_of engine.old.core) piece.piece.number ≡ Out }
@@ -179,7 +179,7 @@ fn queue_done<R: Rack + Drop, B: Resource>(
     requires new { is_in piece.piece.number (numbers_of (pieces_of queued.old)) ≡ false }
     ensures queues { Queues engine.old engine.new queued.old queued.new piece Answer.Done result }
     ensures queued { AreQueued engine.new queued.new }
-    ensures fits { EachFits B.meaning B.sort engine.new.files.stores }
+    ensures fits { EachFits B.Resource engine.new.files.stores }
     ensures rack { engine.new.files.rack ≡ engine.old.files.rack }
 {
     engine.invariant_holds();
@@ -203,7 +203,7 @@ pub fn queue<R: Rack + Drop, B: Resource>(
     piece: Piece,
     answer: Answer,
 ) -> Queue
-    requires fits { EachFits B.meaning B.sort engine.old.files.stores }
+    requires fits { EachFits B.Resource engine.old.files.stores }
     requires rest { engine.old.phase ≢ phase.UnderWay }
     requires handed { IsHandedBy engine.old.core piece.piece }
     requires end { piece.piece.work ≡ End → answer ≡ Answer.Done }
@@ -212,7 +212,7 @@ pub fn queue<R: Rack + Drop, B: Resource>(
     ensures closed { engine.old.phase ≡ phase.Closed → (result ≡ Queue.Closed (length engine.old.core.kept))
         × (engine.new ≡ engine.old) × (queued.new ≡ queued.old) }
     ensures queued { AreQueued engine.new queued.new }
-    ensures fits { EachFits B.meaning B.sort engine.new.files.stores }
+    ensures fits { EachFits B.Resource engine.new.files.stores }
     ensures rack { engine.new.files.rack ≡ engine.old.files.rack }
 {
     if let Err(Closed(count)) = engine.not_closed() {
@@ -235,7 +235,7 @@ fn queue_out<R: Rack + Drop, B: Resource>(
     piece: Piece,
     answer: Answer,
 ) -> Queue
-    requires fits { EachFits B.meaning B.sort engine.old.files.stores }
+    requires fits { EachFits B.Resource engine.old.files.stores }
     requires settled { engine.old.phase ≡ phase.Settled }
     requires handed { IsHandedBy engine.old.core piece.piece }
     requires out { state_of (moment_of engine.old.core) piece.piece.number ≡ Out }
@@ -244,7 +244,7 @@ fn queue_out<R: Rack + Drop, B: Resource>(
     requires new { is_in piece.piece.number (numbers_of (pieces_of queued.old)) ≡ false }
     ensures queues { Queues engine.old engine.new queued.old queued.new piece answer result }
     ensures queued { AreQueued engine.new queued.new }
-    ensures fits { EachFits B.meaning B.sort engine.new.files.stores }
+    ensures fits { EachFits B.Resource engine.new.files.stores }
     ensures rack { engine.new.files.rack ≡ engine.old.files.rack }
 {
     match answer {

@@ -2,7 +2,7 @@
 use Rattle.std.proofs.Common.{◌≡◌, ℕ, zero, suc, ◌+◌, List, [], ◌∷◌, ◌++◌, ◌∙◌, append-nil, map, length, refl, sym, ap, arith, Some}
 use Rattle.std.specs.Prelude.{reverse}
 use Rattle.std.specs.List.{slice_get}
-use Rattle.resource_box.specs.Meaning.{Pairs}
+use Rattle.resource_box.specs.declared.resource.Resource.{Ghosts as Resources}
 use Rattle.resource_box.specs.declared.call.Kind.{Kind}
 use Rattle.subsystem_store.specs.Opened.{Opened}
 use Rattle.history_files.specs.Boxes.{AreBoxes, AreParted}
@@ -26,8 +26,8 @@ kinds_of sort box (x ∷ xs) (suc n) q many each =
     ∙ ap (λ ks. kind_of q ∷ ks) (kinds_of sort box xs n (q + 1) (omega (arith, many)) (λ k y at. each (suc k) y at ∙ ap kind_of (next k)))
 
 -- each box has the kind of its place
-pub are_boxes : {B : Type 0} (meaning : B → Pairs) (sort : B → Kind) (stores : List (Opened B)) → AreStores stores → EachFits meaning sort stores → AreBoxes sort (map (λ s. s.resource) stores)
-are_boxes {B} meaning sort stores are fits = kinds_of sort (λ (s : Opened B). s.resource) stores 8 0 are.eight (λ k s at. let here : k ≡ 0 + k = omega arith in (fits k s at).kind ∙ are.kind k s at ∙ ap kind_of here)
+pub are_boxes : {B : Type 0} (box : Resources B) (stores : List (Opened B)) → AreStores stores → EachFits box stores → AreBoxes box.sort (map (λ s. s.resource) stores)
+are_boxes {B} box stores are fits = kinds_of box.sort (λ (s : Opened B). s.resource) stores 8 0 are.eight (λ k s at. let here : k ≡ 0 + k = omega arith in (fits k s at).kind ∙ are.kind k s at ∙ ap kind_of here)
 
 map_same : (ks : List Kind) → map (λ k. k) ks ≡ ks
 map_same [] = refl

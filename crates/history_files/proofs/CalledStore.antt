@@ -2,8 +2,7 @@
 use Rattle.std.proofs.Common.{◌≡◌, ℕ, Some, sym, subst}
 use Rattle.std.specs.List.{slice_get}
 use Rattle.process_disk.specs.Disk.{Disk, Told}
-use Rattle.resource_box.specs.declared.call.Kind.{Kind}
-use Rattle.resource_box.specs.Meaning.{Pairs}
+use Rattle.resource_box.specs.declared.resource.Resource.{Ghosts as Resources}
 use Rattle.schedule_model.specs.declared.history.History.{History}
 use Rattle.commute_table.specs.declared.catalog.Catalog.{Catalog}
 use Rattle.subsystem_store.specs.Opened.{Opened, Fits, Stands, account_of}
@@ -15,8 +14,8 @@ module _ {R B : Type 0} (inside seen : FilesState R B) (is : inside ≡ seen) (q
   asked_of_it P asked = subst (λ f. (t : Opened B) → slice_get f.stores q ≡ Some t → P t) (sym is) asked s at
 
   -- its box fits its book,
-  pub it_fits : (meaning : B → Pairs) (sort : B → Kind) → EachFits meaning sort seen.stores → Fits meaning sort (account_of s)
-  it_fits meaning sort fits = subst (λ f. EachFits meaning sort f.stores) (sym is) fits q s at
+  pub it_fits : (box : Resources B) → EachFits box seen.stores → Fits box (account_of s)
+  it_fits box fits = subst (λ f. EachFits box f.stores) (sym is) fits q s at
 
   -- and it stands for what it holds
   pub it_stands : (disk : R → Disk) → (Told (disk seen.rack) → (c : Catalog) × (h : History) × Stand c h seen.journal seen.stores (disk seen.rack)) → Told (disk inside.rack) → Stands s (disk inside.rack)

@@ -8,8 +8,7 @@ use Rattle.process_disk.specs.Images.{EachImage, OthersAsBefore}
 use Rattle.gate_log.specs.LogFile.{IsLog}
 use Rattle.gate_log.specs.Standing.{LogState}
 use Rattle.gate_log.proofs.Standing.{images_still, stands_still}
-use Rattle.resource_box.specs.declared.call.Kind.{Kind}
-use Rattle.resource_box.specs.Meaning.{Pairs}
+use Rattle.resource_box.specs.declared.resource.Resource.{Ghosts as Resources}
 use Rattle.schedule_model.specs.declared.history.History.{History}
 use Rattle.commute_table.specs.declared.catalog.Catalog.{Catalog}
 use Rattle.subsystem_store.specs.declared.effect.Effect.{Effect}
@@ -81,9 +80,9 @@ module _ {B : Type 0} (stores : List (Opened B)) (q r : ℕ) (s t : Opened B) (s
   })
 
   -- each box fits its book,
-  pub fits_with : (meaning : B → Pairs) (sort : B → Kind) → EachFits meaning sort stores → Fits meaning sort (account_of t) → EachFits meaning sort (slice_set stores r t)
-  fits_with meaning sort all fits = subst (λ n. EachFits meaning sort (slice_set stores n t)) (sym same)
-      (set_each (λ k x. Fits meaning sort (account_of x)) stores q t fits (λ k x other at_k. all k x at_k))
+  pub fits_with : (box : Resources B) → EachFits box stores → Fits box (account_of t) → EachFits box (slice_set stores r t)
+  fits_with box all fits = subst (λ n. EachFits box (slice_set stores n t)) (sym same)
+      (set_each (λ k x. Fits box (account_of x)) stores q t fits (λ k x other at_k. all k x at_k))
 
   -- and that store alone changed
   pub changed : (step : Opened B → Opened B → Type 0) (seen : List (Opened B)) → stores ≡ seen → step s t → Changes q step seen (slice_set stores r t)

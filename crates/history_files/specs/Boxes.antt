@@ -1,6 +1,7 @@
 -- The boxes of eight subsystems, while they are in stores, and not.
 use Rattle.std.specs.Prelude.{◌≡◌, ◌≤◌, List, [], ◌++◌, map, reverse, Result, Vec, OnOk, OnErr, vec_capacity}
 use Rattle.std.specs.declared.alloc.Global.{Global}
+use Rattle.resource_box.specs.declared.resource.Resource.{Ghosts as Resources}
 use Rattle.resource_box.specs.declared.call.Kind.{Kind}
 use Rattle.resource_box.specs.Meaning.{Pairs}
 use Rattle.subsystem_store.specs.Opened.{Opened}
@@ -21,8 +22,8 @@ AreParted sort stores boxes = map (λ s. s.kind) stores ++ reverse (map sort box
 
 -- The boxes behind a call that puts each into a store: none is left where it answers Ok, and else all eight are back, and empty.
 -- There is room for eight either way.
-pub record AreInStores {T E B : Type 0} (meaning : B → Pairs) (sort : B → Kind) (boxes : Vec B Global) (result : Result T E)
+pub record AreInStores {T E B : Type 0} (box : Resources B) (boxes : Vec B Global) (result : Result T E)
     : Type 0 where
   pub emptied : OnOk result (boxes.items ≡ [])
-  pub back : OnErr result (AreBoxes sort boxes.items × AreEmpty meaning boxes.items)
+  pub back : OnErr result (AreBoxes box.sort boxes.items × AreEmpty box.meaning boxes.items)
   pub room : 8 ≤ vec_capacity boxes

@@ -4,8 +4,7 @@ use Rattle.std.specs.Prelude.{if◌then◌else◌}
 use Rattle.std.specs.List.{slice_get}
 use Rattle.process_disk.specs.Disk.{Disk}
 use Rattle.gate_log.specs.Standing.{LogState}
-use Rattle.resource_box.specs.declared.call.Kind.{Kind}
-use Rattle.resource_box.specs.Meaning.{Pairs}
+use Rattle.resource_box.specs.declared.resource.Resource.{Ghosts as Resources}
 use Rattle.schedule_model.specs.declared.history.History.{History}
 use Rattle.commute_table.specs.declared.catalog.Catalog.{Catalog}
 use Rattle.commute_table.specs.declared.op.Op.{Op}
@@ -37,8 +36,8 @@ pub record AreStores {B : Type 0} (stores : List (Opened B)) : Type 0 where
   pub kind : AtEach (λ q s. s.kind ≡ kind_of q) stores
 
 -- each box fits the book of its store
-abbrev pub EachFits : {B : Type 0} → (B → Pairs) → (B → Kind) → List (Opened B) → Type 0
-EachFits meaning sort stores = AtEach (λ q s. Fits meaning sort (account_of s)) stores
+abbrev pub EachFits : {B : Type 0} → Resources B → List (Opened B) → Type 0
+EachFits box stores = AtEach (λ q s. Fits box (account_of s)) stores
 
 -- each book, with what is in doubt, is one that its store may have
 abbrev pub AreGoodBooks : {B : Type 0} → List (Opened B) → Type 0
@@ -87,9 +86,9 @@ pub record Stand {B : Type 0} (c : Catalog) (h : History) (log : LogState) (all 
 
 -- Files in which nothing has happened: no store has an effect, each box fits the book of its store, and the journal has the one
 -- record of its catalog.
-pub record AreNewFiles {R B : Type 0} (meaning : B → Pairs) (sort : B → Kind) (f : FilesState R B) : Type 0 where
+pub record AreNewFiles {R B : Type 0} (box : Resources B) (f : FilesState R B) : Type 0 where
   pub unused : AtEach (λ q s. (s.book ≡ []) × (s.doubt ≡ None)) f.stores
-  pub fits : EachFits meaning sort f.stores
+  pub fits : EachFits box f.stores
   pub good : AreGoodBooks f.stores
   pub count : f.journal.count ≡ 1
 

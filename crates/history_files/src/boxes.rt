@@ -22,7 +22,7 @@ pub fn clear_all<B: Resource>(boxes: &mut Vec<B>)
 /// Takes the boxes of the stores back, and empties all. At the start `boxes` has those of the subsystems behind these stores, the
 /// last one first, and room for the others; at the end it has all eight, in order.
 pub fn put_back<B: Resource>(boxes: &mut Vec<B>, stores: Vec<Store<B>>)
-    requires fits { EachFits B.meaning B.sort stores.items }
+    requires fits { EachFits B.Resource stores.items }
     requires parted { AreParted B.sort stores.items boxes.old.items }
     requires room { vec_len stores + vec_len boxes.old ≤ vec_capacity boxes.old }
     ensures boxes { AreBoxes B.sort boxes.new.items }

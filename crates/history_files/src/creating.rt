@@ -26,7 +26,7 @@ use subsystem_store::{Store, calls_make_good_books};
 fn first_used<R: Rack>(rack: &mut R) -> Result<Option<u8>, Failed>
     ensures found { Told (R.disk rack.old) → IfOk result (λ found. found ≡ first_used (R.disk rack.old).files) }
     ensures all { Told (R.disk rack.old) → AllAsBefore (R.disk rack.old) (R.disk rack.new) }
-    ensures rack { LeavesRack R.disk R.faults rack.old rack.new (IsErr result) }
+    ensures rack { LeavesRack R.Rack rack.old rack.new (IsErr result) }
 {
     let mut file = 0;
     while file < 9 {
@@ -53,13 +53,13 @@ fn made<R: Rack, B: Resource>(
     ensures journal { IfOk result (λ made. (made.0.file ≡ 0) × (made.0.count ≡ 1)) }
     ensures stores { IfOk result (λ made. AreStores made.1.items) }
     ensures unused { IfOk result (λ made. AtEach (λ q s. (s.book ≡ []) × (s.doubt ≡ None)) made.1.items) }
-    ensures fits { IfOk result (λ made. EachFits B.meaning B.sort made.1.items) }
+    ensures fits { IfOk result (λ made. EachFits B.Resource made.1.items) }
     ensures good { IfOk result (λ made. AreGoodBooks made.1.items) }
-    ensures boxes { AreInStores B.meaning B.sort boxes.new result }
+    ensures boxes { AreInStores B.Resource boxes.new result }
     ensures due { Told (R.disk rack.old) → IfErr result (IsDueToFiles (first_used (R.disk rack.old).files)) }
     ensures empty { Told (R.disk rack.old) → OnOk result (first_used (R.disk rack.old).files ≡ None) }
     ensures left { Told (R.disk rack.old) → IfErr result (λ e. AreLeftUnmade e (R.disk rack.old) (R.disk rack.new)) }
-    ensures rack { LeavesImages R.disk R.faults rack.old rack.new (IsErrOf result Fault) }
+    ensures rack { LeavesImages R.Rack rack.old rack.new (IsErrOf result Fault) }
 {
     calls_make_good_books();
     match first_used(rack) {
@@ -92,14 +92,14 @@ impl<R: Rack + Drop, B: Resource> Files<R, B> {
         requires boxes { AreBoxes B.sort parts.resources.items }
         ensures stand { Told (R.disk parts.rack) → IfOk result
             (λ f. Stand catalog.now no_history f.journal f.stores (R.disk f.rack)) }
-        ensures made { IfOk result (AreNewFiles B.meaning B.sort) }
+        ensures made { IfOk result (AreNewFiles B.Resource) }
         ensures empty { Told (R.disk parts.rack) → OnOk result (first_used (R.disk parts.rack).files ≡ None) }
         ensures due { Told (R.disk parts.rack) → IfErr result (λ r. IsDueToFiles (first_used (R.disk parts.rack).files) r.why) }
         ensures left { Told (R.disk parts.rack) → IfErr result
             (λ r. AreLeftUnmade r.why (R.disk parts.rack) (R.disk r.parts.rack)) }
         ensures back { IfErr result (λ r. AreBoxes B.sort r.parts.resources.items × AreEmpty B.meaning r.parts.resources.items) }
-        ensures rack { IfOk result (λ f. LeavesImages R.disk R.faults parts.rack f.rack ⊥) }
-        ensures rack_back { IfErr result (λ r. LeavesImages R.disk R.faults parts.rack r.parts.rack (r.why ≡ Fault)) }
+        ensures rack { IfOk result (λ f. LeavesImages R.Rack parts.rack f.rack ⊥) }
+        ensures rack_back { IfErr result (λ r. LeavesImages R.Rack parts.rack r.parts.rack (r.why ≡ Fault)) }
     {
         let Parts { rack, resources } = parts;
         let mut rack = rack;

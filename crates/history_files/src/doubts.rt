@@ -24,18 +24,18 @@ fn end_in_store<R: Rack, B: Resource>(
     recorded: bool,
 ) -> Result<(), DiskFault>
     requires doubt { IsSome store.old.doubt }
-    requires fits { Fits B.meaning B.sort (account_of store.old) }
+    requires fits { Fits B.Resource (account_of store.old) }
     requires stands { Told (R.disk rack.old) → Stands store.old (R.disk rack.old) }
     ensures acknowledged { Told (R.disk rack.old) → OnOk result (Stands store.new (R.disk rack.new)) }
     ensures any_moment { Told (R.disk rack.old) → (e : Effect) → store.old.doubt ≡ Some e →
         EachImage (R.disk rack.new) (R.disk rack.old).moment
         (IsStoreOfEither store.old.log.file (store.old.book, Some e) (book_after recorded store.old.book e, None)) }
-    ensures fits { Fits B.meaning B.sort (account_of store.new) }
+    ensures fits { Fits B.Resource (account_of store.new) }
     ensures ok { OnOk result (EndsDoubt recorded store.old store.new) }
     ensures err { OnErr result ((store.new.book ≡ store.old.book) × (store.new.doubt ≡ store.old.doubt)) }
     ensures same { (store.new.log.file ≡ store.old.log.file) × (store.new.kind ≡ store.old.kind) }
     ensures others { Told (R.disk rack.old) → OthersAsBefore store.old.log.file (R.disk rack.old) (R.disk rack.new) }
-    ensures rack { LeavesRack R.disk R.faults rack.old rack.new (IsErr result) }
+    ensures rack { LeavesRack R.Rack rack.old rack.new (IsErr result) }
 {
     if recorded {
         store.commit(rack)
@@ -49,7 +49,7 @@ impl<R: Rack + Drop, B: Resource> Files<R, B> {
     /// it back where it is not.
     pub fn end_doubt(&mut self, q: u8, recorded: bool) -> Result<(), DiskFault>
         requires subsystem { q < 8 }
-        requires fits { EachFits B.meaning B.sort self.old.stores }
+        requires fits { EachFits B.Resource self.old.stores }
         requires doubt { (s : Opened B) → slice_get self.old.stores q ≡ Some s → IsSome s.doubt }
         requires stand { Told (R.disk self.old.rack) → (c : Catalog) × (h : History)
             × Stand c h self.old.journal self.old.stores (R.disk self.old.rack) }
@@ -61,11 +61,11 @@ impl<R: Rack + Drop, B: Resource> Files<R, B> {
             → Stand c h self.old.journal self.old.stores (R.disk self.old.rack) →
             DoubtIs recorded c.ops h q self.old.stores →
             EachImage (R.disk self.new.rack) (R.disk self.old.rack).moment (IsSound c h) }
-        ensures fits { EachFits B.meaning B.sort self.new.stores }
+        ensures fits { EachFits B.Resource self.new.stores }
         ensures good { AreGoodBooks self.old.stores → AreGoodBooks self.new.stores }
         ensures journal { self.new.journal ≡ self.old.journal }
         ensures ok { OnOk result (Changes q (EndsDoubt recorded) self.old.stores self.new.stores) }
-        ensures rack { LeavesImages R.disk R.faults self.old.rack self.new.rack (IsErr result) }
+        ensures rack { LeavesImages R.Rack self.old.rack self.new.rack (IsErr result) }
     {
         calls_make_good_books();
         end_in_store(&mut self.stores[usize::from(q)], &mut self.rack, recorded)

@@ -28,7 +28,7 @@ impl<R: Rack + Drop, B: Resource> Files<R, B> {
     /// Prepares the effect at each place, which the history lacks, in the store of that subsystem, with two syncs for all. A crash
     /// leaves files that are sound for the history, whichever effects are prepared in them.
     pub fn prepare_staged(&mut self, group: &[Option<Effect>]) -> Result<(), DiskFault>
-        requires fits { EachFits B.meaning B.sort self.old.stores }
+        requires fits { EachFits B.Resource self.old.stores }
         requires may_come { MayPrepareEach group.now self.old.stores }
         requires bytes { FitEach group.now }
         requires stand { Told (R.disk self.old.rack) → (c : Catalog) × (h : History)
@@ -39,12 +39,12 @@ impl<R: Rack + Drop, B: Resource> Files<R, B> {
         ensures any_moment { Told (R.disk self.old.rack) → (c : Catalog) (h : History)
             → Stand c h self.old.journal self.old.stores (R.disk self.old.rack) →
             LacksEach c.ops h group.now → EachImage (R.disk self.new.rack) (R.disk self.old.rack).moment (IsSound c h) }
-        ensures fits { EachFits B.meaning B.sort self.new.stores }
+        ensures fits { EachFits B.Resource self.new.stores }
         ensures good { AreGoodBooks self.old.stores → AreGoodBooks self.new.stores }
         ensures journal { self.new.journal ≡ self.old.journal }
         ensures ok { OnOk result (BecomeEach (λ q s t. IsPrepared (effect_for group.now q) s t) self.old.stores self.new.stores) }
         ensures err { OnErr result (BecomeEach (λ q s t. IsUnchanged s t) self.old.stores self.new.stores) }
-        ensures rack { LeavesImages R.disk R.faults self.old.rack self.new.rack (IsErr result) }
+        ensures rack { LeavesImages R.Rack self.old.rack self.new.rack (IsErr result) }
     {
         calls_make_good_books();
         prepare_each(&mut self.stores, &mut self.rack, group)
@@ -53,7 +53,7 @@ impl<R: Rack + Drop, B: Resource> Files<R, B> {
     /// Commits each effect that is in doubt, which the history has, with two syncs for all. A crash leaves files that are sound for
     /// the history, whichever effects are committed in them.
     pub fn commit_staged(&mut self) -> Result<(), DiskFault>
-        requires fits { EachFits B.meaning B.sort self.old.stores }
+        requires fits { EachFits B.Resource self.old.stores }
         requires stand { Told (R.disk self.old.rack) → (c : Catalog) × (h : History)
             × Stand c h self.old.journal self.old.stores (R.disk self.old.rack) }
         ensures acknowledged { Told (R.disk self.old.rack) → (c : Catalog) (h : History)
@@ -62,12 +62,12 @@ impl<R: Rack + Drop, B: Resource> Files<R, B> {
         ensures any_moment { Told (R.disk self.old.rack) → (c : Catalog) (h : History)
             → Stand c h self.old.journal self.old.stores (R.disk self.old.rack) →
             HasEachDoubt c.ops h self.old.stores → EachImage (R.disk self.new.rack) (R.disk self.old.rack).moment (IsSound c h) }
-        ensures fits { EachFits B.meaning B.sort self.new.stores }
+        ensures fits { EachFits B.Resource self.new.stores }
         ensures good { AreGoodBooks self.old.stores → AreGoodBooks self.new.stores }
         ensures journal { self.new.journal ≡ self.old.journal }
         ensures ok { OnOk result (BecomeEach (λ q s t. IsCommitted s t) self.old.stores self.new.stores) }
         ensures err { OnErr result (BecomeEach (λ q s t. IsUnchanged s t) self.old.stores self.new.stores) }
-        ensures rack { LeavesImages R.disk R.faults self.old.rack self.new.rack (IsErr result) }
+        ensures rack { LeavesImages R.Rack self.old.rack self.new.rack (IsErr result) }
     {
         calls_make_good_books();
         commit_each(&mut self.stores, &mut self.rack)
@@ -106,7 +106,7 @@ impl<R: Rack + Drop, B: Resource> Files<R, B> {
         ensures same { self.new.stores ≡ self.old.stores }
         ensures ok { OnOk result (self.new.journal ≡ with_staged self.old.journal) }
         ensures err { OnErr result (self.new.journal ≡ self.old.journal) }
-        ensures rack { LeavesImages R.disk R.faults self.old.rack self.new.rack (IsErr result) }
+        ensures rack { LeavesImages R.Rack self.old.rack self.new.rack (IsErr result) }
     {
         self.journal.append_staged(&mut self.rack)
     }

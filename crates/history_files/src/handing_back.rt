@@ -42,7 +42,7 @@ impl<R: Rack + Drop, B: Resource> Files<R, B> {
 
     /// The rack, and the boxes with the values of their books. It takes no memory.
     pub fn into_parts(self) -> Parts<R, B>
-        requires fits { EachFits B.meaning B.sort self.stores }
+        requires fits { EachFits B.Resource self.stores }
         ensures rack { result.rack ≡ self.rack }
         ensures boxes { result.resources.items ≡ map (λ s. s.resource) self.stores }
         ensures kinds { AreBoxes B.sort result.resources.items }

@@ -31,11 +31,11 @@ pub fn make_stores<R: Rack, B: Resource>(
     ensures stores { IfOk result (λ ss. AreStores ss.items) }
     ensures unused { IfOk result (λ ss. AtEach (λ q s. (s.book ≡ []) × (s.doubt ≡ None)) ss.items) }
     ensures stand { Told (R.disk rack.old) → IfOk result (λ ss. AtEach (λ q s. Stands s (R.disk rack.new)) ss.items) }
-    ensures fits { IfOk result (λ ss. EachFits B.meaning B.sort ss.items) }
-    ensures boxes { AreInStores B.meaning B.sort boxes.new result }
+    ensures fits { IfOk result (λ ss. EachFits B.Resource ss.items) }
+    ensures boxes { AreInStores B.Resource boxes.new result }
     ensures journal { Told (R.disk rack.old) → (log : LogState) (bodies : List (List ℕ)) → log.file ≡ 0
         → StandsFor log bodies (R.disk rack.old) → StandsFor log bodies (R.disk rack.new) }
-    ensures rack { LeavesImages R.disk R.faults rack.old rack.new (IsErrOf result Fault) }
+    ensures rack { LeavesImages R.Rack rack.old rack.new (IsErrOf result Fault) }
     ensures refused { IfErr result (λ e. e ≢ NoMemory → (e ≡ Fault) × Rose (R.faults rack.old) (R.faults rack.new)) }
 {
     let mut stores = stores;

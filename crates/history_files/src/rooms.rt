@@ -16,7 +16,7 @@ impl<R: Rack + Drop, B: Resource> Files<R, B> {
     /// Whether the values of the book of a subsystem bar an effect. An undo is never barred.
     pub fn bars(&self, q: u8, effect: &Effect) -> bool
         requires subsystem { q < 8 }
-        requires fits { EachFits B.meaning B.sort self.now.stores }
+        requires fits { EachFits B.Resource self.now.stores }
         ensures { (s : Opened B) → slice_get self.now.stores q ≡ Some s → result ≡ is_barred s.kind s.book effect.now }
     {
         self.stores[usize::from(q)].bars(effect)
@@ -26,8 +26,8 @@ impl<R: Rack + Drop, B: Resource> Files<R, B> {
     /// of the rack.
     pub fn make_room(&mut self, q: u8, key: u32) -> Result<(), AllocError>
         requires subsystem { q < 8 }
-        requires fits { EachFits B.meaning B.sort self.old.stores }
-        ensures fits { EachFits B.meaning B.sort self.new.stores }
+        requires fits { EachFits B.Resource self.old.stores }
+        ensures fits { EachFits B.Resource self.new.stores }
         ensures changes { Changes q MakesRoom self.old.stores self.new.stores }
         ensures ok { OnOk result (HasRoomAt q key self.new.stores) }
         ensures same { (self.new.rack ≡ self.old.rack) × (self.new.journal ≡ self.old.journal) }

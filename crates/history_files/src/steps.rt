@@ -27,7 +27,7 @@ impl<R: Rack + Drop, B: Resource> Files<R, B> {
     /// Prepares an effect, which the history lacks, in the store of its subsystem.
     pub fn prepare(&mut self, q: u8, effect: Effect) -> Prepare
         requires subsystem { q < 8 }
-        requires fits { EachFits B.meaning B.sort self.old.stores }
+        requires fits { EachFits B.Resource self.old.stores }
         requires may_come { (s : Opened B) → slice_get self.old.stores q ≡ Some s
             → (s.doubt ≡ None) × (length s.book < 16384) × (may_follow s.kind s.book effect ≡ true) }
         requires amount { is_amount effect.call.amount ≡ true }
@@ -41,11 +41,11 @@ impl<R: Rack + Drop, B: Resource> Files<R, B> {
             → Stand c h self.old.journal self.old.stores (R.disk self.old.rack) →
             is_among effect (effects c.ops h q) ≡ false →
             EachImage (R.disk self.new.rack) (R.disk self.old.rack).moment (IsSound c h) }
-        ensures fits { EachFits B.meaning B.sort self.new.stores }
+        ensures fits { EachFits B.Resource self.new.stores }
         ensures good { AreGoodBooks self.old.stores → AreGoodBooks self.new.stores }
         ensures answer { AnswersPrepare q effect self.old.stores result }
         ensures left { IsLeftByPrepare q effect self.old self.new result }
-        ensures rack { LeavesImages R.disk R.faults self.old.rack self.new.rack (result ≡ Prepare.DiskFault) }
+        ensures rack { LeavesImages R.Rack self.old.rack self.new.rack (result ≡ Prepare.DiskFault) }
     {
         calls_make_good_books();
         effects_fit_their_bytes(effect);
@@ -68,7 +68,7 @@ impl<R: Rack + Drop, B: Resource> Files<R, B> {
         ensures same { self.new.stores ≡ self.old.stores }
         ensures ok { OnOk result (self.new.journal.count ≡ self.old.journal.count + 1) }
         ensures err { OnErr result (self.new.journal ≡ self.old.journal) }
-        ensures rack { LeavesImages R.disk R.faults self.old.rack self.new.rack (IsErr result) }
+        ensures rack { LeavesImages R.Rack self.old.rack self.new.rack (IsErr result) }
     {
         self.journal.append(&mut self.rack, entry)
     }

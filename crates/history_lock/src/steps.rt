@@ -118,8 +118,8 @@ impl<S: Held> Desk<S> {
         }
     }
 
-    // The next ticket is served, and who sleeps until it is, is woken. Nobody does where it isn't drawn yet: who draws it later finds
-    // it served.
+    // The next ticket is served, and who sleeps until it is, is woken. Nobody does where it isn't drawn yet: who draws it later
+    // finds it served.
     pub(crate) fn pass(&self, place: &mut Place<S>)
         requires table { place.old.table_id ≡ self.now.table.shared.table_id }
         requires stands { (x : S) × HasCounted (Some x) place.old.me

@@ -2,8 +2,7 @@
 use Rattle.std.specs.Prelude.{◌≡◌, List, length}
 use Rattle.process_disk.specs.Disk.{Disk}
 use Rattle.gate_log.specs.Standing.{LogState}
-use Rattle.resource_box.specs.declared.call.Kind.{Kind}
-use Rattle.resource_box.specs.Meaning.{Pairs}
+use Rattle.resource_box.specs.declared.resource.Resource.{Ghosts as Resources}
 use Rattle.schedule_model.specs.declared.history.History.{History}
 use Rattle.commute_table.specs.declared.catalog.Catalog.{Catalog}
 use Rattle.subsystem_store.specs.Opened.{Opened, Stands}
@@ -14,9 +13,9 @@ use Rattle.history_files.specs.Laws.{AreSettled}
 use Rattle.history_files.specs.Standing.{AtEach, AreGoodBooks, AreStores, EachFits, FilesState}
 
 -- Stores as they are opened: eight in order, each box fits the book of its store, and each book is one that its store may have.
-pub record AreOpenStores {B : Type 0} (meaning : B → Pairs) (sort : B → Kind) (all : List (Opened B)) : Type 0 where
+pub record AreOpenStores {B : Type 0} (box : Resources B) (all : List (Opened B)) : Type 0 where
   pub stores : AreStores all
-  pub fits : EachFits meaning sort all
+  pub fits : EachFits box all
   pub good : AreGoodBooks all
 
 -- The journal and each store stand on the disk for what was read of them.
@@ -27,10 +26,10 @@ pub record StandAsRead {B : Type 0} (c : Catalog) (h : History) (log : LogState)
 
 -- Files as they are opened: the history is one that a journal of the catalog may have, and its records are counted; the stores are
 -- settled for it, their books good, and their boxes fit them.
-pub record AreOpenFiles {R B : Type 0} (meaning : B → Pairs) (sort : B → Kind) (c : Catalog) (h : History) (f : FilesState R B)
+pub record AreOpenFiles {R B : Type 0} (box : Resources B) (c : Catalog) (h : History) (f : FilesState R B)
     : Type 0 where
   pub history : IsHistoryUnder c h
   pub count : f.journal.count ≡ length (journal_bodies c h)
   pub settled : AreSettled c.ops h f.stores
   pub good : AreGoodBooks f.stores
-  pub fits : EachFits meaning sort f.stores
+  pub fits : EachFits box f.stores

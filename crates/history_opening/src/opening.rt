@@ -34,14 +34,14 @@ fn read_sound<R: Rack, B: Resource>(
     ensures journal { IfOk result
         (λ r. (r.journal.file ≡ 0) × (r.journal.count ≡ length (journal_bodies r.catalog r.history))
         × IsHistoryUnder r.catalog r.history) }
-    ensures stores { IfOk result (λ r. AreOpenStores B.meaning B.sort r.stores.items) }
+    ensures stores { IfOk result (λ r. AreOpenStores B.Resource r.stores.items) }
     ensures stand { Told (R.disk rack.old) → IfOk result
         (λ r. Stand r.catalog r.history r.journal r.stores.items (R.disk rack.new)) }
     ensures come { IfOk result (λ r. ComeTo r.catalog.ops r.history r.stores.items) }
-    ensures boxes { AreInStores B.meaning B.sort boxes.new result }
+    ensures boxes { AreInStores B.Resource boxes.new result }
     ensures all { Told (R.disk rack.old) → AllAsBefore (R.disk rack.old) (R.disk rack.new) }
     ensures due { Told (R.disk rack.old) → IfErr result (IsDueToOpening (R.disk rack.old).files) }
-    ensures rack { LeavesRack R.disk R.faults rack.old rack.new (IsErrOf result Fault) }
+    ensures rack { LeavesRack R.Rack rack.old rack.new (IsErrOf result Fault) }
 {
     let read = match read_files(alloc, rack, boxes) {
         Ok(read) => read,
@@ -63,7 +63,7 @@ fn read_sound<R: Rack, B: Resource>(
 
 // The rack, and the boxes without their values.
 fn into_cleared<R: Rack + Drop, B: Resource>(files: Files<R, B>) -> Parts<R, B>
-    requires fits { EachFits B.meaning B.sort files.stores }
+    requires fits { EachFits B.Resource files.stores }
     ensures rack { result.rack ≡ files.rack }
     ensures boxes { AreBoxes B.sort result.resources.items × AreEmpty B.meaning result.resources.items }
 {
@@ -81,13 +81,13 @@ pub fn open_files<R: Rack + Drop, B: Resource>(
 ) -> Result<(Files<R, B>, Catalog, History), OpenRefused<R, B>>
     requires boxes { AreBoxes B.sort parts.resources.items }
     ensures stand { Told (R.disk parts.rack) → IfOk result (λ o. Stand o.1 o.2 o.0.journal o.0.stores (R.disk o.0.rack)) }
-    ensures opened { IfOk result (λ o. AreOpenFiles B.meaning B.sort o.1 o.2 o.0) }
+    ensures opened { IfOk result (λ o. AreOpenFiles B.Resource o.1 o.2 o.0) }
     ensures sound { Told (R.disk parts.rack) → IfOk result (λ o. FoundSound o.1 o.2 (R.disk parts.rack) (R.disk o.0.rack)) }
     ensures due { Told (R.disk parts.rack) → IfErr result (λ r. IsDueToOpening (R.disk parts.rack).files r.why) }
     ensures refused { Told (R.disk parts.rack) → IfErr result (λ r. LeftByRefusal r.why (R.disk parts.rack) (R.disk r.parts.rack)) }
     ensures back { IfErr result (λ r. AreBoxes B.sort r.parts.resources.items × AreEmpty B.meaning r.parts.resources.items) }
-    ensures rack { IfOk result (λ o. LeavesImages R.disk R.faults parts.rack o.0.rack ⊥) }
-    ensures rack_back { IfErr result (λ r. LeavesImages R.disk R.faults parts.rack r.parts.rack (r.why ≡ Fault)) }
+    ensures rack { IfOk result (λ o. LeavesImages R.Rack parts.rack o.0.rack ⊥) }
+    ensures rack_back { IfErr result (λ r. LeavesImages R.Rack parts.rack r.parts.rack (r.why ≡ Fault)) }
 {
     let Parts { rack, resources } = parts;
     let mut rack = rack;

@@ -33,14 +33,14 @@ pub fn open_stores<R: Rack, B: Resource>(
     requires parted { AreParted B.sort [] boxes.old.items }
     requires room { 8 ≤ vec_capacity boxes.old }
     requires none { (stores.items ≡ []) × (8 ≤ vec_capacity stores) }
-    ensures stores { IfOk result (λ ss. AreOpenStores B.meaning B.sort ss.items) }
+    ensures stores { IfOk result (λ ss. AreOpenStores B.Resource ss.items) }
     ensures stand { Told (R.disk rack.old) → IfOk result (λ ss. AtEach (λ q s. Stands s (R.disk rack.new)) ss.items) }
     ensures read { Told (R.disk rack.old) → IfOk result
         (λ ss. AtEach (λ q s. book_in (R.disk rack.old).files q ≡ Ok (record { book = s.book; doubt = s.doubt })) ss.items) }
-    ensures boxes { AreInStores B.meaning B.sort boxes.new result }
+    ensures boxes { AreInStores B.Resource boxes.new result }
     ensures all { Told (R.disk rack.old) → AllAsBefore (R.disk rack.old) (R.disk rack.new) }
     ensures due { Told (R.disk rack.old) → IfErr result (IsDueToStore (R.disk rack.old).files) }
-    ensures rack { LeavesRack R.disk R.faults rack.old rack.new (IsErrOf result Fault) }
+    ensures rack { LeavesRack R.Rack rack.old rack.new (IsErrOf result Fault) }
 {
     let mut stores = stores;
     while let Some(resource) = boxes.pop() {
@@ -77,15 +77,15 @@ pub fn read_files<R: Rack, B: Resource>(
     ensures journal { IfOk result
         (λ r. (r.journal.file ≡ 0) × (r.journal.count ≡ length (journal_bodies r.catalog r.history))
         × IsHistoryUnder r.catalog r.history) }
-    ensures stores { IfOk result (λ r. AreOpenStores B.meaning B.sort r.stores.items) }
+    ensures stores { IfOk result (λ r. AreOpenStores B.Resource r.stores.items) }
     ensures stand { Told (R.disk rack.old) → IfOk result
         (λ r. StandAsRead r.catalog r.history r.journal r.stores.items (R.disk rack.new)) }
     ensures read { Told (R.disk rack.old) → IfOk result
         (λ r. AtEach (λ q s. book_in (R.disk rack.old).files q ≡ Ok (record { book = s.book; doubt = s.doubt })) r.stores.items) }
-    ensures boxes { AreInStores B.meaning B.sort boxes.new result }
+    ensures boxes { AreInStores B.Resource boxes.new result }
     ensures all { Told (R.disk rack.old) → AllAsBefore (R.disk rack.old) (R.disk rack.new) }
     ensures due { Told (R.disk rack.old) → IfErr result (λ e. (e ≡ NoMemory) ⊎ IsDueToReading (R.disk rack.old).files e) }
-    ensures rack { LeavesRack R.disk R.faults rack.old rack.new (IsErrOf result Fault) }
+    ensures rack { LeavesRack R.Rack rack.old rack.new (IsErrOf result Fault) }
 {
     let Ok(stores) = Vec::with_capacity(alloc, 8) else {
         return Err(OpenError::NoMemory);

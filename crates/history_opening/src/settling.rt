@@ -41,7 +41,7 @@ fn settle<R: Rack + Drop, B: Resource>(
     history: &History,
 ) -> Result<(), DiskFault>
     requires subsystem { q < 8 }
-    requires fits { EachFits B.meaning B.sort files.old.stores }
+    requires fits { EachFits B.Resource files.old.stores }
     requires few { length (acts history.now.events) < 2 ^ 32 }
     requires come { ComeTo catalog.now.ops history.now files.old.stores }
     requires below { AreSettledBelow q catalog.now.ops history.now files.old.stores }
@@ -53,10 +53,10 @@ fn settle<R: Rack + Drop, B: Resource>(
         → EachImage (R.disk files.new.rack) (R.disk files.old.rack).moment (IsSound catalog.now history.now) }
     ensures come { OnOk result (ComeTo catalog.now.ops history.now files.new.stores) }
     ensures below { OnOk result (AreSettledBelow (q + 1) catalog.now.ops history.now files.new.stores) }
-    ensures fits { EachFits B.meaning B.sort files.new.stores }
+    ensures fits { EachFits B.Resource files.new.stores }
     ensures good { AreGoodBooks files.old.stores → AreGoodBooks files.new.stores }
     ensures journal { files.new.journal ≡ files.old.journal }
-    ensures rack { LeavesImages R.disk R.faults files.old.rack files.new.rack (IsErr result) }
+    ensures rack { LeavesImages R.Rack files.old.rack files.new.rack (IsErr result) }
 {
     files.are_sound();
     let effect = match files.in_doubt(q) {
@@ -72,7 +72,7 @@ pub fn settle_all<R: Rack + Drop, B: Resource>(
     catalog: &Catalog,
     history: &History,
 ) -> Result<(), DiskFault>
-    requires fits { EachFits B.meaning B.sort files.old.stores }
+    requires fits { EachFits B.Resource files.old.stores }
     requires few { length (acts history.now.events) < 2 ^ 32 }
     requires come { ComeTo catalog.now.ops history.now files.old.stores }
     requires stand { Told (R.disk files.old.rack) → Stand catalog.now history.now files.old.journal files.old.stores
@@ -82,10 +82,10 @@ pub fn settle_all<R: Rack + Drop, B: Resource>(
     ensures any_moment { Told (R.disk files.old.rack)
         → EachImage (R.disk files.new.rack) (R.disk files.old.rack).moment (IsSound catalog.now history.now) }
     ensures settled { OnOk result (AreSettled catalog.now.ops history.now files.new.stores) }
-    ensures fits { EachFits B.meaning B.sort files.new.stores }
+    ensures fits { EachFits B.Resource files.new.stores }
     ensures good { AreGoodBooks files.old.stores → AreGoodBooks files.new.stores }
     ensures journal { files.new.journal ≡ files.old.journal }
-    ensures rack { LeavesImages R.disk R.faults files.old.rack files.new.rack (IsErr result) }
+    ensures rack { LeavesImages R.Rack files.old.rack files.new.rack (IsErr result) }
 {
     files.are_sound();
     let mut q = 0;

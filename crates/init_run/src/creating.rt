@@ -1,9 +1,9 @@
 // The command `init`.
-ghost use Rattle.std.specs.Prelude.{◌≡◌, ◌≤◌, true, false, IfOk, IfErr};
+ghost use Rattle.std.specs.Prelude.{◌≡◌, true, false, IfOk, IfErr};
 ghost use Rattle.commute_table.specs.Operations.{IsCatalog};
 ghost use Rattle.history_files.specs.Boxes.{AreBoxes};
 ghost use Rattle.command_input.specs.Inputs.{input};
-ghost use Rattle.command_input.specs.FilesLeft.{files};
+ghost use Rattle.command_input.specs.FilesLeft.{AreLeft, files};
 ghost use Rattle.command_input.specs.Early.{comes_before_files};
 ghost use Rattle.init_run.specs.Init.{create_refusal, AreMade, AreNotMade, IsCatalogRead, IsCatalogRefused, IsInitDue};
 ghost use Rattle.init_run.specs.Init.{SaysCreated};
@@ -66,8 +66,7 @@ fn made<R: Rack + Drop, B: Resource>(
     ensures refused { IfErr result.found (λ r. AreNotMade r (files R.Rack parts.rack) (files R.Rack result.parts.rack)) }
     ensures late { IfErr result.found (λ r. comes_before_files r ≡ false) }
     ensures back { AreBoxes B.sort result.parts.resources.items }
-    ensures tells { (R.disk result.parts.rack).tells ≡ (R.disk parts.rack).tells }
-    ensures later { R.faults parts.rack ≤ R.faults result.parts.rack }
+    ensures left { AreLeft (files R.Rack parts.rack) (files R.Rack result.parts.rack) }
 {
     match Engine::create(alloc, parts, catalog) {
         Ok(engine) => CommandEnd {
@@ -92,8 +91,7 @@ pub fn init<S: Source, R: Rack + Drop, B: Resource>(
         (files R.Rack result.parts.rack) result.found }
     ensures early { IfErr result.found (λ r. comes_before_files r ≡ true → result.parts.rack ≡ parts.rack) }
     ensures back { AreBoxes B.sort result.parts.resources.items }
-    ensures tells { (R.disk result.parts.rack).tells ≡ (R.disk parts.rack).tells }
-    ensures later { R.faults parts.rack ≤ R.faults result.parts.rack }
+    ensures left { AreLeft (files R.Rack parts.rack) (files R.Rack result.parts.rack) }
 {
     match catalog_of(alloc, source) {
         Ok((catalog, said)) => made(alloc, parts, catalog, said),

@@ -59,12 +59,12 @@ fn refused_as(refusal: Refusal) -> Finish
 
 // A piece is refused.
 fn finish_refused<R: Rack + Drop, B: Resource>(engine: &mut Engine<R, B>, piece: Piece) -> Finish
-    requires fits { EachFits B.meaning B.sort engine.old.files.stores }
+    requires fits { EachFits B.Resource engine.old.files.stores }
     requires settled { engine.old.phase ≡ phase.Settled }
     requires out { IsStepOut engine.old.core piece.piece }
     ensures finishes { Finishes R.disk engine.old engine.new piece Fails result }
-    ensures fits { EachFits B.meaning B.sort engine.new.files.stores }
-    ensures rack { LeavesImages R.disk R.faults engine.old.files.rack engine.new.files.rack (result ≡ Finish.DiskFault) }
+    ensures fits { EachFits B.Resource engine.new.files.stores }
+    ensures rack { LeavesImages R.Rack engine.old.files.rack engine.new.files.rack (result ≡ Finish.DiskFault) }
 {
     engine.invariant_holds();
     refused_as(engine.refuse_piece(piece))
@@ -72,14 +72,14 @@ fn finish_refused<R: Rack + Drop, B: Resource>(engine: &mut Engine<R, B>, piece:
 
 // The end of a process takes effect.
 fn finish_end<R: Rack + Drop, B: Resource>(engine: &mut Engine<R, B>, piece: Piece) -> Finish
-    requires fits { EachFits B.meaning B.sort engine.old.files.stores }
+    requires fits { EachFits B.Resource engine.old.files.stores }
     requires settled { engine.old.phase ≡ phase.Settled }
     requires handed { IsHandedBy engine.old.core piece.piece }
     requires out { state_of (moment_of engine.old.core) piece.piece.number ≡ Out }
     requires end { piece.piece.work ≡ End }
     ensures finishes { Finishes R.disk engine.old engine.new piece Succeeds result }
-    ensures fits { EachFits B.meaning B.sort engine.new.files.stores }
-    ensures rack { LeavesImages R.disk R.faults engine.old.files.rack engine.new.files.rack (result ≡ Finish.DiskFault) }
+    ensures fits { EachFits B.Resource engine.new.files.stores }
+    ensures rack { LeavesImages R.Rack engine.old.files.rack engine.new.files.rack (result ≡ Finish.DiskFault) }
 {
     engine.invariant_holds();
     match engine.end_piece(piece) {
@@ -96,14 +96,14 @@ fn finish_prepared<R: Rack + Drop, B: Resource>(
     engine: &mut Engine<R, B>,
     prepared: Prepared,
 ) -> Result<u32, DiskFault>
-    requires fits { EachFits B.meaning B.sort engine.old.files.stores }
+    requires fits { EachFits B.Resource engine.old.files.stores }
     requires prepared { IsPrepared engine.old (R.disk engine.old.files.rack) prepared }
     ensures settles { SettlesPiece engine.old engine.new prepared.piece result }
     ensures any_moment { Told (R.disk engine.old.files.rack)
         → EachImage (R.disk engine.new.files.rack) (R.disk engine.old.files.rack).moment
         (IsSoundForEither engine.old.catalog (full_history engine.old.core) (history_with engine.old.core prepared.piece.piece)) }
-    ensures fits { EachFits B.meaning B.sort engine.new.files.stores }
-    ensures rack { LeavesImages R.disk R.faults engine.old.files.rack engine.new.files.rack (IsErr result) }
+    ensures fits { EachFits B.Resource engine.new.files.stores }
+    ensures rack { LeavesImages R.Rack engine.old.files.rack engine.new.files.rack (IsErr result) }
 {
     let recorded = engine.record_piece(prepared)?;
     engine.settle_piece(recorded)
@@ -111,13 +111,13 @@ fn finish_prepared<R: Rack + Drop, B: Resource>(
 
 // The work of a piece is done: it takes effect, unless the values bar it.
 fn finish_done<R: Rack + Drop, B: Resource>(engine: &mut Engine<R, B>, piece: Piece) -> Finish
-    requires fits { EachFits B.meaning B.sort engine.old.files.stores }
+    requires fits { EachFits B.Resource engine.old.files.stores }
     requires settled { engine.old.phase ≡ phase.Settled }
     requires out { IsStepOut engine.old.core piece.piece }
     ensures finishes { Finishes R.disk engine.old engine.new piece
         (outcome_of Answer.Done (is_barred engine.old piece.piece)) result }
-    ensures fits { EachFits B.meaning B.sort engine.new.files.stores }
-    ensures rack { LeavesImages R.disk R.faults engine.old.files.rack engine.new.files.rack (result ≡ Finish.DiskFault) }
+    ensures fits { EachFits B.Resource engine.new.files.stores }
+    ensures rack { LeavesImages R.Rack engine.old.files.rack engine.new.files.rack (result ≡ Finish.DiskFault) }
 {
     engine.invariant_holds();
     match engine.prepare_piece(piece) {
@@ -140,14 +140,14 @@ fn finish_out<R: Rack + Drop, B: Resource>(
     piece: Piece,
     answer: Answer,
 ) -> Finish
-    requires fits { EachFits B.meaning B.sort engine.old.files.stores }
+    requires fits { EachFits B.Resource engine.old.files.stores }
     requires settled { engine.old.phase ≡ phase.Settled }
     requires handed { IsHandedBy engine.old.core piece.piece }
     requires out { state_of (moment_of engine.old.core) piece.piece.number ≡ Out }
     requires end { piece.piece.work ≡ End → answer ≡ Answer.Done }
     ensures finishes { Finishes R.disk engine.old engine.new piece (outcome_of answer (is_barred engine.old piece.piece)) result }
-    ensures fits { EachFits B.meaning B.sort engine.new.files.stores }
-    ensures rack { LeavesImages R.disk R.faults engine.old.files.rack engine.new.files.rack (result ≡ Finish.DiskFault) }
+    ensures fits { EachFits B.Resource engine.new.files.stores }
+    ensures rack { LeavesImages R.Rack engine.old.files.rack engine.new.files.rack (result ≡ Finish.DiskFault) }
 {
     if let Work::End = piece.work() {
         return finish_end(engine, piece);
@@ -165,7 +165,7 @@ pub fn finish_piece<R: Rack + Drop, B: Resource>(
     piece: Piece,
     answer: Answer,
 ) -> Finish
-    requires fits { EachFits B.meaning B.sort engine.old.files.stores }
+    requires fits { EachFits B.Resource engine.old.files.stores }
     requires rest { engine.old.phase ≢ phase.UnderWay }
     requires handed { IsHandedBy engine.old.core piece.piece }
     requires end { piece.piece.work ≡ End → answer ≡ Answer.Done }
@@ -173,8 +173,8 @@ pub fn finish_piece<R: Rack + Drop, B: Resource>(
         → Finishes R.disk engine.old engine.new piece (outcome_of answer (is_barred engine.old piece.piece)) result }
     ensures closed { engine.old.phase ≡ phase.Closed → (result ≡ Finish.Closed (length engine.old.core.kept))
         × (engine.new ≡ engine.old) }
-    ensures fits { EachFits B.meaning B.sort engine.new.files.stores }
-    ensures rack { LeavesImages R.disk R.faults engine.old.files.rack engine.new.files.rack (result ≡ Finish.DiskFault) }
+    ensures fits { EachFits B.Resource engine.new.files.stores }
+    ensures rack { LeavesImages R.Rack engine.old.files.rack engine.new.files.rack (result ≡ Finish.DiskFault) }
 {
     if let Err(Closed(count)) = engine.not_closed() {
         return Finish::Closed(count);

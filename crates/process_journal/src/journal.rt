@@ -81,7 +81,7 @@ impl Journal {
         ensures journal { IfOk result (IsFreshJournal catalog.now no_history) }
         ensures others { Told (R.disk rack.old) → OthersAsBefore 0 (R.disk rack.old) (R.disk rack.new) }
         ensures err { IfErr result (λ e. IsUnmade NoMemory JournalError.DiskFault e (rack.new ≡ rack.old)) }
-        ensures rack { LeavesRack R.disk R.faults rack.old rack.new (IsErrOf result JournalError.DiskFault) }
+        ensures rack { LeavesRack R.Rack rack.old rack.new (IsErrOf result JournalError.DiskFault) }
         ensures quiet { OnOk result (R.faults rack.new ≡ R.faults rack.old) }
     {
         let setup = setup_of(alloc, catalog)?;
@@ -103,7 +103,7 @@ impl Journal {
         ensures history { IfOk result (λ opened. IsHistoryUnder opened.1 opened.2) }
         ensures journal { IfOk result (λ opened. IsFreshJournal opened.1 opened.2 opened.0) }
         ensures all { Told (R.disk rack.old) → AllAsBefore (R.disk rack.old) (R.disk rack.new) }
-        ensures rack { LeavesRack R.disk R.faults rack.old rack.new (IsErrOf result JournalError.DiskFault) }
+        ensures rack { LeavesRack R.Rack rack.old rack.new (IsErrOf result JournalError.DiskFault) }
         ensures quiet { OnOk result (R.faults rack.new ≡ R.faults rack.old) }
     {
         let (log, bodies) = Log::open(alloc, rack, 0)?;
@@ -139,7 +139,7 @@ impl Journal {
         // What was staged is let go.
         ensures ok { OnOk result (HasOneMore self.old self.new) }
         ensures err { OnErr result (self.new ≡ self.old) }
-        ensures rack { LeavesRack R.disk R.faults rack.old rack.new (IsErr result) }
+        ensures rack { LeavesRack R.Rack rack.old rack.new (IsErr result) }
         ensures quiet { OnOk result (R.faults rack.new ≡ R.faults rack.old) }
     {
         self.add(rack, entry)
@@ -180,7 +180,7 @@ impl Journal {
         ensures others { Told (R.disk rack.old) → OthersAsBefore 0 (R.disk rack.old) (R.disk rack.new) }
         ensures ok { OnOk result (self.new ≡ with_staged self.old) }
         ensures err { OnErr result (self.new ≡ self.old) }
-        ensures rack { LeavesRack R.disk R.faults rack.old rack.new (IsErr result) }
+        ensures rack { LeavesRack R.Rack rack.old rack.new (IsErr result) }
         ensures quiet { OnOk result (R.faults rack.new ≡ R.faults rack.old) }
     {
         self.log.append_staged(rack)
@@ -203,7 +203,7 @@ impl Journal {
         ensures file { self.old.file ≡ 0 }
         ensures ok { OnOk result (HasOneMore self.old self.new) }
         ensures err { OnErr result (self.new ≡ self.old) }
-        ensures rack { LeavesRack R.disk R.faults rack.old rack.new (IsErr result) }
+        ensures rack { LeavesRack R.Rack rack.old rack.new (IsErr result) }
         ensures quiet { OnOk result (R.faults rack.new ≡ R.faults rack.old) }
     {
         let size = write(entry, &mut self.buffer);

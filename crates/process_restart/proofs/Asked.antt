@@ -18,8 +18,7 @@ use Rattle.process_core.specs.declared.replies.Admit.{Admit as Given}
 use Rattle.process_core.specs.declared.replies.Admit.TheVariants as admits
 use Rattle.core_state.proofs.SeatFacts.{has_plan}
 use Rattle.engine_steps.specs.Engines.{EngineState, with_core}
-use Rattle.resource_box.specs.declared.call.Kind.{Kind}
-use Rattle.resource_box.specs.Meaning.{Pairs}
+use Rattle.resource_box.specs.declared.resource.Resource.{Ghosts as Resources}
 use Rattle.process_restart.specs.Turns.{HaveEnded, IsAsked, IsAskedNext, IsAtTurn}
 use Rattle.process_restart.proofs.NextProcess.{nobody_left}
 use Rattle.process_restart.proofs.Replies.{Says, says}
@@ -40,7 +39,7 @@ one_more c ended have here i most = ⊎_elim
     (λ last. let same : i ≡ ended + 1 = omega (arith, last, most) in ap (is_active (history_of c)) same ∙ here)
     (cases_lt i (ended + 1))
 
-module _ {R B : Type 0} (meaning : B → Pairs) (sort : B → Kind) (old new : EngineState R B) (core : IsCore old.core) (ended i : ℕ) (at : IsAtTurn meaning sort old ended) (next : IsAskedNext old.core ended i)
+module _ {R B : Type 0} (box : Resources B) (old new : EngineState R B) (core : IsCore old.core) (ended i : ℕ) (at : IsAtTurn box old ended) (next : IsAskedNext old.core ended i)
     (is : new ≡ with_core old (after_call old.core (admit i))) where
   abbrev c : CoreState
   c = old.core

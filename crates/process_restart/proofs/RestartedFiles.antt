@@ -1,12 +1,11 @@
 -- What became of files that were opened on their history, which was then completed as far as it went.
-use Rattle.std.proofs.Common.{◌≡◌, ◌∙◌, ◌≤◌, ℕ, List, [], refl, subst, sym, arith}
+use Rattle.std.proofs.Common.{◌≡◌, ◌∙◌, ◌≤◌, List, [], refl, subst, sym, arith}
 use Rattle.process_flow.specs.Causes.{Rose}
 use Rattle.process_disk.specs.declared.rack.Rack.{Ghosts as Racks}
 use Rattle.process_disk.specs.Disk.{Disk, FileSet, IsHonest, Told}
 use Rattle.process_disk.specs.Images.{EachImage}
 use Rattle.process_disk.proofs.Images.{still_told}
-use Rattle.resource_box.specs.declared.call.Kind.{Kind}
-use Rattle.resource_box.specs.Meaning.{Pairs}
+use Rattle.resource_box.specs.declared.resource.Resource.{Ghosts as Resources}
 use Rattle.schedule_model.specs.declared.history.History.{History}
 use Rattle.commute_table.specs.declared.catalog.Catalog.{Catalog}
 use Rattle.process_core.specs.Cores.{CoreState, IsCore}
@@ -43,7 +42,7 @@ module _ {R B : Type 0} (r : Racks R) (honest : (rack : R) → Told (r.disk rack
     (was_sound : Told (r.disk entry) → IsSound opening.catalog (full_history opening.core) (r.disk entry).files)
     (became : Told (r.disk entry) → BecomesSound opening.catalog (full_history opening.core) (r.disk entry) (r.disk opening.files.rack))
     (invariant_holds : Told (r.disk entry) → EachImage (r.disk opening.files.rack) (r.disk opening.files.rack).moment (IsSound opening.catalog (full_history opening.core)))
-    (goes : GoesOn r.disk r.faults [] opening now) (gate : AskedGate) (completing : IsCompleting gate opening.catalog (full_history opening.core) now.core)
+    (goes : GoesOn r [] opening now) (gate : AskedGate) (completing : IsCompleting gate opening.catalog (full_history opening.core) now.core)
     (completion : Completion) (outcome : IsOutcome (full_history opening.core) now.core now.phase completion)
     (under_way : completion ≡ DiskFault → IsNextUnderWay (full_history opening.core) now.core)
     (read : now.phase ≡ Settled → Told (r.disk now.files.rack) → IsSound now.catalog (full_history now.core) (r.disk now.files.rack).files)
@@ -100,12 +99,12 @@ module _ {R B : Type 0} (r : Racks R) (honest : (rack : R) → Told (r.disk rack
   restart_is on is = subst (λ p. IsRestart gate now.catalog h now.core p (r.disk entry) after) is (subst (λ d. IsRestart gate d h now.core now.phase (r.disk entry) after) (sym goes.catalog) is_restart)
 
 -- What a rack came to by an opening and what followed.
-pub later_then : {R : Type 0} (disk : R → Disk) (faults : R → ℕ) (entry opened now : R) → (disk opened).tells ≡ (disk entry).tells → faults entry ≤ faults opened → (disk now).tells ≡ (disk opened).tells → faults opened ≤ faults now
-    → IsLater disk faults entry now
-later_then disk faults entry opened now tells later tells_on later_on = record { tells = tells_on ∙ tells; later = omega (arith, later, later_on) }
+pub later_then : {R : Type 0} (racks : Racks R) (entry opened now : R) → (racks.disk opened).tells ≡ (racks.disk entry).tells → racks.faults entry ≤ racks.faults opened → (racks.disk now).tells ≡ (racks.disk opened).tells → racks.faults opened ≤ racks.faults now
+    → IsLater racks entry now
+later_then racks entry opened now tells later tells_on later_on = record { tells = tells_on ∙ tells; later = omega (arith, later, later_on) }
 
 -- So it is of a rack that is handed back with its boxes empty.
-pub handed_back : {R B : Type 0} (disk : R → Disk) (faults : R → ℕ) (meaning : B → Pairs) (sort : B → Kind) (entry now back : R) (boxes : List B) (why : OpenError) → back ≡ now → IsLater disk faults entry now
-    → AreCleared meaning sort boxes → (why ≡ errors.DiskFault → Rose (faults entry) (faults now)) → IsLater disk faults entry back × AreCleared meaning sort boxes × (why ≡ errors.DiskFault → Rose (faults entry) (faults back))
-handed_back disk faults meaning sort entry now back boxes why same later cleared rose =
-    subst (λ rack. IsLater disk faults entry rack × AreCleared meaning sort boxes × (why ≡ errors.DiskFault → Rose (faults entry) (faults rack))) (sym same) (later, cleared, rose)
+pub handed_back : {R B : Type 0} (racks : Racks R) (box : Resources B) (entry now back : R) (boxes : List B) (why : OpenError) → back ≡ now → IsLater racks entry now
+    → AreCleared box boxes → (why ≡ errors.DiskFault → Rose (racks.faults entry) (racks.faults now)) → IsLater racks entry back × AreCleared box boxes × (why ≡ errors.DiskFault → Rose (racks.faults entry) (racks.faults back))
+handed_back racks box entry now back boxes why same later cleared rose =
+    subst (λ rack. IsLater racks entry rack × AreCleared box boxes × (why ≡ errors.DiskFault → Rose (racks.faults entry) (racks.faults rack))) (sym same) (later, cleared, rose)

@@ -1,9 +1,8 @@
 -- An engine that was opened, whose history is completed turn after turn.
 use Rattle.std.proofs.Common.{◌≡◌, ◌∙◌, ◌≤◌, ℕ, Bool, true, false, List, [], ◌∷◌, ◌++◌, if◌then◌else◌, refl, ap, subst, sym, arith}
-use Rattle.process_disk.specs.Disk.{Disk}
+use Rattle.process_disk.specs.declared.rack.Rack.{Ghosts as Racks}
 use Rattle.process_tree.specs.declared.plan.Plan.{Plan}
-use Rattle.resource_box.specs.declared.call.Kind.{Kind}
-use Rattle.resource_box.specs.Meaning.{Pairs}
+use Rattle.resource_box.specs.declared.resource.Resource.{Ghosts as Resources}
 use Rattle.schedule_model.specs.declared.history.History.{History}
 use Rattle.schedule_model.specs.Laws.{plans_in}
 use Rattle.schedule_model.specs.Completion.{completion}
@@ -70,8 +69,8 @@ module _ {R B : Type 0} (start restarted : EngineState R B) (opened : IsOpened s
       (ap (λ (e : EngineState R B). e.core.kept) first)
 
   -- Once all were asked to complete, the first turn may come.
-  pub first_turn : (meaning : B → Pairs) (sort : B → Kind) → IsReady meaning sort restarted → IsCore restarted.core → IsAtTurn meaning sort restarted 0
-  first_turn meaning sort ready core = record {
+  pub first_turn : (box : Resources B) → IsReady box restarted → IsCore restarted.core → IsAtTurn box restarted 0
+  first_turn box ready core = record {
     ready = ready;
     idle = ap (λ (m : Moment). m.out) moment_is ∙ restart_idle (relation start.core) (courses_in start.core) (moment_of start.core) (opened_idle start opened);
     begun = subst AllHaveBegun (sym moment_is) (begun_by_restart (relation start.core) (courses_in start.core) (moment_of start.core));
@@ -87,7 +86,7 @@ module _ {R B : Type 0} (start restarted : EngineState R B) (opened : IsOpened s
   catalog_is : restarted.catalog ≡ start.catalog
   catalog_is = ap (λ (e : EngineState R B). e.catalog) first
 
-  module _ (disk : R → Disk) (faults : R → ℕ) (gate : AskedGate) (now : EngineState R B) (ran : RanInTurn disk faults gate restarted now) where
+  module _ (racks : Racks R) (gate : AskedGate) (now : EngineState R B) (ran : RanInTurn racks gate restarted now) where
     kept : now.core.kept ≡ restarted.core.kept ++ kept_since restarted.core now.core
     kept = (ran.goes []).kept ∙ ap (λ ks. restarted.core.kept ++ ks) (sym (kept_is restarted.core now.core (ran.goes []).added (ran.goes []).kept))
 

@@ -1,6 +1,7 @@
 -- Processes that were run in turn: by no turn, and by one turn after another.
-use Rattle.std.proofs.Common.{◌≡◌, ◌∙◌, ℕ, [], ◌++◌, Option, refl, ap, subst, sym, append-nil, append_assoc, arith}
-use Rattle.process_disk.specs.Disk.{Disk, IsHonest, Told}
+use Rattle.std.proofs.Common.{◌≡◌, ◌∙◌, [], ◌++◌, Option, refl, ap, subst, sym, append-nil, append_assoc, arith}
+use Rattle.process_disk.specs.declared.rack.Rack.{Ghosts as Racks}
+use Rattle.process_disk.specs.Disk.{IsHonest, Told}
 use Rattle.process_disk.specs.Images.{EachImage}
 use Rattle.process_tree.specs.Order.{Each}
 use Rattle.machine_model.specs.Replies.{Handed}
@@ -18,19 +19,19 @@ use Rattle.process_restart.specs.Completing.{AreInTurn}
 use Rattle.process_restart.specs.Turns.{RanInTurn}
 use Rattle.process_restart.proofs.InTurn.{in_turn-append}
 
-module _ {R B : Type 0} (disk : R → Disk) (faults : R → ℕ) (answers : Handed → Option Answer) where
+module _ {R B : Type 0} (racks : Racks R) (answers : Handed → Option Answer) where
   -- what of it is so wherever processes are only run
-  only_of : (before after : GateCounts) (old new : EngineState R B) → RanInTurn disk faults (gate_from answers before after) old new → OnlyRuns disk faults answers before after old new
+  only_of : (before after : GateCounts) (old new : EngineState R B) → RanInTurn racks (gate_from answers before after) old new → OnlyRuns racks answers before after old new
   only_of before after old new ran = record { goes = ran.goes; plans = ran.plans; running = ran.running; by_gate = ran.by_gate }
 
   -- By no turn they were run in turn,
-  pub turns_none : (count : GateCounts) (e : EngineState R B) → IsCore e.core → (Told (disk e.files.rack) → EachImage (disk e.files.rack) (disk e.files.rack).moment (IsSound e.catalog (full_history e.core)))
-      → RanInTurn disk faults (gate_from answers count count) e e
+  pub turns_none : (count : GateCounts) (e : EngineState R B) → IsCore e.core → (Told (racks.disk e.files.rack) → EachImage (racks.disk e.files.rack) (racks.disk e.files.rack).moment (IsSound e.catalog (full_history e.core)))
+      → RanInTurn racks (gate_from answers count count) e e
   turns_none count e core each =
       let nothing = sym (append-nil e.core.kept) in
       let none = kept_is e.core e.core [] nothing in
       record {
-        goes = λ may_start. goes_none disk faults may_start e core each;
+        goes = λ may_start. goes_none racks may_start e core each;
         plans = refl;
         running = subst (Each IsOfRunning) (sym none) tt;
         by_gate = by_gate_none (gate_from answers count count) e.catalog (omega arith) e.core e.core [] nothing tt;
@@ -40,8 +41,8 @@ module _ {R B : Type 0} (disk : R → Disk) (faults : R → ℕ) (answers : Hand
       }
 
   -- and by one turn after another.
-  pub turns_then : (before between after : GateCounts) (old mid new : EngineState R B) → mid.phase ≡ phase.Settled → IsCore mid.core → (Told (disk new.files.rack) → IsHonest (disk new.files.rack))
-      → RanInTurn disk faults (gate_from answers before between) old mid → RanInTurn disk faults (gate_from answers between after) mid new → RanInTurn disk faults (gate_from answers before after) old new
+  pub turns_then : (before between after : GateCounts) (old mid new : EngineState R B) → mid.phase ≡ phase.Settled → IsCore mid.core → (Told (racks.disk new.files.rack) → IsHonest (racks.disk new.files.rack))
+      → RanInTurn racks (gate_from answers before between) old mid → RanInTurn racks (gate_from answers between after) mid new → RanInTurn racks (gate_from answers before after) old new
   turns_then before between after old mid new settled core honest first second =
       let one = kept_since old.core mid.core in
       let two = kept_since mid.core new.core in
@@ -50,7 +51,7 @@ module _ {R B : Type 0} (disk : R → Disk) (faults : R → ℕ) (answers : Hand
       let kept_one : mid.core.kept ≡ old.core.kept ++ one = (first.goes []).kept ∙ ap (λ ks. old.core.kept ++ ks) (sym is_one) in
       let kept_two : new.core.kept ≡ mid.core.kept ++ two = (second.goes []).kept ∙ ap (λ ks. mid.core.kept ++ ks) (sym is_two) in
       let all = kept_is old.core new.core (one ++ two) (kept_two ∙ (ap (λ ks. ks ++ two) kept_one ∙ append_assoc old.core.kept one two)) in
-      let only = only_then disk faults answers before between after old mid new settled core honest (only_of before between old mid first) (only_of between after mid new second) in
+      let only = only_then racks answers before between after old mid new settled core honest (only_of before between old mid first) (only_of between after mid new second) in
       record {
         goes = only.goes;
         plans = only.plans;

@@ -1,7 +1,8 @@
 -- One turn: a piece is handed out in turn, a gate works on it, and it ends.
 use Rattle.std.proofs.Common.{◌≡◌, ◌≢◌, ◌∙◌, ◌⊎◌, inl, inr, ◌≤◌, ◌<◌, ℕ, Bool, true, false, not, List, [], ◌∷◌, ◌++◌, length, Option, Some, None, if◌then◌else◌, refl, ap, subst, sym, append_assoc, length-append, arith}
 use Rattle.std.proofs.lemmas.Bool.{false≢true}
-use Rattle.process_disk.specs.Disk.{Disk, IsHonest, Told}
+use Rattle.process_disk.specs.declared.rack.Rack.{Ghosts as Racks}
+use Rattle.process_disk.specs.Disk.{IsHonest, Told}
 use Rattle.process_tree.specs.Order.{Each}
 use Rattle.process_tree.specs.declared.play.Outcome.{Outcome}
 use Rattle.schedule_model.specs.declared.history.History.{History}
@@ -44,15 +45,14 @@ use Rattle.process_restart.proofs.Completed.{next_event, same_completed}
 use Rattle.process_restart.proofs.EndedPieces.{ends_in_turn, history_by, left_by_fault, no_failure}
 use Rattle.process_restart.proofs.InTurn.{KeepsMore}
 use Rattle.process_restart.proofs.UnderWay.{alone, event_is, next_under_way}
-use Rattle.resource_box.specs.declared.call.Kind.{Kind}
-use Rattle.resource_box.specs.Meaning.{Pairs}
+use Rattle.resource_box.specs.declared.resource.Resource.{Ghosts as Resources}
 
 completed_alike : (h k : History) → h ≡ k → completed_history h ≡ completed_history k
 completed_alike h k same = ap completed_history same
 
-module _ {R B : Type 0} (disk : R → Disk) (faults : R → ℕ) (meaning : B → Pairs) (sort : B → Kind) (old mid new : EngineState R B) (ended i : ℕ) (core : IsCore old.core) (at : IsAtTurn meaning sort old ended)
+module _ {R B : Type 0} (racks : Racks R) (box : Resources B) (old mid new : EngineState R B) (ended i : ℕ) (core : IsCore old.core) (at : IsAtTurn box old ended)
     (is : mid ≡ with_core old (after_call old.core (admit i))) (d : Handed) (in_turn : IsHandedInTurn old.core mid.core i d) (given : IsHandedAs mid.core d)
-    (goes : GoesOnAlone disk faults old mid) (worked : GoesOnAlone disk faults mid new) (outcome : Outcome) (a : Finish) (fin : Finishes disk mid new d outcome a) where
+    (goes : GoesOnAlone racks old mid) (worked : GoesOnAlone racks mid new) (outcome : Outcome) (a : Finish) (fin : Finishes racks.disk mid new d outcome a) where
   abbrev hand : List Kept
   hand = kept_hand d ∷ []
 
@@ -71,7 +71,7 @@ module _ {R B : Type 0} (disk : R → Disk) (faults : R → ℕ) (meaning : B �
   same_history = ap (λ (e : EngineState R B). full_history e.core) is ∙ admit_same old.core i
 
   new_kept : new.core.kept ≡ old.core.kept ++ (hand ++ ends)
-  new_kept = kept_of disk mid new d outcome a fin ∙ (ap (λ ks. ks ++ ends) in_turn.kept ∙ append_assoc old.core.kept hand ends)
+  new_kept = kept_of racks.disk mid new d outcome a fin ∙ (ap (λ ks. ks ++ ends) in_turn.kept ∙ append_assoc old.core.kept hand ends)
 
   all : kept_since old.core new.core ≡ hand ++ ends
   all = kept_is old.core new.core (hand ++ ends) new_kept
@@ -93,14 +93,14 @@ module _ {R B : Type 0} (disk : R → Disk) (faults : R → ℕ) (meaning : B �
   -- Where a call of the rack failed, the next event of the completion was under way.
   pub under_way : failure_of a ≡ Some completions.DiskFault → IsNextUnderWay (full_history old.core) new.core
   under_way failed next under =
-      let left = left_by_fault disk mid new d outcome a failed fin in
+      let left = left_by_fault racks.disk mid new d outcome a failed fin in
       subst (λ c. IsNextHistory (full_history old.core) c next) (sym left)
       (next_under_way old.core mid.core core at.begun at.idle i d in_turn more same_history given next (subst (λ c. IsUnderWay [] c next) left under))
 
-  module _ (answers : Handed → Option Answer) (before after : GateCounts) (settled : mid.phase ≡ phase.Settled) (mid_core : IsCore mid.core) (honest : Told (disk new.files.rack) → IsHonest (disk new.files.rack))
+  module _ (answers : Handed → Option Answer) (before after : GateCounts) (settled : mid.phase ≡ phase.Settled) (mid_core : IsCore mid.core) (honest : Told (racks.disk new.files.rack) → IsHonest (racks.disk new.files.rack))
       (by_gate : IsByGate (gate_from answers before after) mid.catalog mid.core new.core)
       (unasked : d.piece.work ≡ End → after.asked ≡ before.asked) (asked : d.piece.work ≢ End → after.asked ≡ count_after before.asked 1) where
-    only_admit : OnlyRuns disk faults answers before before old mid
+    only_admit : OnlyRuns racks answers before before old mid
     only_admit = record {
       goes = goes;
       plans = more.plans;
@@ -108,8 +108,8 @@ module _ {R B : Type 0} (disk : R → Disk) (faults : R → ℕ) (meaning : B �
       by_gate = by_gate_none (gate_from answers before before) old.catalog (omega arith) old.core mid.core hand in_turn.kept (tt, tt);
     }
 
-    only : OnlyRuns disk faults answers before after old new
-    only = only_then disk faults answers before before after old mid new settled mid_core honest only_admit (only_work disk faults answers before after mid new d outcome a fin worked by_gate)
+    only : OnlyRuns racks answers before after old new
+    only = only_then racks answers before before after old mid new settled mid_core honest only_admit (only_work racks answers before after mid new d outcome a fin worked by_gate)
 
     asked_by : (t : Bool) → same_work d.piece.work End ≡ t → after.asked ≡ count_after before.asked (length (if not t then hand else []))
     asked_by true at = unasked (is_end d.piece.work at)
@@ -123,7 +123,7 @@ module _ {R B : Type 0} (disk : R → Disk) (faults : R → ℕ) (meaning : B �
         omega (arith, one, two, none)
 
     -- It was run in turn,
-    pub ran : RanInTurn disk faults (gate_from answers before after) old new
+    pub ran : RanInTurn racks (gate_from answers before after) old new
     ran = record {
       goes = only.goes;
       plans = only.plans;
@@ -131,7 +131,7 @@ module _ {R B : Type 0} (disk : R → Disk) (faults : R → ℕ) (meaning : B �
       by_gate = only.by_gate;
       asked_once = asked_by (same_work d.piece.work End) refl ∙ ap (count_after before.asked) (sym steps);
       turns = subst (AreInTurn old.core) (sym all) (subst (λ (x : Handed). next_in_restart (courses_in old.core) (moment_of old.core) ≡ Some x.piece.process) (sym in_turn.is) in_turn.turn, ends_in_turn (with_kept old.core (kept_hand d)) d.piece.number a);
-      completed = completed_by (history_by disk mid new d outcome a fin);
+      completed = completed_by (history_by racks.disk mid new d outcome a fin);
     }
 
     running : Each IsOfRunning (hand ++ ends)
@@ -147,10 +147,10 @@ module _ {R B : Type 0} (disk : R → Disk) (faults : R → ℕ) (meaning : B �
         absurd (false≢true (sym (at.have_ended.none_active k most) ∙ before'))
 
     -- and where the piece ended, the next turn may come.
-    pub at_turn : failure_of a ≡ None → IsReady meaning sort new → IsAtTurn meaning sort new ended
+    pub at_turn : failure_of a ≡ None → IsReady box new → IsAtTurn box new ended
     at_turn none ready = record {
       ready = ready;
-      idle = idle_after disk faults mid new d given.handed (alone old.core mid.core core at.begun at.idle i d in_turn more same_history) (worked []) outcome a fin (no_failure a none);
+      idle = idle_after racks mid new d given.handed (alone old.core mid.core core at.begun at.idle i d in_turn more same_history) (worked []) outcome a fin (no_failure a none);
       begun = subst AllHaveBegun (sym moment_new) (begun_still (relation old.core) (courses_in old.core) (moment_of old.core) (hand ++ ends) running at.begun);
       have_ended = record {
         none_active = λ k most. none_more k most (is_active (history_of new.core) k) refl;

@@ -1,10 +1,10 @@
 -- Files that are restarted: opened on their history, which is then completed.
-use Rattle.std.specs.Prelude.{◌≡◌, ◌⊎◌, ◌≤◌, ℕ, List}
+use Rattle.std.specs.Prelude.{◌≡◌, ◌⊎◌, ◌≤◌, List}
 use Rattle.process_flow.specs.Causes.{Rose}
+use Rattle.process_disk.specs.declared.rack.Rack.{Ghosts as Racks}
 use Rattle.process_disk.specs.Disk.{Disk, Told}
 use Rattle.process_disk.specs.Images.{EachImage}
-use Rattle.resource_box.specs.declared.call.Kind.{Kind}
-use Rattle.resource_box.specs.Meaning.{Pairs}
+use Rattle.resource_box.specs.declared.resource.Resource.{Ghosts as Resources}
 use Rattle.schedule_model.specs.declared.history.History.{History}
 use Rattle.reduction_trace.specs.Whole.{completed_history}
 use Rattle.commute_table.specs.declared.catalog.Catalog.{Catalog}
@@ -56,21 +56,21 @@ IsRestartedAs disk gate entry (Refused parts why) = IsNotOpened gate why (disk e
     × IsRestart gate c h now on (disk entry) (disk parts.rack))
 
 -- A rack tells as it did, and its count of faults isn't lower.
-pub record IsLater {R : Type 0} (disk : R → Disk) (faults : R → ℕ) (old new : R) : Type 0 where
-  pub tells : (disk new).tells ≡ (disk old).tells
-  pub later : faults old ≤ faults new
+pub record IsLater {R : Type 0} (racks : Racks R) (old new : R) : Type 0 where
+  pub tells : (racks.disk new).tells ≡ (racks.disk old).tells
+  pub later : racks.faults old ≤ racks.faults new
 
 -- The boxes of the eight subsystems, all empty.
-pub record AreCleared {B : Type 0} (meaning : B → Pairs) (sort : B → Kind) (boxes : List B) : Type 0 where
-  pub kinds : AreBoxes sort boxes
-  pub empty : AreEmpty meaning boxes
+pub record AreCleared {B : Type 0} (box : Resources B) (boxes : List B) : Type 0 where
+  pub kinds : AreBoxes box.sort boxes
+  pub empty : AreEmpty box.meaning boxes
 
 -- What a restart hands back: an engine that may be called; or the boxes empty, and where a call of the rack failed its count of
 -- faults rose.
-abbrev pub HandsBack : {R B : Type 0} → (R → Disk) → (R → ℕ) → (B → Pairs) → (B → Kind) → R → Restarted R B → Type 0
-HandsBack disk faults meaning sort entry (Ended e) = IsLater disk faults entry e.files.rack × IsReady meaning sort e
-HandsBack disk faults meaning sort entry (Exhausted e process step) =
-    IsLater disk faults entry e.files.rack × IsReady meaning sort e
-HandsBack disk faults meaning sort entry (Refused parts why) =
-    IsLater disk faults entry parts.rack × AreCleared meaning sort parts.resources.items
-    × (why ≡ DiskFault → Rose (faults entry) (faults parts.rack))
+abbrev pub HandsBack : {R B : Type 0} → Racks R → Resources B → R → Restarted R B → Type 0
+HandsBack racks box entry (Ended e) = IsLater racks entry e.files.rack × IsReady box e
+HandsBack racks box entry (Exhausted e process step) =
+    IsLater racks entry e.files.rack × IsReady box e
+HandsBack racks box entry (Refused parts why) =
+    IsLater racks entry parts.rack × AreCleared box parts.resources.items
+    × (why ≡ DiskFault → Rose (racks.faults entry) (racks.faults parts.rack))

@@ -1,9 +1,8 @@
 -- One turn after another in which the history of an engine is completed.
 use Rattle.std.specs.Prelude.{◌≡◌, ◌≤◌, ℕ, ◌+◌, false, [], ◌∷◌, ◌++◌, length, Option, Some, None, IsTrue}
-use Rattle.process_disk.specs.Disk.{Disk}
+use Rattle.process_disk.specs.declared.rack.Rack.{Ghosts as Racks}
 use Rattle.process_tree.specs.Order.{Each}
-use Rattle.resource_box.specs.declared.call.Kind.{Kind}
-use Rattle.resource_box.specs.Meaning.{Pairs}
+use Rattle.resource_box.specs.declared.resource.Resource.{Ghosts as Resources}
 use Rattle.schedule_model.specs.Histories.{active, is_active}
 use Rattle.reduction_trace.specs.Whole.{completed_history}
 use Rattle.machine_model.specs.Laws.{AllHaveBegun, next_in_restart}
@@ -32,8 +31,8 @@ pub record IsAskedNext (core : CoreState) (ended process : ℕ) : Type 0 where
   pub other : is_active (history_of core) process ≡ false → process ≡ ended + 1
 
 -- An engine between two turns: it may be called, no piece is out, all have begun to complete, and the first so many have ended.
-pub record IsAtTurn {R B : Type 0} (meaning : B → Pairs) (sort : B → Kind) (e : EngineState R B) (ended : ℕ) : Type 0 where
-  pub ready : IsReady meaning sort e
+pub record IsAtTurn {R B : Type 0} (box : Resources B) (e : EngineState R B) (ended : ℕ) : Type 0 where
+  pub ready : IsReady box e
   pub idle : NothingRuns e.core
   pub begun : AllHaveBegun (moment_of e.core)
   pub have_ended : HaveEnded e.core ended
@@ -56,8 +55,8 @@ IsAsked old new ended process admits.Running = ⊥
 
 -- Processes were only run from one state of an engine to another, in turn and by this gate, and the history is completed to the
 -- same.
-pub record RanInTurn {R B : Type 0} (disk : R → Disk) (faults : R → ℕ) (gate : AskedGate) (old new : EngineState R B) : Type 0 where
-  pub goes : GoesOnAlone disk faults old new
+pub record RanInTurn {R B : Type 0} (racks : Racks R) (gate : AskedGate) (old new : EngineState R B) : Type 0 where
+  pub goes : GoesOnAlone racks old new
   pub plans : new.core.plans ≡ old.core.plans
   pub running : Each IsOfRunning (kept_since old.core new.core)
   pub by_gate : IsByGate gate old.catalog old.core new.core

@@ -57,14 +57,14 @@ fn turn<R: Rack + Drop, B: Resource, G: Gate>(
     gate: &mut G,
     ended: &mut u32,
 ) -> Option<Completion>
-    requires at { IsAtTurn B.meaning B.sort engine.old ended.old }
-    ensures ran { RanInTurn R.disk R.faults (asked G.Gate gate.old gate.new) engine.old engine.new }
+    requires at { IsAtTurn B.Resource engine.old ended.old }
+    ensures ran { RanInTurn R.Rack (asked G.Gate gate.old gate.new) engine.old engine.new }
     ensures outcome { IfSome result (IsOutcome (full_history engine.old.core) engine.new.core engine.new.phase) }
     ensures under_way { result ≡ Some Completion.DiskFault → IsNextUnderWay (full_history engine.old.core) engine.new.core }
     ensures fault { result ≡ Some Completion.DiskFault → Rose (R.faults engine.old.files.rack) (R.faults engine.new.files.rack) }
-    ensures at { result ≡ None → IsAtTurn B.meaning B.sort engine.new ended.new }
+    ensures at { result ≡ None → IsAtTurn B.Resource engine.new ended.new }
     ensures more { result ≡ None → length engine.old.core.kept + ended.old < length engine.new.core.kept + ended.new }
-    ensures fits { EachFits B.meaning B.sort engine.new.files.stores }
+    ensures fits { EachFits B.Resource engine.new.files.stores }
 {
     engine.invariant_holds();
     let process = next_process(engine, *ended);
@@ -91,14 +91,14 @@ pub fn complete<R: Rack + Drop, B: Resource, G: Gate>(
     gate: &mut G,
 ) -> Completion
     requires opened { IsOpened engine.old }
-    requires fits { EachFits B.meaning B.sort engine.old.files.stores }
-    ensures goes { GoesOnAlone R.disk R.faults engine.old engine.new }
+    requires fits { EachFits B.Resource engine.old.files.stores }
+    ensures goes { GoesOnAlone R.Rack engine.old engine.new }
     ensures completing { IsCompleting (asked G.Gate gate.old gate.new) engine.old.catalog (full_history engine.old.core)
         engine.new.core }
     ensures outcome { IsOutcome (full_history engine.old.core) engine.new.core engine.new.phase result }
     ensures under_way { result ≡ Completion.DiskFault → IsNextUnderWay (full_history engine.old.core) engine.new.core }
     ensures fault { result ≡ Completion.DiskFault → Rose (R.faults engine.old.files.rack) (R.faults engine.new.files.rack) }
-    ensures fits { EachFits B.meaning B.sort engine.new.files.stores }
+    ensures fits { EachFits B.Resource engine.new.files.stores }
 {
     engine.invariant_holds();
     complete_all(engine);

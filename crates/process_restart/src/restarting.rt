@@ -33,9 +33,9 @@ pub enum Restarted<R: Rack + Drop, B: Resource = Box<dyn Resource + Send>> {
 
 // The parts of an engine that goes on no more, with their boxes empty.
 fn cleared<R: Rack + Drop, B: Resource>(engine: Engine<R, B>) -> Parts<R, B>
-    requires fits { EachFits B.meaning B.sort engine.files.stores }
+    requires fits { EachFits B.Resource engine.files.stores }
     ensures rack { result.rack ≡ engine.files.rack }
-    ensures boxes { AreCleared B.meaning B.sort result.resources.items }
+    ensures boxes { AreCleared B.Resource result.resources.items }
 {
     let mut parts = engine.into_parts();
     clear_all(&mut parts.resources);
@@ -50,7 +50,7 @@ pub fn restart<R: Rack + Drop, B: Resource, G: Gate>(
 ) -> Restarted<R, B>
     requires boxes { AreBoxes B.sort parts.resources.items }
     ensures restarted { IsRestartedAs R.disk (asked G.Gate gate.old gate.new) parts.rack result }
-    ensures back { HandsBack R.disk R.faults B.meaning B.sort parts.rack result }
+    ensures back { HandsBack R.Rack B.Resource parts.rack result }
 {
     let mut engine = match Engine::open(alloc, parts) {
         Ok(engine) => engine,

@@ -1,6 +1,7 @@
 // The command `run` by the first of sixteen gates.
 ghost use Rattle.std.specs.Prelude.{◌≡◌, ◌≤◌, true, length, IfOk, IfErr};
 ghost use Rattle.history_files.specs.Boxes.{AreBoxes};
+ghost use Rattle.command_input.specs.FilesLeft.{AreLeft};
 ghost use Rattle.command_input.specs.Early.{comes_before_files};
 ghost use Rattle.scenario_run.specs.Completeness.{IsRunComplete};
 ghost use Rattle.scenario_run.specs.Run.{IsRunDue};
@@ -47,8 +48,7 @@ pub(crate) fn run_by_first<
     ensures early { IfErr result.found (λ r. comes_before_files r ≡ true → result.parts.rack ≡ parts.rack) }
     ensures ill_formed { IfOk result.found (λ s. s.status ≡ Status.IllFormed → result.parts.rack ≡ parts.rack) }
     ensures back { AreBoxes B.sort result.parts.resources.items }
-    ensures tells { (R.disk result.parts.rack).tells ≡ (R.disk parts.rack).tells }
-    ensures later { R.faults parts.rack ≤ R.faults result.parts.rack }
+    ensures left { AreLeft (files R.Rack parts.rack) (files R.Rack result.parts.rack) }
 {
     racks_are_honest::<R>();
     let mut gates = gates;

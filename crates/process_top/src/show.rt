@@ -1,8 +1,8 @@
 // The command `show`.
-ghost use Rattle.std.specs.Prelude.{◌≡◌, ◌≤◌, false, IfOk, IfErr};
+ghost use Rattle.std.specs.Prelude.{◌≡◌, false, IfOk, IfErr};
 ghost use Rattle.process_disk.specs.Disk.{Told};
 ghost use Rattle.process_disk.specs.Images.{AllAsBefore};
-ghost use Rattle.command_input.specs.FilesLeft.{files};
+ghost use Rattle.command_input.specs.FilesLeft.{AreLeft, files};
 ghost use Rattle.command_input.specs.Early.{comes_before_files};
 ghost use Rattle.process_top.specs.Said.{Says};
 ghost use Rattle.process_top.specs.Show.{journal_refusal, IsNotOpened, IsShown, IsShowDue};
@@ -34,8 +34,7 @@ fn opened<R: Rack>(alloc: Global, rack: &mut R) -> Result<(Catalog, History), Re
     ensures shown { IfOk result (λ opened. IsShown opened.0 opened.1 (files R.Rack rack.old) (files R.Rack rack.new)) }
     ensures refused { IfErr result (λ r. IsNotOpened r (files R.Rack rack.old) (files R.Rack rack.new)) }
     ensures all { Told (R.disk rack.old) → AllAsBefore (R.disk rack.old) (R.disk rack.new) }
-    ensures tells { (R.disk rack.new).tells ≡ (R.disk rack.old).tells }
-    ensures later { R.faults rack.old ≤ R.faults rack.new }
+    ensures left { AreLeft (files R.Rack rack.old) (files R.Rack rack.new) }
     ensures late { IfErr result (λ r. comes_before_files r ≡ false) }
 {
     match Journal::open(alloc, rack) {
@@ -48,8 +47,7 @@ fn opened<R: Rack>(alloc: Global, rack: &mut R) -> Result<(Catalog, History), Re
 pub fn show<R: Rack>(alloc: Global, rack: &mut R) -> Result<Said, Refusal>
     ensures due { Says (IsShowDue (files R.Rack rack.old) (files R.Rack rack.new)) result }
     ensures all { Told (R.disk rack.old) → AllAsBefore (R.disk rack.old) (R.disk rack.new) }
-    ensures tells { (R.disk rack.new).tells ≡ (R.disk rack.old).tells }
-    ensures later { R.faults rack.old ≤ R.faults rack.new }
+    ensures left { AreLeft (files R.Rack rack.old) (files R.Rack rack.new) }
     ensures late { IfErr result (λ r. comes_before_files r ≡ false) }
     ensures status { IfOk result (λ s. s.status ≡ Status.Done) }
 {

@@ -5,8 +5,9 @@ use Rattle.std.specs.Option.{option_map}
 use Rattle.std.proofs.lemmas.List.{length-map}
 use Rattle.std.proofs.lemmas.Option.{same_Some, slice_get-map, slice_get_within}
 use Rattle.process_disk.specs.Disk.{FileSet}
+use Rattle.resource_box.specs.declared.resource.Resource.{Ghosts as Resources}
 use Rattle.resource_box.specs.declared.call.Kind.{Kind}
-use Rattle.resource_box.specs.Meaning.{Pairs, value_at}
+use Rattle.resource_box.specs.Meaning.{value_at}
 use Rattle.schedule_model.specs.declared.history.History.{History}
 use Rattle.commute_table.specs.declared.catalog.Catalog.{Catalog}
 use Rattle.subsystem_store.specs.declared.effect.Effect.{Effect}
@@ -32,20 +33,20 @@ read_effects (Err e) = []
 one_read : (kind : Kind) (q : ℕ) (one two : List Effect) (files : FileSet) → IsReadAs kind q one None files → IsReadAs kind q two None files → one ≡ two
 one_read kind q one two files is other = ap read_effects (sym is ∙ other)
 
-module _ {B : Type 0} (meaning : B → Pairs) (sort : B → Kind) (c : Catalog) (h : History) where
-  kinds_same : (stores : List (Opened B)) → AtEach (λ q s. sort s.resource ≡ s.kind) stores → map (λ s. s.kind) stores ≡ map sort (map (λ s. s.resource) stores)
+module _ {B : Type 0} (box : Resources B) (c : Catalog) (h : History) where
+  kinds_same : (stores : List (Opened B)) → AtEach (λ q s. box.sort s.resource ≡ s.kind) stores → map (λ s. s.kind) stores ≡ map box.sort (map (λ s. s.resource) stores)
   kinds_same [] each = refl
   kinds_same (s ∷ stores) each =
-      ap (λ k. k ∷ map (λ (x : Opened B). x.kind) stores) (sym (each zero s refl)) ∙ ap (λ ks. sort s.resource ∷ ks) (kinds_same stores (λ q x at. each (suc q) x at))
+      ap (λ k. k ∷ map (λ (x : Opened B). x.kind) stores) (sym (each zero s refl)) ∙ ap (λ ks. box.sort s.resource ∷ ks) (kinds_same stores (λ q x at. each (suc q) x at))
 
-  module _ (law : BooksAreReadBack) (stores : List (Opened B)) (files : FileSet) (fits : EachFits meaning sort stores) (boxes : AreBoxes sort (map (λ s. s.resource) stores))
+  module _ (law : BooksAreReadBack) (stores : List (Opened B)) (files : FileSet) (fits : EachFits box stores) (boxes : AreBoxes box.sort (map (λ s. s.resource) stores))
       (none : AtEach (λ q s. s.doubt ≡ None) stores) (books : AtEach (λ q s. s.book ≡ effects c.ops h q) stores)
       (good : AtEach (λ q s. IsGoodBook s.kind s.book s.doubt) stores) (exactly : AreExactly c h files) where
     eight : length stores ≡ 8
-    eight = sym (length-map (map (λ (s : Opened B). s.resource) stores) sort ∙ length-map stores (λ (s : Opened B). s.resource)) ∙ ap length boxes
+    eight = sym (length-map (map (λ (s : Opened B). s.resource) stores) box.sort ∙ length-map stores (λ (s : Opened B). s.resource)) ∙ ap length boxes
 
     kinds_are : AtEach (λ q s. s.kind ≡ kind_of q) stores
-    kinds_are = kinds_in_place sort stores []
+    kinds_are = kinds_in_place box.sort stores []
         (append-nil (map (λ (s : Opened B). s.kind) stores) ∙ (kinds_same stores (λ q s at. (fits q s at).kind) ∙ boxes))
 
     -- the file of a store is read as the effects of the history
@@ -62,12 +63,12 @@ module _ {B : Type 0} (meaning : B → Pairs) (sort : B → Kind) (c : Catalog) 
     store_of q b (Some s) at is = (s, at, same_Some s.resource b is)
 
     -- Whatever books the files are read as, the boxes have their values.
-    pub box_values : HaveValuesOf (λ b. (meaning b).items) files (map (λ s. s.resource) stores)
+    pub box_values : HaveValuesOf (λ b. (box.meaning b).items) files (map (λ s. s.resource) stores)
     box_values told read q b at key =
         let found = store_of q b (slice_get stores q) refl (sym (slice_get-map (λ (s : Opened B). s.resource) stores q) ∙ at) in
         let s = found.0 in
         let low : q < 8 = (let within = slice_get_within stores q s found.1 in omega (arith, within, eight)) in
         let same : effects c.ops h q ≡ told q = one_read (kind_of q) (q + 1) (effects c.ops h q) (told q) files (read_as q s found.1) (read q low) in
-        ap (λ x. value_at (meaning x).items key) (sym found.2)
+        ap (λ x. value_at (box.meaning x).items key) (sym found.2)
         ∙ ((fits q s found.1).values key
         ∙ (ap (λ k. value_at (values k s.book) key) (kinds_are q s found.1) ∙ ap (λ es. value_at (values (kind_of q) es) key) (books q s found.1 ∙ same)))

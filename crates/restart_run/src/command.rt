@@ -1,10 +1,10 @@
 // The command `restart`.
-ghost use Rattle.std.specs.Prelude.{◌≡◌, ◌≢◌, ◌≤◌, false, IfOk, IfErr};
+ghost use Rattle.std.specs.Prelude.{◌≡◌, ◌≢◌, false, IfOk, IfErr};
 ghost use Rattle.process_disk.specs.Disk.{Told};
 ghost use Rattle.history_files.specs.Boxes.{AreBoxes};
 ghost use Rattle.engine_calls.specs.GateAnswers.{asked};
 ghost use Rattle.command_input.specs.Early.{comes_before_files};
-ghost use Rattle.command_input.specs.FilesLeft.{files};
+ghost use Rattle.command_input.specs.FilesLeft.{AreLeft, files};
 ghost use Rattle.restart_run.specs.Boxes.{HaveValuesOf};
 ghost use Rattle.restart_run.specs.Restart.{IsRestartComplete, IsRestartFound, SaysAll, SaysPart};
 
@@ -68,8 +68,7 @@ pub fn restart<R: Rack + Drop, B: Resource, G: Gate>(
     ensures values { IfOk result.found (λ s. s.status ≡ Status.Done → Told (R.disk parts.rack)
         → HaveValuesOf (λ b. (B.meaning b).items) (R.disk result.parts.rack).files result.parts.resources.items) }
     ensures back { AreBoxes B.sort result.parts.resources.items }
-    ensures tells { (R.disk result.parts.rack).tells ≡ (R.disk parts.rack).tells }
-    ensures later { R.faults parts.rack ≤ R.faults result.parts.rack }
+    ensures left { AreLeft (files R.Rack parts.rack) (files R.Rack result.parts.rack) }
 {
     sound_files_are_opened();
     books_are_read_back();

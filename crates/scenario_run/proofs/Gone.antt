@@ -1,7 +1,7 @@
 -- How a machine has gone that opened on a history: some processes started, and then all were run.
-use Rattle.std.proofs.Common.{◌≡◌, ◌∙◌, ℕ, List, [], ◌∷◌, ◌++◌, drop, length, Option, refl, ap, sym, subst, append-nil, arith}
+use Rattle.std.proofs.Common.{◌≡◌, ◌∙◌, List, [], ◌∷◌, ◌++◌, drop, length, Option, refl, ap, sym, subst, append-nil, arith}
 use Rattle.std.proofs.Math.Seq.{drop-append_seam}
-use Rattle.process_disk.specs.Disk.{Disk}
+use Rattle.process_disk.specs.declared.rack.Rack.{Ghosts as Racks}
 use Rattle.process_tree.specs.Order.{Each}
 use Rattle.process_tree.specs.declared.plan.Plan.{Plan}
 use Rattle.schedule_model.specs.declared.history.History.{History}
@@ -58,9 +58,9 @@ run_none answers counts c core is table =
     }
 
 -- it has where an engine was only run
-run_by : {R B : Type 0} (disk : R → Disk) (faults : R → ℕ) (gates : AskedGates) (old new : EngineState R B) → IsCore new.core → old.core.conflicts ≡ old.catalog.conflicts → RanByGates disk faults gates old new
+run_by : {R B : Type 0} (racks : Racks R) (gates : AskedGates) (old new : EngineState R B) → IsCore new.core → old.core.conflicts ≡ old.catalog.conflicts → RanByGates racks gates old new
     → WasRunByGates gates old.catalog old.core new.core
-run_by disk faults gates old new core table ran =
+run_by racks gates old new core table ran =
     let goes = ran.goes [] in
     record {
       machine = core;
@@ -93,19 +93,19 @@ module _ {R B : Type 0} (opening : EngineState R B) (opened : IsOpened opening) 
       (record { idle = idle; run = run_none answers counts opening.catalog on (subst IsCore same core) refl })
 
   -- and once they were run too.
-  pub gone_run : (disk : R → Disk) (faults : R → ℕ) (gates : AskedGates) (mid now : EngineState R B) → IsCore now.core → mid.catalog ≡ opening.catalog → mid.core ≡ with_started opening.core started
-      → RanByGates disk faults gates mid now → HasGone gates opening.catalog h started now.core
-  gone_run disk faults gates mid now core catalog is ran =
+  pub gone_run : (racks : Racks R) (gates : AskedGates) (mid now : EngineState R B) → IsCore now.core → mid.catalog ≡ opening.catalog → mid.core ≡ with_started opening.core started
+      → RanByGates racks gates mid now → HasGone gates opening.catalog h started now.core
+  gone_run racks gates mid now core catalog is ran =
       let same = on_is mid.core is in
       let table = ap (λ (c : CoreState). c.conflicts) same ∙ ap (λ (c : Catalog). c.conflicts) (sym catalog) in
       record {
         idle = idle;
         run = subst (λ c. WasRunByGates gates c on now.core) catalog
-            (subst (λ core. WasRunByGates gates mid.catalog core now.core) same (run_by disk faults gates mid now core table ran));
+            (subst (λ core. WasRunByGates gates mid.catalog core now.core) same (run_by racks gates mid now core table ran));
       }
 
   -- So it is of one gate, by which a thread ran them.
-  pub gone_run_by_one : (disk : R → Disk) (faults : R → ℕ) (gate : AskedGate) (mid now : EngineState R B) → IsCore now.core → mid.catalog ≡ opening.catalog
-      → mid.core ≡ with_started opening.core started → RanBy disk faults gate mid now → HasGone (one_gate gate) opening.catalog h started now.core
-  gone_run_by_one disk faults gate mid now core catalog is ran =
-      gone_run disk faults (one_gate gate) mid now core catalog is (ran_by_one disk faults gate mid now ran)
+  pub gone_run_by_one : (racks : Racks R) (gate : AskedGate) (mid now : EngineState R B) → IsCore now.core → mid.catalog ≡ opening.catalog
+      → mid.core ≡ with_started opening.core started → RanBy racks gate mid now → HasGone (one_gate gate) opening.catalog h started now.core
+  gone_run_by_one racks gate mid now core catalog is ran =
+      gone_run racks (one_gate gate) mid now core catalog is (ran_by_one racks gate mid now ran)

@@ -33,7 +33,7 @@ use Rattle.scenario_run.proofs.OnlyOpened.{only_opened}
 
 module _ {R B : Type 0} (r : Racks R) (honest : (rack : R) → Told (r.disk rack) → IsHonest (r.disk rack)) (gates : AskedGates) (entry back : R) (opening now : EngineState R B) (plans : List Plan)
     (is : IsOpened opening) (idle : active (full_history opening.core).events ≡ []) (one_each : OneEach (full_history opening.core)) (tells : (r.disk opening.files.rack).tells ≡ (r.disk entry).tells) (later : r.faults entry ≤ r.faults opening.files.rack)
-    (opened : AreOpenedOn opening.catalog (full_history opening.core) (files r entry) (files r opening.files.rack)) (goes : GoesOn r.disk r.faults plans opening now)
+    (opened : AreOpenedOn opening.catalog (full_history opening.core) (files r entry) (files r opening.files.rack)) (goes : GoesOn r plans opening now)
     (read : now.phase ≡ Settled → Told (r.disk now.files.rack) → IsSound now.catalog (full_history now.core) (r.disk now.files.rack).files)
     (each : now.phase ≡ Settled → Told (r.disk now.files.rack) → EachImage (r.disk now.files.rack) (r.disk now.files.rack).moment (IsSound now.catalog (full_history now.core))) (handed : back ≡ now.files.rack) where
   abbrev c : Catalog

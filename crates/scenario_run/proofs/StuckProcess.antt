@@ -42,7 +42,7 @@ module _ (core : CoreState) (is : IsCore core) (i : ℕ) (replied : (answer_in c
       let both = and_parts (is_in i (active m.events)) (is_exhausted cs m i) (sym (is_in-filter (is_exhausted cs m) i (active m.events)) ∙ (ap (is_in i) some ∙ (ap (λ n. is_in n (k ∷ ks)) same ∙ listed))) in
       (sym (is_active-is_in m.events i) ∙ both.0, both.1)
 
-  spent : (is_active m.events i ≡ true) × (is_exhausted cs m i ≡ true)
+  pub spent : (is_active m.events i ≡ true) × (is_exhausted cs m i ≡ true)
   spent = by_list (filter (is_exhausted cs m) (active m.events)) refl
 
   nothing_runs : find (λ (p : Piece). eqb p.process i) m.out ≡ None

@@ -30,7 +30,7 @@ use Rattle.command_input.specs.FilesLeft.{Files, before_files}
 use Rattle.command_input.specs.Inputs.{Input}
 use Rattle.command_input.specs.Scenarios.{all_refusing}
 use Rattle.scenario_run.specs.Opening.{catalog_test, files_test, idle_test, once_opened}
-use Rattle.scenario_run.specs.Reports.{exhausted_line, report_in}
+use Rattle.scenario_run.specs.Reports.{HasUsedUp, exhausted_line, report_in}
 use Rattle.scenario_run.specs.Scenario.{read_tests, IsSaidOfNone, IsScenarioRead}
 use Rattle.scenario_run.specs.Starting.{started_on}
 
@@ -90,12 +90,12 @@ IsCutOff gates c plans before after r =
     × (((r ≡ NoMemory) × IsRun gates c h plans started now Settled before after)
     ⊎ ((r ≡ DiskFault) × IsRun gates c h plans started now Closed before after × Rose before.faults after.faults))
 
--- All have ended, and the report of the history is printed; or this process is stuck, since it has no try left, and behind the
--- report stands a line that says so.
+-- All have ended, and the report of the history is printed; or this process is stuck, since its next piece was refused as often as
+-- it may be tried, and behind the report stands a line that says so.
 abbrev pub SaysRun : Catalog → CoreState → Said → Type 0
 SaysRun c now said =
     ((said.status ≡ statuses.Done) × (active (history_of now) ≡ []) × (said.text.items ≡ report_in c now))
-    ⊎ ((i : ℕ) × (said.status ≡ statuses.Exhausted) × ((answer_in now next).reply ≡ next_is (stuck i))
+    ⊎ ((i : ℕ) × (said.status ≡ statuses.Exhausted) × ((answer_in now next).reply ≡ next_is (stuck i)) × HasUsedUp now i
     × (said.text.items ≡ report_in c now ++ exhausted_line now i))
 
 -- What there is to say of a run of the processes of a scenario: its report; or it was cut off.

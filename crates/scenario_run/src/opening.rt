@@ -108,7 +108,7 @@ pub fn opened_with<R: Rack + Drop, B: Resource>(
 ) -> Result<Engine<R, B>, NotOpened<R, B>>
     requires catalog { IsCatalog catalog.now }
     requires boxes { AreBoxes B.sort parts.resources.items }
-    ensures opened { IfOk result (λ e. IsOpened e × EachFits B.meaning B.sort e.files.stores) }
+    ensures opened { IfOk result (λ e. IsOpened e × EachFits B.Resource e.files.stores) }
     ensures catalog { IfOk result (λ e. e.catalog ≡ catalog.now) }
     ensures on { IfOk result
         (λ e. AreOpenedOn e.catalog (full_history e.core) (files R.Rack parts.rack) (files R.Rack e.files.rack)) }
@@ -145,7 +145,7 @@ pub fn opened<R: Rack + Drop, B: Resource>(
 ) -> Result<Engine<R, B>, NotOpened<R, B>>
     requires catalog { IsCatalog catalog.now }
     requires boxes { AreBoxes B.sort parts.resources.items }
-    ensures opened { IfOk result (λ e. IsOpened e × EachFits B.meaning B.sort e.files.stores) }
+    ensures opened { IfOk result (λ e. IsOpened e × EachFits B.Resource e.files.stores) }
     ensures idle { IfOk result (λ e. (e.catalog ≡ catalog.now) × (active (history_of e.core) ≡ [])) }
     ensures on { IfOk result
         (λ e. AreOpenedOn e.catalog (full_history e.core) (files R.Rack parts.rack) (files R.Rack e.files.rack)) }

@@ -6,7 +6,7 @@ ghost use Rattle.machine_model.specs.CallLaws.{IsStuck};
 ghost use Rattle.process_core.specs.Answers.{answer_in};
 ghost use Rattle.process_core.specs.Cores.{courses_in, moment_of, relation};
 ghost use Rattle.engine_calls.specs.Runs.{IsReady};
-ghost use Rattle.scenario_run.specs.Reports.{causes_in, exhausted_line, report_in, step_due};
+ghost use Rattle.scenario_run.specs.Reports.{HasUsedUp, causes_in, exhausted_line, report_in, step_due};
 
 use machine_model::Cause;
 use process_core::Admit;
@@ -53,10 +53,11 @@ pub fn report_now<R: Rack + Drop, B: Resource>(
 
 /// The step that has no try left, of a process that is stuck.
 pub fn stuck_step<R: Rack + Drop, B: Resource>(engine: &mut Engine<R, B>, i: u32) -> u16
-    requires ready { IsReady B.meaning B.sort engine.old }
+    requires ready { IsReady B.Resource engine.old }
     requires replied { (answer_in engine.old.core next).reply ≡ next_is (stuck i) }
     requires stuck { IsStuck (relation engine.old.core) (courses_in engine.old.core) (moment_of engine.old.core) i }
     ensures step { result ≡ step_due engine.old.core i }
+    ensures used_up { HasUsedUp engine.old.core i }
     ensures left { engine.new ≡ engine.old }
 {
     engine.invariant_holds();
@@ -72,11 +73,12 @@ pub fn stuck_report<R: Rack + Drop, B: Resource>(
     engine: &mut Engine<R, B>,
     i: u32,
 ) -> Result<Vec<u8>, AllocError>
-    requires ready { IsReady B.meaning B.sort engine.old }
+    requires ready { IsReady B.Resource engine.old }
     requires replied { (answer_in engine.old.core next).reply ≡ next_is (stuck i) }
     requires stuck { IsStuck (relation engine.old.core) (courses_in engine.old.core) (moment_of engine.old.core) i }
     ensures text { IfOk result
         (λ text. text.items ≡ report_in engine.old.catalog engine.old.core ++ exhausted_line engine.old.core i) }
+    ensures used_up { HasUsedUp engine.old.core i }
     ensures left { engine.new ≡ engine.old }
 {
     let step = stuck_step(engine, i);

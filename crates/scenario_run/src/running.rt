@@ -19,7 +19,7 @@ ghost use Rattle.engine_calls.specs.Runs.{GoesOn, IsReady};
 ghost use Rattle.worker_gate.specs.ManyGates.{RanByGates, asked_gates};
 ghost use Rattle.worker_gate.specs.Running.{IsOutcome};
 ghost use Rattle.command_input.specs.Inputs.{input};
-ghost use Rattle.command_input.specs.FilesLeft.{files};
+ghost use Rattle.command_input.specs.FilesLeft.{AreLeft, files};
 ghost use Rattle.command_input.specs.Early.{comes_before_files};
 ghost use Rattle.scenario_run.specs.Completeness.{IsRunComplete};
 ghost use Rattle.scenario_run.specs.Run.{HasGone, IsRefusedOn, IsRunDue, IsRunOf, SaysRun, limit_refusal};
@@ -61,7 +61,7 @@ fn said_of<R: Rack + Drop, B: Resource>(
     outcome: RunOutcome,
 ) -> Result<Said, Refusal>
     requires outcome { IsOutcome engine.old outcome }
-    requires ready { outcome ≢ RunOutcome.DiskFault → IsReady B.meaning B.sort engine.old }
+    requires ready { outcome ≢ RunOutcome.DiskFault → IsReady B.Resource engine.old }
     ensures said { IfOk result (SaysRun engine.old.catalog engine.old.core) }
     ensures settled { IfOk result (λ s. outcome ≢ RunOutcome.DiskFault) }
     ensures refused { IfErr result
@@ -122,16 +122,16 @@ fn run_started<H: Threads + Wait + Sync, R: Rack + Drop + Send, B: Resource + Se
     gates: Vec<G>,
 ) -> EngineEnd<R, B, G>
     requires workers { (1 ≤ vec_len gates) × (vec_len gates ≤ 16) }
-    requires ready { IsReady B.meaning B.sort engine }
+    requires ready { IsReady B.Resource engine }
     ensures gates { (vec_len result.gates ≡ vec_len gates) × (vec_capacity gates ≤ vec_capacity result.gates) }
-    ensures ran { RanByGates R.disk R.faults (asked_gates G.Gate gates.items result.gates.items) engine result.engine }
+    ensures ran { RanByGates R.Rack (asked_gates G.Gate gates.items result.gates.items) engine result.engine }
     ensures said { IfOk result.found
         (λ s. (result.engine.phase ≡ phase.Settled) × SaysRun result.engine.catalog result.engine.core s) }
     ensures refused { IfErr result.found
         (λ r. ((r ≡ Refusal.NoMemory) × (result.engine.phase ≡ phase.Settled))
         ⊎ ((r ≡ Refusal.DiskFault) × (result.engine.phase ≡ phase.Closed)
         × Rose (R.faults engine.files.rack) (R.faults result.engine.files.rack))) }
-    ensures fits { EachFits B.meaning B.sort result.engine.files.stores }
+    ensures fits { EachFits B.Resource result.engine.files.stores }
 {
     let Ran {
         engine,
@@ -158,17 +158,17 @@ fn run_on<H: Threads + Wait + Sync, R: Rack + Drop + Send, B: Resource + Send, G
     requires workers { (1 ≤ vec_len gates) × (vec_len gates ≤ 16) }
     requires opened { IsOpened engine }
     requires idle { active (history_of engine.core) ≡ [] }
-    requires fits { EachFits B.meaning B.sort engine.files.stores }
+    requires fits { EachFits B.Resource engine.files.stores }
     requires plans { Each (λ p. IsPlanFor engine.catalog p × IsGoodPlan p) plans.items }
     requires few { length plans.items ≤ 256 }
     ensures gates { (vec_len result.gates ≡ vec_len gates) × (vec_capacity gates ≤ vec_capacity result.gates) }
-    ensures goes { GoesOn R.disk R.faults plans.items engine result.engine }
+    ensures goes { GoesOn R.Rack plans.items engine result.engine }
     ensures ran { IfOk result.found
         (λ s. HasGone (asked_gates G.Gate gates.items result.gates.items) engine.catalog (full_history engine.core) plans.items
         result.engine.core × (result.engine.phase ≡ phase.Settled) × SaysRun engine.catalog result.engine.core s) }
     ensures refused { IfErr result.found
         (λ r. IsStopped (asked_gates G.Gate gates.items result.gates.items) R.faults engine result.engine plans.items r) }
-    ensures fits { EachFits B.meaning B.sort result.engine.files.stores }
+    ensures fits { EachFits B.Resource result.engine.files.stores }
 {
     racks_are_honest::<R>();
     engine.invariant_holds();
@@ -215,8 +215,7 @@ fn run_bound<H: Threads + Wait + Sync, R: Rack + Drop + Send, B: Resource + Send
     ensures late { IfErr result.found (λ r. comes_before_files r ≡ false) }
     ensures said { IfOk result.found (λ s. s.status ≢ Status.IllFormed) }
     ensures back { AreBoxes B.sort result.parts.resources.items }
-    ensures tells { (R.disk result.parts.rack).tells ≡ (R.disk parts.rack).tells }
-    ensures later { R.faults parts.rack ≤ R.faults result.parts.rack }
+    ensures left { AreLeft (files R.Rack parts.rack) (files R.Rack result.parts.rack) }
 {
     racks_are_honest::<R>();
     let Bound { catalog, plans } = bound;
@@ -268,8 +267,7 @@ pub fn run<
     ensures early { IfErr result.found (λ r. comes_before_files r ≡ true → result.parts.rack ≡ parts.rack) }
     ensures ill_formed { IfOk result.found (λ s. s.status ≡ Status.IllFormed → result.parts.rack ≡ parts.rack) }
     ensures back { AreBoxes B.sort result.parts.resources.items }
-    ensures tells { (R.disk result.parts.rack).tells ≡ (R.disk parts.rack).tells }
-    ensures later { R.faults parts.rack ≤ R.faults result.parts.rack }
+    ensures left { AreLeft (files R.Rack parts.rack) (files R.Rack result.parts.rack) }
 {
     racks_are_honest::<R>();
     sound_files_are_opened();

@@ -26,18 +26,18 @@ fn start_one<R: Rack + Drop, B: Resource>(
     engine: &mut Engine<R, B>,
     plan: Plan,
 ) -> Result<(), Refusal>
-    requires ready { IsReady B.meaning B.sort engine.old }
+    requires ready { IsReady B.Resource engine.old }
     requires plan { IsPlanFor engine.old.catalog plan }
     requires free { IsFree engine.old.core plan }
     ensures core { OnOk result (engine.new.core ≡ after_start engine.old.core plan) }
-    ensures ready { OnOk result (IsReady B.meaning B.sort engine.new) }
+    ensures ready { OnOk result (IsReady B.Resource engine.new) }
     ensures left { IfErr result (λ r. engine.new.core ≡ engine.old.core) }
     ensures why { IfErr result
         (λ r. ((r ≡ Refusal.NoMemory) × (engine.new ≡ engine.old))
         ⊎ ((r ≡ Refusal.DiskFault) × (engine.new.phase ≡ phase.Closed)
         × Rose (R.faults engine.old.files.rack) (R.faults engine.new.files.rack))) }
-    ensures goes { (may_start : List Plan') → IsOneOf may_start plan → GoesOn R.disk R.faults may_start engine.old engine.new }
-    ensures fits { EachFits B.meaning B.sort engine.new.files.stores }
+    ensures goes { (may_start : List Plan') → IsOneOf may_start plan → GoesOn R.Rack may_start engine.old engine.new }
+    ensures fits { EachFits B.Resource engine.new.files.stores }
 {
     match engine_calls::start(engine, alloc, plan) {
         Ok(_) => Ok(()),
@@ -55,20 +55,20 @@ pub fn start_all<R: Rack + Drop, B: Resource>(
     engine: &mut Engine<R, B>,
     plans: Vec<Plan>,
 ) -> Result<(), Refusal>
-    requires ready { IsReady B.meaning B.sort engine.old }
+    requires ready { IsReady B.Resource engine.old }
     requires plans { Each (λ p. IsPlanFor engine.old.catalog p × IsGoodPlan p) plans.items }
     requires fit { limit_passed engine.old.core plans.items ≡ None }
     ensures started { OnOk result (engine.new.core ≡ with_started engine.old.core plans.items) }
-    ensures ready { OnOk result (IsReady B.meaning B.sort engine.new) }
+    ensures ready { OnOk result (IsReady B.Resource engine.new) }
     ensures cut_off { IfErr result
         (λ r. (started rest : List Plan') × (plans.items ≡ started ++ rest)
         × (engine.new.core ≡ with_started engine.old.core started)) }
     ensures why { IfErr result
-        (λ r. ((r ≡ Refusal.NoMemory) × IsReady B.meaning B.sort engine.new)
+        (λ r. ((r ≡ Refusal.NoMemory) × IsReady B.Resource engine.new)
         ⊎ ((r ≡ Refusal.DiskFault) × (engine.new.phase ≡ phase.Closed)
         × Rose (R.faults engine.old.files.rack) (R.faults engine.new.files.rack))) }
-    ensures goes { GoesOn R.disk R.faults plans.items engine.old engine.new }
-    ensures fits { EachFits B.meaning B.sort engine.new.files.stores }
+    ensures goes { GoesOn R.Rack plans.items engine.old engine.new }
+    ensures fits { EachFits B.Resource engine.new.files.stores }
 {
     engine.invariant_holds();
     let mut rest = plans.into_iter();

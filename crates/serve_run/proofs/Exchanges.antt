@@ -82,16 +82,16 @@ module _ {S K R B : Type 0} (s : Sources S) (k : Sinks K) (r : Racks R) (honest 
   between a b (x ∷ xs) at (m, one, more) = between m b xs one.between more
 
   -- two engines that went on, one behind the other
-  pub both_go : (e f g : EngineState R B) (one two : List Plan) → IsBetween r f → GoesOn r.disk r.faults (plans ++ one) e f → GoesOn r.disk r.faults (plans ++ two) f g → GoesOn r.disk r.faults (plans ++ (one ++ two)) e g
+  pub both_go : (e f g : EngineState R B) (one two : List Plan) → IsBetween r f → GoesOn r (plans ++ one) e f → GoesOn r (plans ++ two) f g → GoesOn r (plans ++ (one ++ two)) e g
   both_go e f g one two at first second =
-      goes_then r.disk r.faults (plans ++ (one ++ two)) e f g at.settled at.machine.session.one_each (honest g.files.rack)
-      (goes_wider r.disk r.faults e f (plans ++ one) (plans ++ (one ++ two)) (among_more plans one two) first)
-      (goes_wider r.disk r.faults f g (plans ++ two) (plans ++ (one ++ two)) (among_amid plans one two) second)
+      goes_then r (plans ++ (one ++ two)) e f g at.settled at.machine.session.one_each (honest g.files.rack)
+      (goes_wider r e f (plans ++ one) (plans ++ (one ++ two)) (among_more plans one two) first)
+      (goes_wider r f g (plans ++ two) (plans ++ (one ++ two)) (among_amid plans one two) second)
 
   -- it went on
-  pub goes_on : (a b : DialogueState S K R B) (xs : List Exchange) → IsBetween r a.engine → AreExchanged s k r plans a xs b → (spelled : List Plan) × GoesOn r.disk r.faults (plans ++ spelled) a.engine b.engine
+  pub goes_on : (a b : DialogueState S K R B) (xs : List Exchange) → IsBetween r a.engine → AreExchanged s k r plans a xs b → (spelled : List Plan) × GoesOn r (plans ++ spelled) a.engine b.engine
   goes_on a b [] at is =
-      ([], subst (λ (d : DialogueState S K R B). GoesOn r.disk r.faults (plans ++ []) a.engine d.engine) is (goes_none r.disk r.faults (plans ++ []) a.engine at.machine at.each))
+      ([], subst (λ (d : DialogueState S K R B). GoesOn r (plans ++ []) a.engine d.engine) is (goes_none r (plans ++ []) a.engine at.machine at.each))
   goes_on a b (x ∷ xs) at (m, one, more) =
       let rest = goes_on m b xs one.between more in
       (one.spelled ++ rest.0, both_go a.engine m.engine b.engine one.spelled rest.0 one.between one.goes rest.1)

@@ -50,7 +50,7 @@ module _ {S K R B : Type 0} (s : Sources S) (k : Sinks K) (r : Racks R) (honest 
     taken : (given : List ℕ) × Consumes (s.left a.source) (s.left mid.source) given × (a.ready ++ given ≡ bytes_of is.exchanges ++ mid.ready)
     taken = lines_taken s k r honest plans a mid is.exchanges is.exchanged
 
-    on : (spelled : List Plan) × GoesOn r.disk r.faults (plans ++ spelled) a.engine mid.engine
+    on : (spelled : List Plan) × GoesOn r (plans ++ spelled) a.engine mid.engine
     on = goes_on s k r honest plans a mid is.exchanges at is.exchanged
 
     abbrev given : List ℕ
@@ -94,12 +94,12 @@ module _ {S K R B : Type 0} (s : Sources S) (k : Sinks K) (r : Racks R) (honest 
     told = told_behind (output k a.sink) (output k mid.sink) (output k b.sink) status ended (printed_of is.exchanges) is.over.cut.tail
         (answers_given s k r honest plans a mid is.exchanges is.exchanged) (no_write_fault s k r honest plans a mid is.exchanges is.exchanged) is.over.cut.told
 
-    goes : GoesOn r.disk r.faults (plans ++ (on.0 ++ is.over.cut.spelled)) a.engine b.engine
+    goes : GoesOn r (plans ++ (on.0 ++ is.over.cut.spelled)) a.engine b.engine
     goes = both_go s k r honest plans a.engine mid.engine b.engine on.0 is.over.cut.spelled (between s k r honest plans a mid is.exchanges at is.exchanged) on.1 is.over.cut.goes
 
     -- Behind first lines that went out of an engine that was opened, and in which whoever was active has begun to complete, it is held.
     module _ (e : EngineState R B) (sink : K) (opened : IsOpened e) (begun : IsCore e.core) (began : a.engine.core ≡ after_call e.core complete_all) (none : a.hand ≡ none_at_hand)
-        (first : (may_start : List Plan) → GoesOn r.disk r.faults may_start e a.engine) (front : Appends (k.taken sink) (k.taken a.sink) (ready_text (full_history e.core)))
+        (first : (may_start : List Plan) → GoesOn r may_start e a.engine) (front : Appends (k.taken sink) (k.taken a.sink) (ready_text (full_history e.core)))
         (quiet : k.faults a.sink ≡ k.faults sink) where
       begins : driver_state a ≡ begun_on e.catalog (full_history e.core)
       begins =
@@ -118,7 +118,7 @@ module _ {S K R B : Type 0} (s : Sources S) (k : Sinks K) (r : Racks R) (honest 
                 (subst (λ c. HasConversed c plans (driver_state a) a.number b.engine.core (a.ready ++ given) (s.left b.source) text status) own.catalog conversed));
             told = told_behind (output k sink) (output k a.sink) (output k b.sink) status ended (ready_text (full_history e.core)) text front quiet told;
             spelled = on.0 ++ is.over.cut.spelled;
-            goes = goes_then r.disk r.faults (plans ++ (on.0 ++ is.over.cut.spelled)) e a.engine b.engine at.settled at.machine.session.one_each (honest b.engine.files.rack) own goes;
+            goes = goes_then r (plans ++ (on.0 ++ is.over.cut.spelled)) e a.engine b.engine at.settled at.machine.session.one_each (honest b.engine.files.rack) own goes;
             phase = is.over.cut.phase;
             disk = λ fault. rose_later (r.faults e.files.rack) (r.faults mid.engine.files.rack) (r.faults b.engine.files.rack) (omega (arith, own.later, on.1.later)) (is.over.cut.disk fault);
             read = λ fault. subst (λ f. Rose f (s.faults b.source)) (no_read_fault s k r honest plans a mid is.exchanges is.exchanged) (is.over.read fault);
@@ -128,7 +128,7 @@ module _ {S K R B : Type 0} (s : Sources S) (k : Sinks K) (r : Racks R) (honest 
 
   -- The first lines were not taken whole: no line was answered.
   pub held_up : (e e' : EngineState R B) (source : S) (ready : List ℕ) (first : ℕ) (sink sink' : K) (ended : Status) → IsOpened e → e' ≡ with_core e (after_call e.core complete_all)
-      → ((may_start : List Plan) → GoesOn r.disk r.faults may_start e e') → (ended ≡ WriteFault) × IsTold WriteFault (ready_text (full_history e.core)) (output k sink) (output k sink') ended × Rose (k.faults sink) (k.faults sink')
+      → ((may_start : List Plan) → GoesOn r may_start e e') → (ended ≡ WriteFault) × IsTold WriteFault (ready_text (full_history e.core)) (output k sink) (output k sink') ended × Rose (k.faults sink) (k.faults sink')
       → IsHeld s k r plans first ready source source sink sink' e e' ended
   held_up e e' source ready first sink sink' ended opened began goes (is, told, rose) = record {
     given = [];

@@ -93,7 +93,7 @@ module _ {S K R B : Type 0} (s : Sources S) (k : Sinks K) (r : Racks R) (plans :
   b m = state_at source' rest sink' e' ps' m
 
   -- a line was taken and answered, and its answer was given
-  pub exchanged : (result : Option Status) (line : List ℕ) → cut 10 (ready ++ given) ≡ Some (line, rest) → s.faults source' ≡ s.faults source → (spelled : List Plan) → GoesOn r.disk r.faults (plans ++ spelled) e e'
+  pub exchanged : (result : Option Status) (line : List ℕ) → cut 10 (ready ++ given) ≡ Some (line, rest) → s.faults source' ≡ s.faults source → (spelled : List Plan) → GoesOn r (plans ++ spelled) e e'
       → IfNone result (IsBetween r e')
       → IfNone result ((text : List ℕ) × IsAnswered e.catalog plans (driver_state a) n line (driver_state (b n)) text × Appends (k.taken sink) (k.taken sink') text × (k.faults sink' ≡ k.faults sink))
       → IfNone result ((x : Exchange) × IsExchange s k r plans x a (b (next_number n)))
@@ -138,8 +138,8 @@ module _ {S K R B : Type 0} (s : Sources S) (k : Sinks K) (r : Racks R) (plans :
 
 -- An engine that nothing was asked of.
 module _ {S K R B : Type 0} (s : Sources S) (k : Sinks K) (r : Racks R) (plans : List Plan) (source source' : S) (ready rest : List ℕ) (sink sink' : K) (e : EngineState R B) (ps : Hand) (n : ℕ) (at : IsBetween r e) where
-  own : GoesOn r.disk r.faults (plans ++ []) e e
-  own = goes_none r.disk r.faults (plans ++ []) e at.machine at.each
+  own : GoesOn r (plans ++ []) e e
+  own = goes_none r (plans ++ []) e at.machine at.each
 
   -- the dialogue ended by a fault, or by want of memory
   abbrev faulty : {unanswered : Option (List ℕ)} (fault : Fault) (ended : Status) → (fault ≢ faults.DiskFault) → IsTold (status_of fault) (fault_line fault) (output k sink) (output k sink') ended
@@ -252,7 +252,7 @@ module _ {S K R B : Type 0} (s : Sources S) (k : Sinks K) (r : Racks R) (plans :
   }
 
 -- A line was answered, or the dialogue ended with it.
-module _ {K R B : Type 0} (k : Sinks K) (r : Racks R) (plans : List Plan) (d : DriverState) (n : ℕ) (sink sink' : K) (e e' : EngineState R B) (spelled : List Plan) (goes : GoesOn r.disk r.faults (plans ++ spelled) e e') where
+module _ {K R B : Type 0} (k : Sinks K) (r : Racks R) (plans : List Plan) (d : DriverState) (n : ℕ) (sink sink' : K) (e e' : EngineState R B) (spelled : List Plan) (goes : GoesOn r (plans ++ spelled) e e') where
   -- its answer was not given whole
   pub given_amid : (result : Option Status) (line text : List ℕ) (t : DriverState) → IsAnswered e.catalog plans d n line t text → e'.core ≡ t.core → e'.phase ≡ Settled
       → IfSome result (λ ended. (ended ≡ WriteFault) × IsTold WriteFault text (output k sink) (output k sink') ended × Rose (k.faults sink) (k.faults sink')) → IfSome result (IsCutAmid k r plans d n line sink sink' e e')

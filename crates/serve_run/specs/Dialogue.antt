@@ -117,7 +117,7 @@ pub record IsExchange {S K R B : Type 0} (s : Sources S) (k : Sinks K) (r : Rack
   pub answered : IsAnswered a.engine.catalog plans (driver_state a) a.number x.line (driver_state b) x.answer
   -- no start was under way but of a plan of the scenario, or of these
   pub spelled : List Plan
-  pub goes : GoesOn r.disk r.faults (plans ++ spelled) a.engine b.engine
+  pub goes : GoesOn r (plans ++ spelled) a.engine b.engine
   -- what it led to is in the files, and in whatever a crash leaves from now on
   pub between : IsBetween r b.engine
   -- and its answer was given, whole
@@ -192,7 +192,7 @@ pub record IsCutShort {K R B : Type 0} (k : Sinks K) (r : Racks R) (plans : List
   pub told : IsTold status tail (output k sink) (output k sink_after) ended
   -- no start was under way but of a plan of the scenario, or of these
   pub spelled : List Plan
-  pub goes : GoesOn r.disk r.faults (plans ++ spelled) engine engine_after
+  pub goes : GoesOn r (plans ++ spelled) engine engine_after
   pub phase : engine_after.phase ≡ phase_by status
   -- each fault has its cause
   pub disk : status ≡ DiskFault → Rose (r.faults engine.files.rack) (r.faults engine_after.files.rack)

@@ -143,7 +143,7 @@ pub record IsHeld {S K R B : Type 0} (s : Sources S) (k : Sinks K) (r : Racks R)
       (s.left source_after) text status
   pub told : IsTold status (ready_text (full_history engine.core) ++ text) (output k sink) (output k sink_after) ended
   pub spelled : List Plan
-  pub goes : GoesOn r.disk r.faults (plans ++ spelled) engine engine_after
+  pub goes : GoesOn r (plans ++ spelled) engine engine_after
   pub phase : engine_after.phase ≡ phase_by status
   pub disk : status ≡ DiskFault → Rose (r.faults engine.files.rack) (r.faults engine_after.files.rack)
   pub read : status ≡ ReadFault → Rose (s.faults source) (s.faults source_after)

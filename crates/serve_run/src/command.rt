@@ -8,10 +8,9 @@ ghost use Rattle.history_files.specs.Boxes.{AreBoxes};
 ghost use Rattle.history_files.specs.Standing.{EachFits};
 ghost use Rattle.engine_steps.specs.Beginning.{IsPlanFor};
 ghost use Rattle.engine_steps.specs.Opening.{IsOpened};
-ghost use Rattle.engine_calls.specs.Runs.{IsReady};
 ghost use Rattle.command_refusals.specs.declared.status.Status.TheVariants as statuses;
 ghost use Rattle.command_input.specs.Early.{comes_before_files};
-ghost use Rattle.command_input.specs.FilesLeft.{files};
+ghost use Rattle.command_input.specs.FilesLeft.{AreLeft, files};
 ghost use Rattle.command_input.specs.Inputs.{input};
 ghost use Rattle.command_input.specs.Outputs.{output};
 ghost use Rattle.serve_run.specs.Serve.{IsHeld, IsHeldOn, IsNoServeRead, IsScene, IsServeComplete, IsServeDue, OnEnding};
@@ -90,14 +89,14 @@ fn hold<S: Source, K: Sink, R: Rack + Drop, B: Resource>(
     first: u64,
 ) -> Ending
     requires opened { IsOpened engine.old }
-    requires fits { EachFits B.meaning B.sort engine.old.files.stores }
+    requires fits { EachFits B.Resource engine.old.files.stores }
     requires plans { Each (IsPlanFor engine.old.catalog) plans.now }
     ensures begun { IsCore engine.old.core }
     ensures held { OnEnding
         (IsHeld S.Source K.Sink R.Rack plans.now first reader.old source.old source.new sink.old sink.new engine.old engine.new)
         (λ found. (found ≡ Err Refusal.NoMemory) × (engine.new ≡ engine.old) × (sink.new ≡ sink.old)
         × (source.new ≡ source.old)) result }
-    ensures fits { EachFits B.meaning B.sort engine.new.files.stores }
+    ensures fits { EachFits B.Resource engine.new.files.stores }
 {
     engine.invariant_holds();
     let Ok(text) = ready_text(alloc, engine.history()) else {
@@ -131,8 +130,7 @@ fn on_files<S: Source, K: Sink, R: Rack + Drop, B: Resource>(
     ensures unsaid { OnEnding (λ _. ⊤) (λ found. IfOk found (λ _. ⊥)) result.ending }
     ensures later { S.faults source.old ≤ S.faults source.new }
     ensures back { AreBoxes B.sort result.parts.resources.items }
-    ensures tells { (R.disk result.parts.rack).tells ≡ (R.disk parts.rack).tells }
-    ensures later_rack { R.faults parts.rack ≤ R.faults result.parts.rack }
+    ensures left { AreLeft (files R.Rack parts.rack) (files R.Rack result.parts.rack) }
 {
     let Scene {
         catalog,
@@ -175,8 +173,7 @@ pub fn serve<S: Source, K: Sink, R: Rack + Drop, B: Resource>(
         (λ found. IfErr found (λ r. comes_before_files r ≡ true → result.parts.rack ≡ parts.rack)) result.ending }
     ensures ill_formed { OnEnding (λ _. ⊤) (λ found. IfOk found (λ s. result.parts.rack ≡ parts.rack)) result.ending }
     ensures back { AreBoxes B.sort result.parts.resources.items }
-    ensures tells { (R.disk result.parts.rack).tells ≡ (R.disk parts.rack).tells }
-    ensures later { R.faults parts.rack ≤ R.faults result.parts.rack }
+    ensures left { AreLeft (files R.Rack parts.rack) (files R.Rack result.parts.rack) }
 {
     sound_files_are_opened();
     match scene_of(alloc, source) {

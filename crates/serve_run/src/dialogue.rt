@@ -30,12 +30,12 @@ pub fn converse<S: Source, K: Sink, R: Rack + Drop, B: Resource>(
     sink: &mut K,
     first: u64,
 ) -> Status
-    requires ready { IsReady B.meaning B.sort engine.old }
+    requires ready { IsReady B.Resource engine.old }
     requires plans { Each (IsPlanFor engine.old.catalog) plans.now }
     ensures held { (hand : Hand) × (number : ℕ)
         × IsDialogue S.Source K.Sink R.Rack plans.now (state_at source.old reader.old sink.old engine.old none_at_hand first)
         (state_at source.new reader.new sink.new engine.new hand number) result }
-    ensures fits { EachFits B.meaning B.sort engine.new.files.stores }
+    ensures fits { EachFits B.Resource engine.new.files.stores }
 {
     engine.invariant_holds();
     let Ok(mut hand) = AtHand::new(alloc) else {

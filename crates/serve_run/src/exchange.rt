@@ -79,7 +79,7 @@ fn respond<K: Sink, R: Rack + Drop, B: Resource>(
     line: &[u8],
     number: u64,
 ) -> Option<Status>
-    requires ready { IsReady B.meaning B.sort engine.old }
+    requires ready { IsReady B.Resource engine.old }
     requires plans { Each (IsPlanFor engine.old.catalog) plans.now }
     requires at_hand { AreAtHand engine.old hand.old }
     requires line { length line.now ≤ most_line }
@@ -91,11 +91,11 @@ fn respond<K: Sink, R: Rack + Drop, B: Resource>(
     ensures over { IfSome result
         (IsCutAmid K.Sink R.Rack plans.now
         (state_of engine.old.core hand.old) number line.now sink.old sink.new engine.old engine.new) }
-    ensures goes { (spelled : List Plan') × GoesOn R.disk R.faults (plans.now ++ spelled) engine.old engine.new }
+    ensures goes { (spelled : List Plan') × GoesOn R.Rack (plans.now ++ spelled) engine.old engine.new }
     ensures at_hand { IfNone result (AreAtHand engine.new hand.new) }
-    ensures ready { IfNone result (IsReady B.meaning B.sort engine.new) }
+    ensures ready { IfNone result (IsReady B.Resource engine.new) }
     ensures between { IfNone result (IsBetween R.Rack engine.new) }
-    ensures fits { EachFits B.meaning B.sort engine.new.files.stores }
+    ensures fits { EachFits B.Resource engine.new.files.stores }
 {
     match answer_line(alloc, engine, plans, hand, line, number) {
         Ok(text) => {
@@ -117,7 +117,7 @@ pub fn exchange<S: Source, K: Sink, R: Rack + Drop, B: Resource>(
     sink: &mut K,
     number: u64,
 ) -> Option<Status>
-    requires ready { IsReady B.meaning B.sort engine.old }
+    requires ready { IsReady B.Resource engine.old }
     requires plans { Each (IsPlanFor engine.old.catalog) plans.now }
     requires at_hand { AreAtHand engine.old hand.old }
     // The line was taken, it was answered, what it led to is kept, and its answer was given.
@@ -129,8 +129,8 @@ pub fn exchange<S: Source, K: Sink, R: Rack + Drop, B: Resource>(
         (IsOver S.Source K.Sink R.Rack plans.now (state_at source.old reader.old sink.old engine.old (hand_of hand.old) number)
         (state_at source.new reader.new sink.new engine.new (hand_of hand.new) number)) }
     ensures at_hand { IfNone result (AreAtHand engine.new hand.new) }
-    ensures ready { IfNone result (IsReady B.meaning B.sort engine.new) }
-    ensures fits { EachFits B.meaning B.sort engine.new.files.stores }
+    ensures ready { IfNone result (IsReady B.Resource engine.new) }
+    ensures fits { EachFits B.Resource engine.new.files.stores }
 {
     engine.invariant_holds();
     match next_line(alloc, reader, source) {

@@ -1,21 +1,11 @@
 -- A flush, as a line of a session.
 use Rattle.std.proofs.Common.{◌≡◌, Bool, true, false, cond, List, [], ◌∷◌, map, filter, refl, ap}
-use Rattle.machine_model.specs.Moment.{Moment, Piece}
+use Rattle.machine_model.specs.Moment.{Moment}
 use Rattle.machine_model.specs.Pieces.{runs}
 use Rattle.machine_model.specs.Replies.{Handed}
-use Rattle.process_tree.specs.declared.play.Outcome.TheVariants.{Done}
-use Rattle.machine_model.specs.Calls.{finish}
-use Rattle.process_core.specs.Answers.{after_call}
-use Rattle.process_core.specs.Cores.{CoreState}
-use Rattle.group_flush.specs.Pieces.{after_all, numbers_of}
+use Rattle.group_flush.specs.Pieces.{numbers_of}
 use Rattle.group_flush.specs.Queues.{pieces_of}
 use Rattle.session_play.specs.Pieces.{number_of}
-use Rattle.session_play.specs.Playing.{after_effects}
-
--- pieces take effect one after another, or their numbers do
-pub effects_are : (core : CoreState) (ps : List Piece) → after_all core ps ≡ after_effects core (numbers_of ps)
-effects_are core [] = refl
-effects_are core (p ∷ ps) = effects_are (after_call core (finish p.number Done)) ps
 
 -- the numbers of those that run
 step : (m : Moment) (d : Handed) (group : List Handed) (b : Bool) → numbers_of (filter (λ p. runs m p.number) (pieces_of group)) ≡ filter (runs m) (map number_of group)

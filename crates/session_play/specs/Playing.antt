@@ -32,6 +32,7 @@ use Rattle.process_engine.specs.Finishing.{outcome_of}
 use Rattle.process_engine.specs.declared.gates.Answer.{Answer}
 use Rattle.process_engine.specs.declared.gates.Answer.TheVariants as answers
 use Rattle.history_files.specs.Effects.{subsystem_of}
+use Rattle.group_flush.specs.Pieces.{after_effects}
 use Rattle.group_flush.specs.Queueing.{taken_by}
 use Rattle.engine_calls.specs.GateAnswers.{is_barred_in}
 use Rattle.process_report.specs.Lines.{Line as Words, text_of}
@@ -209,11 +210,6 @@ queue_piece c s n outcome (Some p) =
 -- `queue N done` or `queue N refused`
 abbrev pub play_queue : Catalog → SessionState → ℕ → Outcome → Played
 play_queue c s n outcome = queue_piece c s n outcome (unfinished_piece s n)
-
--- the machine once these pieces took effect, one after another
-abbrev pub after_effects : CoreState → List ℕ → CoreState
-after_effects core [] = core
-after_effects core (n ∷ ns) = after_effects (after_call core (finish n Done)) ns
 
 -- `flush`: the queued pieces that run take effect
 abbrev pub play_flush : SessionState → Played

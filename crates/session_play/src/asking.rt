@@ -27,7 +27,7 @@ pub fn play_admit<R: Rack + Drop, B: Resource>(
     pieces: &mut Vec<Piece>,
     i: u32,
 ) -> Result<Vec<u8>, Cut>
-    requires ready { IsReady B.meaning B.sort engine.old }
+    requires ready { IsReady B.Resource engine.old }
     requires handed { AreHandedBy engine.old.core pieces.old.items }
     ensures answered { IfOk result
         (λ text. (queued : List Handed) → IsAnswered (play_admit
@@ -37,8 +37,8 @@ pub fn play_admit<R: Rack + Drop, B: Resource>(
         (λ cut. (cut ≡ NoMemory) × ((queued : List Handed) → IsCut cut
         (play_admit (session_of engine.old.core pieces.old.items queued) i) engine.old.core engine.new.core)) }
     ensures queued { OnOk result ((queued : List Handed) → AreQueued engine.old queued → AreQueued engine.new queued) }
-    ensures goes { GoesOnAlone R.disk R.faults engine.old engine.new }
-    ensures ready { IsReady B.meaning B.sort engine.new }
+    ensures goes { GoesOnAlone R.Rack engine.old engine.new }
+    ensures ready { IsReady B.Resource engine.new }
 {
     let reply = admit(engine, i);
     engine.invariant_holds();
@@ -54,7 +54,7 @@ pub fn play_next<R: Rack + Drop, B: Resource>(
     engine: &mut Engine<R, B>,
     pieces: &mut Vec<Piece>,
 ) -> Result<Vec<u8>, Cut>
-    requires ready { IsReady B.meaning B.sort engine.old }
+    requires ready { IsReady B.Resource engine.old }
     requires handed { AreHandedBy engine.old.core pieces.old.items }
     ensures answered { IfOk result
         (λ text. (queued : List Handed) → IsAnswered (play_next
@@ -64,8 +64,8 @@ pub fn play_next<R: Rack + Drop, B: Resource>(
         (λ cut. (cut ≡ NoMemory) × ((queued : List Handed) → IsCut cut
         (play_next (session_of engine.old.core pieces.old.items queued)) engine.old.core engine.new.core)) }
     ensures queued { OnOk result ((queued : List Handed) → AreQueued engine.old queued → AreQueued engine.new queued) }
-    ensures goes { GoesOnAlone R.disk R.faults engine.old engine.new }
-    ensures ready { IsReady B.meaning B.sort engine.new }
+    ensures goes { GoesOnAlone R.Rack engine.old engine.new }
+    ensures ready { IsReady B.Resource engine.new }
 {
     let before = engine.kept().len();
     let reply = next(engine);
@@ -85,7 +85,7 @@ pub fn play_abort<R: Rack + Drop, B: Resource>(
     pieces: &Vec<Piece>,
     i: u32,
 ) -> Result<Vec<u8>, Cut>
-    requires ready { IsReady B.meaning B.sort engine.old }
+    requires ready { IsReady B.Resource engine.old }
     requires handed { AreHandedBy engine.old.core pieces.now.items }
     ensures answered { IfOk result
         (λ text. (queued : List Handed) → IsAnswered (play_abort
@@ -95,8 +95,8 @@ pub fn play_abort<R: Rack + Drop, B: Resource>(
         (λ cut. (cut ≡ NoMemory) × ((queued : List Handed) → IsCut cut
         (play_abort (session_of engine.old.core pieces.now.items queued) i) engine.old.core engine.new.core)) }
     ensures queued { OnOk result ((queued : List Handed) → AreQueued engine.old queued → AreQueued engine.new queued) }
-    ensures goes { GoesOnAlone R.disk R.faults engine.old engine.new }
-    ensures ready { IsReady B.meaning B.sort engine.new }
+    ensures goes { GoesOnAlone R.Rack engine.old engine.new }
+    ensures ready { IsReady B.Resource engine.new }
 {
     let reply = abort(engine, i);
     let began = just_began(alloc, engine)?;

@@ -54,7 +54,7 @@ fn finish_piece<R: Rack + Drop, B: Resource>(
     piece: Piece,
     answer: Answer,
 ) -> Result<Vec<u8>, Cut>
-    requires ready { IsReady B.meaning B.sort engine.old }
+    requires ready { IsReady B.Resource engine.old }
     requires handed { IsHandedBy engine.old.core piece.piece }
     requires end { piece.piece.work ≡ End → answer ≡ Answer.Done }
     ensures core { OnOk result (engine.new.core ≡ (finish_alone engine.old.catalog engine.old.core piece.piece answer).state.core) }
@@ -64,9 +64,9 @@ fn finish_piece<R: Rack + Drop, B: Resource>(
     ensures fault { IfErr result
         (λ cut. cut ≡ DiskFault → (engine.new.phase ≡ phase.Closed)
         × Rose (R.faults engine.old.files.rack) (R.faults engine.new.files.rack)) }
-    ensures goes { GoesOnAlone R.disk R.faults engine.old engine.new }
-    ensures fits { EachFits B.meaning B.sort engine.new.files.stores }
-    ensures ready { result ≢ Err DiskFault → IsReady B.meaning B.sort engine.new }
+    ensures goes { GoesOnAlone R.Rack engine.old engine.new }
+    ensures fits { EachFits B.Resource engine.new.files.stores }
+    ensures ready { result ≢ Err DiskFault → IsReady B.Resource engine.new }
 {
     let place = (piece.number(), piece.process(), piece.step());
     let found = finish(engine, piece, answer);
@@ -121,7 +121,7 @@ pub fn play_finish<R: Rack + Drop, B: Resource>(
     n: u32,
     outcome: Outcome,
 ) -> Result<Vec<u8>, Cut>
-    requires ready { IsReady B.meaning B.sort engine.old }
+    requires ready { IsReady B.Resource engine.old }
     requires handed { AreHandedBy engine.old.core pieces.old.items }
     ensures answered { IfOk result
         (λ text. IsAnswered (play_finish engine.old.catalog
@@ -135,9 +135,9 @@ pub fn play_finish<R: Rack + Drop, B: Resource>(
     ensures fault { IfErr result
         (λ cut. cut ≡ DiskFault → (engine.new.phase ≡ phase.Closed)
         × Rose (R.faults engine.old.files.rack) (R.faults engine.new.files.rack)) }
-    ensures goes { GoesOnAlone R.disk R.faults engine.old engine.new }
-    ensures fits { EachFits B.meaning B.sort engine.new.files.stores }
-    ensures ready { result ≢ Err DiskFault → IsReady B.meaning B.sort engine.new }
+    ensures goes { GoesOnAlone R.Rack engine.old engine.new }
+    ensures fits { EachFits B.Resource engine.new.files.stores }
+    ensures ready { result ≢ Err DiskFault → IsReady B.Resource engine.new }
 {
     engine.invariant_holds();
     let Some(place) = place_of(pieces, n) else {

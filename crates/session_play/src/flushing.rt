@@ -55,7 +55,7 @@ pub fn play_flush<R: Rack + Drop, B: Resource>(
     engine: &mut Engine<R, B>,
     queued: &mut Queued,
 ) -> Result<Vec<u8>, Cut>
-    requires ready { IsReady B.meaning B.sort engine.old }
+    requires ready { IsReady B.Resource engine.old }
     requires queued { AreQueued engine.old queued.old }
     ensures answered { IfOk result
         (λ text. (pieces : List Handed) → IsAnswered (play_flush
@@ -67,9 +67,9 @@ pub fn play_flush<R: Rack + Drop, B: Resource>(
     ensures fault { IfErr result
         (λ cut. cut ≡ DiskFault → (engine.new.phase ≡ phase.Closed)
         × Rose (R.faults engine.old.files.rack) (R.faults engine.new.files.rack)) }
-    ensures goes { GoesOnAlone R.disk R.faults engine.old engine.new }
-    ensures fits { EachFits B.meaning B.sort engine.new.files.stores }
-    ensures ready { result ≢ Err DiskFault → IsReady B.meaning B.sort engine.new }
+    ensures goes { GoesOnAlone R.Rack engine.old engine.new }
+    ensures fits { EachFits B.Resource engine.new.files.stores }
+    ensures ready { result ≢ Err DiskFault → IsReady B.Resource engine.new }
 {
     match flush(engine, queued) {
         Flush::Flushed(group) => {

@@ -34,7 +34,7 @@ pub fn play_line<R: Rack + Drop, B: Resource>(
     hand: &mut AtHand,
     line: &Line,
 ) -> Result<Vec<u8>, Cut>
-    requires ready { IsReady B.meaning B.sort engine.old }
+    requires ready { IsReady B.Resource engine.old }
     requires plans { Each (IsPlanFor engine.old.catalog) plans.now }
     requires at_hand { AreAtHand engine.old hand.old }
     ensures answered { IfOk result (λ text. (copy : Option Plan) × IsCopy (plan_for plans.now line.now) copy
@@ -48,9 +48,9 @@ pub fn play_line<R: Rack + Drop, B: Resource>(
     ensures fault { IfErr result
         (λ cut. cut ≡ DiskFault → (engine.new.phase ≡ phase.Closed)
         × Rose (R.faults engine.old.files.rack) (R.faults engine.new.files.rack)) }
-    ensures goes { GoesOn R.disk R.faults plans.now engine.old engine.new }
-    ensures fits { EachFits B.meaning B.sort engine.new.files.stores }
-    ensures ready { result ≢ Err DiskFault → IsReady B.meaning B.sort engine.new }
+    ensures goes { GoesOn R.Rack plans.now engine.old engine.new }
+    ensures fits { EachFits B.Resource engine.new.files.stores }
+    ensures ready { result ≢ Err DiskFault → IsReady B.Resource engine.new }
 {
     engine.invariant_holds();
     match line {

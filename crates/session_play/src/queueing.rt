@@ -31,7 +31,7 @@ fn queue_piece<R: Rack + Drop, B: Resource>(
     piece: Piece,
     answer: Answer,
 ) -> Result<(Vec<u8>, Option<Piece>), Cut>
-    requires ready { IsReady B.meaning B.sort engine.old }
+    requires ready { IsReady B.Resource engine.old }
     requires handed { IsHandedBy engine.old.core piece.piece }
     requires end { piece.piece.work ≡ End → answer ≡ Answer.Done }
     requires queued { AreQueued engine.old queued.old }
@@ -43,8 +43,8 @@ fn queue_piece<R: Rack + Drop, B: Resource>(
         (λ cut. (cut ≡ NoMemory) × IsCut cut (queue_alone engine.old.catalog engine.old.core queued.old piece.piece answer)
         engine.old.core engine.new.core) }
     ensures queued { AreQueued engine.new queued.new }
-    ensures goes { GoesOnAlone R.disk R.faults engine.old engine.new }
-    ensures ready { IsReady B.meaning B.sort engine.new }
+    ensures goes { GoesOnAlone R.Rack engine.old engine.new }
+    ensures ready { IsReady B.Resource engine.new }
 {
     let place = (piece.number(), piece.process(), piece.step());
     let found = queue(engine, queued, piece, answer);
@@ -62,7 +62,7 @@ pub fn play_queue<R: Rack + Drop, B: Resource>(
     n: u32,
     outcome: Outcome,
 ) -> Result<Vec<u8>, Cut>
-    requires ready { IsReady B.meaning B.sort engine.old }
+    requires ready { IsReady B.Resource engine.old }
     requires handed { AreHandedBy engine.old.core pieces.old.items }
     requires queued { AreQueued engine.old queued.old }
     ensures answered { IfOk result
@@ -74,8 +74,8 @@ pub fn play_queue<R: Rack + Drop, B: Resource>(
         (λ cut. (cut ≡ NoMemory) × IsCut cut (play_queue engine.old.catalog
         (session_of engine.old.core pieces.old.items queued.old) n outcome) engine.old.core engine.new.core) }
     ensures queued { AreQueued engine.new queued.new }
-    ensures goes { GoesOnAlone R.disk R.faults engine.old engine.new }
-    ensures ready { IsReady B.meaning B.sort engine.new }
+    ensures goes { GoesOnAlone R.Rack engine.old engine.new }
+    ensures ready { IsReady B.Resource engine.new }
 {
     engine.invariant_holds();
     let Some(place) = place_of(pieces, n) else {

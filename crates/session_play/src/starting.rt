@@ -70,7 +70,7 @@ pub fn play_plan<R: Rack + Drop, B: Resource>(
     name: &[u8],
     plan: Plan,
 ) -> Result<Vec<u8>, Cut>
-    requires ready { IsReady B.meaning B.sort engine.old }
+    requires ready { IsReady B.Resource engine.old }
     requires plan { IsPlanFor engine.old.catalog plan }
     ensures answered { IfOk result
         (λ text. (ps queued : List Handed) → IsAnswered
@@ -82,9 +82,9 @@ pub fn play_plan<R: Rack + Drop, B: Resource>(
     ensures fault { IfErr result
         (λ cut. cut ≡ DiskFault → (engine.new.phase ≡ phase.Closed)
         × Rose (R.faults engine.old.files.rack) (R.faults engine.new.files.rack)) }
-    ensures goes { (may_start : List Plan) → IsOneOf may_start plan → GoesOn R.disk R.faults may_start engine.old engine.new }
-    ensures fits { EachFits B.meaning B.sort engine.new.files.stores }
-    ensures ready { result ≢ Err DiskFault → IsReady B.meaning B.sort engine.new }
+    ensures goes { (may_start : List Plan) → IsOneOf may_start plan → GoesOn R.Rack may_start engine.old engine.new }
+    ensures fits { EachFits B.Resource engine.new.files.stores }
+    ensures ready { result ≢ Err DiskFault → IsReady B.Resource engine.new }
 {
     engine.invariant_holds();
     let mut text = Vec::new(alloc);
@@ -111,7 +111,7 @@ pub fn play_start<R: Rack + Drop, B: Resource>(
     plans: &[Plan],
     name: &[u8],
 ) -> Result<Vec<u8>, Cut>
-    requires ready { IsReady B.meaning B.sort engine.old }
+    requires ready { IsReady B.Resource engine.old }
     requires plans { Each (IsPlanFor engine.old.catalog) plans.now }
     ensures answered { IfOk result (λ text. (copy : Option Plan) × IsCopy (plan_named plans.now name.now) copy
         × ((ps queued : List Handed) → IsAnswered
@@ -123,9 +123,9 @@ pub fn play_start<R: Rack + Drop, B: Resource>(
     ensures fault { IfErr result
         (λ cut. cut ≡ DiskFault → (engine.new.phase ≡ phase.Closed)
         × Rose (R.faults engine.old.files.rack) (R.faults engine.new.files.rack)) }
-    ensures goes { GoesOn R.disk R.faults plans.now engine.old engine.new }
-    ensures fits { EachFits B.meaning B.sort engine.new.files.stores }
-    ensures ready { result ≢ Err DiskFault → IsReady B.meaning B.sort engine.new }
+    ensures goes { GoesOn R.Rack plans.now engine.old engine.new }
+    ensures fits { EachFits B.Resource engine.new.files.stores }
+    ensures ready { result ≢ Err DiskFault → IsReady B.Resource engine.new }
 {
     engine.invariant_holds();
     match plan_named(plans, name) {

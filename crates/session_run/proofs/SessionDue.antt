@@ -33,7 +33,7 @@ use Rattle.history_opening.proofs.Rising.{rose_later}
 
 module _ {R B : Type 0} (plans : List Plan) (r : Racks R) (honest : (rack : R) → Told (r.disk rack) → IsHonest (r.disk rack)) (entry : R) (opening now : EngineState R B)
     (begun : IsCore opening.core) (is_opened : IsOpened opening) (idle : active (history_of opening.core) ≡ []) (tells : (r.disk opening.files.rack).tells ≡ (r.disk entry).tells)
-    (opened : AreOpenedOn opening.catalog (full_history opening.core) (files r entry) (files r opening.files.rack)) (goes : GoesOn r.disk r.faults plans opening now) (machine : IsCore now.core)
+    (opened : AreOpenedOn opening.catalog (full_history opening.core) (files r entry) (files r opening.files.rack)) (goes : GoesOn r plans opening now) (machine : IsCore now.core)
     (read : now.phase ≡ Settled → Told (r.disk now.files.rack) → IsSound now.catalog (full_history now.core) (r.disk now.files.rack).files)
     (each : now.phase ≡ Settled → Told (r.disk now.files.rack) → EachImage (r.disk now.files.rack) (r.disk now.files.rack).moment (IsSound now.catalog (full_history now.core)))
     (later : r.faults entry ≤ r.faults opening.files.rack) where

@@ -1,5 +1,5 @@
 // The command `session`.
-ghost use Rattle.std.specs.Prelude.{◌≡◌, ◌≢◌, ◌≤◌, true, false, IfOk, IfErr};
+ghost use Rattle.std.specs.Prelude.{◌≡◌, ◌≢◌, true, false, IfOk, IfErr};
 ghost use Rattle.process_flow.specs.Causes.{Rose};
 ghost use Rattle.process_tree.specs.Order.{Each};
 ghost use Rattle.commute_table.specs.Operations.{IsCatalog};
@@ -10,7 +10,7 @@ ghost use Rattle.engine_steps.specs.Beginning.{IsPlanFor};
 ghost use Rattle.engine_calls.specs.Runs.{GoesOn, IsReady};
 ghost use Rattle.command_refusals.specs.declared.status.Status.TheVariants as statuses;
 ghost use Rattle.command_input.specs.Early.{comes_before_files};
-ghost use Rattle.command_input.specs.FilesLeft.{files};
+ghost use Rattle.command_input.specs.FilesLeft.{AreLeft, files};
 ghost use Rattle.command_input.specs.Inputs.{input};
 ghost use Rattle.session_run.specs.Completeness.{IsSessionComplete};
 ghost use Rattle.session_run.specs.Playthrough.{HasPlayed};
@@ -75,7 +75,7 @@ fn said_on<R: Rack + Drop, B: Resource>(
     plans: &[Plan],
     lines: &[Line],
 ) -> Result<Said, Refusal>
-    requires ready { IsReady B.meaning B.sort engine.old }
+    requires ready { IsReady B.Resource engine.old }
     requires plans { Each (IsPlanFor engine.old.catalog) plans.now }
     ensures begun { IsCore engine.old.core }
     ensures played { IfOk result
@@ -85,8 +85,8 @@ fn said_on<R: Rack + Drop, B: Resource>(
     ensures fault { IfOk result
         (λ s. s.status ≡ statuses.DiskFault → Rose (R.faults engine.old.files.rack) (R.faults engine.new.files.rack)) }
     ensures refused { IfErr result (λ r. (r ≡ Refusal.NoMemory) × (engine.new ≡ engine.old)) }
-    ensures goes { GoesOn R.disk R.faults plans.now engine.old engine.new }
-    ensures fits { EachFits B.meaning B.sort engine.new.files.stores }
+    ensures goes { GoesOn R.Rack plans.now engine.old engine.new }
+    ensures fits { EachFits B.Resource engine.new.files.stores }
 {
     engine.invariant_holds();
     let mut text = Vec::new(alloc);
@@ -109,8 +109,7 @@ fn on_files<R: Rack + Drop, B: Resource>(
     ensures late { IfErr result.found (λ r. comes_before_files r ≡ false) }
     ensures played { IfOk result.found (λ s. s.status ≢ Status.IllFormed) }
     ensures back { AreBoxes B.sort result.parts.resources.items }
-    ensures tells { (R.disk result.parts.rack).tells ≡ (R.disk parts.rack).tells }
-    ensures later { R.faults parts.rack ≤ R.faults result.parts.rack }
+    ensures left { AreLeft (files R.Rack parts.rack) (files R.Rack result.parts.rack) }
 {
     match opened(alloc, &script.catalog, parts) {
         Ok(mut engine) => {
@@ -142,8 +141,7 @@ pub fn session<S: Source, R: Rack + Drop, B: Resource>(
     ensures early { IfErr result.found (λ r. comes_before_files r ≡ true → result.parts.rack ≡ parts.rack) }
     ensures ill_formed { IfOk result.found (λ s. s.status ≡ Status.IllFormed → result.parts.rack ≡ parts.rack) }
     ensures back { AreBoxes B.sort result.parts.resources.items }
-    ensures tells { (R.disk result.parts.rack).tells ≡ (R.disk parts.rack).tells }
-    ensures later { R.faults parts.rack ≤ R.faults result.parts.rack }
+    ensures left { AreLeft (files R.Rack parts.rack) (files R.Rack result.parts.rack) }
 {
     sound_files_are_opened();
     match script_of(alloc, source) {

@@ -66,7 +66,7 @@ fn answer_line<R: Rack + Drop, B: Resource>(
     line: &Line,
     said: &mut Vec<u8>,
 ) -> Result<(), Cut>
-    requires ready { IsReady B.meaning B.sort engine.old }
+    requires ready { IsReady B.Resource engine.old }
     requires plans { Each (IsPlanFor engine.old.catalog) plans.now }
     requires at_hand { AreAtHand engine.old hand.old }
     requires room { vec_len said.old + 11 ≤ vec_capacity said.old }
@@ -83,9 +83,9 @@ fn answer_line<R: Rack + Drop, B: Resource>(
     ensures fault { IfErr result
         (λ cut. cut ≡ DiskFault → (engine.new.phase ≡ phase.Closed)
         × Rose (R.faults engine.old.files.rack) (R.faults engine.new.files.rack)) }
-    ensures goes { GoesOn R.disk R.faults plans.now engine.old engine.new }
-    ensures fits { EachFits B.meaning B.sort engine.new.files.stores }
-    ensures ready { result ≢ Err DiskFault → IsReady B.meaning B.sort engine.new }
+    ensures goes { GoesOn R.Rack plans.now engine.old engine.new }
+    ensures fits { EachFits B.Resource engine.new.files.stores }
+    ensures ready { result ≢ Err DiskFault → IsReady B.Resource engine.new }
 {
     let text = play_line(alloc, engine, plans, hand, line)?;
     add(said, &text)?;
@@ -101,16 +101,16 @@ pub fn play_lines<R: Rack + Drop, B: Resource>(
     lines: &[Line],
     said: &mut Vec<u8>,
 ) -> Status
-    requires ready { IsReady B.meaning B.sort engine.old }
+    requires ready { IsReady B.Resource engine.old }
     requires plans { Each (IsPlanFor engine.old.catalog) plans.now }
     requires empty { said.old.items ≡ [] }
     requires room { vec_len said.old + 11 ≤ vec_capacity said.old }
     ensures played { HasPlayed engine.old.catalog plans.now engine.old.core engine.new.core lines.now said.new.items result }
     ensures fault { result ≡ Status.DiskFault → (engine.new.phase ≡ phase.Closed)
         × Rose (R.faults engine.old.files.rack) (R.faults engine.new.files.rack) }
-    ensures goes { GoesOn R.disk R.faults plans.now engine.old engine.new }
-    ensures fits { EachFits B.meaning B.sort engine.new.files.stores }
-    ensures ready { result ≢ Status.DiskFault → IsReady B.meaning B.sort engine.new }
+    ensures goes { GoesOn R.Rack plans.now engine.old engine.new }
+    ensures fits { EachFits B.Resource engine.new.files.stores }
+    ensures ready { result ≢ Status.DiskFault → IsReady B.Resource engine.new }
 {
     engine.invariant_holds();
     let Ok(mut hand) = AtHand::new(alloc) else {

@@ -1,21 +1,18 @@
 -- Each turn leads an engine on from its opening.
-use Rattle.std.proofs.Common.{◌≡◌, ◌≢◌, ◌≤◌, ◌∙◌, ◌||◌, ◌⊎◌, inl, inr, ⊎_elim, ℕ, Bool, true, false, List, [], ◌∷◌, ◌++◌, filter, length, map, Option, ap, refl, sym, subst, append-nil, arith}
+use Rattle.std.proofs.Common.{◌≡◌, ◌≢◌, ◌≤◌, ◌∙◌, ◌||◌, ◌⊎◌, ⊎_elim, ℕ, Bool, true, false, List, [], ◌∷◌, ◌++◌, length, Option, ap, refl, sym, subst, arith}
 use Rattle.std.proofs.lemmas.List.{length-map}
 use Rattle.std.proofs.Math.Bool.{or-false}
 use Rattle.process_flow.specs.Causes.{Rose}
-use Rattle.process_disk.specs.Disk.{Disk, IsHonest, Told}
+use Rattle.process_disk.specs.declared.rack.Rack.{Ghosts as Racks}
+use Rattle.process_disk.specs.Disk.{IsHonest, Told}
 use Rattle.process_tree.specs.Order.{Each}
 use Rattle.process_tree.proofs.Every.{Each-append, Each-weaker}
-use Rattle.resource_box.specs.declared.call.Kind.{Kind}
-use Rattle.resource_box.specs.Meaning.{Pairs}
-use Rattle.process_tree.specs.declared.play.Outcome.TheVariants.{Refused as Fails}
-use Rattle.machine_model.specs.declared.kept.Kept.{Kept}
-use Rattle.machine_model.specs.declared.kept.Kept.TheVariants.{Effect, Refuse}
-use Rattle.machine_model.specs.declared.kept.Work.TheVariants.{End}
+use Rattle.resource_box.specs.declared.resource.Resource.{Ghosts as Resources}
+use Rattle.machine_model.specs.declared.kept.Kept.TheVariants.{Refuse}
 use Rattle.machine_model.specs.declared.replies.Refusal.{Refusal}
 use Rattle.machine_model.specs.declared.replies.Refusal.TheVariants as refusal
-use Rattle.machine_model.specs.Calls.{finish, next, next_is, next_kept}
-use Rattle.machine_model.specs.Groups.{flush_kept, refused}
+use Rattle.machine_model.specs.Calls.{next, next_is, next_kept}
+use Rattle.machine_model.specs.Groups.{refused}
 use Rattle.machine_model.specs.Moment.{Piece}
 use Rattle.machine_model.specs.Pieces.{runs}
 use Rattle.machine_model.specs.Replies.{Handed, all_victims}
@@ -23,7 +20,6 @@ use Rattle.machine_model.proofs.QueuedPieces.{flushes_keep_what_runs}
 use Rattle.commute_table.specs.declared.catalog.Catalog.{Catalog}
 use Rattle.process_core.specs.Answers.{after_call, answer_in}
 use Rattle.process_core.specs.Cores.{CoreState, IsCore, courses_in, moment_of, relation}
-use Rattle.process_core.specs.Handing.{with_all}
 use Rattle.process_core.specs.Rotation.{next_reply_of}
 use Rattle.process_core.specs.declared.replies.Next.{Next as CoreNext}
 use Rattle.history_files.specs.Effects.{subsystem_of}
@@ -32,9 +28,8 @@ use Rattle.engine_steps.specs.Engines.{EngineState, with_core}
 use Rattle.engine_steps.specs.Rooms.{MakesRoomFor}
 use Rattle.engine_steps.specs.declared.engines.Phase.{Phase}
 use Rattle.engine_steps.specs.declared.engines.Phase.TheVariants.{Settled, UnderWay, Closed}
-use Rattle.process_engine.specs.Finishing.{is_barred}
 use Rattle.process_engine.specs.declared.gates.Answer.{Answer}
-use Rattle.process_engine.specs.declared.gates.Answer.TheVariants.{Done, Refused}
+use Rattle.process_engine.specs.declared.gates.Answer.TheVariants.{Done}
 use Rattle.group_flush.specs.Flushing.{Flushes}
 use Rattle.group_flush.specs.Pieces.{numbers_of}
 use Rattle.group_flush.specs.Queueing.{IsRefusedIn, Queues, reply_to}
@@ -82,30 +77,30 @@ waits_alike r ds = ap (λ k. waits_for_flush k (said_of r)) (as_many ds)
 not_both : (p : Phase) → p ≡ Closed → p ≡ Settled → ⊥
 not_both p shut settled = absurd cc
 
-module _ {R B : Type 0} (disk : R → Disk) (faults : R → ℕ) (meaning : B → Pairs) (sort : B → Kind) (o : EngineState R B) (x y : SharedEngine R B) (es : List TurnEntry)
-    (led : AreOf disk faults meaning sort o es x) where
+module _ {R B : Type 0} (racks : Racks R) (box : Resources B) (o : EngineState R B) (x y : SharedEngine R B) (es : List TurnEntry)
+    (led : AreOf racks box o es x) where
   abbrev table : ℕ → ℕ
   table = subsystem_of o.catalog.ops
 
   same_table : table ≡ subsystem_of x.engine.catalog.ops
   same_table = ap (λ (c : Catalog). subsystem_of c.ops) (sym (led.goes []).catalog)
 
-  ready_so : IsReady meaning sort y.engine → IfClosed y.engine.phase (Rose (faults o.files.rack) (faults y.engine.files.rack))
-  ready_so ready = subst (λ p. IfClosed p (Rose (faults o.files.rack) (faults y.engine.files.rack))) (sym ready.settled) tt
+  ready_so : IsReady box y.engine → IfClosed y.engine.phase (Rose (racks.faults o.files.rack) (racks.faults y.engine.files.rack))
+  ready_so ready = subst (λ p. IfClosed p (Rose (racks.faults o.files.rack) (racks.faults y.engine.files.rack))) (sym ready.settled) tt
 
-  callable : IsReady meaning sort y.engine → AreQueued y.engine y.queued → MayBeCalled meaning sort y
+  callable : IsReady box y.engine → AreQueued y.engine y.queued → MayBeCalled box y
   callable ready queued = record { rest = subst IsAtRest (sym ready.settled) tt; fits = ready.fits; queued = λ settled. queued }
 
   still_handed : Grows x.engine.core y.engine.core → (ds : List Handed) → Each (IsHandedAs x.engine.core) ds → Each (IsHandedAs y.engine.core) ds
   still_handed grows ds each = Each-weaker (IsHandedAs x.engine.core) (IsHandedAs y.engine.core) (λ d is. handed_grows x.engine.core y.engine.core d grows is) ds each
 
-  module _ (settled : x.engine.phase ≡ Settled) (is_core : IsCore x.engine.core) (honest : Told (disk y.engine.files.rack) → IsHonest (disk y.engine.files.rack)) (goes : GoesOnAlone disk faults x.engine y.engine) where
-    goes_on : GoesOnAlone disk faults o y.engine
-    goes_on = λ may_start. goes_then disk faults may_start o x.engine y.engine settled is_core.session.one_each honest (led.goes may_start) (goes may_start)
+  module _ (settled : x.engine.phase ≡ Settled) (is_core : IsCore x.engine.core) (honest : Told (racks.disk y.engine.files.rack) → IsHonest (racks.disk y.engine.files.rack)) (goes : GoesOnAlone racks x.engine y.engine) where
+    goes_on : GoesOnAlone racks o y.engine
+    goes_on = λ may_start. goes_then racks may_start o x.engine y.engine settled is_core.session.one_each honest (led.goes may_start) (goes may_start)
 
     -- A request for any piece,
     pub next_leads : (r : CoreNext) → next_is (next_reply_of r) ≡ (answer_in x.engine.core next).reply → y.engine ≡ with_core x.engine (after_call x.engine.core next) → y.queued ≡ x.queued
-        → y.due ≡ (x.due || waits_for_flush (length x.queued) (said_of r)) → IsGiven y.engine.core r → IsReady meaning sort y.engine → AreOf disk faults meaning sort o (es ++ Next (said_of r) ∷ []) y
+        → y.due ≡ (x.due || waits_for_flush (length x.queued) (said_of r)) → IsGiven y.engine.core r → IsReady box y.engine → AreOf racks box o (es ++ Next (said_of r) ∷ []) y
     next_leads r replied is left due given ready =
         let core' = ap (λ (e : EngineState R B). e.core) is in
         let told = ap (λ q. reply_in q (next_reply_of r)) (sym replied) in
@@ -126,7 +121,7 @@ module _ {R B : Type 0} (disk : R → Disk) (faults : R → ℕ) (meaning : B �
 
     -- the queueing of a piece,
     module _ (d : Handed) (a : Answer) (handed : IsHandedAs x.engine.core d) (q : EngineQueue) (queues : Queues x.engine y.engine x.queued y.queued d a q) (due : y.due ≡ (x.due || finds_full (queue_said q)))
-        (queued : AreQueued y.engine y.queued) (ready : IsReady meaning sort y.engine) where
+        (queued : AreQueued y.engine y.queued) (ready : IsReady box y.engine) where
       abbrev entry : TurnEntry
       entry = Queue d.piece.number a (queue_said q)
 
@@ -181,10 +176,10 @@ module _ {R B : Type 0} (disk : R → Disk) (faults : R → ℕ) (meaning : B �
       by_reply (queue.NoMemory p) l = left_so l.left.0.core l.left.1
       by_reply (queue.Closed k) l = absurd l.reply
 
-      pub queue_leads : AreOf disk faults meaning sort o (es ++ queue_entry d.piece.number a q ∷ []) y
+      pub queue_leads : AreOf racks box o (es ++ queue_entry d.piece.number a q ∷ []) y
       queue_leads = record {
         told = told-snoc table (opened o) es (progress x) entry (progress y) led.told
-            (subst (λ s. IsTold s (progress x) entry) (sym same_table) (queue_told disk x y settled d a handed.handed q queues due)) (queue_after disk x y settled d a handed.handed q queues due);
+            (subst (λ s. IsTold s (progress x) entry) (sym same_table) (queue_told racks.disk x y settled d a handed.handed q queues due)) (queue_after racks.disk x y settled d a handed.handed q queues due);
         goes = goes_on;
         called = callable ready queued;
         fault = ready_so ready;
@@ -193,25 +188,25 @@ module _ {R B : Type 0} (disk : R → Disk) (faults : R → ℕ) (meaning : B �
       }
 
     -- and a flush that is due.
-    module _ (is_due : x.due ≡ true) (clear : y.due ≡ false) (f : EngineFlush) (flushes : Flushes disk x.engine y.engine x.queued y.queued f) (ready : f ≢ flush.DiskFault → IsReady meaning sort y.engine)
-        (queued : f ≢ flush.DiskFault → AreQueued y.engine y.queued) (fits : EachFits meaning sort y.engine.files.stores) (rose : f ≡ flush.DiskFault → Rose (faults x.engine.files.rack) (faults y.engine.files.rack)) where
+    module _ (is_due : x.due ≡ true) (clear : y.due ≡ false) (f : EngineFlush) (flushes : Flushes racks.disk x.engine y.engine x.queued y.queued f) (ready : f ≢ flush.DiskFault → IsReady box y.engine)
+        (queued : f ≢ flush.DiskFault → AreQueued y.engine y.queued) (fits : EachFits box y.engine.files.stores) (rose : f ≡ flush.DiskFault → Rose (racks.faults x.engine.files.rack) (racks.faults y.engine.files.rack)) where
       abbrev flush_entry : TurnEntry
       flush_entry = Flush (flush_said f)
 
-      risen : faults o.files.rack ≤ faults x.engine.files.rack → Rose (faults x.engine.files.rack) (faults y.engine.files.rack) → Rose (faults o.files.rack) (faults y.engine.files.rack)
+      risen : racks.faults o.files.rack ≤ racks.faults x.engine.files.rack → Rose (racks.faults x.engine.files.rack) (racks.faults y.engine.files.rack) → Rose (racks.faults o.files.rack) (racks.faults y.engine.files.rack)
       risen before more = search (arith, before, more)
 
       record IsLeft : Type 0 where
-        pub called : MayBeCalled meaning sort y
-        pub fault : IfClosed y.engine.phase (Rose (faults o.files.rack) (faults y.engine.files.rack))
+        pub called : MayBeCalled box y
+        pub fault : IfClosed y.engine.phase (Rose (racks.faults o.files.rack) (racks.faults y.engine.files.rack))
         pub handed : Each (IsHandedAs y.engine.core) y.queued
         pub by_entries : IsByEntries o.catalog o.core y.engine.core y.queued (es ++ flush_entry ∷ [])
 
-      left_by : (g : EngineFlush) → f ≡ g → Flushes disk x.engine y.engine x.queued y.queued g → IsLeft
+      left_by : (g : EngineFlush) → f ≡ g → Flushes racks.disk x.engine y.engine x.queued y.queued g → IsLeft
       left_by (flush.Flushed ends) is l =
           let m = moment_of x.engine.core in
           let isnt : f ≢ flush.DiskFault = λ fault. let both : flush.Flushed ends ≡ flush.DiskFault = sym is ∙ fault in cc in
-          let core' = l.left.core ∙ flushed_kept disk x.engine y.engine x.queued y.queued settled is_core (led.called.queued settled) in
+          let core' = l.left.core ∙ flushed_kept racks.disk x.engine y.engine x.queued y.queued settled is_core (led.called.queued settled) in
           let plans = ap (λ (c : CoreState). c.plans) core' in
           let kept = ap (λ (c : CoreState). c.kept) core' ∙ ap (λ ks. x.engine.core.kept ++ ks) (flushes_keep_what_runs m (numbers_of (pieces_of x.queued))) in
           record {
@@ -223,7 +218,7 @@ module _ {R B : Type 0} (disk : R → Disk) (faults : R → ℕ) (meaning : B �
           }
       left_by flush.DiskFault is l = record {
         called = record { rest = subst IsAtRest (sym l.left.phase) tt; fits = fits; queued = λ open'. absurd (not_both y.engine.phase l.left.phase open') };
-        fault = subst (λ p. IfClosed p (Rose (faults o.files.rack) (faults y.engine.files.rack))) (sym l.left.phase) (risen (led.goes []).later (rose is));
+        fault = subst (λ p. IfClosed p (Rose (racks.faults o.files.rack) (racks.faults y.engine.files.rack))) (sym l.left.phase) (risen (led.goes []).later (rose is));
         handed = subst (Each (IsHandedAs y.engine.core)) (sym l.left.same) (subst (λ c. Each (IsHandedAs c) x.queued) (sym l.left.core) led.handed);
         by_entries = subst (λ ds. IsByEntries o.catalog o.core y.engine.core ds (es ++ flush_entry ∷ [])) (sym l.left.same)
             (subst (λ c. IsByEntries o.catalog o.core c x.queued (es ++ flush_entry ∷ [])) (sym l.left.core)
@@ -231,11 +226,11 @@ module _ {R B : Type 0} (disk : R → Disk) (faults : R → ℕ) (meaning : B �
       }
       left_by (flush.Closed k) is l = absurd l.left
 
-      pub flush_leads : AreOf disk faults meaning sort o (es ++ Flush (flush_said f) ∷ []) y
+      pub flush_leads : AreOf racks box o (es ++ Flush (flush_said f) ∷ []) y
       flush_leads = record {
         told = told-snoc table (opened o) es (progress x) flush_entry (progress y) led.told
-            (subst (λ s. IsTold s (progress x) flush_entry) (sym same_table) (flush_told disk x y settled is_core (led.called.queued settled) is_due clear f flushes))
-            (flush_after disk x y settled is_core (led.called.queued settled) is_due clear f flushes);
+            (subst (λ s. IsTold s (progress x) flush_entry) (sym same_table) (flush_told racks.disk x y settled is_core (led.called.queued settled) is_due clear f flushes))
+            (flush_after racks.disk x y settled is_core (led.called.queued settled) is_due clear f flushes);
         goes = goes_on;
         called = (left_by f refl flushes).called;
         fault = (left_by f refl flushes).fault;
@@ -247,11 +242,11 @@ module _ {R B : Type 0} (disk : R → Disk) (faults : R → ℕ) (meaning : B �
 abbrev due_at : {R B : Type 0} → SharedEngine R B → Bool → SharedEngine R B
 due_at x due = record { engine = x.engine; queued = x.queued; due = due; starved = x.starved }
 
-module _ {R B : Type 0} (disk : R → Disk) (faults : R → ℕ) (meaning : B → Pairs) (sort : B → Kind) (o : EngineState R B) (x : SharedEngine R B) (es : List TurnEntry)
-    (led : AreOf disk faults meaning sort o es x) where
+module _ {R B : Type 0} (racks : Racks R) (box : Resources B) (o : EngineState R B) (x : SharedEngine R B) (es : List TurnEntry)
+    (led : AreOf racks box o es x) where
   -- a call of an engine that stays as it is
   still_leads : (due : Bool) (e : TurnEntry) → IsTold (subsystem_of o.catalog.ops) (progress x) e → progress (due_at x due) ≡ after (progress x) e → gate_asked x.engine.core e ≡ 0 → IsOfHanded x.engine.core e
-      → AreOf disk faults meaning sort o (es ++ e ∷ []) (due_at x due)
+      → AreOf racks box o (es ++ e ∷ []) (due_at x due)
   still_leads due e told is none here = record {
     told = told-snoc (subsystem_of o.catalog.ops) (opened o) es (progress x) e (progress (due_at x due)) led.told told is;
     goes = led.goes;
@@ -266,16 +261,16 @@ module _ {R B : Type 0} (disk : R → Disk) (faults : R → ℕ) (meaning : B �
 
   module _ (shut : x.engine.phase ≡ Closed) (k : ℕ) (is : k ≡ length x.engine.core.kept) where
     -- a request of a closed engine,
-    pub closed_leads : AreOf disk faults meaning sort o (es ++ Next (asked.Closed k) ∷ []) x
+    pub closed_leads : AreOf racks box o (es ++ Next (asked.Closed k) ∷ []) x
     closed_leads = still_leads x.due (Next (asked.Closed k)) (closed_told (subsystem_of o.catalog.ops) x.engine.core (numbers_of (pieces_of x.queued)) x.engine.phase x.due shut k is) (subst now (sym (or-false x.due)) refl) refl tt
 
     -- the queueing of a piece at one,
-    pub shut_leads : (n : ℕ) (a : Answer) → AreOf disk faults meaning sort o (es ++ Queue n a (put.Closed k) ∷ []) x
+    pub shut_leads : (n : ℕ) (a : Answer) → AreOf racks box o (es ++ Queue n a (put.Closed k) ∷ []) x
     shut_leads n a =
         still_leads x.due (Queue n a (put.Closed k)) (closed_queue (subsystem_of o.catalog.ops) x.engine.core (numbers_of (pieces_of x.queued)) x.engine.phase x.due shut k is n a) (subst now (sym (or-false x.due)) refl) refl tt
 
     -- and a flush that was due.
-    pub flushed_leads : x.due ≡ true → AreOf disk faults meaning sort o (es ++ Flush (flushed.Closed k) ∷ []) (due_at x false)
+    pub flushed_leads : x.due ≡ true → AreOf racks box o (es ++ Flush (flushed.Closed k) ∷ []) (due_at x false)
     flushed_leads is_due =
         still_leads false (Flush (flushed.Closed k)) (closed_flush (subsystem_of o.catalog.ops) x.engine.core (numbers_of (pieces_of x.queued)) x.engine.phase x.due shut k is is_due) refl refl tt
 

@@ -1,8 +1,7 @@
 -- Turns at a desk, as the seat sees them.
-use Rattle.std.proofs.Common.{◌≡◌, ◌∙◌, ◌+◌, ℕ, List, [], ◌∷◌, ◌++◌, length, ap, subst, Option as Maybe, Some, None, IfSome}
-use Rattle.process_disk.specs.Disk.{Disk}
-use Rattle.resource_box.specs.declared.call.Kind.{Kind}
-use Rattle.resource_box.specs.Meaning.{Pairs}
+use Rattle.std.proofs.Common.{◌≡◌, ◌∙◌, ◌+◌, List, [], ◌∷◌, ◌++◌, length, ap, subst, Option as Maybe, Some, None, IfSome}
+use Rattle.process_disk.specs.declared.rack.Rack.{Ghosts as Racks}
+use Rattle.resource_box.specs.declared.resource.Resource.{Ghosts as Resources}
 use Rattle.history_files.specs.Effects.{subsystem_of}
 use Rattle.engine_steps.specs.Engines.{EngineState}
 use Rattle.history_lock.specs.declared.view.View.{View}
@@ -17,14 +16,14 @@ pub if_map : {A : Type 0} (m : Maybe A) (P Q : A → Type 0) → ((x : A) → P 
 if_map None P Q so some = tt
 if_map (Some x) P Q so some = so x some
 
-module _ {R B : Type 0} (disk : R → Disk) (faults : R → ℕ) (meaning : B → Pairs) (sort : B → Kind) where
+module _ {R B : Type 0} (racks : Racks R) (box : Resources B) where
   -- what the state of a turn stands for, where the opening is known
-  pub turn_stands : (m : Maybe (SharedEngine R B)) (o x : SharedEngine R B) (es : List TurnEntry) → IfSome m (λ z. StandsFor disk faults meaning sort z es x) → m ≡ Some o
-      → IsOpening disk meaning sort o → AreOf disk faults meaning sort o.engine es x
-  turn_stands m o x es stands known sound = subst (λ (k : Maybe (SharedEngine R B)). IfSome k (λ z. StandsFor disk faults meaning sort z es x)) known stands sound
+  pub turn_stands : (m : Maybe (SharedEngine R B)) (o x : SharedEngine R B) (es : List TurnEntry) → IfSome m (λ z. StandsFor racks box z es x) → m ≡ Some o
+      → IsOpening racks.disk box o → AreOf racks box o.engine es x
+  turn_stands m o x es stands known sound = subst (λ (k : Maybe (SharedEngine R B)). IfSome k (λ z. StandsFor racks box z es x)) known stands sound
 
   -- its core is what the entries make
-  pub core_is : (o : EngineState R B) (x : SharedEngine R B) (es : List TurnEntry) → AreOf disk faults meaning sort o es x → x.engine.core ≡ core_at o es
+  pub core_is : (o : EngineState R B) (x : SharedEngine R B) (es : List TurnEntry) → AreOf racks box o es x → x.engine.core ≡ core_at o es
   core_is o x es are = ap (λ (p : Progress). p.core) (led_to (subsystem_of o.catalog.ops) (opened o) es (progress x) are.told)
 
 module _ {R B : Type 0} where

@@ -1,29 +1,25 @@
 -- The queueing of a piece is a turn of the machine, and so is a flush that is due.
-use Rattle.std.proofs.Common.{◌≡◌, ◌∙◌, ◌||◌, ℕ, Bool, true, false, List, [], ◌∷◌, ◌++◌, filter, length, refl, ap, sym, subst, ⊎_elim}
-use Rattle.std.proofs.Math.Bool.{or-false}
+use Rattle.std.proofs.Common.{◌≡◌, ◌∙◌, ◌||◌, ℕ, Bool, true, false, List, [], ◌∷◌, ◌++◌, refl, ap, sym, subst, ⊎_elim}
 use Rattle.process_disk.specs.Disk.{Disk}
-use Rattle.process_tree.specs.declared.play.Outcome.TheVariants.{Done as Succeeds, Refused as Fails}
+use Rattle.process_tree.specs.declared.play.Outcome.TheVariants.{Refused as Fails}
 use Rattle.machine_model.specs.declared.replies.Refusal.TheVariants as refusal
 use Rattle.machine_model.specs.Calls.{finish}
-use Rattle.machine_model.specs.Groups.{Queue as Reply, queued, full, refused, over, dropped}
-use Rattle.machine_model.specs.Moment.{Piece}
-use Rattle.machine_model.specs.Pieces.{runs}
+use Rattle.machine_model.specs.Groups.{Queue as Reply, queued}
 use Rattle.machine_model.specs.Replies.{Handed}
-use Rattle.machine_model.specs.Turns.{IsTurn, queues, flushes, says}
+use Rattle.machine_model.specs.Turns.{IsTurn, queues, flushes}
 use Rattle.process_core.specs.Answers.{after_call}
 use Rattle.process_core.specs.Cores.{CoreState, IsCore, IsHandedBy, moment_of, relation}
 use Rattle.history_files.specs.Effects.{subsystem_of}
 use Rattle.engine_steps.specs.Engines.{EngineState}
 use Rattle.engine_steps.specs.Rooms.{MakesRoomFor}
 use Rattle.engine_steps.specs.declared.engines.Phase.{Phase}
-use Rattle.engine_steps.specs.declared.engines.Phase.TheVariants.{Settled, Closed as Shut}
+use Rattle.engine_steps.specs.declared.engines.Phase.TheVariants.{Settled}
 use Rattle.process_engine.specs.declared.gates.Answer.{Answer}
-use Rattle.process_engine.specs.declared.gates.Answer.TheVariants.{Done, Refused}
 use Rattle.group_flush.specs.Flushing.{Flushes}
-use Rattle.group_flush.specs.Pieces.{after_all, numbers_of}
+use Rattle.group_flush.specs.Pieces.{after_effects, numbers_of}
 use Rattle.group_flush.specs.Queueing.{IsRefusedIn, Queues, reply_to}
 use Rattle.shared_engine.specs.GroupTurns.{flush_says, outcome_as, queue_says}
-use Rattle.group_flush.specs.Queues.{AreQueued, pieces_of, running_of}
+use Rattle.group_flush.specs.Queues.{AreQueued, pieces_of}
 use Rattle.group_flush.specs.declared.group.Flush.{Flush as EngineFlush}
 use Rattle.group_flush.specs.declared.group.Flush.TheVariants as flush
 use Rattle.group_flush.specs.declared.replies.Queue.{Queue as EngineQueue}
@@ -36,16 +32,11 @@ use Rattle.shared_engine.specs.declared.entries.TurnEntry.{TurnEntry}
 use Rattle.shared_engine.specs.declared.entries.TurnEntry.TheVariants.{Queue, Flush}
 use Rattle.shared_engine.specs.declared.shared.SharedEngine.{SharedEngine}
 use Rattle.shared_engine.specs.Entries.{IsPut, SaysFlush, SaysQueue, flush_said, queue_said}
-use Rattle.shared_engine.specs.Progress.{IsTold, Progress, after, after_effects, board_of, finds_full, progress}
+use Rattle.shared_engine.specs.Progress.{IsTold, Progress, after, board_of, finds_full, progress}
 
 pub progress_of : (c d : CoreState) (g h : List ℕ) (p q : Phase) (x y : Bool) → c ≡ d → g ≡ h → p ≡ q → x ≡ y
     → ◌≡◌ {A = Progress} (record { core = c; group = g; phase = p; due = x }) (record { core = d; group = h; phase = q; due = y })
 progress_of c d g h p q x y one two three four = λ i. record { core = one i; group = two i; phase = three i; due = four i }
-
--- pieces that take effect one after another are told by their numbers
-pub effects_are : (c : CoreState) (ps : List Piece) → after_all c ps ≡ after_effects c (numbers_of ps)
-effects_are c [] = refl
-effects_are c (p ∷ ps) = effects_are (after_call c (finish p.number Succeeds)) ps
 
 module _ {R B : Type 0} (disk : R → Disk) (x y : SharedEngine R B) (settled : x.engine.phase ≡ Settled) where
   abbrev e : EngineState R B
@@ -122,7 +113,7 @@ module _ {R B : Type 0} (disk : R → Disk) (x y : SharedEngine R B) (settled : 
   module _ (core : IsCore x.engine.core) (queued' : AreQueued x.engine x.queued) (is_due : x.due ≡ true) (clear : y.due ≡ false) where
     flushes_after : (f : EngineFlush) → Flushes disk x.engine y.engine x.queued y.queued f → progress y ≡ after (progress x) (Flush (flush_said f))
     flushes_after (flush.Flushed ends) l =
-        progress_of _ _ _ _ _ _ _ _ (l.left.core ∙ (effects_are e.core (running_of e.core x.queued) ∙ ap (after_effects e.core) (running_numbers (moment_of e.core) (pieces_of x.queued))))
+        progress_of _ _ _ _ _ _ _ _ (l.left.core ∙ ap (after_effects e.core) (running_numbers (moment_of e.core) (pieces_of x.queued)))
         (ap (λ ds. numbers_of (pieces_of ds)) l.left.none) (l.left.phase ∙ sym settled) clear
     flushes_after flush.DiskFault l = progress_of _ _ _ _ _ _ _ _ l.left.core (ap (λ ds. numbers_of (pieces_of ds)) l.left.same) l.left.phase clear
     flushes_after (flush.Closed k) l = absurd l.left

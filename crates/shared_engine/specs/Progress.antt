@@ -4,14 +4,13 @@ use Rattle.process_tree.specs.declared.play.Outcome.TheVariants as outcome
 use Rattle.machine_model.specs.Calls.{finish, next}
 use Rattle.machine_model.specs.Groups.{Subsystems}
 use Rattle.machine_model.specs.Pieces.{runs}
-use Rattle.machine_model.specs.Replies.{Handed}
 use Rattle.machine_model.specs.Turns.{Board, IsDue, Turn, IsTurn}
 use Rattle.process_core.specs.Answers.{after_call}
 use Rattle.process_core.specs.Cores.{CoreState, machine_of, moment_of, relation}
 use Rattle.engine_steps.specs.Engines.{EngineState}
 use Rattle.engine_steps.specs.declared.engines.Phase.{Phase}
 use Rattle.engine_steps.specs.declared.engines.Phase.TheVariants.{Closed}
-use Rattle.group_flush.specs.Pieces.{numbers_of}
+use Rattle.group_flush.specs.Pieces.{after_effects, numbers_of}
 use Rattle.group_flush.specs.Queues.{closed_at, pieces_of}
 use Rattle.shared_engine.specs.declared.entries.NextSaid.{NextSaid}
 use Rattle.shared_engine.specs.declared.entries.NextSaid.TheVariants as asked
@@ -95,11 +94,6 @@ group_after group n put.Over = group
 group_after group n (put.Dropped k) = group
 group_after group n (put.NoMemory k) = group
 group_after group n (put.Closed k) = group
-
--- the core once these pieces have taken effect, one after another
-abbrev pub after_effects : CoreState → List ℕ → CoreState
-after_effects c [] = c
-after_effects c (n ∷ ns) = after_effects (after_call c (finish n outcome.Done)) ns
 
 -- after a flush: those of the group that run took effect; a fault of the disk closes the engine; none is due any more
 abbrev pub after_flush : Progress → FlushSaid → Progress

@@ -1,8 +1,7 @@
 -- What a seat at a shared engine knows, and what a turn adds to it.
 use Rattle.std.specs.Prelude.{◌≡◌, ◌+◌, List, [], ◌∷◌, ◌++◌, length, Some}
 use Rattle.process_disk.specs.Disk.{Disk}
-use Rattle.resource_box.specs.declared.call.Kind.{Kind}
-use Rattle.resource_box.specs.Meaning.{Pairs}
+use Rattle.resource_box.specs.declared.resource.Resource.{Ghosts as Resources}
 use Rattle.process_core.specs.Cores.{CoreState}
 use Rattle.engine_steps.specs.Engines.{EngineState}
 use Rattle.history_lock.specs.declared.desk.Seat.{Seat}
@@ -23,11 +22,11 @@ knowledge s = s.place.me.0
 
 module _ {R B : Type 0} where
   -- what the seat knows of the opening: it was settled and sound, and nothing was queued
-  pub record HasOpened (disk : R → Disk) (meaning : B → Pairs) (sort : B → Kind)
+  pub record HasOpened (disk : R → Disk) (box : Resources B)
       (v : View (SharedEngine R B) TurnEntry) : Type 0 where
     pub opening : SharedEngine R B
     pub known : v.opening ≡ Some opening
-    pub sound : IsOpening disk meaning sort opening
+    pub sound : IsOpening disk box opening
 
   -- a turn was made with this entry, behind what others did meanwhile
   pub record HasAdded (e : TurnEntry) (before after : View (SharedEngine R B) TurnEntry) : Type 0 where

@@ -1,13 +1,12 @@
 -- What an engine that is shared stands for.
-use Rattle.std.specs.Prelude.{⊤, ℕ, Bool, false, List, []}
+use Rattle.std.specs.Prelude.{⊤, Bool, false, List, []}
 use Rattle.std.proofs.Common.{◌≡◌, arith, refl, subst, sym}
 use Rattle.process_flow.specs.Causes.{Rose}
+use Rattle.process_disk.specs.declared.rack.Rack.{Ghosts as Racks}
 use Rattle.process_disk.specs.Disk.{Disk, Told}
 use Rattle.process_disk.specs.Images.{EachImage}
 use Rattle.process_tree.specs.Order.{Each}
-use Rattle.resource_box.specs.declared.call.Kind.{Kind}
-use Rattle.resource_box.specs.Meaning.{Pairs}
-use Rattle.machine_model.specs.Replies.{Handed}
+use Rattle.resource_box.specs.declared.resource.Resource.{Ghosts as Resources}
 use Rattle.process_core.specs.Cores.{IsCore}
 use Rattle.history_files.specs.Effects.{subsystem_of}
 use Rattle.history_files.specs.Sound.{IsSound}
@@ -38,8 +37,8 @@ IfClosed Closed P = P
 
 -- An engine with which a history of turns may begin: it is settled, its files are sound for what happened, nothing is queued at it,
 -- and no flush is due.
-pub record IsOpening {R B : Type 0} (disk : R → Disk) (meaning : B → Pairs) (sort : B → Kind) (o : SharedEngine R B) : Type 0 where
-  pub ready : IsReady meaning sort o.engine
+pub record IsOpening {R B : Type 0} (disk : R → Disk) (box : Resources B) (o : SharedEngine R B) : Type 0 where
+  pub ready : IsReady box o.engine
   pub core : IsCore o.engine.core
   pub each : Told (disk o.engine.files.rack) → EachImage (disk o.engine.files.rack) (disk o.engine.files.rack).moment
       (IsSound o.engine.catalog (full_history o.engine.core))
@@ -48,36 +47,36 @@ pub record IsOpening {R B : Type 0} (disk : R → Disk) (meaning : B → Pairs) 
 
 -- A turn may be made: no piece is half done, each box has the values of its book, and while the engine is open what is queued may
 -- take effect.
-pub record MayBeCalled {R B : Type 0} (meaning : B → Pairs) (sort : B → Kind) (x : SharedEngine R B) : Type 0 where
+pub record MayBeCalled {R B : Type 0} (box : Resources B) (x : SharedEngine R B) : Type 0 where
   pub rest : IsAtRest x.engine.phase
-  pub fits : EachFits meaning sort x.engine.files.stores
+  pub fits : EachFits box x.engine.files.stores
   pub queued : x.engine.phase ≡ Settled → AreQueued x.engine x.queued
 
 -- These entries led from an engine, at which nothing was queued, to another: each is the machine's turn at its place, and a flush
 -- only where one was due; the engine went on meanwhile, and asked for no start; a turn may be made; it is closed only where a call
 -- of the rack failed; what is queued was handed out; and what was kept is by the answers that the entries tell of.
-pub record AreOf {R B : Type 0} (disk : R → Disk) (faults : R → ℕ) (meaning : B → Pairs) (sort : B → Kind) (o : EngineState R B)
+pub record AreOf {R B : Type 0} (racks : Racks R) (box : Resources B) (o : EngineState R B)
     (entries : List TurnEntry) (x : SharedEngine R B) : Type 0 where
   pub told : AreTold (subsystem_of o.catalog.ops) (opened o) entries (progress x)
-  pub goes : GoesOnAlone disk faults o x.engine
-  pub called : MayBeCalled meaning sort x
-  pub fault : IfClosed x.engine.phase (Rose (faults o.files.rack) (faults x.engine.files.rack))
+  pub goes : GoesOnAlone racks o x.engine
+  pub called : MayBeCalled box x
+  pub fault : IfClosed x.engine.phase (Rose (racks.faults o.files.rack) (racks.faults x.engine.files.rack))
   pub handed : Each (IsHandedAs x.engine.core) x.queued
   pub by_entries : IsByEntries o.catalog o.core x.engine.core x.queued entries
 
 -- an engine stands for an opening one and these entries, if that may be an opening
-abbrev pub StandsFor : {R B : Type 0} → (R → Disk) → (R → ℕ) → (B → Pairs) → (B → Kind) → SharedEngine R B → List TurnEntry
+abbrev pub StandsFor : {R B : Type 0} → Racks R → Resources B → SharedEngine R B → List TurnEntry
     → SharedEngine R B
     → Type 0
-StandsFor disk faults meaning sort o entries x = IsOpening disk meaning sort o → AreOf disk faults meaning sort o.engine entries x
+StandsFor racks box o entries x = IsOpening racks.disk box o → AreOf racks box o.engine entries x
 
 -- an engine at which nothing is queued
 abbrev none_queued : {R B : Type 0} → EngineState R B → Bool → SharedEngine R B
 none_queued e starved = record { engine = e; queued = []; due = false; starved = starved }
 
-alone : {R B : Type 0} (disk : R → Disk) (meaning : B → Pairs) (sort : B → Kind) (o : SharedEngine R B)
-    → IsOpening disk meaning sort o → none_queued o.engine o.starved ≡ o
-alone disk meaning sort o is = λ i. record {
+alone : {R B : Type 0} (disk : R → Disk) (box : Resources B) (o : SharedEngine R B)
+    → IsOpening disk box o → none_queued o.engine o.starved ≡ o
+alone disk box o is = λ i. record {
   engine = o.engine;
   queued = (sym is.none) i;
   due = (sym is.clear) i;
@@ -85,17 +84,17 @@ alone disk meaning sort o is = λ i. record {
 }
 
 -- with no entry it stands for itself
-pub opens : {R B : Type 0} (disk : R → Disk) (faults : R → ℕ) (meaning : B → Pairs) (sort : B → Kind) (o : SharedEngine R B)
-    → StandsFor disk faults meaning sort o [] o
-opens disk faults meaning sort o is = subst (AreOf disk faults meaning sort o.engine []) (alone disk meaning sort o is) (record {
+pub opens : {R B : Type 0} (racks : Racks R) (box : Resources B) (o : SharedEngine R B)
+    → StandsFor racks box o [] o
+opens racks box o is = subst (AreOf racks box o.engine []) (alone racks.disk box o is) (record {
   told = refl;
-  goes = λ may_start. goes_none disk faults may_start o.engine is.core is.each;
+  goes = λ may_start. goes_none racks may_start o.engine is.core is.each;
   called = record {
     rest = subst IsAtRest (sym is.ready.settled) tt;
     fits = is.ready.fits;
     queued = λ settled. record { unfinished = tt; distinct = tt; apart = tt; ends = omega arith; few = omega arith; room = tt };
   };
-  fault = subst (λ p. IfClosed p (Rose (faults o.engine.files.rack) (faults o.engine.files.rack))) (sym is.ready.settled) tt;
+  fault = subst (λ p. IfClosed p (Rose (racks.faults o.engine.files.rack) (racks.faults o.engine.files.rack))) (sym is.ready.settled) tt;
   handed = tt;
   by_entries = by_none o.engine.catalog o.engine.core;
 })

@@ -35,9 +35,9 @@ impl<R: Rack + Drop, B: Resource> SharedEngine<R, B> {
     /// wait in its last turn, a flush that is due is made in its place. Tells too whether one is due then, and whether the queueing
     /// of a piece has found no memory.
     pub fn ask(&mut self, waited: bool) -> (NextTurn, bool, bool)
-        requires called { MayBeCalled B.meaning B.sort self.old }
-        ensures leads { (o : EngineState R B) (es : List TurnEntry) → AreOf R.disk R.faults B.meaning B.sort o es self.old
-            → AreOf R.disk R.faults B.meaning B.sort o (es ++ next_entry result.0 ∷ []) self.new }
+        requires called { MayBeCalled B.Resource self.old }
+        ensures leads { (o : EngineState R B) (es : List TurnEntry) → AreOf R.Rack B.Resource o es self.old
+            → AreOf R.Rack B.Resource o (es ++ next_entry result.0 ∷ []) self.new }
         ensures given { IsGivenBy self.new.engine.core result.0 }
         ensures flushes { is_flush result.0 ≡ (waited && self.old.due) }
         ensures told { (result.1 ≡ self.new.due) × (result.2 ≡ self.new.starved) }
@@ -53,11 +53,11 @@ impl<R: Rack + Drop, B: Resource> SharedEngine<R, B> {
 
     /// Queues a piece that this engine handed out, by what came of its work; a closed engine says so.
     pub fn hand_in(&mut self, piece: Piece, answer: Answer) -> Queue
-        requires called { MayBeCalled B.meaning B.sort self.old }
+        requires called { MayBeCalled B.Resource self.old }
         requires handed { IsHandedAs self.old.engine.core piece }
         requires end { piece.piece.work ≡ End → answer ≡ Answer.Done }
-        ensures leads { (o : EngineState R B) (es : List TurnEntry) → AreOf R.disk R.faults B.meaning B.sort o es self.old
-            → AreOf R.disk R.faults B.meaning B.sort o (es ++ queue_entry piece.piece.number answer result ∷ []) self.new }
+        ensures leads { (o : EngineState R B) (es : List TurnEntry) → AreOf R.Rack B.Resource o es self.old
+            → AreOf R.Rack B.Resource o (es ++ queue_entry piece.piece.number answer result ∷ []) self.new }
         ensures back { HandsBack piece answer result }
         ensures starved { self.new.starved ≡ self.old.starved || lacks_memory result }
     {
@@ -74,10 +74,10 @@ impl<R: Rack + Drop, B: Resource> SharedEngine<R, B> {
     /// Queues a piece whose work is done, and for which the group was full when it was last to be queued. A flush that is due is
     /// made in its place.
     pub fn hand_in_again(&mut self, piece: Piece) -> QueueTurn
-        requires called { MayBeCalled B.meaning B.sort self.old }
+        requires called { MayBeCalled B.Resource self.old }
         requires handed { IsHandedAs self.old.engine.core piece }
-        ensures leads { (o : EngineState R B) (es : List TurnEntry) → AreOf R.disk R.faults B.meaning B.sort o es self.old
-            → AreOf R.disk R.faults B.meaning B.sort o (es ++ queue_entry_again piece.piece.number result ∷ []) self.new }
+        ensures leads { (o : EngineState R B) (es : List TurnEntry) → AreOf R.Rack B.Resource o es self.old
+            → AreOf R.Rack B.Resource o (es ++ queue_entry_again piece.piece.number result ∷ []) self.new }
         ensures back { HandsBackAgain piece result }
         ensures flushes { flushes_first result ≡ self.old.due }
         ensures starved { self.new.starved ≡ self.old.starved || lacks_memory_again result }
@@ -90,9 +90,9 @@ impl<R: Rack + Drop, B: Resource> SharedEngine<R, B> {
 
     // A request for any piece.
     fn next(&mut self) -> Result<Next, Closed>
-        requires called { MayBeCalled B.meaning B.sort self.old }
-        ensures leads { (o : EngineState R B) (es : List TurnEntry) → AreOf R.disk R.faults B.meaning B.sort o es self.old
-            → AreOf R.disk R.faults B.meaning B.sort o (es ++ entry.Next (next_said result) ∷ []) self.new }
+        requires called { MayBeCalled B.Resource self.old }
+        ensures leads { (o : EngineState R B) (es : List TurnEntry) → AreOf R.Rack B.Resource o es self.old
+            → AreOf R.Rack B.Resource o (es ++ entry.Next (next_said result) ∷ []) self.new }
         ensures given { IfOk result (IsGiven self.new.engine.core) }
         ensures starved { self.new.starved ≡ self.old.starved }
     {
@@ -108,10 +108,10 @@ impl<R: Rack + Drop, B: Resource> SharedEngine<R, B> {
 
     // The queued pieces take effect; it is no more due.
     fn flush(&mut self) -> Flush
-        requires called { MayBeCalled B.meaning B.sort self.old }
+        requires called { MayBeCalled B.Resource self.old }
         requires due { self.old.due ≡ true }
-        ensures leads { (o : EngineState R B) (es : List TurnEntry) → AreOf R.disk R.faults B.meaning B.sort o es self.old
-            → AreOf R.disk R.faults B.meaning B.sort o (es ++ entry.Flush (flush_said result) ∷ []) self.new }
+        ensures leads { (o : EngineState R B) (es : List TurnEntry) → AreOf R.Rack B.Resource o es self.old
+            → AreOf R.Rack B.Resource o (es ++ entry.Flush (flush_said result) ∷ []) self.new }
         ensures starved { self.new.starved ≡ self.old.starved }
     {
         self.engine.invariant_holds();
@@ -154,7 +154,7 @@ fn finds_no_memory(reply: &Queue) -> bool
 impl<R: Rack + Drop, B: Resource> Held for SharedEngine<R, B> {
     type Entry = TurnEntry;
 
-    ghost stands_for = { λ opening entries now. StandsFor R.disk R.faults B.meaning B.sort opening entries now };
+    ghost stands_for = { λ opening entries now. StandsFor R.Rack B.Resource opening entries now };
 
-    ghost opens = { λ x. opens R.disk R.faults B.meaning B.sort x };
+    ghost opens = { λ x. opens R.Rack B.Resource x };
 }

@@ -54,10 +54,10 @@ pub fn ask<H: Wait, R: Rack + Drop, B: Resource>(
     waited: bool,
 ) -> (Seat<SharedEngine<R, B>>, NextTurn, Pause)
     requires desk { IsOf desk.now seat }
-    requires opened { HasOpened R.disk B.meaning B.sort (knowledge seat) }
+    requires opened { HasOpened R.disk B.Resource (knowledge seat) }
     ensures desk { IsOf desk.now result.0 }
     ensures turn { HasAdded (next_entry result.1) (knowledge seat) (knowledge result.0) }
-    ensures given { (o : SharedEngine R B) → opening seat ≡ Some o → IsOpening R.disk B.meaning B.sort o
+    ensures given { (o : SharedEngine R B) → opening seat ≡ Some o → IsOpening R.disk B.Resource o
         → IsGivenBy (core_at o.engine (seen result.0)) result.1 }
 {
     let mut turn = desk.turn(rt, seat);
@@ -83,7 +83,7 @@ pub fn hand_in<H: Wait, R: Rack + Drop, B: Resource>(
     answer: Answer,
 ) -> (Seat<SharedEngine<R, B>>, Queue)
     requires desk { IsOf desk.now seat }
-    requires opened { HasOpened R.disk B.meaning B.sort (knowledge seat) }
+    requires opened { HasOpened R.disk B.Resource (knowledge seat) }
     requires handed { (o : SharedEngine R B) → opening seat ≡ Some o → IsHandedAs (core_at o.engine (seen seat)) piece }
     requires end { piece.piece.work ≡ End → answer ≡ Answer.Done }
     ensures desk { IsOf desk.now result.0 }
@@ -107,7 +107,7 @@ pub fn hand_in_again<H: Wait, R: Rack + Drop, B: Resource>(
     piece: Piece,
 ) -> (Seat<SharedEngine<R, B>>, QueueTurn)
     requires desk { IsOf desk.now seat }
-    requires opened { HasOpened R.disk B.meaning B.sort (knowledge seat) }
+    requires opened { HasOpened R.disk B.Resource (knowledge seat) }
     requires handed { (o : SharedEngine R B) → opening seat ≡ Some o → IsHandedAs (core_at o.engine (seen seat)) piece }
     ensures desk { IsOf desk.now result.0 }
     ensures turn { HasAdded (queue_entry_again piece.piece.number result.1) (knowledge seat) (knowledge result.0) }

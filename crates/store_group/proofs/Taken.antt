@@ -7,8 +7,7 @@ use Rattle.process_disk.specs.Images.{EachImage, RunBy}
 use Rattle.process_disk.proofs.Images.{run_so}
 use Rattle.gate_log.specs.Standing.{LogState, Logs, StandsFor, IsLast}
 use Rattle.gate_log.specs.Staging.{LogsBeforeOrWithAll, with_staged}
-use Rattle.resource_box.specs.declared.call.Kind.{Kind}
-use Rattle.resource_box.specs.Meaning.{Pairs}
+use Rattle.resource_box.specs.declared.resource.Resource.{Ghosts as Resources}
 use Rattle.subsystem_store.specs.declared.effect.Effect.{Effect}
 use Rattle.subsystem_store.specs.Bodies.{prepared_bytes, committed_bytes, store_bodies}
 use Rattle.subsystem_store.specs.Order.{may_follow}
@@ -91,8 +90,8 @@ stands_staged {B} more s t disk is stands =
     })
 
 -- its box fits its book,
-pub fits_staged : {B : Type 0} (meaning : B → Pairs) (sort : B → Kind) (more : List (List ℕ)) (s t : Opened B) → Stages more s t → Fits meaning sort (account_of s) → Fits meaning sort (account_of t)
-fits_staged meaning sort more s t is fits = subst (Fits meaning sort) (sym is.account) fits
+pub fits_staged : {B : Type 0} (box : Resources B) (more : List (List ℕ)) (s t : Opened B) → Stages more s t → Fits box (account_of s) → Fits box (account_of t)
+fits_staged box more s t is fits = subst (Fits box) (sym is.account) fits
 
 -- and a set has it as before or with the record
 pub either_staged : {B : Type 0} (more : List (List ℕ)) (s t : Opened B) (book : List Effect) (doubt : Option Effect) (files : FileSet) → Stages more s t → store_bodies s.book s.doubt ++ more ≡ store_bodies book doubt → IsBeforeOrWith t files
@@ -252,8 +251,8 @@ module _ {B : Type 0} (old mid : List (Opened B)) (same : BecomeEach (λ q s t. 
   order_unchanged order = of_became _ (λ q t. t.log.file ≡ q + 1) old mid same (λ q s t at by. by.file ∙ order q s at)
 
   -- their boxes fit,
-  pub fits_unchanged : (meaning : B → Pairs) (sort : B → Kind) → OfEach (λ s. Fits meaning sort (account_of s)) old → OfEach (λ s. Fits meaning sort (account_of s)) mid
-  fits_unchanged meaning sort fits = of_became _ (λ q t. Fits meaning sort (account_of t)) old mid same (λ q s t at by. subst (Fits meaning sort) (sym by.account) (fits q s at))
+  pub fits_unchanged : (box : Resources B) → OfEach (λ s. Fits box (account_of s)) old → OfEach (λ s. Fits box (account_of s)) mid
+  fits_unchanged box fits = of_became _ (λ q t. Fits box (account_of t)) old mid same (λ q s t at by. subst (Fits box) (sym by.account) (fits q s at))
 
   -- and a run on them is one on those of before.
   pub run_unchanged : (start now : Disk) → RunBy (SameButStores mid) start now → RunBy (SameButStores old) start now

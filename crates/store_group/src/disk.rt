@@ -20,7 +20,7 @@ fn write_one<R: Rack, B: Resource>(store: &Store<B>, rack: &mut R) -> Result<(),
     ensures any_moment { Told (R.disk rack.old) → EachImage (R.disk rack.new) (R.disk rack.old).moment
         (IsStoreOf store.now.log.file store.now.book store.now.doubt) }
     ensures others { Told (R.disk rack.old) → OthersAsBefore store.now.log.file (R.disk rack.old) (R.disk rack.new) }
-    ensures rack { LeavesRack R.disk R.faults rack.old rack.new (IsErr result) }
+    ensures rack { LeavesRack R.Rack rack.old rack.new (IsErr result) }
 {
     if store.has_staged() {
         store.write_staged(rack)
@@ -35,7 +35,7 @@ fn open_one<R: Rack, B: Resource>(store: &Store<B>, rack: &mut R) -> Result<(), 
     ensures open { Told (R.disk rack.old) → OnOk result (IsOpenAt store.now (R.disk rack.new)) }
     ensures any_moment { Told (R.disk rack.old) → EachImage (R.disk rack.new) (R.disk rack.old).moment (IsBeforeOrWith store.now) }
     ensures others { Told (R.disk rack.old) → OthersAsBefore store.now.log.file (R.disk rack.old) (R.disk rack.new) }
-    ensures rack { LeavesRack R.disk R.faults rack.old rack.new (IsErr result) }
+    ensures rack { LeavesRack R.Rack rack.old rack.new (IsErr result) }
 {
     if store.has_staged() {
         store.open_gate(rack)
@@ -52,7 +52,7 @@ fn write_each<R: Rack, B: Resource>(stores: &[Store<B>], rack: &mut R) -> Result
     ensures any_moment { Told (R.disk rack.old)
         → EachImage (R.disk rack.new) (R.disk rack.old).moment (AreAsBefore stores.now) }
     ensures others { Told (R.disk rack.old) → RunBy (SameButStores stores.now) (R.disk rack.old) (R.disk rack.new) }
-    ensures rack { LeavesRack R.disk R.faults rack.old rack.new (IsErr result) }
+    ensures rack { LeavesRack R.Rack rack.old rack.new (IsErr result) }
 {
     let mut place = 0;
     while let Some(store) = stores.get(place) {
@@ -70,7 +70,7 @@ fn open_each<R: Rack, B: Resource>(stores: &[Store<B>], rack: &mut R) -> Result<
     ensures any_moment { Told (R.disk rack.old)
         → EachImage (R.disk rack.new) (R.disk rack.old).moment (AreBeforeOrWith stores.now) }
     ensures others { Told (R.disk rack.old) → RunBy (SameButStores stores.now) (R.disk rack.old) (R.disk rack.new) }
-    ensures rack { LeavesRack R.disk R.faults rack.old rack.new (IsErr result) }
+    ensures rack { LeavesRack R.Rack rack.old rack.new (IsErr result) }
 {
     let mut place = 0;
     while let Some(store) = stores.get(place) {
@@ -91,7 +91,7 @@ fn put_behind_gates<R: Rack, B: Resource>(
     ensures any_moment { Told (R.disk rack.old)
         → EachImage (R.disk rack.new) (R.disk rack.old).moment (AreAsBefore stores.now) }
     ensures others { Told (R.disk rack.old) → RunBy (SameButStores stores.now) (R.disk rack.old) (R.disk rack.new) }
-    ensures rack { LeavesRack R.disk R.faults rack.old rack.new (IsErr result) }
+    ensures rack { LeavesRack R.Rack rack.old rack.new (IsErr result) }
 {
     write_each(stores, rack)?;
     sync(rack)
@@ -105,7 +105,7 @@ fn open_on_disk<R: Rack, B: Resource>(stores: &[Store<B>], rack: &mut R) -> Resu
     ensures any_moment { Told (R.disk rack.old)
         → EachImage (R.disk rack.new) (R.disk rack.old).moment (AreBeforeOrWith stores.now) }
     ensures others { Told (R.disk rack.old) → RunBy (SameButStores stores.now) (R.disk rack.old) (R.disk rack.new) }
-    ensures rack { LeavesRack R.disk R.faults rack.old rack.new (IsErr result) }
+    ensures rack { LeavesRack R.Rack rack.old rack.new (IsErr result) }
 {
     open_each(stores, rack)?;
     sync(rack)
@@ -120,7 +120,7 @@ pub fn put_on_disk<R: Rack, B: Resource>(stores: &[Store<B>], rack: &mut R) -> R
     ensures any_moment { Told (R.disk rack.old)
         → EachImage (R.disk rack.new) (R.disk rack.old).moment (AreBeforeOrWith stores.now) }
     ensures others { Told (R.disk rack.old) → RunBy (SameButStores stores.now) (R.disk rack.old) (R.disk rack.new) }
-    ensures rack { LeavesRack R.disk R.faults rack.old rack.new (IsErr result) }
+    ensures rack { LeavesRack R.Rack rack.old rack.new (IsErr result) }
 {
     put_behind_gates(stores, rack)?;
     open_on_disk(stores, rack)

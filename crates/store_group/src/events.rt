@@ -39,9 +39,9 @@ fn stage_effect<B: Resource>(store: &mut Store<B>, effect: Option<Effect>)
 // Takes a staged effect, if there is one.
 fn take_effect<B: Resource>(store: &mut Store<B>, effect: Option<Effect>)
     requires may { IfSome effect (MayTake store.old) }
-    requires fits { Fits B.meaning B.sort (account_of store.old) }
+    requires fits { Fits B.Resource (account_of store.old) }
     ensures takes { TakesEffect effect store.old store.new }
-    ensures fits { Fits B.meaning B.sort (account_of store.new) }
+    ensures fits { Fits B.Resource (account_of store.new) }
 {
     if let Some(effect) = effect {
         store.take_prepared(effect);
@@ -62,9 +62,9 @@ fn stage_commit<B: Resource>(store: &mut Store<B>)
 // Takes the staged commit of what is in doubt, if anything is.
 fn take_commit<B: Resource>(store: &mut Store<B>)
     requires may { MayTakeCommit store.old }
-    requires fits { Fits B.meaning B.sort (account_of store.old) }
+    requires fits { Fits B.Resource (account_of store.old) }
     ensures takes { TakesCommit store.old store.new }
-    ensures fits { Fits B.meaning B.sort (account_of store.new) }
+    ensures fits { Fits B.Resource (account_of store.new) }
 {
     if store.in_doubt().is_some() {
         store.take_committed();
@@ -86,9 +86,9 @@ fn stage_effects<B: Resource>(stores: &mut Vec<Store<B>>, effects: &[Option<Effe
 // Takes the staged effect at each place in the store there.
 fn take_effects<B: Resource>(stores: &mut Vec<Store<B>>, effects: &[Option<Effect>])
     requires may { MayTakeEach effects.now stores.old.items }
-    requires fits { OfEach (λ s. Fits B.meaning B.sort (account_of s)) stores.old.items }
+    requires fits { OfEach (λ s. Fits B.Resource (account_of s)) stores.old.items }
     ensures takes { BecomeEach (λ q s t. TakesEffect (effect_for effects.now q) s t) stores.old.items stores.new.items }
-    ensures fits { OfEach (λ s. Fits B.meaning B.sort (account_of s)) stores.new.items }
+    ensures fits { OfEach (λ s. Fits B.Resource (account_of s)) stores.new.items }
 {
     let mut place = 0;
     while place < stores.len() {
@@ -111,9 +111,9 @@ fn stage_commits<B: Resource>(stores: &mut Vec<Store<B>>)
 // Takes the staged commit in each store.
 fn take_commits<B: Resource>(stores: &mut Vec<Store<B>>)
     requires may { OfEach MayTakeCommit stores.old.items }
-    requires fits { OfEach (λ s. Fits B.meaning B.sort (account_of s)) stores.old.items }
+    requires fits { OfEach (λ s. Fits B.Resource (account_of s)) stores.old.items }
     ensures takes { BecomeEach (λ q s t. TakesCommit s t) stores.old.items stores.new.items }
-    ensures fits { OfEach (λ s. Fits B.meaning B.sort (account_of s)) stores.new.items }
+    ensures fits { OfEach (λ s. Fits B.Resource (account_of s)) stores.new.items }
 {
     let mut place = 0;
     while place < stores.len() {
@@ -131,7 +131,7 @@ pub fn prepare_each<R: Rack, B: Resource>(
 ) -> Result<(), DiskFault>
     requires order { AreInOrder stores.old.items }
     requires may { MayPrepareEach effects.now stores.old.items }
-    requires fits { OfEach (λ s. Fits B.meaning B.sort (account_of s)) stores.old.items }
+    requires fits { OfEach (λ s. Fits B.Resource (account_of s)) stores.old.items }
     requires stand { Told (R.disk rack.old) → AllStand stores.old.items (R.disk rack.old) }
     ensures acknowledged { Told (R.disk rack.old) → OnOk result (AllStand stores.new.items (R.disk rack.new)) }
     ensures any_moment { Told (R.disk rack.old)
@@ -139,8 +139,8 @@ pub fn prepare_each<R: Rack, B: Resource>(
     ensures others { Told (R.disk rack.old) → RunBy (SameButStores stores.old.items) (R.disk rack.old) (R.disk rack.new) }
     ensures ok { OnOk result (BecomeEach (λ q s t. IsPrepared (effect_for effects.now q) s t) stores.old.items stores.new.items) }
     ensures err { OnErr result (BecomeEach (λ q s t. IsUnchanged s t) stores.old.items stores.new.items) }
-    ensures fits { OfEach (λ s. Fits B.meaning B.sort (account_of s)) stores.new.items }
-    ensures rack { LeavesRack R.disk R.faults rack.old rack.new (IsErr result) }
+    ensures fits { OfEach (λ s. Fits B.Resource (account_of s)) stores.new.items }
+    ensures rack { LeavesRack R.Rack rack.old rack.new (IsErr result) }
 {
     stage_effects(stores, effects);
     put_on_disk(stores, rack)?;
@@ -155,7 +155,7 @@ pub fn commit_each<R: Rack, B: Resource>(
     rack: &mut R,
 ) -> Result<(), DiskFault>
     requires order { AreInOrder stores.old.items }
-    requires fits { OfEach (λ s. Fits B.meaning B.sort (account_of s)) stores.old.items }
+    requires fits { OfEach (λ s. Fits B.Resource (account_of s)) stores.old.items }
     requires stand { Told (R.disk rack.old) → AllStand stores.old.items (R.disk rack.old) }
     ensures acknowledged { Told (R.disk rack.old) → OnOk result (AllStand stores.new.items (R.disk rack.new)) }
     ensures any_moment { Told (R.disk rack.old)
@@ -163,8 +163,8 @@ pub fn commit_each<R: Rack, B: Resource>(
     ensures others { Told (R.disk rack.old) → RunBy (SameButStores stores.old.items) (R.disk rack.old) (R.disk rack.new) }
     ensures ok { OnOk result (BecomeEach (λ q s t. IsCommitted s t) stores.old.items stores.new.items) }
     ensures err { OnErr result (BecomeEach (λ q s t. IsUnchanged s t) stores.old.items stores.new.items) }
-    ensures fits { OfEach (λ s. Fits B.meaning B.sort (account_of s)) stores.new.items }
-    ensures rack { LeavesRack R.disk R.faults rack.old rack.new (IsErr result) }
+    ensures fits { OfEach (λ s. Fits B.Resource (account_of s)) stores.new.items }
+    ensures rack { LeavesRack R.Rack rack.old rack.new (IsErr result) }
 {
     stage_commits(stores);
     put_on_disk(stores, rack)?;

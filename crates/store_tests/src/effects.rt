@@ -63,7 +63,7 @@ fn committed<R: Rack, B: Resource>(
     requires forward { effect.undo ≡ false }
     requires amount { is_amount effect.call.amount ≡ true }
     ensures stands { Told (R.disk rack.new) → IfOk result (λ store. Stands store (R.disk rack.new)) }
-    ensures fits { IfOk result (λ store. Fits B.meaning B.sort (account_of store)) }
+    ensures fits { IfOk result (λ store. Fits B.Resource (account_of store)) }
     ensures book { IfOk result (λ store. store.book ≡ effect ∷ []) }
     ensures doubt { IfOk result (λ store. store.doubt ≡ None) }
 {
@@ -113,9 +113,9 @@ fn roll_back<R: Rack, B: Resource>(
     requires few { length store.old.book < 16384 }
     requires follows { may_follow store.old.kind store.old.book effect ≡ true }
     requires amount { is_amount effect.call.amount ≡ true }
-    requires fits { Fits B.meaning B.sort (account_of store.old) }
+    requires fits { Fits B.Resource (account_of store.old) }
     requires stands { Told (R.disk rack.old) → Stands store.old (R.disk rack.old) }
-    ensures { Fits B.meaning B.sort (account_of store.new) }
+    ensures { Fits B.Resource (account_of store.new) }
 {
     let Prepare::Prepared = store.prepare(rack, effect) else {
         return Err("not prepared".into());

@@ -4,8 +4,9 @@ use Rattle.std.proofs.Common.{◌≡◌, inl, inr, ℕ, ℤ, Bool, true, false, 
 use Rattle.std.proofs.lemmas.List.Elements.{All-weaker, All-push, All-same, All-head, All-tail, All-cons, All-nil}
 use Rattle.std.proofs.lemmas.List.Sums.{fold_push}
 use Rattle.std.proofs.lemmas.Bool.{cases_eq, eqb-true}
+use Rattle.resource_box.specs.declared.resource.Resource.{Ghosts as Resources}
 use Rattle.resource_box.specs.declared.call.Kind.{Kind}
-use Rattle.resource_box.specs.Meaning.{Pairs, value_at, has_key, with_value}
+use Rattle.resource_box.specs.Meaning.{value_at, has_key, with_value}
 use Rattle.resource_box.proofs.Maps.{reads_what_was_set, keeps_other_keys, has_still}
 use Rattle.subsystem_store.specs.declared.effect.Effect.{Effect}
 use Rattle.resource_box.specs.Table.{applied, reverted}
@@ -15,15 +16,15 @@ use Rattle.subsystem_store.specs.Order.{may_follow}
 use Rattle.subsystem_store.specs.Opened.{Account, Fits}
 
 -- A box of the same values fits the same book, where no pair went.
-pub fits_still : {B : Type 0} (meaning : B → Pairs) (sort : B → Kind) (a new : Account B) → Fits meaning sort a → new.kind ≡ a.kind → new.book ≡ a.book → sort new.resource ≡ sort a.resource
-    → ((key : ℕ) → value_at (meaning new.resource).items key ≡ value_at (meaning a.resource).items key)
-    → ((key : ℕ) → has_key (meaning a.resource).items key ≡ true → has_key (meaning new.resource).items key ≡ true)
-    → IfSome new.doubt (λ (e : Effect). IsTrue (has_key (meaning new.resource).items e.call.key)) → IfSome new.ready (λ (key : ℕ). IsTrue (has_key (meaning new.resource).items key)) → Fits meaning sort new
-fits_still meaning sort a new fits kind book sorts same keeps doubt room = record {
+pub fits_still : {B : Type 0} (box : Resources B) (a new : Account B) → Fits box a → new.kind ≡ a.kind → new.book ≡ a.book → box.sort new.resource ≡ box.sort a.resource
+    → ((key : ℕ) → value_at (box.meaning new.resource).items key ≡ value_at (box.meaning a.resource).items key)
+    → ((key : ℕ) → has_key (box.meaning a.resource).items key ≡ true → has_key (box.meaning new.resource).items key ≡ true)
+    → IfSome new.doubt (λ (e : Effect). IsTrue (has_key (box.meaning new.resource).items e.call.key)) → IfSome new.ready (λ (key : ℕ). IsTrue (has_key (box.meaning new.resource).items key)) → Fits box new
+fits_still box a new fits kind book sorts same keeps doubt room = record {
   kind = sorts ∙ fits.kind ∙ sym kind;
   values = λ key. same key ∙ fits.values key ∙ ap (λ (v : List (ℕ × ℤ)). value_at v key) (ap (λ k. values k a.book) (sym kind) ∙ ap (values new.kind) (sym book));
-  ready = All-same (λ (e : Effect). has_key (meaning new.resource).items e.call.key ≡ true) new.book a.book book
-      (All-weaker (λ (e : Effect). has_key (meaning a.resource).items e.call.key ≡ true) (λ (e : Effect). has_key (meaning new.resource).items e.call.key ≡ true) (λ e has. keeps e.call.key has) a.book fits.ready);
+  ready = All-same (λ (e : Effect). has_key (box.meaning new.resource).items e.call.key ≡ true) new.book a.book book
+      (All-weaker (λ (e : Effect). has_key (box.meaning a.resource).items e.call.key ≡ true) (λ (e : Effect). has_key (box.meaning new.resource).items e.call.key ≡ true) (λ e has. keeps e.call.key has) a.book fits.ready);
   doubt_ready = doubt;
   room = room;
 }
@@ -86,16 +87,16 @@ has_settled kind s e key had = by e.undo (take_last e s.undoable)
     by false o = has_still s.pairs e.call.key key _ had
 
 -- A box that fits, after an effect of which it has the key.
-pub fits_after : {B : Type 0} (meaning : B → Pairs) (sort : B → Kind) (a new : Account B) (us : List Undoable) (e : Effect) → Fits meaning sort a → us ≡ (settled a.kind a.book).undoable
-    → new.kind ≡ a.kind → new.book ≡ a.book ++ e ∷ [] → new.doubt ≡ None → new.ready ≡ a.ready → sort new.resource ≡ sort a.resource → has_key (meaning a.resource).items e.call.key ≡ true
-    → (meaning new.resource).items ≡ (settle (sort a.resource) (beside (meaning a.resource).items us) e).pairs → Fits meaning sort new
-fits_after {B} meaning sort a new us e fits undoable kind book doubt ready sorts has changed =
-    let old = beside (meaning a.resource).items us in
+pub fits_after : {B : Type 0} (box : Resources B) (a new : Account B) (us : List Undoable) (e : Effect) → Fits box a → us ≡ (settled a.kind a.book).undoable
+    → new.kind ≡ a.kind → new.book ≡ a.book ++ e ∷ [] → new.doubt ≡ None → new.ready ≡ a.ready → box.sort new.resource ≡ box.sort a.resource → has_key (box.meaning a.resource).items e.call.key ≡ true
+    → (box.meaning new.resource).items ≡ (settle (box.sort a.resource) (beside (box.meaning a.resource).items us) e).pairs → Fits box new
+fits_after {B} box a new us e fits undoable kind book doubt ready sorts has changed =
+    let old = beside (box.meaning a.resource).items us in
     let alike : Alike old (settled a.kind a.book) = record { undoable = undoable; values = fits.values } in
-    let of_kind : (meaning new.resource).items ≡ (settle a.kind old e).pairs = subst (λ k. (meaning new.resource).items ≡ (settle k old e).pairs) fits.kind changed in
-    let keeps : (key : ℕ) → has_key (meaning a.resource).items key ≡ true → has_key (meaning new.resource).items key ≡ true = λ key had. ap (λ (ps : List (ℕ × ℤ)). has_key ps key) of_kind ∙ has_settled a.kind old e key had in
-    let Has : Effect → Type 0 = λ f. has_key (meaning new.resource).items f.call.key ≡ true in
-    let Had : Effect → Type 0 = λ f. has_key (meaning a.resource).items f.call.key ≡ true in
+    let of_kind : (box.meaning new.resource).items ≡ (settle a.kind old e).pairs = subst (λ k. (box.meaning new.resource).items ≡ (settle k old e).pairs) fits.kind changed in
+    let keeps : (key : ℕ) → has_key (box.meaning a.resource).items key ≡ true → has_key (box.meaning new.resource).items key ≡ true = λ key had. ap (λ (ps : List (ℕ × ℤ)). has_key ps key) of_kind ∙ has_settled a.kind old e key had in
+    let Has : Effect → Type 0 = λ f. has_key (box.meaning new.resource).items f.call.key ≡ true in
+    let Had : Effect → Type 0 = λ f. has_key (box.meaning a.resource).items f.call.key ≡ true in
     let after = settle_alike a.kind old (settled a.kind a.book) e alike in
     let all : values new.kind new.book ≡ (settle a.kind (settled a.kind a.book) e).pairs = ap (λ k. values k new.book) kind ∙ ap (values a.kind) book ∙ ap (λ (s : Settled). s.pairs) (settled-push a.kind a.book e) in
     record {
@@ -103,15 +104,15 @@ fits_after {B} meaning sort a new us e fits undoable kind book doubt ready sorts
       values = λ key. ap (λ (ps : List (ℕ × ℤ)). value_at ps key) of_kind ∙ after.values key ∙ sym (ap (λ (ps : List (ℕ × ℤ)). value_at ps key) all);
       ready = All-same Has new.book (a.book ++ e ∷ []) book (All-push Has a.book e (All-weaker Had Has (λ f had. keeps f.call.key had) a.book fits.ready) (keeps e.call.key has));
       doubt_ready = subst (λ (o : Option Effect). IfSome o Has) (sym doubt) tt;
-      room = subst (λ (o : Option ℕ). IfSome o (λ key. has_key (meaning new.resource).items key ≡ true)) (sym ready)
-          (room_kept (λ key. has_key (meaning a.resource).items key ≡ true) (λ key. has_key (meaning new.resource).items key ≡ true) a.ready keeps fits.room);
+      room = subst (λ (o : Option ℕ). IfSome o (λ key. has_key (box.meaning new.resource).items key ≡ true)) (sym ready)
+          (room_kept (λ key. has_key (box.meaning a.resource).items key ≡ true) (λ key. has_key (box.meaning new.resource).items key ≡ true) a.ready keeps fits.room);
     }
 
 -- and what may be undone after it
-pub undoable_after : {B : Type 0} (meaning : B → Pairs) (sort : B → Kind) (a : Account B) (us : List Undoable) (e : Effect) → Fits meaning sort a → us ≡ (settled a.kind a.book).undoable
-    → (settle (sort a.resource) (beside (meaning a.resource).items us) e).undoable ≡ (settled a.kind (a.book ++ e ∷ [])).undoable
-undoable_after meaning sort a us e fits undoable =
-    let old = beside (meaning a.resource).items us in
+pub undoable_after : {B : Type 0} (box : Resources B) (a : Account B) (us : List Undoable) (e : Effect) → Fits box a → us ≡ (settled a.kind a.book).undoable
+    → (settle (box.sort a.resource) (beside (box.meaning a.resource).items us) e).undoable ≡ (settled a.kind (a.book ++ e ∷ [])).undoable
+undoable_after box a us e fits undoable =
+    let old = beside (box.meaning a.resource).items us in
     let alike : Alike old (settled a.kind a.book) = record { undoable = undoable; values = fits.values } in
     ap (λ k. (settle k old e).undoable) fits.kind ∙ (settle_alike a.kind old (settled a.kind a.book) e alike).undoable ∙ sym (ap (λ (s : Settled). s.undoable) (settled-push a.kind a.book e))
 
@@ -173,9 +174,9 @@ undoable_has P kind s (e ∷ book) so_far all = undoable_has P kind (settle kind
     by false o is = All-push Of s.undoable _ so_far (All-head P e book all)
 
 -- A box that fits has the key of each undo that may come.
-pub key_of_undo : {B : Type 0} (meaning : B → Pairs) (sort : B → Kind) (a : Account B) (undo : Effect) → Fits meaning sort a → can_undo a.kind a.book undo ≡ true → has_key (meaning a.resource).items undo.call.key ≡ true
-key_of_undo meaning sort a undo fits can =
-    let Has : ℕ → Type 0 = λ key. has_key (meaning a.resource).items key ≡ true in
+pub key_of_undo : {B : Type 0} (box : Resources B) (a : Account B) (undo : Effect) → Fits box a → can_undo a.kind a.book undo ≡ true → has_key (box.meaning a.resource).items undo.call.key ≡ true
+key_of_undo box a undo fits can =
+    let Has : ℕ → Type 0 = λ key. has_key (box.meaning a.resource).items key ≡ true in
     let Of : Effect → Type 0 = λ e. Has e.call.key in
     key_of_taken Has undo (settled a.kind a.book).undoable can (undoable_has Of a.kind unused a.book (All-nil (λ (u : Undoable). Of u.effect)) fits.ready)
 

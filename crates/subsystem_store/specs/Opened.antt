@@ -2,8 +2,9 @@
 use Rattle.std.specs.Prelude.{◌≡◌, ◌⊎◌, ℕ, List, Option, IfSome, IsTrue, All}
 use Rattle.process_disk.specs.Disk.{Disk, FileSet}
 use Rattle.gate_log.specs.Standing.{LogState, Logs, StandsFor}
+use Rattle.resource_box.specs.declared.resource.Resource.{Ghosts as Resources}
 use Rattle.resource_box.specs.declared.call.Kind.{Kind}
-use Rattle.resource_box.specs.Meaning.{Pairs, value_at, has_key}
+use Rattle.resource_box.specs.Meaning.{value_at, has_key}
 use Rattle.subsystem_store.specs.declared.effect.Effect.{Effect}
 use Rattle.subsystem_store.specs.Values.{values}
 use Rattle.subsystem_store.specs.Bodies.{store_bodies}
@@ -19,12 +20,12 @@ pub record Account (B : Type 0) : Type 0 where
   pub ready : Option ℕ
 
 -- The box has the kind and the values of the book, and a pair of each key at which an effect may still be applied or undone.
-pub record Fits {B : Type 0} (meaning : B → Pairs) (sort : B → Kind) (a : Account B) : Type 0 where
-  pub kind : sort a.resource ≡ a.kind
-  pub values : (key : ℕ) → value_at (meaning a.resource).items key ≡ value_at (values a.kind a.book) key
-  pub ready : All (λ (e : Effect). IsTrue (has_key (meaning a.resource).items e.call.key)) a.book
-  pub doubt_ready : IfSome a.doubt (λ (e : Effect). IsTrue (has_key (meaning a.resource).items e.call.key))
-  pub room : IfSome a.ready (λ (key : ℕ). IsTrue (has_key (meaning a.resource).items key))
+pub record Fits {B : Type 0} (box : Resources B) (a : Account B) : Type 0 where
+  pub kind : box.sort a.resource ≡ a.kind
+  pub values : (key : ℕ) → value_at (box.meaning a.resource).items key ≡ value_at (values a.kind a.book) key
+  pub ready : All (λ (e : Effect). IsTrue (has_key (box.meaning a.resource).items e.call.key)) a.book
+  pub doubt_ready : IfSome a.doubt (λ (e : Effect). IsTrue (has_key (box.meaning a.resource).items e.call.key))
+  pub room : IfSome a.ready (λ (key : ℕ). IsTrue (has_key (box.meaning a.resource).items key))
 
 -- the book of an account, with what is in doubt
 abbrev pub book_of : {B : Type 0} → Account B → Book

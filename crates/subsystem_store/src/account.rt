@@ -53,7 +53,7 @@ impl<B: Drop> Model for Account<B> {
 impl<B: Resource> Account<B> {
     /// Clears the box, beside an empty book.
     pub fn new(alloc: Global, resource: B) -> Self
-        ensures fits { Fits B.meaning B.sort result }
+        ensures fits { Fits B.Resource result }
         ensures kind { result.kind ≡ B.sort resource }
         ensures empty { (result.book ≡ []) × (result.doubt ≡ None) }
     {
@@ -79,7 +79,7 @@ impl<B: Resource> Account<B> {
 
     /// The value at a key.
     pub fn look(&self, key: u32) -> i64
-        requires fits { Fits B.meaning B.sort self.now }
+        requires fits { Fits B.Resource self.now }
         ensures { result ≡ value_at (values self.now.kind self.now.book) key }
     {
         self.resource.look(key)
@@ -97,7 +97,7 @@ impl<B: Resource> Account<B> {
 
     /// Whether the values bar a forward effect.
     pub fn bars(&self, effect: &Effect) -> bool
-        requires fits { Fits B.meaning B.sort self.now }
+        requires fits { Fits B.Resource self.now }
         ensures { result ≡ (if effect.now.undo then false
             else bars self.now.kind effect.now.call (value_at (values self.now.kind self.now.book) effect.now.call.key)) }
     {
@@ -106,8 +106,8 @@ impl<B: Resource> Account<B> {
 
     /// Makes room for an effect at a key and for its undo.
     pub fn make_room(&mut self, key: u32) -> Result<(), AllocError>
-        requires fits { Fits B.meaning B.sort self.old }
-        ensures fits { Fits B.meaning B.sort self.new }
+        requires fits { Fits B.Resource self.old }
+        ensures fits { Fits B.Resource self.new }
         ensures same { (self.new.kind ≡ self.old.kind) × (self.new.book ≡ self.old.book) × (self.new.doubt ≡ self.old.doubt) }
         ensures ok { OnOk result (self.new.ready ≡ Some key) }
         ensures err { OnErr result (self.new.ready ≡ self.old.ready) }
@@ -130,10 +130,10 @@ impl<B: Resource> Account<B> {
 
     /// Takes an effect in doubt, with the room that it and its undo need.
     pub fn hold(&mut self, effect: Effect) -> Result<(), AllocError>
-        requires fits { Fits B.meaning B.sort self.old }
+        requires fits { Fits B.Resource self.old }
         requires settled { self.old.doubt ≡ None }
         requires follows { may_follow self.old.kind self.old.book effect ≡ true }
-        ensures fits { Fits B.meaning B.sort self.new }
+        ensures fits { Fits B.Resource self.new }
         ensures same { (self.new.kind ≡ self.old.kind) × (self.new.book ≡ self.old.book) }
         ensures ok { OnOk result (self.new.doubt ≡ Some effect) }
         ensures err { OnErr result (self.new.doubt ≡ None) }
@@ -154,11 +154,11 @@ impl<B: Resource> Account<B> {
 
     /// The same, of an undo or where there is room.
     pub fn hold_ready(&mut self, effect: Effect)
-        requires fits { Fits B.meaning B.sort self.old }
+        requires fits { Fits B.Resource self.old }
         requires settled { self.old.doubt ≡ None }
         requires follows { may_follow self.old.kind self.old.book effect ≡ true }
         requires room { (effect.undo ≡ true) ⊎ (self.old.ready ≡ Some effect.call.key) }
-        ensures fits { Fits B.meaning B.sort self.new }
+        ensures fits { Fits B.Resource self.new }
         ensures same { (self.new.kind ≡ self.old.kind) × (self.new.book ≡ self.old.book) }
         ensures doubt { self.new.doubt ≡ Some effect }
     {
@@ -170,11 +170,11 @@ impl<B: Resource> Account<B> {
 
     // Takes an effect in doubt in the room that is ready for it.
     fn use_room(&mut self, effect: Effect)
-        requires fits { Fits B.meaning B.sort self.old }
+        requires fits { Fits B.Resource self.old }
         requires settled { self.old.doubt ≡ None }
         requires ready { self.old.ready ≡ Some effect.call.key }
         requires forward { effect.undo ≡ false }
-        ensures fits { Fits B.meaning B.sort self.new }
+        ensures fits { Fits B.Resource self.new }
         ensures same { (self.new.kind ≡ self.old.kind) × (self.new.book ≡ self.old.book) × (self.new.resource ≡ self.old.resource) }
         ensures doubt { self.new.doubt ≡ Some effect }
     {
@@ -204,8 +204,8 @@ impl<B: Resource> Account<B> {
 
     /// Forgets what is in doubt.
     pub fn release(&mut self)
-        requires fits { Fits B.meaning B.sort self.old }
-        ensures fits { Fits B.meaning B.sort self.new }
+        requires fits { Fits B.Resource self.old }
+        ensures fits { Fits B.Resource self.new }
         ensures same { (self.new.kind ≡ self.old.kind) × (self.new.book ≡ self.old.book) × (self.new.doubt ≡ None) }
         ensures ready { self.new.ready ≡ self.old.ready }
     {
@@ -214,9 +214,9 @@ impl<B: Resource> Account<B> {
 
     /// Commits what is in doubt.
     pub fn commit(&mut self)
-        requires fits { Fits B.meaning B.sort self.old }
+        requires fits { Fits B.Resource self.old }
         requires doubt { IsSome self.old.doubt }
-        ensures fits { Fits B.meaning B.sort self.new }
+        ensures fits { Fits B.Resource self.new }
         ensures same { self.new.kind ≡ self.old.kind }
         ensures sort { B.sort self.new.resource ≡ B.sort self.old.resource }
         ensures book { IfSome self.old.doubt (λ e. self.new.book ≡ self.old.book ++ e ∷ []) }

@@ -15,11 +15,11 @@ use resource_box::Resource;
 impl<B: Resource> Account<B> {
     /// Takes the records of these bodies, in order.
     pub fn replay(self, bodies: &[Body]) -> Result<Self, StoreRefused<B>>
-        requires fits { Fits B.meaning B.sort self }
+        requires fits { Fits B.Resource self }
         requires few { length bodies.now ≤ 65536 }
         requires unused { (self.book ≡ []) × (self.doubt ≡ None) }
         ensures read { IfOk result (λ a. read_bodies self.kind 1 bodies.now no_book ≡ Ok (book_of a)) }
-        ensures fits { IfOk result (λ a. Fits B.meaning B.sort a) }
+        ensures fits { IfOk result (λ a. Fits B.Resource a) }
         ensures kind { IfOk result (λ a. a.kind ≡ self.kind) }
         ensures bodies { IfOk result (λ a. store_bodies a.book a.doubt ≡ bodies.now) }
         ensures refused { IfErr result
@@ -45,7 +45,7 @@ impl<B: Resource> Account<B> {
 
     /// Takes the record of one body, which is the one of this number.
     fn take(&mut self, number: u32, body: &[u8]) -> Result<(), StoreError>
-        requires fits { Fits B.meaning B.sort self.old }
+        requires fits { Fits B.Resource self.old }
         ensures read { OnOk result
             (after_body self.old.kind number (book_of self.old) (record_of body.now) ≡ Ok (book_of self.new)) }
         ensures bodies { OnOk result
@@ -54,7 +54,7 @@ impl<B: Resource> Account<B> {
             (λ e. RefusedAs (after_body self.old.kind number (book_of self.old) (record_of body.now)) e
             × (e ≢ StoreError.DiskFault)) }
         ensures few { OnOk result (number ≤ 32768) }
-        ensures fits { Fits B.meaning B.sort self.new }
+        ensures fits { Fits B.Resource self.new }
         ensures same { self.new.kind ≡ self.old.kind }
         ensures sort { B.sort self.new.resource ≡ B.sort self.old.resource }
     {
@@ -72,7 +72,7 @@ impl<B: Resource> Account<B> {
     }
 
     fn take_prepared(&mut self, number: u32, effect: Effect) -> Result<(), StoreError>
-        requires fits { Fits B.meaning B.sort self.old }
+        requires fits { Fits B.Resource self.old }
         ensures ok { OnOk result
             ((placed number (after_prepared self.old.kind (book_of self.old) effect) ≡ Ok (book_of self.new))
             × (self.old.doubt ≡ None) × (self.new.doubt ≡ Some effect) × (self.new.book ≡ self.old.book)) }
@@ -80,7 +80,7 @@ impl<B: Resource> Account<B> {
             (λ e. e ≢ StoreError.NoMemory → (e ≡ StoreError.BadBook number)
             × (placed number (after_prepared self.old.kind (book_of self.old) effect) ≡ Err (StoreError.BadBook number))) }
         ensures few { OnOk result (number ≤ 32768) }
-        ensures fits { Fits B.meaning B.sort self.new }
+        ensures fits { Fits B.Resource self.new }
         ensures same { self.new.kind ≡ self.old.kind }
         ensures sort { B.sort self.new.resource ≡ B.sort self.old.resource }
     {
@@ -94,7 +94,7 @@ impl<B: Resource> Account<B> {
     }
 
     fn take_committed(&mut self, number: u32, committed: u32) -> Result<(), StoreError>
-        requires fits { Fits B.meaning B.sort self.old }
+        requires fits { Fits B.Resource self.old }
         ensures ok { OnOk result
             ((placed number (after_committed self.old.book self.old.doubt committed) ≡ Ok (book_of self.new))
             × IfSome self.old.doubt (λ e. (e.number ≡ committed) × (self.new.book ≡ self.old.book ++ e ∷ []))
@@ -103,7 +103,7 @@ impl<B: Resource> Account<B> {
             (λ e. (e ≡ StoreError.BadBook number) ×
             (placed number (after_committed self.old.book self.old.doubt committed) ≡ Err (StoreError.BadBook number))) }
         ensures few { OnOk result (number ≤ 32768) }
-        ensures fits { Fits B.meaning B.sort self.new }
+        ensures fits { Fits B.Resource self.new }
         ensures same { self.new.kind ≡ self.old.kind }
         ensures sort { B.sort self.new.resource ≡ B.sort self.old.resource }
     {

@@ -66,13 +66,13 @@ impl<B: Resource> Store<B> {
         requires file { file < 9 }
         requires empty { Told (R.disk rack.old) → file_of (R.disk rack.old).files file ≡ [] }
         ensures stands { Told (R.disk rack.old) → IfOk result (λ s. Stands s (R.disk rack.new)) }
-        ensures fits { IfOk result (λ s. Fits B.meaning B.sort (account_of s)) }
+        ensures fits { IfOk result (λ s. Fits B.Resource (account_of s)) }
         ensures unused { IfOk result (λ s. (s.log.file ≡ file) × (s.kind ≡ B.sort resource) × (s.book ≡ []) × (s.doubt ≡ None)) }
         ensures cleared { IfErr result (λ r. ((B.meaning r.resource).items ≡ []) × (B.sort r.resource ≡ B.sort resource)) }
         ensures refused { IfErr result
             (λ r. r.why ≢ StoreError.NoMemory → (r.why ≡ StoreError.DiskFault) × Rose (R.faults rack.old) (R.faults rack.new)) }
         ensures others { Told (R.disk rack.old) → OthersAsBefore file (R.disk rack.old) (R.disk rack.new) }
-        ensures rack { LeavesRack R.disk R.faults rack.old rack.new (IsFault result) }
+        ensures rack { LeavesRack R.Rack rack.old rack.new (IsFault result) }
     {
         let account = Account::new(alloc, resource);
         match Log::create(alloc, rack, file) {
@@ -95,12 +95,12 @@ impl<B: Resource> Store<B> {
         ensures answer { Told (R.disk rack.old) → OpensAs
             (read_store (B.sort resource) file (file_of (R.disk rack.old).files file)) result }
         ensures stands { Told (R.disk rack.old) → IfOk result (λ s. Stands s (R.disk rack.new)) }
-        ensures fits { IfOk result (λ s. Fits B.meaning B.sort (account_of s)) }
+        ensures fits { IfOk result (λ s. Fits B.Resource (account_of s)) }
         ensures store { IfOk result (λ s. (s.log.file ≡ file) × (s.kind ≡ B.sort resource)) }
         ensures good { IfOk result (λ s. IsGoodBook s.kind s.book s.doubt) }
         ensures cleared { IfErr result (λ r. ((B.meaning r.resource).items ≡ []) × (B.sort r.resource ≡ B.sort resource)) }
         ensures all { Told (R.disk rack.old) → AllAsBefore (R.disk rack.old) (R.disk rack.new) }
-        ensures rack { LeavesRack R.disk R.faults rack.old rack.new (IsFault result) }
+        ensures rack { LeavesRack R.Rack rack.old rack.new (IsFault result) }
     {
         let account = Account::new(alloc, resource);
         match Log::open(alloc, rack, file) {
@@ -121,19 +121,19 @@ impl<B: Resource> Store<B> {
         requires few { length self.old.book < 16384 }
         requires follows { may_follow self.old.kind self.old.book effect ≡ true }
         requires amount { is_amount effect.call.amount ≡ true }
-        requires fits { Fits B.meaning B.sort (account_of self.old) }
+        requires fits { Fits B.Resource (account_of self.old) }
         requires stands { Told (R.disk rack.old) → Stands self.old (R.disk rack.old) }
         ensures acknowledged { Told (R.disk rack.old) → result ≡ Prepare.Prepared → Stands self.new (R.disk rack.new) }
         ensures any_moment { Told (R.disk rack.old) →
             EachImage (R.disk rack.new) (R.disk rack.old).moment
             (IsStoreOfEither self.old.log.file (self.old.book, None) (self.old.book, Some effect)) }
-        ensures fits { Fits B.meaning B.sort (account_of self.new) }
+        ensures fits { Fits B.Resource (account_of self.new) }
         ensures answer { AnswersPrepare self.old effect result }
         ensures left { IsLeftByPrepare self.old self.new effect result }
         ensures untouched { ((result ≡ Prepare.Barred) ⊎ (result ≡ Prepare.NoMemory))
             → (rack.new ≡ rack.old) × (self.new.log ≡ self.old.log) }
         ensures others { Told (R.disk rack.old) → OthersAsBefore self.old.log.file (R.disk rack.old) (R.disk rack.new) }
-        ensures rack { LeavesRack R.disk R.faults rack.old rack.new (result ≡ Prepare.DiskFault) }
+        ensures rack { LeavesRack R.Rack rack.old rack.new (result ≡ Prepare.DiskFault) }
     {
         if self.account.bars(&effect) {
             return Prepare::Barred;
@@ -153,19 +153,19 @@ impl<B: Resource> Store<B> {
     /// Commits the effect in doubt.
     pub fn commit<R: Rack>(&mut self, rack: &mut R) -> Result<(), DiskFault>
         requires doubt { IsSome self.old.doubt }
-        requires fits { Fits B.meaning B.sort (account_of self.old) }
+        requires fits { Fits B.Resource (account_of self.old) }
         requires stands { Told (R.disk rack.old) → Stands self.old (R.disk rack.old) }
         ensures acknowledged { Told (R.disk rack.old) → OnOk result (Stands self.new (R.disk rack.new)) }
         ensures any_moment { Told (R.disk rack.old) → (e : Effect) → self.old.doubt ≡ Some e →
             EachImage (R.disk rack.new) (R.disk rack.old).moment
             (IsStoreOfEither self.old.log.file (self.old.book, Some e) (self.old.book ++ e ∷ [], None)) }
-        ensures fits { Fits B.meaning B.sort (account_of self.new) }
+        ensures fits { Fits B.Resource (account_of self.new) }
         ensures ok { OnOk result ((self.new.doubt ≡ None) × IfSome self.old.doubt (λ e. self.new.book ≡ self.old.book ++ e ∷ [])) }
         ensures err { OnErr result ((self.new.book ≡ self.old.book) × (self.new.doubt ≡ self.old.doubt)) }
         ensures same { (self.new.log.file ≡ self.old.log.file) × (self.new.kind ≡ self.old.kind)
             × (self.new.ready ≡ self.old.ready) }
         ensures others { Told (R.disk rack.old) → OthersAsBefore self.old.log.file (R.disk rack.old) (R.disk rack.new) }
-        ensures rack { LeavesRack R.disk R.faults rack.old rack.new (IsErr result) }
+        ensures rack { LeavesRack R.Rack rack.old rack.new (IsErr result) }
     {
         let number = match self.account.in_doubt() {
             Some(effect) => effect.number,
@@ -179,19 +179,19 @@ impl<B: Resource> Store<B> {
     /// Takes the effect in doubt back.
     pub fn roll_back<R: Rack>(&mut self, rack: &mut R) -> Result<(), DiskFault>
         requires doubt { IsSome self.old.doubt }
-        requires fits { Fits B.meaning B.sort (account_of self.old) }
+        requires fits { Fits B.Resource (account_of self.old) }
         requires stands { Told (R.disk rack.old) → Stands self.old (R.disk rack.old) }
         ensures acknowledged { Told (R.disk rack.old) → OnOk result (Stands self.new (R.disk rack.new)) }
         ensures any_moment { Told (R.disk rack.old) →
             EachImage (R.disk rack.new) (R.disk rack.old).moment
             (IsStoreOfEither self.old.log.file (self.old.book, None) (self.old.book, self.old.doubt)) }
-        ensures fits { Fits B.meaning B.sort (account_of self.new) }
+        ensures fits { Fits B.Resource (account_of self.new) }
         ensures ok { OnOk result (self.new.doubt ≡ None) }
         ensures err { OnErr result (self.new.doubt ≡ self.old.doubt) }
         ensures same { (self.new.log.file ≡ self.old.log.file) × (self.new.kind ≡ self.old.kind)
             × (self.new.book ≡ self.old.book) × (self.new.ready ≡ self.old.ready) }
         ensures others { Told (R.disk rack.old) → OthersAsBefore self.old.log.file (R.disk rack.old) (R.disk rack.new) }
-        ensures rack { LeavesRack R.disk R.faults rack.old rack.new (IsErr result) }
+        ensures rack { LeavesRack R.Rack rack.old rack.new (IsErr result) }
     {
         self.log.retract(rack)?;
         self.account.release();
@@ -200,7 +200,7 @@ impl<B: Resource> Store<B> {
 
     /// Whether the values bar an effect. An undo is never barred.
     pub fn bars(&self, effect: &Effect) -> bool
-        requires fits { Fits B.meaning B.sort (account_of self.now) }
+        requires fits { Fits B.Resource (account_of self.now) }
         ensures { result ≡ (if effect.now.undo then false
             else bars self.now.kind effect.now.call (value_at (values self.now.kind self.now.book) effect.now.call.key)) }
     {
@@ -209,8 +209,8 @@ impl<B: Resource> Store<B> {
 
     /// Makes room for the next effect at a key, so that preparing it needs no memory.
     pub fn make_room(&mut self, key: u32) -> Result<(), AllocError>
-        requires fits { Fits B.meaning B.sort (account_of self.old) }
-        ensures fits { Fits B.meaning B.sort (account_of self.new) }
+        requires fits { Fits B.Resource (account_of self.old) }
+        ensures fits { Fits B.Resource (account_of self.new) }
         ensures ok { OnOk result (self.new.ready ≡ Some key) }
         ensures err { OnErr result (self.new.ready ≡ self.old.ready) }
         ensures same { (self.new.log ≡ self.old.log) × (self.new.kind ≡ self.old.kind)
@@ -275,7 +275,7 @@ impl<B: Resource> Store<B> {
         ensures any_moment { Told (R.disk rack.old) →
             EachImage (R.disk rack.new) (R.disk rack.old).moment (IsStoreOf self.now.log.file self.now.book self.now.doubt) }
         ensures others { Told (R.disk rack.old) → OthersAsBefore self.now.log.file (R.disk rack.old) (R.disk rack.new) }
-        ensures rack { LeavesRack R.disk R.faults rack.old rack.new (IsErr result) }
+        ensures rack { LeavesRack R.Rack rack.old rack.new (IsErr result) }
     {
         self.log.write_staged(rack)
     }
@@ -295,7 +295,7 @@ impl<B: Resource> Store<B> {
             EachImage (R.disk rack.new) (R.disk rack.old).moment
             (IsStoreOfEither self.now.log.file (self.now.book, Some e) (self.now.book ++ e ∷ [], None)) }
         ensures others { Told (R.disk rack.old) → OthersAsBefore self.now.log.file (R.disk rack.old) (R.disk rack.new) }
-        ensures rack { LeavesRack R.disk R.faults rack.old rack.new (IsErr result) }
+        ensures rack { LeavesRack R.Rack rack.old rack.new (IsErr result) }
     {
         self.log.open_gate(rack)
     }
@@ -305,11 +305,11 @@ impl<B: Resource> Store<B> {
         requires settled { self.old.doubt ≡ None }
         requires few { length self.old.book < 16384 }
         requires follows { may_follow self.old.kind self.old.book effect ≡ true }
-        requires fits { Fits B.meaning B.sort (account_of self.old) }
+        requires fits { Fits B.Resource (account_of self.old) }
         requires staged { self.old.log.staged ≡ prepared_bytes effect ∷ [] }
         requires room { (effect.undo ≡ true) ⊎ (self.old.ready ≡ Some effect.call.key) }
         ensures log { self.new.log ≡ with_staged self.old.log }
-        ensures fits { Fits B.meaning B.sort (account_of self.new) }
+        ensures fits { Fits B.Resource (account_of self.new) }
         ensures doubt { self.new.doubt ≡ Some effect }
         ensures same { (self.new.kind ≡ self.old.kind) × (self.new.book ≡ self.old.book) }
     {
@@ -320,10 +320,10 @@ impl<B: Resource> Store<B> {
     /// Takes the effect in doubt among the committed ones, once the gate of the record that commits it is open on the disk.
     pub fn take_committed(&mut self)
         requires doubt { IsSome self.old.doubt }
-        requires fits { Fits B.meaning B.sort (account_of self.old) }
+        requires fits { Fits B.Resource (account_of self.old) }
         requires staged { IfSome self.old.doubt (λ e. self.old.log.staged ≡ committed_bytes e.number ∷ []) }
         ensures log { self.new.log ≡ with_staged self.old.log }
-        ensures fits { Fits B.meaning B.sort (account_of self.new) }
+        ensures fits { Fits B.Resource (account_of self.new) }
         ensures doubt { self.new.doubt ≡ None }
         ensures book { IfSome self.old.doubt (λ e. self.new.book ≡ self.old.book ++ e ∷ []) }
         ensures same { self.new.kind ≡ self.old.kind }
@@ -334,7 +334,7 @@ impl<B: Resource> Store<B> {
 
     /// The value at a key.
     pub fn look(&self, key: u32) -> i64
-        requires fits { Fits B.meaning B.sort (account_of self.now) }
+        requires fits { Fits B.Resource (account_of self.now) }
         ensures { result ≡ value_at (values self.now.kind self.now.book) key }
     {
         self.account.look(key)

@@ -3,12 +3,11 @@ use Rattle.std.proofs.Common.{◌≡◌, inl, inr, ◌∙◌, ◌<◌, ◌≤◌
 use Rattle.std.proofs.lemmas.Bool.{eq-eqb, eqb-true}
 use mathlib.Core.Option.{some, some-injective, some-ne-none}
 use lib.ListN.{get_elem?}
-use Rattle.process_disk.specs.Disk.{Disk}
+use Rattle.process_disk.specs.declared.rack.Rack.{Ghosts as Racks}
 use Rattle.process_tree.specs.Order.{Each}
 use Rattle.process_tree.specs.declared.play.Outcome.TheVariants as outcome
 use Rattle.process_tree.proofs.Every.{Each-append}
-use Rattle.resource_box.specs.declared.call.Kind.{Kind}
-use Rattle.resource_box.specs.Meaning.{Pairs}
+use Rattle.resource_box.specs.declared.resource.Resource.{Ghosts as Resources}
 use Rattle.machine_model.specs.Calls.{finish, next}
 use Rattle.machine_model.specs.Pieces.{piece_of, runs}
 use Rattle.machine_model.specs.Replies.{Handed}
@@ -28,7 +27,8 @@ use Rattle.shared_engine.specs.declared.entries.FlushSaid.TheVariants as flushed
 use Rattle.shared_engine.specs.declared.entries.QueueSaid.TheVariants as put
 use Rattle.shared_engine.specs.declared.entries.TurnEntry.{TurnEntry}
 use Rattle.shared_engine.specs.declared.entries.TurnEntry.TheVariants.{Next, Queue, Flush}
-use Rattle.shared_engine.specs.Progress.{Progress, after, after_all, after_effects, opened, progress}
+use Rattle.group_flush.specs.Pieces.{after_effects}
+use Rattle.shared_engine.specs.Progress.{Progress, after, after_all, opened, progress}
 use Rattle.shared_engine.specs.Tallies.{IsAnswerTo, IsByEntries, IsToldOf, gate_asked, gate_refused}
 use Rattle.shared_engine.proofs.HandedLater.{led_to}
 use Rattle.thread_workers.specs.History.{AreOfWorker, AreTallied, IsOneHistory, flat}
@@ -198,9 +198,9 @@ asked_all c (x ∷ xs) [] (z ∷ zs) are = absurd are
 asked_all c (x ∷ xs) (y ∷ ys) [] are = absurd are
 
 -- One history of workers is a run of the engine by their gates.
-pub ran_by_history : {R B : Type 0} (disk : R → Disk) (faults : R → ℕ) (meaning : B → Pairs) (sort : B → Kind) (gates : AskedGates) (o x : EngineState R B)
-    → IsOneHistory disk faults meaning sort gates o x → RanByGates disk faults gates o x
-ran_by_history {R = R} {B = B} disk faults meaning sort gates o x one =
+pub ran_by_history : {R B : Type 0} (racks : Racks R) (box : Resources B) (gates : AskedGates) (o x : EngineState R B)
+    → IsOneHistory racks box gates o x → RanByGates racks gates o x
+ran_by_history {R = R} {B = B} racks box gates o x one =
     let c = x.core in
     let led = one.led in
     let by = subst (λ (e : EngineState R B). IsByEntries o.catalog o.core e.core one.last.queued one.history) one.engine led.by_entries in
@@ -210,7 +210,7 @@ ran_by_history {R = R} {B = B} disk faults meaning sort gates o x one =
     let refused = one.once (λ n e. gate_refused e) ∙ weighs_total gate_refused 0 one.history in
     let asks = one.once (λ n e. gate_asked c e) ∙ (weighs_total (gate_asked c) 0 one.history ∙ sym by.handed) in
     record {
-      goes = subst (GoesOnAlone disk faults o) one.engine led.goes;
+      goes = subst (GoesOnAlone racks o) one.engine led.goes;
       plans = by.plans;
       running = calls_running calls.cores o.core c all;
       by_gates = record {

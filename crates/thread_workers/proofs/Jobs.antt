@@ -4,8 +4,7 @@ use Rattle.std.proofs.lemmas.Nat.{pow_pos}
 use Rattle.std.proofs.Math.Nat.{pow-succ'}
 use Rattle.atomic_table.specs.Seated.{TableId}
 use Rattle.process_disk.specs.Disk.{Disk}
-use Rattle.resource_box.specs.declared.call.Kind.{Kind}
-use Rattle.resource_box.specs.Meaning.{Pairs}
+use Rattle.resource_box.specs.declared.resource.Resource.{Ghosts as Resources}
 use Rattle.machine_model.specs.Replies.{Handed}
 use Rattle.process_engine.specs.declared.gates.Answer.{Answer}
 use Rattle.engine_calls.specs.GateAnswers.{GateCounts}
@@ -24,10 +23,10 @@ module _ {R B G : Type 0} {h : Helds (SharedEngine R B) TurnEntry} where
   all_gates-snoc [] job = refl
   all_gates-snoc (j ∷ js) job = ap (λ l. l ++ j.gate ∷ []) (all_gates-snoc js job)
 
-module _ {R B G : Type 0} {h : Helds (SharedEngine R B) TurnEntry} (disk : R → Disk) (meaning : B → Pairs) (sort : B → Kind) (answers : Handed → Option Answer) (counts : G → GateCounts) (desk : TableId) where
+module _ {R B G : Type 0} {h : Helds (SharedEngine R B) TurnEntry} (disk : R → Disk) (box : Resources B) (answers : Handed → Option Answer) (counts : G → GateCounts) (desk : TableId) where
   -- jobs of which each ran, by their places, all ran
   pub ran_from : (xs ys : List (Job (SharedEngine R B) G TurnEntry h)) → length xs ≡ length ys
-      → ((i : ℕ) (d : Job (SharedEngine R B) G TurnEntry h) → i < length xs → HasRun disk meaning sort answers counts desk (get_or xs i d) (get_or ys i d)) → HaveRun disk meaning sort answers counts desk xs ys
+      → ((i : ℕ) (d : Job (SharedEngine R B) G TurnEntry h) → i < length xs → HasRun disk box answers counts desk (get_or xs i d) (get_or ys i d)) → HaveRun disk box answers counts desk xs ys
   ran_from [] [] e all = tt
   ran_from [] (y ∷ ys) e all = absurd (omega (arith, e))
   ran_from (x ∷ xs) [] e all = absurd (omega (arith, e))

@@ -3,8 +3,7 @@ use Rattle.std.proofs.Common.{◌≡◌, ◌⊎◌, inl, inr, ⊎_elim, ◌∙�
 use Rattle.std.proofs.lemmas.List.{length-append}
 use Rattle.process_disk.specs.Disk.{Disk}
 use Rattle.process_tree.proofs.Every.{Each-append, Each-weaker}
-use Rattle.resource_box.specs.declared.call.Kind.{Kind}
-use Rattle.resource_box.specs.Meaning.{Pairs}
+use Rattle.resource_box.specs.declared.resource.Resource.{Ghosts as Resources}
 use Rattle.machine_model.specs.Replies.{Handed}
 use Rattle.process_core.specs.Cores.{CoreState}
 use Rattle.process_core.specs.declared.replies.Next.TheVariants as core
@@ -114,21 +113,21 @@ owed_by (turn.Answered (Ok (core.Stuck i))) = 0
 owed_by (turn.Answered (Err e)) = 0
 owed_by (turn.Flushed f) = 0
 
-module _ {R B : Type 0} (disk : R → Disk) (meaning : B → Pairs) (sort : B → Kind) where
+module _ {R B : Type 0} (disk : R → Disk) (box : Resources B) where
   -- whatever state the seat says the desk was opened with, that is an opening
-  pub sound_of : (v : View (SharedEngine R B) TurnEntry) (o : SharedEngine R B) → HasOpened disk meaning sort v → v.opening ≡ Some o → IsOpening disk meaning sort o
-  sound_of v o opened known = subst (λ (z : SharedEngine R B). IsOpening disk meaning sort z) (ap (λ m. unwrap_or m o) (sym opened.known ∙ known)) opened.sound
+  pub sound_of : (v : View (SharedEngine R B) TurnEntry) (o : SharedEngine R B) → HasOpened disk box v → v.opening ≡ Some o → IsOpening disk box o
+  sound_of v o opened known = subst (λ (z : SharedEngine R B). IsOpening disk box z) (ap (λ m. unwrap_or m o) (sym opened.known ∙ known)) opened.sound
 
   -- a turn later its opening is the same
-  abbrev pub opened_still : (v w : View (SharedEngine R B) TurnEntry) → w.opening ≡ v.opening → HasOpened disk meaning sort v → HasOpened disk meaning sort w
+  abbrev pub opened_still : (v w : View (SharedEngine R B) TurnEntry) → w.opening ≡ v.opening → HasOpened disk box v → HasOpened disk box w
   opened_still v w same opened = record { opening = opened.opening; known = same ∙ opened.known; sound = opened.sound }
 
   module _ (answers : Handed → Maybe Answer) where
     -- A turn adds an entry that was worked, by which the tally changes.
-    pub knows_added : (e : TurnEntry) (owed owed' : ℕ) (begun before now : GateCounts) (v w : View (SharedEngine R B) TurnEntry) (knows : WorkerKnows disk meaning sort answers owed begun before v) → HasAdded e v w
+    pub knows_added : (e : TurnEntry) (owed owed' : ℕ) (begun before now : GateCounts) (v w : View (SharedEngine R B) TurnEntry) (knows : WorkerKnows disk box answers owed begun before v) → HasAdded e v w
         → IsWorked answers (core_at knows.opened.opening.engine w.seen) e
         → ((n : ℕ) → IsTally owed (core_at knows.opened.opening.engine w.seen) v.places begun before → IsTally owed' (core_at knows.opened.opening.engine w.seen) (v.places ++ (n, e) ∷ []) begun now)
-        → WorkerKnows disk meaning sort answers owed' begun now w
+        → WorkerKnows disk box answers owed' begun now w
     knows_added e owed owed' begun before now v w knows added worked changes =
         let o = knows.opened.opening.engine in
         let n = length (v.seen ++ added.meanwhile) + 1 in
@@ -166,8 +165,8 @@ module _ {R B : Type 0} (disk : R → Disk) (meaning : B → Pairs) (sort : B �
 
     -- After a request the gate is still to be asked for what that got.
     pub knows_asked : (r : NextTurn) (owed : ℕ) (begun now : GateCounts) (v w : View (SharedEngine R B) TurnEntry) → owed_by r ≡ owed → HasAdded (next_entry r) v w
-        → ((o : SharedEngine R B) → v.opening ≡ Some o → IsOpening disk meaning sort o → IsGivenBy (core_at o.engine w.seen) r)
-        → WorkerKnows disk meaning sort answers 0 begun now v → WorkerKnows disk meaning sort answers owed begun now w
+        → ((o : SharedEngine R B) → v.opening ≡ Some o → IsOpening disk box o → IsGivenBy (core_at o.engine w.seen) r)
+        → WorkerKnows disk box answers 0 begun now v → WorkerKnows disk box answers owed begun now w
     knows_asked r owed begun now v w owes added handed knows =
         let opened = knows.opened in
         let c = core_at opened.opening.engine w.seen in
@@ -177,7 +176,7 @@ module _ {R B : Type 0} (disk : R → Disk) (meaning : B → Pairs) (sort : B �
 
     -- A flush changes nothing of what it knows.
     pub knows_flushed : (said : FlushSaid) (begun now : GateCounts) (v w : View (SharedEngine R B) TurnEntry) → HasAdded (Flush said) v w
-        → WorkerKnows disk meaning sort answers 0 begun now v → WorkerKnows disk meaning sort answers 0 begun now w
+        → WorkerKnows disk box answers 0 begun now v → WorkerKnows disk box answers 0 begun now w
     knows_flushed said begun now v w added knows =
         let c = core_at knows.opened.opening.engine w.seen in
         knows_added (Flush said) 0 0 begun now now v w knows added tt (λ n tally. tally_next c v.places n (Flush said) begun now 0 refl refl tally)
@@ -192,7 +191,7 @@ module _ {R B : Type 0} (disk : R → Disk) (meaning : B → Pairs) (sort : B �
 
     -- After that its gate has answered for it.
     pub knows_queued : (d : Handed) (a : Answer) (reply : QueueSaid) (begun before now : GateCounts) (v w : View (SharedEngine R B) TurnEntry) → HasAdded (Queue d.piece.number a reply) v w → HasGot d v
-        → IsAnswerTo answers d a → HasAnswered d a before now → WorkerKnows disk meaning sort answers (asks_for d) begun before v → WorkerKnows disk meaning sort answers 0 begun now w
+        → IsAnswerTo answers d a → HasAnswered d a before now → WorkerKnows disk box answers (asks_for d) begun before v → WorkerKnows disk box answers 0 begun now w
     knows_queued d a reply begun before now v w added got answered counts knows =
         let opened = knows.opened in
         let n = d.piece.number in
@@ -203,7 +202,7 @@ module _ {R B : Type 0} (disk : R → Disk) (meaning : B → Pairs) (sort : B �
 
     -- One that found the group full is done, and counts nothing when it is queued again.
     pub knows_again : (d : Handed) (reply : QueueSaid) (begun now : GateCounts) (v w : View (SharedEngine R B) TurnEntry) → HasAdded (Queue d.piece.number Done reply) v w → HasGot d v → IsAnswerTo answers d Done
-        → WorkerKnows disk meaning sort answers 0 begun now v → WorkerKnows disk meaning sort answers 0 begun now w
+        → WorkerKnows disk box answers 0 begun now v → WorkerKnows disk box answers 0 begun now w
     knows_again d reply begun now v w added got answered knows =
         let opened = knows.opened in
         let c = core_at opened.opening.engine w.seen in
@@ -212,7 +211,7 @@ module _ {R B : Type 0} (disk : R → Disk) (meaning : B → Pairs) (sort : B �
         (λ n tally. tally_next c v.places n e begun now 0 refl refl tally)
 
     -- a seat with no entry of its own yet
-    pub knows_new : (count : GateCounts) (v : View (SharedEngine R B) TurnEntry) → HasOpened disk meaning sort v → v.places ≡ [] → WorkerKnows disk meaning sort answers 0 count count v
+    pub knows_new : (count : GateCounts) (v : View (SharedEngine R B) TurnEntry) → HasOpened disk box v → v.places ≡ [] → WorkerKnows disk box answers 0 count count v
     knows_new count v opened none = record {
       opened = opened;
       order = subst (λ (ps : List (ℕ × TurnEntry)). GoesUp 0 ps (length v.seen)) (sym none) (omega arith);

@@ -1,11 +1,11 @@
 -- What the whole run leaves.
 use Rattle.std.proofs.Common.{◌≡◌, ◌∙◌, ℕ, suc, false, List, [], ◌∷◌, ◌++◌, length, map, append_assoc, append-nil, sym, refl, ap, subst, subst₂, Option as Maybe, Some, None, unwrap_or, IfSome}
 use Rattle.atomic_table.specs.Seated.{TableId}
+use Rattle.process_disk.specs.declared.rack.Rack.{Ghosts as Racks}
 use Rattle.process_disk.specs.Disk.{Disk, Told}
 use Rattle.process_disk.specs.Images.{EachImage}
 use Rattle.process_tree.specs.Order.{Each}
-use Rattle.resource_box.specs.declared.call.Kind.{Kind}
-use Rattle.resource_box.specs.Meaning.{Pairs}
+use Rattle.resource_box.specs.declared.resource.Resource.{Ghosts as Resources}
 use Rattle.machine_model.specs.Replies.{Handed}
 use Rattle.history_files.specs.Effects.{subsystem_of}
 use Rattle.history_files.specs.Sound.{IsSound}
@@ -79,11 +79,11 @@ abbrev pub shared_at : {R B : Type 0} → EngineState R B → List Handed → Sh
 shared_at e queued = record { engine = e; queued = queued; due = false; starved = false }
 
 -- a settled engine at which nothing is queued is an opening
-abbrev pub sound_at : {R B : Type 0} (disk : R → Disk) (meaning : B → Pairs) (sort : B → Kind) (e : EngineState R B) (queued : List Handed) → queued ≡ [] → IsReady meaning sort e → IsCore e.core
-    → (Told (disk e.files.rack) → EachImage (disk e.files.rack) (disk e.files.rack).moment (IsSound e.catalog (full_history e.core))) → IsOpening disk meaning sort (shared_at e queued)
-sound_at disk meaning sort e queued none ready core each = record { ready = ready; core = core; each = each; none = none; clear = refl }
+abbrev pub sound_at : {R B : Type 0} (disk : R → Disk) (box : Resources B) (e : EngineState R B) (queued : List Handed) → queued ≡ [] → IsReady box e → IsCore e.core
+    → (Told (disk e.files.rack) → EachImage (disk e.files.rack) (disk e.files.rack).moment (IsSound e.catalog (full_history e.core))) → IsOpening disk box (shared_at e queued)
+sound_at disk box e queued none ready core each = record { ready = ready; core = core; each = each; none = none; clear = refl }
 
-module _ {R B G : Type 0} (disk : R → Disk) (faults : R → ℕ) (meaning : B → Pairs) (sort : B → Kind) (ghosts : Gates G) where
+module _ {R B G : Type 0} (racks : Racks R) (box : Resources B) (ghosts : Gates G) where
   nothing_each : (o : EngineState R B) (gates : List G) → Each (AreOfWorker ghosts.answers o.core []) (nothing_done gates)
   nothing_each o [] = tt
   nothing_each o (gate ∷ gates) = ((tt, tt, tt), nothing_each o gates)
@@ -97,14 +97,14 @@ module _ {R B G : Type 0} (disk : R → Disk) (faults : R → ℕ) (meaning : B 
   nothing_tallied c (gate ∷ gates) = (tally_none c (counts_of ghosts gate), nothing_tallied c gates)
 
   -- With no call the engine is as it was, and so are the gates.
-  pub no_call : (gates : List G) (o x : EngineState R B) → x ≡ o → IsOpening disk meaning sort (shared_at o []) → IsOneHistory disk faults meaning sort (asked_gates ghosts gates gates) o x
+  pub no_call : (gates : List G) (o x : EngineState R B) → x ≡ o → IsOpening racks.disk box (shared_at o []) → IsOneHistory racks box (asked_gates ghosts gates gates) o x
   no_call gates o x is sound =
       let counts = map (counts_of ghosts) gates in
-      subst (IsOneHistory disk faults meaning sort (asked_gates ghosts gates gates) o) (sym is) (record {
+      subst (IsOneHistory racks box (asked_gates ghosts gates gates) o) (sym is) (record {
         history = [];
         last = shared_at o [];
         engine = refl;
-        led = opens disk faults meaning sort (shared_at o []) sound;
+        led = opens racks box (shared_at o []) sound;
         calls = nothing_done gates;
         workers = as_many o.core (nothing_done gates) counts counts (nothing_tallied o.core gates);
         each = nothing_each o gates;
@@ -112,14 +112,14 @@ module _ {R B G : Type 0} (disk : R → Disk) (faults : R → ℕ) (meaning : B 
         once = nothing_weighs gates;
       })
 
-module _ {R B G : Type 0} {h : Helds (SharedEngine R B) TurnEntry} (disk : R → Disk) (faults : R → ℕ) (meaning : B → Pairs) (sort : B → Kind) (answers : Handed → Maybe Answer) (counts : G → GateCounts) (desk : TableId) where
+module _ {R B G : Type 0} {h : Helds (SharedEngine R B) TurnEntry} (racks : Racks R) (box : Resources B) (answers : Handed → Maybe Answer) (counts : G → GateCounts) (desk : TableId) where
   flat_calls : (jobs : List (Job (SharedEngine R B) G TurnEntry h)) → flat (all_calls jobs) ≡ all_places jobs
   flat_calls [] = refl
   flat_calls (job ∷ jobs) = flat-snoc (all_calls jobs) (job_places job) ∙ ap (λ l. l ++ job_places job) (flat_calls jobs)
 
-  module _ (o x : SharedEngine R B) (seen more : List TurnEntry) (led : AreOf disk faults meaning sort o.engine (seen ++ more) x) where
+  module _ (o x : SharedEngine R B) (seen more : List TurnEntry) (led : AreOf racks box o.engine (seen ++ more) x) where
     -- what a worker did and what its gate counted, as all of the history shows it
-    module _ (begun : GateCounts) (job : Job (SharedEngine R B) G TurnEntry h) (done : IsDoneSince disk meaning sort answers counts desk begun job) (opening : job_opening job ≡ Some o) (begins : IsBeginning (job_seen job) seen) where
+    module _ (begun : GateCounts) (job : Job (SharedEngine R B) G TurnEntry h) (done : IsDoneSince racks.disk box answers counts desk begun job) (opening : job_opening job ≡ Some o) (begins : IsBeginning (job_seen job) seen) where
       abbrev own : List (ℕ × TurnEntry)
       own = done.0.place.me.0.places
 
@@ -139,7 +139,7 @@ module _ {R B G : Type 0} {h : Helds (SharedEngine R B) TurnEntry} (disk : R →
       worked_seen = subst (λ es. AreWorked answers (core_at o.engine es) own) begins.1 (worked_later answers o.engine (job_seen job) begins.0 own worked_at)
 
       core : x.engine.core ≡ core_at o.engine (seen ++ more)
-      core = core_is disk faults meaning sort o.engine x (seen ++ more) led
+      core = core_is racks box o.engine x (seen ++ more) led
 
       worker_did : AllStand (seen ++ more) (job_places job) → AreOfWorker answers x.engine.core (seen ++ more) (job_places job)
       worker_did stand = (
@@ -156,14 +156,14 @@ module _ {R B G : Type 0} {h : Helds (SharedEngine R B) TurnEntry} (disk : R →
           let at_end = tally_later answers o.engine seen more 0 own begun count worked_seen at_seen in
           subst (λ ps. IsTally 0 x.engine.core ps begun count) (sym here) (subst (λ c. IsTally 0 c own begun count) (sym core) at_end)
 
-    each_did : (jobs : List (Job (SharedEngine R B) G TurnEntry h)) → Each (IsDone disk meaning sort answers counts desk) jobs → Each (λ j. job_opening j ≡ Some o) jobs → Each (λ j. IsBeginning (job_seen j) seen) jobs
+    each_did : (jobs : List (Job (SharedEngine R B) G TurnEntry h)) → Each (IsDone racks.disk box answers counts desk) jobs → Each (λ j. job_opening j ≡ Some o) jobs → Each (λ j. IsBeginning (job_seen j) seen) jobs
         → AllStand (seen ++ more) (all_places jobs) → Each (AreOfWorker answers x.engine.core (seen ++ more)) (all_calls jobs)
     each_did [] done opening begins stand = tt
     each_did (job ∷ jobs) done opening begins stand =
         let both = stand_both (seen ++ more) (all_places jobs) (job_places job) stand in
         each-snoc (AreOfWorker answers x.engine.core (seen ++ more)) (all_calls jobs) (job_places job) (each_did jobs done.1 opening.1 begins.1 both.0) (worker_did done.0.0 job done.0.1 opening.0 begins.0 both.1)
 
-    tallied : (befores jobs : List (Job (SharedEngine R B) G TurnEntry h)) → HaveRun disk meaning sort answers counts desk befores jobs → Each (λ j. job_opening j ≡ Some o) jobs
+    tallied : (befores jobs : List (Job (SharedEngine R B) G TurnEntry h)) → HaveRun racks.disk box answers counts desk befores jobs → Each (λ j. job_opening j ≡ Some o) jobs
         → Each (λ j. IsBeginning (job_seen j) seen) jobs → AreTallied x.engine.core (all_calls jobs) (map counts (all_gates befores)) (map counts (all_gates jobs))
     tallied [] [] ran opening begins = tt
     tallied [] (job ∷ jobs) ran opening begins = absurd ran
@@ -175,17 +175,17 @@ module _ {R B G : Type 0} {h : Helds (SharedEngine R B) TurnEntry} (disk : R →
         subst₂ (AreTallied x.engine.core (all_calls jobs ++ job_places job ∷ [])) (sym (map-snoc counts (all_gates bs) b.gate)) (sym (map-snoc counts (all_gates jobs) job.gate)) all
 
 -- What all workers did is one history.
-pub one_history : {R B G : Type 0} {h : Helds (SharedEngine R B) TurnEntry} (disk : R → Disk) (faults : R → ℕ) (meaning : B → Pairs) (sort : B → Kind) (ghosts : Gates G) (desk : TableId)
+pub one_history : {R B G : Type 0} {h : Helds (SharedEngine R B) TurnEntry} (racks : Racks R) (box : Resources B) (ghosts : Gates G) (desk : TableId)
     (befores jobs : List (Job (SharedEngine R B) G TurnEntry h)) (gates gates_after : List G) (o x : SharedEngine R B) (first : Maybe (SharedEngine R B)) (seen : List TurnEntry) (places : List (ℕ × TurnEntry))
-    → IsWhole (λ (w : SharedEngine R B) (es : List TurnEntry) (z : SharedEngine R B). StandsFor disk faults meaning sort w es z) first seen places x → first ≡ Some o → IsOpening disk meaning sort o
-    → places ≡ all_places jobs → Each (IsDone disk meaning sort ghosts.answers (counts_of ghosts) desk) jobs → Each (λ j. job_opening j ≡ Some o) jobs → Each (λ j. IsBeginning (job_seen j) seen) jobs
-    → HaveRun disk meaning sort ghosts.answers (counts_of ghosts) desk befores jobs → all_gates befores ≡ gates → gates_after ≡ all_gates jobs
-    → IsOneHistory disk faults meaning sort (asked_gates ghosts gates gates_after) o.engine x.engine
-one_history {R} {B} disk faults meaning sort ghosts desk befores jobs gates gates_after o x first seen places whole known sound all done opening begins ran given back =
+    → IsWhole (λ (w : SharedEngine R B) (es : List TurnEntry) (z : SharedEngine R B). StandsFor racks box w es z) first seen places x → first ≡ Some o → IsOpening racks.disk box o
+    → places ≡ all_places jobs → Each (IsDone racks.disk box ghosts.answers (counts_of ghosts) desk) jobs → Each (λ j. job_opening j ≡ Some o) jobs → Each (λ j. IsBeginning (job_seen j) seen) jobs
+    → HaveRun racks.disk box ghosts.answers (counts_of ghosts) desk befores jobs → all_gates befores ≡ gates → gates_after ≡ all_gates jobs
+    → IsOneHistory racks box (asked_gates ghosts gates gates_after) o.engine x.engine
+one_history {R} {B} racks box ghosts desk befores jobs gates gates_after o x first seen places whole known sound all done opening begins ran given back =
     let answers = ghosts.answers in
     let counts = counts_of ghosts in
-    let led = subst (λ (m : Maybe (SharedEngine R B)). IfSome m (λ z. StandsFor disk faults meaning sort z (seen ++ whole.0) x)) known whole.1 sound in
-    let tallies = subst₂ (λ b a. AreTallied x.engine.core (all_calls jobs) (map counts b) (map counts a)) given (sym back) (tallied disk faults meaning sort answers counts desk o x seen whole.0 led befores jobs ran opening begins) in
+    let led = subst (λ (m : Maybe (SharedEngine R B)). IfSome m (λ z. StandsFor racks box z (seen ++ whole.0) x)) known whole.1 sound in
+    let tallies = subst₂ (λ b a. AreTallied x.engine.core (all_calls jobs) (map counts b) (map counts a)) given (sym back) (tallied racks box answers counts desk o x seen whole.0 led befores jobs ran opening begins) in
     record {
       history = seen ++ whole.0;
       last = x;
@@ -193,24 +193,24 @@ one_history {R} {B} disk faults meaning sort ghosts desk befores jobs gates gate
       led = led;
       calls = all_calls jobs;
       workers = as_many x.engine.core (all_calls jobs) (map counts gates) (map counts gates_after) tallies;
-      each = each_did disk faults meaning sort answers counts desk o x seen whole.0 led jobs done opening begins (subst (AllStand (seen ++ whole.0)) all whole.2);
+      each = each_did racks box answers counts desk o x seen whole.0 led jobs done opening begins (subst (AllStand (seen ++ whole.0)) all whole.2);
       tallies = tallies;
-      once = λ f. ap (weigh f) (flat_calls disk faults meaning sort answers counts desk jobs ∙ sym all) ∙ whole.3 f;
+      once = λ f. ap (weigh f) (flat_calls racks box answers counts desk jobs ∙ sym all) ∙ whole.3 f;
     }
 
 -- How a worker stopped is so of the engine that comes back.
-pub outcome_at_end : {R B : Type 0} (disk : R → Disk) (faults : R → ℕ) (meaning : B → Pairs) (sort : B → Kind) (outcome : RunOutcome) (o x : SharedEngine R B) (first : Maybe (SharedEngine R B)) (seen : List TurnEntry)
-    (places : List (ℕ × TurnEntry)) → IsWhole (λ (w : SharedEngine R B) (es : List TurnEntry) (z : SharedEngine R B). StandsFor disk faults meaning sort w es z) first seen places x → first ≡ Some o
-    → IsOpening disk meaning sort o → HasStopped outcome places → IsOutcome x.engine outcome
-outcome_at_end {R} {B} disk faults meaning sort outcome o x first seen places whole known sound stopped =
+pub outcome_at_end : {R B : Type 0} (racks : Racks R) (box : Resources B) (outcome : RunOutcome) (o x : SharedEngine R B) (first : Maybe (SharedEngine R B)) (seen : List TurnEntry)
+    (places : List (ℕ × TurnEntry)) → IsWhole (λ (w : SharedEngine R B) (es : List TurnEntry) (z : SharedEngine R B). StandsFor racks box w es z) first seen places x → first ≡ Some o
+    → IsOpening racks.disk box o → HasStopped outcome places → IsOutcome x.engine outcome
+outcome_at_end {R} {B} racks box outcome o x first seen places whole known sound stopped =
     let history = seen ++ whole.0 in
-    let led = subst (λ (m : Maybe (SharedEngine R B)). IfSome m (λ z. StandsFor disk faults meaning sort z history x)) known whole.1 sound in
+    let led = subst (λ (m : Maybe (SharedEngine R B)). IfSome m (λ z. StandsFor racks box z history x)) known whole.1 sound in
     outcome_is outcome x (stays_over (subsystem_of o.engine.catalog.ops) outcome (opened o.engine) (progress x) history stopped.0.1 (has_entry history places stopped.0 whole.2 stopped.1) stopped.2
     (running_core o.engine.core sound.core) led.told)
 
 -- The entries that led from the opening engine to the one that comes back.
-pub led_at_end : {R B : Type 0} (disk : R → Disk) (faults : R → ℕ) (meaning : B → Pairs) (sort : B → Kind) (o x : SharedEngine R B) (first : Maybe (SharedEngine R B)) (seen : List TurnEntry) (places : List (ℕ × TurnEntry))
-    → IsWhole (λ (w : SharedEngine R B) (es : List TurnEntry) (z : SharedEngine R B). StandsFor disk faults meaning sort w es z) first seen places x → first ≡ Some o → IsOpening disk meaning sort o
-    → (es : List TurnEntry) × AreOf disk faults meaning sort o.engine es x
-led_at_end {R} {B} disk faults meaning sort o x first seen places whole known sound =
-    (seen ++ whole.0, subst (λ (m : Maybe (SharedEngine R B)). IfSome m (λ z. StandsFor disk faults meaning sort z (seen ++ whole.0) x)) known whole.1 sound)
+pub led_at_end : {R B : Type 0} (racks : Racks R) (box : Resources B) (o x : SharedEngine R B) (first : Maybe (SharedEngine R B)) (seen : List TurnEntry) (places : List (ℕ × TurnEntry))
+    → IsWhole (λ (w : SharedEngine R B) (es : List TurnEntry) (z : SharedEngine R B). StandsFor racks box w es z) first seen places x → first ≡ Some o → IsOpening racks.disk box o
+    → (es : List TurnEntry) × AreOf racks box o.engine es x
+led_at_end {R} {B} racks box o x first seen places whole known sound =
+    (seen ++ whole.0, subst (λ (m : Maybe (SharedEngine R B)). IfSome m (λ z. StandsFor racks box z (seen ++ whole.0) x)) known whole.1 sound)

@@ -1,9 +1,8 @@
 -- What a whole run of workers leaves.
 use Rattle.std.specs.Prelude.{◌≡◌, ◌<◌, ⊤, ℕ, List, [], ◌∷◌, ◌++◌, length, Option}
-use Rattle.process_disk.specs.Disk.{Disk}
+use Rattle.process_disk.specs.declared.rack.Rack.{Ghosts as Racks}
 use Rattle.process_tree.specs.Order.{Each}
-use Rattle.resource_box.specs.declared.call.Kind.{Kind}
-use Rattle.resource_box.specs.Meaning.{Pairs}
+use Rattle.resource_box.specs.declared.resource.Resource.{Ghosts as Resources}
 use Rattle.machine_model.specs.Replies.{Handed}
 use Rattle.process_core.specs.Cores.{CoreState}
 use Rattle.engine_steps.specs.Engines.{EngineState}
@@ -39,13 +38,13 @@ AreTallied c calls before after = ⊥
 
 -- One list of calls led from one engine to another, and each of its places is that of a call which one of the workers made, once.
 -- Each worker has one of the gates, in their order.
-pub record IsOneHistory {R B : Type 0} (disk : R → Disk) (faults : R → ℕ) (meaning : B → Pairs) (sort : B → Kind)
+pub record IsOneHistory {R B : Type 0} (racks : Racks R) (box : Resources B)
     (gates : AskedGates) (o x : EngineState R B) : Type 0 where
   pub history : List TurnEntry
   -- the engine that comes back, with what is queued at it in the end
   pub last : SharedEngine R B
   pub engine : last.engine ≡ x
-  pub led : AreOf disk faults meaning sort o history last
+  pub led : AreOf racks box o history last
   -- the calls of each worker
   pub calls : List (List (ℕ × TurnEntry))
   pub workers : length calls ≡ length gates.before

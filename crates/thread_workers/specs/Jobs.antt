@@ -2,8 +2,7 @@
 use Rattle.std.specs.Prelude.{◌≡◌, ⊤, ℕ, List, [], ◌∷◌, ◌++◌, Option, Some, None}
 use Rattle.atomic_table.specs.Seated.{TableId}
 use Rattle.process_disk.specs.Disk.{Disk}
-use Rattle.resource_box.specs.declared.call.Kind.{Kind}
-use Rattle.resource_box.specs.Meaning.{Pairs}
+use Rattle.resource_box.specs.declared.resource.Resource.{Ghosts as Resources}
 use Rattle.machine_model.specs.Replies.{Handed}
 use Rattle.process_engine.specs.declared.gates.Answer.{Answer}
 use Rattle.engine_calls.specs.GateAnswers.{GateCounts}
@@ -53,19 +52,19 @@ module _ {R B G : Type 0} {h : Helds (SharedEngine R B) TurnEntry} where
   all_gates [] = []
   all_gates (job ∷ jobs) = all_gates jobs ++ job.gate ∷ []
 
-module _ {R B G : Type 0} {h : Helds (SharedEngine R B) TurnEntry} (disk : R → Disk) (meaning : B → Pairs) (sort : B → Kind)
+module _ {R B G : Type 0} {h : Helds (SharedEngine R B) TurnEntry} (disk : R → Disk) (box : Resources B)
     (answers : Handed → Option Answer) (counts : G → GateCounts) (desk : TableId) where
   -- the job has a seat of the desk, for a worker with such a gate
   abbrev pub IsReady : Job (SharedEngine R B) G TurnEntry h → Type 0
   IsReady job =
       (s : Seat (SharedEngine R B) TurnEntry h) × (job.seat ≡ Some s) × (desk_of s ≡ desk)
-      × WorkerKnows disk meaning sort answers 0 (counts job.gate) (counts job.gate) (knowledge s)
+      × WorkerKnows disk box answers 0 (counts job.gate) (counts job.gate) (knowledge s)
 
   -- its worker has stopped, whose gate had these counts when it began
   abbrev pub IsDoneSince : GateCounts → Job (SharedEngine R B) G TurnEntry h → Type 0
   IsDoneSince begun job =
       (s : Seat (SharedEngine R B) TurnEntry h) × (outcome : RunOutcome) × (job.seat ≡ Some s) × (job.ended ≡ Some outcome)
-      × (desk_of s ≡ desk) × WorkerKnows disk meaning sort answers 0 begun (counts job.gate) (knowledge s)
+      × (desk_of s ≡ desk) × WorkerKnows disk box answers 0 begun (counts job.gate) (knowledge s)
       × HasStopped outcome (places s)
 
   -- its worker has stopped

@@ -3,8 +3,7 @@ use Rattle.std.specs.Prelude.{◌≡◌, ◌⊎◌, ◌+◌, ◌-◌, ◌^◌, �
 use Rattle.process_flow.specs.Causes.{Rose}
 use Rattle.process_disk.specs.Disk.{Disk}
 use Rattle.process_tree.specs.Order.{Each}
-use Rattle.resource_box.specs.declared.call.Kind.{Kind}
-use Rattle.resource_box.specs.Meaning.{Pairs}
+use Rattle.resource_box.specs.declared.resource.Resource.{Ghosts as Resources}
 use Rattle.machine_model.specs.Replies.{Handed}
 use Rattle.process_core.specs.Cores.{CoreState}
 use Rattle.process_engine.specs.declared.gates.Answer.{Answer}
@@ -82,9 +81,9 @@ module _ {R B : Type 0} where
   -- What a worker's seat knows: how the engine was opened; its own entries came in the order in which it saw the history grow;
   -- each piece that it queued was worked on; and the gate, which had the first counts at first, has these now by the worker's
   -- entries.
-  pub record WorkerKnows (disk : R → Disk) (meaning : B → Pairs) (sort : B → Kind) (answers : Handed → Option Answer) (owed : ℕ)
+  pub record WorkerKnows (disk : R → Disk) (box : Resources B) (answers : Handed → Option Answer) (owed : ℕ)
       (begun now : GateCounts) (v : View (SharedEngine R B) TurnEntry) : Type 0 where
-    pub opened : HasOpened disk meaning sort v
+    pub opened : HasOpened disk box v
     pub order : GoesUp 0 v.places (length v.seen)
     pub worked : AreWorked answers (core_at opened.opening.engine v.seen) v.places
     pub tally : IsTally owed (core_at opened.opening.engine v.seen) v.places begun now

@@ -29,8 +29,8 @@ fn run_job<H: Wait, R: Rack + Drop, B: Resource, G: Gate>(
     desk: &Desk<SharedEngine<R, B>>,
     job: &mut Job<SharedEngine<R, B>, G>,
 )
-    requires { IsReady R.disk B.meaning B.sort G.answers (counts_of G.Gate) (id desk.now) job.old }
-    ensures { HasRun R.disk B.meaning B.sort G.answers (counts_of G.Gate) (id desk.now) job.old job.new }
+    requires { IsReady R.disk B.Resource G.answers (counts_of G.Gate) (id desk.now) job.old }
+    ensures { HasRun R.disk B.Resource G.answers (counts_of G.Gate) (id desk.now) job.old job.new }
 {
     if let Some(seat) = job.seat.take() {
         let (seat, outcome) = rounds(rt, desk, seat, &mut job.gate);
@@ -46,9 +46,9 @@ pub fn run_jobs<
     B: Resource + Send,
     G: Gate + Send,
 >(rt: &H, desk: &Desk<SharedEngine<R, B>>, jobs: &mut [Job<SharedEngine<R, B>, G>])
-    requires { Each (IsReady R.disk B.meaning B.sort G.answers (counts_of G.Gate) (id desk.now)) jobs.old }
-    ensures ran { HaveRun R.disk B.meaning B.sort G.answers (counts_of G.Gate) (id desk.now) jobs.old jobs.new }
-    ensures done { Each (IsDone R.disk B.meaning B.sort G.answers (counts_of G.Gate) (id desk.now)) jobs.new }
+    requires { Each (IsReady R.disk B.Resource G.answers (counts_of G.Gate) (id desk.now)) jobs.old }
+    ensures ran { HaveRun R.disk B.Resource G.answers (counts_of G.Gate) (id desk.now) jobs.old jobs.new }
+    ensures done { Each (IsDone R.disk B.Resource G.answers (counts_of G.Gate) (id desk.now)) jobs.new }
     ensures share { total job_share jobs.new ≡ total job_share jobs.old }
     ensures openings { (first : Option (SharedEngine R B)) → Each (λ j. job_opening j ≡ first) jobs.old
         → Each (λ j. job_opening j ≡ first) jobs.new }
@@ -59,8 +59,8 @@ pub fn run_jobs<
         jobs,
         16,
         &|_, job: &mut Job<SharedEngine<R, B>, G>|
-            requires { IsSync H.row × IsReady R.disk B.meaning B.sort G.answers (counts_of G.Gate) (id desk.now) job.now }
-            ensures { HasRun R.disk B.meaning B.sort G.answers (counts_of G.Gate) (id desk.entry.now) job.entry.now job.exit.now }
+            requires { IsSync H.row × IsReady R.disk B.Resource G.answers (counts_of G.Gate) (id desk.now) job.now }
+            ensures { HasRun R.disk B.Resource G.answers (counts_of G.Gate) (id desk.entry.now) job.entry.now job.exit.now }
         { run_job(rt, desk, job) },
     );
 }

@@ -41,12 +41,12 @@ fn round<H: Wait, R: Rack + Drop, B: Resource, G: Gate>(
     waited: bool,
 ) -> (Seat<SharedEngine<R, B>>, Option<RunOutcome>, bool)
     requires desk { IsOf desk.now seat }
-    requires opened { HasOpened R.disk B.meaning B.sort (knowledge seat) }
+    requires opened { HasOpened R.disk B.Resource (knowledge seat) }
     ensures desk { IsOf desk.now result.0 }
     ensures keeps { (opening result.0 ≡ opening seat) × (share result.0 ≡ share seat) }
     ensures knows { (begun : GateCounts)
-        → WorkerKnows R.disk B.meaning B.sort G.answers 0 begun (counts_of G.Gate gate.old) (knowledge seat)
-        → WorkerKnows R.disk B.meaning B.sort G.answers 0 begun (counts_of G.Gate gate.new) (knowledge result.0) }
+        → WorkerKnows R.disk B.Resource G.answers 0 begun (counts_of G.Gate gate.old) (knowledge seat)
+        → WorkerKnows R.disk B.Resource G.answers 0 begun (counts_of G.Gate gate.new) (knowledge result.0) }
     ensures stopped { IfSome result.1 (λ o. HasStopped o (places result.0)) }
 {
     let (seat, reply, pause) = ask(rt, desk, seat, waited);
@@ -75,11 +75,11 @@ pub fn rounds<H: Wait, R: Rack + Drop, B: Resource, G: Gate>(
     gate: &mut G,
 ) -> (Seat<SharedEngine<R, B>>, RunOutcome)
     requires desk { IsOf desk.now seat }
-    requires knows { WorkerKnows R.disk B.meaning B.sort G.answers 0 (counts_of G.Gate gate.old) (counts_of G.Gate gate.old)
+    requires knows { WorkerKnows R.disk B.Resource G.answers 0 (counts_of G.Gate gate.old) (counts_of G.Gate gate.old)
         (knowledge seat) }
     ensures desk { IsOf desk.now result.0 }
     ensures keeps { (opening result.0 ≡ opening seat) × (share result.0 ≡ share seat) }
-    ensures knows { WorkerKnows R.disk B.meaning B.sort G.answers 0 (counts_of G.Gate gate.old) (counts_of G.Gate gate.new)
+    ensures knows { WorkerKnows R.disk B.Resource G.answers 0 (counts_of G.Gate gate.old) (counts_of G.Gate gate.new)
         (knowledge result.0) }
     ensures stopped { HasStopped result.1 (places result.0) }
 {

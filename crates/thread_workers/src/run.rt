@@ -53,14 +53,14 @@ pub fn run_workers<
     G: Gate + Send,
 >(rt: &H, alloc: Global, engine: Engine<R, B>, gates: Vec<G>) -> Ran<R, B, G>
     requires few { (1 ≤ vec_len gates) × (vec_len gates ≤ 16) }
-    requires ready { IsReady B.meaning B.sort engine }
+    requires ready { IsReady B.Resource engine }
     ensures gates { (vec_len result.gates ≡ vec_len gates) × (vec_capacity gates ≤ vec_capacity result.gates) }
-    ensures history { IsOneHistory R.disk R.faults B.meaning B.sort (asked_gates G.Gate gates.items result.gates.items) engine
+    ensures history { IsOneHistory R.Rack B.Resource (asked_gates G.Gate gates.items result.gates.items) engine
         result.engine }
     ensures outcome { IsOutcome result.engine result.outcome }
     ensures fault { result.outcome ≡ RunOutcome.DiskFault → Rose (R.faults engine.files.rack) (R.faults result.engine.files.rack) }
-    ensures ready { result.outcome ≢ RunOutcome.DiskFault → IsReady B.meaning B.sort result.engine }
-    ensures fits { EachFits B.meaning B.sort result.engine.files.stores }
+    ensures ready { result.outcome ≢ RunOutcome.DiskFault → IsReady B.Resource result.engine }
+    ensures fits { EachFits B.Resource result.engine.files.stores }
 {
     engine.invariant_holds();
     let mut jobs = match Vec::with_capacity(alloc, gates.len()) {

@@ -25,7 +25,7 @@ fn give_job<R: Rack + Drop, B: Resource, G: Gate>(
     jobs: &mut Vec<Job<SharedEngine<R, B>, G>>,
 ) -> Seat<SharedEngine<R, B>>
     requires desk { IsOf desk.now seat }
-    requires opened { HasOpened R.disk B.meaning B.sort (knowledge seat) }
+    requires opened { HasOpened R.disk B.Resource (knowledge seat) }
     requires share { 2 ≤ share seat }
     requires room { vec_len jobs.old < vec_capacity jobs.old }
     ensures desk { IsOf desk.now result }
@@ -33,7 +33,7 @@ fn give_job<R: Rack + Drop, B: Resource, G: Gate>(
     ensures places { places result ≡ places seat }
     ensures share { share result ≡ share seat - share seat / 2 }
     ensures job { (j : _) × (jobs.new.items ≡ jobs.old.items ++ j ∷ [])
-        × IsReady R.disk B.meaning B.sort G.answers (counts_of G.Gate) (id desk.now) j
+        × IsReady R.disk B.Resource G.answers (counts_of G.Gate) (id desk.now) j
         × (j.gate ≡ gate) × (job_share j ≡ share seat / 2) × (job_opening j ≡ opening seat) }
     ensures len { vec_len jobs.new ≡ vec_len jobs.old + 1 }
     ensures capacity { vec_capacity jobs.old ≤ vec_capacity jobs.new }
@@ -58,14 +58,14 @@ pub fn give_jobs<R: Rack + Drop, B: Resource, G: Gate>(
     jobs: &mut Vec<Job<SharedEngine<R, B>, G>>,
 ) -> Seat<SharedEngine<R, B>>
     requires desk { IsOf desk.now seat }
-    requires opened { HasOpened R.disk B.meaning B.sort (knowledge seat) }
+    requires opened { HasOpened R.disk B.Resource (knowledge seat) }
     requires share { 2 ^ vec_len gates.old ≤ share seat }
     requires room { (jobs.old.items ≡ []) × (vec_len gates.old ≤ vec_capacity jobs.old) }
     ensures desk { IsOf desk.now result }
     ensures opening { opening result ≡ opening seat }
     ensures places { places result ≡ places seat }
     ensures share { share result + total job_share jobs.new.items ≡ share seat }
-    ensures jobs { Each (IsReady R.disk B.meaning B.sort G.answers (counts_of G.Gate) (id desk.now)) jobs.new.items }
+    ensures jobs { Each (IsReady R.disk B.Resource G.answers (counts_of G.Gate) (id desk.now)) jobs.new.items }
     ensures openings { Each (λ j. job_opening j ≡ opening seat) jobs.new.items }
     ensures len { vec_len jobs.new ≡ vec_len gates.old }
     ensures gates { (vec_len gates.new ≡ 0) × (vec_capacity gates.new ≡ vec_capacity gates.old)
@@ -86,7 +86,7 @@ fn take_in<R: Rack + Drop, B: Resource, G: Gate>(
     gates: &mut Vec<G>,
 ) -> (Seat<SharedEngine<R, B>>, RunOutcome)
     requires desk { IsOf desk.now seat }
-    requires done { IsDone R.disk B.meaning B.sort G.answers (counts_of G.Gate) (id desk.now) job }
+    requires done { IsDone R.disk B.Resource G.answers (counts_of G.Gate) (id desk.now) job }
     requires room { vec_len gates.old < vec_capacity gates.old }
     ensures desk { IsOf desk.now result.0 }
     ensures opening { opening result.0 ≡ opening seat }
@@ -120,7 +120,7 @@ pub fn take_all_in<R: Rack + Drop, B: Resource, G: Gate>(
     gates: &mut Vec<G>,
 ) -> (Seat<SharedEngine<R, B>>, Option<RunOutcome>)
     requires desk { IsOf desk.now seat }
-    requires done { Each (IsDone R.disk B.meaning B.sort G.answers (counts_of G.Gate) (id desk.now)) jobs.items }
+    requires done { Each (IsDone R.disk B.Resource G.answers (counts_of G.Gate) (id desk.now)) jobs.items }
     requires room { vec_len gates.old + vec_len jobs ≤ vec_capacity gates.old }
     ensures desk { IsOf desk.now result.0 }
     ensures opening { opening result.0 ≡ opening seat }

@@ -67,14 +67,14 @@ fn try_again<H: Wait, R: Rack + Drop, B: Resource>(
     piece: Piece,
 ) -> (Seat<SharedEngine<R, B>>, Result<Queue, RunOutcome>)
     requires desk { IsOf desk.now seat }
-    requires opened { HasOpened R.disk B.meaning B.sort (knowledge seat) }
+    requires opened { HasOpened R.disk B.Resource (knowledge seat) }
     requires handed { HasGot piece (knowledge seat) }
     ensures desk { IsOf desk.now result.0 }
     ensures keeps { (opening result.0 ≡ opening seat) × (share result.0 ≡ share seat) }
     ensures handed { HasGot piece (knowledge result.0) }
     ensures knows { (answers : Handed → Option Answer') → IsAnswerTo answers piece Answer.Done → (begun now : GateCounts)
-        → WorkerKnows R.disk B.meaning B.sort answers 0 begun now (knowledge seat)
-        → WorkerKnows R.disk B.meaning B.sort answers 0 begun now (knowledge result.0) }
+        → WorkerKnows R.disk B.Resource answers 0 begun now (knowledge seat)
+        → WorkerKnows R.disk B.Resource answers 0 begun now (knowledge result.0) }
     ensures back { IfOk result.1 (HandsBack piece Answer.Done) }
     ensures queued { IfOk result.1 (λ reply. (o : RunOutcome) → Stops o (queue_entry piece.piece.number Answer.Done reply)
         → HasStopped o (places result.0)) }
@@ -103,13 +103,13 @@ fn hand_in_late<H: Wait, R: Rack + Drop, B: Resource>(
     starved: bool,
 ) -> (Seat<SharedEngine<R, B>>, Option<RunOutcome>)
     requires desk { IsOf desk.now seat }
-    requires opened { HasOpened R.disk B.meaning B.sort (knowledge seat) }
+    requires opened { HasOpened R.disk B.Resource (knowledge seat) }
     requires handed { HasGot piece (knowledge seat) }
     ensures desk { IsOf desk.now result.0 }
     ensures keeps { (opening result.0 ≡ opening seat) × (share result.0 ≡ share seat) }
     ensures knows { (answers : Handed → Option Answer') → IsAnswerTo answers piece Answer.Done → (begun now : GateCounts)
-        → WorkerKnows R.disk B.meaning B.sort answers 0 begun now (knowledge seat)
-        → WorkerKnows R.disk B.meaning B.sort answers 0 begun now (knowledge result.0) }
+        → WorkerKnows R.disk B.Resource answers 0 begun now (knowledge seat)
+        → WorkerKnows R.disk B.Resource answers 0 begun now (knowledge result.0) }
     ensures stopped { IfSome result.1 (λ o. HasStopped o (places result.0)) }
 {
     let mut seat = seat;
@@ -137,13 +137,13 @@ pub fn work<H: Wait, R: Rack + Drop, B: Resource, G: Gate>(
     starved: bool,
 ) -> (Seat<SharedEngine<R, B>>, Option<RunOutcome>)
     requires desk { IsOf desk.now seat }
-    requires opened { HasOpened R.disk B.meaning B.sort (knowledge seat) }
+    requires opened { HasOpened R.disk B.Resource (knowledge seat) }
     requires handed { HasGot piece (knowledge seat) }
     ensures desk { IsOf desk.now result.0 }
     ensures keeps { (opening result.0 ≡ opening seat) × (share result.0 ≡ share seat) }
     ensures knows { (begun : GateCounts)
-        → WorkerKnows R.disk B.meaning B.sort G.answers (asks_for piece) begun (counts_of G.Gate gate.old) (knowledge seat)
-        → WorkerKnows R.disk B.meaning B.sort G.answers 0 begun (counts_of G.Gate gate.new) (knowledge result.0) }
+        → WorkerKnows R.disk B.Resource G.answers (asks_for piece) begun (counts_of G.Gate gate.old) (knowledge seat)
+        → WorkerKnows R.disk B.Resource G.answers 0 begun (counts_of G.Gate gate.new) (knowledge result.0) }
     ensures stopped { IfSome result.1 (λ o. HasStopped o (places result.0)) }
 {
     let answer = answer_to(gate, &piece);

@@ -1,8 +1,8 @@
 -- A turn of one thread alone: the piece that it ends is no longer out, and more is kept, within a bound that stays.
-use Rattle.std.proofs.Common.{◌≡◌, ◌≢◌, ◌∙◌, ◌≤◌, ◌<◌, ℕ, Bool, true, false, not, filter, List, [], ◌∷◌, ◌++◌, length, Some, None, refl, ap, sym, length-append, arith}
+use Rattle.std.proofs.Common.{◌≡◌, ◌≢◌, ◌∙◌, ◌≤◌, ◌<◌, Bool, true, false, not, filter, List, [], ◌∷◌, ◌++◌, length, Some, None, refl, ap, sym, length-append, arith}
 use Rattle.std.specs.List.{sum_by}
 use Rattle.std.proofs.lemmas.Bool.{false≢true}
-use Rattle.process_disk.specs.Disk.{Disk}
+use Rattle.process_disk.specs.declared.rack.Rack.{Ghosts as Racks}
 use Rattle.process_tree.specs.declared.plan.Plan.{Plan}
 use Rattle.process_tree.specs.declared.play.Outcome.{Outcome}
 use Rattle.process_tree.specs.declared.play.Outcome.TheVariants.{Done as Succeeds, Refused as Fails}
@@ -45,8 +45,8 @@ ends_it over = false
 ends_it (dropped k) = false
 ends_it no_piece = false
 
-module _ {R B : Type 0} (disk : R → Disk) (faults : R → ℕ) (old new : EngineState R B) (p : Handed) (handed : IsHandedBy old.core p.piece) (alone : (moment_of old.core).out ≡ p.piece ∷ [])
-    (goes : GoesOn disk faults [] old new) (outcome : Outcome) where
+module _ {R B : Type 0} (racks : Racks R) (old new : EngineState R B) (p : Handed) (handed : IsHandedBy old.core p.piece) (alone : (moment_of old.core).out ≡ p.piece ∷ [])
+    (goes : GoesOn racks [] old new) (outcome : Outcome) where
   reply_ends : (o : Outcome) → ends_it (out_finish (relation old.core) (courses_in old.core) (moment_of old.core) p.piece o) ≡ true
   reply_ends Succeeds = refl
   reply_ends Fails = by (same_work p.piece.work End)
@@ -68,7 +68,7 @@ module _ {R B : Type 0} (disk : R → Disk) (faults : R → ℕ) (old new : Engi
   refusal_so : new.core.plans ≡ old.core.plans → new.core.kept ≡ old.core.kept ++ Refuse p.piece.number ∷ [] → NothingRuns new.core
   refusal_so plans kept = ap (λ (m : Moment). m.out) (after (Refuse p.piece.number) plans kept) ∙ refusal_idle (relation old.core) (courses_in old.core) (moment_of old.core) p.piece alone
 
-  idle_by : (a : Finish) → Finishes disk old new p outcome a → new.core.kept ≡ old.core.kept ++ kept_by p.piece.number a → failure_of a ≡ None → NothingRuns new.core
+  idle_by : (a : Finish) → Finishes racks.disk old new p outcome a → new.core.kept ≡ old.core.kept ++ kept_by p.piece.number a → failure_of a ≡ None → NothingRuns new.core
   idle_by (Effected k) fin kept none = effect_so (ap (λ (c : CoreState). c.plans) fin.left.core) kept
   idle_by (Retry k) fin kept none = refusal_so (ap (λ (c : CoreState). c.plans) fin.left.0.core) kept
   idle_by Failed fin kept none = refusal_so (ap (λ (c : CoreState). c.plans) fin.left.0.core) kept
@@ -80,13 +80,13 @@ module _ {R B : Type 0} (disk : R → Disk) (faults : R → ℕ) (old new : Engi
   idle_by (Closed k) fin kept none = absurd fin.reply
 
   -- Once a piece that was out alone has ended, none is out.
-  pub idle_after : (a : Finish) → Finishes disk old new p outcome a → failure_of a ≡ None → NothingRuns new.core
-  idle_after a fin none = idle_by a fin (kept_of disk old new p outcome a fin) none
+  pub idle_after : (a : Finish) → Finishes racks.disk old new p outcome a → failure_of a ≡ None → NothingRuns new.core
+  idle_after a fin none = idle_by a fin (kept_of racks.disk old new p outcome a fin) none
 
 -- A piece that was handed out and worked on adds to what is kept.
-pub more_kept : {R B : Type 0} (disk : R → Disk) (faults : R → ℕ) (old mid new : EngineState R B) (d : Handed) → mid.core ≡ after_call old.core next
-    → next_is (chosen d) ≡ (answer_in old.core next).reply → GoesOn disk faults [] mid new → length old.core.kept < length new.core.kept
-more_kept disk faults old mid new d is replied goes =
+pub more_kept : {R B : Type 0} (racks : Racks R) (old mid new : EngineState R B) (d : Handed) → mid.core ≡ after_call old.core next
+    → next_is (chosen d) ≡ (answer_in old.core next).reply → GoesOn racks [] mid new → length old.core.kept < length new.core.kept
+more_kept racks old mid new d is replied goes =
     let vs = all_victims (relation old.core) (courses_in old.core) (moment_of old.core) in
     let one = ap length (kept_next old.core mid.core is (chosen d) replied) ∙ length-append old.core.kept (vs ++ kept_hand d ∷ []) in
     let hand = length-append vs (kept_hand d ∷ []) in

@@ -1,6 +1,6 @@
 -- Calls of several threads: those of one thread are such calls, and what they keep.
 use Rattle.std.proofs.Common.{◌≡◌, ◌∙◌, ℕ, List, [], ◌∷◌, ◌++◌, refl, ap, sym, subst, ⊎_elim, inl, inr, append-nil, append_assoc, arith}
-use Rattle.process_disk.specs.Disk.{Disk}
+use Rattle.process_disk.specs.declared.rack.Rack.{Ghosts as Racks}
 use Rattle.process_tree.specs.Order.{Each}
 use Rattle.process_tree.proofs.Every.{Each-append}
 use Rattle.machine_model.specs.declared.kept.Kept.{Kept}
@@ -28,8 +28,8 @@ calls_of (core ∷ cores) old new turns =
     ⊎_elim (λ is. (core ∷ rest.0, (inl is, rest.1))) (λ turn. (after_call old next ∷ core ∷ rest.0, (inl refl, (inr (turn.0.piece.number, turn.1, turn.3), rest.1)))) turns.0
 
 -- What one thread ran with a gate was run by the gates that are this one.
-pub ran_by_one : {R B : Type 0} (disk : R → Disk) (faults : R → ℕ) (gate : AskedGate) (old new : EngineState R B) → RanBy disk faults gate old new → RanByGates disk faults (of_one gate) old new
-ran_by_one disk faults gate old new ran =
+pub ran_by_one : {R B : Type 0} (racks : Racks R) (gate : AskedGate) (old new : EngineState R B) → RanBy racks gate old new → RanByGates racks (of_one gate) old new
+ran_by_one racks gate old new ran =
     let all = calls_of ran.cores old.core new.core ran.turns in
     let steps = steps_handed (kept_since old.core new.core) in
     record {

@@ -2,6 +2,7 @@
 use Rattle.std.proofs.Common.{◌≡◌, ◌≢◌, ◌∙◌, ◌+◌, ◌-◌, ◌^◌, min, ℕ, zero, suc, Bool, true, false, not, filter, List, [], ◌∷◌, ◌++◌, length, Option, Some, None, if◌then◌else◌, inl, inr, refl, ap, subst, sym, append-nil, append_assoc, length-append, arith}
 use Rattle.std.proofs.lemmas.Bool.{false≢true}
 use Rattle.std.proofs.lemmas.List.Elements.{filter-append}
+use Rattle.process_disk.specs.declared.rack.Rack.{Ghosts as Racks}
 use Rattle.process_disk.specs.Disk.{Disk, IsHonest, Told}
 use Rattle.process_disk.specs.Images.{EachImage}
 use Rattle.process_tree.specs.Order.{Each}
@@ -128,28 +129,28 @@ turns-append : (cores later : List CoreState) (old mid new : CoreState) → AreT
 turns-append [] later old mid new first second = subst (λ c. AreTurns later c new) first second
 turns-append (c ∷ cores) later old mid new first second = (first.0, turns-append cores later c mid new first.1 second)
 
-module _ {R B : Type 0} (disk : R → Disk) (faults : R → ℕ) (answers : Handed → Option Answer) where
+module _ {R B : Type 0} (racks : Racks R) (answers : Handed → Option Answer) where
   -- What is kept of calls that only run an engine, whole turns or not.
   pub record OnlyRuns (before after : GateCounts) (old new : EngineState R B) : Type 0 where
-    pub goes : GoesOnAlone disk faults old new
+    pub goes : GoesOnAlone racks old new
     pub plans : new.core.plans ≡ old.core.plans
     pub running : Each IsOfRunning (kept_since old.core new.core)
     pub by_gate : IsByGate (gate_from answers before after) old.catalog old.core new.core
 
   -- Nothing is kept by no call,
-  only_none : (count : GateCounts) (e : EngineState R B) → IsCore e.core → (Told (disk e.files.rack) → EachImage (disk e.files.rack) (disk e.files.rack).moment (IsSound e.catalog (full_history e.core)))
+  only_none : (count : GateCounts) (e : EngineState R B) → IsCore e.core → (Told (racks.disk e.files.rack) → EachImage (racks.disk e.files.rack) (racks.disk e.files.rack).moment (IsSound e.catalog (full_history e.core)))
       → OnlyRuns count count e e
   only_none count e core each =
       let nothing = sym (append-nil e.core.kept) in
       record {
-        goes = λ may_start. goes_none disk faults may_start e core each;
+        goes = λ may_start. goes_none racks may_start e core each;
         plans = refl;
         running = subst (Each IsOfRunning) (sym (kept_is e.core e.core [] nothing)) tt;
         by_gate = by_gate_none (gate_from answers count count) e.catalog (omega arith) e.core e.core [] nothing tt;
       }
 
   -- what the machine keeps of a request for any piece,
-  only_next : (count : GateCounts) (old new : EngineState R B) (r : Next) → new ≡ with_core old (after_call old.core next) → next_is r ≡ (answer_in old.core next).reply → GoesOnAlone disk faults old new
+  only_next : (count : GateCounts) (old new : EngineState R B) (r : Next) → new ≡ with_core old (after_call old.core next) → next_is r ≡ (answer_in old.core next).reply → GoesOnAlone racks old new
       → OnlyRuns count count old new
   only_next count old new r is replied goes =
       let core = ap (λ (e : EngineState R B). e.core) is in
@@ -163,17 +164,17 @@ module _ {R B : Type 0} (disk : R → Disk) (faults : R → ℕ) (answers : Hand
       }
 
   -- that of work on a piece,
-  pub only_work : (before after : GateCounts) (old new : EngineState R B) (p : Handed) (outcome : Outcome) (a : Finish) → Finishes disk old new p outcome a → GoesOnAlone disk faults old new
+  pub only_work : (before after : GateCounts) (old new : EngineState R B) (p : Handed) (outcome : Outcome) (a : Finish) → Finishes racks.disk old new p outcome a → GoesOnAlone racks old new
       → IsByGate (gate_from answers before after) old.catalog old.core new.core → OnlyRuns before after old new
   only_work before after old new p outcome a fin goes by_gate = record {
     goes = goes;
-    plans = ended_plans disk old new p outcome a fin;
-    running = subst (Each IsOfRunning) (sym (kept_is old.core new.core (kept_by p.piece.number a) (kept_of disk old new p outcome a fin))) (ended_each p.piece.number a);
+    plans = ended_plans racks.disk old new p outcome a fin;
+    running = subst (Each IsOfRunning) (sym (kept_is old.core new.core (kept_by p.piece.number a) (kept_of racks.disk old new p outcome a fin))) (ended_each p.piece.number a);
     by_gate = by_gate;
   }
 
   -- and that of both, one after another.
-  pub only_then : (before between after : GateCounts) (old mid new : EngineState R B) → mid.phase ≡ phase.Settled → IsCore mid.core → (Told (disk new.files.rack) → IsHonest (disk new.files.rack))
+  pub only_then : (before between after : GateCounts) (old mid new : EngineState R B) → mid.phase ≡ phase.Settled → IsCore mid.core → (Told (racks.disk new.files.rack) → IsHonest (racks.disk new.files.rack))
       → OnlyRuns before between old mid → OnlyRuns between after mid new → OnlyRuns before after old new
   only_then before between after old mid new settled core honest first second =
       let one = (first.goes []).added in
@@ -182,7 +183,7 @@ module _ {R B : Type 0} (disk : R → Disk) (faults : R → ℕ) (answers : Hand
       let kept_two = (second.goes []).kept in
       let all = kept_is old.core new.core (one ++ two) (kept_two ∙ (ap (λ ks. ks ++ two) kept_one ∙ append_assoc old.core.kept one two)) in
       record {
-        goes = λ may_start. goes_then disk faults may_start old mid new settled core.session.one_each honest (first.goes may_start) (second.goes may_start);
+        goes = λ may_start. goes_then racks may_start old mid new settled core.session.one_each honest (first.goes may_start) (second.goes may_start);
         plans = second.plans ∙ first.plans;
         running = subst (Each IsOfRunning) (sym all)
             (Each-append IsOfRunning one two (subst (Each IsOfRunning) (kept_is old.core mid.core one kept_one) first.running) (subst (Each IsOfRunning) (kept_is mid.core new.core two kept_two) second.running));
@@ -191,21 +192,21 @@ module _ {R B : Type 0} (disk : R → Disk) (faults : R → ℕ) (answers : Hand
       }
 
   ran_so : (before after : GateCounts) (old new : EngineState R B) (cores : List CoreState) → OnlyRuns before after old new → IsAskedOnce (gate_from answers before after) old.core new.core
-      → AreTurns cores old.core new.core → RanBy disk faults (gate_from answers before after) old new
+      → AreTurns cores old.core new.core → RanBy racks (gate_from answers before after) old new
   ran_so before after old new cores only asked turns = record { goes = only.goes; plans = only.plans; running = only.running; by_gate = only.by_gate; asked_once = asked; cores = cores; turns = turns }
 
-  only_of : (before after : GateCounts) (old new : EngineState R B) → RanBy disk faults (gate_from answers before after) old new → OnlyRuns before after old new
+  only_of : (before after : GateCounts) (old new : EngineState R B) → RanBy racks (gate_from answers before after) old new → OnlyRuns before after old new
   only_of before after old new ran = record { goes = ran.goes; plans = ran.plans; running = ran.running; by_gate = ran.by_gate }
 
   -- By no turn an engine was only run,
-  pub ran_none : (count : GateCounts) (e : EngineState R B) → IsCore e.core → (Told (disk e.files.rack) → EachImage (disk e.files.rack) (disk e.files.rack).moment (IsSound e.catalog (full_history e.core)))
-      → RanBy disk faults (gate_from answers count count) e e
+  pub ran_none : (count : GateCounts) (e : EngineState R B) → IsCore e.core → (Told (racks.disk e.files.rack) → EachImage (racks.disk e.files.rack) (racks.disk e.files.rack).moment (IsSound e.catalog (full_history e.core)))
+      → RanBy racks (gate_from answers count count) e e
   ran_none count e core each =
       ran_so count count e e [] (only_none count e core each) (ap (λ ks. count_after count.asked (steps_handed ks)) (sym (kept_is e.core e.core [] (sym (append-nil e.core.kept))))) refl
 
   -- by a turn that hands out no piece,
-  pub ran_next : (count : GateCounts) (old new : EngineState R B) (r : Next) → new ≡ with_core old (after_call old.core next) → next_is r ≡ (answer_in old.core next).reply → GoesOnAlone disk faults old new
-      → next_kept r ≡ [] → RanBy disk faults (gate_from answers count count) old new
+  pub ran_next : (count : GateCounts) (old new : EngineState R B) (r : Next) → new ≡ with_core old (after_call old.core next) → next_is r ≡ (answer_in old.core next).reply → GoesOnAlone racks old new
+      → next_kept r ≡ [] → RanBy racks (gate_from answers count count) old new
   ran_next count old new r is replied goes none =
       let core = ap (λ (e : EngineState R B). e.core) is in
       let vs = all_victims (relation old.core) (courses_in old.core) (moment_of old.core) in
@@ -218,7 +219,7 @@ module _ {R B : Type 0} (disk : R → Disk) (faults : R → ℕ) (answers : Hand
     by_outcome : (outcome : Outcome) → new.core ≡ after_call mid.core (finish d.piece.number outcome) → IsTurn old.core new.core
     by_outcome outcome is = inr (d, outcome, sym replied, is ∙ ap (λ c. after_call c (finish d.piece.number outcome)) core)
 
-    turn_by : (outcome : Outcome) (a : Finish) → Finishes disk mid new d outcome a → IsTurn old.core new.core
+    turn_by : (outcome : Outcome) (a : Finish) → Finishes racks.disk mid new d outcome a → IsTurn old.core new.core
     turn_by outcome (Effected k) fin = by_outcome Succeeds fin.left.core
     turn_by outcome (Retry k) fin = by_outcome Fails fin.left.0.core
     turn_by outcome Failed fin = by_outcome Fails fin.left.0.core
@@ -231,9 +232,9 @@ module _ {R B : Type 0} (disk : R → Disk) (faults : R → ℕ) (answers : Hand
 
   -- by a turn that hands out a piece, which a gate works on,
   module _ (before after : GateCounts) (old mid new : EngineState R B) (d : Handed) (outcome : Outcome) (a : Finish) (settled : mid.phase ≡ phase.Settled) (is_core : IsCore mid.core)
-      (honest : Told (disk new.files.rack) → IsHonest (disk new.files.rack))
+      (honest : Told (racks.disk new.files.rack) → IsHonest (racks.disk new.files.rack))
       (is : mid ≡ with_core old (after_call old.core next)) (replied : next_is (chosen d) ≡ (answer_in old.core next).reply)
-      (goes : GoesOnAlone disk faults old mid) (worked : GoesOnAlone disk faults mid new) (fin : Finishes disk mid new d outcome a)
+      (goes : GoesOnAlone racks old mid) (worked : GoesOnAlone racks mid new) (fin : Finishes racks.disk mid new d outcome a)
       (by_gate : IsByGate (gate_from answers before after) mid.catalog mid.core new.core)
       (unasked : d.piece.work ≡ End → after.asked ≡ before.asked) (asked : d.piece.work ≢ End → after.asked ≡ count_after before.asked 1) where
     abbrev hand : List Kept
@@ -255,7 +256,7 @@ module _ {R B : Type 0} (disk : R → Disk) (faults : R → ℕ) (answers : Hand
     steps : steps_handed (kept_since old.core new.core) ≡ steps_handed hand
     steps =
         let ends = kept_by d.piece.number a in
-        let kept = kept_of disk mid new d outcome a fin ∙ (ap (λ ks. ks ++ ends) (kept_next old.core mid.core core' (chosen d) replied) ∙ append_assoc old.core.kept (vs ++ hand) ends) in
+        let kept = kept_of racks.disk mid new d outcome a fin ∙ (ap (λ ks. ks ++ ends) (kept_next old.core mid.core core' (chosen d) replied) ∙ append_assoc old.core.kept (vs ++ hand) ends) in
         let all = ap steps_handed (kept_is old.core new.core ((vs ++ hand) ++ ends) kept) in
         let two = steps-append (vs ++ hand) ends in
         let one = steps-append vs hand in
@@ -263,15 +264,15 @@ module _ {R B : Type 0} (disk : R → Disk) (faults : R → ℕ) (answers : Hand
         let victims = no_victim_is_step old.core in
         omega (arith, all, two, one, none, victims)
 
-    pub ran_turn : RanBy disk faults (gate_from answers before after) old new
+    pub ran_turn : RanBy racks (gate_from answers before after) old new
     ran_turn = ran_so before after old new (new.core ∷ [])
         (only_then before before after old mid new settled is_core honest (only_next before old mid (chosen d) is replied goes) (only_work before after mid new d outcome a fin worked by_gate))
         (sym (ap (count_after before.asked) (steps ∙ steps_by (same_work d.piece.work End) refl) ∙ asked_by (same_work d.piece.work End) refl))
         (turn_by old mid new d core' replied outcome a fin, refl)
 
   -- and by one run after another.
-  pub ran_then : (before between after : GateCounts) (old mid new : EngineState R B) → mid.phase ≡ phase.Settled → IsCore mid.core → (Told (disk new.files.rack) → IsHonest (disk new.files.rack))
-      → RanBy disk faults (gate_from answers before between) old mid → RanBy disk faults (gate_from answers between after) mid new → RanBy disk faults (gate_from answers before after) old new
+  pub ran_then : (before between after : GateCounts) (old mid new : EngineState R B) → mid.phase ≡ phase.Settled → IsCore mid.core → (Told (racks.disk new.files.rack) → IsHonest (racks.disk new.files.rack))
+      → RanBy racks (gate_from answers before between) old mid → RanBy racks (gate_from answers between after) mid new → RanBy racks (gate_from answers before after) old new
   ran_then before between after old mid new settled core honest first second =
       let one = (first.goes []).added in
       let two = (second.goes []).added in

@@ -1,6 +1,6 @@
 -- What the answers of several gates have to do with what an engine keeps, and machines that several threads ran.
 use Rattle.std.specs.Prelude.{◌≡◌, ◌⊎◌, ◌≤◌, ◌<◌, ℕ, ◌+◌, ◌-◌, ◌^◌, List, [], ◌∷◌, ◌++◌, map, Option}
-use Rattle.process_disk.specs.Disk.{Disk}
+use Rattle.process_disk.specs.declared.rack.Rack.{Ghosts as Racks}
 use Rattle.process_tree.specs.Order.{Each}
 use Rattle.process_tree.specs.declared.play.Outcome.{Outcome}
 use Rattle.commute_table.specs.declared.catalog.Catalog.{Catalog}
@@ -62,9 +62,9 @@ AreCalls [] old new = new ≡ old
 AreCalls (core ∷ cores) old new = IsCall old core × AreCalls cores core new
 
 -- An engine was only run from one state to another, by these gates, each of which works for a thread.
-pub record RanByGates {R B : Type 0} (disk : R → Disk) (faults : R → ℕ) (gates : AskedGates)
+pub record RanByGates {R B : Type 0} (racks : Racks R) (gates : AskedGates)
     (old new : EngineState R B) : Type 0 where
-  pub goes : GoesOnAlone disk faults old new
+  pub goes : GoesOnAlone racks old new
   -- none started
   pub plans : new.core.plans ≡ old.core.plans
   pub running : Each IsOfRunning (kept_since old.core new.core)

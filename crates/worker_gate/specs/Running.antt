@@ -1,6 +1,6 @@
 -- Processes that are only run: none starts, and none is asked to complete.
-use Rattle.std.specs.Prelude.{◌≡◌, ◌⊎◌, ⊤, ℕ, List, [], ◌∷◌, ◌++◌, Option, Some, None}
-use Rattle.process_disk.specs.Disk.{Disk}
+use Rattle.std.specs.Prelude.{◌≡◌, ◌⊎◌, ⊤, List, [], ◌∷◌, ◌++◌, Option, Some, None}
+use Rattle.process_disk.specs.declared.rack.Rack.{Ghosts as Racks}
 use Rattle.process_tree.specs.Order.{Each}
 use Rattle.process_tree.specs.declared.play.Outcome.{Outcome}
 use Rattle.schedule_model.specs.Histories.{active}
@@ -52,8 +52,8 @@ abbrev pub IsAskedOnce : AskedGate → CoreState → CoreState → Type 0
 IsAskedOnce gate old new = gate.after.asked ≡ count_after gate.before.asked (steps_handed (kept_since old new))
 
 -- An engine was only run from one state to another, by this gate.
-pub record RanBy {R B : Type 0} (disk : R → Disk) (faults : R → ℕ) (gate : AskedGate) (old new : EngineState R B) : Type 0 where
-  pub goes : GoesOnAlone disk faults old new
+pub record RanBy {R B : Type 0} (racks : Racks R) (gate : AskedGate) (old new : EngineState R B) : Type 0 where
+  pub goes : GoesOnAlone racks old new
   -- none started
   pub plans : new.core.plans ≡ old.core.plans
   pub running : Each IsOfRunning (kept_since old.core new.core)

@@ -41,13 +41,13 @@ fn turn<R: Rack + Drop, B: Resource, G: Gate>(
     engine: &mut Engine<R, B>,
     gate: &mut G,
 ) -> Option<RunOutcome>
-    requires ready { IsReady B.meaning B.sort engine.old }
+    requires ready { IsReady B.Resource engine.old }
     requires alone { NothingRuns engine.old.core }
-    ensures ran { RanBy R.disk R.faults (asked G.Gate gate.old gate.new) engine.old engine.new }
+    ensures ran { RanBy R.Rack (asked G.Gate gate.old gate.new) engine.old engine.new }
     ensures outcome { IfSome result (IsOutcome engine.new) }
     ensures fault { result ≡ Some RunOutcome.DiskFault → Rose (R.faults engine.old.files.rack) (R.faults engine.new.files.rack) }
-    ensures ready { result ≢ Some RunOutcome.DiskFault → IsReady B.meaning B.sort engine.new }
-    ensures fits { EachFits B.meaning B.sort engine.new.files.stores }
+    ensures ready { result ≢ Some RunOutcome.DiskFault → IsReady B.Resource engine.new }
+    ensures fits { EachFits B.Resource engine.new.files.stores }
     ensures idle { result ≡ None → NothingRuns engine.new.core }
     ensures more { result ≡ None → length engine.old.core.kept < length engine.new.core.kept }
 {
@@ -69,13 +69,13 @@ pub fn run_alone<R: Rack + Drop, B: Resource, G: Gate>(
     engine: &mut Engine<R, B>,
     gate: &mut G,
 ) -> RunOutcome
-    requires ready { IsReady B.meaning B.sort engine.old }
+    requires ready { IsReady B.Resource engine.old }
     requires alone { NothingRuns engine.old.core }
-    ensures ran { RanBy R.disk R.faults (asked G.Gate gate.old gate.new) engine.old engine.new }
+    ensures ran { RanBy R.Rack (asked G.Gate gate.old gate.new) engine.old engine.new }
     ensures outcome { IsOutcome engine.new result }
     ensures fault { result ≡ RunOutcome.DiskFault → Rose (R.faults engine.old.files.rack) (R.faults engine.new.files.rack) }
-    ensures ready { result ≢ RunOutcome.DiskFault → IsReady B.meaning B.sort engine.new }
-    ensures fits { EachFits B.meaning B.sort engine.new.files.stores }
+    ensures ready { result ≢ RunOutcome.DiskFault → IsReady B.Resource engine.new }
+    ensures fits { EachFits B.Resource engine.new.files.stores }
 {
     engine.invariant_holds();
     'turns: loop {

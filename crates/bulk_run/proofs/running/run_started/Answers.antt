@@ -18,4 +18,4 @@ returns-clause-said g c =
 
 pub returns-clause-fits : goal.returns-clause-fits
 returns-clause-fits g c =
-    subst (λ (e : EngineState g.row.R.Denot g.row.B.Denot). EachFits g.B.Resource.meaning g.B.Resource.sort e.files.stores) (sym c.said_of.ensures.left) c.run_alone-outcome.ensures.fits
+    subst (λ (e : EngineState g.row.R.Denot g.row.B.Denot). EachFits g.B.Resource e.files.stores) (sym c.said_of.ensures.left) c.run_alone-outcome.ensures.fits

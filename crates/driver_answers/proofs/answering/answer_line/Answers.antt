@@ -17,33 +17,33 @@ use Rattle.driver_answers.proofs.MoreStarts.{goes_at_rest, goes_wider, one_of_le
 use Rattle.driver_answers.proofs.answering.answer_line.Goals as goal
 
 pub returns-then-is_empty-clause-goes : goal.returns-then-is_empty-clause-goes
-returns-then-is_empty-clause-goes g c = goes_at_rest g.R.Rack.disk g.R.Rack.faults c.args.plans.now c.args.engine.now c.invariant_holds.ensures.run (c.invariant_holds.ensures.each c.requires.ready.settled)
+returns-then-is_empty-clause-goes g c = goes_at_rest g.R.Rack c.args.plans.now c.args.engine.now c.invariant_holds.ensures.run (c.invariant_holds.ensures.each c.requires.ready.settled)
 
 pub returns-in_err-line-clause-goes : goal.returns-in_err-line-clause-goes
-returns-in_err-line-clause-goes g c = goes_at_rest g.R.Rack.disk g.R.Rack.faults c.args.plans.now c.args.engine.now c.invariant_holds.ensures.run (c.invariant_holds.ensures.each c.requires.ready.settled)
+returns-in_err-line-clause-goes g c = goes_at_rest g.R.Rack c.args.plans.now c.args.engine.now c.invariant_holds.ensures.run (c.invariant_holds.ensures.each c.requires.ready.settled)
 
 pub returns-in_err-pieces_text-in-Some-Pieces-clause-goes : goal.returns-in_err-pieces_text-in-Some-Pieces-clause-goes
-returns-in_err-pieces_text-in-Some-Pieces-clause-goes g c = goes_at_rest g.R.Rack.disk g.R.Rack.faults c.args.plans.now c.args.engine.now c.invariant_holds.ensures.run (c.invariant_holds.ensures.each c.requires.ready.settled)
+returns-in_err-pieces_text-in-Some-Pieces-clause-goes g c = goes_at_rest g.R.Rack c.args.plans.now c.args.engine.now c.invariant_holds.ensures.run (c.invariant_holds.ensures.each c.requires.ready.settled)
 
 pub returns-in_ok-pieces_text-in-Some-Pieces-clause-goes : goal.returns-in_ok-pieces_text-in-Some-Pieces-clause-goes
-returns-in_ok-pieces_text-in-Some-Pieces-clause-goes g c = goes_at_rest g.R.Rack.disk g.R.Rack.faults c.args.plans.now c.args.engine.now c.invariant_holds.ensures.run (c.invariant_holds.ensures.each c.requires.ready.settled)
+returns-in_ok-pieces_text-in-Some-Pieces-clause-goes g c = goes_at_rest g.R.Rack c.args.plans.now c.args.engine.now c.invariant_holds.ensures.run (c.invariant_holds.ensures.each c.requires.ready.settled)
 
 pub returns-in_err-happened_text-in-Some-Happened-clause-goes : goal.returns-in_err-happened_text-in-Some-Happened-clause-goes
-returns-in_err-happened_text-in-Some-Happened-clause-goes g c = goes_at_rest g.R.Rack.disk g.R.Rack.faults c.args.plans.now c.args.engine.now c.invariant_holds.ensures.run (c.invariant_holds.ensures.each c.requires.ready.settled)
+returns-in_err-happened_text-in-Some-Happened-clause-goes g c = goes_at_rest g.R.Rack c.args.plans.now c.args.engine.now c.invariant_holds.ensures.run (c.invariant_holds.ensures.each c.requires.ready.settled)
 
 pub returns-in_ok-happened_text-in-Some-Happened-clause-goes : goal.returns-in_ok-happened_text-in-Some-Happened-clause-goes
-returns-in_ok-happened_text-in-Some-Happened-clause-goes g c = goes_at_rest g.R.Rack.disk g.R.Rack.faults c.args.plans.now c.args.engine.now c.invariant_holds.ensures.run (c.invariant_holds.ensures.each c.requires.ready.settled)
+returns-in_ok-happened_text-in-Some-Happened-clause-goes g c = goes_at_rest g.R.Rack c.args.plans.now c.args.engine.now c.invariant_holds.ensures.run (c.invariant_holds.ensures.each c.requires.ready.settled)
 
 pub returns-in_err-bad_line-in-None-clause-goes : goal.returns-in_err-bad_line-in-None-clause-goes
-returns-in_err-bad_line-in-None-clause-goes g c = goes_at_rest g.R.Rack.disk g.R.Rack.faults c.args.plans.now c.args.engine.now c.invariant_holds.ensures.run (c.invariant_holds.ensures.each c.requires.ready.settled)
+returns-in_err-bad_line-in-None-clause-goes g c = goes_at_rest g.R.Rack c.args.plans.now c.args.engine.now c.invariant_holds.ensures.run (c.invariant_holds.ensures.each c.requires.ready.settled)
 
 pub returns-in_ok-bad_line-in-None-clause-goes : goal.returns-in_ok-bad_line-in-None-clause-goes
-returns-in_ok-bad_line-in-None-clause-goes g c = goes_at_rest g.R.Rack.disk g.R.Rack.faults c.args.plans.now c.args.engine.now c.invariant_holds.ensures.run (c.invariant_holds.ensures.each c.requires.ready.settled)
+returns-in_ok-bad_line-in-None-clause-goes g c = goes_at_rest g.R.Rack c.args.plans.now c.args.engine.now c.invariant_holds.ensures.run (c.invariant_holds.ensures.each c.requires.ready.settled)
 
 pub returns-in-Some-Session-clause-goes : goal.returns-in-Some-Session-clause-goes
 returns-in-Some-Session-clause-goes g c =
     let plans = c.args.plans.now in
-    ([], goes_wider g.R.Rack.disk g.R.Rack.faults c.args.engine.now c.answer_session.new.engine plans (plans ++ []) (one_of_left plans []) c.answer_session.ensures.goes)
+    ([], goes_wider g.R.Rack c.args.engine.now c.answer_session.new.engine plans (plans ++ []) (one_of_left plans []) c.answer_session.ensures.goes)
 
 pub returns-in-Some-StartSpelled-clause-goes : goal.returns-in-Some-StartSpelled-clause-goes
 returns-in-Some-StartSpelled-clause-goes g c =

@@ -8,7 +8,7 @@ use Rattle.session_play.proofs.Outcomes.{err_map, ok_map}
 use Rattle.driver_answers.proofs.spelled.start_named.Goals as goal
 
 pub returns-in_err-name-clause-goes : goal.returns-in_err-name-clause-goes
-returns-in_err-name-clause-goes g c may_start one = goes_none g.R.Rack.disk g.R.Rack.faults may_start c.args.engine.now c.invariant_holds.ensures.run (c.invariant_holds.ensures.each c.requires.ready.settled)
+returns-in_err-name-clause-goes g c may_start one = goes_none g.R.Rack may_start c.args.engine.now c.invariant_holds.ensures.run (c.invariant_holds.ensures.each c.requires.ready.settled)
 
 pub returns-clause-answered : goal.returns-clause-answered
 returns-clause-answered g c =

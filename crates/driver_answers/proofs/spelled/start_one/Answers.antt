@@ -13,10 +13,10 @@ use Rattle.driver_answers.proofs.SpelledStarts.{cut_of_only}
 use Rattle.driver_answers.proofs.spelled.start_one.Goals as goal
 
 pub returns-in_err-bad_line-in-None-clause-goes : goal.returns-in_err-bad_line-in-None-clause-goes
-returns-in_err-bad_line-in-None-clause-goes g c may_start one = goes_none g.R.Rack.disk g.R.Rack.faults may_start c.args.engine.now c.invariant_holds.ensures.run (c.invariant_holds.ensures.each c.requires.ready.settled)
+returns-in_err-bad_line-in-None-clause-goes g c may_start one = goes_none g.R.Rack may_start c.args.engine.now c.invariant_holds.ensures.run (c.invariant_holds.ensures.each c.requires.ready.settled)
 
 pub returns-in_ok-bad_line-in-None-clause-goes : goal.returns-in_ok-bad_line-in-None-clause-goes
-returns-in_ok-bad_line-in-None-clause-goes g c may_start one = goes_none g.R.Rack.disk g.R.Rack.faults may_start c.args.engine.now c.invariant_holds.ensures.run (c.invariant_holds.ensures.each c.requires.ready.settled)
+returns-in_ok-bad_line-in-None-clause-goes g c may_start one = goes_none g.R.Rack may_start c.args.engine.now c.invariant_holds.ensures.run (c.invariant_holds.ensures.each c.requires.ready.settled)
 
 pub returns-in-Some-clause-goes : goal.returns-in-Some-clause-goes
 returns-in-Some-clause-goes g c may_start one = c.start_named.ensures.goes may_start (one c.in-Some.plan c.in-Some.ensures.some)

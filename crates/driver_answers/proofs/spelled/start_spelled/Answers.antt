@@ -21,11 +21,11 @@ start_one-requires-clause-plans g c =
 
 pub returns-in_err-no_plans_text-in-Err-clause-goes : goal.returns-in_err-no_plans_text-in-Err-clause-goes
 returns-in_err-no_plans_text-in-Err-clause-goes g c =
-    ([], (λ may_start more. goes_none g.R.Rack.disk g.R.Rack.faults may_start c.args.engine.now c.invariant_holds.ensures.run (c.invariant_holds.ensures.each c.requires.ready.settled)))
+    ([], (λ may_start more. goes_none g.R.Rack may_start c.args.engine.now c.invariant_holds.ensures.run (c.invariant_holds.ensures.each c.requires.ready.settled)))
 
 pub returns-in_ok-no_plans_text-in-Err-clause-goes : goal.returns-in_ok-no_plans_text-in-Err-clause-goes
 returns-in_ok-no_plans_text-in-Err-clause-goes g c =
-    ([], (λ may_start more. goes_none g.R.Rack.disk g.R.Rack.faults may_start c.args.engine.now c.invariant_holds.ensures.run (c.invariant_holds.ensures.each c.requires.ready.settled)))
+    ([], (λ may_start more. goes_none g.R.Rack may_start c.args.engine.now c.invariant_holds.ensures.run (c.invariant_holds.ensures.each c.requires.ready.settled)))
 
 pub returns-in-Ok-clause-goes : goal.returns-in-Ok-clause-goes
 returns-in-Ok-clause-goes g c =

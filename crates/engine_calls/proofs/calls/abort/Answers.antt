@@ -6,7 +6,7 @@ use Rattle.engine_calls.proofs.calls.abort.Goals as goal
 
 pub returns-clause-goes : goal.returns-clause-goes
 returns-clause-goes g c may_start =
-    called_goes g.R.Rack.disk g.R.Rack.faults may_start c.args.engine.now c.abort.new.self c.invariant_holds.ensures.run (c.invariant_holds.ensures.each c.requires.ready.settled) (abort c.args.i) c.in-Ok.ensures.engine (abort_same c.args.engine.now.core c.args.i)
+    called_goes g.R.Rack may_start c.args.engine.now c.abort.new.self c.invariant_holds.ensures.run (c.invariant_holds.ensures.each c.requires.ready.settled) (abort c.args.i) c.in-Ok.ensures.engine (abort_same c.args.engine.now.core c.args.i)
 
 pub returns-clause-ready : goal.returns-clause-ready
-returns-clause-ready g c = still_ready g.B.Resource.meaning g.B.Resource.sort c.args.engine.now c.abort.new.self (after_call c.args.engine.now.core (abort c.args.i)) c.in-Ok.ensures.engine c.requires.ready
+returns-clause-ready g c = still_ready g.B.Resource c.args.engine.now c.abort.new.self (after_call c.args.engine.now.core (abort c.args.i)) c.in-Ok.ensures.engine c.requires.ready

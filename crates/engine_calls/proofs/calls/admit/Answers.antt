@@ -12,7 +12,7 @@ returns-clause-given g c = admitted_so c.args.engine.now.core c.admit.new.self.c
 
 pub returns-clause-goes : goal.returns-clause-goes
 returns-clause-goes g c may_start =
-    called_goes g.R.Rack.disk g.R.Rack.faults may_start c.args.engine.now c.admit.new.self c.invariant_holds.ensures.run (c.invariant_holds.ensures.each c.requires.ready.settled) (admit c.args.i) c.in-Ok.ensures.engine (admit_same c.args.engine.now.core c.args.i)
+    called_goes g.R.Rack may_start c.args.engine.now c.admit.new.self c.invariant_holds.ensures.run (c.invariant_holds.ensures.each c.requires.ready.settled) (admit c.args.i) c.in-Ok.ensures.engine (admit_same c.args.engine.now.core c.args.i)
 
 pub returns-clause-ready : goal.returns-clause-ready
-returns-clause-ready g c = still_ready g.B.Resource.meaning g.B.Resource.sort c.args.engine.now c.admit.new.self (after_call c.args.engine.now.core (admit c.args.i)) c.in-Ok.ensures.engine c.requires.ready
+returns-clause-ready g c = still_ready g.B.Resource c.args.engine.now c.admit.new.self (after_call c.args.engine.now.core (admit c.args.i)) c.in-Ok.ensures.engine c.requires.ready

@@ -8,7 +8,7 @@ use Rattle.engine_tests.proofs.turns.next_piece.Goals as goal
 
 pub returns-in-Ok-Piece-clause-ready : goal.returns-in-Ok-Piece-clause-ready
 returns-in-Ok-Piece-clause-ready g c =
-    ready_asked g.B.Resource.meaning g.B.Resource.sort c.args.engine.now c.next-reply.new.self (after_call c.args.engine.now.core next) c.in-Ok-Piece.ensures.engine c.requires.ready
+    ready_asked g.B.Resource c.args.engine.now c.next-reply.new.self (after_call c.args.engine.now.core next) c.in-Ok-Piece.ensures.engine c.requires.ready
 
 pub returns-in-Ok-Piece-clause-handed : goal.returns-in-Ok-Piece-clause-handed
 returns-in-Ok-Piece-clause-handed g c =
@@ -18,12 +18,12 @@ returns-in-Ok-Piece-clause-handed g c =
 
 pub returns-in-Ok-Wait-clause-ready : goal.returns-in-Ok-Wait-clause-ready
 returns-in-Ok-Wait-clause-ready g c =
-    ready_asked g.B.Resource.meaning g.B.Resource.sort c.args.engine.now c.next-reply.new.self (after_call c.args.engine.now.core next) c.in-Ok-Wait.ensures.engine c.requires.ready
+    ready_asked g.B.Resource c.args.engine.now c.next-reply.new.self (after_call c.args.engine.now.core next) c.in-Ok-Wait.ensures.engine c.requires.ready
 
 pub returns-in-Ok-AllEnded-clause-ready : goal.returns-in-Ok-AllEnded-clause-ready
 returns-in-Ok-AllEnded-clause-ready g c =
-    ready_asked g.B.Resource.meaning g.B.Resource.sort c.args.engine.now c.next-reply.new.self (after_call c.args.engine.now.core next) c.in-Ok-AllEnded.ensures.engine c.requires.ready
+    ready_asked g.B.Resource c.args.engine.now c.next-reply.new.self (after_call c.args.engine.now.core next) c.in-Ok-AllEnded.ensures.engine c.requires.ready
 
 pub returns-in-Ok-Stuck-clause-ready : goal.returns-in-Ok-Stuck-clause-ready
 returns-in-Ok-Stuck-clause-ready g c =
-    ready_asked g.B.Resource.meaning g.B.Resource.sort c.args.engine.now c.next-reply.new.self (after_call c.args.engine.now.core next) c.in-Ok-Stuck.ensures.engine c.requires.ready
+    ready_asked g.B.Resource c.args.engine.now c.next-reply.new.self (after_call c.args.engine.now.core next) c.in-Ok-Stuck.ensures.engine c.requires.ready

@@ -8,7 +8,7 @@ use Rattle.group_flush.proofs.GroupKept.{found_some, may_together, some_run}
 use Rattle.group_flush.proofs.flushing.flush_listed.Goals as goal
 
 pub returns-then-is_empty-clause-fits : goal.returns-then-is_empty-clause-fits
-returns-then-is_empty-clause-fits g c = subst (λ x. EachFits g.B.Resource.meaning g.B.Resource.sort x.files.stores) (sym c.drop_group.ensures.same) c.requires.fits
+returns-then-is_empty-clause-fits g c = subst (λ x. EachFits g.B.Resource x.files.stores) (sym c.drop_group.ensures.same) c.requires.fits
 
 pub put_group-requires-clause-group : goal.put_group-requires-clause-group
 put_group-requires-clause-group g c =
@@ -18,4 +18,4 @@ put_group-requires-clause-group g c =
     (running_of e.core group, may_together e group c.requires.queued fits (some_run (courses_in e.core) (running_of e.core group) c.args.events.now c.requires.events (found_some c.args.events.now c.is_empty.result c.is_empty.ensures c.if-is_empty.false)), c.requires.events)
 
 pub returns-clause-fits : goal.returns-clause-fits
-returns-clause-fits g c = subst (λ x. EachFits g.B.Resource.meaning g.B.Resource.sort x.stores) (sym c.keep_group-group.ensures.same) c.put_group.ensures.fits
+returns-clause-fits g c = subst (λ x. EachFits g.B.Resource x.stores) (sym c.keep_group-group.ensures.same) c.put_group.ensures.fits

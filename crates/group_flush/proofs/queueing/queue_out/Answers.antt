@@ -22,4 +22,4 @@ returns-in-Refused-clause-queued g c =
     subst (λ x. AreQueued x c.args.queued.now) (sym c.refuse.ensures.refused) (queued_later c.args.engine.now c.args.piece.piece.number c.args.queued.now c.requires.queued c.requires.new)
 
 pub returns-in-Refused-clause-fits : goal.returns-in-Refused-clause-fits
-returns-in-Refused-clause-fits g c = subst (λ x. EachFits g.B.Resource.meaning g.B.Resource.sort x.files.stores) (sym c.refuse.ensures.refused) c.requires.fits
+returns-in-Refused-clause-fits g c = subst (λ x. EachFits g.B.Resource x.files.stores) (sym c.refuse.ensures.refused) c.requires.fits

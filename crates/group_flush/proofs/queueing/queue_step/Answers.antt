@@ -27,7 +27,7 @@ returns-then-bars-clause-queued g c =
     subst (λ x. AreQueued x c.args.queued.now) (sym c.refuse.ensures.refused) (queued_later c.args.engine.now c.args.piece.piece.number c.args.queued.now c.requires.place.queued c.requires.place.new)
 
 pub returns-then-bars-clause-fits : goal.returns-then-bars-clause-fits
-returns-then-bars-clause-fits g c = subst (λ x. EachFits g.B.Resource.meaning g.B.Resource.sort x.files.stores) (sym c.refuse.ensures.refused) c.requires.fits
+returns-then-bars-clause-fits g c = subst (λ x. EachFits g.B.Resource x.files.stores) (sym c.refuse.ensures.refused) c.requires.fits
 
 pub put_in-requires : goal.put_in-requires
 put_in-requires g c =

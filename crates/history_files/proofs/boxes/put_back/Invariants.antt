@@ -5,7 +5,7 @@ use Rattle.history_files.proofs.boxes.put_back.Given as goal
 
 abbrev pub invariant-loop-store : goal.invariant-loop-store
 invariant-loop-store g l = record {
-  fits : EachFits g.B.Resource.meaning g.B.Resource.sort l.stores.items;
+  fits : EachFits g.B.Resource l.stores.items;
   parted : AreParted g.B.Resource.sort l.stores.items l.boxes.items;
   room : vec_len l.stores + vec_len l.boxes ≤ vec_capacity l.boxes;
   capacity : vec_capacity l.fn.boxes ≤ vec_capacity l.boxes;

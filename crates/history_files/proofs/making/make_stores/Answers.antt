@@ -10,19 +10,18 @@ use Rattle.history_files.proofs.making.make_stores.Goals as goal
 
 pub loop-resource-preserved : goal.loop-resource-preserved
 loop-resource-preserved g c =
-    let meaning = g.B.Resource.meaning in
-    let sort = g.B.Resource.sort in
+    let box = g.B.Resource in
     let old = c.loop-resource in
     let store = c.in-Ok.store in
     let made = c.in-Ok.ensures in
     let same : c.len.result + 1 ≡ length old.stores.items + 1 = omega (arith, c.len.ensures, old.stores.ok) in
     let pushed = c.push_reserved.ensures.items in
     record {
-      parted = subst (λ ss. AreParted sort ss c.pop.new.self.items) (sym pushed)
-          (goes_in sort old.stores.items store c.pop.new.self.items c.in-Some.resource (sym made.unused.1) (subst (AreParted sort old.stores.items) c.in-Some.ensures.items old.invariant.parted));
+      parted = subst (λ ss. AreParted box.sort ss c.pop.new.self.items) (sym pushed)
+          (goes_in box.sort old.stores.items store c.pop.new.self.items c.in-Some.resource (sym made.unused.1) (subst (AreParted box.sort old.stores.items) c.in-Some.ensures.items old.invariant.parted));
       files = each_pushed (λ q s. s.log.file ≡ q + 1) old.stores.items store _ pushed old.invariant.files (made.unused.0 ∙ same);
       unused = each_pushed (λ q s. (s.book ≡ []) × (s.doubt ≡ None)) old.stores.items store _ pushed old.invariant.unused (made.unused.2, made.unused.3);
-      fits = each_pushed (λ q s. Fits meaning sort (account_of s)) old.stores.items store _ pushed old.invariant.fits made.fits;
+      fits = each_pushed (λ q s. Fits box (account_of s)) old.stores.items store _ pushed old.invariant.fits made.fits;
       stores_room = omega (arith, old.invariant.stores_room, c.push_reserved.ensures.capacity);
       boxes_room = omega (arith, old.invariant.boxes_room, c.pop.ensures.capacity);
       told = λ told.

@@ -10,7 +10,7 @@ invariant-loop-resource g l = record {
   parted : AreParted g.B.Resource.sort l.stores.items l.boxes.items;
   files : AtEach (λ q s. s.log.file ≡ q + 1) l.stores.items;
   unused : AtEach (λ q s. (s.book ≡ []) × (s.doubt ≡ None)) l.stores.items;
-  fits : EachFits g.B.Resource.meaning g.B.Resource.sort l.stores.items;
+  fits : EachFits g.B.Resource l.stores.items;
   stores_room : 8 ≤ vec_capacity l.stores;
   boxes_room : 8 ≤ vec_capacity l.boxes;
   told : Told (g.R.Rack.disk l.fn.rack) → Made (g.R.Rack.disk l.fn.rack) (g.R.Rack.disk l.rack) l.stores.items;

@@ -13,7 +13,7 @@ use Rattle.history_opening.proofs.Rising.{rose_later}
 use Rattle.history_opening.proofs.opening.open_files.Goals as goal
 
 pub settle_all-requires-clause-fits : goal.settle_all-requires-clause-fits
-settle_all-requires-clause-fits g c = subst (λ f. EachFits g.B.Resource.meaning g.B.Resource.sort f.stores) (sym c.new-files.ensures) c.in-Ok.ensures.stores.fits
+settle_all-requires-clause-fits g c = subst (λ f. EachFits g.B.Resource f.stores) (sym c.new-files.ensures) c.in-Ok.ensures.stores.fits
 
 pub settle_all-requires-clause-come : goal.settle_all-requires-clause-come
 settle_all-requires-clause-come g c = subst (λ f. ComeTo c.in-Ok.read.catalog.ops c.in-Ok.read.history f.stores) (sym c.new-files.ensures) c.in-Ok.ensures.come

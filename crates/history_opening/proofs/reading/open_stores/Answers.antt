@@ -11,30 +11,29 @@ use Rattle.history_opening.proofs.reading.open_stores.Goals as goal
 
 pub loop-resource-preserved : goal.loop-resource-preserved
 loop-resource-preserved g c =
-    let meaning = g.B.Resource.meaning in
-    let sort = g.B.Resource.sort in
+    let box = g.B.Resource in
     let old = c.loop-resource in
     let store = c.in-Ok.store in
     let made = c.in-Ok.ensures in
     let same : c.len.result + 1 ≡ length old.stores.items + 1 = omega (arith, c.len.ensures, old.stores.ok) in
     let pushed = c.push_reserved.ensures.items in
-    let parted = goes_in sort old.stores.items store c.pop.new.self.items c.in-Some.resource (sym made.store.1) (subst (AreParted sort old.stores.items) c.in-Some.ensures.items old.invariant.parted) in
+    let parted = goes_in box.sort old.stores.items store c.pop.new.self.items c.in-Some.resource (sym made.store.1) (subst (AreParted box.sort old.stores.items) c.in-Some.ensures.items old.invariant.parted) in
     record {
-      parted = subst (λ ss. AreParted sort ss c.pop.new.self.items) (sym pushed) parted;
+      parted = subst (λ ss. AreParted box.sort ss c.pop.new.self.items) (sym pushed) parted;
       files = each_pushed (λ q s. s.log.file ≡ q + 1) old.stores.items store _ pushed old.invariant.files (made.store.0 ∙ same);
-      fits = each_pushed (λ q s. Fits meaning sort (account_of s)) old.stores.items store _ pushed old.invariant.fits made.fits;
+      fits = each_pushed (λ q s. Fits box (account_of s)) old.stores.items store _ pushed old.invariant.fits made.fits;
       good = each_pushed (λ q s. IsGoodBook s.kind s.book s.doubt) old.stores.items store _ pushed old.invariant.good made.good;
       stores_room = omega (arith, old.invariant.stores_room, c.push_reserved.ensures.capacity);
       boxes_room = omega (arith, old.invariant.boxes_room, c.pop.ensures.capacity);
       told = λ told.
           let told_old = old.invariant.tells ∙ told in
           let told_new = made.rack.tells ∙ told_old in
-          let kind = last_of_more (λ q s. s.kind ≡ kind_of q) old.stores.items store (kinds_in_place sort (old.stores.items ++ store ∷ []) c.pop.new.self.items parted) in
+          let kind = last_of_more (λ q s. s.kind ≡ kind_of q) old.stores.items store (kinds_in_place box.sort (old.stores.items ++ store ∷ []) c.pop.new.self.items parted) in
           subst (Read (g.R.Rack.disk c.args.rack.now) (g.R.Rack.disk c.open.new.rack)) (sym pushed)
           (read_more (g.R.Rack.disk c.args.rack.now) (g.R.Rack.disk old.rack) (g.R.Rack.disk c.open.new.rack) old.stores.items store
           (g.met.R.Rack.honest old.rack told_old) (g.met.R.Rack.honest c.open.new.rack told_new) old.invariant.files (old.invariant.told told)
           (made.all told_old) (made.stands told_old)
-          (read_next (g.R.Rack.disk c.args.rack.now) (g.R.Rack.disk old.rack) (length old.stores.items) (c.len.result + 1) (sort c.in-Some.resource) (record { book = store.book; doubt = store.doubt })
+          (read_next (g.R.Rack.disk c.args.rack.now) (g.R.Rack.disk old.rack) (length old.stores.items) (c.len.result + 1) (box.sort c.in-Some.resource) (record { book = store.book; doubt = store.doubt })
           (old.invariant.told told).all (sym made.store.1 ∙ kind) same (made.answer told_old)));
       tells = made.rack.tells ∙ old.invariant.tells;
       later = omega (arith, old.invariant.later, made.rack.later);

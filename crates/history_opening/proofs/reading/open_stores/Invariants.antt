@@ -9,7 +9,7 @@ abbrev pub invariant-loop-resource : goal.invariant-loop-resource
 invariant-loop-resource g l = record {
   parted : AreParted g.B.Resource.sort l.stores.items l.boxes.items;
   files : AtEach (λ q s. s.log.file ≡ q + 1) l.stores.items;
-  fits : EachFits g.B.Resource.meaning g.B.Resource.sort l.stores.items;
+  fits : EachFits g.B.Resource l.stores.items;
   good : AreGoodBooks l.stores.items;
   stores_room : 8 ≤ vec_capacity l.stores;
   boxes_room : 8 ≤ vec_capacity l.boxes;

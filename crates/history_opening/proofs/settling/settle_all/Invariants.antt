@@ -8,7 +8,7 @@ use Rattle.history_opening.proofs.settling.settle_all.Given as goal
 abbrev pub invariant-loop-q : goal.invariant-loop-q
 invariant-loop-q g l = record {
   within : l.q ≤ 8;
-  fits : EachFits g.B.Resource.meaning g.B.Resource.sort l.files.stores;
+  fits : EachFits g.B.Resource l.files.stores;
   good : AreGoodBooks l.fn.files.stores → AreGoodBooks l.files.stores;
   come : ComeTo l.fn.catalog.ops l.fn.history l.files.stores;
   below : AreSettledBelow l.q l.fn.catalog.ops l.fn.history l.files.stores;

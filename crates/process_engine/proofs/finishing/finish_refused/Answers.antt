@@ -11,4 +11,4 @@ returns-clause-finishes g c =
 
 pub returns-clause-fits : goal.returns-clause-fits
 returns-clause-fits g c =
-    subst (λ (e : EngineState g.row.R.Denot g.row.B.Denot). EachFits g.B.Resource.meaning g.B.Resource.sort e.files.stores) (sym c.refuse_piece.ensures.engine) c.requires.fits
+    subst (λ (e : EngineState g.row.R.Denot g.row.B.Denot). EachFits g.B.Resource e.files.stores) (sym c.refuse_piece.ensures.engine) c.requires.fits

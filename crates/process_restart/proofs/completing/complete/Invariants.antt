@@ -8,8 +8,8 @@ use Rattle.process_restart.proofs.completing.complete.Given as goal
 -- since all were asked to complete they were run in turn, and the next turn may come
 abbrev pub invariant-turns : goal.invariant-turns
 invariant-turns g l = record {
-  ran : RanInTurn g.R.Rack.disk g.R.Rack.faults (asked g.G.Gate l.fn.gate l.gate) l.initial.engine l.engine;
-  at : IsAtTurn g.B.Resource.meaning g.B.Resource.sort l.engine l.ended;
+  ran : RanInTurn g.R.Rack (asked g.G.Gate l.fn.gate l.gate) l.initial.engine l.engine;
+  at : IsAtTurn g.B.Resource l.engine l.ended;
   core : IsCore l.engine.core;
 }
 

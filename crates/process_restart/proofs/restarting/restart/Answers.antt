@@ -69,28 +69,28 @@ pub returns-in-Ended-clause-back : goal.returns-in-Ended-clause-back
 returns-in-Ended-clause-back g c =
     let opened = c.in-Ok.ensures in
     let goes = c.in-Ended.ensures.goes [] in
-    let later = later_then g.R.Rack.disk g.R.Rack.faults c.args.parts.rack c.in-Ok.engine.files.rack c.complete-completion.new.engine.files.rack opened.rack.tells opened.rack.later goes.tells goes.later in
+    let later = later_then g.R.Rack c.args.parts.rack c.in-Ok.engine.files.rack c.complete-completion.new.engine.files.rack opened.rack.tells opened.rack.later goes.tells goes.later in
     (later, record { settled = c.in-Ended.ensures.outcome.0; fits = c.in-Ended.ensures.fits })
 
 pub returns-in-Exhausted-clause-back : goal.returns-in-Exhausted-clause-back
 returns-in-Exhausted-clause-back g c =
     let opened = c.in-Ok.ensures in
     let goes = c.in-Exhausted.ensures.goes [] in
-    let later = later_then g.R.Rack.disk g.R.Rack.faults c.args.parts.rack c.in-Ok.engine.files.rack c.complete-completion.new.engine.files.rack opened.rack.tells opened.rack.later goes.tells goes.later in
+    let later = later_then g.R.Rack c.args.parts.rack c.in-Ok.engine.files.rack c.complete-completion.new.engine.files.rack opened.rack.tells opened.rack.later goes.tells goes.later in
     (later, record { settled = c.in-Exhausted.ensures.outcome.0; fits = c.in-Exhausted.ensures.fits })
 
 pub returns-in-DiskFault-clause-back : goal.returns-in-DiskFault-clause-back
 returns-in-DiskFault-clause-back g c =
     let opened = c.in-Ok.ensures in
     let goes = c.in-DiskFault.ensures.goes [] in
-    let later = later_then g.R.Rack.disk g.R.Rack.faults c.args.parts.rack c.in-Ok.engine.files.rack c.complete-completion.new.engine.files.rack opened.rack.tells opened.rack.later goes.tells goes.later in
-    handed_back g.R.Rack.disk g.R.Rack.faults g.B.Resource.meaning g.B.Resource.sort c.args.parts.rack c.complete-completion.new.engine.files.rack c.cleared.result.rack c.cleared.result.resources.items errors.DiskFault
+    let later = later_then g.R.Rack c.args.parts.rack c.in-Ok.engine.files.rack c.complete-completion.new.engine.files.rack opened.rack.tells opened.rack.later goes.tells goes.later in
+    handed_back g.R.Rack g.B.Resource c.args.parts.rack c.complete-completion.new.engine.files.rack c.cleared.result.rack c.cleared.result.resources.items errors.DiskFault
     c.cleared.ensures.rack later c.cleared.ensures.boxes (λ same. let rose = c.in-DiskFault.ensures.fault refl in let first = opened.rack.later in omega (arith, rose, first))
 
 pub returns-in-NoMemory-clause-back : goal.returns-in-NoMemory-clause-back
 returns-in-NoMemory-clause-back g c =
     let opened = c.in-Ok.ensures in
     let goes = c.in-NoMemory.ensures.goes [] in
-    let later = later_then g.R.Rack.disk g.R.Rack.faults c.args.parts.rack c.in-Ok.engine.files.rack c.complete-completion.new.engine.files.rack opened.rack.tells opened.rack.later goes.tells goes.later in
-    handed_back g.R.Rack.disk g.R.Rack.faults g.B.Resource.meaning g.B.Resource.sort c.args.parts.rack c.complete-completion.new.engine.files.rack c.cleared-in-NoMemory.result.rack c.cleared-in-NoMemory.result.resources.items errors.NoMemory
+    let later = later_then g.R.Rack c.args.parts.rack c.in-Ok.engine.files.rack c.complete-completion.new.engine.files.rack opened.rack.tells opened.rack.later goes.tells goes.later in
+    handed_back g.R.Rack g.B.Resource c.args.parts.rack c.complete-completion.new.engine.files.rack c.cleared-in-NoMemory.result.rack c.cleared-in-NoMemory.result.resources.items errors.NoMemory
     c.cleared-in-NoMemory.ensures.rack later c.cleared-in-NoMemory.ensures.boxes (λ same. absurd cc)

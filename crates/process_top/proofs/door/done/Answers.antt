@@ -81,7 +81,7 @@ returns-in-Restart-clause-values g c =
     let have = HaveValuesOf (λ x. (b.meaning x).items) (g.R.Rack.disk parts.rack).files parts.resources.items in
     rw c.unsaid-in-Restart.ensures
     (λ asks. IfOk-weaker c.restart.result.found (λ s. s.status ≡ Done → Told (g.R.Rack.disk c.args.parts.rack) → have) (λ s. s.status ≡ Done → Told (g.R.Rack.disk parts.rack) → have)
-    (λ s has done told. has done (sym c.restart.ensures.tells ∙ told)) c.restart.ensures.values)
+    (λ s has done told. has done (sym c.restart.ensures.left.tells ∙ told)) c.restart.ensures.values)
 
 pub returns-in-Bulk-clause-due : goal.returns-in-Bulk-clause-due
 returns-in-Bulk-clause-due g c =

@@ -36,7 +36,7 @@ returns-in-Ended-clause-values g c =
     (λ s says done told.
     subst (λ rack. HaveValuesOf (λ x. (b.meaning x).items) (g.R.Rack.disk rack).files c.into_parts.result.resources.items) (sym c.into_parts.ensures.rack)
     (subst (HaveValuesOf (λ x. (b.meaning x).items) (g.R.Rack.disk e.files.rack).files) (sym c.into_parts.ensures.boxes)
-    (box_values b.meaning b.sort e.catalog (full_history e.core) c.books_are_read_back.ensures.file e.files.stores (g.R.Rack.disk e.files.rack).files back.fits kinds rest.none rest.books rest.good
+    (box_values b e.catalog (full_history e.core) c.books_are_read_back.ensures.file e.files.stores (g.R.Rack.disk e.files.rack).files back.fits kinds rest.none rest.books rest.good
     (c.in-Ended.ensures.restarted.1.read refl told))))
     c.said_of_all-found.ensures.said
 

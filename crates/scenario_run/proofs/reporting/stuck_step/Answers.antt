@@ -1,7 +1,10 @@
 use Rattle.std.proofs.Common.{◌∙◌}
 use Rattle.scenario_run.specs.Reports.{step_due}
-use Rattle.scenario_run.proofs.StuckProcess.{exhausted_is, stuck_admits}
+use Rattle.scenario_run.proofs.StuckProcess.{exhausted_is, spent, stuck_admits}
 use Rattle.scenario_run.proofs.reporting.stuck_step.Goals as goal
+
+pub returns-clause-used_up : goal.returns-clause-used_up
+returns-clause-used_up g c = spent c.args.engine.now.core c.invariant_holds.ensures.run c.args.i c.requires.replied c.requires.stuck
 
 pub unreachable-requires : goal.unreachable-requires
 unreachable-requires g c =

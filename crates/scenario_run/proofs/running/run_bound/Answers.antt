@@ -2,8 +2,10 @@ use Rattle.std.proofs.Common.{inl, refl, sym, subst}
 use Rattle.process_tree.specs.Order.{Each}
 use Rattle.schedule_model.specs.Laws.{IsGoodPlan}
 use Rattle.engine_steps.specs.Beginning.{IsPlanFor}
+use Rattle.engine_steps.specs.Engines.{full_history}
 use Rattle.worker_gate.specs.ManyGates.{asked_gates}
 use Rattle.command_input.specs.FilesLeft.{files}
+use Rattle.scenario_run.specs.Run.{HasGone}
 use Rattle.scenario_run.proofs.OpeningParts.{idle_then_room}
 use Rattle.scenario_run.proofs.RunDue.{run_of}
 use Rattle.scenario_run.proofs.Stopped.{stops_are_late}
@@ -28,5 +30,5 @@ returns-clause-due g c =
 
 pub returns-in-Ok-clause-late : goal.returns-in-Ok-clause-late
 returns-in-Ok-clause-late g c =
-    stops_are_late (asked_gates g.G.Gate c.args.gates.items c.run_on-engine.result.gates.items) g.R.Rack.faults c.in-Ok.engine c.run_on-engine.result.engine c.args.bound.plans.items c.run_on-engine.result.found
+    stops_are_late (HasGone (asked_gates g.G.Gate c.args.gates.items c.run_on-engine.result.gates.items) c.in-Ok.engine.catalog (full_history c.in-Ok.engine.core)) (asked_gates g.G.Gate c.args.gates.items c.run_on-engine.result.gates.items) g.R.Rack.faults c.in-Ok.engine c.run_on-engine.result.engine c.args.bound.plans.items c.run_on-engine.result.found
     c.run_on-engine.ensures.refused

@@ -12,7 +12,7 @@ use Rattle.scenario_run.proofs.running.run_on.Goals as goal
 
 pub returns-in-Err-clause-goes : goal.returns-in-Err-clause-goes
 returns-in-Err-clause-goes g c =
-    goes_none g.R.Rack.disk g.R.Rack.faults c.args.plans.items c.args.engine c.invariant_holds.ensures.run (c.invariant_holds.ensures.each c.requires.opened.phase)
+    goes_none g.R.Rack c.args.plans.items c.args.engine c.invariant_holds.ensures.run (c.invariant_holds.ensures.each c.requires.opened.phase)
 
 pub returns-in-Err-start_all-clause-refused : goal.returns-in-Err-start_all-clause-refused
 returns-in-Err-start_all-clause-refused g c =
@@ -27,7 +27,7 @@ returns-in-Err-start_all-clause-refused g c =
 
 pub returns-clause-goes : goal.returns-clause-goes
 returns-clause-goes g c =
-    goes_then g.R.Rack.disk g.R.Rack.faults c.args.plans.items c.args.engine c.start_all.new.engine c.run_started-ran.result.engine c.in_default-start_all.ensures.ready.settled c.invariant_holds-2.ensures.run.session.one_each
+    goes_then g.R.Rack c.args.plans.items c.args.engine c.start_all.new.engine c.run_started-ran.result.engine c.in_default-start_all.ensures.ready.settled c.invariant_holds-2.ensures.run.session.one_each
     (c.racks_are_honest.ensures c.run_started-ran.result.engine.files.rack) c.start_all.ensures.goes (c.run_started-ran.ensures.ran.goes c.args.plans.items)
 
 pub returns-clause-ran : goal.returns-clause-ran
@@ -38,7 +38,7 @@ returns-clause-ran g c =
     let ran = c.run_started-ran.ensures.ran in
     let first = c.start_all.ensures.goes in
     let gates = asked_gates g.G.Gate c.args.gates.items c.run_started-ran.result.gates.items in
-    let gone = gone_run old c.requires.opened c.requires.idle c.args.plans.items g.R.Rack.disk g.R.Rack.faults gates mid now c.invariant_holds-3.ensures.run first.catalog c.in_default-start_all.ensures.started ran in
+    let gone = gone_run old c.requires.opened c.requires.idle c.args.plans.items g.R.Rack gates mid now c.invariant_holds-3.ensures.run first.catalog c.in_default-start_all.ensures.started ran in
     so_ok c.run_started-ran.result.found (λ s. (now.phase ≡ Settled) × SaysRun now.catalog now.core s)
     (λ s. HasGone gates old.catalog (full_history old.core) c.args.plans.items now.core × (now.phase ≡ Settled) × SaysRun old.catalog now.core s)
     (λ s said. (gone, said.0, subst (λ d. SaysRun d now.core s) ((ran.goes []).catalog ∙ first.catalog) said.1)) c.run_started-ran.ensures.said
@@ -50,5 +50,5 @@ returns-clause-refused g c =
     let now = c.run_started-ran.result.engine in
     let first = c.start_all.ensures.goes in
     let gates = asked_gates g.G.Gate c.args.gates.items c.run_started-ran.result.gates.items in
-    let gone = gone_run old c.requires.opened c.requires.idle c.args.plans.items g.R.Rack.disk g.R.Rack.faults gates mid now c.invariant_holds-3.ensures.run first.catalog c.in_default-start_all.ensures.started c.run_started-ran.ensures.ran in
-    all_started g.R.Rack.faults gates old mid now c.args.plans.items first.later gone c.run_started-ran.result.found c.run_started-ran.ensures.refused
+    let gone = gone_run old c.requires.opened c.requires.idle c.args.plans.items g.R.Rack gates mid now c.invariant_holds-3.ensures.run first.catalog c.in_default-start_all.ensures.started c.run_started-ran.ensures.ran in
+    all_started g.R.Rack.faults gates old mid now c.args.plans.items first.later (HasGone gates old.catalog (full_history old.core)) gone c.run_started-ran.result.found c.run_started-ran.ensures.refused

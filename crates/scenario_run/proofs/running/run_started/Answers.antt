@@ -12,8 +12,8 @@ use Rattle.scenario_run.proofs.running.run_started.Goals as goal
 pub returns-clause-ran : goal.returns-clause-ran
 returns-clause-ran g c =
     let gates = asked_gates g.G.Gate c.args.gates.items c.run_workers-engine.result.gates.items in
-    subst (RanByGates g.R.Rack.disk g.R.Rack.faults gates c.args.engine) (sym c.said_of-found.ensures.left)
-    (ran_by_history g.R.Rack.disk g.R.Rack.faults g.B.Resource.meaning g.B.Resource.sort gates c.args.engine c.run_workers-engine.result.engine c.run_workers-engine.ensures.history)
+    subst (RanByGates g.R.Rack gates c.args.engine) (sym c.said_of-found.ensures.left)
+    (ran_by_history g.R.Rack g.B.Resource gates c.args.engine c.run_workers-engine.result.engine c.run_workers-engine.ensures.history)
 
 pub returns-clause-said : goal.returns-clause-said
 returns-clause-said g c =
@@ -26,4 +26,4 @@ returns-clause-said g c =
 
 pub returns-clause-fits : goal.returns-clause-fits
 returns-clause-fits g c =
-    subst (λ (e : EngineState g.row.R.Denot g.row.B.Denot). EachFits g.B.Resource.meaning g.B.Resource.sort e.files.stores) (sym c.said_of-found.ensures.left) c.run_workers-engine.ensures.fits
+    subst (λ (e : EngineState g.row.R.Denot g.row.B.Denot). EachFits g.B.Resource e.files.stores) (sym c.said_of-found.ensures.left) c.run_workers-engine.ensures.fits

@@ -22,7 +22,7 @@ loop-plan-init g c =
       ready = c.requires.ready;
       plans = subst (Each (λ p. IsPlanFor c.args.engine.now.catalog p × IsGoodPlan p)) (sym all) c.requires.plans;
       fit = subst (λ (ps : List Plan). limit_passed c.args.engine.now.core ps ≡ None) (sym all) c.requires.fit;
-      goes = goes_none g.R.Rack.disk g.R.Rack.faults c.args.plans.items c.args.engine.now c.invariant_holds.ensures.run (c.invariant_holds.ensures.each c.requires.ready.settled);
+      goes = goes_none g.R.Rack c.args.plans.items c.args.engine.now c.invariant_holds.ensures.run (c.invariant_holds.ensures.each c.requires.ready.settled);
     }
 
 pub start_one-requires-clause-free : goal.start_one-requires-clause-free
@@ -54,7 +54,7 @@ loop-plan-preserved g c =
       ready = now.ready;
       plans = subst (λ cat. Each (λ q. IsPlanFor cat q × IsGoodPlan q) later) (sym went.catalog) plans.1;
       fit = subst (λ k. limit_passed k later ≡ None) (sym now.core) (others_fit core is p plans.0.1 later fits);
-      goes = goes_then g.R.Rack.disk g.R.Rack.faults c.args.plans.items c.args.engine.now c.loop-plan.engine c.start_one.new.engine inv.ready.settled is.session.one_each
+      goes = goes_then g.R.Rack c.args.plans.items c.args.engine.now c.loop-plan.engine c.start_one.new.engine inv.ready.settled is.session.one_each
           (g.met.R.Rack.honest c.start_one.new.engine.files.rack) inv.goes went;
     }
 
@@ -64,6 +64,6 @@ returns-in_err-start_one-clause-goes g c =
     let p = c.in-Some.plan in
     let later = into_iter_items c.next.new.self in
     let all = inv.all ∙ ap (λ (ps : List Plan). inv.done ++ ps) c.in-Some.ensures.cases.0 in
-    goes_then g.R.Rack.disk g.R.Rack.faults c.args.plans.items c.args.engine.now c.loop-plan.engine c.start_one.new.engine inv.ready.settled c.invariant_holds-in-Some.ensures.run.session.one_each
+    goes_then g.R.Rack c.args.plans.items c.args.engine.now c.loop-plan.engine c.start_one.new.engine inv.ready.settled c.invariant_holds-in-Some.ensures.run.session.one_each
     (g.met.R.Rack.honest c.start_one.new.engine.files.rack) inv.goes
     (c.in_err-start_one.ensures.goes c.args.plans.items (subst (λ ps. IsOneOf ps p) (sym all) (stands_among inv.done later p)))

@@ -15,10 +15,10 @@ invariant-loop-plan g l = record {
   done : List Plan;
   all : l.fn.plans.items ≡ done ++ into_iter_items l.rest;
   core : l.engine.core ≡ with_started l.fn.engine.core done;
-  ready : IsReady g.B.Resource.meaning g.B.Resource.sort l.engine;
+  ready : IsReady g.B.Resource l.engine;
   plans : Each (λ p. IsPlanFor l.engine.catalog p × IsGoodPlan p) (into_iter_items l.rest);
   fit : limit_passed l.engine.core (into_iter_items l.rest) ≡ None;
-  goes : GoesOn g.R.Rack.disk g.R.Rack.faults l.fn.plans.items l.fn.engine l.engine;
+  goes : GoesOn g.R.Rack l.fn.plans.items l.fn.engine l.engine;
 }
 
 abbrev pub decreases-loop-plan : goal.decreases-loop-plan

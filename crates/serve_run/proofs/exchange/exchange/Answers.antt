@@ -36,7 +36,7 @@ pub returns-in-Ok-LongLine-clause-on : goal.returns-in-Ok-LongLine-clause-on
 returns-in-Ok-LongLine-clause-on g c =
     let at : IsBetween g.R.Rack c.args.engine.now = record { machine = c.invariant_holds.ensures.run; settled = c.requires.ready.settled; read = c.invariant_holds.ensures.read c.requires.ready.settled; each = c.invariant_holds.ensures.each c.requires.ready.settled } in
     let next = rw c.in-Ok-LongLine.field-0-is at c.in-Ok-LongLine.ensures.next in
-    let still = goes_at_rest g.R.Rack.disk g.R.Rack.faults c.args.plans.now c.args.engine.now at.machine at.each in
+    let still = goes_at_rest g.R.Rack c.args.plans.now c.args.engine.now at.machine at.each in
     exchanged g.S.Source g.K.Sink g.R.Rack c.args.plans.now c.args.source.now c.next_line.new.source c.args.reader.now c.next_line.new.reader c.args.sink.now c.refuse.new.sink c.args.engine.now c.args.engine.now
     (hand_of c.args.hand.now) (hand_of c.args.hand.now) c.args.number next.0 next.2 c.refuse.result next.1 next.3 c.in-Ok-LongLine.ensures.quiet still.0 still.1
     (between_still g.S.Source g.K.Sink g.R.Rack c.args.plans.now c.args.source.now c.next_line.new.source c.args.reader.now c.next_line.new.reader c.args.sink.now c.refuse.new.sink c.args.engine.now (hand_of c.args.hand.now) c.args.number at c.refuse.result)

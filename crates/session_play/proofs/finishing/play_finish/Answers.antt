@@ -11,22 +11,22 @@ use Rattle.session_play.proofs.AskedPieces.{all_stay}
 use Rattle.session_play.proofs.finishing.play_finish.Goals as goal
 
 pub returns-in_err-no_piece-clause-goes : goal.returns-in_err-no_piece-clause-goes
-returns-in_err-no_piece-clause-goes g c may_start = goes_none g.R.Rack.disk g.R.Rack.faults may_start c.args.engine.now c.invariant_holds.ensures.run (c.invariant_holds.ensures.each c.requires.ready.settled)
+returns-in_err-no_piece-clause-goes g c may_start = goes_none g.R.Rack may_start c.args.engine.now c.invariant_holds.ensures.run (c.invariant_holds.ensures.each c.requires.ready.settled)
 
 pub returns-in_default-clause-goes : goal.returns-in_default-clause-goes
-returns-in_default-clause-goes g c may_start = goes_none g.R.Rack.disk g.R.Rack.faults may_start c.args.engine.now c.invariant_holds.ensures.run (c.invariant_holds.ensures.each c.requires.ready.settled)
+returns-in_default-clause-goes g c may_start = goes_none g.R.Rack may_start c.args.engine.now c.invariant_holds.ensures.run (c.invariant_holds.ensures.each c.requires.ready.settled)
 
 pub returns-in_err-no_refusal-clause-goes : goal.returns-in_err-no_refusal-clause-goes
-returns-in_err-no_refusal-clause-goes g c may_start = goes_none g.R.Rack.disk g.R.Rack.faults may_start c.args.engine.now c.invariant_holds.ensures.run (c.invariant_holds.ensures.each c.requires.ready.settled)
+returns-in_err-no_refusal-clause-goes g c may_start = goes_none g.R.Rack may_start c.args.engine.now c.invariant_holds.ensures.run (c.invariant_holds.ensures.each c.requires.ready.settled)
 
 pub returns-then-is_refused_end-clause-goes : goal.returns-then-is_refused_end-clause-goes
-returns-then-is_refused_end-clause-goes g c may_start = goes_none g.R.Rack.disk g.R.Rack.faults may_start c.args.engine.now c.invariant_holds.ensures.run (c.invariant_holds.ensures.each c.requires.ready.settled)
+returns-then-is_refused_end-clause-goes g c may_start = goes_none g.R.Rack may_start c.args.engine.now c.invariant_holds.ensures.run (c.invariant_holds.ensures.each c.requires.ready.settled)
 
 pub returns-in_err-group_open-clause-goes : goal.returns-in_err-group_open-clause-goes
-returns-in_err-group_open-clause-goes g c may_start = goes_none g.R.Rack.disk g.R.Rack.faults may_start c.args.engine.now c.invariant_holds.ensures.run (c.invariant_holds.ensures.each c.requires.ready.settled)
+returns-in_err-group_open-clause-goes g c may_start = goes_none g.R.Rack may_start c.args.engine.now c.invariant_holds.ensures.run (c.invariant_holds.ensures.each c.requires.ready.settled)
 
 pub returns-then-count-gt0-clause-goes : goal.returns-then-count-gt0-clause-goes
-returns-then-count-gt0-clause-goes g c may_start = goes_none g.R.Rack.disk g.R.Rack.faults may_start c.args.engine.now c.invariant_holds.ensures.run (c.invariant_holds.ensures.each c.requires.ready.settled)
+returns-then-count-gt0-clause-goes g c may_start = goes_none g.R.Rack may_start c.args.engine.now c.invariant_holds.ensures.run (c.invariant_holds.ensures.each c.requires.ready.settled)
 
 pub returns-then-count-gt0-clause-answered : goal.returns-then-count-gt0-clause-answered
 returns-then-count-gt0-clause-answered g c =

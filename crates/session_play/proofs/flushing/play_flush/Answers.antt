@@ -4,13 +4,13 @@ use Rattle.machine_model.specs.Groups.{flush_reply}
 use Rattle.machine_model.specs.Pieces.{runs}
 use Rattle.machine_model.specs.Replies.{Handed}
 use Rattle.process_core.specs.Cores.{history_of, moment_of}
-use Rattle.group_flush.specs.Queues.{running_of}
+use Rattle.group_flush.specs.Pieces.{after_effects}
 use Rattle.session_text.specs.Answers.{flush_lines}
 use Rattle.session_play.specs.declared.cut.Cut.TheVariants.{NoMemory}
 use Rattle.session_play.specs.Answering.{IsCut}
 use Rattle.session_play.specs.Pieces.{number_of, session_of}
-use Rattle.session_play.specs.Playing.{after_effects, play_flush}
-use Rattle.session_play.proofs.FlushedLines.{effects_are, running_numbers}
+use Rattle.session_play.specs.Playing.{play_flush}
+use Rattle.session_play.proofs.FlushedLines.{running_numbers}
 use Rattle.session_play.proofs.Outcomes.{err_map}
 use Rattle.session_play.proofs.QueuedLines.{numbers_are, same_session}
 use Rattle.session_play.proofs.flushing.play_flush.Goals as goal
@@ -21,7 +21,7 @@ returns-in_err-put_group-in-Flushed-clause-cut g c =
     let new = c.flush.new.engine.core in
     let qs = c.args.queued.now in
     let core : new ≡ after_effects old (filter (runs (moment_of old)) (map number_of qs)) =
-    c.in-Flushed.ensures.flushes.left.core ∙ (effects_are old (running_of old qs) ∙ ap (after_effects old) (running_numbers (moment_of old) qs)) in
+    c.in-Flushed.ensures.flushes.left.core ∙ ap (after_effects old) (running_numbers (moment_of old) qs) in
     let memory : IfErr c.from_residual.result (λ cut. cut ≡ NoMemory) = search rules in
     err_map c.from_residual.result (λ cut. cut ≡ NoMemory) (λ cut. (pieces : List Handed) → IsCut cut (play_flush (session_of old pieces qs)) old new) memory
     (λ cut is pieces. subst (λ x. IsCut x (play_flush (session_of old pieces qs)) old new) (sym is) (inr core))
@@ -33,7 +33,7 @@ returns-in_ok-put_group-in-Flushed-clause-answered g c pieces =
     let qs = c.args.queued.now in
     let left = c.in-Flushed.ensures.flushes.left in
     let core : new ≡ after_effects old (filter (runs (moment_of old)) (map number_of qs)) =
-    left.core ∙ (effects_are old (running_of old qs) ∙ ap (after_effects old) (running_numbers (moment_of old) qs)) in
+    left.core ∙ ap (after_effects old) (running_numbers (moment_of old) qs) in
     record {
       state = same_session new (after_effects old (filter (runs (moment_of old)) (map number_of qs))) (map number_of pieces) (map number_of pieces) (map number_of c.flush.new.queued) [] core refl (ap (map number_of) left.none);
       printed = c.in_ok-put_group-in-Flushed.ensures

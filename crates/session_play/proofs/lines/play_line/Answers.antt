@@ -8,13 +8,13 @@ use Rattle.session_play.proofs.Outcomes.{on_ok_both}
 use Rattle.session_play.proofs.lines.play_line.Goals as goal
 
 pub returns-in_err-report_now-in-Show-clause-goes : goal.returns-in_err-report_now-in-Show-clause-goes
-returns-in_err-report_now-in-Show-clause-goes g c = goes_none g.R.Rack.disk g.R.Rack.faults c.args.plans.now c.args.engine.now c.invariant_holds.ensures.run (c.invariant_holds.ensures.each c.requires.ready.settled)
+returns-in_err-report_now-in-Show-clause-goes g c = goes_none g.R.Rack c.args.plans.now c.args.engine.now c.invariant_holds.ensures.run (c.invariant_holds.ensures.each c.requires.ready.settled)
 
 pub returns-in_ok-report_now-in-Show-clause-goes : goal.returns-in_ok-report_now-in-Show-clause-goes
-returns-in_ok-report_now-in-Show-clause-goes g c = goes_none g.R.Rack.disk g.R.Rack.faults c.args.plans.now c.args.engine.now c.invariant_holds.ensures.run (c.invariant_holds.ensures.each c.requires.ready.settled)
+returns-in_ok-report_now-in-Show-clause-goes g c = goes_none g.R.Rack c.args.plans.now c.args.engine.now c.invariant_holds.ensures.run (c.invariant_holds.ensures.each c.requires.ready.settled)
 
 pub returns-in-Stop-clause-goes : goal.returns-in-Stop-clause-goes
-returns-in-Stop-clause-goes g c = goes_none g.R.Rack.disk g.R.Rack.faults c.args.plans.now c.args.engine.now c.invariant_holds.ensures.run (c.invariant_holds.ensures.each c.requires.ready.settled)
+returns-in-Stop-clause-goes g c = goes_none g.R.Rack c.args.plans.now c.args.engine.now c.invariant_holds.ensures.run (c.invariant_holds.ensures.each c.requires.ready.settled)
 
 pub returns-in-Start-clause-at_hand : goal.returns-in-Start-clause-at_hand
 returns-in-Start-clause-at_hand g c =

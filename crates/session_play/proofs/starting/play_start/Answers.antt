@@ -13,13 +13,13 @@ use Rattle.session_play.proofs.StartedLines.{copy_is_one, copy_starts}
 use Rattle.session_play.proofs.starting.play_start.Goals as goal
 
 pub returns-in_err-copy-in-Some-clause-goes : goal.returns-in_err-copy-in-Some-clause-goes
-returns-in_err-copy-in-Some-clause-goes g c = goes_none g.R.Rack.disk g.R.Rack.faults c.args.plans.now c.args.engine.now c.invariant_holds.ensures.run (c.invariant_holds.ensures.each c.requires.ready.settled)
+returns-in_err-copy-in-Some-clause-goes g c = goes_none g.R.Rack c.args.plans.now c.args.engine.now c.invariant_holds.ensures.run (c.invariant_holds.ensures.each c.requires.ready.settled)
 
 pub returns-in_err-no_process-in-None-clause-goes : goal.returns-in_err-no_process-in-None-clause-goes
-returns-in_err-no_process-in-None-clause-goes g c = goes_none g.R.Rack.disk g.R.Rack.faults c.args.plans.now c.args.engine.now c.invariant_holds.ensures.run (c.invariant_holds.ensures.each c.requires.ready.settled)
+returns-in_err-no_process-in-None-clause-goes g c = goes_none g.R.Rack c.args.plans.now c.args.engine.now c.invariant_holds.ensures.run (c.invariant_holds.ensures.each c.requires.ready.settled)
 
 pub returns-in_ok-no_process-in-None-clause-goes : goal.returns-in_ok-no_process-in-None-clause-goes
-returns-in_ok-no_process-in-None-clause-goes g c = goes_none g.R.Rack.disk g.R.Rack.faults c.args.plans.now c.args.engine.now c.invariant_holds.ensures.run (c.invariant_holds.ensures.each c.requires.ready.settled)
+returns-in_ok-no_process-in-None-clause-goes g c = goes_none g.R.Rack c.args.plans.now c.args.engine.now c.invariant_holds.ensures.run (c.invariant_holds.ensures.each c.requires.ready.settled)
 
 pub returns-in_err-copy-in-Some-clause-cut : goal.returns-in_err-copy-in-Some-clause-cut
 returns-in_err-copy-in-Some-clause-cut g c =

@@ -25,7 +25,7 @@ loop-rest-init g c =
       answered = subst (λ ps. HasAnswered cat plans core core ps hand.queued lines lines c.args.said.now.items) (sym pieces)
           (subst (λ qs. HasAnswered cat plans core core [] qs lines lines c.args.said.now.items) (sym queued)
           (subst (λ text. HasAnswered cat plans core core [] [] lines lines text) (sym c.requires.empty) (answered_none cat plans core lines)));
-      goes = goes_none g.R.Rack.disk g.R.Rack.faults plans c.args.engine.now c.invariant_holds.ensures.run (c.invariant_holds.ensures.each c.requires.ready.settled);
+      goes = goes_none g.R.Rack plans c.args.engine.now c.invariant_holds.ensures.run (c.invariant_holds.ensures.each c.requires.ready.settled);
       ready = c.requires.ready;
       core = c.invariant_holds.ensures.run;
       plans = c.requires.plans;
@@ -57,7 +57,7 @@ loop-rest-preserved g c =
     let here = subst (λ k. IsAnswered (play k (session_of now pieces queued) l told.0) new.core left waiting told.1) inv.goes.catalog told.3 in
     record {
       answered = subst (λ said. HasAnswered cat plans core new.core left waiting lines after said) (sym told.4) (answered_more cat plans core now pieces queued lines l after text told.0 before told.2 new.core left waiting told.1 here);
-      goes = goes_then g.R.Rack.disk g.R.Rack.faults plans c.args.engine.now c.loop-rest.engine new inv.ready.settled inv.core.session.one_each (g.met.R.Rack.honest new.files.rack) inv.goes c.answer_line.ensures.goes;
+      goes = goes_then g.R.Rack plans c.args.engine.now c.loop-rest.engine new inv.ready.settled inv.core.session.one_each (g.met.R.Rack.honest new.files.rack) inv.goes c.answer_line.ensures.goes;
       ready = c.answer_line.ensures.ready (λ bad. absurd (let is = c.in_default-answer_line.is in cc));
       core = c.invariant_holds-in-len1-up.ensures.run;
       plans = subst (λ k. Each (IsPlanFor k) plans) (sym c.answer_line.ensures.goes.catalog) inv.plans;
@@ -69,7 +69,7 @@ pub returns-in-Err-clause-goes : goal.returns-in-Err-clause-goes
 returns-in-Err-clause-goes g c =
     let inv = c.loop-rest.invariant in
     let new = c.answer_line.new.engine in
-    goes_then g.R.Rack.disk g.R.Rack.faults c.args.plans.now c.args.engine.now c.loop-rest.engine new inv.ready.settled inv.core.session.one_each (g.met.R.Rack.honest new.files.rack) inv.goes c.answer_line.ensures.goes
+    goes_then g.R.Rack c.args.plans.now c.args.engine.now c.loop-rest.engine new inv.ready.settled inv.core.session.one_each (g.met.R.Rack.honest new.files.rack) inv.goes c.answer_line.ensures.goes
 
 pub returns-in-Err-clause-played : goal.returns-in-Err-clause-played
 returns-in-Err-clause-played g c =
@@ -94,7 +94,7 @@ returns-in-Err-clause-played g c =
     (c.add_fault-in-Err.ensures ∙ ap (λ xs. xs ++ fault_line (status_of cut)) c.in-Err.ensures.left))
 
 pub returns-in_default-clause-goes : goal.returns-in_default-clause-goes
-returns-in_default-clause-goes g c = goes_none g.R.Rack.disk g.R.Rack.faults c.args.plans.now c.args.engine.now c.invariant_holds.ensures.run (c.invariant_holds.ensures.each c.requires.ready.settled)
+returns-in_default-clause-goes g c = goes_none g.R.Rack c.args.plans.now c.args.engine.now c.invariant_holds.ensures.run (c.invariant_holds.ensures.each c.requires.ready.settled)
 
 pub returns-in_default-clause-played : goal.returns-in_default-clause-played
 returns-in_default-clause-played g c =

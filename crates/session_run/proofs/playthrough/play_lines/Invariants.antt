@@ -11,8 +11,8 @@ use Rattle.session_run.proofs.playthrough.play_lines.Given as goal
 abbrev pub invariant-loop-rest : goal.invariant-loop-rest
 invariant-loop-rest g l = record {
   answered : HasAnswered l.fn.engine.catalog l.plans l.fn.engine.core l.engine.core l.hand.unfinished.items l.hand.queued l.lines l.rest l.said.items;
-  goes : GoesOn g.R.Rack.disk g.R.Rack.faults l.plans l.fn.engine l.engine;
-  ready : IsReady g.B.Resource.meaning g.B.Resource.sort l.engine;
+  goes : GoesOn g.R.Rack l.plans l.fn.engine l.engine;
+  ready : IsReady g.B.Resource l.engine;
   core : IsCore l.engine.core;
   plans : Each (IsPlanFor l.engine.catalog) l.plans;
   at_hand : AreAtHand l.engine l.hand;

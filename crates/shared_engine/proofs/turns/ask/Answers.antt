@@ -9,9 +9,9 @@ pub ask-reply-requires : goal.ask-reply-requires
 ask-reply-requires g c =
     let turn = c.turn-turn.result in
     let opened = c.requires.opened in
-    let are = turn_stands g.R.Rack.disk g.R.Rack.faults g.B.Resource.meaning g.B.Resource.sort turn.place.me.0.opening opened.opening turn.state turn.place.me.0.seen c.turn-turn.ensures.stands
+    let are = turn_stands g.R.Rack g.B.Resource turn.place.me.0.opening opened.opening turn.state turn.place.me.0.seen c.turn-turn.ensures.stands
     (c.turn-turn.ensures.keeps.0 ∙ opened.known) opened.sound in
-    record { called = subst (λ w. MayBeCalled g.B.Resource.meaning g.B.Resource.sort w) (sym c.state.ensures.value) are.called }
+    record { called = subst (λ w. MayBeCalled g.B.Resource w) (sym c.state.ensures.value) are.called }
 
 pub returns-clause-turn : goal.returns-clause-turn
 returns-clause-turn g c =
@@ -24,12 +24,10 @@ pub returns-clause-given : goal.returns-clause-given
 returns-clause-given g c o known sound =
     let turn = c.turn-turn.result in
     let seen = turn.place.me.0.seen in
-    let disk = g.R.Rack.disk in
-    let faults = g.R.Rack.faults in
-    let meaning = g.B.Resource.meaning in
-    let sort = g.B.Resource.sort in
+    let racks = g.R.Rack in
+    let box = g.B.Resource in
     let r = c.ask-reply.result.0 in
-    let before = turn_stands disk faults meaning sort turn.place.me.0.opening o turn.state seen c.turn-turn.ensures.stands (c.turn-turn.ensures.keeps.0 ∙ known) sound in
-    let after = c.ask-reply.ensures.leads o.engine seen (subst (λ w. AreOf disk faults meaning sort o.engine seen w) (sym c.state.ensures.value) before) in
-    subst (λ k. IsGivenBy k r) (core_is disk faults meaning sort o.engine c.ask-reply.new.self (seen ++ next_entry r ∷ []) after ∙ (ap (λ e. core_at o.engine (seen ++ e ∷ [])) (sym c.entry-entry.ensures) ∙ ap (core_at o.engine) (sym c.end.ensures.seen)))
+    let before = turn_stands racks box turn.place.me.0.opening o turn.state seen c.turn-turn.ensures.stands (c.turn-turn.ensures.keeps.0 ∙ known) sound in
+    let after = c.ask-reply.ensures.leads o.engine seen (subst (λ w. AreOf racks box o.engine seen w) (sym c.state.ensures.value) before) in
+    subst (λ k. IsGivenBy k r) (core_is racks box o.engine c.ask-reply.new.self (seen ++ next_entry r ∷ []) after ∙ (ap (λ e. core_at o.engine (seen ++ e ∷ [])) (sym c.entry-entry.ensures) ∙ ap (core_at o.engine) (sym c.end.ensures.seen)))
     c.ask-reply.ensures.given

@@ -12,9 +12,9 @@ pub hand_in_again-reply-requires-clause-called : goal.hand_in_again-reply-requir
 hand_in_again-reply-requires-clause-called g c =
     let turn = c.turn-turn.result in
     let opening = c.requires.opened in
-    let are = turn_stands g.R.Rack.disk g.R.Rack.faults g.B.Resource.meaning g.B.Resource.sort turn.place.me.0.opening opening.opening turn.state turn.place.me.0.seen c.turn-turn.ensures.stands
+    let are = turn_stands g.R.Rack g.B.Resource turn.place.me.0.opening opening.opening turn.state turn.place.me.0.seen c.turn-turn.ensures.stands
     (c.turn-turn.ensures.keeps.0 ∙ opening.known) opening.sound in
-    subst (λ w. MayBeCalled g.B.Resource.meaning g.B.Resource.sort w) (sym c.state.ensures.value) are.called
+    subst (λ w. MayBeCalled g.B.Resource w) (sym c.state.ensures.value) are.called
 
 pub hand_in_again-reply-requires-clause-handed : goal.hand_in_again-reply-requires-clause-handed
 hand_in_again-reply-requires-clause-handed g c =
@@ -23,9 +23,9 @@ hand_in_again-reply-requires-clause-handed g c =
     let o = opening.opening.engine in
     let p = c.args.piece in
     let seen = c.args.seat.place.me.0.seen in
-    let are = turn_stands g.R.Rack.disk g.R.Rack.faults g.B.Resource.meaning g.B.Resource.sort turn.place.me.0.opening opening.opening turn.state turn.place.me.0.seen c.turn-turn.ensures.stands
+    let are = turn_stands g.R.Rack g.B.Resource turn.place.me.0.opening opening.opening turn.state turn.place.me.0.seen c.turn-turn.ensures.stands
     (c.turn-turn.ensures.keeps.0 ∙ opening.known) opening.sound in
-    let here = core_is g.R.Rack.disk g.R.Rack.faults g.B.Resource.meaning g.B.Resource.sort o turn.state turn.place.me.0.seen are ∙ ap (core_at o) c.turn-turn.ensures.seen.1 in
+    let here = core_is g.R.Rack g.B.Resource o turn.state turn.place.me.0.seen are ∙ ap (core_at o) c.turn-turn.ensures.seen.1 in
     let later = handed_later (opened o) seen c.turn-turn.ensures.seen.0 p (c.requires.handed opening.opening opening.known) in
     subst (λ w. IsHandedAs w.engine.core p) (sym c.state.ensures.value) (subst (λ k. IsHandedAs k p) (sym here) later)
 

@@ -20,7 +20,7 @@ take_commits-requires-clause-may g c = commits_may_be_taken c.args.stores.now.it
 
 pub take_commits-requires-clause-fits : goal.take_commits-requires-clause-fits
 take_commits-requires-clause-fits g c =
-    fits_unchanged c.args.stores.now.items c.stage_commits.new.stores.items (commits_unchanged c.args.stores.now.items c.stage_commits.new.stores.items c.stage_commits.ensures) g.B.Resource.meaning g.B.Resource.sort c.requires.fits
+    fits_unchanged c.args.stores.now.items c.stage_commits.new.stores.items (commits_unchanged c.args.stores.now.items c.stage_commits.new.stores.items c.stage_commits.ensures) g.B.Resource c.requires.fits
 
 pub returns-in_err-put_on_disk-clause-any_moment : goal.returns-in_err-put_on_disk-clause-any_moment
 returns-in_err-put_on_disk-clause-any_moment g c = λ told.
@@ -40,7 +40,7 @@ returns-in_err-put_on_disk-clause-err g c = on_err c.from_residual.result (commi
 
 pub returns-in_err-put_on_disk-clause-fits : goal.returns-in_err-put_on_disk-clause-fits
 returns-in_err-put_on_disk-clause-fits g c =
-    fits_unchanged c.args.stores.now.items c.stage_commits.new.stores.items (commits_unchanged c.args.stores.now.items c.stage_commits.new.stores.items c.stage_commits.ensures) g.B.Resource.meaning g.B.Resource.sort c.requires.fits
+    fits_unchanged c.args.stores.now.items c.stage_commits.new.stores.items (commits_unchanged c.args.stores.now.items c.stage_commits.new.stores.items c.stage_commits.ensures) g.B.Resource c.requires.fits
 
 pub returns-clause-acknowledged : goal.returns-clause-acknowledged
 returns-clause-acknowledged g c = λ told.

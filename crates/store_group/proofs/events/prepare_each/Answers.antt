@@ -20,7 +20,7 @@ take_effects-requires-clause-may g c = effects_may_be_taken c.args.effects.now c
 
 pub take_effects-requires-clause-fits : goal.take_effects-requires-clause-fits
 take_effects-requires-clause-fits g c =
-    fits_unchanged c.args.stores.now.items c.stage_effects.new.stores.items (effects_unchanged c.args.effects.now c.args.stores.now.items c.stage_effects.new.stores.items c.stage_effects.ensures) g.B.Resource.meaning g.B.Resource.sort c.requires.fits
+    fits_unchanged c.args.stores.now.items c.stage_effects.new.stores.items (effects_unchanged c.args.effects.now c.args.stores.now.items c.stage_effects.new.stores.items c.stage_effects.ensures) g.B.Resource c.requires.fits
 
 pub returns-in_err-put_on_disk-clause-any_moment : goal.returns-in_err-put_on_disk-clause-any_moment
 returns-in_err-put_on_disk-clause-any_moment g c = λ told.
@@ -40,7 +40,7 @@ returns-in_err-put_on_disk-clause-err g c = on_err c.from_residual.result (effec
 
 pub returns-in_err-put_on_disk-clause-fits : goal.returns-in_err-put_on_disk-clause-fits
 returns-in_err-put_on_disk-clause-fits g c =
-    fits_unchanged c.args.stores.now.items c.stage_effects.new.stores.items (effects_unchanged c.args.effects.now c.args.stores.now.items c.stage_effects.new.stores.items c.stage_effects.ensures) g.B.Resource.meaning g.B.Resource.sort c.requires.fits
+    fits_unchanged c.args.stores.now.items c.stage_effects.new.stores.items (effects_unchanged c.args.effects.now c.args.stores.now.items c.stage_effects.new.stores.items c.stage_effects.ensures) g.B.Resource c.requires.fits
 
 pub returns-clause-acknowledged : goal.returns-clause-acknowledged
 returns-clause-acknowledged g c = λ told.

@@ -28,7 +28,7 @@ loop-place-preserved g c =
     let at : slice_get old.stores.items old.place ≡ Some s = slice_get_read old.stores.items _ old.place s (omega (arith, c.len.ensures, old.stores.ok)) c.loop-place-test.true c.index_mut.ensures.value in
     record {
       changed = one_changed _ old.place c.args.stores.now.items old.stores.items s c.take_commit.new.store at c.take_commit.ensures.takes old.invariant.changed;
-      fits = of_set (λ t. Fits g.B.Resource.meaning g.B.Resource.sort (account_of t)) old.stores.items old.place c.take_commit.new.store old.invariant.fits c.take_commit.ensures.fits;
+      fits = of_set (λ t. Fits g.B.Resource (account_of t)) old.stores.items old.place c.take_commit.new.store old.invariant.fits c.take_commit.ensures.fits;
       within = omega (arith, c.loop-place-test.true, c.len.ensures);
     }
 

@@ -8,7 +8,7 @@ use Rattle.store_group.proofs.events.take_commits.Given as goal
 abbrev pub invariant-loop-place : goal.invariant-loop-place
 invariant-loop-place g l = record {
   changed : ChangedBelow (λ q s t. TakesCommit s t) l.place l.fn.stores.items l.stores.items;
-  fits : OfEach (λ s. Fits g.B.Resource.meaning g.B.Resource.sort (account_of s)) l.stores.items;
+  fits : OfEach (λ s. Fits g.B.Resource (account_of s)) l.stores.items;
   within : l.place ≤ vec_len l.stores;
 }
 

@@ -31,7 +31,7 @@ loop-place-preserved g c =
     let at : slice_get old.stores.items old.place ≡ Some s = slice_get_read old.stores.items _ old.place s (omega (arith, c.len.ensures, old.stores.ok)) c.loop-place-test.true c.index_mut.ensures.value in
     record {
       changed = one_changed _ old.place c.args.stores.now.items old.stores.items s c.take_effect.new.store at (subst (λ o. TakesEffect o s c.take_effect.new.store) c.effect_for.ensures c.take_effect.ensures.takes) old.invariant.changed;
-      fits = of_set (λ t. Fits g.B.Resource.meaning g.B.Resource.sort (account_of t)) old.stores.items old.place c.take_effect.new.store old.invariant.fits c.take_effect.ensures.fits;
+      fits = of_set (λ t. Fits g.B.Resource (account_of t)) old.stores.items old.place c.take_effect.new.store old.invariant.fits c.take_effect.ensures.fits;
       within = omega (arith, c.loop-place-test.true, c.len.ensures);
     }
 

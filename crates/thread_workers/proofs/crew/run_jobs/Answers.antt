@@ -30,51 +30,47 @@ for_each_mut-requires-sync-F g c κs within =
 
 pub for_each_mut-requires-clause-accepts : goal.for_each_mut-requires-clause-accepts
 for_each_mut-requires-clause-accepts g c κs within = λ i p h e.
-    let P = IsReady g.R.Rack.disk g.B.Resource.meaning g.B.Resource.sort g.G.Gate.answers (counts_of g.G.Gate) c.args.desk.now.table.shared.table_id in
+    let P = IsReady g.R.Rack.disk g.B.Resource g.G.Gate.answers (counts_of g.G.Gate) c.args.desk.now.table.shared.table_id in
     (search rules, subst P (sym e) (each_at P c.args.jobs.now i p.now h c.requires))
 
 pub returns-clause-done : goal.returns-clause-done
 returns-clause-done g c =
     let disk = g.R.Rack.disk in
-    let meaning = g.B.Resource.meaning in
-    let sort = g.B.Resource.sort in
+    let box = g.B.Resource in
     let answers = g.G.Gate.answers in
     let desk = c.args.desk.now.table.shared.table_id in
     let counts = counts_of g.G.Gate in
-    each_from (IsDone disk meaning sort answers counts desk) c.for_each_mut.new.s (λ i d h.
+    each_from (IsDone disk box answers counts desk) c.for_each_mut.new.s (λ i d h.
     let at = (c.for_each_mut.ensures i d (omega (arith, h, c.for_each_mut.auto.s))).1 in
-    (counts (get_or c.args.jobs.now i d).gate, (subst₂ (HasRun disk meaning sort answers counts desk) at.argument_is at.left at.call).0))
+    (counts (get_or c.args.jobs.now i d).gate, (subst₂ (HasRun disk box answers counts desk) at.argument_is at.left at.call).0))
 
 pub returns-clause-ran : goal.returns-clause-ran
 returns-clause-ran g c =
     let disk = g.R.Rack.disk in
-    let meaning = g.B.Resource.meaning in
-    let sort = g.B.Resource.sort in
+    let box = g.B.Resource in
     let answers = g.G.Gate.answers in
     let desk = c.args.desk.now.table.shared.table_id in
     let counts = counts_of g.G.Gate in
-    ran_from disk meaning sort answers counts desk c.args.jobs.now c.for_each_mut.new.s (omega (arith, c.for_each_mut.auto.s)) (λ i d h.
+    ran_from disk box answers counts desk c.args.jobs.now c.for_each_mut.new.s (omega (arith, c.for_each_mut.auto.s)) (λ i d h.
     let at = (c.for_each_mut.ensures i d h).1 in
-    subst₂ (HasRun disk meaning sort answers counts desk) at.argument_is at.left at.call)
+    subst₂ (HasRun disk box answers counts desk) at.argument_is at.left at.call)
 
 pub returns-clause-share : goal.returns-clause-share
 returns-clause-share g c =
     let disk = g.R.Rack.disk in
-    let meaning = g.B.Resource.meaning in
-    let sort = g.B.Resource.sort in
+    let box = g.B.Resource in
     let answers = g.G.Gate.answers in
     let desk = c.args.desk.now.table.shared.table_id in
     totals_same job_share c.args.jobs.now c.for_each_mut.new.s (omega (arith, c.for_each_mut.auto.s)) (λ i d h.
     let at = (c.for_each_mut.ensures i d h).1 in
-    (subst₂ (HasRun disk meaning sort answers (counts_of g.G.Gate) desk) at.argument_is at.left at.call).1)
+    (subst₂ (HasRun disk box answers (counts_of g.G.Gate) desk) at.argument_is at.left at.call).1)
 
 pub returns-clause-openings : goal.returns-clause-openings
 returns-clause-openings g c first all =
     let disk = g.R.Rack.disk in
-    let meaning = g.B.Resource.meaning in
-    let sort = g.B.Resource.sort in
+    let box = g.B.Resource in
     let answers = g.G.Gate.answers in
     let desk = c.args.desk.now.table.shared.table_id in
     each_from (λ j. job_opening j ≡ first) c.for_each_mut.new.s (λ i d h.
     let at = (c.for_each_mut.ensures i d (omega (arith, h, c.for_each_mut.auto.s))).1 in
-    (subst₂ (HasRun disk meaning sort answers (counts_of g.G.Gate) desk) at.argument_is at.left at.call).2 ∙ each_at (λ j. job_opening j ≡ first) c.args.jobs.now i d (omega (arith, h, c.for_each_mut.auto.s)) all)
+    (subst₂ (HasRun disk box answers (counts_of g.G.Gate) desk) at.argument_is at.left at.call).2 ∙ each_at (λ j. job_opening j ≡ first) c.args.jobs.now i d (omega (arith, h, c.for_each_mut.auto.s)) all)

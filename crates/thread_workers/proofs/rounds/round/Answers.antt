@@ -9,12 +9,12 @@ use Rattle.thread_workers.proofs.rounds.round.Goals as goal
 
 pub work-seat-requires-clause-opened : goal.work-seat-requires-clause-opened
 work-seat-requires-clause-opened g c =
-    opened_still g.R.Rack.disk g.B.Resource.meaning g.B.Resource.sort c.args.seat.place.me.0 c.ask-seat.result.0.place.me.0
+    opened_still g.R.Rack.disk g.B.Resource c.args.seat.place.me.0 c.ask-seat.result.0.place.me.0
     c.ask-seat.ensures.turn.opening c.requires.opened
 
 pub returns-in-Flushed-clause-knows : goal.returns-in-Flushed-clause-knows
 returns-in-Flushed-clause-knows g c begun knows =
-    knows_asked g.R.Rack.disk g.B.Resource.meaning g.B.Resource.sort g.G.Gate.answers c.ask-seat.result.1 0 begun
+    knows_asked g.R.Rack.disk g.B.Resource g.G.Gate.answers c.ask-seat.result.1 0 begun
     (counts_of g.G.Gate c.args.gate.now) c.args.seat.place.me.0 c.ask-seat.result.0.place.me.0 (ap owed_by c.in-Flushed.is)
     c.ask-seat.ensures.turn c.ask-seat.ensures.given knows
 
@@ -23,7 +23,7 @@ returns-in-Answered-Ok-Piece-clause-knows g c begun knows =
     let now = counts_of g.G.Gate c.args.gate.now in
     let owes = ap owed_by c.in-Answered-Ok-Piece.is ∙ (ap (λ (r : Result CoreNext Closed). owed_by (Answered r)) c.in-Answered-Ok-Piece.field-0-is
     ∙ ap (λ (r : CoreNext). owed_by (Answered (Ok r))) c.in-Answered-Ok-Piece.field-0-0-is) in
-    c.work-seat.ensures.knows begun (knows_asked g.R.Rack.disk g.B.Resource.meaning g.B.Resource.sort g.G.Gate.answers c.ask-seat.result.1 (asks_for c.in-Answered-Ok-Piece.piece) begun now
+    c.work-seat.ensures.knows begun (knows_asked g.R.Rack.disk g.B.Resource g.G.Gate.answers c.ask-seat.result.1 (asks_for c.in-Answered-Ok-Piece.piece) begun now
     c.args.seat.place.me.0 c.ask-seat.result.0.place.me.0 owes c.ask-seat.ensures.turn c.ask-seat.ensures.given knows)
 
 pub returns-in-Answered-Ok-Wait-clause-knows : goal.returns-in-Answered-Ok-Wait-clause-knows
@@ -31,7 +31,7 @@ returns-in-Answered-Ok-Wait-clause-knows g c begun knows =
     let now = counts_of g.G.Gate c.args.gate.now in
     let owes = ap owed_by c.in-Answered-Ok-Wait.is ∙ (ap (λ (r : Result CoreNext Closed). owed_by (Answered r)) c.in-Answered-Ok-Wait.field-0-is
     ∙ ap (λ (r : CoreNext). owed_by (Answered (Ok r))) c.in-Answered-Ok-Wait.field-0-0-is) in
-    knows_asked g.R.Rack.disk g.B.Resource.meaning g.B.Resource.sort g.G.Gate.answers c.ask-seat.result.1 0 begun now
+    knows_asked g.R.Rack.disk g.B.Resource g.G.Gate.answers c.ask-seat.result.1 0 begun now
     c.args.seat.place.me.0 c.ask-seat.result.0.place.me.0 owes c.ask-seat.ensures.turn c.ask-seat.ensures.given knows
 
 pub returns-in-Answered-Ok-AllEnded-clause-knows : goal.returns-in-Answered-Ok-AllEnded-clause-knows
@@ -39,7 +39,7 @@ returns-in-Answered-Ok-AllEnded-clause-knows g c begun knows =
     let now = counts_of g.G.Gate c.args.gate.now in
     let owes = ap owed_by c.in-Answered-Ok-AllEnded.is ∙ (ap (λ (r : Result CoreNext Closed). owed_by (Answered r)) c.in-Answered-Ok-AllEnded.field-0-is
     ∙ ap (λ (r : CoreNext). owed_by (Answered (Ok r))) c.in-Answered-Ok-AllEnded.field-0-0-is) in
-    knows_asked g.R.Rack.disk g.B.Resource.meaning g.B.Resource.sort g.G.Gate.answers c.ask-seat.result.1 0 begun now
+    knows_asked g.R.Rack.disk g.B.Resource g.G.Gate.answers c.ask-seat.result.1 0 begun now
     c.args.seat.place.me.0 c.ask-seat.result.0.place.me.0 owes c.ask-seat.ensures.turn c.ask-seat.ensures.given knows
 
 pub returns-in-Answered-Ok-Stuck-clause-knows : goal.returns-in-Answered-Ok-Stuck-clause-knows
@@ -47,12 +47,12 @@ returns-in-Answered-Ok-Stuck-clause-knows g c begun knows =
     let now = counts_of g.G.Gate c.args.gate.now in
     let owes = ap owed_by c.in-Answered-Ok-Stuck.is ∙ (ap (λ (r : Result CoreNext Closed). owed_by (Answered r)) c.in-Answered-Ok-Stuck.field-0-is
     ∙ ap (λ (r : CoreNext). owed_by (Answered (Ok r))) c.in-Answered-Ok-Stuck.field-0-0-is) in
-    knows_asked g.R.Rack.disk g.B.Resource.meaning g.B.Resource.sort g.G.Gate.answers c.ask-seat.result.1 0 begun now
+    knows_asked g.R.Rack.disk g.B.Resource g.G.Gate.answers c.ask-seat.result.1 0 begun now
     c.args.seat.place.me.0 c.ask-seat.result.0.place.me.0 owes c.ask-seat.ensures.turn c.ask-seat.ensures.given knows
 
 pub returns-in-Answered-Err-clause-knows : goal.returns-in-Answered-Err-clause-knows
 returns-in-Answered-Err-clause-knows g c begun knows =
     let now = counts_of g.G.Gate c.args.gate.now in
     let owes = ap owed_by c.in-Answered-Err.is ∙ ap (λ (r : Result CoreNext Closed). owed_by (Answered r)) c.in-Answered-Err.field-0-is in
-    knows_asked g.R.Rack.disk g.B.Resource.meaning g.B.Resource.sort g.G.Gate.answers c.ask-seat.result.1 0 begun now
+    knows_asked g.R.Rack.disk g.B.Resource g.G.Gate.answers c.ask-seat.result.1 0 begun now
     c.args.seat.place.me.0 c.ask-seat.result.0.place.me.0 owes c.ask-seat.ensures.turn c.ask-seat.ensures.given knows

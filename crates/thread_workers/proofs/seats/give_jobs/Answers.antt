@@ -15,7 +15,7 @@ give_job-seat-requires-clause-share g c =
 
 pub give_job-seat-requires-clause-opened : goal.give_job-seat-requires-clause-opened
 give_job-seat-requires-clause-opened g c =
-    opened_still g.R.Rack.disk g.B.Resource.meaning g.B.Resource.sort c.args.seat.place.me.0 c.loop-gate.seat.place.me.0 c.loop-gate.invariant.1 c.requires.opened
+    opened_still g.R.Rack.disk g.B.Resource c.args.seat.place.me.0 c.loop-gate.seat.place.me.0 c.loop-gate.invariant.1 c.requires.opened
 
 pub loop-gate-preserved : goal.loop-gate-preserved
 loop-gate-preserved g c =
@@ -23,7 +23,7 @@ loop-gate-preserved g c =
     let e = c.give_job-seat.ensures in
     let p = c.in-Some.ensures in
     let s = c.loop-gate.seat.place.me.0.share in
-    let P = IsReady g.R.Rack.disk g.B.Resource.meaning g.B.Resource.sort g.G.Gate.answers (counts_of g.G.Gate) c.args.desk.now.table.shared.table_id in
+    let P = IsReady g.R.Rack.disk g.B.Resource g.G.Gate.answers (counts_of g.G.Gate) c.args.desk.now.table.shared.table_id in
     let half = (halves (vec_len c.pop.new.self) s (subst (λ k. 2 ^ k ≤ s) (sym p.len) inv.4)).1 in
     let sum : total job_share c.give_job-seat.new.jobs.items ≡ total job_share c.loop-gate.jobs.items + job_share e.job.0 = ap (total job_share) e.job.1 ∙ total-snoc job_share c.loop-gate.jobs.items e.job.0 in (
       e.desk,

@@ -12,7 +12,7 @@ invariant-loop-gate g l =
     × (l.seat.place.me.0.places ≡ l.initial.seat.place.me.0.places)
     × (l.seat.place.me.0.share + total job_share l.jobs.items ≡ l.initial.seat.place.me.0.share)
     × (2 ^ vec_len l.gates ≤ l.seat.place.me.0.share)
-    × Each (IsReady g.R.Rack.disk g.B.Resource.meaning g.B.Resource.sort g.G.Gate.answers (counts_of g.G.Gate) l.fn.desk.table.shared.table_id) l.jobs.items
+    × Each (IsReady g.R.Rack.disk g.B.Resource g.G.Gate.answers (counts_of g.G.Gate) l.fn.desk.table.shared.table_id) l.jobs.items
     × (vec_len l.jobs + vec_len l.gates ≡ vec_len l.initial.gates)
     × (vec_len l.initial.gates ≤ vec_capacity l.jobs)
     × (vec_capacity l.gates ≡ vec_capacity l.initial.gates)

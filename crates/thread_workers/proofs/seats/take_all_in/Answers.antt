@@ -10,7 +10,7 @@ use Rattle.thread_workers.proofs.seats.take_all_in.Goals as goal
 
 pub take_in-joined-requires-clause-done : goal.take_in-joined-requires-clause-done
 take_in-joined-requires-clause-done g c =
-    let P = IsDone g.R.Rack.disk g.B.Resource.meaning g.B.Resource.sort g.G.Gate.answers (counts_of g.G.Gate) c.args.desk.now.table.shared.table_id in
+    let P = IsDone g.R.Rack.disk g.B.Resource g.G.Gate.answers (counts_of g.G.Gate) c.args.desk.now.table.shared.table_id in
     (each_but_last P c.pop.new.self.items c.in-Some.job (subst (Each P) c.in-Some.ensures.items c.loop-job.invariant.4)).1
 
 pub loop-job-preserved : goal.loop-job-preserved
@@ -21,7 +21,7 @@ loop-job-preserved g c =
     let job = c.in-Some.job in
     let left = c.pop.new.self.items in
     let had = c.loop-job.all.place.me.0.places in
-    let P = IsDone g.R.Rack.disk g.B.Resource.meaning g.B.Resource.sort g.G.Gate.answers (counts_of g.G.Gate) c.args.desk.now.table.shared.table_id in
+    let P = IsDone g.R.Rack.disk g.B.Resource g.G.Gate.answers (counts_of g.G.Gate) c.args.desk.now.table.shared.table_id in
     let sum : total job_share c.loop-job.jobs.items ≡ total job_share left + job_share job = ap (total job_share) p.items ∙ total-snoc job_share left job in
     let places : all_places c.loop-job.jobs.items ≡ job_places job ++ all_places left = ap all_places p.items ∙ all_places-snoc left job in (
       e.desk,

@@ -13,7 +13,7 @@ invariant-loop-job g l =
     × (l.all.place.me.0.opening ≡ l.initial.all.place.me.0.opening)
     × (l.all.place.me.0.places ++ all_places l.jobs.items ≡ l.initial.all.place.me.0.places ++ all_places l.initial.jobs.items)
     × (l.all.place.me.0.share + total job_share l.jobs.items ≡ l.initial.all.place.me.0.share + total job_share l.initial.jobs.items)
-    × Each (IsDone g.R.Rack.disk g.B.Resource.meaning g.B.Resource.sort g.G.Gate.answers (counts_of g.G.Gate) l.fn.desk.table.shared.table_id) l.jobs.items
+    × Each (IsDone g.R.Rack.disk g.B.Resource g.G.Gate.answers (counts_of g.G.Gate) l.fn.desk.table.shared.table_id) l.jobs.items
     × (vec_len l.gates + vec_len l.jobs ≡ vec_len l.initial.gates + vec_len l.initial.jobs)
     × (vec_capacity l.initial.gates ≤ vec_capacity l.gates)
     × (IsStoppedBy l.first l.all.place.me.0.places ⊎ (vec_len l.jobs ≡ vec_len l.initial.jobs))

@@ -12,7 +12,7 @@ use Rattle.thread_workers.proofs.working.hand_in_late.Goals as goal
 
 pub try_again-after-requires-clause-opened : goal.try_again-after-requires-clause-opened
 try_again-after-requires-clause-opened g c =
-    opened_still g.R.Rack.disk g.B.Resource.meaning g.B.Resource.sort c.args.seat.place.me.0 c.loop.seat.place.me.0 c.loop.invariant.1
+    opened_still g.R.Rack.disk g.B.Resource c.args.seat.place.me.0 c.loop.seat.place.me.0 c.loop.invariant.1
     c.requires.opened
 
 pub loop-preserved : goal.loop-preserved

@@ -15,5 +15,5 @@ invariant-loop g l =
     × HasGot l.initial.piece l.seat.place.me.0
     × (l.piece ≡ l.initial.piece)
     × ((answers : Handed → Option Answer) → IsAnswerTo answers l.initial.piece Done → (begun now : GateCounts)
-    → WorkerKnows g.R.Rack.disk g.B.Resource.meaning g.B.Resource.sort answers 0 begun now l.initial.seat.place.me.0
-    → WorkerKnows g.R.Rack.disk g.B.Resource.meaning g.B.Resource.sort answers 0 begun now l.seat.place.me.0)
+    → WorkerKnows g.R.Rack.disk g.B.Resource answers 0 begun now l.initial.seat.place.me.0
+    → WorkerKnows g.R.Rack.disk g.B.Resource answers 0 begun now l.seat.place.me.0)

@@ -11,7 +11,7 @@ use Rattle.thread_workers.proofs.working.try_again.Goals as goal
 
 pub hand_in-seat-requires-clause-opened : goal.hand_in-seat-requires-clause-opened
 hand_in-seat-requires-clause-opened g c =
-    opened_still g.R.Rack.disk g.B.Resource.meaning g.B.Resource.sort c.args.seat.place.me.0
+    opened_still g.R.Rack.disk g.B.Resource c.args.seat.place.me.0
     c.hand_in_again-seat.result.0.place.me.0 c.hand_in_again-seat.ensures.turn.opening c.requires.opened
 
 pub hand_in-seat-requires-clause-handed : goal.hand_in-seat-requires-clause-handed
@@ -36,7 +36,7 @@ returns-in-Answered-clause-knows g c answers answered begun now knows =
     let v = c.args.seat.place.me.0 in
     let w = c.hand_in_again-seat.result.0.place.me.0 in
     let turn = subst (λ (r : QueueTurn). HasAdded (queue_entry_again d.piece.number r) v w) c.in-Answered.is c.hand_in_again-seat.ensures.turn in
-    knows_again g.R.Rack.disk g.B.Resource.meaning g.B.Resource.sort answers d (queue_said c.in-Answered.reply) begun now v w turn
+    knows_again g.R.Rack.disk g.B.Resource answers d (queue_said c.in-Answered.reply) begun now v w turn
     c.requires.handed answered knows
 
 pub returns-in-Some-clause-handed : goal.returns-in-Some-clause-handed
@@ -51,7 +51,7 @@ returns-in-Some-clause-knows g c answers answered begun now knows =
     let v = c.args.seat.place.me.0 in
     let w = c.hand_in_again-seat.result.0.place.me.0 in
     let turn = subst (λ (r : QueueTurn). HasAdded (queue_entry_again d.piece.number r) v w) c.in-Flushed.is c.hand_in_again-seat.ensures.turn in
-    knows_flushed g.R.Rack.disk g.B.Resource.meaning g.B.Resource.sort answers (flush_said c.in-Flushed.reply) begun now v w turn knows
+    knows_flushed g.R.Rack.disk g.B.Resource answers (flush_said c.in-Flushed.reply) begun now v w turn knows
 
 pub returns-in-None-clause-handed : goal.returns-in-None-clause-handed
 returns-in-None-clause-handed g c =
@@ -65,8 +65,7 @@ returns-in-None-clause-handed g c =
 pub returns-in-None-clause-knows : goal.returns-in-None-clause-knows
 returns-in-None-clause-knows g c answers answered begun now knows =
     let disk = g.R.Rack.disk in
-    let meaning = g.B.Resource.meaning in
-    let sort = g.B.Resource.sort in
+    let box = g.B.Resource in
     let d = c.args.piece in
     let v = c.args.seat.place.me.0 in
     let m = c.hand_in_again-seat.result.0.place.me.0 in
@@ -76,5 +75,5 @@ returns-in-None-clause-knows g c answers answered begun now knows =
     let flushed = subst (λ (r : QueueTurn). HasAdded (queue_entry_again d.piece.number r) v m) c.in-Flushed.is e.turn in
     let turn = subst (λ (q : Handed). HasAdded (queue_entry q.piece.number Done c.hand_in-seat.result.1) m w) same c.hand_in-seat.ensures.turn in
     let got = still_got d (queue_entry_again d.piece.number c.hand_in_again-seat.result.1) v m e.turn c.requires.handed in
-    let then = knows_flushed disk meaning sort answers (flush_said c.in-Flushed.reply) begun now v m flushed knows in
-    knows_again disk meaning sort answers d (queue_said c.hand_in-seat.result.1) begun now m w turn got answered then
+    let then = knows_flushed disk box answers (flush_said c.in-Flushed.reply) begun now v m flushed knows in
+    knows_again disk box answers d (queue_said c.hand_in-seat.result.1) begun now m w turn got answered then

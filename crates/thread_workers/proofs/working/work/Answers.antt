@@ -13,7 +13,7 @@ use Rattle.thread_workers.proofs.working.work.Goals as goal
 
 pub hand_in_late-requires-clause-opened : goal.hand_in_late-requires-clause-opened
 hand_in_late-requires-clause-opened g c =
-    opened_still g.R.Rack.disk g.B.Resource.meaning g.B.Resource.sort c.args.seat.place.me.0 c.hand_in-seat.result.0.place.me.0
+    opened_still g.R.Rack.disk g.B.Resource c.args.seat.place.me.0 c.hand_in-seat.result.0.place.me.0
     c.hand_in-seat.ensures.turn.opening c.requires.opened
 
 pub hand_in_late-requires-clause-handed : goal.hand_in_late-requires-clause-handed
@@ -37,7 +37,7 @@ returns-in-Full-clause-knows g c begun knows =
     let back = subst (HandsBack d a) c.in-Full.is c.hand_in-seat.ensures.back in
     let answered = subst (λ (q : Handed). IsAnswerTo answers q Done) (sym back.0) (subst (λ (x : Answer). IsAnswerTo answers d x) back.1 told) in
     c.hand_in_late.ensures.knows answers answered begun after
-    (knows_queued g.R.Rack.disk g.B.Resource.meaning g.B.Resource.sort answers d a (queue_said c.hand_in-seat.result.1) begun before after
+    (knows_queued g.R.Rack.disk g.B.Resource answers d a (queue_said c.hand_in-seat.result.1) begun before after
     c.args.seat.place.me.0 c.hand_in-seat.result.0.place.me.0 c.hand_in-seat.ensures.turn c.requires.handed told c.answer_to-answer.ensures.counts knows)
 
 pub returns-in_default : goal.returns-in_default
@@ -54,7 +54,7 @@ returns-in_default g c =
       desk = e.desk;
       keeps = (e.turn.opening, e.turn.share);
       knows = λ begun knows.
-          knows_queued g.R.Rack.disk g.B.Resource.meaning g.B.Resource.sort g.G.Gate.answers d a (queue_said c.hand_in-seat.result.1) begun before after
+          knows_queued g.R.Rack.disk g.B.Resource g.G.Gate.answers d a (queue_said c.hand_in-seat.result.1) begun before after
           v w e.turn c.requires.handed c.answer_to-answer.ensures.told c.answer_to-answer.ensures.counts knows;
       stopped = if_map c.failure.result (λ o. Stops o entry) (λ o. HasStopped o w.places) (λ o stops. stopped_by o entry v w e.turn stops)
           (c.failure.ensures d.piece.number a);

@@ -7,7 +7,7 @@ use Rattle.worker_gate.proofs.alone.run_alone.Goals as goal
 
 pub turns-init : goal.turns-init
 turns-init g c = record {
-  ran = ran_none g.R.Rack.disk g.R.Rack.faults g.G.Gate.answers (counts_of g.G.Gate c.args.gate.now) c.args.engine.now c.invariant_holds.ensures.run (c.invariant_holds.ensures.each c.requires.ready.settled);
+  ran = ran_none g.R.Rack g.G.Gate.answers (counts_of g.G.Gate c.args.gate.now) c.args.engine.now c.invariant_holds.ensures.run (c.invariant_holds.ensures.each c.requires.ready.settled);
   ready = c.requires.ready;
   idle = c.requires.alone;
   core = c.invariant_holds.ensures.run;
@@ -16,7 +16,7 @@ turns-init g c = record {
 pub returns-in-Some-clause-ran : goal.returns-in-Some-clause-ran
 returns-in-Some-clause-ran g c =
     let so_far = c.turns.invariant in
-    ran_then g.R.Rack.disk g.R.Rack.faults g.G.Gate.answers (counts_of g.G.Gate c.args.gate.now) (counts_of g.G.Gate c.turns.gate) (counts_of g.G.Gate c.turn.new.gate) c.args.engine.now c.turns.engine c.turn.new.engine
+    ran_then g.R.Rack g.G.Gate.answers (counts_of g.G.Gate c.args.gate.now) (counts_of g.G.Gate c.turns.gate) (counts_of g.G.Gate c.turn.new.gate) c.args.engine.now c.turns.engine c.turn.new.engine
     so_far.ready.settled so_far.core (g.met.R.Rack.honest c.turn.new.engine.files.rack) so_far.ran c.in-Some.ensures.ran
 
 pub turns-smaller : goal.turns-smaller
@@ -32,7 +32,7 @@ pub turns-preserved : goal.turns-preserved
 turns-preserved g c =
     let so_far = c.turns.invariant in
     record {
-      ran = ran_then g.R.Rack.disk g.R.Rack.faults g.G.Gate.answers (counts_of g.G.Gate c.args.gate.now) (counts_of g.G.Gate c.turns.gate) (counts_of g.G.Gate c.turn.new.gate) c.args.engine.now c.turns.engine c.turn.new.engine
+      ran = ran_then g.R.Rack g.G.Gate.answers (counts_of g.G.Gate c.args.gate.now) (counts_of g.G.Gate c.turns.gate) (counts_of g.G.Gate c.turn.new.gate) c.args.engine.now c.turns.engine c.turn.new.engine
           so_far.ready.settled so_far.core (g.met.R.Rack.honest c.turn.new.engine.files.rack) so_far.ran c.in-None.ensures.ran;
       ready = c.in-None.ensures.ready (λ other. cc);
       idle = c.in-None.ensures.idle refl;

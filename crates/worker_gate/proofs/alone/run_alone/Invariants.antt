@@ -9,8 +9,8 @@ use Rattle.worker_gate.proofs.alone.run_alone.Given as goal
 -- so far the engine was only run, and no piece is out
 abbrev pub invariant-turns : goal.invariant-turns
 invariant-turns g l = record {
-  ran : RanBy g.R.Rack.disk g.R.Rack.faults (asked g.G.Gate l.fn.gate l.gate) l.fn.engine l.engine;
-  ready : IsReady g.B.Resource.meaning g.B.Resource.sort l.engine;
+  ran : RanBy g.R.Rack (asked g.G.Gate l.fn.gate l.gate) l.fn.engine l.engine;
+  ready : IsReady g.B.Resource l.engine;
   idle : NothingRuns l.engine.core;
   core : IsCore l.engine.core;
 }

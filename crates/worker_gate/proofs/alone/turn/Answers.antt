@@ -18,7 +18,7 @@ pub returns-in-Piece-clause-ran : goal.returns-in-Piece-clause-ran
 returns-in-Piece-clause-ran g c =
     let told = c.in-Piece.ensures in
     let done = c.work.ensures in
-    ran_turn g.R.Rack.disk g.R.Rack.faults g.G.Gate.answers (counts_of g.G.Gate c.args.gate.now) (counts_of g.G.Gate c.work.new.gate) c.args.engine.now c.next.new.engine c.work.new.engine c.in-Piece.piece
+    ran_turn g.R.Rack g.G.Gate.answers (counts_of g.G.Gate c.args.gate.now) (counts_of g.G.Gate c.work.new.gate) c.args.engine.now c.next.new.engine c.work.new.engine c.in-Piece.piece
     done.ends.outcome c.work.result told.ready.settled c.invariant_holds.ensures.run (g.met.R.Rack.honest c.work.new.engine.files.rack) told.engine told.reply told.goes done.goes done.ends.finishes done.gate
     (λ end. ap g.G.Gate.asked (done.unasked end)) done.asked
 
@@ -29,12 +29,12 @@ pub returns-in-Piece-clause-idle : goal.returns-in-Piece-clause-idle
 returns-in-Piece-clause-idle g c none =
     let told = c.in-Piece.ensures in
     let out = alone_out c.args.engine.now.core c.next.new.engine.core (ap (λ (e : EngineState g.row.R.Denot g.row.B.Denot). e.core) told.engine) c.requires.alone c.in-Piece.piece told.reply in
-    idle_after g.R.Rack.disk g.R.Rack.faults c.next.new.engine c.work.new.engine c.in-Piece.piece told.given.handed out (c.work.ensures.goes []) c.work.ensures.ends.outcome c.work.result c.work.ensures.ends.finishes (sym c.failure.ensures ∙ none)
+    idle_after g.R.Rack c.next.new.engine c.work.new.engine c.in-Piece.piece told.given.handed out (c.work.ensures.goes []) c.work.ensures.ends.outcome c.work.result c.work.ensures.ends.finishes (sym c.failure.ensures ∙ none)
 
 pub returns-in-AllEnded-clause-ran : goal.returns-in-AllEnded-clause-ran
 returns-in-AllEnded-clause-ran g c =
     let told = c.in-AllEnded.ensures in
-    ran_next g.R.Rack.disk g.R.Rack.faults g.G.Gate.answers (counts_of g.G.Gate c.args.gate.now) c.args.engine.now c.next.new.engine all_ended told.engine told.reply told.goes refl
+    ran_next g.R.Rack g.G.Gate.answers (counts_of g.G.Gate c.args.gate.now) c.args.engine.now c.next.new.engine all_ended told.engine told.reply told.goes refl
 
 pub returns-in-AllEnded-clause-outcome : goal.returns-in-AllEnded-clause-outcome
 returns-in-AllEnded-clause-outcome g c =
@@ -43,7 +43,7 @@ returns-in-AllEnded-clause-outcome g c =
 pub returns-in-Stuck-clause-ran : goal.returns-in-Stuck-clause-ran
 returns-in-Stuck-clause-ran g c =
     let told = c.in-Stuck.ensures in
-    ran_next g.R.Rack.disk g.R.Rack.faults g.G.Gate.answers (counts_of g.G.Gate c.args.gate.now) c.args.engine.now c.next.new.engine (stuck c.in-Stuck.process) told.engine told.reply told.goes refl
+    ran_next g.R.Rack g.G.Gate.answers (counts_of g.G.Gate c.args.gate.now) c.args.engine.now c.next.new.engine (stuck c.in-Stuck.process) told.engine told.reply told.goes refl
 
 pub returns-in-Stuck-clause-outcome : goal.returns-in-Stuck-clause-outcome
 returns-in-Stuck-clause-outcome g c =

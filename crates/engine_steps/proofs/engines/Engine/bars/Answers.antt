@@ -16,7 +16,7 @@ bars-requires-clause-subsystem g c =
     subst (λ n. n < 8) (sym is) (subsystem_low c.self.inside.catalog.ops c.act_of-entry.result.op c.self.invariant.0.history.catalog.good)
 
 pub bars-requires-clause-fits : goal.bars-requires-clause-fits
-bars-requires-clause-fits g c = subst (λ x. EachFits g.B.Resource.meaning g.B.Resource.sort x.files.stores) (sym c.self.view_is) c.requires.fits
+bars-requires-clause-fits g c = subst (λ x. EachFits g.B.Resource x.files.stores) (sym c.self.view_is) c.requires.fits
 
 pub returns : goal.returns
 returns g c =

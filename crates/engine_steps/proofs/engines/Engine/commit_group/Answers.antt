@@ -12,7 +12,7 @@ use Rattle.engine_steps.proofs.GroupSteps.{group_committed, has_each}
 use Rattle.engine_steps.proofs.engines.Engine.commit_group.Goals as goal
 
 pub commit_staged-requires-clause-fits : goal.commit_staged-requires-clause-fits
-commit_staged-requires-clause-fits g c = subst (λ x. EachFits g.B.Resource.meaning g.B.Resource.sort x.files.stores) (sym c.self.view_is) c.requires.fits
+commit_staged-requires-clause-fits g c = subst (λ x. EachFits g.B.Resource x.files.stores) (sym c.self.view_is) c.requires.fits
 
 pub returns-then-not-is_in_doubt-clause-committed : goal.returns-then-not-is_in_doubt-clause-committed
 returns-then-not-is_in_doubt-clause-committed g c =

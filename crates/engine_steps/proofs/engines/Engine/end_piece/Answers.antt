@@ -64,8 +64,8 @@ returns-in-Ok-clause-any_moment g c =
 
 pub returns-in-Ok-clause-fits : goal.returns-in-Ok-clause-fits
 returns-in-Ok-clause-fits g c =
-    subst (EachFits g.B.Resource.meaning g.B.Resource.sort) (sym c.record.ensures.same)
-    (subst (λ x. EachFits g.B.Resource.meaning g.B.Resource.sort x.files.stores) (sym c.self.view_is) c.requires.fits)
+    subst (EachFits g.B.Resource) (sym c.record.ensures.same)
+    (subst (λ x. EachFits g.B.Resource x.files.stores) (sym c.self.view_is) c.requires.fits)
 
 pub returns-clause-any_moment : goal.returns-clause-any_moment
 returns-clause-any_moment g c =
@@ -84,5 +84,5 @@ returns-clause-any_moment g c =
 
 pub returns-clause-fits : goal.returns-clause-fits
 returns-clause-fits g c =
-    subst (EachFits g.B.Resource.meaning g.B.Resource.sort) (sym c.record.ensures.same)
-    (subst (λ x. EachFits g.B.Resource.meaning g.B.Resource.sort x.files.stores) (sym c.self.view_is) c.requires.fits)
+    subst (EachFits g.B.Resource) (sym c.record.ensures.same)
+    (subst (λ x. EachFits g.B.Resource x.files.stores) (sym c.self.view_is) c.requires.fits)

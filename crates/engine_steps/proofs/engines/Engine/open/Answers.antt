@@ -33,7 +33,7 @@ returns-in-Ok-clause-sound g c told =
 
 pub returns-in-Ok-clause-fits : goal.returns-in-Ok-clause-fits
 returns-in-Ok-clause-fits g c =
-    carried c.engine_on.result c.in-Ok.catalog c.in-Ok.history c.in-Ok.files c.engine_on.ensures.on (λ d h f. EachFits g.B.Resource.meaning g.B.Resource.sort f.stores) c.in-Ok.ensures.opened.fits
+    carried c.engine_on.result c.in-Ok.catalog c.in-Ok.history c.in-Ok.files c.engine_on.ensures.on (λ d h f. EachFits g.B.Resource f.stores) c.in-Ok.ensures.opened.fits
 
 pub returns-in-Ok-clause-refused : goal.returns-in-Ok-clause-refused
 returns-in-Ok-clause-refused g c told =
@@ -60,14 +60,14 @@ returns-in-Ok-clause-refused g c told =
 pub returns-in-Ok-clause-rack : goal.returns-in-Ok-clause-rack
 returns-in-Ok-clause-rack g c =
     carried c.engine_on.result c.in-Ok.catalog c.in-Ok.history c.in-Ok.files c.engine_on.ensures.on
-    (λ d h f. LeavesImages g.R.Rack.disk g.R.Rack.faults c.args.parts.rack f.rack ⊥) c.in-Ok.ensures.rack
+    (λ d h f. LeavesImages g.R.Rack c.args.parts.rack f.rack ⊥) c.in-Ok.ensures.rack
 
 pub returns-in-Ok-clause-rack_back : goal.returns-in-Ok-clause-rack_back
 returns-in-Ok-clause-rack_back g c =
     let is = c.in-Ok.ensures.rack in
     both_hold c.engine_on.result (λ x. x.parts.rack ≡ c.in-Ok.files.rack) (λ x. x.why ≡ NoMemory)
-    (λ x. LeavesImages g.R.Rack.disk g.R.Rack.faults c.args.parts.rack x.parts.rack (x.why ≡ Fault)) c.engine_on.ensures.rack c.engine_on.ensures.why
-    (λ x rack why. subst (λ k. LeavesImages g.R.Rack.disk g.R.Rack.faults c.args.parts.rack k (x.why ≡ Fault)) (sym rack) (record {
+    (λ x. LeavesImages g.R.Rack c.args.parts.rack x.parts.rack (x.why ≡ Fault)) c.engine_on.ensures.rack c.engine_on.ensures.why
+    (λ x rack why. subst (λ k. LeavesImages g.R.Rack c.args.parts.rack k (x.why ≡ Fault)) (sym rack) (record {
       follow = is.follow;
       tells = is.tells;
       later = is.later;

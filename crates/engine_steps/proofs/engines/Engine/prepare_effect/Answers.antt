@@ -21,7 +21,7 @@ use Rattle.engine_steps.proofs.PreparedStores.{bars_alike, may_come, rests_then}
 use Rattle.engine_steps.proofs.engines.Engine.prepare_effect.Goals as goal
 
 pub prepare-answer-requires-clause-fits : goal.prepare-answer-requires-clause-fits
-prepare-answer-requires-clause-fits g c = subst (λ x. EachFits g.B.Resource.meaning g.B.Resource.sort x.files.stores) (sym c.self.view_is) c.requires.fits
+prepare-answer-requires-clause-fits g c = subst (λ x. EachFits g.B.Resource x.files.stores) (sym c.self.view_is) c.requires.fits
 
 pub prepare-answer-requires-clause-may_come : goal.prepare-answer-requires-clause-may_come
 prepare-answer-requires-clause-may_come g c =

@@ -12,7 +12,7 @@ use Rattle.engine_steps.proofs.GroupSteps.{group_prepared}
 use Rattle.engine_steps.proofs.engines.Engine.prepare_group.Goals as goal
 
 pub prepare_staged-requires-clause-fits : goal.prepare_staged-requires-clause-fits
-prepare_staged-requires-clause-fits g c = subst (λ x. EachFits g.B.Resource.meaning g.B.Resource.sort x.files.stores) (sym c.self.view_is) c.requires.fits
+prepare_staged-requires-clause-fits g c = subst (λ x. EachFits g.B.Resource x.files.stores) (sym c.self.view_is) c.requires.fits
 
 pub prepare_staged-requires-clause-may_come : goal.prepare_staged-requires-clause-may_come
 prepare_staged-requires-clause-may_come g c = subst (λ x. MayPrepareEach c.args.group.now x.files.stores) (sym c.self.view_is) c.requires.may
@@ -33,7 +33,7 @@ returns-then-not-has_effect-clause-any_moment g c =
     (λ told. c.are_sound.ensures.each told c.self.inside.catalog (full_history c.self.inside.core) (rest.stand told))
 
 pub returns-then-not-has_effect-clause-fits : goal.returns-then-not-has_effect-clause-fits
-returns-then-not-has_effect-clause-fits g c = subst (λ x. EachFits g.B.Resource.meaning g.B.Resource.sort x.files.stores) (sym c.self.view_is) c.requires.fits
+returns-then-not-has_effect-clause-fits g c = subst (λ x. EachFits g.B.Resource x.files.stores) (sym c.self.view_is) c.requires.fits
 
 pub returns-in-Ok-clause-prepared : goal.returns-in-Ok-clause-prepared
 returns-in-Ok-clause-prepared g c =

@@ -59,8 +59,8 @@ returns-in-Ok-clause-any_moment g c =
     (subst (λ f. OfStaged g.R.Rack.disk f (λ d h after. EachImage later (g.R.Rack.disk f.rack).moment (IsSoundForEither d h after))) is c.record_staged.ensures.any_moment) told)
 
 pub returns-in-Ok-clause-fits : goal.returns-in-Ok-clause-fits
-returns-in-Ok-clause-fits g c = subst (EachFits g.B.Resource.meaning g.B.Resource.sort) (sym (c.record_staged.ensures.same ∙ c.stage_each.ensures.same.0 ∙ c.unstage_records.ensures.same.0))
-    (subst (λ x. EachFits g.B.Resource.meaning g.B.Resource.sort x.files.stores) (sym c.self.view_is) c.requires.fits)
+returns-in-Ok-clause-fits g c = subst (EachFits g.B.Resource) (sym (c.record_staged.ensures.same ∙ c.stage_each.ensures.same.0 ∙ c.unstage_records.ensures.same.0))
+    (subst (λ x. EachFits g.B.Resource x.files.stores) (sym c.self.view_is) c.requires.fits)
 
 pub returns-in-Err-clause-any_moment : goal.returns-in-Err-clause-any_moment
 returns-in-Err-clause-any_moment g c =
@@ -75,5 +75,5 @@ returns-in-Err-clause-any_moment g c =
     (subst (λ f. OfStaged g.R.Rack.disk f (λ d h after. EachImage later (g.R.Rack.disk f.rack).moment (IsSoundForEither d h after))) is c.record_staged.ensures.any_moment) told)
 
 pub returns-in-Err-clause-fits : goal.returns-in-Err-clause-fits
-returns-in-Err-clause-fits g c = subst (EachFits g.B.Resource.meaning g.B.Resource.sort) (sym (c.record_staged.ensures.same ∙ c.stage_each.ensures.same.0 ∙ c.unstage_records.ensures.same.0))
-    (subst (λ x. EachFits g.B.Resource.meaning g.B.Resource.sort x.files.stores) (sym c.self.view_is) c.requires.fits)
+returns-in-Err-clause-fits g c = subst (EachFits g.B.Resource) (sym (c.record_staged.ensures.same ∙ c.stage_each.ensures.same.0 ∙ c.unstage_records.ensures.same.0))
+    (subst (λ x. EachFits g.B.Resource x.files.stores) (sym c.self.view_is) c.requires.fits)

@@ -13,7 +13,7 @@ use Rattle.engine_steps.proofs.RecordedStores.{some_doubt}
 use Rattle.engine_steps.proofs.engines.Engine.settle_piece.Goals as goal
 
 pub end_doubt-requires-clause-fits : goal.end_doubt-requires-clause-fits
-end_doubt-requires-clause-fits g c = subst (λ x. EachFits g.B.Resource.meaning g.B.Resource.sort x.files.stores) (sym c.self.view_is) c.requires.fits
+end_doubt-requires-clause-fits g c = subst (λ x. EachFits g.B.Resource x.files.stores) (sym c.self.view_is) c.requires.fits
 
 pub end_doubt-requires-clause-doubt : goal.end_doubt-requires-clause-doubt
 end_doubt-requires-clause-doubt g c =

@@ -9,7 +9,7 @@ use Rattle.history_files.proofs.files.Files.bars.Goals as goal
 
 pub bars-requires : goal.bars-requires
 bars-requires g c = record {
-  fits = it_fits _ _ c.self.view_is c.args.q _ (at_place _ c.args.q _ _ c.from.ensures c.self.invariant.0.eight c.requires.subsystem c.index.ensures) g.B.Resource.meaning g.B.Resource.sort c.requires.fits;
+  fits = it_fits _ _ c.self.view_is c.args.q _ (at_place _ c.args.q _ _ c.from.ensures c.self.invariant.0.eight c.requires.subsystem c.index.ensures) g.B.Resource c.requires.fits;
 }
 
 pub returns : goal.returns

@@ -17,9 +17,8 @@ commit_each-requires-clause-order g c = c.self.invariant.0.file
 
 pub commit_each-requires-clause-fits : goal.commit_each-requires-clause-fits
 commit_each-requires-clause-fits g c =
-    let meaning = g.B.Resource.meaning in
-    let sort = g.B.Resource.sort in
-    subst (λ f. EachFits meaning sort f.stores) (sym c.self.view_is) c.requires.fits
+    let box = g.B.Resource in
+    subst (λ f. EachFits box f.stores) (sym c.self.view_is) c.requires.fits
 
 pub commit_each-requires-clause-stand : goal.commit_each-requires-clause-stand
 commit_each-requires-clause-stand g c = λ told.

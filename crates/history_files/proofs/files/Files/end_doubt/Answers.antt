@@ -30,7 +30,7 @@ end_in_store-requires-clause-doubt g c = has_doubt g (goal.at.end_in_store-requi
 
 pub end_in_store-requires-clause-fits : goal.end_in_store-requires-clause-fits
 end_in_store-requires-clause-fits g c =
-    it_fits _ _ c.self.view_is c.args.q _ (its_store g (goal.at.end_in_store-requires-clause-fits g c).After-index_mut) g.B.Resource.meaning g.B.Resource.sort c.requires.fits
+    it_fits _ _ c.self.view_is c.args.q _ (its_store g (goal.at.end_in_store-requires-clause-fits g c).After-index_mut) g.B.Resource c.requires.fits
 
 pub end_in_store-requires-clause-stands : goal.end_in_store-requires-clause-stands
 end_in_store-requires-clause-stands g c =
@@ -75,8 +75,8 @@ returns-clause-any_moment g c =
 pub returns-clause-fits : goal.returns-clause-fits
 returns-clause-fits g c =
     let at = its_store g (goal.at.returns-clause-fits g c).After-index_mut in
-    fits_with c.self.inside.stores.items c.args.q c.from.result c.index_mut.result.now c.end_in_store.new.store c.from.ensures at g.B.Resource.meaning g.B.Resource.sort
-    (subst (λ f. EachFits g.B.Resource.meaning g.B.Resource.sort f.stores) (sym c.self.view_is) c.requires.fits) c.end_in_store.ensures.fits
+    fits_with c.self.inside.stores.items c.args.q c.from.result c.index_mut.result.now c.end_in_store.new.store c.from.ensures at g.B.Resource
+    (subst (λ f. EachFits g.B.Resource f.stores) (sym c.self.view_is) c.requires.fits) c.end_in_store.ensures.fits
 
 pub returns-clause-ok : goal.returns-clause-ok
 returns-clause-ok g c =

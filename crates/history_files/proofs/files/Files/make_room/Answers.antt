@@ -19,7 +19,7 @@ its_store g c = at_place _ c.args.q _ _ c.from.ensures c.self.invariant.0.eight 
 
 pub make_room-requires : goal.make_room-requires
 make_room-requires g c = record {
-  fits = it_fits _ _ c.self.view_is c.args.q _ (its_store g (goal.at.make_room-requires g c).After-index_mut) g.B.Resource.meaning g.B.Resource.sort c.requires.fits;
+  fits = it_fits _ _ c.self.view_is c.args.q _ (its_store g (goal.at.make_room-requires g c).After-index_mut) g.B.Resource c.requires.fits;
 }
 
 pub invariant_of-self : goal.invariant_of-self
@@ -34,8 +34,8 @@ invariant_of-self g c =
 pub returns-clause-fits : goal.returns-clause-fits
 returns-clause-fits g c =
     let at = its_store g (goal.at.returns-clause-fits g c).After-index_mut in
-    fits_with c.self.inside.stores.items c.args.q c.from.result c.index_mut.result.now c.make_room.new.self c.from.ensures at g.B.Resource.meaning g.B.Resource.sort
-    (subst (λ f. EachFits g.B.Resource.meaning g.B.Resource.sort f.stores) (sym c.self.view_is) c.requires.fits) c.make_room.ensures.fits
+    fits_with c.self.inside.stores.items c.args.q c.from.result c.index_mut.result.now c.make_room.new.self c.from.ensures at g.B.Resource
+    (subst (λ f. EachFits g.B.Resource f.stores) (sym c.self.view_is) c.requires.fits) c.make_room.ensures.fits
 
 pub returns-clause-changes : goal.returns-clause-changes
 returns-clause-changes g c =

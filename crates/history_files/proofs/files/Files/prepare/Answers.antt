@@ -44,7 +44,7 @@ prepare-requires-clause-follows g c = (may_come g (goal.at.prepare-requires-clau
 
 pub prepare-requires-clause-fits : goal.prepare-requires-clause-fits
 prepare-requires-clause-fits g c =
-    it_fits _ _ c.self.view_is c.args.q _ (its_store g (goal.at.prepare-requires-clause-fits g c).After-index_mut) g.B.Resource.meaning g.B.Resource.sort c.requires.fits
+    it_fits _ _ c.self.view_is c.args.q _ (its_store g (goal.at.prepare-requires-clause-fits g c).After-index_mut) g.B.Resource c.requires.fits
 
 pub prepare-requires-clause-stands : goal.prepare-requires-clause-stands
 prepare-requires-clause-stands g c =
@@ -90,8 +90,8 @@ returns-clause-any_moment g c =
 pub returns-clause-fits : goal.returns-clause-fits
 returns-clause-fits g c =
     let at = its_store g (goal.at.returns-clause-fits g c).After-index_mut in
-    fits_with c.self.inside.stores.items c.args.q c.from.result c.index_mut.result.now c.prepare.new.self c.from.ensures at g.B.Resource.meaning g.B.Resource.sort
-    (subst (λ f. EachFits g.B.Resource.meaning g.B.Resource.sort f.stores) (sym c.self.view_is) c.requires.fits) c.prepare.ensures.fits
+    fits_with c.self.inside.stores.items c.args.q c.from.result c.index_mut.result.now c.prepare.new.self c.from.ensures at g.B.Resource
+    (subst (λ f. EachFits g.B.Resource f.stores) (sym c.self.view_is) c.requires.fits) c.prepare.ensures.fits
 
 pub returns-clause-left : goal.returns-clause-left
 returns-clause-left g c =

@@ -20,9 +20,8 @@ prepare_each-requires-clause-may g c =
 
 pub prepare_each-requires-clause-fits : goal.prepare_each-requires-clause-fits
 prepare_each-requires-clause-fits g c =
-    let meaning = g.B.Resource.meaning in
-    let sort = g.B.Resource.sort in
-    subst (λ f. EachFits meaning sort f.stores) (sym c.self.view_is) c.requires.fits
+    let box = g.B.Resource in
+    subst (λ f. EachFits box f.stores) (sym c.self.view_is) c.requires.fits
 
 pub prepare_each-requires-clause-stand : goal.prepare_each-requires-clause-stand
 prepare_each-requires-clause-stand g c = λ told.

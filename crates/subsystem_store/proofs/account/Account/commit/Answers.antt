@@ -8,8 +8,7 @@ use Rattle.subsystem_store.proofs.account.Account.commit.Goals as goal
 
 pub returns-clause-fits : goal.returns-clause-fits
 returns-clause-fits g c =
-    let meaning = g.B.Resource.meaning in
-    let sort = g.B.Resource.sort in
-    let fits = subst (Fits meaning sort) (sym c.self.view_is) c.requires.fits in
-    let has = subst (λ (o : Option Effect). IfSome o (λ (e : Effect). IsTrue (has_key (meaning c.self.inside.resource).items e.call.key))) c.in-Some.is fits.doubt_ready in
-    fits_after meaning sort _ _ c.self.inside.undoable.items c.in-Some.effect fits c.self.invariant.0 refl c.push_reserved.ensures.items refl refl c.settle.ensures.kind has c.settle.ensures.pairs
+    let box = g.B.Resource in
+    let fits = subst (Fits box) (sym c.self.view_is) c.requires.fits in
+    let has = subst (λ (o : Option Effect). IfSome o (λ (e : Effect). IsTrue (has_key (box.meaning c.self.inside.resource).items e.call.key))) c.in-Some.is fits.doubt_ready in
+    fits_after box _ _ c.self.inside.undoable.items c.in-Some.effect fits c.self.invariant.0 refl c.push_reserved.ensures.items refl refl c.settle.ensures.kind has c.settle.ensures.pairs

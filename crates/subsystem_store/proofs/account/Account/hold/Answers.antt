@@ -6,9 +6,8 @@ use Rattle.subsystem_store.proofs.account.Account.hold.Goals as goal
 
 pub returns-then-effect-clause-fits : goal.returns-then-effect-clause-fits
 returns-then-effect-clause-fits g c =
-    let meaning = g.B.Resource.meaning in
-    let sort = g.B.Resource.sort in
-    let fits = subst (Fits meaning sort) (sym c.self.view_is) c.requires.fits in
+    let box = g.B.Resource in
+    let fits = subst (Fits box) (sym c.self.view_is) c.requires.fits in
     let follows = subst (λ a. may_follow a.kind a.book c.args.effect ≡ true) (sym c.self.view_is) c.requires.follows in
     let can = undo_follows c.self.inside.kind c.self.inside.book.items c.args.effect follows c.if-effect.true in
-    fits_still meaning sort _ _ fits refl refl refl (λ key. refl) (λ key had. had) (key_of_undo meaning sort _ c.args.effect fits can) fits.room
+    fits_still box _ _ fits refl refl refl (λ key. refl) (λ key had. had) (key_of_undo box _ c.args.effect fits can) fits.room

@@ -5,7 +5,6 @@ use Rattle.subsystem_store.proofs.account.Account.release.Goals as goal
 
 pub returns-clause-fits : goal.returns-clause-fits
 returns-clause-fits g c =
-    let meaning = g.B.Resource.meaning in
-    let sort = g.B.Resource.sort in
-    let fits = subst (Fits meaning sort) (sym c.self.view_is) c.requires.fits in
-    fits_still meaning sort _ _ fits refl refl refl (λ key. refl) (λ key had. had) tt fits.room
+    let box = g.B.Resource in
+    let fits = subst (Fits box) (sym c.self.view_is) c.requires.fits in
+    fits_still box _ _ fits refl refl refl (λ key. refl) (λ key had. had) tt fits.room

@@ -6,7 +6,7 @@ use Rattle.subsystem_store.proofs.account.Account.replay.Given as goal
 
 abbrev pub invariant-bodies : goal.invariant-bodies
 invariant-bodies g l = record {
-  fits : Fits g.B.Resource.meaning g.B.Resource.sort l.account;
+  fits : Fits g.B.Resource l.account;
   kind : l.account.kind ≡ l.fn.self.kind;
   sort : g.B.Resource.sort l.account.resource ≡ g.B.Resource.sort l.fn.self.resource;
   read : read_bodies l.fn.self.kind l.number l.rest (book_of l.account) ≡ read_bodies l.fn.self.kind 1 l.bodies no_book;

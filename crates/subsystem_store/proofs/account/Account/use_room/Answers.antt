@@ -7,9 +7,8 @@ use Rattle.subsystem_store.proofs.account.Account.use_room.Goals as goal
 
 pub returns-clause-fits : goal.returns-clause-fits
 returns-clause-fits g c =
-    let meaning = g.B.Resource.meaning in
-    let sort = g.B.Resource.sort in
-    let fits = subst (Fits meaning sort) (sym c.self.view_is) c.requires.fits in
+    let box = g.B.Resource in
+    let fits = subst (Fits box) (sym c.self.view_is) c.requires.fits in
     let ready = ap (λ a. a.ready) c.self.view_is ∙ c.requires.ready in
-    let has = subst (λ (o : Option ℕ). IfSome o (λ key. IsTrue (has_key (meaning c.self.inside.resource).items key))) ready fits.room in
-    fits_still meaning sort _ _ fits refl refl refl (λ key. refl) (λ key had. had) has tt
+    let has = subst (λ (o : Option ℕ). IfSome o (λ key. IsTrue (has_key (box.meaning c.self.inside.resource).items key))) ready fits.room in
+    fits_still box _ _ fits refl refl refl (λ key. refl) (λ key had. had) has tt

@@ -7,10 +7,10 @@ use Rattle.subsystem_store.specs.declared.effect.Effect.{Effect}
 use Rattle.subsystem_store.proofs.store.Store.prepare.Goals as goal
 
 pub bars-requires : goal.bars-requires
-bars-requires g c = record { fits = subst (λ s. Fits g.B.Resource.meaning g.B.Resource.sort (account_of s)) (sym c.self.view_is) c.requires.fits }
+bars-requires g c = record { fits = subst (λ s. Fits g.B.Resource (account_of s)) (sym c.self.view_is) c.requires.fits }
 
 pub hold-requires-clause-fits : goal.hold-requires-clause-fits
-hold-requires-clause-fits g c = subst (λ s. Fits g.B.Resource.meaning g.B.Resource.sort (account_of s)) (sym c.self.view_is) c.requires.fits
+hold-requires-clause-fits g c = subst (λ s. Fits g.B.Resource (account_of s)) (sym c.self.view_is) c.requires.fits
 
 pub returns-in-Ok-clause-acknowledged : goal.returns-in-Ok-clause-acknowledged
 returns-in-Ok-clause-acknowledged g c = λ told prepared.
