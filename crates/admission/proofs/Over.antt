@@ -8,7 +8,7 @@ use Rattle.machine_model.specs.declared.blocked.Blocked.{Blocked}
 use Rattle.machine_model.specs.declared.blocked.Rule.{Rule}
 use Rattle.machine_model.specs.Blocks.{by_rule, least_block}
 use Rattle.admission.specs.Least.{block_on, least_on, least_over, least_with, lesser_of}
-use Rattle.admission.proofs.Order.{least-append, middle, thrice}
+use Rattle.admission.proofs.Order.{either, least-append, middle, thrice}
 
 pub over-append : {A : Type 0} (f : A → Option Blocked) (xs ys : List A) → least_over f (xs ++ ys) ≡ lesser_of (least_over f xs) (least_over f ys)
 over-append f [] ys = refl
@@ -85,6 +85,12 @@ module _ (table : ConflictRelation) (r : Rule) (own : Entry) where
   pub on-append : (xs ys : List Entry) → least_on table r own (xs ++ ys) ≡ lesser_of (least_on table r own xs) (least_on table r own ys)
   on-append xs ys = on-over (xs ++ ys) ∙ over-append (λ e. least_with table r own e None) xs ys
       ∙ ap (λ o. lesser_of o (least_over (λ e. least_with table r own e None) ys)) (sym (on-over xs)) ∙ ap (lesser_of (least_on table r own xs)) (sym (on-over ys))
+
+  -- one entry more behind
+  pub on-last : (es : List Entry) (e : Entry) → least_on table r own (es ++ e ∷ []) ≡ least_with table r own e (least_on table r own es)
+  on-last es e =
+      on-append es (e ∷ []) ∙ ap (lesser_of (least_on table r own es)) (on-cons e [])
+      ∙ either (least_on table r own es) (least_with table r own e None) ∙ sym (with_none_found e (least_on table r own es))
 
   pub on-flat : {A : Type 0} (h : A → List Entry) (xs : List A) → least_on table r own (flat_map h xs) ≡ least_over (λ x. least_on table r own (h x)) xs
   on-flat h [] = refl

@@ -11,6 +11,24 @@ part_at (x ∷ xs) place zero d less most = absurd (omega arith)
 part_at (x ∷ xs) zero (suc end) d less most = refl
 part_at (x ∷ xs) (suc place) (suc end) d less most = part_at xs place end d (omega arith) (omega arith)
 
+-- what stands before the next place ends with it
+pub front_at : {A : Type 0} (xs : List A) (place : ℕ) (d : A) → place < length xs → take (suc place) xs ≡ take place xs ++ slice_index_or xs place d ∷ []
+front_at [] place d less = absurd (omega arith)
+front_at (x ∷ xs) zero d less = front_none xs
+  where
+    front_none : {A : Type 0} {x : A} (xs : List A) → x ∷ take 0 xs ≡ x ∷ []
+    front_none [] = refl
+    front_none (y ∷ ys) = refl
+front_at (x ∷ xs) (suc place) d less = ap (x ∷◌) (front_at xs place d (omega arith))
+
+-- one place further on, it ends with what stands there
+pub part_last : {A : Type 0} (xs : List A) (from place : ℕ) (d : A) → from ≤ place → place < length xs
+    → drop from (take (suc place) xs) ≡ drop from (take place xs) ++ slice_index_or xs place d ∷ []
+part_last [] from place d le less = absurd (omega arith)
+part_last (x ∷ xs) zero place d le less = front_at (x ∷ xs) place d less
+part_last (x ∷ xs) (suc from) zero d le less = absurd (omega arith)
+part_last (x ∷ xs) (suc from) (suc place) d le less = part_last xs from place d (omega arith) (omega arith)
+
 -- it is empty where the places are the same
 pub part_none : {A : Type 0} (xs : List A) (end : ℕ) → end ≤ length xs → drop end (take end xs) ≡ []
 part_none [] zero most = refl
@@ -27,16 +45,6 @@ rest_at (x ∷ xs) (suc place) d less = rest_at xs place d (omega arith)
 pub rest_none : {A : Type 0} (xs : List A) → drop (length xs) xs ≡ []
 rest_none [] = refl
 rest_none (x ∷ xs) = rest_none xs
-
--- what stands before the next place ends with it
-pub front_at : {A : Type 0} (xs : List A) (place : ℕ) (d : A) → place < length xs → take (suc place) xs ≡ take place xs ++ slice_index_or xs place d ∷ []
-front_at [] place d less = absurd (omega arith)
-front_at (x ∷ xs) zero d less = front_none xs
-  where
-    front_none : {A : Type 0} {x : A} (xs : List A) → x ∷ take 0 xs ≡ x ∷ []
-    front_none [] = refl
-    front_none (y ∷ ys) = refl
-front_at (x ∷ xs) (suc place) d less = ap (x ∷◌) (front_at xs place d (omega arith))
 
 module _ {A : Type 0} (xs : List A) (place : ℕ) (x : A) (some : 0 < place) where
   back : suc (place - 1) ≡ place

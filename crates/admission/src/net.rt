@@ -8,11 +8,12 @@ ghost use Rattle.admission.specs.Admission.{is_of_step};
 ghost use Rattle.admission.specs.Least.{least_on, lesser_of};
 ghost use Rattle.admission.specs.Parts.{least_front, least_fronts, place_of_step};
 
-use crate::least::least_with;
+use crate::least::{is_behind, least_with};
 use hold_tables::{Blocked, Holds, Rule};
 use process_tree::Entry;
 
-/// The least block on the net entries from one place to before another, and of what was found.
+/// The least block on the net entries from one place to before another, and of what was found. It goes from the front, where the
+/// first block is mostly the least, so that few other entries are looked at.
 pub fn least_between(
     holds: &Holds,
     rule: Rule,
@@ -26,12 +27,13 @@ pub fn least_between(
     ensures { result ≡ lesser_of (least_on (do_conflict holds.now.conflicts) rule own (drop from (take end holds.now.net))) found }
 {
     let c = holds.conflicts();
-    let mut place = end;
+    let mut place = from;
     let mut least = found;
-    'places: while from < place {
-        place -= 1;
-        let other = holds.net_at(place);
-        least = least_with(c, rule, own, other, least);
+    'places: while place < end {
+        if !is_behind(holds.net_at(place).process, least) {
+            least = least_with(c, rule, own, holds.net_at(place), least);
+        }
+        place += 1;
     }
     least
 }
