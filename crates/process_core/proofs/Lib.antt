@@ -21,6 +21,7 @@ pub mod RefusedKept
 pub mod RefusedCore
 pub mod Rotations
 pub mod Waits
+pub mod FoundAfter
 pub mod RunningSeats
 pub mod Stalls
 pub mod VictimsKept

@@ -1,5 +1,5 @@
 -- The first in rotation of which something is told, by two runs over the numbers.
-use Rattle.std.proofs.Common.{◌≡◌, ⊎_elim, ℕ, zero, suc, ◌+◌, ◌-◌, ◌≤◌, ◌<◌, Bool, true, false, not, ltb, leb, if◌then◌else◌, List, [], ◌∷◌, ◌++◌, length, filter, find, min, Option, Some, None, is_none, ◌&&◌, append-nil, sym, refl, ap, ◌∙◌, arith}
+use Rattle.std.proofs.Common.{◌≡◌, ⊎_elim, ℕ, zero, suc, ◌+◌, ◌-◌, ◌≤◌, ◌<◌, Bool, true, false, not, ltb, leb, if◌then◌else◌, List, [], ◌∷◌, ◌++◌, length, filter, find, min, Option, Some, None, is_none, is_some, ◌&&◌, append-nil, sym, refl, ap, ◌∙◌, arith}
 use Rattle.std.specs.Option.{option_map, option_or}
 use Rattle.std.proofs.lemmas.Bool.{cases_lt, false≢true, le-leb, leb-true, lt-ltb, ltb-true}
 use Rattle.std.proofs.lemmas.List.Elements.{filter-append}
@@ -185,18 +185,28 @@ module _ (table : ConflictRelation) (courses : List Course) (m : Moment) where
       ∙ (same_told (λ i. if is_free table courses m i then Some (hand_to courses m i) else None) (λ i. piece_in (admit_reply table courses m i)) (rotation m served) (λ i. sym (free_told i))
       ∙ in_rotation (λ i. piece_in (admit_reply table courses m i)) m n numbered (λ i is. free_told i ∙ ap (λ t. if t then Some (hand_to courses m i) else None) (ended_reply i is)) served)
 
-or_none : {X : Type 0} (o : Option X) → option_or o None ≡ o
+pub or_none : {X : Type 0} (o : Option X) → option_or o None ≡ o
 or_none None = refl
 or_none (Some x) = refl
 
 -- one number more is asked
-pub told_next : {X : Type 0} (f : ℕ → Option X) (from i : ℕ) → from ≤ i → first_told f (numbers_from from (i - from)) ≡ None → first_told f (numbers_from from (i + 1 - from)) ≡ f i
-told_next f from i low none =
+pub told_more : {X : Type 0} (f : ℕ → Option X) (from i : ℕ) → from ≤ i
+    → first_told f (numbers_from from (i + 1 - from)) ≡ option_or (first_told f (numbers_from from (i - from))) (f i)
+told_more f from i low =
     let e : i + 1 - from ≡ i - from + 1 = omega arith in
     let g : from + (i - from) ≡ i = omega arith in
     ap (λ k. first_told f (numbers_from from k)) e ∙ (ap (first_told f) (numbers_more from (i - from))
     ∙ (told-append f (numbers_from from (i - from)) ((from + (i - from)) ∷ [])
-    ∙ (ap (λ o. option_or o (option_or (f (from + (i - from))) None)) none ∙ (or_none (f (from + (i - from))) ∙ ap f g))))
+    ∙ ap (option_or (first_told f (numbers_from from (i - from)))) (or_none (f (from + (i - from))) ∙ ap f g)))
+
+-- something is told already
+pub some_or : {X : Type 0} (o p : Option X) → is_some o ≡ true → option_or o p ≡ o
+some_or None p some = absurd (false≢true some)
+some_or (Some x) p some = refl
+
+-- nothing was told before
+pub told_next : {X : Type 0} (f : ℕ → Option X) (from i : ℕ) → from ≤ i → first_told f (numbers_from from (i - from)) ≡ None → first_told f (numbers_from from (i + 1 - from)) ≡ f i
+told_next f from i low none = told_more f from i low ∙ ap (λ o. option_or o (f i)) none
 
 -- and something is told
 pub told_here : {X : Type 0} (f : ℕ → Option X) (from i to : ℕ) (x : X) → from ≤ i → i < to → first_told f (numbers_from from (i - from)) ≡ None → f i ≡ Some x → first_told f (numbers_from from (to - from)) ≡ Some x

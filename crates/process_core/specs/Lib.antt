@@ -9,4 +9,5 @@ pub use Rattle.core_state.specs.Upcoming
 pub mod Handing
 pub use Rattle.core_state.specs.Starting
 pub mod Rotation
+pub mod Moments
 pub mod StartRoom

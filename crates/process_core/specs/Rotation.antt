@@ -5,6 +5,8 @@ use Rattle.machine_model.specs.Replies.{Handed, Admit, piece, blocked, running, 
 use Rattle.machine_model.specs.Replies.{Next as NextReply, chosen, wait, all_ended, stuck}
 use Rattle.process_core.specs.declared.replies.Next.{Next}
 use Rattle.process_core.specs.declared.replies.Next.TheVariants.{Piece as IsPiece, Wait, AllEnded, Stuck}
+use Rattle.process_core.specs.declared.replies.Found.{Found}
+use Rattle.process_core.specs.declared.replies.Found.TheVariants.{Piece as FoundPiece, Waiting as FoundWaiting}
 use Rattle.process_core.specs.declared.replies.Waiting.{Waiting}
 
 -- what f tells of the first of these of which it tells something
@@ -33,6 +35,21 @@ waiting_in i (exhausted b) = None
 -- a blocked process, as the machine has it
 abbrev pub waiting_of : Waiting → BlockedProcess
 waiting_of w = record { process = w.process; block = w.block }
+
+-- the piece that was found, if one was
+abbrev pub piece_found : Found → Option Handed
+piece_found (FoundPiece d) = Some d
+piece_found (FoundWaiting w) = None
+
+-- where none was found: P of the first blocked process, if there is one
+abbrev pub IfWaiting : Found → (Option Waiting → Type 0) → Type 0
+IfWaiting (FoundPiece d) P = Unit
+IfWaiting (FoundWaiting w) P = P w
+
+-- what was found, and the process that was blocked before, if one was
+abbrev pub found_after : Option Waiting → Found → Found
+found_after first (FoundPiece d) = FoundPiece d
+found_after first (FoundWaiting w) = FoundWaiting (option_or first w)
 
 -- process i, if the reply is that it is exhausted
 abbrev pub exhausted_in : ℕ → Admit → Option ℕ

@@ -3,11 +3,11 @@ ghost use Rattle.std.specs.Prelude.{◌≡◌, true};
 ghost use Rattle.machine_model.specs.Calls.{abort, aborted, complete_all};
 ghost use Rattle.machine_model.specs.Replies.{abort_reply};
 ghost use Rattle.machine_model.specs.declared.kept.Kept.TheVariants.{Victim};
-ghost use Rattle.machine_model.specs.Runs.{may_be_kept};
 ghost use Rattle.process_core.specs.Answers.{after_call, answer_in};
 ghost use Rattle.core_state.specs.Beginnings.{IsBackward};
 ghost use Rattle.process_core.specs.Handing.{with_kept};
-ghost use Rattle.core_state.specs.Cores.{courses_in, moment_of, relation};
+ghost use Rattle.core_state.specs.Cores.{courses_in, moment_of};
+ghost use Rattle.process_core.specs.Moments.{may_keep};
 
 use crate::cores::Core;
 use core_state::{Beginners, begin, begin_each, drag_along, some_can_begin};
@@ -34,7 +34,7 @@ impl Core {
     /// At this event a process begins to complete, and so does whoever goes back with it.
     pub(crate) fn go_back(&mut self, i: u32, own: Cause, kept: Kept)
         requires back { IsBackward kept own i }
-        requires may { may_be_kept (relation self.old) (courses_in self.old) (moment_of self.old) kept ≡ true }
+        requires may { may_keep self.old kept ≡ true }
         ensures { self.new ≡ with_kept self.old kept }
     {
         let event = self.kept.len() as u32 + 1;
@@ -83,7 +83,7 @@ impl Core {
 
     /// This process is the victim.
     pub(crate) fn make_victim(&mut self, i: u32)
-        requires { may_be_kept (relation self.old) (courses_in self.old) (moment_of self.old) (Victim i) ≡ true }
+        requires { may_keep self.old (Victim i) ≡ true }
         ensures { self.new ≡ with_kept self.old (Victim i) }
     {
         self.go_back(i, Cause::Victim, Kept::Victim(i));

@@ -1,25 +1,21 @@
 // Pieces are handed out.
 ghost use Rattle.std.specs.Prelude.{◌≡◌, ◌<◌, ◌+◌, IfSome, None, length, true, false};
-ghost use Rattle.schedule_model.specs.Histories.{is_in, starts};
 ghost use Rattle.machine_model.specs.Calls.{admit, admitted};
 ghost use Rattle.machine_model.specs.Pieces.{hands};
-ghost use Rattle.machine_model.specs.Replies.{admit_reply, kept_hand, piece_unless};
-ghost use Rattle.machine_model.specs.Runs.{may_be_kept};
-ghost use Rattle.machine_model.specs.State.{block_of};
+ghost use Rattle.machine_model.specs.Replies.{kept_hand};
 ghost use Rattle.process_core.specs.Answers.{after_call, answer_in};
-ghost use Rattle.core_state.specs.Cores.{courses_in, moment_of, relation};
 ghost use Rattle.process_core.specs.Handing.{AreNumbered, IsOfPlan, admit_reply_of, piece_told, with_kept};
 ghost use Rattle.process_core.specs.Rotation.{piece_in};
-ghost use Rattle.core_state.specs.Seats.{seat_of};
 ghost use Rattle.core_state.specs.Upcoming.{upcoming};
 ghost use Rattle.core_state.specs.declared.seats.Upcoming.TheVariants.{Task};
+ghost use Rattle.process_core.specs.Moments.{has_started_in, may_keep, piece_or_block_in, reply_in, seat_in};
 
 use crate::cores::Core;
 use crate::pieces::Piece;
 use crate::replies::Admit;
 use admission::{Admitted, admit, is_barred, is_held_up, place_of_step};
 use core_state::{Seat, Upcoming, come_under_way};
-use machine_model::{Blocked, Kept, Todo, Work};
+use machine_model::{Blocked, Kept, Rule, Todo, Work};
 use process_tree::Plan;
 
 /// What blocked a process, by which others may be blocked too: the slot of the other process, and the place of its net entry.
@@ -77,9 +73,9 @@ fn next_number(kept: &[Kept]) -> u32
 impl Core {
     /// The seat of a process that started.
     fn seat(&self, i: u32) -> Option<&Seat>
-        ensures seat { IfSome result (λ s. s.now ≡ seat_of (courses_in self.now) (moment_of self.now) i) }
-        ensures started { IfSome result (λ s. is_in i (starts (moment_of self.now).events) ≡ true) }
-        ensures none { result ≡ None → is_in i (starts (moment_of self.now).events) ≡ false }
+        ensures seat { IfSome result (λ s. s.now ≡ seat_in self.now i) }
+        ensures started { IfSome result (λ s. has_started_in self.now i ≡ true) }
+        ensures none { result ≡ None → has_started_in self.now i ≡ false }
     {
         let count = self.seats.len();
         if i == 0 {
@@ -94,9 +90,8 @@ impl Core {
 
     /// The next piece of an active process that may be tried, or what blocks it.
     fn by_rules(&self, i: u32, todo: Todo, tried: u8) -> Admit
-        requires { upcoming (seat_of (courses_in self.now) (moment_of self.now) i) ≡ Task todo tried }
-        ensures { admit_reply_of result ≡ piece_unless (courses_in self.now) (moment_of self.now) i
-            (block_of (relation self.now) (courses_in self.now) (moment_of self.now) i) }
+        requires { upcoming (seat_in self.now i) ≡ Task todo tried }
+        ensures { admit_reply_of result ≡ piece_or_block_in self.now i }
     {
         let plan = &self.history.plans.as_slice()[i as usize - 1];
         match admit(&self.holds, plan, i, todo) {
@@ -110,9 +105,8 @@ impl Core {
 
     /// Whether a step that comes next is blocked by what the process in a slot has against it.
     fn is_held(&self, i: u32, todo: Todo, tried: u8, slot: Option<u16>) -> bool
-        requires { upcoming (seat_of (courses_in self.now) (moment_of self.now) i) ≡ Task todo tried }
-        ensures { result ≡ true → piece_in (piece_unless (courses_in self.now) (moment_of self.now) i
-            (block_of (relation self.now) (courses_in self.now) (moment_of self.now) i)) ≡ None }
+        requires { upcoming (seat_in self.now i) ≡ Task todo tried }
+        ensures { result ≡ true → piece_in (piece_or_block_in self.now i) ≡ None }
     {
         let Some(slot) = slot else {
             return false;
@@ -123,9 +117,8 @@ impl Core {
 
     /// Whether a step that comes next is blocked by a net entry.
     fn is_behind(&self, i: u32, todo: Todo, tried: u8, entry: Option<usize>) -> bool
-        requires { upcoming (seat_of (courses_in self.now) (moment_of self.now) i) ≡ Task todo tried }
-        ensures { result ≡ true → piece_in (piece_unless (courses_in self.now) (moment_of self.now) i
-            (block_of (relation self.now) (courses_in self.now) (moment_of self.now) i)) ≡ None }
+        requires { upcoming (seat_in self.now i) ≡ Task todo tried }
+        ensures { result ≡ true → piece_in (piece_or_block_in self.now i) ≡ None }
     {
         let Some(place) = entry else {
             return false;
@@ -136,17 +129,15 @@ impl Core {
 
     /// Whether what blocked another process blocks a step that comes next.
     fn is_stopped(&self, i: u32, todo: Todo, tried: u8, blocker: Blocker) -> bool
-        requires { upcoming (seat_of (courses_in self.now) (moment_of self.now) i) ≡ Task todo tried }
-        ensures { result ≡ true → piece_in (piece_unless (courses_in self.now) (moment_of self.now) i
-            (block_of (relation self.now) (courses_in self.now) (moment_of self.now) i)) ≡ None }
+        requires { upcoming (seat_in self.now i) ≡ Task todo tried }
+        ensures { result ≡ true → piece_in (piece_or_block_in self.now i) ≡ None }
     {
         self.is_held(i, todo, tried, blocker.slot) || self.is_behind(i, todo, tried, blocker.entry)
     }
 
     /// Whether a process has no piece since what blocked another blocks it too.
     pub(crate) fn waits_for(&self, i: u32, blocker: Blocker) -> bool
-        ensures { result ≡ true
-            → piece_in (admit_reply (relation self.now) (courses_in self.now) (moment_of self.now) i) ≡ None }
+        ensures { result ≡ true → piece_in (reply_in self.now i) ≡ None }
     {
         let Some(seat) = self.seat(i) else {
             return false;
@@ -157,17 +148,20 @@ impl Core {
         }
     }
 
-    /// What a block is on.
+    /// What a block is on. A piece that is under way is no net entry.
     pub(crate) fn blocker(&self, block: Blocked) -> Blocker {
         Blocker {
             slot: self.holds.slot(block.on),
-            entry: place_of_step(&self.holds, block.on, block.other),
+            entry: match block.rule {
+                Rule::A0 => None,
+                _ => place_of_step(&self.holds, block.on, block.other),
+            },
         }
     }
 
     /// What a request for a piece of a process answers, with nothing kept.
     pub(crate) fn reply_of(&self, i: u32) -> Admit
-        ensures { admit_reply_of result ≡ admit_reply (relation self.now) (courses_in self.now) (moment_of self.now) i }
+        ensures { admit_reply_of result ≡ reply_in self.now i }
     {
         let Some(seat) = self.seat(i) else {
             return Admit::Unknown;
@@ -182,7 +176,7 @@ impl Core {
 
     /// A piece that may be handed out is under way from now on.
     pub(crate) fn hand(&mut self, piece: &Piece)
-        requires { may_be_kept (relation self.old) (courses_in self.old) (moment_of self.old) (kept_hand piece.now) ≡ true }
+        requires { may_keep self.old (kept_hand piece.now) ≡ true }
         ensures { self.new ≡ with_kept self.old (kept_hand piece.now) }
     {
         let plans = self.history.plans.as_slice();

@@ -2,11 +2,11 @@
 ghost use Rattle.std.specs.Prelude.{◌≡◌, ◌≤◌, ◌+◌, length};
 ghost use Rattle.std.specs.List.{sum_by};
 ghost use Rattle.process_tree.specs.Blocks.{outline};
-ghost use Rattle.schedule_model.specs.Course.{course, course_of};
+ghost use Rattle.schedule_model.specs.Course.{course};
 ghost use Rattle.schedule_model.specs.Histories.{active, starts};
 ghost use Rattle.schedule_model.specs.Limits.{entries, most_active, most_entries, most_processes, need};
-ghost use Rattle.machine_model.specs.Runs.{start_refusal};
-ghost use Rattle.core_state.specs.Cores.{courses_in, history_of, moment_of};
+ghost use Rattle.core_state.specs.Cores.{courses_in, history_of};
+ghost use Rattle.process_core.specs.Moments.{refusal_in};
 
 use crate::Core;
 use core_state::{need, settled_count};
@@ -71,7 +71,7 @@ impl Core {
     /// Why a process of this plan can't start, memory aside.
     pub fn start_refusal(&self, plan: &Plan) -> Option<StartWhy>
         requires { length plan.now.ops ≡ length (outline plan.now.tree).steps }
-        ensures { result ≡ start_refusal (courses_in self.now) (moment_of self.now) (course_of plan.now) }
+        ensures { result ≡ refusal_in self.now plan.now }
     {
         let load = self.load();
         if load.active >= MOST_ACTIVE {

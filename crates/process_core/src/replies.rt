@@ -1,4 +1,7 @@
 // What is answered to requests for pieces.
+ghost use Rattle.std.specs.Prelude.{◌≡◌, is_none};
+ghost use Rattle.process_core.specs.Rotation.{piece_found};
+
 use crate::pieces::Piece;
 use machine_model::Blocked;
 
@@ -22,6 +25,27 @@ pub enum Admit {
     Ended,
     /// This step, or its undo, was refused as often as it may be tried.
     Exhausted(u16),
+}
+
+/// What is found among processes that are asked one after another.
+#[derive(Drop)]
+pub enum Found {
+    /// The first free piece.
+    Piece(Piece),
+    /// Nothing is free. The first process that is blocked, if any is.
+    Waiting(Option<Waiting>),
+}
+
+impl Found {
+    /// Whether nothing is free.
+    pub(crate) fn has_none(&self) -> bool
+        ensures { result ≡ is_none (piece_found self.now) }
+    {
+        match self {
+            Found::Piece(_) => false,
+            Found::Waiting(_) => true,
+        }
+    }
 }
 
 /// What a request for any piece answers.

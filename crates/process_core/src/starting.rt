@@ -6,14 +6,13 @@ ghost use Rattle.process_tree.specs.Order.{Each};
 ghost use Rattle.schedule_model.specs.Course.{course_of};
 ghost use Rattle.schedule_model.specs.Laws.{IsGoodPlan};
 ghost use Rattle.machine_model.specs.Calls.{start, started};
-ghost use Rattle.machine_model.specs.Runs.{start_refusal};
 ghost use Rattle.machine_model.specs.declared.replies.StartWhy.TheVariants.{NoMemory};
 ghost use Rattle.instance_state.specs.Instances.{opened};
 ghost use Rattle.process_core.specs.Answers.{after_start, answer_in};
-ghost use Rattle.core_state.specs.Cores.{courses_in, moment_of};
 ghost use Rattle.core_state.specs.Room.{kept_for};
 ghost use Rattle.process_core.specs.StartRoom.{IsRoomFor};
 ghost use Rattle.hold_tables.specs.Spare.{IsRoomIn};
+ghost use Rattle.process_core.specs.Moments.{refusal_in};
 
 use crate::Core;
 use crate::start_room::{StartMemory, StartRoom};
@@ -82,9 +81,8 @@ impl Core {
         ensures plan { IfOk result (λ room. room.plan ≡ plan) }
         ensures room { IfOk result (λ room. IsRoomFor self.now room) }
         ensures left { IfErr result (λ e. e.plan ≡ plan) }
-        ensures why { IfErr result
-            (λ e. (start_refusal (courses_in self.now) (moment_of self.now) (course_of plan) ≡ Some e.why)
-            ⊎ ((e.why ≡ NoMemory) × (start_refusal (courses_in self.now) (moment_of self.now) (course_of plan) ≡ None))) }
+        ensures why { IfErr result (λ e. (refusal_in self.now plan ≡ Some e.why)
+            ⊎ ((e.why ≡ NoMemory) × (refusal_in self.now plan ≡ None))) }
     {
         if let Some(why) = self.start_refusal(&plan) {
             return Err(StartRefused { plan, why });
@@ -132,9 +130,8 @@ impl Core {
         ensures reply { IfOk result (λ i. (answer_in self.old (start (course_of plan))).reply ≡ started i) }
         ensures left { OnErr result (self.new ≡ self.old) }
         ensures plan { IfErr result (λ e. e.plan ≡ plan) }
-        ensures why { IfErr result
-            (λ e. (start_refusal (courses_in self.old) (moment_of self.old) (course_of plan) ≡ Some e.why)
-            ⊎ ((e.why ≡ NoMemory) × (start_refusal (courses_in self.old) (moment_of self.old) (course_of plan) ≡ None))) }
+        ensures why { IfErr result (λ e. (refusal_in self.old plan ≡ Some e.why)
+            ⊎ ((e.why ≡ NoMemory) × (refusal_in self.old plan ≡ None))) }
     {
         let room = self.make_room(plan)?;
         Ok(self.start_in(room))

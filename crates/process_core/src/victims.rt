@@ -1,24 +1,19 @@
 // The victim of a stall.
-ghost use Rattle.std.specs.Prelude.{◌≡◌, None, filter, find};
+ghost use Rattle.std.specs.Prelude.{◌≡◌, None, filter};
 ghost use Rattle.std.specs.Option.{option_map};
 ghost use Rattle.process_tree.specs.Blocks.{numbers_from};
 ghost use Rattle.process_tree.specs.Shape.{greatest};
-ghost use Rattle.machine_model.specs.Moment.{has_begun};
-ghost use Rattle.machine_model.specs.Replies.{admit_reply, all_victims, hand_to, rotation};
-ghost use Rattle.machine_model.specs.State.{is_free, victim_of};
-ghost use Rattle.core_state.specs.Cores.{courses_in, moment_of, relation};
 ghost use Rattle.process_core.specs.Handing.{with_all};
-ghost use Rattle.process_core.specs.Rotation.{can_be_victim};
+ghost use Rattle.process_core.specs.Rotation.{IfWaiting, piece_found, waiting_of};
+ghost use Rattle.process_core.specs.Moments.{can_be_victim_in, first_blocked_in, first_free_in, free_piece_in, victim_in, victims_in};
 
 use crate::cores::Core;
-use crate::pieces::Piece;
-use crate::replies::Admit;
+use crate::replies::{Admit, Found};
 
 impl Core {
     /// Whether a process is blocked and has not begun to complete.
     fn can_be_victim(&self, i: u32) -> bool
-        ensures { result ≡ can_be_victim (has_begun (moment_of self.now) i)
-            (admit_reply (relation self.now) (courses_in self.now) (moment_of self.now) i) }
+        ensures { result ≡ can_be_victim_in self.now i }
     {
         if self.began(i).is_some() {
             return false;
@@ -31,9 +26,7 @@ impl Core {
 
     /// The greatest such process of those up to a number.
     fn greatest_victim(&self, count: u32) -> Option<u32>
-        ensures { result ≡ greatest
-            (filter (λ i. can_be_victim (has_begun (moment_of self.now) i)
-            (admit_reply (relation self.now) (courses_in self.now) (moment_of self.now) i)) (numbers_from 1 count)) }
+        ensures { result ≡ greatest (filter (can_be_victim_in self.now) (numbers_from 1 count)) }
     {
         let mut left = count;
         while left > 0 {
@@ -48,9 +41,8 @@ impl Core {
 
     /// The victim, where no piece is free. There is none while a piece runs.
     fn blocked_victim(&self) -> Option<u32>
-        requires { find (is_free (relation self.now) (courses_in self.now) (moment_of self.now))
-            (rotation (moment_of self.now) self.now.served) ≡ None }
-        ensures { result ≡ victim_of (relation self.now) (courses_in self.now) (moment_of self.now) }
+        requires { first_free_in self.now ≡ None }
+        ensures { result ≡ victim_in self.now }
     {
         let count = self.seats.len() as u32;
         if self.is_running() {
@@ -60,21 +52,20 @@ impl Core {
         }
     }
 
-    /// The first free piece in rotation, once the victims are made.
-    pub(crate) fn free_piece(&mut self) -> Option<Piece>
-        ensures core { self.new ≡ with_all self.old (all_victims (relation self.old) (courses_in self.old) (moment_of self.old)) }
-        ensures piece { result ≡ option_map (hand_to (courses_in self.new) (moment_of self.new))
-            (find (is_free (relation self.new) (courses_in self.new) (moment_of self.new))
-            (rotation (moment_of self.new) self.new.served)) }
+    /// What is found in rotation, once the victims are made.
+    pub(crate) fn free_piece(&mut self) -> Found
+        ensures core { self.new ≡ with_all self.old (victims_in self.old) }
+        ensures piece { piece_found result ≡ free_piece_in self.new }
+        ensures waiting { IfWaiting result (λ w. option_map waiting_of w ≡ first_blocked_in self.new) }
     {
-        let mut first = self.next_piece();
-        'stalls: while first.is_none() {
+        let mut found = self.found_in_rotation();
+        'stalls: while found.has_none() {
             let Some(i) = self.blocked_victim() else {
-                return None;
+                return found;
             };
             self.make_victim(i);
-            first = self.next_piece();
+            found = self.found_in_rotation();
         }
-        first
+        found
     }
 }

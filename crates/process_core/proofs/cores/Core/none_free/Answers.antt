@@ -25,7 +25,7 @@ returns-then-is_running c =
     sym (ap (none_free_by_active (relation v) (courses_in v) (moment_of v) v.served)
     (none_active v c.self.inside.holds tables c.next_open.result c.next_open.ensures.least c.is_none.result c.is_none.ensures ∙ c.if-is_none.false)
     ∙ (ap (none_free_by_running (relation v) (courses_in v) (moment_of v) v.served) (runs_now (moment_of v) (sym c.is_running.ensures ∙ c.if-is_running.true))
-    ∙ ap wait (sym c.next_waiting.ensures)))
+    ∙ ap wait (sym c.requires)))
 
 pub overflow_cast-count : goal.overflow_cast-count
 overflow_cast-count c =
