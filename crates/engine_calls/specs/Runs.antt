@@ -47,8 +47,8 @@ pub record GoesOn {R B : Type 0} (racks : Racks R) (may_start : List Plan)
   pub follow : Told (racks.disk old.files.rack) → ImagesFollow (racks.disk old.files.rack) (racks.disk new.files.rack)
   -- whatever a crash meanwhile may have left
   pub images : Told (racks.disk old.files.rack)
-      → ComeInTurn new.catalog (full_history new.core) (IsOneAhead new.catalog may_start new.core new.phase) (racks.disk new.files.rack)
-      (history_of old.core) (racks.disk old.files.rack).moment came
+      → ComeInTurn new.catalog (full_history new.core) (IsOneAhead new.catalog may_start new.core new.phase)
+      (racks.disk new.files.rack) (history_of old.core) (racks.disk old.files.rack).moment came
 
 -- It went on and nobody asked for a start: so it did whichever plans may start.
 abbrev pub GoesOnAlone : {R B : Type 0} → Racks R → EngineState R B → EngineState R B → Type 0

@@ -107,7 +107,8 @@ goods_cut_off = record {
 
 pub report_goods_cut_off : report_text goods goods_cut_off [] ≡
     goods_conflicts
-    ++ codes "history\nstart 1 a\nstart 2 b\ndo 1.x take 7\ndo 2.x pay 5\ncompletion\nundo 1.x take 7\nend 1\ndo 2.y take 9\nend 2\n"
+    ++ codes "history\nstart 1 a\nstart 2 b\ndo 1.x take 7\ndo 2.x pay 5\n"
+    ++ codes "completion\nundo 1.x take 7\nend 1\ndo 2.y take 9\nend 2\n"
     ++ codes "ends\n1 a active\n2 b active\ncauses\ntrace\nmove 1 2\ncancel 2\nserial\ndo 2.x pay 5\ndo 2.y take 9\n"
 unfolding digits
 report_goods_cut_off = refl

@@ -62,7 +62,8 @@ by_another_way v three = record {
 pub report_by_another_way : (v : Vec (Unit {0}) Global) (three : v.len ≡ 3)
     → report_text stock (by_another_way v three) ((1, Abort) ∷ (2, Cascade 1) ∷ []) ≡
     stock_conflicts
-    ++ codes "history\nstart 1 a\nstart 2 b\ndo 2.x pay\ndo 1.w add\ndo 2.y take\nundo 2.y take\nundo 1.w add\ndo 2.t ship\nend 1\nend 2\n"
+    ++ codes "history\nstart 1 a\nstart 2 b\ndo 2.x pay\ndo 1.w add\ndo 2.y take\n"
+    ++ codes "undo 2.y take\nundo 1.w add\ndo 2.t ship\nend 1\nend 2\n"
     ++ codes "completion\nends\n1 a nothing\n2 b path x t\ncauses\n1 abort\n2 cascade 1\ntrace\ncancel 3\ncancel 2\n"
     ++ codes "serial\ndo 2.x pay\ndo 2.t ship\n"
 unfolding digits
@@ -132,7 +133,8 @@ exhausted = record {
 
 pub report_exhausted : report_text stock exhausted [] ≡
     stock_conflicts
-    ++ codes "history\nstart 1 b\ndo 1.x pay\ncompletion\ndo 1.y ship\nend 1\nends\n1 b active\ncauses\ntrace\nserial\ndo 1.x pay\ndo 1.y ship\n"
+    ++ codes "history\nstart 1 b\ndo 1.x pay\ncompletion\ndo 1.y ship\nend 1\n"
+    ++ codes "ends\n1 b active\ncauses\ntrace\nserial\ndo 1.x pay\ndo 1.y ship\n"
 unfolding digits
 report_exhausted = refl
 

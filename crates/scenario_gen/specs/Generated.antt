@@ -63,7 +63,9 @@ operations =
 -- what stands in front of the processes
 abbrev pub head_text : List ℕ
 head_text =
-    codes "version = 1\nconflicts = [[\"add\", \"take\"], [\"take\", \"take\"], [\"note\", \"note\"], [\"book\", \"book\"]]\nprocesses = \"\"\"\n"
+    codes "version = 1\n"
+    ++ codes "conflicts = [[\"add\", \"take\"], [\"take\", \"take\"], [\"note\", \"note\"], [\"book\", \"book\"]]\n"
+    ++ codes "processes = \"\"\"\n"
 
 -- what stands behind them
 unfoldable pub tail_text : List ℕ

@@ -1,5 +1,5 @@
 -- Worked sessions, computed: what their lines print on files in which nothing has happened.
-use Rattle.std.specs.Prelude.{◌≡◌, ℕ, List, [], ◌∷◌, codes, refl}
+use Rattle.std.specs.Prelude.{◌≡◌, ℕ, List, [], ◌∷◌, ◌++◌, codes, refl}
 use Rattle.std.specs.Fmt.{digits}
 use Rattle.process_tree.specs.declared.plan.Plan.{Plan}
 use Rattle.process_tree.specs.declared.play.Outcome.TheVariants.{Done, Refused}
@@ -24,7 +24,8 @@ to_its_end = refl
 pub refusals : prints small (addition ∷ [])
     (Start (codes "b") ∷ Admit 1 ∷ Abort 0 ∷ Finish 1 Done ∷ Start (codes "a") ∷ Admit 1 ∷ Admit 1 ∷ Finish 1 Done ∷ Finish 1 Done
     ∷ Admit 1 ∷ Finish 2 Refused ∷ Finish 2 Done ∷ Admit 1 ∷ [])
-    ≡ codes "no process b\nunknown 1\nunknown 0\nno piece 1\nstarted 1 a\npiece 1: do 1.x\nrunning 1\neffected 2\nno piece 1\npiece 2: end 1\nend is not refused 2\neffected 3\nended 1\n"
+    ≡ codes "no process b\nunknown 1\nunknown 0\nno piece 1\nstarted 1 a\npiece 1: do 1.x\nrunning 1\neffected 2\n"
+    ++ codes "no piece 1\npiece 2: end 1\nend is not refused 2\neffected 3\nended 1\n"
 unfolding digits
 refusals = refl
 
@@ -32,7 +33,9 @@ refusals = refl
 pub taken_along : prints stock (purchase ∷ sale ∷ [])
     (Start (codes "a") ∷ Start (codes "b") ∷ Admit 1 ∷ Finish 1 Done ∷ Admit 2 ∷ Finish 2 Done ∷ Admit 2 ∷ Admit 1 ∷ Abort 1
     ∷ Abort 1 ∷ Finish 3 Done ∷ Finish 3 Done ∷ Next ∷ Finish 4 Refused ∷ [])
-    ≡ codes "started 1 a\nstarted 2 b\npiece 1: do 1.x\neffected 3\npiece 2: do 2.u\neffected 4\nblocked on 1.x by 2.u rule A3\npiece 3: do 1.y\naborting 1 2\nalready 1\ndropped 8\nno piece 3\npiece 4: undo 2.u\nretry 1\n"
+    ≡ codes "started 1 a\nstarted 2 b\npiece 1: do 1.x\neffected 3\npiece 2: do 2.u\neffected 4\n"
+    ++ codes "blocked on 1.x by 2.u rule A3\npiece 3: do 1.y\naborting 1 2\nalready 1\ndropped 8\n"
+    ++ codes "no piece 3\npiece 4: undo 2.u\nretry 1\n"
 unfolding digits
 taken_along = refl
 
@@ -44,6 +47,7 @@ barred = refl
 
 -- the report of the moment has the causes of the session
 pub shown : prints small (addition ∷ []) (Start (codes "a") ∷ Abort 1 ∷ Show ∷ [])
-    ≡ codes "started 1 a\naborting 1\nconflicts\nhistory\nstart 1 a\ncompletion\nend 1\nends\n1 a active\ncauses\n1 abort\ntrace\nserial\n"
+    ≡ codes "started 1 a\naborting 1\n"
+    ++ codes "conflicts\nhistory\nstart 1 a\ncompletion\nend 1\nends\n1 a active\ncauses\n1 abort\ntrace\nserial\n"
 unfolding digits
 shown = refl

@@ -1,5 +1,5 @@
 -- Worked examples, computed.
-use Rattle.std.specs.Prelude.{◌≡◌, List, [], ◌∷◌, ℕ, codes, Ok, Err, Some, None, refl}
+use Rattle.std.specs.Prelude.{◌≡◌, List, [], ◌∷◌, ◌++◌, ℕ, codes, Ok, Err, Some, None, refl}
 use Rattle.std.specs.Fmt.{digits}
 use Rattle.process_tree.specs.declared.play.Outcome.TheVariants.{Done, Refused}
 use Rattle.session_text.specs.declared.line.Line.TheVariants.{Start, Admit, Next, Finish, Queue, Flush, Abort, Show}
@@ -8,7 +8,8 @@ use Rattle.session_text.specs.Sessions.{said, scenario_of}
 
 -- a scenario, and lines of each form
 abbrev pub worked : List ℕ
-worked = codes "version = 1\n%%\nstart a\n\nadmit 1\nfinish 1 done\nnext\nfinish 2 refused\nabort 0\nqueue 3 done\nflush\nshow\nstop\nwhatever"
+worked = codes "version = 1\n%%\nstart a\n\nadmit 1\nfinish 1 done\nnext\n"
+    ++ codes "finish 2 refused\nabort 0\nqueue 3 done\nflush\nshow\nstop\nwhatever"
 
 pub worked_scenario : scenario_of worked ≡ codes "version = 1\n"
 worked_scenario = refl

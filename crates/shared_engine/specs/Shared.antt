@@ -92,9 +92,18 @@ opens racks box o is = subst (AreOf racks box o.engine []) (alone racks.disk box
   called = record {
     rest = subst IsAtRest (sym is.ready.settled) tt;
     fits = is.ready.fits;
-    queued = λ settled. record { unfinished = tt; distinct = tt; apart = tt; ends = omega arith; few = omega arith; room = tt };
+    queued = λ settled. record {
+      unfinished = tt;
+      distinct = tt;
+      apart = tt;
+      ends = omega arith;
+      few = omega arith;
+      room = tt;
+    };
   };
-  fault = subst (λ p. IfClosed p (Rose (racks.faults o.engine.files.rack) (racks.faults o.engine.files.rack))) (sym is.ready.settled) tt;
+  fault =
+      let faults = racks.faults o.engine.files.rack in
+      subst (λ p. IfClosed p (Rose faults faults)) (sym is.ready.settled) tt;
   handed = tt;
   by_entries = by_none o.engine.catalog o.engine.core;
 })
