@@ -1,5 +1,6 @@
 pub mod Order
 pub mod Over
+pub mod Behind
 pub mod Places
 pub mod Greatest
 pub mod Clear

@@ -29,6 +29,22 @@ part_last (x ∷ xs) zero place d le less = front_at (x ∷ xs) place d less
 part_last (x ∷ xs) (suc from) zero d le less = absurd (omega arith)
 part_last (x ∷ xs) (suc from) (suc place) d le less = part_last xs from place d (omega arith) (omega arith)
 
+no_part : {A : Type 0} (a b : ℕ) → drop {A = A} a (take b []) ≡ []
+no_part zero zero = refl
+no_part zero (suc b) = refl
+no_part (suc a) zero = refl
+no_part (suc a) (suc b) = refl
+
+-- one part, and the one behind it
+pub part_parts : {A : Type 0} (xs : List A) (from mid end : ℕ) → from ≤ mid → mid ≤ end → drop from (take end xs) ≡ drop from (take mid xs) ++ drop mid (take end xs)
+part_parts [] from mid end le most = no_part from end ∙ sym (ap (λ es. es ++ drop mid (take end [])) (no_part from mid) ∙ no_part mid end)
+part_parts (x ∷ xs) zero zero end le most = refl
+part_parts (x ∷ xs) zero (suc mid) zero le most = absurd (omega arith)
+part_parts (x ∷ xs) zero (suc mid) (suc end) le most = ap (x ∷◌) (part_parts xs zero mid end (omega arith) (omega arith))
+part_parts (x ∷ xs) (suc from) zero end le most = absurd (omega arith)
+part_parts (x ∷ xs) (suc from) (suc mid) zero le most = absurd (omega arith)
+part_parts (x ∷ xs) (suc from) (suc mid) (suc end) le most = part_parts xs from mid end (omega arith) (omega arith)
+
 -- it is empty where the places are the same
 pub part_none : {A : Type 0} (xs : List A) (end : ℕ) → end ≤ length xs → drop end (take end xs) ≡ []
 part_none [] zero most = refl

@@ -2,9 +2,6 @@
 ghost use Rattle.std.specs.Prelude.{◌≡◌, Some, false, nat_lt, true};
 ghost use Rattle.process_tree.specs.Conflicts.{do_conflict};
 ghost use Rattle.hold_tables.specs.Kept.{IsKnown};
-ghost use Rattle.process_tree.specs.declared.entry.Entry.{Entry};
-ghost use Rattle.schedule_model.specs.Conflict.{ConflictRelation};
-ghost use Rattle.machine_model.specs.declared.blocked.Rule.{Rule};
 ghost use Rattle.machine_model.specs.Blocks.{is_less, lesser, less_then, rule_number};
 ghost use Rattle.admission.specs.Least.{least_with, lesser_of};
 
@@ -56,17 +53,6 @@ fn is_past(a: Blocked, other: Option<Blocked>) -> bool
 {
     match other {
         Some(b) => is_less(b, a),
-        None => false,
-    }
-}
-
-/// Whether each block on this process comes behind the one that was found.
-pub fn is_behind(process: u32, found: Option<Blocked>) -> bool
-    ensures { result ≡ true → (table : ConflictRelation) (rule : Rule) (own other : Entry) → other.process ≡ process
-        → least_with table rule own other found ≡ found }
-{
-    match found {
-        Some(b) => b.on < process,
         None => false,
     }
 }

@@ -1,16 +1,44 @@
 // What the net of the open processes has against an entry.
 ghost use Rattle.std.specs.Prelude.{◌≡◌, ◌<◌, ◌≤◌, [], IfSome, drop, length, slice_index_or, take};
 ghost use Rattle.process_tree.specs.Conflicts.{do_conflict};
+ghost use Rattle.process_tree.specs.Order.{Each};
 ghost use Rattle.process_tree.specs.declared.entry.Entry.{Entry};
+ghost use Rattle.machine_model.specs.declared.blocked.Rule.{Rule};
 ghost use Rattle.machine_model.specs.declared.blocked.Rule.TheVariants.{A3};
 ghost use Rattle.hold_tables.specs.Kept.{AreTidy, IsKnown};
 ghost use Rattle.admission.specs.Admission.{is_of_step};
 ghost use Rattle.admission.specs.Least.{least_on, lesser_of};
 ghost use Rattle.admission.specs.Parts.{least_front, least_fronts, place_of_step};
 
-use crate::least::{is_behind, least_with};
+use crate::least::least_with;
 use hold_tables::{Blocked, Holds, Rule};
 use process_tree::Entry;
+
+/// The first place, from one place to another, whose net entry is of a process up to this number, or else the other place.
+fn first_up_to(holds: &Holds, most: u32, from: usize, end: usize) -> usize
+    requires places { (from ≤ end) × (end ≤ length holds.now.net) }
+    ensures within { (from ≤ result) × (result ≤ end) }
+    ensures passed { Each (λ e. most < e.process) (drop from (take result holds.now.net)) }
+{
+    let mut place = from;
+    'places: while place < end && most < holds.net_at(place).process {
+        place += 1;
+    }
+    place
+}
+
+/// The first place, from one place to another, whose net entry may have a lesser block than the one found, or else the other place.
+fn first_before(holds: &Holds, found: Option<Blocked>, from: usize, end: usize) -> usize
+    requires places { (from ≤ end) × (end ≤ length holds.now.net) }
+    ensures within { (from ≤ result) × (result ≤ end) }
+    ensures passed { (rule : Rule) (own : Entry)
+        → lesser_of (least_on (do_conflict holds.now.conflicts) rule own (drop from (take result holds.now.net))) found ≡ found }
+{
+    match found {
+        Some(block) => first_up_to(holds, block.on, from, end),
+        None => from,
+    }
+}
 
 /// The least block on the net entries from one place to before another, and of what was found. It goes from the front, where the
 /// first block is mostly the least, so that few other entries are looked at.
@@ -27,13 +55,11 @@ pub fn least_between(
     ensures { result ≡ lesser_of (least_on (do_conflict holds.now.conflicts) rule own (drop from (take end holds.now.net))) found }
 {
     let c = holds.conflicts();
-    let mut place = from;
+    let mut place = first_before(holds, found, from, end);
     let mut least = found;
     'places: while place < end {
-        if !is_behind(holds.net_at(place).process, least) {
-            least = least_with(c, rule, own, holds.net_at(place), least);
-        }
-        place += 1;
+        least = least_with(c, rule, own, holds.net_at(place), least);
+        place = first_before(holds, least, place + 1, end);
     }
     least
 }
