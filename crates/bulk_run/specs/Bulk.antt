@@ -34,7 +34,7 @@ use Rattle.command_input.specs.FilesLeft.{Files, before_files}
 use Rattle.command_input.specs.Scenarios.{all_refusing, scenario_tests, IsBound}
 use Rattle.init_run.specs.Init.{empty_test, AreMade, AreNotMade}
 use Rattle.scenario_run.specs.Reports.{HasUsedUp, exhausted_line}
-use Rattle.scenario_run.specs.Run.{HasGone, limit_refusal, one_gate}
+use Rattle.scenario_run.specs.Run.{HasGone, SaysAtEnd, limit_refusal, one_gate}
 use Rattle.scenario_run.specs.Scenario.{IsSaidOfNone}
 use Rattle.scenario_run.specs.Starting.{started_on}
 use Rattle.bulk_run.specs.Summary.{summary_line, summary_of}
@@ -103,13 +103,9 @@ IsCutOffAnew gate c plans before after r =
 abbrev pub line_in : CoreState → List ℕ
 line_in core = summary_line (summary_of (full_history core))
 
--- All have ended, and the line of the history is printed; or this process is stuck, since its next piece was refused as often as it
--- may be tried, and behind the line stands one that says so.
+-- What is said at the end of a run: the line of its history.
 abbrev pub SaysBulk : CoreState → Said → Type 0
-SaysBulk now said =
-    ((said.status ≡ statuses.Done) × (active (history_of now) ≡ []) × (said.text.items ≡ line_in now))
-    ⊎ ((i : ℕ) × (said.status ≡ statuses.Exhausted) × ((answer_in now next).reply ≡ next_is (stuck i)) × HasUsedUp now i
-    × (said.text.items ≡ line_in now ++ exhausted_line now i))
+SaysBulk now said = SaysAtEnd (line_in now) now said
 
 -- What there is to say of a run of these processes on files that are made for them: its line. Else it is refused, in this order:
 -- the files, and what would pass a limit; or it was cut off.

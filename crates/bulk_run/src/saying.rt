@@ -8,6 +8,7 @@ ghost use Rattle.process_core.specs.Cores.{courses_in, moment_of, relation};
 ghost use Rattle.engine_calls.specs.Runs.{IsReady};
 ghost use Rattle.worker_gate.specs.Running.{IsOutcome};
 ghost use Rattle.scenario_run.specs.Reports.{HasUsedUp, exhausted_line};
+ghost use Rattle.scenario_run.specs.Run.{IsSaidOf};
 ghost use Rattle.bulk_run.specs.Bulk.{line_in, SaysBulk};
 
 use crate::summing::{summary_line, summed_up};
@@ -63,11 +64,7 @@ pub fn said_of<R: Rack + Drop, B: Resource>(
 ) -> Result<Said, Refusal>
     requires outcome { IsOutcome engine.old outcome }
     requires ready { outcome ≢ RunOutcome.DiskFault → IsReady B.Resource engine.old }
-    ensures said { IfOk result (SaysBulk engine.old.core) }
-    ensures settled { IfOk result (λ s. outcome ≢ RunOutcome.DiskFault) }
-    ensures refused { IfErr result
-        (λ r. ((r ≡ Refusal.NoMemory) × (outcome ≢ RunOutcome.DiskFault))
-        ⊎ ((r ≡ Refusal.DiskFault) × (outcome ≡ RunOutcome.DiskFault))) }
+    ensures said { IsSaidOf outcome (SaysBulk engine.old.core) result }
     ensures left { engine.new ≡ engine.old }
 {
     match outcome {

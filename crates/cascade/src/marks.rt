@@ -1,5 +1,5 @@
 // Who is in a set, and who of them was looked at.
-ghost use Rattle.std.specs.Prelude.{◌≡◌, ◌<◌, ◌≤◌, ℕ, true, false, length, nat_eq, slice_index_or, IfSome, MatchOption};
+ghost use Rattle.std.specs.Prelude.{◌≡◌, ◌<◌, ℕ, true, false, length, nat_eq, IfSome};
 ghost use Rattle.cascade.specs.Sets.{IsMarked, done, marked};
 
 /// A process is out, waits to be looked at, or was looked at.

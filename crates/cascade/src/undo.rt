@@ -1,5 +1,5 @@
 // Whether an undo may come.
-ghost use Rattle.std.specs.Prelude.{◌≡◌, ◌<◌, ◌≤◌, ◌∷◌, [], ℕ, None, Some, true, ◌+◌, drop, filter, length, slice_index_or, IfSome};
+ghost use Rattle.std.specs.Prelude.{◌≡◌, ◌<◌, None, Some, true, ◌+◌, drop, filter, length};
 ghost use Rattle.std.specs.Prelude.{if◌then◌else◌};
 ghost use Rattle.process_tree.specs.Conflicts.{do_conflict};
 ghost use Rattle.process_tree.specs.declared.entry.Entry.{Entry};

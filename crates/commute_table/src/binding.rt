@@ -1,5 +1,5 @@
 // Binding a process to a catalog.
-ghost use Rattle.std.specs.Prelude.{◌≡◌, ◌≤◌, [], length};
+ghost use Rattle.std.specs.Prelude.{◌≤◌, [], length};
 ghost use Rattle.process_tree.specs.Blocks.{outline};
 ghost use Rattle.commute_table.specs.Operations.{IsCatalog};
 ghost use Rattle.commute_table.specs.Binding.{Gives, Binds, number_bound, numbers_bound};

@@ -1,5 +1,5 @@
 // Catalogs and their bytes.
-ghost use Rattle.std.specs.Prelude.{◌≡◌, ◌≤◌, ◌<◌, ◌++◌, ◌∷◌, [], IfOk, OnOk, true, length, slice_index_or};
+ghost use Rattle.std.specs.Prelude.{◌≡◌, ◌<◌, ◌++◌, [], IfOk, OnOk, true, slice_index_or};
 ghost use Rattle.std.specs.List.{flat_map};
 ghost use Rattle.process_tree.specs.Conflicts.{is_table, operations_in};
 ghost use Rattle.commute_table.specs.Operations.{IsCatalog};

@@ -1,8 +1,8 @@
 // The fields of a TOML table: what is known, what is missing, and what is of another type.
-ghost use Rattle.std.specs.Prelude.{◌≡◌, Ok, Err, codes, option_map, option_and_then, option_copied, string_bytes};
+ghost use Rattle.std.specs.Prelude.{◌≡◌, Ok, Err, option_map};
 ghost use Rattle.toml.specs.Data.{get_member};
 ghost use Rattle.toml.specs.View.{view, table_view};
-ghost use Rattle.commute_table.specs.Document.{Gives, Fails, is_known, least_unknown, known_keys, text_at, natural, number_at};
+ghost use Rattle.commute_table.specs.Document.{Gives, is_known, least_unknown, known_keys, text_at, natural, number_at};
 ghost use Rattle.commute_table.specs.Document.{version_said};
 ghost use Rattle.commute_table.specs.declared.errors.ScenarioError.TheVariants.{BadKey};
 

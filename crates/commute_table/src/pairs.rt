@@ -1,12 +1,12 @@
 // The conflicts of a scenario: pairs of names of operations, each with a mode.
-ghost use Rattle.std.specs.Prelude.{◌≡◌, ◌<◌, ◌≤◌, ◌++◌, length, is_some, not, option_map, option_and_then, IfOk, [], true};
+ghost use Rattle.std.specs.Prelude.{◌≡◌, ◌<◌, ◌≤◌, length, option_map, IfOk, [], true};
 ghost use Rattle.toml.specs.Data.{as_array, item, no_items};
 ghost use Rattle.toml.specs.View.{view, items_view, table_view};
 ghost use Rattle.process_tree.specs.Conflicts.{operations_in, mode_of, no_conflicts};
 ghost use Rattle.std.specs.List.{list_all};
 ghost use Rattle.process_tree.specs.Order.{Each};
 ghost use Rattle.commute_table.specs.Document.{Gives, mode_named, mode_behind, pair_of, pair_in, are_pairs, number_said, pair_said};
-ghost use Rattle.commute_table.specs.Document.{pairs_said, IsPairOf, same_mode, some_disagree, with_pairs, table_or_bad};
+ghost use Rattle.commute_table.specs.Document.{pairs_said, IsPairOf, same_mode, with_pairs, table_or_bad};
 ghost use Rattle.commute_table.specs.Document.{table_of_items, conflicts_said};
 
 use crate::catalog::cell_byte;

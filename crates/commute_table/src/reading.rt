@@ -1,5 +1,5 @@
 // Reading a catalog from its bytes.
-ghost use Rattle.std.specs.Prelude.{◌≡◌, ◌<◌, ◌-◌, ◌++◌, ◌∷◌, [], true, IfOk, IfErr, length, replicate, slice_index_or, codes};
+ghost use Rattle.std.specs.Prelude.{◌≡◌, ◌<◌, ◌-◌, ◌++◌, ◌∷◌, [], true, IfOk, IfErr, replicate, slice_index_or};
 ghost use Rattle.std.specs.Prelude.{nat_lt};
 ghost use Rattle.process_tree.specs.Conflicts.{is_table, operations_in};
 ghost use Rattle.std.specs.List.{list_any};
@@ -8,7 +8,7 @@ ghost use Rattle.commute_table.specs.Bytes.{bytes_of};
 ghost use Rattle.commute_table.specs.Errors.{TellsPlace, IsReadAs};
 ghost use Rattle.commute_table.specs.Reading.{Gives, PutsRow, byte_at, count_at, is_new, can_be_new, length_at, name_at, verb_with};
 ghost use Rattle.commute_table.specs.Reading.{takes_code, op_at, ops_at, mode_with, is_cell, cells_at, rows_at, front_at};
-ghost use Rattle.commute_table.specs.Reading.{catalog_at, name_bytes};
+ghost use Rattle.commute_table.specs.Reading.{catalog_at};
 ghost use Rattle.commute_table.specs.declared.reading.Fault.TheVariants.{Memory};
 ghost use Rattle.process_tree.specs.declared.conflicts.Mode.TheVariants.{Never};
 

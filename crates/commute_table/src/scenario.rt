@@ -1,7 +1,7 @@
 // Scenarios: a catalog and the text of processes, read from a TOML document.
-ghost use Rattle.std.specs.Prelude.{◌≡◌, ◌<◌, ◌++◌, length, is_some, option_and_then, IfOk, IfSome, [], true};
+ghost use Rattle.std.specs.Prelude.{◌≡◌, ◌<◌, length, IfOk, IfSome, [], true};
 ghost use Rattle.toml.specs.Data.{as_array, as_table};
-ghost use Rattle.toml.specs.View.{view, items_view, table_view};
+ghost use Rattle.toml.specs.View.{items_view, table_view};
 ghost use Rattle.commute_table.specs.Operations.{IsCatalog};
 ghost use Rattle.commute_table.specs.Document.{Gives, IsAnswer, name_said, subsystem_said, verb_named, verb_said, op_said};
 ghost use Rattle.commute_table.specs.Document.{are_tables, ops_said, few_said, operations_said, number_of, processes_said};

@@ -1,5 +1,5 @@
 // Answers of several lines.
-ghost use Rattle.std.specs.Prelude.{◌≡◌, ◌≤◌, length, IfOk};
+ghost use Rattle.std.specs.Prelude.{◌≡◌, IfOk};
 ghost use Rattle.driver_requests.specs.Answers.{framed, lines_in, numbered_lines};
 
 use std::alloc::{AllocError, Global};

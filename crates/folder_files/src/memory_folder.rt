@@ -1,10 +1,6 @@
 // The files of a folder in memory.
-ghost use Rattle.std.specs.Prelude.{◌≡◌, ◌<◌, ◌≤◌, ◌⊎◌, [], length, take, drop, IfOk, OnOk, IsTrue};
-ghost use Rattle.process_flow.specs.Causes.{CountsFaults};
-ghost use Rattle.process_disk.specs.Disk.{FileSet, file_of, put};
-ghost use Rattle.process_disk.specs.Calls.{OnlyLooks, OnlyWrites};
-ghost use Rattle.folder_files.specs.Folder.{IsKept, IsPart, IsSynced, folder_place};
-ghost use Rattle.process_disk.specs.Memory.{disk_of, fresh, nine_empty};
+ghost use Rattle.std.specs.Prelude.{◌≡◌, ◌<◌, ◌≤◌, take};
+ghost use Rattle.process_disk.specs.Memory.{disk_of};
 ghost use Rattle.process_disk.specs.MemoryView.{memory};
 
 use crate::counts::{FOLDER, count};

@@ -1,5 +1,5 @@
 // The files of the current folder, by the calls of the system.
-ghost use Rattle.std.specs.Prelude.{◌≡◌, ◌≢◌, ◌<◌, ◌≤◌, ◌+◌, ◌-◌, ◌^◌, ℕ, min, length, IfOk, OnOk, OnErr, IsErr, IsTrue, true};
+ghost use Rattle.std.specs.Prelude.{◌≡◌, ◌<◌, ◌≤◌, ◌+◌, ◌-◌, length, IfOk, OnOk, IsTrue, true};
 ghost use Rattle.std.specs.Prelude.{false};
 ghost use Rattle.process_flow.specs.Causes.{CountsFaults};
 ghost use Rattle.folder_files.specs.Folder.{IsSynced, folder_place};

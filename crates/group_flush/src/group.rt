@@ -28,7 +28,7 @@ pub struct Group {
 }
 
 impl Model for Group {
-    ghost use Rattle.std.specs.Prelude.{List, ℕ, map};
+    ghost use Rattle.std.specs.Prelude.{List, map};
     ghost use Rattle.group_flush.specs.Ends.{ended_as};
     ghost use Rattle.machine_model.specs.Groups.{Ended};
 

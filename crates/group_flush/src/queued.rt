@@ -1,5 +1,5 @@
 // Pieces that are queued at an engine.
-ghost use Rattle.std.specs.Prelude.{◌≡◌, [], length, map, IfOk, IsTrue};
+ghost use Rattle.std.specs.Prelude.{◌≡◌, [], length, IfOk};
 
 use process_core::Piece;
 use schedule_model::Event;

@@ -1,5 +1,5 @@
 // Whether what stands or is owed conflicts with an event.
-ghost use Rattle.std.specs.Prelude.{◌≡◌, ◌<◌, ◌&&◌, not, ◌++◌, length, nat_eq, IfOk};
+ghost use Rattle.std.specs.Prelude.{◌≡◌, ◌<◌, ◌&&◌, not, ◌++◌, nat_eq, IfOk};
 ghost use Rattle.std.specs.List.{list_any};
 ghost use Rattle.process_tree.specs.declared.entry.Entry.{Entry};
 ghost use Rattle.process_tree.specs.Conflicts.{do_conflict, operations_in};

@@ -1,12 +1,12 @@
 // Circles of processes that build on each other.
-ghost use Rattle.std.specs.Prelude.{◌≡◌, ◌<◌, ◌+◌, ◌≤◌, ◌&&◌, true, false, not, ℕ, Bool, length, slice_index_or, IfOk, OnOk};
+ghost use Rattle.std.specs.Prelude.{◌≡◌, ◌<◌, ◌&&◌, true, false, ℕ, Bool, length, IfOk};
 ghost use Rattle.std.specs.List.{list_any};
 ghost use Rattle.process_tree.specs.declared.entry.Entry.{Entry};
 ghost use Rattle.process_tree.specs.Conflicts.{do_conflict, operations_in};
 ghost use Rattle.process_tree.specs.Order.{Each};
 ghost use Rattle.schedule_model.specs.Conflict.{conflict};
 ghost use Rattle.schedule_rules.specs.Applying.{AreKnown};
-ghost use Rattle.history_judging.specs.Conflicting.{closes_circle, is_marked, is_closed, unmarked, Spreads};
+ghost use Rattle.history_judging.specs.Conflicting.{closes_circle, is_marked, is_closed, Spreads};
 
 use crate::access::Accesses;
 use crate::against::conflicts_with_any;

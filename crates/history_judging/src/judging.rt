@@ -1,14 +1,12 @@
 // Whether an event may come.
-ghost use Rattle.std.specs.Prelude.{◌≡◌, ◌<◌, ◌≤◌, ◌+◌, ◌-◌, ◌∷◌, ◌++◌, [], ℕ, length, nat_lt, true, IfOk, IsTrue, OnOk};
+ghost use Rattle.std.specs.Prelude.{◌≡◌, ◌<◌, ◌≤◌, ◌+◌, ◌-◌, ◌∷◌, ◌++◌, [], length, true, IfOk, OnOk};
 ghost use Rattle.std.specs.Prelude.{slice_index_or, nat_le, ◌&&◌};
-ghost use Rattle.std.specs.List.{list_all};
 ghost use Rattle.process_tree.specs.declared.entry.Entry.{Entry};
 ghost use Rattle.process_tree.specs.declared.plan.Plan.{Plan};
-ghost use Rattle.process_tree.specs.Blocks.{outline};
 ghost use Rattle.process_tree.specs.Conflicts.{do_conflict, operations_in};
 ghost use Rattle.process_tree.specs.Order.{Each};
 ghost use Rattle.process_tree.specs.Recovery.{forward};
-ghost use Rattle.process_tree.specs.Shape.{shape_of, goes_on_to, IsBranch};
+ghost use Rattle.process_tree.specs.Shape.{shape_of, goes_on_to};
 ghost use Rattle.schedule_model.specs.declared.event.Event.{Event};
 ghost use Rattle.schedule_model.specs.Course.{course_of, courses_of};
 ghost use Rattle.schedule_model.specs.Histories.{steps_of, of_process};
@@ -16,7 +14,7 @@ ghost use Rattle.schedule_model.specs.Laws.{IsGoodPlan};
 ghost use Rattle.schedule_rules.specs.Applying.{AreKnown};
 ghost use Rattle.history_judging.specs.Judging.{AreReady, IsReady, comes, entry_comes, end_comes, undo_comes, step_goes_on};
 ghost use Rattle.history_judging.specs.Judging.{step_is_clear, commit_is_clear, undoable_is_clear, steps_among};
-ghost use Rattle.history_judging.specs.Keeping.{Tables, is_active_in, row_of};
+ghost use Rattle.history_judging.specs.Keeping.{is_active_in, row_of};
 ghost use Rattle.schedule_rules.specs.Recovering.{owed_by};
 
 use crate::against::{any_conflicts, conflicts_behind, conflicts_in_front, conflicts_with_any};

@@ -1,17 +1,15 @@
 // What an event makes of the tables.
-ghost use Rattle.std.specs.Prelude.{◌≡◌, ◌<◌, ◌≤◌, ◌+◌, ◌-◌, ◌∷◌, ◌++◌, [], length, true, false, IfOk, OnOk};
+ghost use Rattle.std.specs.Prelude.{◌≡◌, ◌<◌, ◌+◌, ◌-◌, ◌∷◌, ◌++◌, [], true, false, IfOk, OnOk};
 ghost use Rattle.process_tree.specs.declared.entry.Entry.{Entry};
 ghost use Rattle.process_tree.specs.declared.plan.Plan.{Plan};
 ghost use Rattle.process_tree.specs.Shape.{shape_of, goes_on_to};
-ghost use Rattle.schedule_model.specs.declared.event.Event.{Event};
-ghost use Rattle.schedule_model.specs.Course.{course_of, courses_of};
+ghost use Rattle.schedule_model.specs.Course.{course_of};
 ghost use Rattle.schedule_model.specs.Laws.{IsGoodPlan};
-ghost use Rattle.schedule_model.specs.Limits.{need};
 ghost use Rattle.process_tree.specs.Recovery.{forward};
 ghost use Rattle.history_judging.specs.Judging.{steps_among};
 ghost use Rattle.schedule_rules.specs.Recovering.{owed_by};
-ghost use Rattle.history_judging.specs.Keeping.{Tables, started, undone, stepped, ended, is_active_in, row_of, with_row, with_act};
-ghost use Rattle.history_judging.specs.Keeping.{with_step, at_end, of_others, owed_with};
+ghost use Rattle.history_judging.specs.Keeping.{started, undone, stepped, ended, is_active_in};
+ghost use Rattle.history_judging.specs.Keeping.{of_others, owed_with};
 
 use crate::judging::{add_owed, steps_among};
 use crate::legality::{Legality, ProcessRow};

@@ -1,5 +1,5 @@
 // Whether a history is legal.
-ghost use Rattle.std.specs.Prelude.{◌≡◌, ◌⊎◌, ◌<◌, ◌≤◌, ◌+◌, ℕ, List, ◌++◌, ◌∷◌, [], length, Some, None, IfOk, IfErr, OnOk, IsTrue};
+ghost use Rattle.std.specs.Prelude.{◌≡◌, ◌⊎◌, ◌<◌, ◌+◌, ℕ, List, ◌++◌, ◌∷◌, [], Some, IfOk, IfErr, OnOk, IsTrue};
 ghost use Rattle.std.specs.Prelude.{false};
 ghost use Rattle.process_tree.specs.Conflicts.{do_conflict, operations_in};
 ghost use Rattle.process_tree.specs.declared.plan.Plan.{Plan};

@@ -1,17 +1,16 @@
 // Histories judged event by event.
-ghost use Rattle.std.specs.Prelude.{◌≡◌, ◌≤◌, ◌<◌, ◌⊎◌, ◌+◌, ℕ, List, ◌++◌, ◌∷◌, [], length, true, false, IfOk, IfErr, Some};
+ghost use Rattle.std.specs.Prelude.{◌≡◌, ◌<◌, ◌⊎◌, ◌+◌, List, ◌++◌, ◌∷◌, [], length, true, false, IfOk, IfErr, Some};
 ghost use Rattle.process_tree.specs.declared.entry.Entry.{Entry};
 ghost use Rattle.process_tree.specs.declared.plan.Plan.{Plan};
-ghost use Rattle.process_tree.specs.Conflicts.{Table, do_conflict, operations_in};
-ghost use Rattle.process_tree.specs.Order.{Each};
+ghost use Rattle.process_tree.specs.Conflicts.{Table, do_conflict};
 ghost use Rattle.schedule_model.specs.declared.event.Event.{Event};
-ghost use Rattle.schedule_model.specs.Course.{course, courses_of, course_of};
+ghost use Rattle.schedule_model.specs.Course.{courses_of};
 ghost use Rattle.schedule_model.specs.Histories.{active, starts};
 ghost use Rattle.schedule_model.specs.Legal.{may_come};
 ghost use Rattle.schedule_model.specs.Limits.{entries, limits, stands_within};
 ghost use Rattle.history_judging.specs.Errors.{event_text};
 ghost use Rattle.history_judging.specs.Judging.{AreReady, comes, kept_after};
-ghost use Rattle.history_judging.specs.Keeping.{ArePlans, HasPlan, IsJudged, no_tables};
+ghost use Rattle.history_judging.specs.Keeping.{ArePlans, HasPlan, IsJudged};
 ghost use Rattle.history_judging.specs.declared.legality.EventError.TheVariants.{Illegal, NoMemory};
 
 use crate::judging::comes;

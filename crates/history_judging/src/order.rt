@@ -1,8 +1,8 @@
 // Own order: whether a step goes on from what is done, and whether that is an end.
-ghost use Rattle.std.specs.Prelude.{◌≡◌, ◌≤◌, List, length, drop, nat_eq, None, Some, Option, true, if◌then◌else◌};
+ghost use Rattle.std.specs.Prelude.{◌≡◌, None, Some, Option, true};
 ghost use Rattle.std.specs.List.{starts_with, list_any};
 ghost use Rattle.process_tree.specs.declared.entry.Entry.{Entry};
-ghost use Rattle.process_tree.specs.Shape.{shape_of, first_of, goes_on_to, is_end, is_whole, same_steps};
+ghost use Rattle.process_tree.specs.Shape.{shape_of, goes_on_to, is_end, same_steps};
 ghost use Rattle.schedule_model.specs.OwnOrder.{is_of_last};
 ghost use Rattle.history_judging.specs.Judging.{step_on};
 

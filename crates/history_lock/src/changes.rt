@@ -1,5 +1,5 @@
 // Changes that a turn announces, and waiting for the next one.
-ghost use Rattle.std.specs.Prelude.{◌≡◌, ℕ, ◌+◌, [], ◌∷◌, ◌++◌, length, IfSome};
+ghost use Rattle.std.specs.Prelude.{◌≡◌, ◌+◌, [], ◌∷◌, ◌++◌, length, IfSome};
 ghost use Rattle.history_lock.specs.Seats.{desk_of, opening, places, seen, share};
 ghost use Rattle.history_lock.specs.Turns.{desk_at, history, opening_at, places_at, share_at, state_at};
 

@@ -1,5 +1,5 @@
 // The desk, its seats and their turns.
-ghost use Rattle.std.specs.Prelude.{◌≡◌, ◌+◌, ◌^◌, ◌<◌, [], ◌∷◌, length, None};
+ghost use Rattle.std.specs.Prelude.{◌≡◌, ◌+◌, ◌^◌, ◌<◌, None};
 ghost use Rattle.history_lock.specs.Plays.{IsResting, IsTurning};
 
 use crate::held::Held;

@@ -1,7 +1,7 @@
 // One step each on a desk's table. Its words: 0 the ticket that is served, 1 the next ticket, 2 how many entries, 3 how many
 // changes, and from 4 on how often each bell was rung. A ticket's bell is rung once the ticket is served, so who has another one
 // sleeps on.
-ghost use Rattle.std.specs.Prelude.{◌≡◌, ℕ, ◌+◌, [], ◌∷◌, ◌++◌, ◌<◌, ◌≤◌, length, Some, None, IfSome};
+ghost use Rattle.std.specs.Prelude.{◌≡◌, ◌+◌, [], ◌∷◌, ◌<◌, ◌≤◌, Some, None, IfSome};
 ghost use Rattle.history_lock.specs.Rule.{Took};
 ghost use Rattle.history_lock.specs.Plays.{IsResting, IsClear, IsWaiting, IsTurning, HasCounted, cleared, counting, queued, rested};
 

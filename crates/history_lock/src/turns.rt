@@ -1,5 +1,5 @@
 // A turn at a desk, from its ticket to its entry.
-ghost use Rattle.std.specs.Prelude.{◌≡◌, ℕ, ◌+◌, [], ◌∷◌, ◌++◌, length, List, IfSome};
+ghost use Rattle.std.specs.Prelude.{◌≡◌, ◌+◌, [], ◌∷◌, ◌++◌, length, List, IfSome};
 ghost use Rattle.history_lock.specs.Seats.{IsOf, desk_of, opening, places, seen, share};
 ghost use Rattle.history_lock.specs.Turns.{desk_at, history, opening_at, places_at, share_at, state_at};
 ghost use Rattle.history_lock.specs.Weights.{AllStand};

@@ -1,5 +1,5 @@
 // Who holds something against an access.
-ghost use Rattle.std.specs.Prelude.{◌≡◌, ◌<◌, ℕ, None, List, filter, map, flat_map, if◌then◌else◌};
+ghost use Rattle.std.specs.Prelude.{◌≡◌, ◌<◌, None, filter, map, flat_map, if◌then◌else◌};
 ghost use Rattle.std.specs.Option.{option_to_list};
 ghost use Rattle.process_tree.specs.Conflicts.{operations_in};
 ghost use Rattle.process_tree.specs.Order.{Each};

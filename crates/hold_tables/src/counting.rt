@@ -1,9 +1,8 @@
 // The pairs of entries that make arrows, counted by the places of their processes.
-ghost use Rattle.std.specs.Prelude.{◌≡◌, ◌<◌, ◌+◌, ℕ, nat_eq, slice_index_or};
+ghost use Rattle.std.specs.Prelude.{◌<◌};
 ghost use Rattle.process_tree.specs.Conflicts.{do_conflict};
 ghost use Rattle.process_tree.specs.Order.{Each};
 ghost use Rattle.hold_tables.specs.Counts.{HasRoomFor, IsCounted, pair, pairs_by};
-ghost use Rattle.bit_rows.specs.Cells.{one_if};
 ghost use Rattle.hold_tables.specs.Walks.{AreDistinctRows, IsPlaced, IsPlacedIf, step_of, steps_under_way};
 
 use crate::looking::place_of;

@@ -1,11 +1,10 @@
 // Pairs that come with an entry, and the arrows that they make, which extend where walks lead.
-ghost use Rattle.std.specs.Prelude.{◌≡◌, ◌<◌, ◌+◌, ◌∷◌, [], ℕ, nat_eq, slice_index_or};
+ghost use Rattle.std.specs.Prelude.{◌≡◌, ◌∷◌, []};
 ghost use Rattle.process_tree.specs.Conflicts.{do_conflict};
 ghost use Rattle.process_tree.specs.Order.{Each};
 ghost use Rattle.hold_tables.specs.Counts.{HasRoomFor, IsCounted, pair, pairs_to};
 ghost use Rattle.hold_tables.specs.Places.{place_of};
 ghost use Rattle.hold_tables.specs.Walks.{AreDistinctRows, IsExtended, IsPlaced, arrows_by, arrows_to};
-ghost use Rattle.bit_rows.specs.Cells.{IsJoined, one_if};
 
 use crate::graph::Graph;
 use crate::looking::place_of;

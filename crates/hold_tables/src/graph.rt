@@ -1,5 +1,5 @@
 // The conflict graph of the open processes, by their places: the pairs that make its arrows, and where its walks lead.
-ghost use Rattle.std.specs.Prelude.{◌≡◌, ◌<◌, ◌≤◌, ℕ, length, false, true, nat_lt, slice_index_or};
+ghost use Rattle.std.specs.Prelude.{◌≡◌, ◌≤◌, length, false, true};
 ghost use Rattle.process_tree.specs.Conflicts.{do_conflict};
 ghost use Rattle.hold_tables.specs.Kept.{AreTidy};
 ghost use Rattle.hold_tables.specs.Counts.{TellCounts, TellCountsBut, arrow_at, pairs_by, pairs_to};

@@ -1,5 +1,5 @@
 // The open processes in rows of bits, by their slots.
-ghost use Rattle.std.specs.Prelude.{◌≡◌, ◌<◌, ℕ, IfSome, Some, false, length, true};
+ghost use Rattle.std.specs.Prelude.{◌≡◌, ◌<◌, ℕ, IfSome, Some, false, true};
 ghost use Rattle.process_tree.specs.Conflicts.{do_conflict};
 ghost use Rattle.schedule_model.specs.Holdings.{reaches};
 ghost use Rattle.hold_tables.specs.Tables.{holdings_of, is_open};

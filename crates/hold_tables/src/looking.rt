@@ -1,13 +1,13 @@
 // What is looked up in the rows and in the net.
-ghost use Rattle.std.specs.Prelude.{◌≡◌, ◌<◌, ◌≤◌, ◌+◌, length, true, false, IfSome, None, Some, map, nat_le};
-ghost use Rattle.std.specs.Prelude.{if◌then◌else◌, vec_len};
+ghost use Rattle.std.specs.Prelude.{◌≡◌, ◌<◌, ◌+◌, length, true, IfSome, None, Some, map, nat_le};
+ghost use Rattle.std.specs.Prelude.{if◌then◌else◌};
 ghost use Rattle.std.specs.Prelude.{vec_capacity};
 ghost use Rattle.process_tree.specs.Order.{Each};
 ghost use Rattle.schedule_model.specs.Histories.{of_process};
 ghost use Rattle.hold_tables.specs.Tables.{has_number};
 ghost use Rattle.hold_tables.specs.Kept.{are_numbered};
 ghost use Rattle.hold_tables.specs.Places.{place_of, last_place, all_steps};
-ghost use Rattle.hold_tables.specs.Changes.{net_after, without_last};
+ghost use Rattle.hold_tables.specs.Changes.{without_last};
 ghost use Rattle.hold_tables.specs.Reading.{lesser_number, least_from};
 
 use crate::row::Row;

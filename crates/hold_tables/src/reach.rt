@@ -1,13 +1,11 @@
 // Where walks of the conflict graph lead, by the places of the processes.
-ghost use Rattle.std.specs.Prelude.{◌≡◌, ◌<◌, ◌≤◌, ◌||◌, ◌∷◌, [], ℕ, length, false, not, filter, slice_index_or};
-ghost use Rattle.std.specs.List.{list_any};
+ghost use Rattle.std.specs.Prelude.{◌≡◌, ◌<◌, ◌≤◌, ◌∷◌, [], length, false, not, filter};
 ghost use Rattle.std.specs.Option.{option_to_list};
 ghost use Rattle.process_tree.specs.Conflicts.{do_conflict};
 ghost use Rattle.process_tree.specs.Order.{Each};
 ghost use Rattle.hold_tables.specs.Operations.{KeepOps, ops_of};
 ghost use Rattle.hold_tables.specs.Kept.{IsKnown, IsKnownRunning};
 ghost use Rattle.hold_tables.specs.Walks.{AreDistinctRows, IsExtended, IsPlaced, IsPlacedIf, arrows_by, conflicts_with};
-ghost use Rattle.bit_rows.specs.Cells.{IsJoined};
 ghost use Rattle.hold_tables.specs.Walks.{IsAtEnd, step_has_arrows, steps_under_way};
 
 use crate::looking::place_of;

@@ -1,9 +1,9 @@
 // What the open processes hold beside their nets, as rows of bits by operation.
-ghost use Rattle.std.specs.Prelude.{◌≡◌, ◌<◌, ◌∷◌, ◌&&◌, ◌||◌, [], ℕ, false, if◌then◌else◌, length, map, nat_eq};
+ghost use Rattle.std.specs.Prelude.{◌≡◌, ◌<◌, ◌&&◌, ◌||◌, [], ℕ, false, if◌then◌else◌, length, map, nat_eq};
 ghost use Rattle.std.specs.Option.{option_to_list};
 ghost use Rattle.schedule_model.specs.Histories.{of_process};
 ghost use Rattle.bit_rows.specs.Cells.{cell};
-ghost use Rattle.hold_tables.specs.Operations.{AddsAt, IsColumnTaken, IsSetAt, IsToldAt, has_row, ops_of, pending_ops, row_of};
+ghost use Rattle.hold_tables.specs.Operations.{AddsAt, IsColumnTaken, IsSetAt, IsToldAt, ops_of, pending_ops, row_of};
 
 use crate::row::{MOST, Row};
 use bit_rows::Bits;

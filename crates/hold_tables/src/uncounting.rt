@@ -1,11 +1,10 @@
 // Pairs of entries that go, taken off the counts, and whether an arrow goes with them.
-ghost use Rattle.std.specs.Prelude.{◌≡◌, ◌<◌, ◌+◌, ◌||◌, ◌∷◌, ◌++◌, ℕ, false, nat_eq, slice_index_or};
+ghost use Rattle.std.specs.Prelude.{◌≡◌, ◌<◌, ◌+◌, ◌||◌, ◌∷◌, ◌++◌, false};
 ghost use Rattle.process_tree.specs.Conflicts.{do_conflict};
 ghost use Rattle.process_tree.specs.Order.{Each};
 ghost use Rattle.hold_tables.specs.Kept.{AreTidy};
 ghost use Rattle.hold_tables.specs.Operations.{KeepOps, ops_of};
 ghost use Rattle.hold_tables.specs.Counts.{AreCounted, IsUncounted, TellCounts, pair, pairs_by, pairs_of_entry};
-ghost use Rattle.bit_rows.specs.Cells.{one_if};
 ghost use Rattle.hold_tables.specs.Counts.{pairs_of_last, pairs_to, pairs_to_step};
 ghost use Rattle.hold_tables.specs.Walks.{AreDistinctRows, IsPlaced, IsPlacedIf, step_of, steps_under_way};
 

@@ -1,11 +1,11 @@
 // What is kept of each step of a process.
-ghost use Rattle.std.specs.Prelude.{[], ◌≡◌, ◌<◌, ◌+◌, Option, ℕ, IfOk, IfSome, None, length, OnOk, slice_index_or, Some};
+ghost use Rattle.std.specs.Prelude.{[], ◌≡◌, ◌<◌, ◌+◌, Option, ℕ, IfOk, IfSome, None, length, slice_index_or, Some};
 ghost use Rattle.std.specs.Prelude.{if◌then◌else◌};
 ghost use Rattle.process_tree.specs.Blocks.{outline};
 ghost use Rattle.process_tree.specs.Making.{tree_fault};
-ghost use Rattle.process_tree.specs.Shape.{shape_of, last_of, branch_to, fixed_len, last_commit, last_after};
+ghost use Rattle.process_tree.specs.Shape.{shape_of, last_of, branch_to, last_after};
 ghost use Rattle.process_tree.specs.Recovery.{place_of};
-ghost use Rattle.instance_state.specs.Rows.{row_of, rows_to, way_of, done_to, way_from, no_row};
+ghost use Rattle.instance_state.specs.Rows.{row_of, rows_to, way_of, done_to, no_row};
 
 use process_tree::{Fallback, Place, Plan, StepKind, Tree, branch_to, commits_behind};
 use std::alloc::{AllocError, Global};

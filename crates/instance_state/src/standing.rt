@@ -1,6 +1,5 @@
 // Where a process stands, and what is read off.
 ghost use Rattle.std.specs.Prelude.{[], true, nat_eq, ◌&&◌, ◌≡◌, ◌≤◌, ◌<◌, false, length, Option, Some, None, is_none};
-ghost use Rattle.std.specs.Prelude.{if◌then◌else◌};
 ghost use Rattle.process_tree.specs.Shape.{branch_to, is_whole, fixed_len, first_of, goes_on_to};
 ghost use Rattle.process_tree.specs.Recovery.{forward};
 ghost use Rattle.machine_model.specs.Progress.{way_on, staying, staying_for, next_forward, pending_steps, is_only_try, same_work};

@@ -1,5 +1,5 @@
 // The bytes of records.
-ghost use Rattle.std.specs.Prelude.{◌≡◌, ◌≤◌, ◌<◌, take, length, Some, None, IfOk, IfSome, MatchOption, if◌then◌else◌};
+ghost use Rattle.std.specs.Prelude.{◌≡◌, ◌≤◌, ◌<◌, take, length, Some, None, IfOk, IfSome, if◌then◌else◌};
 ghost use Rattle.journal_records.specs.Bytes.{setup_bytes, start_bytes, act_bytes, end_bytes, bytes_of, act_by, record_of};
 
 use crate::{Body, Record};

@@ -22,7 +22,7 @@ pub struct MemoryRack {
 }
 
 impl MemoryRack {
-    ghost use Rattle.std.specs.Prelude.{◌≡◌, ◌<◌, ◌≤◌, ◌+◌, ◌-◌, ◌^◌, ◌↔◌, ◌∷◌, length, min, take, drop, reverse, IsTrue, Contains};
+    ghost use Rattle.std.specs.Prelude.{◌≡◌, ◌<◌, ◌≤◌, ◌+◌, ◌-◌, ◌^◌, ◌↔◌, ◌∷◌, length, min, reverse, IsTrue, Contains};
     ghost use Rattle.std.specs.Prelude.{IfOk, OnOk, OnErr};
     ghost use Rattle.process_flow.specs.Causes.{Rose};
     ghost use Rattle.process_disk.specs.Disk.{file_of};

@@ -1,9 +1,9 @@
 // What a stop within a call leaves.
-ghost use Rattle.std.specs.Prelude.{ℕ, ◌≡◌, ◌<◌, ◌≤◌, ◌-◌, take, reverse, length, IfOk, OnOk, [], IsTrue};
+ghost use Rattle.std.specs.Prelude.{ℕ, ◌≡◌, ◌<◌, ◌≤◌, ◌-◌, take, reverse, length, IfOk, OnOk, []};
 ghost use Rattle.process_disk.specs.Disk.{put};
-ghost use Rattle.process_disk.specs.Memory.{files_after, with_change, fresh, LeftSince};
+ghost use Rattle.process_disk.specs.Memory.{with_change, fresh, LeftSince};
 ghost use Rattle.process_disk.specs.MemoryView.{memory};
-ghost use Rattle.process_disk.specs.Stop.{from_latest, is_before, is_through, is_within, kept, unsynced, unsynced_with, left_with};
+ghost use Rattle.process_disk.specs.Stop.{from_latest, is_before, is_through, is_within, kept, unsynced_with, left_with};
 ghost use Rattle.process_disk.specs.Stop.{left_by};
 
 use crate::MemoryRack;

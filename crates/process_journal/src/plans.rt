@@ -1,12 +1,11 @@
 // The plan of a start's text.
-ghost use Rattle.std.specs.Prelude.{◌≡◌, ◌≢◌, ◌↔◌, false, List, ◌∷◌, [], IfOk, IsTrue, MatchOption};
+ghost use Rattle.std.specs.Prelude.{◌≡◌, ◌≢◌, ◌↔◌, false, ◌∷◌, [], IfOk, IsTrue, MatchOption};
 ghost use Rattle.process_tree.specs.declared.plan.Plan.{Plan};
 ghost use Rattle.process_tree.specs.declared.tree.Named.{Named};
 ghost use Rattle.process_tree.specs.Shape.{shape_of};
 ghost use Rattle.process_tree.specs.Termination.{IsWellFormed};
 ghost use Rattle.process_text.specs.Words.{words_of};
 ghost use Rattle.process_text.specs.Grammar.{IsReading};
-ghost use Rattle.process_text.specs.Canonical.{canonical_text};
 ghost use Rattle.commute_table.specs.Operations.{IsCatalog};
 ghost use Rattle.process_journal.specs.Plans.{IsTextOf, IsPlanOfText};
 

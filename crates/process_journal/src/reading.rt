@@ -1,5 +1,5 @@
 // The catalog and the history of bodies.
-ghost use Rattle.std.specs.Prelude.{◌≡◌, ◌≢◌, ◌⊎◌, ◌≤◌, ◌∷◌, List, ℕ, length, Ok, IfOk, IfErr};
+ghost use Rattle.std.specs.Prelude.{◌≡◌, ◌≢◌, ◌⊎◌, ◌≤◌, ◌∷◌, length, Ok, IfOk, IfErr};
 ghost use Rattle.commute_table.specs.declared.catalog.Catalog.{Catalog};
 ghost use Rattle.commute_table.specs.Operations.{IsCatalog};
 ghost use Rattle.commute_table.specs.Bytes.{bytes_of};

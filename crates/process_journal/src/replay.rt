@@ -1,5 +1,5 @@
 // A history read record by record.
-ghost use Rattle.std.specs.Prelude.{◌≡◌, ◌≢◌, ◌⊎◌, ◌<◌, ◌≤◌, ◌+◌, ◌++◌, ◌∷◌, [], ℕ, List, length, false, IfOk, IfErr, IsTrue};
+ghost use Rattle.std.specs.Prelude.{◌≡◌, ◌≢◌, ◌⊎◌, ◌<◌, ◌+◌, ◌++◌, ◌∷◌, [], ℕ, List, false, IfOk, IfErr};
 ghost use Rattle.process_tree.specs.declared.entry.Entry.{Entry};
 ghost use Rattle.process_tree.specs.declared.plan.Plan.{Plan};
 ghost use Rattle.process_tree.specs.Conflicts.{Table};

@@ -1,7 +1,7 @@
 // A call of the program.
 ghost use Rattle.std.specs.Prelude.{◌≡◌, drop, map, replicate, string_bytes, IfOk};
 ghost use Rattle.std.specs.Process.{exit_status};
-ghost use Rattle.std.specs.Vec.Iter.{into_iter_items, into_iter_len};
+ghost use Rattle.std.specs.Vec.Iter.{into_iter_items};
 ghost use Rattle.history_files.specs.Boxes.{AreBoxes};
 ghost use Rattle.file_rack.specs.NewRack.{IsNew};
 ghost use Rattle.process_program.specs.Ends.{EndsSo};

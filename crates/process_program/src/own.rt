@@ -1,5 +1,5 @@
 // What a call of the program brings along: the boxes of the subsystems, and gates.
-ghost use Rattle.std.specs.Prelude.{◌≡◌, [], replicate, IfOk};
+ghost use Rattle.std.specs.Prelude.{◌≡◌, replicate, IfOk};
 ghost use Rattle.history_files.specs.Boxes.{AreBoxes};
 ghost use Rattle.process_program.specs.Own.{empty_boxes, boxes_of};
 

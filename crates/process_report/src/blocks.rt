@@ -1,5 +1,5 @@
 // The text of a block.
-ghost use Rattle.std.specs.Prelude.{◌≡◌, ◌++◌, ◌∷◌, decimal, IfOk};
+ghost use Rattle.std.specs.Prelude.{◌≡◌, IfOk};
 ghost use Rattle.process_report.specs.Lines.{place_word};
 ghost use Rattle.process_report.specs.Blocks.{rule_word, block_text};
 

@@ -1,5 +1,5 @@
 // Lines of causes.
-ghost use Rattle.std.specs.Prelude.{◌≡◌, ◌++◌, ◌∷◌, decimal, map, OnOk};
+ghost use Rattle.std.specs.Prelude.{◌≡◌, ◌++◌, ◌∷◌, map, OnOk};
 ghost use Rattle.process_text.specs.Canonical.{line_of};
 ghost use Rattle.process_report.specs.Lines.{text_of, cause_words, cause_line};
 

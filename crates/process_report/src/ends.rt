@@ -1,5 +1,5 @@
 // The lines of what became of processes.
-ghost use Rattle.std.specs.Prelude.{◌≡◌, ◌++◌, ◌∷◌, length, map, IfOk, OnOk};
+ghost use Rattle.std.specs.Prelude.{◌≡◌, ◌++◌, length, map, IfOk, OnOk};
 ghost use Rattle.process_text.specs.Canonical.{line_of};
 ghost use Rattle.schedule_model.specs.Histories.{net, of_process, steps_of};
 ghost use Rattle.process_report.specs.Names.{step_name};

@@ -1,5 +1,5 @@
 // The names that stand for numbers.
-ghost use Rattle.std.specs.Prelude.{◌≡◌, ◌-◌, map, slice_index_or, []};
+ghost use Rattle.std.specs.Prelude.{◌≡◌, ◌-◌, slice_index_or, []};
 ghost use Rattle.process_report.specs.Names.{process_name, names_in, step_name, op_name};
 
 use commute_table::Op;

@@ -1,7 +1,6 @@
 // Reports.
-ghost use Rattle.std.specs.Prelude.{◌≡◌, ◌++◌, ◌∷◌, [], length, map, codes, IfOk, OnOk, IsTrue};
+ghost use Rattle.std.specs.Prelude.{◌≡◌, ◌++◌, length, map, codes, IfOk, OnOk, IsTrue};
 ghost use Rattle.process_tree.specs.Conflicts.{do_conflict};
-ghost use Rattle.process_text.specs.Canonical.{line_of};
 ghost use Rattle.commute_table.specs.Operations.{IsCatalog};
 ghost use Rattle.schedule_model.specs.Course.{courses_of};
 ghost use Rattle.schedule_model.specs.Laws.{IsPlanned};

@@ -1,9 +1,9 @@
 // Blocks of a text.
-ghost use Rattle.std.specs.Prelude.{◌≡◌, ◌∷◌, ◌++◌, [], ◌⊎◌, ◌≤◌, ◌<◌, ◌+◌, ℕ, List, true, false, Some, IfOk, IfErr, OnOk, map};
+ghost use Rattle.std.specs.Prelude.{◌≡◌, ◌∷◌, ◌⊎◌, ◌≤◌, ◌<◌, ◌+◌, ℕ, List, true, Some, IfOk, IfErr, OnOk, map};
 ghost use Rattle.std.specs.Prelude.{length};
 ghost use Rattle.process_tree.specs.declared.step.Step.{Step};
 ghost use Rattle.text_words.specs.Marks.{mark_word, closes, ends_steps, meaning};
-ghost use Rattle.process_text.specs.Grammar.{IsStep, Writes, step_pieces, block_pieces, alternatives};
+ghost use Rattle.process_text.specs.Grammar.{Writes, step_pieces, block_pieces, alternatives};
 ghost use Rattle.process_text.specs.FirstFault.{Before, told, told_from, told_behind, begun_in, in_block};
 ghost use Rattle.process_text.specs.Leading.{with_names, MayOpen, LeadsTo, Fails};
 ghost use Rattle.process_text.specs.Limits.{StepsFit, BlockFits, AlternativesFit};

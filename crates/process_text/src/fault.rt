@@ -1,5 +1,5 @@
 // What may be wrong with a text.
-ghost use Rattle.std.specs.Prelude.{◌≡◌, Some, codes};
+ghost use Rattle.std.specs.Prelude.{◌≡◌, Some};
 ghost use Rattle.process_text.specs.declared.fault.Fault.TheVariants.{NoMemory};
 ghost use Rattle.process_text.specs.Texts.{what_word};
 

@@ -1,8 +1,8 @@
 // Printing a process.
-ghost use Rattle.std.specs.Prelude.{◌≡◌, ◌∷◌, ◌++◌, [], ℕ, List, IfOk, OnOk, codes, decimal, None, ◌<◌, vec_len};
+ghost use Rattle.std.specs.Prelude.{◌≡◌, ◌∷◌, ◌++◌, [], IfOk, OnOk, decimal, None, ◌<◌, vec_len};
 ghost use Rattle.process_tree.specs.declared.step.Step.{Step};
 ghost use Rattle.process_tree.specs.Making.{tree_fault};
-ghost use Rattle.text_words.specs.Marks.{kind_word, mark_word, settings, setting_word};
+ghost use Rattle.text_words.specs.Marks.{kind_word, mark_word, settings};
 ghost use Rattle.text_words.specs.Words.{words_of};
 ghost use Rattle.process_text.specs.Grammar.{step_pieces, block_pieces, pieces_of_process, process_of, IsReading};
 ghost use Rattle.process_text.specs.Canonical.{setting_words, settings_words, call_words, step_words, canonical_words, spaced};

@@ -1,12 +1,10 @@
 // Processes of a text.
-ghost use Rattle.std.specs.Prelude.{Option, ◌≡◌, ◌∷◌, ◌++◌, [], ◌⊎◌, ◌<◌, ◌≤◌, ◌+◌, ℕ, List, true, false, not, None, Some, IfOk};
-ghost use Rattle.std.specs.Prelude.{IfErr, OnOk, OnErr, length, codes};
+ghost use Rattle.std.specs.Prelude.{◌≡◌, ◌∷◌, ◌++◌, [], ◌⊎◌, ◌<◌, ◌+◌, ℕ, List, false, None, Some, IfOk};
+ghost use Rattle.std.specs.Prelude.{IfErr, OnOk, length, codes};
 ghost use Rattle.std.specs.List.{list_any};
 ghost use Rattle.process_tree.specs.Making.{same_text, tree_fault};
-ghost use Rattle.process_tree.specs.Name.{is_name};
 ghost use Rattle.process_tree.specs.declared.tree.Named.{Named};
-ghost use Rattle.text_words.specs.Words.{words_of};
-ghost use Rattle.process_text.specs.Grammar.{Writes, block_pieces, process_pieces, process_names, IsReading};
+ghost use Rattle.process_text.specs.Grammar.{Writes, block_pieces, process_pieces, IsReading};
 ghost use Rattle.process_text.specs.FirstFault.{told, told_from, at_process_name, between_processes, in_block, first_fault};
 ghost use Rattle.process_text.specs.Leading.{with_names};
 

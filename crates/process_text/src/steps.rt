@@ -1,10 +1,10 @@
 // Steps of a text.
-ghost use Rattle.std.specs.Prelude.{◌≡◌, ◌∷◌, ◌++◌, [], ◌⊎◌, ◌≤◌, ◌<◌, ℕ, length, List, true, false, not, Some, IfOk, IfErr, OnOk};
+ghost use Rattle.std.specs.Prelude.{◌≡◌, ◌∷◌, ◌++◌, [], ◌⊎◌, ◌<◌, ℕ, length, List, true, false, Some, IfOk, IfErr, OnOk};
 ghost use Rattle.std.specs.Prelude.{decimal};
 ghost use Rattle.std.specs.Fmt.{signed_decimal};
 ghost use Rattle.std.specs.List.{list_any};
 ghost use Rattle.process_tree.specs.Name.{is_name};
-ghost use Rattle.process_tree.specs.Making.{same_text, is_amount, has_good_options};
+ghost use Rattle.process_tree.specs.Making.{same_text, is_amount};
 ghost use Rattle.process_tree.specs.declared.step.Step.{Step};
 ghost use Rattle.process_tree.specs.declared.step.StepKind.{StepKind};
 ghost use Rattle.text_words.specs.declared.marks.Setting.{Setting};

@@ -1,5 +1,5 @@
 // Telling what there is to say.
-ghost use Rattle.std.specs.Prelude.{◌≡◌, ◌≤◌, ◌++◌, ◌⊎◌, codes};
+ghost use Rattle.std.specs.Prelude.{◌≡◌, ◌≤◌, ◌⊎◌};
 ghost use Rattle.command_refusals.specs.declared.refusal.Refusal.TheVariants.{NoMemory};
 ghost use Rattle.serve_run.specs.Serve.{OnEnding};
 ghost use Rattle.process_top.specs.Said.{IsResultTold};

@@ -1,10 +1,8 @@
 // Play, turn by turn.
-ghost use Rattle.std.specs.Prelude.{◌≡◌, ◌<◌, ◌++◌, ◌∷◌, [], None, true, length, take, IfOk, OnOk};
-ghost use Rattle.process_tree.specs.Blocks.{outline};
+ghost use Rattle.std.specs.Prelude.{◌≡◌, ◌<◌, None, true, IfOk};
 ghost use Rattle.process_tree.specs.Making.{tree_fault};
-ghost use Rattle.process_tree.specs.Order.{Each};
 ghost use Rattle.process_tree.specs.Shape.{shape_of, goes_on_to, last_of};
-ghost use Rattle.process_tree.specs.Play.{play, asks, answered, go_back, fallback_of};
+ghost use Rattle.process_tree.specs.Play.{play, asks, answered, go_back};
 ghost use Rattle.process_tree.specs.Stands.{stand_of, arrive_at, IsNext, IsOpen};
 
 use crate::{Fallback, Outcome, Place, Places, Played, Tree, fixed_len, kind_of};

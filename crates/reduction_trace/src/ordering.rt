@@ -1,6 +1,6 @@
 // The serial phase.
-ghost use Rattle.std.specs.Prelude.{◌≡◌, ◌<◌, ◌≤◌, ◌+◌, [], ◌∷◌, List, ℕ, length, nat_eq, None, IfOk, OnOk};
-ghost use Rattle.schedule_model.specs.PrintedTrace.{first_to_end, first_place};
+ghost use Rattle.std.specs.Prelude.{◌≡◌, ◌<◌, ◌≤◌, ◌+◌, [], ◌∷◌, List, ℕ, length, IfOk, OnOk};
+ghost use Rattle.schedule_model.specs.PrintedTrace.{first_to_end};
 ghost use Rattle.reduction_trace.specs.Phases.{serial_phase_behind};
 
 use crate::places::{add_move, first_of, remove};

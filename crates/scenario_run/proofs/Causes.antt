@@ -21,7 +21,3 @@ module _ {X : Type 0} (f : ℕ → Option X) (i k m : ℕ) (more_left : k ≡ su
 pub so_ok : {T E : Type 0} (r : Result T E) (P Q : T → Type 0) → ((x : T) → P x → Q x) → IfOk r P → IfOk r Q
 so_ok (Ok x) P Q f p = f x p
 so_ok (Err e) P Q f p = tt
-
-pub two_ok : {T E : Type 0} (r : Result T E) (P Q S : T → Type 0) → ((x : T) → P x → Q x → S x) → IfOk r P → IfOk r Q → IfOk r S
-two_ok (Ok x) P Q S f p q = f x p q
-two_ok (Err e) P Q S f p q = tt

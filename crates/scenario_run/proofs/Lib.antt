@@ -15,6 +15,7 @@ pub mod RunDue
 pub mod RunParts
 pub mod SaidFirst
 pub mod SaidOfNone
+pub mod SaidOutcomes
 pub mod ScenarioPlans
 pub mod Starts
 pub mod Stopped

@@ -1,6 +1,6 @@
 -- The command `run`: the processes of a scenario start in the order of its text, on files that are opened for it, and then they are
 -- run.
-use Rattle.std.specs.Prelude.{◌≡◌, ◌⊎◌, ℕ, List, [], ◌∷◌, ◌++◌, Some, None, Result, Ok, Err, ⊤}
+use Rattle.std.specs.Prelude.{◌≡◌, ◌≢◌, ◌⊎◌, ℕ, List, [], ◌∷◌, ◌++◌, Some, None, Result, Ok, Err, ⊤}
 use Rattle.process_flow.specs.Causes.{Rose}
 use Rattle.process_tree.specs.declared.plan.Plan.{Plan}
 use Rattle.schedule_model.specs.declared.history.History.{History}
@@ -18,6 +18,8 @@ use Rattle.process_engine.specs.declared.fitting.StartLimit.TheVariants as limit
 use Rattle.engine_calls.specs.Acknowledged.{IsOneAhead}
 use Rattle.engine_calls.specs.GateAnswers.{AskedGate}
 use Rattle.engine_calls.specs.Opened.{AreKept, AreOnlyOpened}
+use Rattle.worker_gate.specs.declared.alone.RunOutcome.{RunOutcome}
+use Rattle.worker_gate.specs.declared.alone.RunOutcome.TheVariants as outcomes
 use Rattle.worker_gate.specs.ManyGates.{AskedGates, WasRunByGates}
 use Rattle.command_refusals.specs.declared.faults.Quantity.TheVariants.{Processes, Active, Entries}
 use Rattle.command_refusals.specs.declared.refusal.Refusal.{Refusal}
@@ -90,13 +92,24 @@ IsCutOff gates c plans before after r =
     × (((r ≡ NoMemory) × IsRun gates c h plans started now Settled before after)
     ⊎ ((r ≡ DiskFault) × IsRun gates c h plans started now Closed before after × Rose before.faults after.faults))
 
--- All have ended, and the report of the history is printed; or this process is stuck, since its next piece was refused as often as
--- it may be tried, and behind the report stands a line that says so.
-abbrev pub SaysRun : Catalog → CoreState → Said → Type 0
-SaysRun c now said =
-    ((said.status ≡ statuses.Done) × (active (history_of now) ≡ []) × (said.text.items ≡ report_in c now))
+-- All have ended, and this text is printed; or this process is stuck, since its next piece was refused as often as it may be tried,
+-- and behind the text stands a line that says so.
+abbrev pub SaysAtEnd : List ℕ → CoreState → Said → Type 0
+SaysAtEnd text now said =
+    ((said.status ≡ statuses.Done) × (active (history_of now) ≡ []) × (said.text.items ≡ text))
     ⊎ ((i : ℕ) × (said.status ≡ statuses.Exhausted) × ((answer_in now next).reply ≡ next_is (stuck i)) × HasUsedUp now i
-    × (said.text.items ≡ report_in c now ++ exhausted_line now i))
+    × (said.text.items ≡ text ++ exhausted_line now i))
+
+-- What is said at the end of a run: the report of its history.
+abbrev pub SaysRun : Catalog → CoreState → Said → Type 0
+SaysRun c now said = SaysAtEnd (report_in c now) now said
+
+-- What is said of a run that came to this outcome, where Says holds of what is said at its end: only a call of the rack that failed
+-- or want of memory keeps it from an end.
+abbrev pub IsSaidOf : RunOutcome → (Said → Type 0) → Result Said Refusal → Type 0
+IsSaidOf outcome Says (Ok said) = (outcome ≢ outcomes.DiskFault) × Says said
+IsSaidOf outcome Says (Err r) =
+    ((r ≡ NoMemory) × (outcome ≢ outcomes.DiskFault)) ⊎ ((r ≡ DiskFault) × (outcome ≡ outcomes.DiskFault))
 
 -- What there is to say of a run of the processes of a scenario: its report; or it was cut off.
 abbrev pub IsRunOf : AskedGates → Catalog → List Plan → Files → Files → Result Said Refusal → Type 0

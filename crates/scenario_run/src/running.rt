@@ -22,7 +22,7 @@ ghost use Rattle.command_input.specs.Inputs.{input};
 ghost use Rattle.command_input.specs.FilesLeft.{AreLeft, files};
 ghost use Rattle.command_input.specs.Early.{comes_before_files};
 ghost use Rattle.scenario_run.specs.Completeness.{IsRunComplete};
-ghost use Rattle.scenario_run.specs.Run.{HasGone, IsRefusedOn, IsRunDue, IsRunOf, SaysRun, limit_refusal};
+ghost use Rattle.scenario_run.specs.Run.{HasGone, IsRefusedOn, IsRunDue, IsRunOf, IsSaidOf, SaysRun, limit_refusal};
 ghost use Rattle.scenario_run.specs.Stops.{IsStopped};
 
 use crate::opening::opened;
@@ -62,11 +62,7 @@ fn said_of<R: Rack + Drop, B: Resource>(
 ) -> Result<Said, Refusal>
     requires outcome { IsOutcome engine.old outcome }
     requires ready { outcome ≢ RunOutcome.DiskFault → IsReady B.Resource engine.old }
-    ensures said { IfOk result (SaysRun engine.old.catalog engine.old.core) }
-    ensures settled { IfOk result (λ s. outcome ≢ RunOutcome.DiskFault) }
-    ensures refused { IfErr result
-        (λ r. ((r ≡ Refusal.NoMemory) × (outcome ≢ RunOutcome.DiskFault))
-        ⊎ ((r ≡ Refusal.DiskFault) × (outcome ≡ RunOutcome.DiskFault))) }
+    ensures said { IsSaidOf outcome (SaysRun engine.old.catalog engine.old.core) result }
     ensures left { engine.new ≡ engine.old }
 {
     match outcome {

@@ -1,10 +1,9 @@
 // Reduction steps applied to a list.
-ghost use Rattle.std.specs.Prelude.{◌≡◌, ◌<◌, ◌≤◌, ◌-◌, ◌+◌, suc, ◌∷◌, ◌++◌, length, Option, Some, None, MatchOption, List};
+ghost use Rattle.std.specs.Prelude.{◌≡◌, ◌<◌, ◌≤◌, ◌-◌, ◌+◌, suc, ◌∷◌, ◌++◌, length, Option, Some, None, List};
 ghost use Rattle.std.specs.Prelude.{vec_capacity};
 ghost use Rattle.std.specs.List.{list_all};
 ghost use Rattle.process_tree.specs.declared.entry.Entry.{Entry};
 ghost use Rattle.process_tree.specs.Conflicts.{operations_in, do_conflict};
-ghost use Rattle.process_tree.specs.Order.{Each};
 ghost use Rattle.schedule_model.specs.Conflict.{conflict};
 ghost use Rattle.schedule_model.specs.Reduction.{applied, can_change, is_pair, carried_on, carried_back, cancelled};
 ghost use Rattle.schedule_rules.specs.Applying.{AreKnown, Answers};

@@ -1,5 +1,5 @@
 // The line `flush`.
-ghost use Rattle.std.specs.Prelude.{◌≡◌, ◌≢◌, ◌++◌, ◌∷◌, [], List, Err, IfOk, IfErr, OnOk};
+ghost use Rattle.std.specs.Prelude.{◌≡◌, ◌≢◌, ◌++◌, [], List, Err, IfOk, IfErr, OnOk};
 ghost use Rattle.process_flow.specs.Causes.{Rose};
 ghost use Rattle.process_text.specs.Canonical.{line_of};
 ghost use Rattle.process_report.specs.Lines.{text_of};

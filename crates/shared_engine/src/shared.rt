@@ -1,5 +1,5 @@
 // The engine in a desk.
-ghost use Rattle.std.specs.Prelude.{◌≡◌, ℕ, List, [], ◌∷◌, ◌++◌, ◌||◌, ◌&&◌, true, length, IfOk};
+ghost use Rattle.std.specs.Prelude.{◌≡◌, List, [], ◌∷◌, ◌++◌, ◌||◌, ◌&&◌, true, IfOk};
 ghost use Rattle.machine_model.specs.declared.kept.Work.TheVariants.{End};
 ghost use Rattle.engine_steps.specs.Engines.{EngineState};
 ghost use Rattle.engine_calls.specs.GateAnswers.{IsGiven, IsHandedAs};

@@ -1,7 +1,6 @@
 // The bytes of a store's records.
-ghost use Rattle.std.specs.Prelude.{◌≡◌, ◌<◌, ◌≤◌, ◌+◌, take, drop, length, Some, None, IsTrue, if◌then◌else◌, MatchOption};
+ghost use Rattle.std.specs.Prelude.{◌≡◌, ◌<◌, ◌≤◌, ◌+◌, take, drop, length, Some, None, if◌then◌else◌};
 ghost use Rattle.std.specs.Int.{from_le_bytes, w16, w32, w64};
-ghost use Rattle.process_tree.specs.Making.{same_text};
 ghost use Rattle.subsystem_store.specs.Bodies.{prepared_bytes, committed_bytes, verb_of, effect_at, is_amount, record_of};
 ghost use Rattle.subsystem_store.specs.Bodies.{prepared_of, committed_of};
 

@@ -1,6 +1,6 @@
 // Which effects belong together.
-ghost use Rattle.std.specs.Prelude.{◌≡◌, ◌<◌, length, take, Some, None, MatchOption, remove, get_or};
-ghost use Rattle.subsystem_store.specs.Values.{take_last, same_call, is_of};
+ghost use Rattle.std.specs.Prelude.{◌≡◌, ◌<◌, Some, None};
+ghost use Rattle.subsystem_store.specs.Values.{same_call, is_of};
 ghost use Rattle.subsystem_store.specs.Order.{is_above};
 ghost use Rattle.subsystem_store.specs.Matching.{last_place};
 

@@ -1,7 +1,6 @@
 // The words of a process that are no step's, and what words mean in a block.
-ghost use Rattle.std.specs.Prelude.{◌≡◌, codes, true, IfSome};
-ghost use Rattle.process_tree.specs.Making.{same_text};
-ghost use Rattle.text_words.specs.Marks.{kind_word, kind_of_word, mark_word, setting_word, default_of, is_setting_number, opening};
+ghost use Rattle.std.specs.Prelude.{◌≡◌, true, IfSome};
+ghost use Rattle.text_words.specs.Marks.{kind_word, kind_of_word, mark_word, setting_word, default_of, opening};
 ghost use Rattle.text_words.specs.Marks.{closing, closes, mark_or, meaning, IsWordOf, expected_at};
 
 use crate::{Expected, is_word};

@@ -1,5 +1,5 @@
 // Names that are taken.
-ghost use Rattle.std.specs.Prelude.{◌≡◌, ◌++◌, ◌∷◌, [], length, map, OnOk, IfOk};
+ghost use Rattle.std.specs.Prelude.{◌≡◌, ◌++◌, ◌∷◌, [], length, map, OnOk};
 ghost use Rattle.std.specs.List.{list_any};
 ghost use Rattle.process_tree.specs.Making.{same_text};
 

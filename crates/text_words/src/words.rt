@@ -1,5 +1,5 @@
 // Words of a text.
-ghost use Rattle.std.specs.Prelude.{◌≡◌, [], ◌∷◌, ◌≤◌, ◌<◌, length, MatchOption, IfSome, IfNone};
+ghost use Rattle.std.specs.Prelude.{◌≡◌, [], ◌∷◌, ◌≤◌, ◌<◌, length, MatchOption, IfNone};
 ghost use Rattle.process_tree.specs.Making.{same_text};
 ghost use Rattle.text_words.specs.Words.{is_blank, words_of, word_size, begins};
 

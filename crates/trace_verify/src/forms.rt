@@ -1,5 +1,5 @@
 // Lines by their forms.
-ghost use Rattle.std.specs.Prelude.{◌≡◌, Some, option_and_then};
+ghost use Rattle.std.specs.Prelude.{◌≡◌, Some};
 ghost use Rattle.std.specs.Option.{option_map};
 ghost use Rattle.trace_verify.specs.Forms.{form_of_title, is_number, number_of, pair_of, mode_of_word, pair_from, pair_line};
 ghost use Rattle.trace_verify.specs.Forms.{named_act, placed_act, act_from, act_of, is_start, without_act, event_of, event_line};

@@ -1,6 +1,5 @@
 // The plain gate.
 ghost use Rattle.std.specs.Prelude.{◌≡◌, ◌≤◌, ◌+◌, ◌-◌, ◌^◌, min};
-ghost use Rattle.process_flow.specs.Causes.{Rose};
 ghost use Rattle.worker_gate.specs.Gates.{plain_answer};
 
 use process_core::Piece;

@@ -1,12 +1,14 @@
-use Rattle.std.proofs.Common.{◌≡◌, ◌≢◌, subst, sym}
+use Rattle.std.proofs.Common.{◌≡◌, ◌⊎◌, inl, inr, ℕ, refl, subst, sym}
+use Rattle.process_flow.specs.Causes.{Rose}
 use Rattle.history_files.specs.Standing.{EachFits}
 use Rattle.engine_steps.specs.Engines.{EngineState}
-use Rattle.engine_steps.specs.declared.engines.Phase.TheVariants.{Settled}
+use Rattle.engine_steps.specs.declared.engines.Phase.TheVariants.{Settled, Closed}
 use Rattle.worker_gate.specs.ManyGates.{RanByGates, asked_gates}
-use Rattle.worker_gate.specs.declared.alone.RunOutcome.TheVariants.{DiskFault}
+use Rattle.worker_gate.specs.Running.{IsOutcome}
 use Rattle.thread_workers.proofs.ByHistory.{ran_by_history}
+use Rattle.command_refusals.specs.declared.refusal.Refusal.TheVariants as refusals
 use Rattle.scenario_run.specs.Run.{SaysRun}
-use Rattle.scenario_run.proofs.Causes.{two_ok}
+use Rattle.scenario_run.proofs.SaidOutcomes.{said_err, said_ok}
 use Rattle.scenario_run.proofs.running.run_started.Goals as goal
 
 pub returns-clause-ran : goal.returns-clause-ran
@@ -17,12 +19,32 @@ returns-clause-ran g c =
 
 pub returns-clause-said : goal.returns-clause-said
 returns-clause-said g c =
-    let mid = c.run_workers-engine.result.engine in
+    let ran = c.run_workers-engine in
+    let mid = ran.result.engine in
     let new = c.said_of-found.new.engine in
     let left = sym c.said_of-found.ensures.left in
-    two_ok c.said_of-found.result (SaysRun mid.catalog mid.core) (λ s. c.run_workers-engine.result.outcome ≢ DiskFault) (λ s. (new.phase ≡ Settled) × SaysRun new.catalog new.core s)
-    (λ s says on. (subst (λ (e : EngineState g.row.R.Denot g.row.B.Denot). e.phase ≡ Settled) left (c.run_workers-engine.ensures.ready on).settled, subst (λ (e : EngineState g.row.R.Denot g.row.B.Denot). SaysRun e.catalog e.core s) left says))
-    c.said_of-found.ensures.said c.said_of-found.ensures.settled
+    said_ok ran.result.outcome (SaysRun mid.catalog mid.core) (λ s. (new.phase ≡ Settled) × SaysRun new.catalog new.core s) c.said_of-found.result
+    (λ on s says. (
+      subst (λ (e : EngineState g.row.R.Denot g.row.B.Denot). e.phase ≡ Settled) left (ran.ensures.ready on).settled,
+      subst (λ (e : EngineState g.row.R.Denot g.row.B.Denot). SaysRun e.catalog e.core s) left says,
+    )) c.said_of-found.ensures.said
+
+pub returns-clause-refused : goal.returns-clause-refused
+returns-clause-refused g c =
+    let ran = c.run_workers-engine in
+    let outcome = ran.result.outcome in
+    let faults : EngineState g.row.R.Denot g.row.B.Denot → ℕ = λ e. g.R.Rack.faults e.files.rack in
+    let left = sym c.said_of-found.ensures.left in
+    said_err outcome (SaysRun ran.result.engine.catalog ran.result.engine.core)
+    (λ r. ((r ≡ refusals.NoMemory) × (c.said_of-found.new.engine.phase ≡ Settled))
+    ⊎ ((r ≡ refusals.DiskFault) × (c.said_of-found.new.engine.phase ≡ Closed) × Rose (faults c.args.engine) (faults c.said_of-found.new.engine)))
+    c.said_of-found.result
+    (λ on. inl (refl, subst (λ (e : EngineState g.row.R.Denot g.row.B.Denot). e.phase ≡ Settled) left (ran.ensures.ready on).settled))
+    (λ fault. inr (
+      refl,
+      subst (λ (e : EngineState g.row.R.Denot g.row.B.Denot). e.phase ≡ Closed) left (subst (IsOutcome ran.result.engine) fault ran.ensures.outcome),
+      subst (λ (e : EngineState g.row.R.Denot g.row.B.Denot). Rose (faults c.args.engine) (faults e)) left (ran.ensures.fault fault),
+    )) c.said_of-found.ensures.said
 
 pub returns-clause-fits : goal.returns-clause-fits
 returns-clause-fits g c =
