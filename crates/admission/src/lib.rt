@@ -1,8 +1,8 @@
 //! Whether the next piece of a process may be handed out.
 //!
 //! `admit` is the least of what stands against the piece by the rules A0 to A5 (`specs/Admission`), over the holdings for which
-//! the tables of `hold_tables` stand, and `victim` is who goes back where nothing can go on. The layer above asks for each
-//! process that may be next. No call takes memory.
+//! the tables of `hold_tables` stand. The layer above asks for each process that may be next. `victim` is for callers of this crate
+//! alone: `process_core` finds its victim itself, as it asks from the greatest process down. No call takes memory.
 #![tactic(auto)]
 
 mod admission;

@@ -24,7 +24,8 @@ fn greater_if(process: u32, may_go_back: bool, other: Option<u32>) -> Option<u32
     }
 }
 
-/// The victim among blocked processes, each with whether it has not begun to complete: the greatest that has not.
+/// The victim among blocked processes, each with whether it has not begun to complete: the greatest that has not. `process_core`
+/// doesn't call it.
 pub fn victim(blocked: &[(u32, bool)]) -> Option<u32>
     ensures { result ≡ victim blocked.now }
 {

@@ -8,10 +8,7 @@ use Rattle.process_tree.specs.declared.plan.Plan.{Plan}
 use Rattle.schedule_model.specs.declared.event.Event.{Event}
 use Rattle.schedule_model.specs.declared.history.History.{History}
 use Rattle.schedule_model.specs.Histories.{active}
-use Rattle.machine_model.specs.Calls.{next, next_is}
-use Rattle.machine_model.specs.Replies.{stuck}
 use Rattle.commute_table.specs.declared.catalog.Catalog.{Catalog}
-use Rattle.process_core.specs.Answers.{answer_in}
 use Rattle.process_core.specs.Cores.{CoreState, history_of, opened_on}
 use Rattle.process_journal.specs.Bodies.{no_history}
 use Rattle.history_files.specs.Creating.{first_used}
@@ -33,7 +30,6 @@ use Rattle.command_input.specs.declared.scenario.NoPlans.{NoPlans}
 use Rattle.command_input.specs.FilesLeft.{Files, before_files}
 use Rattle.command_input.specs.Scenarios.{all_refusing, scenario_tests, IsBound}
 use Rattle.init_run.specs.Init.{empty_test, AreMade, AreNotMade}
-use Rattle.scenario_run.specs.Reports.{HasUsedUp, exhausted_line}
 use Rattle.scenario_run.specs.Run.{HasGone, SaysAtEnd, limit_refusal, one_gate}
 use Rattle.scenario_run.specs.Scenario.{IsSaidOfNone}
 use Rattle.scenario_run.specs.Starting.{started_on}

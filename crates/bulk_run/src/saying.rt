@@ -1,5 +1,5 @@
 // What there is to say of a run.
-ghost use Rattle.std.specs.Prelude.{◌≡◌, ◌≢◌, ◌⊎◌, ◌++◌, IfOk, IfErr};
+ghost use Rattle.std.specs.Prelude.{◌≡◌, ◌≢◌, ◌++◌, IfOk};
 ghost use Rattle.machine_model.specs.Calls.{next, next_is};
 ghost use Rattle.machine_model.specs.Replies.{stuck};
 ghost use Rattle.machine_model.specs.CallLaws.{IsStuck};

@@ -14,7 +14,7 @@ ghost use Rattle.cascade.specs.Sets.{done, marked};
 ghost use Rattle.cascade.specs.Walking.{IsOnTheWay, IsWithin, last_entries, staying, steps_among};
 
 use crate::drag::drag_along;
-use crate::marks::{Mark, bring_in, next_waiting};
+use crate::marks::{Mark, next_waiting};
 use crate::members::Members;
 use hold_tables::Holds;
 use process_tree::Entry;

@@ -98,7 +98,7 @@ fn admitted(core: &mut Core, pieces: &mut Vec<Piece>, i: u32) -> Result<Answer, 
     ensures conflicts { IfOk result (λ _. core.new.conflicts ≡ core.old.conflicts) }
 {
     let reply = core.admit(i);
-    core.is_run();
+    core.run_holds();
     match reply {
         Admit::Piece(piece) => {
             let answer = answer_of(&piece);
@@ -120,7 +120,7 @@ fn chosen(core: &mut Core, pieces: &mut Vec<Piece>) -> Result<Answer, AllocError
     ensures conflicts { IfOk result (λ _. core.new.conflicts ≡ core.old.conflicts) }
 {
     let reply = core.next();
-    core.is_run();
+    core.run_holds();
     match reply {
         Next::Piece(piece) => {
             let answer = answer_of(&piece);

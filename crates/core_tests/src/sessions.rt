@@ -15,7 +15,7 @@ use std::test::Fail;
 fn opened_again(alloc: Global, core: &Core, conflicts: Conflicts) -> Result<Core, Fail>
     requires { conflicts ≡ core.now.conflicts }
 {
-    core.is_run();
+    core.run_holds();
     let history = core.history();
     let [plan] = history.plans.as_slice() else {
         return Err("not one process".into());

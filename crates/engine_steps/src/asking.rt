@@ -13,7 +13,6 @@ ghost use Rattle.engine_steps.specs.declared.engines.Phase.TheVariants as phase;
 use crate::{Closed, Engine};
 use process_core::{Aborted, Admit, Next, Piece, Refusal};
 use process_disk::Rack;
-use resource_box::Resource;
 
 impl<R: Rack + Drop, B: Drop> Engine<R, B> {
     /// Hands out the next piece of a process, or says why not.

@@ -91,7 +91,7 @@ impl<R: Rack + Drop, B: Resource> Engine<R, B> {
     {
         events_add_effects();
         journals_keep_histories();
-        self.core.is_run();
+        self.core.run_holds();
         match self.files.record(entry) {
             Ok(()) => Ok(self.core.start_in(room)),
             Err(DiskFault) => {
@@ -107,7 +107,7 @@ impl<R: Rack + Drop, B: Resource> Engine<R, B> {
     fn next_number(&self) -> u32
         ensures { result ≡ length self.now.core.plans + 1 }
     {
-        self.core.is_run();
+        self.core.run_holds();
         self.core.history().plans.as_slice().len() as u32 + 1
     }
 

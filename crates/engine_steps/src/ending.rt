@@ -44,7 +44,7 @@ impl<R: Rack + Drop, B: Resource> Engine<R, B> {
     {
         journals_keep_histories();
         events_add_effects();
-        self.core.is_run();
+        self.core.run_holds();
         let process = piece.process();
         fits_its_bytes(process);
         match self.files.record(&Record::End(process)) {

@@ -81,8 +81,8 @@ impl<R: Rack + Drop, B: Drop> Engine<R, B> {
             EachImage (R.disk self.now.files.rack) (R.disk self.now.files.rack).moment
             (AreExactly self.now.catalog (full_history self.now.core)) }
     {
-        self.core.is_run();
-        self.files.are_sound();
+        self.core.run_holds();
+        self.files.soundness_holds();
     }
 
     /// What is going on.
@@ -152,7 +152,7 @@ impl<R: Rack + Drop, B: Drop> Engine<R, B> {
     {
         match self.phase {
             Phase::Closed => {
-                self.core.is_run();
+                self.core.run_holds();
                 Err(Closed(self.core.kept().len() as u32))
             }
             Phase::Settled | Phase::UnderWay => Ok(()),

@@ -50,7 +50,7 @@ fn is_in_doubt<R: Rack + Drop, B: Resource>(files: &Files<R, B>) -> bool
     ensures settled { result ≡ false → HasNoDoubt files.now.stores }
     ensures some { HasNoDoubt files.now.stores → result ≡ false }
 {
-    files.are_stores();
+    files.stores_hold();
     let mut q = 0;
     while q < 8 {
         if files.in_doubt(q).is_some() {
@@ -114,7 +114,7 @@ impl<R: Rack + Drop, B: Resource> Engine<R, B> {
         ensures fits { EachFits B.Resource self.new.files.stores }
         ensures rack { LeavesImages R.Rack self.old.files.rack self.new.files.rack (IsErr result) }
     {
-        self.files.are_sound();
+        self.files.soundness_holds();
         if !has_effect(group) {
             self.phase = Phase::UnderWay;
             return Ok(());
@@ -148,7 +148,7 @@ impl<R: Rack + Drop, B: Resource> Engine<R, B> {
         ensures rack { LeavesImages R.Rack self.old.files.rack self.new.files.rack (IsErr result) }
     {
         books_come_to_groups::<B>();
-        self.core.is_run();
+        self.core.run_holds();
         self.files.unstage_records();
         stage_each(&mut self.files, events);
         match self.files.record_staged() {
@@ -178,7 +178,7 @@ impl<R: Rack + Drop, B: Resource> Engine<R, B> {
         ensures rack { LeavesImages R.Rack self.old.files.rack self.new.files.rack (IsErr result) }
     {
         books_come_to_groups::<B>();
-        self.files.are_sound();
+        self.files.soundness_holds();
         if !is_in_doubt(&self.files) {
             return Ok(());
         }
@@ -200,7 +200,7 @@ impl<R: Rack + Drop, B: Resource> Engine<R, B> {
         ensures reply { (answer_in self.old.core (finish piece.piece.number Done)).reply ≡ finished (effected result) }
     {
         journals_keep_histories();
-        self.core.is_run();
+        self.core.run_holds();
         fits_its_bytes(piece.process(), piece.step());
         self.core.effected(piece)
     }

@@ -18,7 +18,7 @@ impl<R: Rack + Drop, B: Resource> Engine<R, B> {
         requires { q < 8 }
         ensures { self.now.phase ≡ phase.Settled → result.now ≡ effects self.now.catalog.ops (full_history self.now.core) q }
     {
-        self.files.are_sound();
+        self.files.soundness_holds();
         self.files.book(q)
     }
 

@@ -73,7 +73,7 @@ impl<R: Rack + Drop, B: Resource> Engine<R, B> {
         };
         match Files::create(alloc, parts, &catalog) {
             Ok(files) => {
-                files.are_sound();
+                files.soundness_holds();
                 Ok(Engine {
                     core,
                     catalog,

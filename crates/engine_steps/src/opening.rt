@@ -92,7 +92,7 @@ impl<R: Rack + Drop, B: Resource> Engine<R, B> {
     {
         match open_files(alloc, parts) {
             Ok((files, catalog, history)) => {
-                files.are_sound();
+                files.soundness_holds();
                 engine_on(alloc, files, catalog, history)
             }
             Err(refused) => Err(refused),

@@ -137,7 +137,7 @@ impl<R: Rack + Drop, B: Resource> Engine<R, B> {
     pub(crate) fn next_effect(&self, entry: &Entry) -> Effect
         ensures { result ≡ next_effect self.now.catalog.ops (full_history self.now.core) entry.now }
     {
-        self.core.is_run();
+        self.core.run_holds();
         let history = self.core.history();
         let number = acts_count(history.events.as_slice());
         effect_of(
@@ -177,7 +177,7 @@ impl<R: Rack + Drop, B: Resource> Engine<R, B> {
         next_effects_may_be_prepared();
         events_add_effects();
         books_come_to_acts::<B>();
-        self.files.are_stores();
+        self.files.stores_hold();
         let effect = self.next_effect(entry);
         let answer = self.files.prepare(q, effect);
         self.phase = phase_after(&answer);
@@ -202,7 +202,7 @@ impl<R: Rack + Drop, B: Resource> Engine<R, B> {
         ensures rack { LeavesImages R.Rack self.old.files.rack self.new.files.rack (result ≡ PreparePiece.DiskFault) }
     {
         journals_keep_histories();
-        self.core.is_run();
+        self.core.run_holds();
         let entry = act_of(self.core.history().plans.as_slice(), &piece);
         fits_its_bytes(entry);
         let subsystem = subsystem_of(self.catalog.ops.as_slice(), entry.op);
@@ -234,7 +234,7 @@ impl<R: Rack + Drop, B: Resource> Engine<R, B> {
         ensures rack { LeavesImages R.Rack self.old.files.rack self.new.files.rack (IsErr result) }
     {
         books_come_to_acts::<B>();
-        self.core.is_run();
+        self.core.run_holds();
         let Prepared {
             piece,
             entry,
@@ -267,7 +267,7 @@ impl<R: Rack + Drop, B: Resource> Engine<R, B> {
     {
         events_add_effects();
         books_come_to_acts::<B>();
-        self.core.is_run();
+        self.core.run_holds();
         let Recorded {
             piece,
             entry: _,

@@ -23,15 +23,15 @@ impl<R: Rack + Drop, B: Resource> Engine<R, B> {
     pub fn acts(&self) -> u32
         ensures { result ≡ length (acts (history_of self.now.core)) }
     {
-        self.core.is_run();
+        self.core.run_holds();
         acts_count(self.core.history().events.as_slice())
     }
 
     /// Does nothing. It says that there are eight stores, each of its kind and on its file.
-    pub fn has_stores(&self)
+    pub fn stores_hold(&self)
         ensures { AreStores self.now.files.stores }
     {
-        self.files.are_stores();
+        self.files.stores_hold();
     }
 
     /// The subsystem that a step is on.
@@ -48,7 +48,7 @@ impl<R: Rack + Drop, B: Resource> Engine<R, B> {
         requires settled { self.now.phase ≡ phase.Settled }
         ensures { result ≡ bars_act self.now.catalog.ops (full_history self.now.core) (act_of self.now.core.plans piece.now.piece) }
     {
-        self.files.are_stores();
+        self.files.stores_hold();
         let entry = act_of(self.core.history().plans.as_slice(), piece);
         let q = subsystem_of(self.catalog.ops.as_slice(), entry.op);
         let effect = self.next_effect(&entry);

@@ -105,7 +105,7 @@ fn put_group<R: Rack + Drop, B: Resource>(
     next_effects_may_be_prepared();
     journals_keep_histories();
     engine.invariant_holds();
-    engine.has_stores();
+    engine.stores_hold();
     let group = group_of(engine, events);
     effects_fit(&group);
     engine.prepare_group(&group)?;

@@ -29,7 +29,8 @@ const REPORTS: [&[u8]; 5] = [
     b"conflicts\nadd take\ntake take\nhistory\nstart 1 a\nstart 2 b\ndo 1.x add\nundo 1.x add\nend 1\nend 2\ncompletion\n\
     ends\n1 a nothing\n2 b nothing\ncauses\n1 restart\n2 restart\ntrace\ncancel 1\nserial\n",
     b"conflicts\nadd take\ntake take\nhistory\nstart 1 a\nstart 2 b\ndo 1.x add\ndo 2.u take\n\
-    undo 2.u take\nundo 1.x add\nend 1\nend 2\ncompletion\nends\n1 a nothing\n2 b nothing\ncauses\n1 restart\n2 restart\ntrace\ncancel 2\ncancel 1\nserial\n",
+    undo 2.u take\nundo 1.x add\nend 1\nend 2\ncompletion\nends\n1 a nothing\n2 b nothing\n\
+    causes\n1 restart\n2 restart\ntrace\ncancel 2\ncancel 1\nserial\n",
 ];
 
 // The place of a report among them, or their count.

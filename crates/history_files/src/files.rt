@@ -52,9 +52,9 @@ impl<R: Rack + Drop, B: Drop> Files<R, B> {
         }
     }
 
-    /// The journal is file 0, and there are eight stores, in order. Files that stand for a history are sound for it, and so is each
-    /// image of them from now on.
-    pub fn are_sound(&self)
+    /// Does nothing. It says that the journal is file 0, and that there are eight stores, in order; that files which stand for a
+    /// history are sound for it, and that so is each image of them from now on.
+    pub fn soundness_holds(&self)
         ensures stores { AreStores self.now.stores }
         ensures journal { self.now.journal.file ≡ 0 }
         ensures read { Told (R.disk self.now.rack) → (c : Catalog) (h : History)
@@ -66,8 +66,8 @@ impl<R: Rack + Drop, B: Drop> Files<R, B> {
         let _ = &self.journal;
     }
 
-    /// There are eight stores, each of its kind and on its file.
-    pub fn are_stores(&self)
+    /// Does nothing. It says that there are eight stores, each of its kind and on its file.
+    pub fn stores_hold(&self)
         ensures { AreStores self.now.stores }
     {
         let _ = &self.journal;

@@ -58,7 +58,7 @@ fn settle<R: Rack + Drop, B: Resource>(
     ensures journal { files.new.journal ≡ files.old.journal }
     ensures rack { LeavesImages R.Rack files.old.rack files.new.rack (IsErr result) }
 {
-    files.are_sound();
+    files.soundness_holds();
     let effect = match files.in_doubt(q) {
         Some(effect) => *effect,
         None => return Ok(()),
@@ -87,12 +87,12 @@ pub fn settle_all<R: Rack + Drop, B: Resource>(
     ensures journal { files.new.journal ≡ files.old.journal }
     ensures rack { LeavesImages R.Rack files.old.rack files.new.rack (IsErr result) }
 {
-    files.are_sound();
+    files.soundness_holds();
     let mut q = 0;
     while q < 8 {
         settle(files, q, catalog, history)?;
         q += 1;
     }
-    files.are_stores();
+    files.stores_hold();
     Ok(())
 }

@@ -152,7 +152,7 @@ impl Holds {
     }
 
     /// The least other process, and its step, that holds a net entry, has one under way, or reserves one against the operation on
-    /// the key.
+    /// the key. `admission` looks place by place, and doesn't call it.
     pub fn holder_against(&self, process: u32, op: u16, key: u32) -> Option<(u32, u16)>
         requires known { op < operations_in self.now.conflicts }
         ensures { result ≡ holder_against self.now process (record { op = op; key = key }) }

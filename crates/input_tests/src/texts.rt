@@ -8,7 +8,8 @@ const PRINTED: [(&str, &str); 5] = [
     ("process a c x add 1 5 end", "process a c x add 1 5 end\n"),
     (
         "process\ta\r\nc x add 1 -5\n undo 3 refuse 0 undorefuse 7\n p y add 4294967295 0 refuse 1 \
-        choose r z add 1 1 tries 64 or c w add 1 1 undo 1 choose p u add 1 1 refuse 0 or r v add 1 1 tries 3 refuse 2 done done end",
+        choose r z add 1 1 tries 64 or c w add 1 1 undo 1 choose p u add 1 1 refuse 0 \
+        or r v add 1 1 tries 3 refuse 2 done done end",
         "process a c x add 1 -5 undorefuse 7 p y add 4294967295 0 refuse 1 \
         choose r z add 1 1 tries 64 or c w add 1 1 undo 1 choose p u add 1 1 or r v add 1 1 refuse 2 done done end\n",
     ),

@@ -86,8 +86,8 @@ impl Core {
         })
     }
 
-    /// It is a run of the machine, so the laws of runs hold of it.
-    pub fn is_run(&self)
+    /// Does nothing. It says that the core is a run of the machine, so that the laws of runs hold of it.
+    pub fn run_holds(&self)
         ensures { IsCore self.now }
     {
         let _ = &self.history;

@@ -15,10 +15,8 @@ mod limits;
 mod pieces;
 mod refusing;
 mod replies;
-mod rotation;
 mod start_room;
 mod starting;
-mod victims;
 
 pub use core_state::tables_stand_for_holdings;
 pub use cores::Core;

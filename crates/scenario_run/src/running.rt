@@ -29,7 +29,7 @@ use crate::opening::opened;
 use crate::reporting::{report_now, stuck_report};
 use crate::scenario::{said_of_none, scenario_from};
 use crate::starting::start_all;
-use command_input::{Bound, CommandEnd, Said};
+use command_input::{Bound, Said};
 use command_refusals::{Quantity, Refusal, Status};
 use history_opening::sound_files_are_opened;
 use process_disk::{Rack, racks_are_honest};

@@ -8,7 +8,6 @@ ghost use Rattle.shared_engine.specs.Outcomes.{HandsBack, HandsBackAgain, IsGive
 ghost use Rattle.shared_engine.specs.Seats.{HasAdded, HasOpened, core_at, knowledge};
 ghost use Rattle.shared_engine.specs.Shared.{IsOpening};
 
-use crate::entries::TurnEntry;
 use crate::outcomes::{NextTurn, QueueTurn, queue_entry};
 use crate::shared::SharedEngine;
 use group_flush::Queue;

@@ -8,7 +8,7 @@ use Rattle.core_tests.proofs.calls.admitted.Goals as goal
 pub returns-in_ok-push-in-Piece-clause-pieces : goal.returns-in_ok-push-in-Piece-clause-pieces
 returns-in_ok-push-in-Piece-clause-pieces c =
     subst (AreHandedBy c.admit-reply.new.self) (sym c.in_ok-push-in-Piece.ensures.items)
-    (with_admitted c.args.core.now c.admit-reply.new.self c.args.i c.in-Piece.piece c.args.pieces.now.items c.is_run.ensures c.admit-reply.ensures.core (sym (ap (λ r. admitted (admit_reply_of r)) c.in-Piece.is) ∙ c.admit-reply.ensures.reply) c.requires)
+    (with_admitted c.args.core.now c.admit-reply.new.self c.args.i c.in-Piece.piece c.args.pieces.now.items c.run_holds.ensures c.admit-reply.ensures.core (sym (ap (λ r. admitted (admit_reply_of r)) c.in-Piece.is) ∙ c.admit-reply.ensures.reply) c.requires)
 
 pub returns-in-Blocked-clause-pieces : goal.returns-in-Blocked-clause-pieces
 returns-in-Blocked-clause-pieces c = still_handed c.args.core.now c.admit-reply.new.self (admit c.args.i) c.args.pieces.now.items c.admit-reply.ensures.core c.requires

@@ -11,4 +11,4 @@ open-requires c =
     let copied = c.in_ok-new.ensures ∙ (c.in_ok-push.ensures.items ∙ ap (λ ps. ps ++ c.in_ok-copy.field-0 ∷ []) c.new-plans.ensures.items) in
     let events = c.in_ok-new-2.ensures ∙ (c.in_ok-events.ensures.items_if_clones_equal (λ x y h. h) ∙ (c.as_slice-2.ensures ∙ c.history-history.ensures.events)) in
     opens_again c.args.core.now c.args.conflicts c.plan-item.result c.in_ok-copy.field-0 c.in_ok-new.field-0 c.in_ok-new-2.field-0
-    c.is_run.ensures c.requires plans c.in_ok-copy.ensures copied events
+    c.run_holds.ensures c.requires plans c.in_ok-copy.ensures copied events

@@ -21,7 +21,7 @@ meets g c =
     let is = c.requires.group.2 in
     subst (λ es. MeetsEach e es c.group_of-group.result) (sym is)
     (group_meets c.events_add_effects.ensures.act c.events_add_effects.ensures.end c.next_effects_may_be_prepared.ensures c.journals_keep_histories.ensures.made e (g.R.Rack.disk e.files.rack) c.invariant_holds.ensures.run c.invariant_holds.ensures.under
-    (c.invariant_holds.ensures.rest c.requires.settled) c.has_stores.ensures ps c.requires.group.1 c.group_of-group.result
+    (c.invariant_holds.ensures.rest c.requires.settled) c.stores_hold.ensures ps c.requires.group.1 c.group_of-group.result
     (subst (λ es. ListsEffects e.catalog.ops e.core.plans (length (acts (history_of e.core))) es c.group_of-group.result) is c.group_of-group.ensures))
 
 pub effects_fit-requires : goal.effects_fit-requires

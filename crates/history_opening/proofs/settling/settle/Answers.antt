@@ -23,7 +23,7 @@ is_settled g c doubt changes = ended_is c.args.catalog.now.ops c.args.history.no
     (sym c.is_recorded.ensures) c.requires.come changes
 
 pub returns-in-None-clause-any_moment : goal.returns-in-None-clause-any_moment
-returns-in-None-clause-any_moment g c told = c.are_sound.ensures.each told c.args.catalog.now c.args.history.now (c.requires.stand told)
+returns-in-None-clause-any_moment g c told = c.soundness_holds.ensures.each told c.args.catalog.now c.args.history.now (c.requires.stand told)
 
 pub returns-in-None-clause-below : goal.returns-in-None-clause-below
 returns-in-None-clause-below g c =

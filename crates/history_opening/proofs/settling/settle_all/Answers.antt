@@ -12,7 +12,7 @@ loop-q-init g c =
       come = c.requires.come;
       below = settled_before c.args.catalog.now.ops c.args.history.now f.stores;
       journal = refl;
-      told = λ told. since_start c.args.catalog.now c.args.history.now f.journal f.stores (g.R.Rack.disk f.rack) (c.requires.stand told) (c.are_sound.ensures.each told c.args.catalog.now c.args.history.now (c.requires.stand told));
+      told = λ told. since_start c.args.catalog.now c.args.history.now f.journal f.stores (g.R.Rack.disk f.rack) (c.requires.stand told) (c.soundness_holds.ensures.each told c.args.catalog.now c.args.history.now (c.requires.stand told));
       tells = refl;
       later = omega arith;
     }
@@ -62,4 +62,4 @@ returns-in_err-settle-clause-rack g c = record {
 pub returns-clause-settled : goal.returns-clause-settled
 returns-clause-settled g c =
     let old = c.loop-q in
-    settled_behind old.q c.args.catalog.now.ops c.args.history.now old.files.stores c.are_stores.ensures (omega (arith, old.invariant.within, c.loop-q-test.false)) old.invariant.below
+    settled_behind old.q c.args.catalog.now.ops c.args.history.now old.files.stores c.stores_hold.ensures (omega (arith, old.invariant.within, c.loop-q-test.false)) old.invariant.below

@@ -4,6 +4,6 @@ use Rattle.engine_steps.proofs.engines.Engine.acts.Goals as goal
 
 pub acts_count-requires : goal.acts_count-requires
 acts_count-requires g c =
-    let few = few_events c.self.inside.core c.is_run.ensures in
+    let few = few_events c.self.inside.core c.run_holds.ensures in
     let is = ap length (c.as_slice.ensures ∙ c.history.ensures.events) in
     omega (arith, few, is)

@@ -25,7 +25,7 @@ returns g c =
     let act = c.act_of-entry.ensures ∙ ap (λ ps. act_of ps c.args.piece.now.piece) (c.as_slice.ensures ∙ c.history.ensures.plans) in
     let effect = subst (λ x. c.next_effect-effect.result ≡ next_effect x.catalog.ops (full_history x.core) c.act_of-entry.result) (sym c.self.view_is) c.next_effect-effect.ensures in
     subst (λ x. c.bars.result ≡ bars_act x.catalog.ops (full_history x.core) (act_of x.core.plans c.args.piece.now.piece)) c.self.view_is
-    (bars_as c.self.inside.catalog (full_history c.self.inside.core) c.self.inside.files (g.R.Rack.disk c.self.inside.files.rack) c.act_of-entry.result c.subsystem_of-q.result c.bars.result rest c.are_stores.ensures is
+    (bars_as c.self.inside.catalog (full_history c.self.inside.core) c.self.inside.files (g.R.Rack.disk c.self.inside.files.rack) c.act_of-entry.result c.subsystem_of-q.result c.bars.result rest c.stores_hold.ensures is
     (subst (λ n. n < 8) (sym is) (subsystem_low c.self.inside.catalog.ops c.act_of-entry.result.op c.self.invariant.0.history.catalog.good))
     (λ s at. subst (λ x. c.bars.result ≡ is_barred s.kind s.book x) effect (c.bars.ensures s at))
     ∙ ap (bars_act c.self.inside.catalog.ops (full_history c.self.inside.core)) act)

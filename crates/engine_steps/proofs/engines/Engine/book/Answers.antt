@@ -8,7 +8,7 @@ use Rattle.engine_steps.proofs.engines.Engine.book.Goals as goal
 pub returns : goal.returns
 returns g c =
     let stores = c.self.inside.files.stores in
-    let eight = c.are_sound.ensures.stores.eight in
+    let eight = c.soundness_holds.ensures.stores.eight in
     let below = c.requires in
     let s = at_place stores c.args.q (omega arith) in
     subst (λ e. e.phase ≡ phase.Settled → c.book.result.now ≡ effects e.catalog.ops (full_history e.core) c.args.q) c.self.view_is

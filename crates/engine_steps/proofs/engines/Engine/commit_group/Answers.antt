@@ -26,7 +26,7 @@ returns-then-not-is_in_doubt-clause-any_moment g c =
     let e : EngineState g.row.R.Denot g.row.B.Denot = record { core = c.self.inside.core; catalog = c.self.inside.catalog; files = c.self.inside.files; phase = c.self.inside.phase } in
     subst (λ x. Told (g.R.Rack.disk x.files.rack) → (group : List (Option Effect)) (h : History) → IsGroupRecorded x (g.R.Rack.disk x.files.rack) group h
     → EachImage (g.R.Rack.disk x.files.rack) (g.R.Rack.disk x.files.rack).moment (IsSound x.catalog h)) c.self.view_is
-    (λ told group h recorded. c.are_sound.ensures.each told e.catalog h (recorded.stand told))
+    (λ told group h recorded. c.soundness_holds.ensures.each told e.catalog h (recorded.stand told))
 
 pub returns-in-Ok-clause-committed : goal.returns-in-Ok-clause-committed
 returns-in-Ok-clause-committed g c =

@@ -25,6 +25,6 @@ returns-in-Ok-create-clause-sound g c told =
     let stand = made.stand told in
     record {
       empty = made.empty told;
-      now = c.are_sound.ensures.read told_now c.args.catalog no_history stand;
-      each = c.are_sound.ensures.each told_now c.args.catalog no_history stand;
+      now = c.soundness_holds.ensures.read told_now c.args.catalog no_history stand;
+      each = c.soundness_holds.ensures.each told_now c.args.catalog no_history stand;
     }

@@ -16,14 +16,14 @@ use Rattle.engine_steps.proofs.engines.Engine.end_piece.Goals as goal
 pub record-requires-clause-room : goal.record-requires-clause-room
 record-requires-clause-room g c =
     let settled = subst (λ e. e.phase ≡ phase.Settled) (sym c.self.view_is) c.requires.settled in
-    room_left c.self.inside.catalog c.self.inside.core c.self.inside.files (g.R.Rack.disk c.self.inside.files.rack) c.is_run.ensures (c.self.invariant.1 settled)
+    room_left c.self.inside.catalog c.self.inside.core c.self.inside.files (g.R.Rack.disk c.self.inside.files.rack) c.run_holds.ensures (c.self.invariant.1 settled)
 
 pub record-requires-clause-goes_on : goal.record-requires-clause-goes_on
 record-requires-clause-goes_on g c told =
     let settled = subst (λ e. e.phase ≡ phase.Settled) (sym c.self.view_is) c.requires.settled in
     let handed = subst (λ e. IsHandedBy e.core c.args.piece.piece) (sym c.self.view_is) c.requires.handed in
     let out = subst (λ e. state_of (moment_of e.core) c.args.piece.piece.number ≡ Out) (sym c.self.view_is) c.requires.out in
-    goes_on_with_end c.self.inside.catalog c.self.inside.core c.is_run.ensures c.self.invariant.0 c.journals_keep_histories.ensures.made c.args.piece.piece handed out c.requires.end
+    goes_on_with_end c.self.inside.catalog c.self.inside.core c.run_holds.ensures c.self.invariant.0 c.journals_keep_histories.ensures.made c.args.piece.piece handed out c.requires.end
     c.process-process.result c.process-process.ensures c.fits_its_bytes.ensures c.self.inside.files (g.R.Rack.disk c.self.inside.files.rack) (c.self.invariant.1 settled) told
 
 pub invariant_of-self : goal.invariant_of-self
@@ -39,11 +39,11 @@ invariant_of-self g c =
     let handed = subst (λ e. IsHandedBy e.core p) (sym c.self.view_is) c.requires.handed in
     let out = subst (λ e. state_of (moment_of e.core) p.number ≡ Out) (sym c.self.view_is) c.requires.out in
     let rest = c.self.invariant.1 settled in (
-      under_new_end catalog core c.is_run.ensures c.self.invariant.0 law p handed out c.requires.end c.process-process.result c.process-process.ensures c.fits_its_bytes.ensures c.effected-count.new.self c.effected-count.ensures.core,
-      λ still. rest_new_end catalog core c.is_run.ensures c.self.invariant.0 law p handed out c.requires.end c.process-process.result c.process-process.ensures c.fits_its_bytes.ensures c.effected-count.new.self c.effected-count.ensures.core
+      under_new_end catalog core c.run_holds.ensures c.self.invariant.0 law p handed out c.requires.end c.process-process.result c.process-process.ensures c.fits_its_bytes.ensures c.effected-count.new.self c.effected-count.ensures.core,
+      λ still. rest_new_end catalog core c.run_holds.ensures c.self.invariant.0 law p handed out c.requires.end c.process-process.result c.process-process.ensures c.fits_its_bytes.ensures c.effected-count.new.self c.effected-count.ensures.core
           adds old now (g.R.Rack.disk old.rack) (g.R.Rack.disk now.rack) rest c.record.ensures.same c.in-Ok.ensures.ok
           (λ told. let before = sym c.record.ensures.rack.tells ∙ told in
-          at_its_end catalog core c.is_run.ensures c.self.invariant.0 law p handed out c.requires.end c.process-process.result c.process-process.ensures c.fits_its_bytes.ensures
+          at_its_end catalog core c.run_holds.ensures c.self.invariant.0 law p handed out c.requires.end c.process-process.result c.process-process.ensures c.fits_its_bytes.ensures
           {P = λ d h after. Stand d after now.journal now.stores (g.R.Rack.disk now.rack)} adds old (g.R.Rack.disk old.rack) rest before (c.in-Ok.ensures.acknowledged before)),
     )
 
@@ -58,7 +58,7 @@ returns-in-Ok-clause-any_moment g c =
     let handed = subst (λ e. IsHandedBy e.core p) (sym c.self.view_is) c.requires.handed in
     let out = subst (λ e. state_of (moment_of e.core) p.number ≡ Out) (sym c.self.view_is) c.requires.out in
     subst (λ e. Told (g.R.Rack.disk e.files.rack) → EachImage (g.R.Rack.disk c.record.new.self.rack) (g.R.Rack.disk e.files.rack).moment (IsSoundForEither e.catalog (full_history e.core) (history_with e.core p))) c.self.view_is
-    (λ told. at_its_end catalog core c.is_run.ensures c.self.invariant.0 law p handed out c.requires.end c.process-process.result c.process-process.ensures c.fits_its_bytes.ensures
+    (λ told. at_its_end catalog core c.run_holds.ensures c.self.invariant.0 law p handed out c.requires.end c.process-process.result c.process-process.ensures c.fits_its_bytes.ensures
     {P = λ d h after. EachImage (g.R.Rack.disk c.record.new.self.rack) (g.R.Rack.disk files.rack).moment (IsSoundForEither d h after)} c.events_add_effects.ensures.end files (g.R.Rack.disk files.rack)
     (c.self.invariant.1 settled) told (c.record.ensures.any_moment told))
 
@@ -78,7 +78,7 @@ returns-clause-any_moment g c =
     let handed = subst (λ e. IsHandedBy e.core p) (sym c.self.view_is) c.requires.handed in
     let out = subst (λ e. state_of (moment_of e.core) p.number ≡ Out) (sym c.self.view_is) c.requires.out in
     subst (λ e. Told (g.R.Rack.disk e.files.rack) → EachImage (g.R.Rack.disk c.record.new.self.rack) (g.R.Rack.disk e.files.rack).moment (IsSoundForEither e.catalog (full_history e.core) (history_with e.core p))) c.self.view_is
-    (λ told. at_its_end catalog core c.is_run.ensures c.self.invariant.0 law p handed out c.requires.end c.process-process.result c.process-process.ensures c.fits_its_bytes.ensures
+    (λ told. at_its_end catalog core c.run_holds.ensures c.self.invariant.0 law p handed out c.requires.end c.process-process.result c.process-process.ensures c.fits_its_bytes.ensures
     {P = λ d h after. EachImage (g.R.Rack.disk c.record.new.self.rack) (g.R.Rack.disk files.rack).moment (IsSoundForEither d h after)} c.events_add_effects.ensures.end files (g.R.Rack.disk files.rack)
     (c.self.invariant.1 settled) told (c.record.ensures.any_moment told))
 

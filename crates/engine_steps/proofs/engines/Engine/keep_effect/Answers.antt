@@ -14,6 +14,6 @@ invariant_of-self g c =
     let out = subst (λ e. state_of (moment_of e.core) p.number ≡ Out) (sym c.self.view_is) c.requires.out in
     let under_way = subst (λ e. e.phase ≡ phase.UnderWay) (sym c.self.view_is) c.requires.under_way in
     let fits : (p.process < 2 ^ 32) × (p.step < 2 ^ 16) = (subst (λ n. n < 2 ^ 32) c.process.ensures c.fits_its_bytes.ensures.0, subst (λ n. n < 2 ^ 16) c.step.ensures c.fits_its_bytes.ensures.1) in (
-      core_under c.journals_keep_histories.ensures.made c.self.inside.catalog c.self.inside.core c.is_run.ensures c.self.invariant.0 p handed out fits c.effected.new.self c.effected.ensures.core,
+      core_under c.journals_keep_histories.ensures.made c.self.inside.catalog c.self.inside.core c.run_holds.ensures c.self.invariant.0 p handed out fits c.effected.new.self c.effected.ensures.core,
       λ settled. absurd (not_both c.self.inside.phase under_way settled),
     )

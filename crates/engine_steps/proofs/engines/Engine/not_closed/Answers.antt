@@ -4,6 +4,6 @@ use Rattle.engine_steps.proofs.engines.Engine.not_closed.Goals as goal
 
 pub overflow_cast-result : goal.overflow_cast-result
 overflow_cast-result g c =
-    let few = kept_few c.self.inside.core c.is_run.ensures in
+    let few = kept_few c.self.inside.core c.run_holds.ensures in
     let is = ap length c.kept.ensures in
     omega arith

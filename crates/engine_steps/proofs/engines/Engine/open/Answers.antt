@@ -27,8 +27,8 @@ returns-in-Ok-clause-sound g c told =
     (λ d h f. WereSettledFor d h (g.R.Rack.disk c.args.parts.rack) (g.R.Rack.disk f.rack)) (record {
       sound = found.sound;
       becomes = found.becomes;
-      now = c.are_sound.ensures.read told_now c.in-Ok.catalog c.in-Ok.history (is.stand told);
-      each = c.are_sound.ensures.each told_now c.in-Ok.catalog c.in-Ok.history (is.stand told);
+      now = c.soundness_holds.ensures.read told_now c.in-Ok.catalog c.in-Ok.history (is.stand told);
+      each = c.soundness_holds.ensures.each told_now c.in-Ok.catalog c.in-Ok.history (is.stand told);
     })
 
 pub returns-in-Ok-clause-fits : goal.returns-in-Ok-clause-fits
@@ -51,8 +51,8 @@ returns-in-Ok-clause-refused g c told =
           history = c.in-Ok.history;
           sound = (is.sound told).sound;
           becomes = (is.sound told).becomes;
-          now = c.are_sound.ensures.read told_now c.in-Ok.catalog c.in-Ok.history stand;
-          each = c.are_sound.ensures.each told_now c.in-Ok.catalog c.in-Ok.history stand;
+          now = c.soundness_holds.ensures.read told_now c.in-Ok.catalog c.in-Ok.history stand;
+          each = c.soundness_holds.ensures.each told_now c.in-Ok.catalog c.in-Ok.history stand;
         }),
       );
     })

@@ -29,7 +29,7 @@ prepare-answer-requires-clause-may_come g c =
     let on = subst (λ x. c.args.q ≡ subsystem_of x.catalog.ops c.args.entry.now.op) (sym c.self.view_is) c.requires.subsystem in
     let next = subst (λ x. IsHistoryUnder x.catalog (with_event (full_history x.core) (Act c.args.entry.now))) (sym c.self.view_is) c.requires.next in
     subst (λ x. (s : _) → slice_get c.self.inside.files.stores c.args.q ≡ Some s → (s.doubt ≡ None) × (length s.book < 16384) × (may_follow s.kind s.book x ≡ true)) (sym (subst (λ x. c.next_effect-effect.result ≡ next_effect x.catalog.ops (full_history x.core) c.args.entry.now) (sym c.self.view_is) c.next_effect-effect.ensures))
-    (may_come c.self.inside.catalog (full_history c.self.inside.core) c.self.inside.files (g.R.Rack.disk c.self.inside.files.rack) rest c.args.entry.now c.args.q on c.next_effects_may_be_prepared.ensures c.are_stores.ensures next)
+    (may_come c.self.inside.catalog (full_history c.self.inside.core) c.self.inside.files (g.R.Rack.disk c.self.inside.files.rack) rest c.args.entry.now c.args.q on c.next_effects_may_be_prepared.ensures c.stores_hold.ensures next)
 
 pub prepare-answer-requires-clause-amount : goal.prepare-answer-requires-clause-amount
 prepare-answer-requires-clause-amount g c =
@@ -60,7 +60,7 @@ returns-clause-barred g c =
     let rest = c.self.invariant.1 (subst (λ x. x.phase ≡ phase.Settled) (sym c.self.view_is) c.requires.settled) in
     let on = subst (λ x. c.args.q ≡ subsystem_of x.catalog.ops c.args.entry.now.op) (sym c.self.view_is) c.requires.subsystem in
     subst (λ x. (c.prepare-answer.result ≡ Barred) ↔ (bars_act x.catalog.ops (full_history x.core) c.args.entry.now ≡ true)) c.self.view_is
-    (bars_alike c.self.inside.catalog (full_history c.self.inside.core) c.self.inside.files (g.R.Rack.disk c.self.inside.files.rack) rest c.args.entry.now c.args.q on c.are_stores.ensures c.requires.low {P = c.prepare-answer.result ≡ Barred}
+    (bars_alike c.self.inside.catalog (full_history c.self.inside.core) c.self.inside.files (g.R.Rack.disk c.self.inside.files.rack) rest c.args.entry.now c.args.q on c.stores_hold.ensures c.requires.low {P = c.prepare-answer.result ≡ Barred}
     (λ s at. subst (λ x. (c.prepare-answer.result ≡ Barred) ↔ (is_barred s.kind s.book x ≡ true)) (subst (λ x. c.next_effect-effect.result ≡ next_effect x.catalog.ops (full_history x.core) c.args.entry.now) (sym c.self.view_is) c.next_effect-effect.ensures) (c.prepare-answer.ensures.answer.barred s at)))
 
 pub returns-clause-good : goal.returns-clause-good

@@ -30,7 +30,7 @@ returns-then-not-has_effect-clause-any_moment g c =
     let rest = c.self.invariant.1 (subst (λ x. x.phase ≡ phase.Settled) (sym c.self.view_is) c.requires.settled) in
     let disk = g.R.Rack.disk c.self.inside.files.rack in
     subst (λ x. Told (g.R.Rack.disk x.files.rack) → EachImage disk (g.R.Rack.disk x.files.rack).moment (IsSound x.catalog (full_history x.core))) c.self.view_is
-    (λ told. c.are_sound.ensures.each told c.self.inside.catalog (full_history c.self.inside.core) (rest.stand told))
+    (λ told. c.soundness_holds.ensures.each told c.self.inside.catalog (full_history c.self.inside.core) (rest.stand told))
 
 pub returns-then-not-has_effect-clause-fits : goal.returns-then-not-has_effect-clause-fits
 returns-then-not-has_effect-clause-fits g c = subst (λ x. EachFits g.B.Resource x.files.stores) (sym c.self.view_is) c.requires.fits

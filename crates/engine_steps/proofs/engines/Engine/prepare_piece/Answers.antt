@@ -24,7 +24,7 @@ prepare_effect-requires-clause-next g c =
     let act = c.act_of-entry.ensures ∙ ap (λ ps. act_of ps c.args.piece.piece) (c.as_slice.ensures ∙ c.history.ensures.plans) in
     let out = subst (λ x. IsStepOut x.core c.args.piece.piece) (sym c.self.view_is) c.requires.out in
     subst (λ x. IsHistoryUnder x.catalog (with_event (full_history x.core) (Act c.act_of-entry.result))) c.self.view_is
-    (next_is_history c.journals_keep_histories.ensures.made c.self.inside.catalog c.self.inside.core c.self.invariant.0 c.is_run.ensures c.args.piece.piece out c.act_of-entry.result act c.fits_its_bytes.ensures)
+    (next_is_history c.journals_keep_histories.ensures.made c.self.inside.catalog c.self.inside.core c.self.invariant.0 c.run_holds.ensures c.args.piece.piece out c.act_of-entry.result act c.fits_its_bytes.ensures)
 
 pub returns-in-Prepared-clause-reply : goal.returns-in-Prepared-clause-reply
 returns-in-Prepared-clause-reply g c =
@@ -45,7 +45,7 @@ returns-in-Prepared-clause-reply g c =
             subsystem = subst (λ x. c.subsystem_of-subsystem.result ≡ subsystem_of x.catalog.ops c.act_of-entry.result.op) c.self.view_is is;
             low = subst (λ n. n < 8) (sym is) (subsystem_low c.self.inside.catalog.ops c.act_of-entry.result.op c.self.invariant.0.history.catalog.good);
             next = subst (λ x. IsHistoryUnder x.catalog (with_event (full_history x.core) (Act c.act_of-entry.result))) c.self.view_is
-                (next_is_history c.journals_keep_histories.ensures.made c.self.inside.catalog c.self.inside.core c.self.invariant.0 c.is_run.ensures c.args.piece.piece out c.act_of-entry.result act_inside c.fits_its_bytes.ensures);
+                (next_is_history c.journals_keep_histories.ensures.made c.self.inside.catalog c.self.inside.core c.self.invariant.0 c.run_holds.ensures c.args.piece.piece out c.act_of-entry.result act_inside c.fits_its_bytes.ensures);
           })
           (ap (λ l. l.count) c.prepare_effect.ensures.journal ∙ rest.count)
           (c.prepare_effect.ensures.doubt c.in-Prepared.is)

@@ -17,7 +17,7 @@ pub stage_each-requires-clause-room : goal.stage_each-requires-clause-room
 stage_each-requires-clause-room g c =
     let e : EngineState g.row.R.Denot g.row.B.Denot = record { core = c.self.inside.core; catalog = c.self.inside.catalog; files = c.self.inside.files; phase = c.self.inside.phase } in
     let may = subst (λ x. (group : List (Option Effect)) × MayBeRecorded x (g.R.Rack.disk x.files.rack) c.args.events.now group) (sym c.self.view_is) c.requires.may in
-    let few = few_events c.self.inside.core c.is_run.ensures in
+    let few = few_events c.self.inside.core c.run_holds.ensures in
     let log = c.unstage_records.ensures.journal in
     omega (arith, few, c.requires.events.few, may.1.prepared.count, ap (λ (l : LogState). l.count) log, ap (λ (l : LogState). length l.staged) log)
 

@@ -15,7 +15,7 @@ record-requires-clause-room g c =
     let e : EngineState g.row.R.Denot g.row.B.Denot = record { core = c.self.inside.core; catalog = c.self.inside.catalog; files = c.self.inside.files; phase = c.self.inside.phase } in
     let p : PieceUnderWay = record { piece = c.p.inside.piece; entry = c.p.inside.entry; subsystem = c.p.inside.subsystem } in
     let here : IsPrepared e (g.R.Rack.disk c.self.inside.files.rack) p = subst (λ q. IsPrepared e (g.R.Rack.disk c.self.inside.files.rack) q) (sym c.p.view_is) (subst (λ x. IsPrepared x (g.R.Rack.disk x.files.rack) c.args.p) (sym c.self.view_is) c.requires.prepared) in
-    let few = few_events c.self.inside.core c.is_run.ensures in
+    let few = few_events c.self.inside.core c.run_holds.ensures in
     let count = here.count in
     omega (arith, count, few)
 

@@ -27,8 +27,8 @@ invariant_of-self g c =
     let e : EngineState g.row.R.Denot g.row.B.Denot = record { core = c.self.inside.core; catalog = c.self.inside.catalog; files = c.self.inside.files; phase = c.self.inside.phase } in
     let p : PieceUnderWay = record { piece = c.r.inside.piece; entry = c.r.inside.entry; subsystem = c.r.inside.subsystem } in
     let here : IsRecorded e (g.R.Rack.disk c.self.inside.files.rack) p = subst (λ q. IsRecorded e (g.R.Rack.disk c.self.inside.files.rack) q) (sym c.r.view_is) (subst (λ x. IsRecorded x (g.R.Rack.disk x.files.rack) c.args.r) (sym c.self.view_is) c.requires.recorded) in (
-      under_with_effect e (g.R.Rack.disk c.self.inside.files.rack) p here c.effected-count.new.self c.is_run.ensures c.effected-count.ensures.core c.self.invariant.0,
-      λ settled. rests_with_effect e (g.R.Rack.disk c.self.inside.files.rack) p here c.effected-count.new.self c.is_run.ensures c.effected-count.ensures.core c.books_come_to_acts.ensures.committed
+      under_with_effect e (g.R.Rack.disk c.self.inside.files.rack) p here c.effected-count.new.self c.run_holds.ensures c.effected-count.ensures.core c.self.invariant.0,
+      λ settled. rests_with_effect e (g.R.Rack.disk c.self.inside.files.rack) p here c.effected-count.new.self c.run_holds.ensures c.effected-count.ensures.core c.books_come_to_acts.ensures.committed
           c.end_doubt.new.self (g.R.Rack.disk c.end_doubt.new.self.rack) c.in-Ok.ensures.ok c.end_doubt.ensures.journal c.end_doubt.ensures.good
           (λ told. let before = sym c.end_doubt.ensures.rack.tells ∙ told in
           c.in-Ok.ensures.acknowledged before c.self.inside.catalog (with_event (full_history c.self.inside.core) (Act p.entry)) (here.stand before)

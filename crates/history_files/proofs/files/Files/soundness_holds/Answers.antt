@@ -6,7 +6,7 @@ use Rattle.commute_table.specs.declared.catalog.Catalog.{Catalog}
 use Rattle.history_files.specs.Sound.{IsSound}
 use Rattle.history_files.specs.Standing.{Stand}
 use Rattle.history_files.proofs.SoundImages.{sound_now, sound_each}
-use Rattle.history_files.proofs.files.Files.are_sound.Goals as goal
+use Rattle.history_files.proofs.files.Files.soundness_holds.Goals as goal
 
 pub returns-clause-read : goal.returns-clause-read
 returns-clause-read g c =
