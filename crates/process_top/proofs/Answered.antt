@@ -21,7 +21,7 @@ use Rattle.process_top.specs.Replies.{Reply, checked, created, ended, served, sh
 use Rattle.process_top.specs.Told.{Output, IsRefusalTold, IsTold}
 use Rattle.process_top.specs.Said.{EndsBy, Says, HasWorked, IsResultTold}
 use Rattle.process_top.specs.Run.{gates_asked}
-use Rattle.process_top.specs.Commands.{uses_files, uses_boxes, asks_gate, reads_input, is_early, is_verdict, most_gates, AnswersTo, AreOthersAsBefore, IsDueTo}
+use Rattle.process_top.specs.Commands.{is_early, is_verdict, AnswersTo, AreOthersAsBefore, IsDueTo, needs}
 use Rattle.process_top.proofs.Complete.{Worked, done_or_wanting, worked_due, worked_held}
 use Rattle.process_top.proofs.RefusedStatuses.{refused_undone}
 
@@ -59,9 +59,9 @@ said_told reply said old new at isnt text status told = by_reply reply isnt
     by_reply (refused r) isnt told = absurd (cc)
 
 module _ {S K R : Type 0} (o : Option Command) (before after : World S K R) (number : ℕ) (at : Status) (numbered : number ≡ number_of at) (left : AreLeft before.files after.files)
-    (boxes : AreBoxes (λ b. b.kind) after.boxes) (kept : uses_boxes o ≡ false → after.boxes ≡ before.boxes) (gates : AreOthersAsBefore (most_gates o) before.gates after.gates)
-    (unasked : asks_gate o ≡ false → after.gates ≡ before.gates) (untouched : uses_files o ≡ false → after.rack ≡ before.rack)
-    (unread : reads_input o ≡ false → after.source ≡ before.source) where
+    (boxes : AreBoxes (λ b. b.kind) after.boxes) (kept : (needs o).boxes ≡ false → after.boxes ≡ before.boxes) (gates : AreOthersAsBefore (needs o).gates before.gates after.gates)
+    (unasked : (needs o).gate ≡ false → after.gates ≡ before.gates) (untouched : (needs o).files ≡ false → after.rack ≡ before.rack)
+    (unread : (needs o).input ≡ false → after.source ≡ before.source) where
   -- what a restart leaves in the boxes, at the status of one that did its work
   abbrev HaveBookValues : Type 0
   HaveBookValues = o ≡ Some Restart → at ≡ statuses.Done → Told after.files.disk → HaveValuesOf (λ (b : BoxState). b.values) after.files.disk.files after.boxes

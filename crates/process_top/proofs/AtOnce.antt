@@ -3,10 +3,10 @@ use Rattle.std.proofs.Common.{◌≡◌, Option, Some, None, ℕ, ap, refl, subs
 use Rattle.program_words.specs.declared.reading.Command.{Command}
 use Rattle.program_words.specs.declared.reading.Command.TheVariants.{Check, Init, Run, Session, Serve, Restart, Show, Verify, Gen, Bulk}
 use Rattle.process_top.specs.Worlds.{GatesState}
-use Rattle.process_top.specs.Commands.{AreOthersAsBefore, at_once, most_gates, workers_in}
+use Rattle.process_top.specs.Commands.{AreOthersAsBefore, at_once, needs}
 
 -- the first gate alone is asked
-one_at_once : (o : Option Command) → most_gates (at_once o) ≡ 1
+one_at_once : (o : Option Command) → (needs (at_once o)).gates ≡ 1
 one_at_once None = refl
 one_at_once (Some Check) = refl
 one_at_once (Some Init) = refl
@@ -19,11 +19,11 @@ one_at_once (Some Verify) = refl
 one_at_once (Some (Gen number count)) = refl
 one_at_once (Some (Bulk number count)) = refl
 
-pub others_at_once : (o : Option Command) (before after : GatesState) → AreOthersAsBefore 1 before after → AreOthersAsBefore (most_gates (at_once o)) before after
+pub others_at_once : (o : Option Command) (before after : GatesState) → AreOthersAsBefore 1 before after → AreOthersAsBefore (needs (at_once o)).gates before after
 others_at_once o before after others = subst (λ n. AreOthersAsBefore n before after) (sym (one_at_once o)) others
 
 -- a command with workers is `run`,
-pub run_is : (c : Command) (workers : ℕ) → workers_in c ≡ Some workers → c ≡ Run workers
+pub run_is : (c : Command) (workers : ℕ) → (needs (Some c)).workers ≡ Some workers → c ≡ Run workers
 run_is Check workers is = absurd cc
 run_is Init workers is = absurd cc
 run_is (Run n) workers is = ap (λ o. Run (unwrap_or o 0)) is
@@ -36,7 +36,7 @@ run_is (Gen number count) workers is = absurd cc
 run_is (Bulk number count) workers is = absurd cc
 
 -- and each other is asked for at once
-pub at_once_is : (c : Command) → workers_in c ≡ None → at_once (Some c) ≡ Some c
+pub at_once_is : (c : Command) → (needs (Some c)).workers ≡ None → at_once (Some c) ≡ Some c
 at_once_is Check is = refl
 at_once_is Init is = refl
 at_once_is (Run workers) is = absurd cc

@@ -49,7 +49,7 @@ use Rattle.schedule_model.specs.declared.history.History.{History}
 use Rattle.process_top.specs.Run.{first_gate, first_gates, gates_asked}
 use Rattle.process_top.specs.Replies.{Reply, checked, created, ended, served, shown, accepted, generated, refused, status_of, IsReplyTold}
 use Rattle.process_top.specs.Told.{IsTold}
-use Rattle.process_top.specs.Commands.{uses_files, is_early, is_verdict, IsDueTo, Answers}
+use Rattle.process_top.specs.Commands.{is_early, is_verdict, IsDueTo, Answers, needs}
 use Rattle.process_top.proofs.StatusNumbers.{same_status}
 
 -- the statuses of what is refused before the rack is called, and of verdicts
@@ -263,7 +263,7 @@ late_restart gate files files_after r (inr (c, h, now, inl cut)) is = late_refus
 late_restart gate files files_after r (inr (c, h, now, inr cut)) is = late_refusal r refusals.DiskFault cut.0 refl is
 
 module _ {S K R : Type 0} (before after : World S K R) where
-  by_command : (o : Option Command) (gates : AskedGates) (reply : Reply) → IsDueTo o gates before.input after.input before.files after.files reply → (uses_files o ≡ false → after.rack ≡ before.rack)
+  by_command : (o : Option Command) (gates : AskedGates) (reply : Reply) → IsDueTo o gates before.input after.input before.files after.files reply → ((needs o).files ≡ false → after.rack ≡ before.rack)
       → (is_early reply ≡ true → after.rack ≡ before.rack) → is_early_for o (status_of reply) ≡ true → after.rack ≡ before.rack
   by_command None gates reply due untouched early is = untouched refl
   by_command (Some Check) gates reply due untouched early is = untouched refl

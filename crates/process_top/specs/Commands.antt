@@ -66,83 +66,41 @@ DoesItsWork (Some Verify) input files status = IsVerifyComplete input status
 DoesItsWork (Some (Gen number count)) input files status = IsGenComplete status
 DoesItsWork (Some (Bulk number count)) input files status = IsBulkComplete number count files status
 
--- the command reads the input
-abbrev pub reads_input : Option Command → Bool
-reads_input None = false
-reads_input (Some Check) = true
-reads_input (Some Init) = true
-reads_input (Some (Run workers)) = true
-reads_input (Some Session) = true
-reads_input (Some Serve) = true
-reads_input (Some Restart) = false
-reads_input (Some Show) = false
-reads_input (Some Verify) = true
-reads_input (Some (Gen number count)) = false
-reads_input (Some (Bulk number count)) = false
+-- What a command needs: whether it reads the input, calls the rack, uses the boxes and asks a gate; how many of the gates it may
+-- ask; and the workers that it waits for.
+pub record Needs : Type 0 where
+  pub input : Bool
+  pub files : Bool
+  pub boxes : Bool
+  pub gate : Bool
+  pub gates : ℕ
+  pub workers : Option ℕ
 
--- the command calls the rack
-abbrev pub uses_files : Option Command → Bool
-uses_files None = false
-uses_files (Some Check) = false
-uses_files (Some Init) = true
-uses_files (Some (Run workers)) = true
-uses_files (Some Session) = true
-uses_files (Some Serve) = true
-uses_files (Some Restart) = true
-uses_files (Some Show) = true
-uses_files (Some Verify) = false
-uses_files (Some (Gen number count)) = false
-uses_files (Some (Bulk number count)) = true
-
--- the command uses the boxes
-abbrev pub uses_boxes : Option Command → Bool
-uses_boxes None = false
-uses_boxes (Some Check) = false
-uses_boxes (Some Init) = true
-uses_boxes (Some (Run workers)) = true
-uses_boxes (Some Session) = true
-uses_boxes (Some Serve) = true
-uses_boxes (Some Restart) = true
-uses_boxes (Some Show) = false
-uses_boxes (Some Verify) = false
-uses_boxes (Some (Gen number count)) = false
-uses_boxes (Some (Bulk number count)) = true
+-- what each command needs: `run` may ask a gate for each of its workers, each other command at most the first
+abbrev pub needs : Option Command → Needs
+needs None = record { input = false; files = false; boxes = false; gate = false; gates = 1; workers = None }
+needs (Some Check) = record { input = true; files = false; boxes = false; gate = false; gates = 1; workers = None }
+needs (Some Init) = record { input = true; files = true; boxes = true; gate = false; gates = 1; workers = None }
+needs (Some (Run workers)) = record { input = true; files = true; boxes = true; gate = true; gates = workers; workers = Some workers }
+needs (Some Session) = record { input = true; files = true; boxes = true; gate = false; gates = 1; workers = None }
+needs (Some Serve) = record { input = true; files = true; boxes = true; gate = false; gates = 1; workers = None }
+needs (Some Restart) = record { input = false; files = true; boxes = true; gate = true; gates = 1; workers = None }
+needs (Some Show) = record { input = false; files = true; boxes = false; gate = false; gates = 1; workers = None }
+needs (Some Verify) = record { input = true; files = false; boxes = false; gate = false; gates = 1; workers = None }
+needs (Some (Gen number count)) = record { input = false; files = false; boxes = false; gate = false; gates = 1; workers = None }
+needs (Some (Bulk number count)) = record { input = false; files = true; boxes = true; gate = true; gates = 1; workers = None }
 
 -- no call failed of the source, the rack and the sink, as far as the command uses them
 pub record IsQuiet {S K R : Type 0} (asked : Option Command) (before after : World S K R) : Type 0 where
-  pub input : reads_input asked ≡ true → ¬ Rose before.input.faults after.input.faults
-  pub files : uses_files asked ≡ true → ¬ Rose before.files.faults after.files.faults
+  pub input : (needs asked).input ≡ true → ¬ Rose before.input.faults after.input.faults
+  pub files : (needs asked).files ≡ true → ¬ Rose before.files.faults after.files.faults
   pub output : ¬ Rose before.output.faults after.output.faults
-
--- the command asks a gate
-abbrev pub asks_gate : Option Command → Bool
-asks_gate None = false
-asks_gate (Some Check) = false
-asks_gate (Some Init) = false
-asks_gate (Some (Run workers)) = true
-asks_gate (Some Session) = false
-asks_gate (Some Serve) = false
-asks_gate (Some Restart) = true
-asks_gate (Some Show) = false
-asks_gate (Some Verify) = false
-asks_gate (Some (Gen number count)) = false
-asks_gate (Some (Bulk number count)) = true
-
--- how many of the gates a command may ask: `run` one for each worker, each other command the first
-abbrev pub most_gates : Option Command → ℕ
-most_gates (Some (Run workers)) = workers
-most_gates o = 1
 
 -- all gates but the first so many are as they were
 pub record AreOthersAsBefore (first : ℕ) (before after : GatesState) : Type 0 where
   pub answers : after.answers ≡ before.answers
   pub count : length after.counts ≡ length before.counts
   pub others : drop first after.counts ≡ drop first before.counts
-
--- with how many workers a command runs, if it waits for workers
-abbrev pub workers_in : Command → Option ℕ
-workers_in (Run workers) = Some workers
-workers_in command = None
 
 -- what is told of words that give no command
 abbrev pub words_refusal : WordsError → Refusal
@@ -182,17 +140,17 @@ pub record AnswersTo {S K R : Type 0} (command : Option Command) (before after :
   pub left : AreLeft before.files after.files
   -- the boxes are those of the eight subsystems again, and a command that needs none leaves their values
   pub boxes : AreBoxes (λ b. b.kind) after.boxes
-  pub kept : uses_boxes command ≡ false → after.boxes ≡ before.boxes
+  pub kept : (needs command).boxes ≡ false → after.boxes ≡ before.boxes
   -- a restart that did its work leaves in each the values of its book
   pub values : command ≡ Some Restart → status ≡ Done → Told after.files.disk
       → HaveValuesOf (λ (b : BoxState). b.values) after.files.disk.files after.boxes
   -- only the first gates may be asked, as many as the command may ask, and a command that asks none leaves all as they are
-  pub gates : AreOthersAsBefore (most_gates command) before.gates after.gates
-  pub unasked : asks_gate command ≡ false → after.gates ≡ before.gates
+  pub gates : AreOthersAsBefore (needs command).gates before.gates after.gates
+  pub unasked : (needs command).gate ≡ false → after.gates ≡ before.gates
   -- a command that needs no files leaves the rack as it is, whatever it tells
-  pub untouched : uses_files command ≡ false → after.rack ≡ before.rack
+  pub untouched : (needs command).files ≡ false → after.rack ≡ before.rack
   -- a command that needs no input leaves the source as it is
-  pub unread : reads_input command ≡ false → after.source ≡ before.source
+  pub unread : (needs command).input ≡ false → after.source ≡ before.source
   -- what is said before the rack is called leaves it as it is, whatever it tells
   pub early : is_early reply ≡ true → after.rack ≡ before.rack
 

@@ -13,9 +13,8 @@ ghost use Rattle.process_top.specs.Run.{gates_asked};
 ghost use Rattle.serve_run.specs.Serve.{OnEnding};
 ghost use Rattle.process_top.specs.Said.{EndsBy, HasWorked, IsResultTold};
 ghost use Rattle.process_top.specs.Worlds.{files, input, output, world, gates as told_gates};
-ghost use Rattle.process_top.specs.Commands.{asks_gate, at_once, first_is_show, reads_input, uses_boxes, uses_files};
+ghost use Rattle.process_top.specs.Commands.{at_once, first_is_show, needs};
 ghost use Rattle.process_top.specs.Commands.{Answers, AnswersAtOnce, AnswersTo, AreOthersAsBefore, IsDueTo, words_refusal};
-ghost use Rattle.process_top.specs.Commands.{workers_in};
 
 use crate::check::check;
 use crate::generating::scenario;
@@ -90,11 +89,11 @@ fn done<S: Source, K: Sink, R: Rack + Drop, B: Resource, G: Gate>(
         (output K.Sink sink.old) (output K.Sink sink.new) result.ending }
     ensures left { AreLeft (files R.Rack parts.rack) (files R.Rack result.parts.rack) }
     ensures boxes { AreBoxes B.sort result.parts.resources.items }
-    ensures kept { uses_boxes (at_once (Some command)) ≡ false → result.parts.resources ≡ parts.resources }
+    ensures kept { (needs (at_once (Some command))).boxes ≡ false → result.parts.resources ≡ parts.resources }
     ensures gates { AreOthersAsBefore 1 (told_gates G.Gate gates.old.items) (told_gates G.Gate gates.new.items) }
-    ensures unasked { asks_gate (at_once (Some command)) ≡ false → gates.new.items ≡ gates.old.items }
-    ensures untouched { uses_files (at_once (Some command)) ≡ false → result.parts.rack ≡ parts.rack }
-    ensures unread { reads_input (at_once (Some command)) ≡ false → source.new ≡ source.old }
+    ensures unasked { (needs (at_once (Some command))).gate ≡ false → gates.new.items ≡ gates.old.items }
+    ensures untouched { (needs (at_once (Some command))).files ≡ false → result.parts.rack ≡ parts.rack }
+    ensures unread { (needs (at_once (Some command))).input ≡ false → source.new ≡ source.old }
     ensures early { OnEnding (λ _. ⊤)
         (λ found. IfErr found (λ r. comes_before_files r ≡ true → result.parts.rack ≡ parts.rack)) result.ending }
     ensures verdict { OnEnding (λ _. ⊤)
@@ -249,7 +248,7 @@ pub fn answer<S: Source, K: Sink, R: Rack + Drop, B: Resource, G: Gate>(
 
 // With how many workers a command runs, if it waits for workers.
 fn workers_of(command: Command) -> Option<u32>
-    ensures { result ≡ workers_in command }
+    ensures { result ≡ (needs (Some command)).workers }
 {
     match command {
         Command::Run { workers } => Some(workers),
