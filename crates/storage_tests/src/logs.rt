@@ -16,10 +16,12 @@ const FILE: [u8; 23] = [
 ];
 
 // A rack whose file 3 has these bytes.
-fn rack_of(alloc: Global, bytes: &[u8]) -> Result<MemoryRack, Fail> {
-    let mut rack = MemoryRack::new(alloc, Vec::new(alloc))?;
-    rack.write_at(3, 0, bytes)?;
-    Ok(rack)
+fn rack_of(rt: &impl Abort, alloc: Global, bytes: &[u8]) -> MemoryRack {
+    let Ok(mut rack) = MemoryRack::new(alloc, Vec::new(alloc)) else {
+        panic!(rt; "no memory");
+    };
+    assert_eq!(rt; rack.write_at(3, 0, bytes), Ok(()));
+    rack
 }
 
 // How many bodies the log of file 3 has, or why it is none.
@@ -30,19 +32,26 @@ fn count(alloc: Global, rack: &mut MemoryRack) -> Result<u32, LogError> {
 
 const BODIES: [&[u8]; 3] = [b"hi", b"", b"abc"];
 
+// A fourth body is appended to the log of the file written by hand.
+fn append_to(rt: &impl Abort, alloc: Global, rack: &mut MemoryRack) {
+    let Ok((mut log, bodies)) = Log::open(alloc, rack, 3) else {
+        panic!(rt; "no log");
+    };
+    assert_eq!(rt; bodies.len(), BODIES.len());
+    for (body, want) in bodies.iter().zip(&BODIES) {
+        assert_eq!(rt; body.bytes(), *want);
+    }
+    assert_eq!(rt; log.append(rack, b"yes"), Ok(()));
+    assert_eq!(rt; log.count(), 4);
+}
+
 #[test]
 fn a_file_written_by_hand_is_opened_and_appended_to(rt: HostRuntime) -> Result<(), Fail> {
     let alloc = rt.alloc();
     let mut file = FILE.to_vec(alloc)?;
     file.extend_from_slice(b"free")?;
-    let mut rack = rack_of(alloc, &file)?;
-    let (mut log, bodies) = Log::open(alloc, &mut rack, 3)?;
-    assert_eq!(rt; bodies.len(), BODIES.len());
-    for (body, want) in bodies.iter().zip(&BODIES) {
-        assert_eq!(rt; body.bytes(), *want);
-    }
-    log.append(&mut rack, b"yes")?;
-    assert_eq!(rt; log.count(), 4);
+    let mut rack = rack_of(&rt, alloc, &file);
+    append_to(&rt, alloc, &mut rack);
     let mut buf = [0; 40];
     assert_eq!(rt; rack.read(3, 0, &mut buf), Ok(29));
     assert_eq!(rt; &buf[..22], &FILE[..22]);
@@ -77,25 +86,41 @@ const DAMAGES: [(usize, u8, Result<u32, LogError>); 13] = [
     (22, 0x01, Err(LogError::BadRecord(4))),
 ];
 
+// A file of these bytes is a log of so many bodies, or none.
+fn expect_count(
+    rt: &impl Abort,
+    alloc: Global,
+    bytes: &[u8],
+    want: Result<u32, LogError>,
+    place: usize,
+) {
+    let mut rack = rack_of(rt, alloc, bytes);
+    assert_eq!(rt; count(alloc, &mut rack), want, "cut or damaged at {place}");
+}
+
+// The file with another byte at a place.
+fn damaged(rt: &impl Abort, alloc: Global, place: usize, byte: u8) -> Vec<u8> {
+    let Ok(mut file) = FILE.to_vec(alloc) else {
+        panic!(rt; "no memory");
+    };
+    assert!(rt; place < file.len());
+    file[place] = byte;
+    file
+}
+
 #[test]
-fn a_cut_or_damaged_file_is_refused_at_its_first_fault(rt: HostRuntime) -> Result<(), Fail> {
+fn a_cut_or_damaged_file_is_refused_at_its_first_fault(rt: HostRuntime) {
     let alloc = rt.alloc();
     for (from, to, want) in &CUTS {
         for len in *from..*to {
             assert!(rt; len <= FILE.len());
-            let mut rack = rack_of(alloc, &FILE[..len])?;
-            assert_eq!(rt; count(alloc, &mut rack), *want, "cut after {len}");
+            expect_count(&rt, alloc, &FILE[..len], *want, len);
         }
     }
     for (at, byte, want) in &DAMAGES {
-        let place = *at;
-        assert!(rt; place < FILE.len());
-        let mut file = FILE.to_vec(alloc)?;
-        file[place] = *byte;
-        let mut rack = rack_of(alloc, &file)?;
-        assert_eq!(rt; count(alloc, &mut rack), *want, "damaged at {place}");
+        let file = damaged(&rt, alloc, *at, *byte);
+        expect_count(&rt, alloc, &file, *want, *at);
     }
-    Ok(())
 }
 
 #[test]
@@ -110,8 +135,7 @@ fn a_log_has_at_most_65536_records(rt: HostRuntime) -> Result<(), Fail> {
             file.extend_from_slice(b"\x01\x00\x00")?;
         }
         file.push(0)?;
-        let mut rack = rack_of(alloc, &file)?;
-        assert_eq!(rt; count(alloc, &mut rack), want);
+        expect_count(&rt, alloc, &file, want, records);
     }
     Ok(())
 }
@@ -159,18 +183,14 @@ fn two_bodies(rt: &impl Abort, alloc: Global, retract: bool) -> Result<MemoryRac
 }
 
 // Stops a rack so, and counts the bodies that are left.
-fn stop(
-    rt: &impl Abort,
-    alloc: Global,
-    rack: &MemoryRack,
-    stops: &[(u32, u32, u8, u32)],
-) -> Result<(), Fail> {
+fn stop(rt: &impl Abort, alloc: Global, rack: &MemoryRack, stops: &[(u32, u32, u8, u32)]) {
     for (call, keep, fill, want) in stops {
         assert!(rt; u64::from(*call) < rack.calls());
-        let mut left = rack.stopped(alloc, *call, *keep, *fill)?;
+        let Ok(mut left) = rack.stopped(alloc, *call, *keep, *fill) else {
+            panic!(rt; "no memory");
+        };
         assert_eq!(rt; count(alloc, &mut left), Ok(*want), "call {call}");
     }
-    Ok(())
 }
 
 #[test]
@@ -178,10 +198,11 @@ fn a_stop_within_a_call_leaves_the_list_before_or_after_it(rt: HostRuntime) -> R
     let alloc = rt.alloc();
     let rack = two_bodies(&rt, alloc, false)?;
     assert_eq!(rt; rack.calls(), 10);
-    stop(&rt, alloc, &rack, &STOPS)?;
+    stop(&rt, alloc, &rack, &STOPS);
     let rack = two_bodies(&rt, alloc, true)?;
     assert_eq!(rt; rack.calls(), 12);
-    stop(&rt, alloc, &rack, &RETRACTS)
+    stop(&rt, alloc, &rack, &RETRACTS);
+    Ok(())
 }
 
 // A stop within the four calls that append three staged bodies, calls 2 to 5, and how many bodies it leaves.
@@ -214,7 +235,7 @@ fn a_stop_leaves_all_staged_bodies_or_none(rt: HostRuntime) -> Result<(), Fail> 
     assert_eq!(rt; rack.calls(), 6);
     assert_eq!(rt; log.count(), 3);
     assert!(rt; log.can_retract());
-    stop(&rt, alloc, &rack, &STAGED)?;
+    stop(&rt, alloc, &rack, &STAGED);
     let mut buf = [0; 40];
     assert_eq!(rt; rack.read(3, 0, &mut buf), Ok(23));
     assert_eq!(rt; &buf[8..13], &FILE[8..13]);

@@ -2,7 +2,6 @@
 use process_disk::{MemoryRack, Rack};
 use std::alloc::Global;
 use std::process::Abort;
-use std::test::Fail;
 
 #[derive(Drop)]
 enum Call {
@@ -59,13 +58,18 @@ fn make(rt: &impl Abort, rack: &mut MemoryRack, call: &Call) {
     }
 }
 
-fn run(rt: &impl Abort, alloc: Global) -> Result<MemoryRack, Fail> {
-    let mut rack = MemoryRack::new(alloc, vec![in alloc; 7, 9]?)?;
+fn run(rt: &impl Abort, alloc: Global) -> MemoryRack {
+    let Ok(fails) = vec![in alloc; 7, 9] else {
+        panic!(rt; "no memory");
+    };
+    let Ok(mut rack) = MemoryRack::new(alloc, fails) else {
+        panic!(rt; "no memory");
+    };
     for call in &CALLS {
         make(rt, &mut rack, call);
     }
     assert_eq!(rt; rack.calls(), 12);
-    Ok(rack)
+    rack
 }
 
 struct Stop {
@@ -345,16 +349,22 @@ fn expect_files(rt: &impl Abort, rack: &mut MemoryRack, stop: &Stop) {
     }
 }
 
+// A stop leaves what the row says.
+fn expect_stop(rt: &impl Abort, alloc: Global, rack: &MemoryRack, stop: &Stop) {
+    assert!(rt; u64::from(stop.call) < rack.calls());
+    let Ok(mut left) = rack.stopped(alloc, stop.call, stop.keep, stop.fill) else {
+        panic!(rt; "no memory");
+    };
+    assert_eq!(rt; left.calls(), 0);
+    assert_eq!(rt; left.starved(), 0);
+    expect_files(rt, &mut left, stop);
+}
+
 #[test]
-fn a_stop_leaves_what_the_table_says(rt: HostRuntime) -> Result<(), Fail> {
+fn a_stop_leaves_what_the_table_says(rt: HostRuntime) {
     let alloc = rt.alloc();
-    let rack = run(&rt, alloc)?;
+    let rack = run(&rt, alloc);
     for stop in &STOPS {
-        assert!(rt; u64::from(stop.call) < rack.calls());
-        let mut left = rack.stopped(alloc, stop.call, stop.keep, stop.fill)?;
-        assert_eq!(rt; left.calls(), 0);
-        assert_eq!(rt; left.starved(), 0);
-        expect_files(&rt, &mut left, stop);
+        expect_stop(&rt, alloc, &rack, stop);
     }
-    Ok(())
 }
