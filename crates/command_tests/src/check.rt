@@ -1,7 +1,6 @@
 // The command `check`.
 use crate::calls::{Call, empty};
-use crate::expected::{expect, expect_call};
-use std::test::Fail;
+use crate::expected::{expect, expect_call, must};
 
 const TEXT: &[u8] = b"process a c x add 1 5 end";
 
@@ -29,12 +28,11 @@ const FAULTS: [(Call<'static>, u8, &[u8]); 2] = [
 ];
 
 #[test]
-fn a_text_is_checked_and_faults_are_told(rt: HostRuntime) -> Result<(), Fail> {
+fn a_text_is_checked_and_faults_are_told(rt: HostRuntime) {
     let alloc = rt.alloc();
-    expect(&rt, alloc, &["check"], TEXT, 0, b"a: well-formed\n")?;
+    expect(&rt, alloc, &["check"], TEXT, 0, b"a: well-formed\n");
     for (call, status, output) in &FAULTS {
-        let rack = empty(alloc, &[])?;
-        drop(expect_call(&rt, alloc, *call, rack, *status, output)?);
+        let rack = must(&rt, empty(alloc, &[]));
+        drop(expect_call(&rt, alloc, *call, rack, *status, output));
     }
-    Ok(())
 }

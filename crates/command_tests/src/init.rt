@@ -1,8 +1,7 @@
 // The command `init`.
 use crate::calls::{Call, empty};
-use crate::expected::{expect_call, expect_on};
+use crate::expected::{expect_call, expect_on, must};
 use process_disk::Rack;
-use std::test::Fail;
 
 const INIT: &[&str] = &["init"];
 
@@ -18,13 +17,19 @@ const UNREAD: Call<'static> = Call {
 };
 
 #[test]
-fn faults_are_told(rt: HostRuntime) -> Result<(), Fail> {
+fn faults_are_told(rt: HostRuntime) {
     let alloc = rt.alloc();
     for fault in [0, 8, 9, 10, 13, 20] {
-        let rack = empty(alloc, &[fault])?;
-        drop(expect_on(&rt, alloc, INIT, ADD_ALONE, rack, 10, b"disk fault\n")?);
+        let rack = must(&rt, empty(alloc, &[fault]));
+        drop(expect_on(&rt, alloc, INIT, ADD_ALONE, rack, 10, b"disk fault\n"));
     }
-    let mut left = expect_call(&rt, alloc, UNREAD, empty(alloc, &[])?, 8, b"read fault\n")?;
+    let mut left = expect_call(
+        &rt,
+        alloc,
+        UNREAD,
+        must(&rt, empty(alloc, &[])),
+        8,
+        b"read fault\n",
+    );
     assert_eq!(rt; left.len(0), Ok(0));
-    Ok(())
 }

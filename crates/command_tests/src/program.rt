@@ -2,6 +2,7 @@
 ghost use Rattle.std.specs.Prelude.{◌≡◌};
 
 use crate::calls::words_of;
+use crate::expected::must;
 use crate::show::{SHOWN, TEXT, TWO_STEPS_KEPT};
 use file_rack::{Access, FileRack, Folder, MemoryFolder, SystemFolder};
 use gate_log::Log;
@@ -13,7 +14,6 @@ use std::fmt::Write;
 use std::process::{Abort, ExitCode};
 use std::rt::{Env, Files};
 use std::sync::Wait;
-use std::test::Fail;
 use std::thread::Threads;
 use std::{env, fs, io};
 
@@ -40,13 +40,12 @@ struct Call<'a> {
 }
 
 // The code is this.
-fn expect_code(rt: &impl Abort, alloc: Global, found: ExitCode, code: u8) -> Result<(), Fail> {
+fn expect_code(rt: &impl Abort, alloc: Global, found: ExitCode, code: u8) {
     let mut shown = String::new(alloc);
-    write!(shown, "{found:?}")?;
+    must(rt, write!(shown, "{found:?}"));
     let mut wanted = String::new(alloc);
-    write!(wanted, "ExitCode(unix_exit_status({code}))")?;
+    must(rt, write!(wanted, "ExitCode(unix_exit_status({code}))"));
     assert_eq!(rt; shown.as_str(), wanted.as_str());
-    Ok(())
 }
 
 // The program answers so over a folder. The answer is the rack that it leaves.
@@ -55,16 +54,16 @@ fn expect_on<H: Abort + Threads + Wait + Sync, D: Folder + Drop + Send>(
     alloc: Global,
     call: Call<'_>,
     folder: D,
-) -> Result<FileRack<D>, Fail>
+) -> FileRack<D>
     requires { D.access folder ≡ Access.Unentered }
 {
-    let args = words_of(alloc, &["tps", call.word])?.into_iter();
-    let mut source = MemorySource::new(call.text.to_vec(alloc)?, Vec::new(alloc));
+    let args = must(rt, words_of(alloc, &["tps", call.word])).into_iter();
+    let mut source = MemorySource::new(must(rt, call.text.to_vec(alloc)), Vec::new(alloc));
     let mut sink = MemorySink::new(alloc, Vec::new(alloc));
     let Ended { code, rack } = program(rt, alloc, Ok(args), &mut source, &mut sink, folder);
-    expect_code(rt, alloc, code, call.code)?;
+    expect_code(rt, alloc, code, call.code);
     assert_eq!(rt; sink.bytes(), call.output);
-    Ok(rack)
+    rack
 }
 
 const RUN: Call<'static> = Call {
@@ -114,48 +113,43 @@ const RUN_ON_ANOTHER_LOG: Call<'static> = Call {
 };
 
 #[test]
-fn a_second_program_on_the_folder_changes_nothing(rt: HostRuntime) -> Result<(), Fail> {
+fn a_second_program_on_the_folder_changes_nothing(rt: HostRuntime) {
     let alloc = rt.alloc();
-    fresh_folder(&rt, "second")?;
+    must(&rt, fresh_folder(&rt, "second"));
     let mut first = FileRack::new(&rt);
-    let mut log = Log::create(alloc, &mut first, 0)?;
-    let before = fs::read(&rt, "tps.0")?;
+    let Ok(mut log) = Log::create(alloc, &mut first, 0) else {
+        panic!(&rt; "no log");
+    };
+    let before = must(&rt, fs::read(&rt, "tps.0"));
     for call in &BESIDE {
-        drop(expect_on(&rt, alloc, *call, SystemFolder::new(&rt))?);
+        drop(expect_on(&rt, alloc, *call, SystemFolder::new(&rt)));
     }
-    let after = fs::read(&rt, "tps.0")?;
+    let after = must(&rt, fs::read(&rt, "tps.0"));
     assert_eq!(rt; after.as_slice(), before.as_slice());
-    log.append(&mut first, b"first")?;
+    must(&rt, log.append(&mut first, b"first"));
     drop(first);
     let folder = SystemFolder::new(&rt);
-    drop(expect_on(&rt, alloc, RUN_ON_ANOTHER_LOG, folder)?);
-    leave(&rt, "second")?;
-    Ok(())
+    drop(expect_on(&rt, alloc, RUN_ON_ANOTHER_LOG, folder));
+    must(&rt, leave(&rt, "second"));
 }
 
 // A run in which so many bytes go in a transfer at most writes the same journal.
-fn expect_journal<H: Abort + Threads + Wait + Sync>(
-    rt: &H,
-    alloc: Global,
-    most: u8,
-) -> Result<(), Fail> {
-    let rack = MemoryRack::new(alloc, Vec::new(alloc))?;
-    let made = expect_on(rt, alloc, MAKE_TEXT, MemoryFolder::new(rack, most))?;
-    let mut rack = expect_on(rt, alloc, RUN, MemoryFolder::new(made.folder.rack, most))?;
+fn expect_journal<H: Abort + Threads + Wait + Sync>(rt: &H, alloc: Global, most: u8) {
+    let rack = must(rt, MemoryRack::new(alloc, Vec::new(alloc)));
+    let made = expect_on(rt, alloc, MAKE_TEXT, MemoryFolder::new(rack, most));
+    let mut rack = expect_on(rt, alloc, RUN, MemoryFolder::new(made.folder.rack, most));
     let mut bytes = [0; 100];
     assert_eq!(rt; rack.read(0, 0, &mut bytes), Ok(99));
     assert_eq!(rt; &bytes[..99], TWO_STEPS_KEPT);
-    let shown = expect_on(rt, alloc, SHOW, MemoryFolder::new(rack.folder.rack, most))?;
+    let shown = expect_on(rt, alloc, SHOW, MemoryFolder::new(rack.folder.rack, most));
     drop(shown);
-    Ok(())
 }
 
 #[test]
-fn short_transfers_write_the_same_journal(rt: HostRuntime) -> Result<(), Fail> {
+fn short_transfers_write_the_same_journal(rt: HostRuntime) {
     for most in [1, 4, 255] {
-        expect_journal(&rt, rt.alloc(), most)?;
+        expect_journal(&rt, rt.alloc(), most);
     }
-    Ok(())
 }
 
 // A run on a disk that fails.
@@ -172,21 +166,20 @@ fn run_over<H: Abort + Threads + Wait + Sync>(
     alloc: Global,
     fails: &[u32],
     run: Call<'_>,
-) -> Result<FileRack<MemoryFolder>, Fail> {
-    let rack = MemoryRack::new(alloc, fails.to_vec(alloc)?)?;
-    let made = expect_on(rt, alloc, MAKE_TEXT, MemoryFolder::new(rack, 255))?;
+) -> FileRack<MemoryFolder> {
+    let rack = must(rt, MemoryRack::new(alloc, must(rt, fails.to_vec(alloc))));
+    let made = expect_on(rt, alloc, MAKE_TEXT, MemoryFolder::new(rack, 255));
     expect_on(rt, alloc, run, MemoryFolder::new(made.folder.rack, 255))
 }
 
 #[test]
-fn a_failed_sync_ends_a_run(rt: HostRuntime) -> Result<(), Fail> {
+fn a_failed_sync_ends_a_run(rt: HostRuntime) {
     let alloc = rt.alloc();
-    let whole = run_over(&rt, alloc, &[], RUN)?;
+    let whole = run_over(&rt, alloc, &[], RUN);
     // The last call syncs the record of the end.
     let calls = whole.folder.rack.calls();
-    let last = u32::try_from(calls)?.wrapping_sub(1);
-    let rack = run_over(&rt, alloc, &[last], FAILED)?;
+    let last = must(&rt, u32::try_from(calls)).wrapping_sub(1);
+    let rack = run_over(&rt, alloc, &[last], FAILED);
     assert!(rt; rack.broken);
     assert_eq!(rt; rack.folder.rack.calls(), calls);
-    Ok(())
 }

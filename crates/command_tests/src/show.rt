@@ -1,11 +1,10 @@
 // The command `show`.
 use crate::calls::{answer_to, empty, plain_call};
-use crate::expected::expect_on;
+use crate::expected::{expect_on, must};
 use process_disk::MemoryRack;
-use std::alloc::{AllocError, Global};
+use std::alloc::Global;
 use std::process::Abort;
 use std::sync::Wait;
-use std::test::Fail;
 use std::thread::Threads;
 
 /// A scenario of one operation, and of one process of two steps.
@@ -28,17 +27,14 @@ fn show_on<H: Abort + Threads + Wait + Sync>(
     rack: MemoryRack,
     status: u8,
     output: &[u8],
-) -> Result<MemoryRack, AllocError> {
+) -> MemoryRack {
     expect_on(rt, alloc, &["show"], b"", rack, status, output)
 }
 
 // A rack on which that scenario was run.
-fn run_before<H: Abort + Threads + Wait + Sync>(
-    rt: &H,
-    alloc: Global,
-) -> Result<MemoryRack, AllocError> {
-    let rack = empty(alloc, &[])?;
-    let rack = expect_on(rt, alloc, &["init"], TEXT, rack, 0, b"created\n")?;
+fn run_before<H: Abort + Threads + Wait + Sync>(rt: &H, alloc: Global) -> MemoryRack {
+    let rack = must(rt, empty(alloc, &[]));
+    let rack = expect_on(rt, alloc, &["init"], TEXT, rack, 0, b"created\n");
     expect_on(rt, alloc, &["run"], TEXT, rack, 0, SHOWN)
 }
 
@@ -65,14 +61,13 @@ const TWO_STEPS: &[u8] = b"conflicts\nhistory\nstart 1 a\ndo 1.x add\ndo 1.y add
 const BEGINNINGS: [&[u8]; 5] = [CATALOG_ALONE, STARTED, ONE_STEP, TWO_STEPS, SHOWN];
 
 #[test]
-fn a_disk_fault_is_told(rt: HostRuntime) -> Result<(), Fail> {
+fn a_disk_fault_is_told(rt: HostRuntime) {
     let alloc = rt.alloc();
     for call in [0, 1, 2] {
-        let rack = MemoryRack::new(alloc, vec![in alloc; call]?)?;
-        let rack = show_on(&rt, alloc, rack, 10, b"disk fault\n")?;
+        let rack = must(&rt, MemoryRack::new(alloc, must(&rt, vec![in alloc; call])));
+        let rack = show_on(&rt, alloc, rack, 10, b"disk fault\n");
         drop(rack);
     }
-    Ok(())
 }
 
 // What is shown of so many records.
@@ -86,34 +81,34 @@ fn shown_after<H: Abort + Threads + Wait + Sync>(
     alloc: Global,
     whole: &MemoryRack,
     stop: (u32, u32, u8),
-) -> Result<Vec<u8>, Fail> {
+) -> Vec<u8> {
     let (call, keep, fill) = stop;
     assert!(rt; u64::from(call) < whole.calls());
-    let left = whole.stopped(alloc, call, keep, fill)?;
-    let told = answer_to(rt, alloc, plain_call(&["show"], b""), left)?;
+    let left = must(rt, whole.stopped(alloc, call, keep, fill));
+    let told = must(rt, answer_to(rt, alloc, plain_call(&["show"], b""), left));
     assert_eq!(rt; told.status, 0);
-    Ok(told.sink.bytes().to_vec(alloc)?)
+    must(rt, told.sink.bytes().to_vec(alloc))
 }
 
 #[test]
-fn a_stop_leaves_a_beginning_of_the_history(rt: HostRuntime) -> Result<(), Fail> {
+fn a_stop_leaves_a_beginning_of_the_history(rt: HostRuntime) {
     let alloc = rt.alloc();
-    let rack = MemoryRack::new(alloc, Vec::new(alloc))?;
-    let made = expect_on(&rt, alloc, &["init"], TEXT, rack, 0, b"created\n")?;
-    let first = u32::try_from(made.calls())?;
-    let whole = run_before(&rt, alloc)?;
-    let last = u32::try_from(whole.calls())?;
+    let rack = must(&rt, MemoryRack::new(alloc, Vec::new(alloc)));
+    let made = expect_on(&rt, alloc, &["init"], TEXT, rack, 0, b"created\n");
+    let first = must(&rt, u32::try_from(made.calls()));
+    let whole = run_before(&rt, alloc);
+    let last = must(&rt, u32::try_from(whole.calls()));
     // How many records stand where the call under way leaves nothing; they never get fewer, and another stop within it leaves one
     // more at most.
     let mut kept = 0;
     for call in first..last {
-        let none = shown_after(&rt, alloc, &whole, (call, 0, 0x00))?;
+        let none = shown_after(&rt, alloc, &whole, (call, 0, 0x00));
         if kept < 4 && none.as_slice() != beginning(&rt, kept) {
             kept += 1;
         }
         assert_eq!(rt; none.as_slice(), beginning(&rt, kept));
         for (keep, fill) in [(0, 0x07), (0, 0xff), (1, 0x00), (1, 0xff), (2, 0x07)] {
-            let shown = shown_after(&rt, alloc, &whole, (call, keep, fill))?;
+            let shown = shown_after(&rt, alloc, &whole, (call, keep, fill));
             let more = kept < 4 && shown.as_slice() == beginning(&rt, kept + 1);
             assert!(rt;
                 more || shown.as_slice() == beginning(&rt, kept),
@@ -122,5 +117,4 @@ fn a_stop_leaves_a_beginning_of_the_history(rt: HostRuntime) -> Result<(), Fail>
         }
     }
     assert_eq!(rt; kept, 3);
-    Ok(())
 }

@@ -2,10 +2,9 @@
 ghost use Rattle.std.specs.Prelude.{◌≡◌, IfOk, length};
 
 use crate::calls::{answer_with, empty, plain_call};
-use crate::expected::expect_on;
+use crate::expected::{expect_on, must};
 use crate::scenarios::scenario;
 use std::alloc::{AllocError, Global};
-use std::test::Fail;
 use thread_workers::MeetingGate;
 
 // Each of two processes has one step, and does it while the other does its own: else a gate would have refused a pivot.
@@ -42,14 +41,16 @@ fn has(text: &[u8], part: &[u8]) -> bool {
 }
 
 #[test]
-fn two_workers_meet_in_a_run(rt: HostRuntime) -> Result<(), Fail> {
+fn two_workers_meet_in_a_run(rt: HostRuntime) {
     let alloc = rt.alloc();
-    let text = scenario(alloc, PROCESSES, b"")?;
-    let rack = empty(alloc, &[])?;
-    let rack = expect_on(&rt, alloc, &["init"], &text, rack, 0, b"created\n")?;
+    let text = must(&rt, scenario(alloc, PROCESSES, b""));
+    let rack = must(&rt, empty(alloc, &[]));
+    let rack = expect_on(&rt, alloc, &["init"], &text, rack, 0, b"created\n");
     let run = plain_call(&["run", "--workers", "2"], &text);
-    let told = answer_with(&rt, alloc, run, rack, meeting_gates(alloc)?)?;
+    let Ok(gates) = meeting_gates(alloc) else {
+        panic!(&rt; "no memory");
+    };
+    let told = must(&rt, answer_with(&rt, alloc, run, rack, gates));
     assert_eq!(rt; told.status, 0);
     assert!(rt; has(told.sink.bytes(), BOTH_ENDED));
-    Ok(())
 }

@@ -1,8 +1,7 @@
 // What it saves that pieces of several processes take effect together.
-use crate::expected::expect_on;
+use crate::expected::{expect_on, must};
 use command_tests::calls::{answer_to, empty, plain_call};
 use command_tests::scenarios::scenario;
-use std::test::Fail;
 
 // Their steps are on two subsystems, so both are in one group, and so are their ends.
 const PROCESSES: &[u8] = b"process a c x add 1 5 end\nprocess b c u pay 2 2 end\n";
@@ -18,31 +17,33 @@ const ANSWERS: &[u8] =
 #[test]
 fn a_run_by_one_worker_makes_fewer_device_calls_than_a_session_that_finishes_each_piece(
     rt: HostRuntime,
-) -> Result<(), Fail> {
+) {
     let alloc = rt.alloc();
-    let text = scenario(alloc, PROCESSES, b"")?;
+    let text = must(&rt, scenario(alloc, PROCESSES, b""));
     let made = expect_on(
         &rt,
         alloc,
         &["init"],
         &text,
-        empty(alloc, &[])?,
+        must(&rt, empty(alloc, &[])),
         0,
         b"created\n",
-    )?;
-    let ran = answer_to(&rt, alloc, plain_call(&["run"], &text), made)?;
+    );
+    let ran = must(
+        &rt,
+        answer_to(&rt, alloc, plain_call(&["run"], &text), made),
+    );
     assert_eq!(rt; ran.status, 0);
     let made = expect_on(
         &rt,
         alloc,
         &["init"],
         &text,
-        empty(alloc, &[])?,
+        must(&rt, empty(alloc, &[])),
         0,
         b"created\n",
-    )?;
-    let lines = scenario(alloc, PROCESSES, LINES)?;
-    let played = expect_on(&rt, alloc, &["session"], &lines, made, 0, ANSWERS)?;
+    );
+    let lines = must(&rt, scenario(alloc, PROCESSES, LINES));
+    let played = expect_on(&rt, alloc, &["session"], &lines, made, 0, ANSWERS);
     assert!(&rt; ran.rack.calls() < played.calls());
-    Ok(())
 }

@@ -3,6 +3,7 @@ ghost use Rattle.std.specs.Prelude.{IfOk};
 ghost use Rattle.history_files.specs.Boxes.{AreBoxes};
 
 use crate::cases::{CASES, Case, Contents, EMPTY, FileParts, Opens, fault_of};
+use crate::expected::must;
 use process_disk::{MemoryRack, Rack};
 use process_engine::{Engine, OpenError, Parts};
 use process_program::new_boxes;
@@ -22,62 +23,59 @@ fn parts_among(files: Contents, file: u8) -> Option<FileParts> {
     None
 }
 
-fn joined(alloc: Global, parts: &[&[u8]]) -> Result<Vec<u8>, Fail> {
+fn joined(rt: &impl Abort, alloc: Global, parts: &[&[u8]]) -> Vec<u8> {
     let mut bytes = Vec::new(alloc);
     for part in parts {
-        bytes.extend_from_slice(part)?;
+        must(rt, bytes.extend_from_slice(part));
     }
-    Ok(bytes)
+    bytes
 }
 
 // The bytes of a file of the case.
-fn bytes_before(alloc: Global, case: &Case, file: u8) -> Result<Vec<u8>, Fail> {
+fn bytes_before(rt: &impl Abort, alloc: Global, case: &Case, file: u8) -> Vec<u8> {
     match (parts_among(case.files, file), EMPTY.get(usize::from(file))) {
-        (Some(parts), _) => joined(alloc, parts),
-        (None, Some(parts)) => joined(alloc, parts),
-        (None, None) => Ok(Vec::new(alloc)),
+        (Some(parts), _) => joined(rt, alloc, parts),
+        (None, Some(parts)) => joined(rt, alloc, parts),
+        (None, None) => Vec::new(alloc),
     }
 }
 
-fn bytes_after(alloc: Global, case: &Case, file: u8) -> Result<Vec<u8>, Fail> {
+fn bytes_after(rt: &impl Abort, alloc: Global, case: &Case, file: u8) -> Vec<u8> {
     match parts_among(case.after, file) {
-        Some(parts) => joined(alloc, parts),
-        None => bytes_before(alloc, case, file),
+        Some(parts) => joined(rt, alloc, parts),
+        None => bytes_before(rt, alloc, case, file),
     }
 }
 
-fn rack_of(alloc: Global, case: &Case) -> Result<MemoryRack, Fail> {
-    let mut rack = MemoryRack::new(alloc, Vec::new(alloc))?;
+fn rack_of(rt: &impl Abort, alloc: Global, case: &Case) -> MemoryRack {
+    let mut rack = must(rt, MemoryRack::new(alloc, Vec::new(alloc)));
     for file in 0..9 {
-        rack.write_at(file, 0, &bytes_before(alloc, case, file)?)?;
+        must(
+            rt,
+            rack.write_at(file, 0, &bytes_before(rt, alloc, case, file)),
+        );
     }
-    Ok(rack)
+    rack
 }
 
 // The bytes of a file, which are fewer than 200.
-fn bytes_in(alloc: Global, rack: &mut MemoryRack, file: u8) -> Result<Vec<u8>, Fail> {
+fn bytes_in(rt: &impl Abort, alloc: Global, rack: &mut MemoryRack, file: u8) -> Vec<u8> {
     if file >= 9 {
-        return Ok(Vec::new(alloc));
+        return Vec::new(alloc);
     }
-    let mut bytes = vec![in alloc; 0; 200]?;
-    let count = rack.read(file, 0, &mut bytes)?;
+    let mut bytes = must(rt, vec![in alloc; 0; 200]);
+    let count = must(rt, rack.read(file, 0, &mut bytes));
     bytes.truncate(count);
-    Ok(bytes)
+    bytes
 }
 
-fn expect_files<H: Abort>(
-    rt: &H,
-    alloc: Global,
-    case: &Case,
-    rack: MemoryRack,
-) -> Result<(), Fail> {
+fn expect_files<H: Abort>(rt: &H, alloc: Global, case: &Case, rack: MemoryRack) {
     let mut rack = rack;
     for file in 0..9 {
-        let found = bytes_in(alloc, &mut rack, file)?;
-        let wanted = bytes_after(alloc, case, file)?;
+        let found = bytes_in(rt, alloc, &mut rack, file);
+        let wanted = bytes_after(rt, alloc, case, file);
         assert!(rt; found == wanted, "{}: file {file}", case.name);
     }
-    Ok(())
 }
 
 // The history and the books that were opened.
@@ -115,7 +113,7 @@ fn expect_opening<H: Abort, B: Resource>(
     requires { AreBoxes B.sort resources.items }
     ensures { IfOk result (λ parts. AreBoxes B.sort parts.resources.items) }
 {
-    let rack = rack_of(alloc, case)?;
+    let rack = rack_of(rt, alloc, case);
     match Engine::open(alloc, Parts { rack, resources }) {
         Ok(engine) => {
             expect_found(rt, case, &engine);
@@ -140,7 +138,7 @@ fn expect_openings<H: Abort, B: Resource>(
     for case in &CASES {
         let parts = expect_opening(rt, alloc, case, resources)?;
         resources = parts.resources;
-        expect_files(rt, alloc, case, parts.rack)?;
+        expect_files(rt, alloc, case, parts.rack);
     }
     Ok(())
 }

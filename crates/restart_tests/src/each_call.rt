@@ -2,14 +2,13 @@
 // output.
 ghost use Rattle.std.specs.Prelude.{◌≤◌, length};
 
-use crate::plays::{expect_on, made};
+use crate::plays::{expect_on, made, must};
 use command_tests::calls::{Call, answer_to, plain_call};
 use command_tests::scenarios::scenario;
 use process_disk::MemoryRack;
-use std::alloc::{AllocError, Global};
+use std::alloc::Global;
 use std::process::Abort;
 use std::sync::Wait;
-use std::test::Fail;
 use std::thread::Threads;
 
 // One that goes on behind its commit point, and one that takes of what it added and is refused then.
@@ -66,10 +65,10 @@ fn printed<H: Abort + Threads + Wait + Sync>(
     word: &str,
     text: &[u8],
     rack: MemoryRack,
-) -> Result<(Vec<u8>, MemoryRack), AllocError> {
-    let told = answer_to(rt, alloc, plain_call(&[word], text), rack)?;
+) -> (Vec<u8>, MemoryRack) {
+    let told = must(rt, answer_to(rt, alloc, plain_call(&[word], text), rack));
     assert_eq!(rt; told.status, 0);
-    Ok((told.sink.bytes().to_vec(alloc)?, told.rack))
+    (must(rt, told.sink.bytes().to_vec(alloc)), told.rack)
 }
 
 // A restart ends all, its report is accepted, and another one says the same. The answer is how many starts and steps the history
@@ -78,14 +77,14 @@ fn expect_restored<H: Abort + Threads + Wait + Sync>(
     rt: &H,
     alloc: Global,
     rack: MemoryRack,
-) -> Result<usize, AllocError> {
-    let (first, rack) = printed(rt, alloc, "restart", b"", rack)?;
-    let (verdict, rack) = printed(rt, alloc, "verify", &first, rack)?;
+) -> usize {
+    let (first, rack) = printed(rt, alloc, "restart", b"", rack);
+    let (verdict, rack) = printed(rt, alloc, "verify", &first, rack);
     assert!(rt; verdict.as_slice() == b"accepted\n".as_slice());
-    let (second, _) = printed(rt, alloc, "restart", b"", rack)?;
+    let (second, _) = printed(rt, alloc, "restart", b"", rack);
     expect_alike(rt, &first, &second);
     assert_eq!(rt; count_of(&second, b" active\n"), 0);
-    Ok(happened(&second))
+    happened(&second)
 }
 
 // How many starts and steps the history of a report has.
@@ -101,81 +100,71 @@ fn expect_stops_within<H: Abort + Threads + Wait + Sync>(
     whole: &MemoryRack,
     call: u32,
     before: usize,
-) -> Result<usize, Fail> {
+) -> usize {
     assert!(rt; u64::from(call) < whole.calls());
-    let least = expect_restored(rt, alloc, whole.stopped(alloc, call, 0, 0x00)?)?;
+    let least = expect_restored(rt, alloc, must(rt, whole.stopped(alloc, call, 0, 0x00)));
     assert!(rt; before <= least, "call {call}");
     for (keep, fill) in STOPS {
-        let rack = whole.stopped(alloc, call, keep, fill)?;
-        let (report, _) = printed(rt, alloc, "restart", b"", rack)?;
+        let rack = must(rt, whole.stopped(alloc, call, keep, fill));
+        let (report, _) = printed(rt, alloc, "restart", b"", rack);
         assert!(rt; least <= happened(&report), "call {call}");
     }
-    Ok(least)
+    least
 }
 
 // The rack behind a run of the two, and the number of its first call.
-fn run_whole<H: Abort + Threads + Wait + Sync>(
-    rt: &H,
-    alloc: Global,
-) -> Result<(MemoryRack, u32), Fail> {
-    let rack = made(rt, alloc, &[])?;
-    let first = u32::try_from(rack.calls())?;
-    let text = scenario(alloc, PROCESSES, b"")?;
-    let (report, rack) = printed(rt, alloc, "run", &text, rack)?;
+fn run_whole<H: Abort + Threads + Wait + Sync>(rt: &H, alloc: Global) -> (MemoryRack, u32) {
+    let rack = made(rt, alloc, &[]);
+    let first = must(rt, u32::try_from(rack.calls()));
+    let text = must(rt, scenario(alloc, PROCESSES, b""));
+    let (report, rack) = printed(rt, alloc, "run", &text, rack);
     assert_eq!(rt; count_of(&report, b" active\n"), 0);
-    Ok((rack, first))
+    (rack, first)
 }
 
 #[test]
-fn a_run_is_stopped_within_each_call_and_restarted(rt: HostRuntime) -> Result<(), Fail> {
+fn a_run_is_stopped_within_each_call_and_restarted(rt: HostRuntime) {
     let alloc = rt.alloc();
-    let (whole, first) = run_whole(&rt, alloc)?;
-    let last = u32::try_from(whole.calls())?;
+    let (whole, first) = run_whole(&rt, alloc);
+    let last = must(&rt, u32::try_from(whole.calls()));
     let mut least = 0;
     for call in first..last {
-        least = expect_stops_within(&rt, alloc, &whole, call, least)?;
+        least = expect_stops_within(&rt, alloc, &whole, call, least);
     }
     // Two starts and four steps.
     assert_eq!(&rt; least, 6);
-    Ok(())
 }
 
 #[test]
-fn each_call_of_a_run_fails_once(rt: HostRuntime) -> Result<(), Fail> {
+fn each_call_of_a_run_fails_once(rt: HostRuntime) {
     let alloc = rt.alloc();
-    let (whole, first) = run_whole(&rt, alloc)?;
-    let text = scenario(alloc, PROCESSES, b"")?;
-    for call in first..u32::try_from(whole.calls())? {
-        let rack = made(&rt, alloc, &[call])?;
-        let rack = expect_on(&rt, alloc, "run", &text, rack, 10, b"disk fault\n")?;
-        let _ = expect_restored(&rt, alloc, rack)?;
+    let (whole, first) = run_whole(&rt, alloc);
+    let text = must(&rt, scenario(alloc, PROCESSES, b""));
+    for call in first..must(&rt, u32::try_from(whole.calls())) {
+        let rack = made(&rt, alloc, &[call]);
+        let rack = expect_on(&rt, alloc, "run", &text, rack, 10, b"disk fault\n");
+        expect_restored(&rt, alloc, rack);
     }
-    Ok(())
 }
 
 // The rack behind the session, of which this call fails.
-fn left<H: Abort + Threads + Wait + Sync>(
-    rt: &H,
-    alloc: Global,
-    fails: &[u32],
-) -> Result<MemoryRack, Fail> {
-    let text = scenario(alloc, PROCESSES, LINES)?;
-    let rack = made(rt, alloc, fails)?;
-    Ok(expect_on(rt, alloc, "session", &text, rack, 0, ANSWERS)?)
+fn left<H: Abort + Threads + Wait + Sync>(rt: &H, alloc: Global, fails: &[u32]) -> MemoryRack {
+    let text = must(rt, scenario(alloc, PROCESSES, LINES));
+    let rack = made(rt, alloc, fails);
+    expect_on(rt, alloc, "session", &text, rack, 0, ANSWERS)
 }
 
 #[test]
-fn each_call_of_a_restart_fails_once(rt: HostRuntime) -> Result<(), Fail> {
+fn each_call_of_a_restart_fails_once(rt: HostRuntime) {
     let alloc = rt.alloc();
-    let rack = left(&rt, alloc, &[])?;
-    let first = u32::try_from(rack.calls())?;
-    let (_, whole) = printed(&rt, alloc, "restart", b"", rack)?;
-    for call in first..u32::try_from(whole.calls())? {
-        let rack = left(&rt, alloc, &[call])?;
-        let rack = expect_on(&rt, alloc, "restart", b"", rack, 10, b"disk fault\n")?;
-        let _ = expect_restored(&rt, alloc, rack)?;
+    let rack = left(&rt, alloc, &[]);
+    let first = must(&rt, u32::try_from(rack.calls()));
+    let (_, whole) = printed(&rt, alloc, "restart", b"", rack);
+    for call in first..must(&rt, u32::try_from(whole.calls())) {
+        let rack = left(&rt, alloc, &[call]);
+        let rack = expect_on(&rt, alloc, "restart", b"", rack, 10, b"disk fault\n");
+        expect_restored(&rt, alloc, rack);
     }
-    Ok(())
 }
 
 // A run of which this read fails: nothing has happened. Whether it made that read.
@@ -184,21 +173,21 @@ fn reads_so_often<H: Abort + Threads + Wait + Sync>(
     alloc: Global,
     text: &[u8],
     read: u32,
-) -> Result<bool, Fail> {
-    let rack = made(rt, alloc, &[])?;
+) -> bool {
+    let rack = made(rt, alloc, &[]);
     let calls = rack.calls();
     let call = Call {
         reads: &[read],
         ..plain_call(&["run"], text)
     };
-    let told = answer_to(rt, alloc, call, rack)?;
+    let told = must(rt, answer_to(rt, alloc, call, rack));
     if told.status == 0 {
-        return Ok(false);
+        return false;
     }
     assert_eq!(rt; told.status, 8);
     assert!(rt; told.sink.bytes() == b"read fault\n".as_slice());
     assert_eq!(rt; told.rack.calls(), calls);
-    Ok(true)
+    true
 }
 
 // A run of which this write fails: what went out is a beginning of the report, and all has happened. Whether it made that write.
@@ -208,38 +197,37 @@ fn writes_so_often<H: Abort + Threads + Wait + Sync>(
     text: &[u8],
     write: u32,
     report: &[u8],
-) -> Result<bool, Fail> {
+) -> bool {
     let call = Call {
         writes: &[write],
         ..plain_call(&["run"], text)
     };
-    let told = answer_to(rt, alloc, call, made(rt, alloc, &[])?)?;
-    let (shown, _) = printed(rt, alloc, "restart", b"", told.rack)?;
+    let told = must(rt, answer_to(rt, alloc, call, made(rt, alloc, &[])));
+    let (shown, _) = printed(rt, alloc, "restart", b"", told.rack);
     expect_alike(rt, &shown, report);
     if told.status == 0 {
-        return Ok(false);
+        return false;
     }
     assert_eq!(rt; told.status, 9);
     assert!(rt; report.starts_with(told.sink.bytes()));
-    Ok(true)
+    true
 }
 
 #[test]
-fn each_read_and_each_write_fails_once(rt: HostRuntime) -> Result<(), Fail> {
+fn each_read_and_each_write_fails_once(rt: HostRuntime) {
     let alloc = rt.alloc();
-    let text = scenario(alloc, PROCESSES, b"")?;
-    let (report, _) = printed(&rt, alloc, "run", &text, made(&rt, alloc, &[])?)?;
+    let text = must(&rt, scenario(alloc, PROCESSES, b""));
+    let (report, _) = printed(&rt, alloc, "run", &text, made(&rt, alloc, &[]));
     let mut reads: u32 = 0;
     let mut writes: u32 = 0;
     for call in 0..40 {
-        if reads_so_often(&rt, alloc, &text, call)? {
+        if reads_so_often(&rt, alloc, &text, call) {
             reads = reads.wrapping_add(1);
         }
-        if writes_so_often(&rt, alloc, &text, call, &report)? {
+        if writes_so_often(&rt, alloc, &text, call, &report) {
             writes = writes.wrapping_add(1);
         }
     }
     assert!(&rt; 0 < reads && reads < 40);
     assert!(&rt; 0 < writes && writes < 40);
-    Ok(())
 }

@@ -1,11 +1,10 @@
 // What a restart makes of files on which a call of the rack had failed.
-use crate::plays::{Call, expect_on, made, played};
+use crate::plays::{Call, expect_on, made, must, played};
 use command_tests::scenarios::scenario;
 use process_disk::MemoryRack;
 use std::alloc::Global;
 use std::process::Abort;
 use std::sync::Wait;
-use std::test::Fail;
 use std::thread::Threads;
 
 const PURCHASE: &[u8] = b"process a c x add 1 5 p y pay 1 5 end\n";
@@ -21,30 +20,32 @@ const TAKEN_BACK: [Call; 1] = [(
 )];
 
 // The calls of a rack up to the piece that is handed out.
-fn calls_before<H: Abort + Threads + Wait + Sync>(rt: &H, alloc: Global) -> Result<u32, Fail> {
-    let lines = scenario(alloc, PURCHASE, b"%%\nstart a\nadmit 1\n")?;
+fn calls_before<H: Abort + Threads + Wait + Sync>(rt: &H, alloc: Global) -> u32 {
+    let lines = must(rt, scenario(alloc, PURCHASE, b"%%\nstart a\nadmit 1\n"));
     let answers = b"started 1 a\npiece 1: do 1.x\n";
-    let rack = made(rt, alloc, &[])?;
-    let rack = expect_on(rt, alloc, "session", &lines, rack, 0, answers)?;
-    Ok(u32::try_from(rack.calls())?)
+    let rack = made(rt, alloc, &[]);
+    let rack = expect_on(rt, alloc, "session", &lines, rack, 0, answers);
+    must(rt, u32::try_from(rack.calls()))
 }
 
 // The rack behind a session of which the last sync of a piece's prepare fails.
-fn faulty<H: Abort + Threads + Wait + Sync>(rt: &H, alloc: Global) -> Result<MemoryRack, Fail> {
-    let fails = [calls_before(rt, alloc)?.wrapping_add(3)];
-    let lines = scenario(
-        alloc,
-        PURCHASE,
-        b"%%\nstart a\nadmit 1\nfinish 1 done\nnext\n",
-    )?;
+fn faulty<H: Abort + Threads + Wait + Sync>(rt: &H, alloc: Global) -> MemoryRack {
+    let fails = [calls_before(rt, alloc).wrapping_add(3)];
+    let lines = must(
+        rt,
+        scenario(
+            alloc,
+            PURCHASE,
+            b"%%\nstart a\nadmit 1\nfinish 1 done\nnext\n",
+        ),
+    );
     let answers = b"started 1 a\npiece 1: do 1.x\ndisk fault\n";
-    let rack = made(rt, alloc, &fails)?;
-    Ok(expect_on(rt, alloc, "session", &lines, rack, 10, answers)?)
+    let rack = made(rt, alloc, &fails);
+    expect_on(rt, alloc, "session", &lines, rack, 10, answers)
 }
 
 #[test]
-fn a_restart_goes_on_behind_a_fault(rt: HostRuntime) -> Result<(), Fail> {
+fn a_restart_goes_on_behind_a_fault(rt: HostRuntime) {
     let alloc = rt.alloc();
-    drop(played(&rt, alloc, faulty(&rt, alloc)?, &TAKEN_BACK)?);
-    Ok(())
+    drop(played(&rt, alloc, faulty(&rt, alloc), &TAKEN_BACK));
 }

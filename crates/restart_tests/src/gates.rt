@@ -1,13 +1,12 @@
 // Gates that refuse a piece as often as it may be tried, and gates that refuse nothing.
 ghost use Rattle.std.specs.Prelude.{◌≡◌, length, IfOk};
 
-use crate::plays::{Call, played_anew};
+use crate::plays::{Call, must, played_anew};
 use command_tests::calls::{answer_with, plain_call};
 use process_disk::MemoryRack;
 use std::alloc::{AllocError, Global};
 use std::process::Abort;
 use std::sync::Wait;
-use std::test::Fail;
 use std::thread::Threads;
 use worker_gate::ScriptGate;
 
@@ -78,20 +77,23 @@ fn expect_done<H: Abort + Threads + Wait + Sync>(
     alloc: Global,
     rack: MemoryRack,
     output: &[u8],
-) -> Result<(), AllocError> {
-    let gates = willing_gates(alloc)?;
-    let told = answer_with(rt, alloc, plain_call(&["restart"], b""), rack, gates)?;
+) {
+    let Ok(gates) = willing_gates(alloc) else {
+        panic!(rt; "no memory");
+    };
+    let told = must(
+        rt,
+        answer_with(rt, alloc, plain_call(&["restart"], b""), rack, gates),
+    );
     assert_eq!(rt; told.sink.bytes(), output);
     assert_eq!(rt; told.status, 0);
-    Ok(())
 }
 
 #[test]
-fn what_is_refused_as_often_as_it_may_be_tried_is_told(rt: HostRuntime) -> Result<(), Fail> {
+fn what_is_refused_as_often_as_it_may_be_tried_is_told(rt: HostRuntime) {
     let alloc = rt.alloc();
-    let rack = played_anew(&rt, alloc, &OWED_STEP)?;
-    expect_done(&rt, alloc, rack, STEP_DONE)?;
-    let rack = played_anew(&rt, alloc, &OWED_UNDO)?;
-    expect_done(&rt, alloc, rack, UNDO_DONE)?;
-    Ok(())
+    let rack = played_anew(&rt, alloc, &OWED_STEP);
+    expect_done(&rt, alloc, rack, STEP_DONE);
+    let rack = played_anew(&rt, alloc, &OWED_UNDO);
+    expect_done(&rt, alloc, rack, UNDO_DONE);
 }

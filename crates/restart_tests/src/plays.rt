@@ -2,7 +2,7 @@
 use command_tests::calls::{answer_to, empty, plain_call};
 use command_tests::scenarios::scenario;
 use process_disk::MemoryRack;
-use std::alloc::{AllocError, Global};
+use std::alloc::Global;
 use std::process::Abort;
 use std::sync::Wait;
 use std::thread::Threads;
@@ -16,6 +16,14 @@ pub type Call = (
     &'static [u8],
 );
 
+/// What was to be had: memory is never wanting here, and no number too large.
+pub fn must<T: Drop, E: Drop>(rt: &impl Abort, found: Result<T, E>) -> T {
+    match found {
+        Ok(value) => value,
+        Err(_) => panic!(rt; "no memory, or too large a number"),
+    }
+}
+
 /// A word and an input on a rack have this status and this whole output. The answer is the rack after them.
 pub fn expect_on<H: Abort + Threads + Wait + Sync>(
     rt: &H,
@@ -25,11 +33,11 @@ pub fn expect_on<H: Abort + Threads + Wait + Sync>(
     rack: MemoryRack,
     status: u8,
     output: &[u8],
-) -> Result<MemoryRack, AllocError> {
-    let told = answer_to(rt, alloc, plain_call(&[word], text), rack)?;
+) -> MemoryRack {
+    let told = must(rt, answer_to(rt, alloc, plain_call(&[word], text), rack));
     assert_eq!(rt; told.sink.bytes(), output);
     assert_eq!(rt; told.status, status);
-    Ok(told.rack)
+    told.rack
 }
 
 /// These calls in order on this rack; the rack after them.
@@ -38,28 +46,24 @@ pub fn played<H: Abort + Threads + Wait + Sync>(
     alloc: Global,
     rack: MemoryRack,
     calls: &[Call],
-) -> Result<MemoryRack, AllocError> {
+) -> MemoryRack {
     let mut rack = rack;
     for (word, processes, behind, status, output) in calls {
-        let input = scenario(alloc, processes, behind)?;
-        rack = expect_on(rt, alloc, *word, &input, rack, *status, output)?;
+        let input = must(rt, scenario(alloc, processes, behind));
+        rack = expect_on(rt, alloc, *word, &input, rack, *status, output);
     }
-    Ok(rack)
+    rack
 }
 
 /// Nine files that were made for the scenario of nine operations, on a rack of which these calls fail.
-pub fn made<H: Abort + Threads + Wait + Sync>(
-    rt: &H,
-    alloc: Global,
-    fails: &[u32],
-) -> Result<MemoryRack, AllocError> {
-    let input = scenario(alloc, b"", b"")?;
+pub fn made<H: Abort + Threads + Wait + Sync>(rt: &H, alloc: Global, fails: &[u32]) -> MemoryRack {
+    let input = must(rt, scenario(alloc, b"", b""));
     expect_on(
         rt,
         alloc,
         "init",
         &input,
-        empty(alloc, fails)?,
+        must(rt, empty(alloc, fails)),
         0,
         b"created\n",
     )
@@ -70,6 +74,6 @@ pub fn played_anew<H: Abort + Threads + Wait + Sync>(
     rt: &H,
     alloc: Global,
     calls: &[Call],
-) -> Result<MemoryRack, AllocError> {
-    played(rt, alloc, made(rt, alloc, &[])?, calls)
+) -> MemoryRack {
+    played(rt, alloc, made(rt, alloc, &[]), calls)
 }

@@ -1,12 +1,11 @@
 // Restarts that are stopped within each of their device calls, and done again.
-use crate::plays::{expect_on, made};
+use crate::plays::{expect_on, made, must};
 use command_tests::calls::{answer_to, plain_call};
 use command_tests::scenarios::scenario;
 use process_disk::{MemoryRack, Rack};
-use std::alloc::{AllocError, Global};
+use std::alloc::Global;
 use std::process::Abort;
 use std::sync::Wait;
-use std::test::Fail;
 use std::thread::Threads;
 
 // A last line of a session, its answer, and a stop within that device call of it.
@@ -104,12 +103,12 @@ fn session<H: Abort + Threads + Wait + Sync>(
     case: &Case,
     line: &[u8],
     answer: &[u8],
-) -> Result<MemoryRack, AllocError> {
-    let mut text = scenario(alloc, case.processes, case.lines)?;
-    text.extend_from_slice(line)?;
-    let mut answers = case.answers.to_vec(alloc)?;
-    answers.extend_from_slice(answer)?;
-    let rack = made(rt, alloc, &[])?;
+) -> MemoryRack {
+    let mut text = must(rt, scenario(alloc, case.processes, case.lines));
+    must(rt, text.extend_from_slice(line));
+    let mut answers = must(rt, case.answers.to_vec(alloc));
+    must(rt, answers.extend_from_slice(answer));
+    let rack = made(rt, alloc, &[]);
     expect_on(rt, alloc, "session", &text, rack, 0, &answers)
 }
 
@@ -120,36 +119,32 @@ fn left_by_stop<H: Abort + Threads + Wait + Sync>(
     case: &Case,
     stop: Stop,
     calls: u32,
-) -> Result<MemoryRack, Fail> {
-    let rack = session(rt, alloc, case, stop.line, stop.answer)?;
+) -> MemoryRack {
+    let rack = session(rt, alloc, case, stop.line, stop.answer);
     let call = calls.wrapping_add(stop.call);
     assert!(rt; u64::from(call) < rack.calls());
-    Ok(rack.stopped(alloc, call, 0, stop.fill)?)
+    must(rt, rack.stopped(alloc, call, 0, stop.fill))
 }
 
 // What the session leaves.
-fn left<H: Abort + Threads + Wait + Sync>(
-    rt: &H,
-    alloc: Global,
-    case: &Case,
-) -> Result<MemoryRack, Fail> {
-    let rack = session(rt, alloc, case, b"", b"")?;
+fn left<H: Abort + Threads + Wait + Sync>(rt: &H, alloc: Global, case: &Case) -> MemoryRack {
+    let rack = session(rt, alloc, case, b"", b"");
     match case.stop {
-        None => Ok(rack),
-        Some(stop) => left_by_stop(rt, alloc, case, stop, u32::try_from(rack.calls())?),
+        None => rack,
+        Some(stop) => left_by_stop(rt, alloc, case, stop, must(rt, u32::try_from(rack.calls()))),
     }
 }
 
 // The report of a restart, where so many of those that were active had ended before.
-fn report(alloc: Global, case: &Case, ended: usize) -> Result<Vec<u8>, AllocError> {
-    let mut text = case.head.to_vec(alloc)?;
+fn report(rt: &impl Abort, alloc: Global, case: &Case, ended: usize) -> Vec<u8> {
+    let mut text = must(rt, case.head.to_vec(alloc));
     for (place, cause) in case.causes.iter().enumerate() {
         if place >= ended {
-            text.extend_from_slice(cause)?;
+            must(rt, text.extend_from_slice(cause));
         }
     }
-    text.extend_from_slice(case.rest)?;
-    Ok(text)
+    must(rt, text.extend_from_slice(case.rest));
+    text
 }
 
 // What is said of a restart behind a stop within one of another, and the rack then.
@@ -160,12 +155,15 @@ fn restarted<H: Abort + Threads + Wait + Sync>(
     call: u32,
     keep: u32,
     fill: u8,
-) -> Result<(Vec<u8>, MemoryRack), Fail> {
+) -> (Vec<u8>, MemoryRack) {
     assert!(rt; u64::from(call) < whole.calls());
-    let rack = whole.stopped(alloc, call, keep, fill)?;
-    let told = answer_to(rt, alloc, plain_call(&["restart"], b""), rack)?;
+    let rack = must(rt, whole.stopped(alloc, call, keep, fill));
+    let told = must(
+        rt,
+        answer_to(rt, alloc, plain_call(&["restart"], b""), rack),
+    );
     assert_eq!(rt; told.status, 0);
-    Ok((told.sink.bytes().to_vec(alloc)?, told.rack))
+    (must(rt, told.sink.bytes().to_vec(alloc)), told.rack)
 }
 
 // Another restart says that all had ended before.
@@ -174,10 +172,9 @@ fn expect_all_ended<H: Abort + Threads + Wait + Sync>(
     alloc: Global,
     case: &Case,
     rack: MemoryRack,
-) -> Result<(), AllocError> {
-    let all = report(alloc, case, case.causes.len())?;
-    drop(expect_on(rt, alloc, "restart", b"", rack, 0, &all)?);
-    Ok(())
+) {
+    let all = report(rt, alloc, case, case.causes.len());
+    drop(expect_on(rt, alloc, "restart", b"", rack, 0, &all));
 }
 
 // A stop that keeps nothing of what isn't synced: so many of those that were active had ended, as before or one more.
@@ -188,16 +185,16 @@ fn expect_none_kept<H: Abort + Threads + Wait + Sync>(
     whole: &MemoryRack,
     call: u32,
     before: usize,
-) -> Result<usize, Fail> {
-    let (told, rack) = restarted(rt, alloc, whole, call, 0, 0x00)?;
-    expect_all_ended(rt, alloc, case, rack)?;
-    if told.as_slice() == report(alloc, case, before)?.as_slice() {
-        return Ok(before);
+) -> usize {
+    let (told, rack) = restarted(rt, alloc, whole, call, 0, 0x00);
+    expect_all_ended(rt, alloc, case, rack);
+    if told.as_slice() == report(rt, alloc, case, before).as_slice() {
+        return before;
     }
     let ended = before.wrapping_add(1);
-    let wanted = report(alloc, case, ended)?;
+    let wanted = report(rt, alloc, case, ended);
     assert!(rt; told == wanted, "call {call}");
-    Ok(ended)
+    ended
 }
 
 // Other stops within that call: so many of those that were active had ended, or one more.
@@ -208,73 +205,66 @@ fn expect_some_kept<H: Abort + Threads + Wait + Sync>(
     whole: &MemoryRack,
     call: u32,
     ended: usize,
-) -> Result<(), Fail> {
-    let wanted = report(alloc, case, ended)?;
-    let more = report(alloc, case, ended.wrapping_add(1))?;
+) {
+    let wanted = report(rt, alloc, case, ended);
+    let more = report(rt, alloc, case, ended.wrapping_add(1));
     for (keep, fill) in KEEPS {
-        let (told, rack) = restarted(rt, alloc, whole, call, keep, fill)?;
+        let (told, rack) = restarted(rt, alloc, whole, call, keep, fill);
         drop(rack);
         assert!(rt; told == wanted || told == more, "call {call}");
     }
-    Ok(())
 }
 
 // A stop within any device call of the restart: another restart ends with the same history.
-fn expect_stops<H: Abort + Threads + Wait + Sync>(
-    rt: &H,
-    alloc: Global,
-    case: &Case,
-) -> Result<(), Fail> {
-    let rack = left(rt, alloc, case)?;
-    let first = u32::try_from(rack.calls())?;
-    let wanted = report(alloc, case, 0)?;
-    let whole = expect_on(rt, alloc, "restart", b"", rack, 0, &wanted)?;
-    let last = u32::try_from(whole.calls())?;
+fn expect_stops<H: Abort + Threads + Wait + Sync>(rt: &H, alloc: Global, case: &Case) {
+    let rack = left(rt, alloc, case);
+    let first = must(rt, u32::try_from(rack.calls()));
+    let wanted = report(rt, alloc, case, 0);
+    let whole = expect_on(rt, alloc, "restart", b"", rack, 0, &wanted);
+    let last = must(rt, u32::try_from(whole.calls()));
     let mut ended = 0;
     for call in first..last {
-        ended = expect_none_kept(rt, alloc, case, &whole, call, ended)?;
-        expect_some_kept(rt, alloc, case, &whole, call, ended)?;
+        ended = expect_none_kept(rt, alloc, case, &whole, call, ended);
+        expect_some_kept(rt, alloc, case, &whole, call, ended);
     }
     // The last call syncs the record of the last end.
     assert_eq!(rt; ended.wrapping_add(1), case.causes.len());
-    Ok(())
 }
 
 #[test]
-fn a_restart_of_three_processes_is_stopped_and_done_again(rt: HostRuntime) -> Result<(), Fail> {
+fn a_restart_of_three_processes_is_stopped_and_done_again(rt: HostRuntime) {
     expect_stops(&rt, rt.alloc(), &THREE)
 }
 
 #[test]
-fn a_restart_with_two_undos_is_stopped_and_done_again(rt: HostRuntime) -> Result<(), Fail> {
+fn a_restart_with_two_undos_is_stopped_and_done_again(rt: HostRuntime) {
     expect_stops(&rt, rt.alloc(), &TWO_STEPS)
 }
 
 #[test]
-fn a_restart_that_takes_back_is_stopped_and_done_again(rt: HostRuntime) -> Result<(), Fail> {
+fn a_restart_that_takes_back_is_stopped_and_done_again(rt: HostRuntime) {
     expect_stops(&rt, rt.alloc(), &LACKED)
 }
 
 #[test]
-fn a_restart_that_commits_is_stopped_and_done_again(rt: HostRuntime) -> Result<(), Fail> {
+fn a_restart_that_commits_is_stopped_and_done_again(rt: HostRuntime) {
     expect_stops(&rt, rt.alloc(), &KEPT)
 }
 
 // The first gate of file 1.
-fn first_gate(rack: &mut MemoryRack) -> Result<u8, Fail> {
+fn first_gate(rt: &impl Abort, rack: &mut MemoryRack) -> u8 {
     let mut byte = [0xff];
-    rack.read(1, 8, &mut byte)?;
-    Ok(byte[0])
+    must(rt, rack.read(1, 8, &mut byte));
+    byte[0]
 }
 
 // It is closed by the restart, where the journal lacks what was prepared.
 #[test]
-fn what_the_journal_lacks_is_taken_back(rt: HostRuntime) -> Result<(), Fail> {
+fn what_the_journal_lacks_is_taken_back(rt: HostRuntime) {
     let alloc = rt.alloc();
-    let mut rack = left(&rt, alloc, &LACKED)?;
-    assert_eq!(rt; first_gate(&mut rack)?, 1);
-    let wanted = report(alloc, &LACKED, 0)?;
-    let mut rack = expect_on(&rt, alloc, "restart", b"", rack, 0, &wanted)?;
-    assert_eq!(rt; first_gate(&mut rack)?, 0);
-    Ok(())
+    let mut rack = left(&rt, alloc, &LACKED);
+    assert_eq!(rt; first_gate(&rt, &mut rack), 1);
+    let wanted = report(&rt, alloc, &LACKED, 0);
+    let mut rack = expect_on(&rt, alloc, "restart", b"", rack, 0, &wanted);
+    assert_eq!(rt; first_gate(&rt, &mut rack), 0);
 }
