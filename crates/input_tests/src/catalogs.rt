@@ -1,13 +1,14 @@
 // What no clause of `commute_table` says: catalogs as they are written, and processes bound to them.
 ghost use Rattle.commute_table.specs.Operations.{IsCatalog};
 
+use crate::words::must;
 use commute_table::{
     BindError, Catalog, CatalogError, bind, catalog_bytes, read_catalog, read_scenario,
 };
 use process_text::read;
 use process_tree::{Name, Named, Operations, Plan};
 use std::alloc::Global;
-use std::test::Fail;
+use std::process::Abort;
 
 // A document of nine operations.
 const NINE: &[u8] = br#"version = 1
@@ -106,32 +107,41 @@ const BY_KEY_BYTES: [u8; 19] = [
 ];
 
 // The bytes of a document's catalog.
-fn written(alloc: Global, document: &[u8]) -> Result<Vec<u8>, Fail> {
-    let scenario = read_scenario(alloc, document)?;
-    Ok(catalog_bytes(alloc, &scenario.catalog)?)
+fn written(rt: &impl Abort, alloc: Global, document: &[u8]) -> Vec<u8> {
+    let Ok(scenario) = read_scenario(alloc, document) else {
+        panic!(rt; "no scenario");
+    };
+    must(rt, catalog_bytes(alloc, &scenario.catalog))
 }
 
 // The text of processes of a document.
-fn processes_of(alloc: Global, document: &[u8]) -> Result<Vec<u8>, Fail> {
-    let scenario = read_scenario(alloc, document)?;
-    Ok(scenario.processes.into_items())
+fn processes_of(rt: &impl Abort, alloc: Global, document: &[u8]) -> Vec<u8> {
+    let scenario = must(rt, read_scenario(alloc, document));
+    scenario.processes.into_items()
 }
 
 // A catalog's bytes, read and written again with a copy of its conflicts.
-fn rewritten(alloc: Global, bytes: &[u8]) -> Result<Vec<u8>, Fail> {
-    let catalog = read_catalog(alloc, bytes)?;
+fn rewritten(rt: &impl Abort, alloc: Global, bytes: &[u8]) -> Vec<u8> {
+    let Ok(catalog) = read_catalog(alloc, bytes) else {
+        panic!(rt; "no catalog");
+    };
+    let Ok(conflicts) = catalog.conflicts.copy(alloc) else {
+        panic!(rt; "no memory");
+    };
     let copy = Catalog {
         version: catalog.version,
-        conflicts: catalog.conflicts.copy(alloc)?,
+        conflicts,
         ops: catalog.ops,
     };
-    Ok(catalog_bytes(alloc, &copy)?)
+    must(rt, catalog_bytes(alloc, &copy))
 }
 
 // Whether two operations of a catalog conflict, the first on key 7 and the second on this one.
-fn conflict(alloc: Global, bytes: &[u8], a: u16, b: u16, key: u32) -> Result<bool, Fail> {
-    let catalog = read_catalog(alloc, bytes)?;
-    Ok(is_conflict(&catalog, a, b, key))
+fn conflict(rt: &impl Abort, alloc: Global, bytes: &[u8], a: u16, b: u16, key: u32) -> bool {
+    let Ok(catalog) = read_catalog(alloc, bytes) else {
+        panic!(rt; "no catalog");
+    };
+    is_conflict(&catalog, a, b, key)
 }
 
 fn is_conflict(c: &Catalog, a: u16, b: u16, key: u32) -> bool
@@ -149,38 +159,43 @@ const WRITTEN: [(&[u8], &[u8], &[u8]); 3] = [
 ];
 
 #[test]
-fn a_catalog_is_written_read_and_written_again(rt: HostRuntime) -> Result<(), Fail> {
+fn a_catalog_is_written_read_and_written_again(rt: HostRuntime) {
     let alloc = rt.alloc();
     for (document, bytes, text) in &WRITTEN {
-        assert_eq!(rt; written(alloc, document)?.as_slice(), *bytes);
-        assert_eq!(rt; rewritten(alloc, bytes)?.as_slice(), *bytes);
-        assert_eq!(rt; processes_of(alloc, document)?.as_slice(), *text);
+        assert_eq!(rt; written(&rt, alloc, document).as_slice(), *bytes);
+        assert_eq!(rt; rewritten(&rt, alloc, bytes).as_slice(), *bytes);
+        assert_eq!(rt; processes_of(&rt, alloc, document).as_slice(), *text);
     }
-    Ok(())
 }
 
 #[test]
-fn a_conflict_holds_both_ways(rt: HostRuntime) -> Result<(), Fail> {
+fn a_conflict_holds_both_ways(rt: HostRuntime) {
     let alloc = rt.alloc();
     for (a, b, want) in [(0, 1, true), (1, 0, true), (5, 5, true), (0, 0, false)] {
-        assert_eq!(rt; conflict(alloc, &NINE_BYTES, a, b, 8)?, want, "{a} and {b}");
+        assert_eq!(rt;
+            conflict(&rt, alloc, &NINE_BYTES, a, b, 8),
+            want,
+            "{a} and {b}"
+        );
     }
     for (a, b) in [(0, 1), (1, 0)] {
-        assert!(rt; conflict(alloc, &BY_KEY_BYTES, a, b, 7)?, "{a} and {b}");
-        assert!(rt; !conflict(alloc, &BY_KEY_BYTES, a, b, 8)?, "{a} and {b}");
+        assert!(rt; conflict(&rt, alloc, &BY_KEY_BYTES, a, b, 7), "{a} and {b}");
+        assert!(rt;
+            !conflict(&rt, alloc, &BY_KEY_BYTES, a, b, 8),
+            "{a} and {b}"
+        );
     }
-    assert!(rt; conflict(alloc, &BY_KEY_BYTES, 1, 1, 8)?);
-    assert!(rt; !conflict(alloc, &BY_KEY_BYTES, 0, 0, 7)?);
-    Ok(())
+    assert!(rt; conflict(&rt, alloc, &BY_KEY_BYTES, 1, 1, 8));
+    assert!(rt; !conflict(&rt, alloc, &BY_KEY_BYTES, 0, 0, 7));
 }
 
 // The bytes of one operation with another byte at this place.
-fn with_byte(alloc: Global, at: usize, byte: u8) -> Result<Vec<u8>, Fail> {
+fn with_byte(rt: &impl Abort, alloc: Global, at: usize, byte: u8) -> Vec<u8> {
     let mut bytes = Vec::new(alloc);
     for (place, old) in ONE_BYTES.iter().enumerate() {
-        bytes.push(if place == at { byte } else { *old })?;
+        must(rt, bytes.push(if place == at { byte } else { *old }));
     }
-    Ok(bytes)
+    bytes
 }
 
 // The place at which bytes are refused.
@@ -194,13 +209,13 @@ fn place_of(alloc: Global, bytes: &[u8]) -> Option<usize> {
 
 // Names of one letter, as operations that look at subsystem 0, behind a number of 27 operations,
 // and then a name that one of them has.
-fn letters(alloc: Global) -> Result<Vec<u8>, Fail> {
-    let mut bytes = vec![in alloc; 1, 27, 0]?;
+fn letters(rt: &impl Abort, alloc: Global) -> Vec<u8> {
+    let mut bytes = must(rt, vec![in alloc; 1, 27, 0]);
     for letter in b'a'..=b'z' {
-        bytes.extend_from_slice(&[1, letter, 0, 2])?;
+        must(rt, bytes.extend_from_slice(&[1, letter, 0, 2]));
     }
-    bytes.extend_from_slice(&[1, b'a'])?;
-    Ok(bytes)
+    must(rt, bytes.extend_from_slice(&[1, b'a']));
+    bytes
 }
 
 // Another byte at a place of the bytes of one operation.
@@ -217,10 +232,10 @@ const DAMAGES: [(usize, u8); 9] = [
 ];
 
 #[test]
-fn bytes_are_refused_at_the_first_that_no_catalog_has(rt: HostRuntime) -> Result<(), Fail> {
+fn bytes_are_refused_at_the_first_that_no_catalog_has(rt: HostRuntime) {
     let alloc = rt.alloc();
     for (at, byte) in &DAMAGES {
-        let bytes = with_byte(alloc, *at, *byte)?;
+        let bytes = with_byte(&rt, alloc, *at, *byte);
         assert_eq!(rt; place_of(alloc, &bytes), Some(*at));
     }
     for count in 0..10 {
@@ -231,30 +246,38 @@ fn bytes_are_refused_at_the_first_that_no_catalog_has(rt: HostRuntime) -> Result
     assert_eq!(rt; place_of(alloc, &[2, 1, 0, 1, b'a', 0, 0, 2]), None);
     assert_eq!(rt; place_of(alloc, &[2, 1, 0, 1, b'a', 0, 0, 3]), Some(7));
     // A name that can only be a repeated one is refused early.
-    let bytes = letters(alloc)?;
+    let bytes = letters(&rt, alloc);
     assert_eq!(rt; place_of(alloc, &bytes), Some(107));
     let names = [1, 2, 0, 1, b'a', 0, 2, 1, b'a'];
     assert_eq!(rt; place_of(alloc, &names), Some(8));
-    Ok(())
 }
 
 // The process of a text.
-fn process(alloc: Global, text: &[u8]) -> Result<Named, Fail> {
-    let mut processes = read(alloc, text).ok().ok_or("no text of processes")?;
-    Ok(processes.pop().ok_or("no process")?)
+fn process(rt: &impl Abort, alloc: Global, text: &[u8]) -> Named {
+    let mut processes = must(rt, read(alloc, text));
+    let Some(last) = processes.pop() else {
+        panic!(rt; "no process");
+    };
+    last
 }
 
 // The numbers of a process's operations, in a copy of its plan.
-fn numbers_of(alloc: Global, named: Named) -> Result<Operations, Fail> {
-    let catalog = read_scenario(alloc, NINE)?.catalog;
-    let plan = bind(alloc, named, &catalog)?;
-    Ok(plan.copy(alloc)?.ops)
+fn numbers_of(rt: &impl Abort, alloc: Global, named: Named) -> Operations {
+    let Ok(scenario) = read_scenario(alloc, NINE) else {
+        panic!(rt; "no scenario");
+    };
+    let Ok(plan) = bind(alloc, named, &scenario.catalog) else {
+        panic!(rt; "not bound");
+    };
+    must(rt, plan.copy(alloc)).ops
 }
 
 // The unknown operation of a process, if it has one.
-fn unknown_in(alloc: Global, named: Named) -> Result<Option<Name>, Fail> {
-    let catalog = read_scenario(alloc, NINE)?.catalog;
-    Ok(unknown_of(bind(alloc, named, &catalog)))
+fn unknown_in(rt: &impl Abort, alloc: Global, named: Named) -> Option<Name> {
+    let Ok(scenario) = read_scenario(alloc, NINE) else {
+        panic!(rt; "no scenario");
+    };
+    unknown_of(bind(alloc, named, &scenario.catalog))
 }
 
 fn unknown_of(bound: Result<Plan, BindError>) -> Option<Name> {
@@ -266,13 +289,14 @@ fn unknown_of(bound: Result<Plan, BindError>) -> Option<Name> {
 }
 
 #[test]
-fn a_process_is_bound_or_its_first_unknown_operation_is_told(rt: HostRuntime) -> Result<(), Fail> {
+fn a_process_is_bound_or_its_first_unknown_operation_is_told(rt: HostRuntime) {
     let alloc = rt.alloc();
-    let mailed = process(alloc, b"process a c x mail 1 5 c y take 1 5 end")?;
-    let numbers = numbers_of(alloc, mailed)?;
+    let mailed = process(&rt, alloc, b"process a c x mail 1 5 c y take 1 5 end");
+    let numbers = numbers_of(&rt, alloc, mailed);
     assert_eq!(rt; numbers.as_slice(), [8, 1].as_slice());
-    let flown = process(alloc, b"process a c x fly 1 5 c y run 1 5 end")?;
-    let name = unknown_in(alloc, flown)?.ok_or("no unknown operation")?;
+    let flown = process(&rt, alloc, b"process a c x fly 1 5 c y run 1 5 end");
+    let Some(name) = unknown_in(&rt, alloc, flown) else {
+        panic!(&rt; "no unknown operation");
+    };
     assert_eq!(rt; name.bytes(), b"fly".as_slice());
-    Ok(())
 }

@@ -1,7 +1,7 @@
 // What no clause of `process_text` says: that calls succeed, and what is printed.
+use crate::words::must;
 use process_text::{print, read, read_again};
 use std::str;
-use std::test::Fail;
 
 // Texts of one process, and what is printed of it.
 const PRINTED: [(&str, &str); 5] = [
@@ -30,19 +30,18 @@ const PRINTED: [(&str, &str); 5] = [
 ];
 
 #[test]
-fn a_canonical_text_is_one_line_without_defaults(rt: HostRuntime) -> Result<(), Fail> {
+fn a_canonical_text_is_one_line_without_defaults(rt: HostRuntime) {
     let alloc = rt.alloc();
     for (text, want) in &PRINTED {
         let Ok(found) = read(alloc, text.as_bytes()) else {
             assert_eq!(rt; *text, "read");
-            return Ok(());
+            return;
         };
         for process in &found {
-            let printed = print(alloc, &process.name, &process.tree)?;
+            let printed = must(&rt, print(alloc, &process.name, &process.tree));
             assert_eq!(rt; str::from_utf8(&printed).unwrap_or(""), *want);
             let again = read_again(alloc, &process.name, &process.tree);
             assert!(rt; again.is_ok());
         }
     }
-    Ok(())
 }

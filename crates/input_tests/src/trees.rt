@@ -1,42 +1,43 @@
 // What no clause of `process_tree` says: rows made by hand, the limits, and a block that is nested very deep.
+use crate::words::must;
 use process_tree::{
     Block, Name, Outcome, Place, Played, Step, StepKind, Steps, Tail, Tree, TreeError,
 };
 use std::alloc::Global;
-use std::test::Fail;
+use std::process::Abort;
 
-fn step(alloc: Global, kind: StepKind, number: usize) -> Result<Step, Fail> {
-    let name = format!(in alloc; "s{number}")?;
-    Ok(Step {
+fn step(rt: &impl Abort, alloc: Global, kind: StepKind, number: usize) -> Step {
+    let name = must(rt, format!(in alloc; "s{number}"));
+    Step {
         kind,
-        name: Name::new(alloc, name.as_bytes())?,
-        op: Name::new(alloc, b"op")?,
+        name: must(rt, Name::new(alloc, name.as_bytes())),
+        op: must(rt, Name::new(alloc, b"op")),
         key: 0,
         amount: 0,
         tries: 3,
         undo_tries: 3,
         refuse: 0,
         undo_refuse: 0,
-    })
+    }
 }
 
 /// Steps of these kinds, named by numbers from the first on.
-fn steps(alloc: Global, kinds: &[StepKind], first: usize) -> Result<Steps, Fail> {
+fn steps(rt: &impl Abort, alloc: Global, kinds: &[StepKind], first: usize) -> Steps {
     let mut steps = Vec::new(alloc);
     let mut number = first;
     for kind in kinds {
-        steps.push(step(alloc, *kind, number)?)?;
+        must(rt, steps.push(step(rt, alloc, *kind, number)));
         number = number.wrapping_add(1);
     }
-    Ok(Steps::new(steps))
+    Steps::new(steps)
 }
 
-fn flat(alloc: Global, kinds: &[StepKind], first: usize) -> Result<Block, Fail> {
-    let steps = steps(alloc, kinds, first)?;
-    Ok(Block {
+fn flat(rt: &impl Abort, alloc: Global, kinds: &[StepKind], first: usize) -> Block {
+    let steps = steps(rt, alloc, kinds, first);
+    Block {
         steps,
         tail: Tail::End,
-    })
+    }
 }
 
 /// A choice between these blocks.
@@ -48,50 +49,50 @@ fn choice(alloc: Global, ways: Vec<Block>) -> Block {
 }
 
 /// A choice between as many single steps.
-fn wide(alloc: Global, alternatives: usize) -> Result<Block, Fail> {
+fn wide(rt: &impl Abort, alloc: Global, alternatives: usize) -> Block {
     let mut ways = Vec::new(alloc);
     for number in 0..alternatives {
-        ways.push(flat(alloc, &[StepKind::C], number)?)?;
+        must(rt, ways.push(flat(rt, alloc, &[StepKind::C], number)));
     }
-    Ok(choice(alloc, ways))
+    choice(alloc, ways)
 }
 
 /// A choice within a choice, as often as that, each with a second alternative.
-fn nested(alloc: Global, depth: usize) -> Result<Block, Fail> {
-    let mut block = flat(alloc, &[StepKind::C], depth)?;
+fn nested(rt: &impl Abort, alloc: Global, depth: usize) -> Block {
+    let mut block = flat(rt, alloc, &[StepKind::C], depth);
     for number in 0..depth {
         let mut ways = Vec::new(alloc);
-        ways.push(block)?;
-        ways.push(flat(alloc, &[StepKind::C], number)?)?;
+        must(rt, ways.push(block));
+        must(rt, ways.push(flat(rt, alloc, &[StepKind::C], number)));
         block = choice(alloc, ways);
     }
-    Ok(block)
+    block
 }
 
 /// The same without the second alternatives, so with one step in all.
-fn chain(alloc: Global, depth: usize) -> Result<Block, Fail> {
-    let mut block = flat(alloc, &[StepKind::C], 0)?;
+fn chain(rt: &impl Abort, alloc: Global, depth: usize) -> Block {
+    let mut block = flat(rt, alloc, &[StepKind::C], 0);
     for _ in 0..depth {
         let mut ways = Vec::new(alloc);
-        ways.push(block)?;
+        must(rt, ways.push(block));
         block = choice(alloc, ways);
     }
-    Ok(block)
+    block
 }
 
 /// Steps of these kinds, and then a choice between steps of those.
-fn forked(alloc: Global, own: &[StepKind], ways: &[&[StepKind]]) -> Result<Block, Fail> {
+fn forked(rt: &impl Abort, alloc: Global, own: &[StepKind], ways: &[&[StepKind]]) -> Block {
     let mut blocks = Vec::new(alloc);
     let mut number = own.len();
     for way in ways {
-        blocks.push(flat(alloc, way, number)?)?;
+        must(rt, blocks.push(flat(rt, alloc, way, number)));
         number = number.wrapping_add(way.len());
     }
-    let steps = steps(alloc, own, 0)?;
-    Ok(Block {
+    let steps = steps(rt, alloc, own, 0);
+    Block {
         steps,
         tail: Tail::Choice(blocks),
-    })
+    }
 }
 
 fn refusal(alloc: Global, root: Block) -> Option<TreeError> {
@@ -107,15 +108,15 @@ enum Shape {
     Chain,
 }
 
-fn built(alloc: Global, shape: Shape, number: usize) -> Result<Block, Fail> {
+fn built(rt: &impl Abort, alloc: Global, shape: Shape, number: usize) -> Block {
     match shape {
         Shape::Flat => {
-            let kinds = vec![in alloc; StepKind::C; number]?;
-            flat(alloc, &kinds, 0)
+            let kinds = must(rt, vec![in alloc; StepKind::C; number]);
+            flat(rt, alloc, &kinds, 0)
         }
-        Shape::Wide => wide(alloc, number),
-        Shape::Nested => nested(alloc, number),
-        Shape::Chain => chain(alloc, number),
+        Shape::Wide => wide(rt, alloc, number),
+        Shape::Nested => nested(rt, alloc, number),
+        Shape::Chain => chain(rt, alloc, number),
     }
 }
 
@@ -134,15 +135,14 @@ const LIMITS: [(Shape, usize, Option<TreeError>); 10] = [
 ];
 
 #[test]
-fn a_tree_is_within_its_limits_and_a_refusal_reads_as_text(rt: HostRuntime) -> Result<(), Fail> {
+fn a_tree_is_within_its_limits_and_a_refusal_reads_as_text(rt: HostRuntime) {
     let alloc = rt.alloc();
     for (row, (shape, number, want)) in LIMITS.iter().enumerate() {
-        let root = built(alloc, *shape, *number)?;
+        let root = built(&rt, alloc, *shape, *number);
         assert_eq!(rt; refusal(alloc, root), *want, "row {row}");
     }
-    let text = format!(in alloc; "{}", TreeError::Nesting(17))?;
+    let text = must(&rt, format!(in alloc; "{}", TreeError::Nesting(17)));
     assert_eq!(rt; text.as_str(), "there are 17 choices open at once");
-    Ok(())
 }
 
 struct Play {
@@ -198,15 +198,15 @@ const PLAYS: [Play; 6] = [
     },
 ];
 
-fn ends_so(alloc: Global, play: &Play) -> Result<bool, Fail> {
+fn ends_so(rt: &impl Abort, alloc: Global, play: &Play) -> bool {
     let root = if play.ways.is_empty() {
-        flat(alloc, play.own, 0)?
+        flat(rt, alloc, play.own, 0)
     } else {
-        forked(alloc, play.own, play.ways)?
+        forked(rt, alloc, play.own, play.ways)
     };
-    let tree = Tree::build(alloc, root)?;
-    let played = tree.play(alloc, play.outcomes)?;
-    Ok(is_end(&played, &play.end))
+    let tree = must(rt, Tree::build(alloc, root));
+    let played = must(rt, tree.play(alloc, play.outcomes));
+    is_end(&played, &play.end)
 }
 
 fn is_end(played: &Played, end: &Result<&[u16], u16>) -> bool {
@@ -218,22 +218,26 @@ fn is_end(played: &Played, end: &Result<&[u16], u16>) -> bool {
 }
 
 #[test]
-fn each_play_ends_as_it_should(rt: HostRuntime) -> Result<(), Fail> {
+fn each_play_ends_as_it_should(rt: HostRuntime) {
     for (row, play) in PLAYS.iter().enumerate() {
-        assert!(rt; ends_so(rt.alloc(), play)?, "play {row}");
+        assert!(rt; ends_so(&rt, rt.alloc(), play), "play {row}");
     }
-    Ok(())
 }
 
 #[test]
-fn places_follow_the_first_and_the_last_alternatives(rt: HostRuntime) -> Result<(), Fail> {
+fn places_follow_the_first_and_the_last_alternatives(rt: HostRuntime) {
     let alloc = rt.alloc();
-    let tree = Tree::build(alloc, forked(alloc, &[P], &[&[C, C], &[C], &[R]])?)?;
+    let tree = must(
+        &rt,
+        Tree::build(alloc, forked(&rt, alloc, &[P], &[&[C, C], &[C], &[R]])),
+    );
     assert!(rt; tree.count() == 5);
     assert_eq!(rt; tree.first(), Place::Step(0));
     assert_eq!(rt; tree.after(0), Place::Step(1));
     assert_eq!(rt; tree.last_after(0), Place::Step(4));
     assert_eq!(rt; tree.step(4).kind, R);
-    assert_eq!(rt; tree.completion(alloc, 0)?.as_slice(), [4].as_slice());
-    Ok(())
+    assert_eq!(rt;
+        must(&rt, tree.completion(alloc, 0)).as_slice(),
+        [4].as_slice()
+    );
 }

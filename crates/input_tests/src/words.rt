@@ -1,17 +1,25 @@
 // The words of a call.
 use program_words::{Command, WordsError, read_number_and_count, read_words, read_workers};
-use std::alloc::{AllocError, Global};
-use std::test::Fail;
+use std::alloc::Global;
+use std::process::Abort;
+
+/// What was to be had: memory is never wanting here.
+pub fn must<T: Drop, E: Drop>(rt: &impl Abort, found: Result<T, E>) -> T {
+    match found {
+        Ok(value) => value,
+        Err(_) => panic!(rt; "no memory, or refused"),
+    }
+}
 
 // The words of a line, with one space between two; an empty line has none.
-fn words_of(alloc: Global, line: &str) -> Result<Vec<String>, AllocError> {
+fn words_of(rt: &impl Abort, alloc: Global, line: &str) -> Vec<String> {
     let mut words = Vec::new(alloc);
     for word in line.split(' ') {
         if !word.is_empty() {
-            words.push(String::from_str(alloc, word)?)?;
+            must(rt, words.push(must(rt, String::from_str(alloc, word))));
         }
     }
-    Ok(words)
+    words
 }
 
 // Lines, and what is asked for.
@@ -85,13 +93,12 @@ const COMMANDS: [(&str, Result<Command, WordsError>); 36] = [
 ];
 
 #[test]
-fn words_are_read_as_commands(rt: HostRuntime) -> Result<(), Fail> {
+fn words_are_read_as_commands(rt: HostRuntime) {
     let alloc = rt.alloc();
     for (line, expected) in &COMMANDS {
-        let words = words_of(alloc, line)?;
+        let words = words_of(&rt, alloc, line);
         assert_eq!(rt; read_words(alloc, &words), *expected);
     }
-    Ok(())
 }
 
 // Words behind `run`, and the number of workers.
@@ -115,13 +122,12 @@ const WORKERS: [(&str, Result<u32, WordsError>); 16] = [
 ];
 
 #[test]
-fn workers_are_read(rt: HostRuntime) -> Result<(), Fail> {
+fn workers_are_read(rt: HostRuntime) {
     let alloc = rt.alloc();
     for (line, expected) in &WORKERS {
-        let words = words_of(alloc, line)?;
+        let words = words_of(&rt, alloc, line);
         assert_eq!(rt; read_workers(alloc, "run", &words), *expected);
     }
-    Ok(())
 }
 
 // Words behind `gen`, and the two numbers.
@@ -141,11 +147,10 @@ const NUMBERS: [(&str, Result<(u64, u32), WordsError>); 12] = [
 ];
 
 #[test]
-fn a_number_and_a_count_are_read(rt: HostRuntime) -> Result<(), Fail> {
+fn a_number_and_a_count_are_read(rt: HostRuntime) {
     let alloc = rt.alloc();
     for (line, expected) in &NUMBERS {
-        let words = words_of(alloc, line)?;
+        let words = words_of(&rt, alloc, line);
         assert_eq!(rt; read_number_and_count(alloc, "gen", &words), *expected);
     }
-    Ok(())
 }

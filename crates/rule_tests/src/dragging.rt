@@ -1,6 +1,6 @@
 // What no clause of `cascade` says: three processes of one step each, whose steps conflict; the first two did theirs, and the third
 // has it under way.
-ghost use Rattle.std.specs.Prelude.{◌≡◌, IfOk};
+ghost use Rattle.std.specs.Prelude.{◌≡◌};
 ghost use Rattle.process_tree.specs.Conflicts.{no_conflicts, with_mode};
 ghost use Rattle.hold_tables.specs.Changes.{none_open, opened};
 
@@ -10,16 +10,16 @@ use hold_tables::{Admitted, Blocked, Holds, Rule};
 use process_tree::Mode;
 use std::alloc::Global;
 use std::process::Abort;
-use std::test::Fail;
 
 /// The three are open.
-fn all_open<H: Abort>(rt: &H, alloc: Global) -> Result<Holds, Fail>
-    ensures { IfOk result
-        (λ holds. holds ≡ opened 3 1 (opened 2 1 (opened 1 1 (none_open (with_mode (no_conflicts 1) 0 0 Mode.Always))))) }
+fn all_open<H: Abort>(rt: &H, alloc: Global) -> Holds
+    ensures { result ≡ opened 3 1 (opened 2 1 (opened 1 1 (none_open (with_mode (no_conflicts 1) 0 0 Mode.Always)))) }
 {
-    let conflicts = one_conflict(alloc, Mode::Always)?;
-    let plan = one_step(alloc)?;
-    let mut holds = Holds::new(alloc, &conflicts)?;
+    let conflicts = one_conflict(rt, alloc, Mode::Always);
+    let plan = one_step(rt, alloc);
+    let Ok(mut holds) = Holds::new(alloc, &conflicts) else {
+        panic!(rt; "no memory");
+    };
     let Ok(()) = holds.open(1, &plan) else {
         panic!(rt; "no memory");
     };
@@ -29,13 +29,15 @@ fn all_open<H: Abort>(rt: &H, alloc: Global) -> Result<Holds, Fail>
     let Ok(()) = holds.open(3, &plan) else {
         panic!(rt; "no memory");
     };
-    Ok(holds)
+    holds
 }
 
 #[test]
-fn whoever_has_built_on_it_goes_back(rt: HostRuntime) -> Result<(), Fail> {
-    let mut members = Members::new(rt.alloc(), 3)?;
-    let mut holds = all_open(&rt, rt.alloc())?;
+fn whoever_has_built_on_it_goes_back(rt: HostRuntime) {
+    let Ok(mut members) = Members::new(rt.alloc(), 3) else {
+        panic!(&rt; "no memory");
+    };
+    let mut holds = all_open(&rt, rt.alloc());
     holds.run(entry(1, 0, 0, 0));
     holds.take_effect(1);
     holds.run(entry(2, 0, 0, 0));
@@ -63,5 +65,4 @@ fn whoever_has_built_on_it_goes_back(rt: HostRuntime) -> Result<(), Fail> {
     };
     assert_eq!(rt; undo_ready(&holds, 1, 0), Admitted::Blocked(block));
     assert_eq!(rt; undo_ready(&holds, 2, 0), Admitted::Free);
-    Ok(())
 }

@@ -1,39 +1,49 @@
 // What no clause of `instance_state` says: one process on its way, step by step. After a pivot there are three ways, of which the
 // last is retriable; and there is a process of a single step.
-use crate::plans::steps;
+use crate::plans::{must, steps};
 use instance_state::{Instance, Recovery, Refusal, Todo};
 use process_tree::{Block, Name, Operations, Plan, StepKind, Tail, Tree};
 use std::alloc::Global;
-use std::test::Fail;
+use std::process::Abort;
 
 /// Steps of these kinds, named by letters from this one on, and a tail.
-fn block(alloc: Global, kinds: &[StepKind], first: u8, tail: Tail) -> Result<Block, Fail> {
-    let steps = steps(alloc, kinds, first, 0)?;
-    Ok(Block { steps, tail })
+fn block(rt: &impl Abort, alloc: Global, kinds: &[StepKind], first: u8, tail: Tail) -> Block {
+    let steps = steps(rt, alloc, kinds, first, 0);
+    Block { steps, tail }
 }
 
-fn plan(alloc: Global, root: Block) -> Result<Plan, Fail> {
-    let tree = Tree::build(alloc, root)?;
+fn plan(rt: &impl Abort, alloc: Global, root: Block) -> Plan {
+    let tree = must(rt, Tree::build(alloc, root));
     let mut ops = Vec::new(alloc);
     for _ in 0..tree.count() {
-        ops.push(0)?;
+        must(rt, ops.push(0));
     }
-    Ok(Plan {
-        name: Name::new(alloc, b"b")?,
+    Plan {
+        name: must(rt, Name::new(alloc, b"b")),
         tree,
         ops: Operations::new(ops),
-    })
+    }
 }
 
 /// A pivot 0; then 1 and 2, or 3, or 4, of which 4 alone is retriable.
-fn three_ways(alloc: Global) -> Result<Plan, Fail> {
+fn three_ways(rt: &impl Abort, alloc: Global) -> Plan {
     let mut ways = Vec::new(alloc);
-    ways.push(block(alloc, &[StepKind::C, StepKind::C], b'b', Tail::End)?)?;
-    ways.push(block(alloc, &[StepKind::C], b'd', Tail::End)?)?;
-    ways.push(block(alloc, &[StepKind::R], b'e', Tail::End)?)?;
+    must(
+        rt,
+        ways.push(block(rt, alloc, &[StepKind::C, StepKind::C], b'b', Tail::End)),
+    );
+    must(
+        rt,
+        ways.push(block(rt, alloc, &[StepKind::C], b'd', Tail::End)),
+    );
+    must(
+        rt,
+        ways.push(block(rt, alloc, &[StepKind::R], b'e', Tail::End)),
+    );
     plan(
+        rt,
         alloc,
-        block(alloc, &[StepKind::P], b'a', Tail::Choice(ways))?,
+        block(rt, alloc, &[StepKind::P], b'a', Tail::Choice(ways)),
     )
 }
 
@@ -46,12 +56,10 @@ fn refused(process: &mut Instance) -> Option<Refusal> {
 }
 
 #[test]
-fn an_abort_undoes_behind_the_commit_point_and_does_what_is_owed(
-    rt: HostRuntime,
-) -> Result<(), Fail> {
+fn an_abort_undoes_behind_the_commit_point_and_does_what_is_owed(rt: HostRuntime) {
     let alloc = rt.alloc();
-    let plan = three_ways(alloc)?;
-    let mut process = Instance::new(alloc, &plan)?;
+    let plan = three_ways(&rt, alloc);
+    let mut process = must(&rt, Instance::new(alloc, &plan));
     process.effected();
     process.effected();
     assert_eq!(rt; process.todo(), Todo::Forward(2));
@@ -64,14 +72,13 @@ fn an_abort_undoes_behind_the_commit_point_and_does_what_is_owed(
     assert_eq!(rt; process.todo(), Todo::End);
     assert_eq!(rt; process.recovery(), Recovery::Forward);
     assert_eq!(rt; process.pending(), 0);
-    Ok(())
 }
 
 #[test]
-fn refusals_lead_from_way_to_way_and_then_to_other_tries(rt: HostRuntime) -> Result<(), Fail> {
+fn refusals_lead_from_way_to_way_and_then_to_other_tries(rt: HostRuntime) {
     let alloc = rt.alloc();
-    let plan = three_ways(alloc)?;
-    let mut process = Instance::new(alloc, &plan)?;
+    let plan = three_ways(&rt, alloc);
+    let mut process = must(&rt, Instance::new(alloc, &plan));
     process.effected();
     assert_eq!(rt; refused(&mut process), Some(Refusal::Alternative));
     assert_eq!(rt; process.todo(), Todo::Forward(3));
@@ -81,16 +88,15 @@ fn refusals_lead_from_way_to_way_and_then_to_other_tries(rt: HostRuntime) -> Res
     assert_eq!(rt; refused(&mut process), Some(Refusal::Retry(2)));
     assert_eq!(rt; refused(&mut process), Some(Refusal::Exhausted));
     assert_eq!(rt; process.todo(), Todo::Exhausted(4));
-    Ok(())
 }
 
 #[test]
-fn the_refusal_of_the_only_step_rolls_back(rt: HostRuntime) -> Result<(), Fail> {
+fn the_refusal_of_the_only_step_rolls_back(rt: HostRuntime) {
     let alloc = rt.alloc();
-    let plan = plan(alloc, block(alloc, &[StepKind::C], b'x', Tail::End)?)?;
-    let mut process = Instance::new(alloc, &plan)?;
+    let root = block(&rt, alloc, &[StepKind::C], b'x', Tail::End);
+    let plan = plan(&rt, alloc, root);
+    let mut process = must(&rt, Instance::new(alloc, &plan));
     assert_eq!(rt; refused(&mut process), Some(Refusal::RollBack));
     assert_eq!(rt; process.todo(), Todo::End);
     assert_eq!(rt; process.recovery(), Recovery::Backward);
-    Ok(())
 }

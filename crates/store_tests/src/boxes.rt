@@ -1,11 +1,10 @@
 // A box is dropped once, with its store.
-use crate::files::{rack_of, whole_file};
+use crate::files::{must, rack_of, whole_file};
 use resource_box::{Call, Counters, Kind, Resource};
 use std::alloc::{AllocError, Global};
 use std::process::Abort;
 use std::sync::Arc;
 use std::sync::atomic::{AtomicU32, Ordering};
-use std::test::Fail;
 use subsystem_store::Store;
 
 // Counters that count how often they are dropped.
@@ -56,15 +55,15 @@ impl Resource for Counted {
 }
 
 #[test]
-fn a_box_is_dropped_once_with_its_store(rt: HostRuntime) -> Result<(), Fail> {
+fn a_box_is_dropped_once_with_its_store(rt: HostRuntime) {
     let alloc = rt.alloc();
-    let drops = Arc::new(alloc, AtomicU32::new(0))?;
-    let mut rack = rack_of(alloc, whole_file())?;
+    let drops = must(&rt, Arc::new(alloc, AtomicU32::new(0)));
+    let mut rack = rack_of(&rt, alloc, whole_file());
     let counted = Counted {
         counters: Counters::new(alloc),
-        drops: drops.clone()?,
+        drops: must(&rt, drops.clone()),
     };
-    let resource = Box::new(alloc, counted)? as Box<dyn Resource + Send>;
+    let resource = must(&rt, Box::new(alloc, counted)) as Box<dyn Resource + Send>;
     {
         let Ok(store) = Store::open(alloc, &mut rack, 1, resource) else {
             panic!(rt; "no store");
@@ -73,5 +72,4 @@ fn a_box_is_dropped_once_with_its_store(rt: HostRuntime) -> Result<(), Fail> {
         assert_eq!(rt; drops.load(Ordering::Relaxed), 0);
     }
     assert_eq!(rt; drops.load(Ordering::Relaxed), 1);
-    Ok(())
 }

@@ -1,29 +1,27 @@
 // The file of one committed effect, whole and damaged at each place.
-use crate::files::{counters, rack_of, whole_file};
+use crate::files::{counters, must, rack_of, whole_file};
 use process_disk::MemoryRack;
 use std::alloc::Global;
 use std::process::Abort;
-use std::test::Fail;
 use subsystem_store::{Store, StoreError};
 
 #[test]
-fn a_file_of_one_committed_effect_is_opened(rt: HostRuntime) -> Result<(), Fail> {
+fn a_file_of_one_committed_effect_is_opened(rt: HostRuntime) {
     let alloc = rt.alloc();
-    let mut rack = rack_of(alloc, whole_file())?;
-    let Ok(store) = Store::open(alloc, &mut rack, 1, counters(alloc)?) else {
+    let mut rack = rack_of(&rt, alloc, whole_file());
+    let Ok(store) = Store::open(alloc, &mut rack, 1, counters(&rt, alloc)) else {
         panic!(rt; "no store");
     };
     assert_eq!(rt; store.book().len(), 1);
     assert!(rt; store.in_doubt().is_none());
     assert_eq!(rt; store.look(1), 5);
-    Ok(())
 }
 
 // How many effects the store of file 1 has, or why it is none.
-fn count(alloc: Global, rack: &mut MemoryRack) -> Result<Result<usize, StoreError>, Fail> {
-    match Store::open(alloc, rack, 1, counters(alloc)?) {
-        Ok(store) => Ok(Ok(store.book().len())),
-        Err(refused) => Ok(Err(refused.why)),
+fn count(rt: &impl Abort, alloc: Global, rack: &mut MemoryRack) -> Result<usize, StoreError> {
+    match Store::open(alloc, rack, 1, counters(rt, alloc)) {
+        Ok(store) => Ok(store.book().len()),
+        Err(refused) => Err(refused.why),
     }
 }
 
@@ -64,27 +62,25 @@ fn expect_damage<H: Abort>(
     place: usize,
     byte: u8,
     want: Result<usize, StoreError>,
-) -> Result<(), Fail> {
-    let mut file = whole_file().to_vec(alloc)?;
+) {
+    let mut file = must(rt, whole_file().to_vec(alloc));
     assert!(rt; place < file.len());
     assert_ne!(rt; file[place], byte);
     file[place] = byte;
-    let mut rack = rack_of(alloc, &file)?;
-    assert_eq!(rt; count(alloc, &mut rack)?, want, "damaged at {place}");
-    Ok(())
+    let mut rack = rack_of(rt, alloc, &file);
+    assert_eq!(rt; count(rt, alloc, &mut rack), want, "damaged at {place}");
 }
 
 #[test]
-fn a_damage_at_each_place_has_its_answer(rt: HostRuntime) -> Result<(), Fail> {
+fn a_damage_at_each_place_has_its_answer(rt: HostRuntime) {
     let alloc = rt.alloc();
     let mut covered = 0;
     for (from, to, byte, want) in &DAMAGES {
         assert!(rt; *from <= covered);
         covered = *to;
         for place in *from..*to {
-            expect_damage(&rt, alloc, place, *byte, *want)?;
+            expect_damage(&rt, alloc, place, *byte, *want);
         }
     }
     assert_eq!(rt; covered, whole_file().len());
-    Ok(())
 }

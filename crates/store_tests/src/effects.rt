@@ -1,16 +1,15 @@
 // An effect is committed, which makes the file; one that is barred leaves it; and a stop within a roll back leaves what it should.
-ghost use Rattle.std.specs.Prelude.{◌≡◌, ◌<◌, ◌∷◌, [], length, None, true, false, IfOk};
+ghost use Rattle.std.specs.Prelude.{◌≡◌, ◌<◌, ◌∷◌, [], length, None, true, false};
 ghost use Rattle.process_disk.specs.Disk.{Told, file_of};
 ghost use Rattle.subsystem_store.specs.Bodies.{is_amount};
 ghost use Rattle.subsystem_store.specs.Order.{may_follow};
 ghost use Rattle.subsystem_store.specs.Opened.{Fits, Stands, account_of};
 
-use crate::files::{counters, is_file, whole_file};
+use crate::files::{counters, is_file, must, whole_file};
 use process_disk::{MemoryRack, Rack};
 use resource_box::{Call, Resource, Verb};
 use std::alloc::Global;
 use std::process::Abort;
-use std::test::Fail;
 use subsystem_store::{Effect, Prepare, Store};
 
 // Adds 5 at key 1.
@@ -53,41 +52,45 @@ const TAKE_MORE: Effect = Effect {
 };
 
 // The store of file 1, in which this effect is committed.
-fn committed<R: Rack, B: Resource>(
+fn committed<H: Abort, R: Rack, B: Resource>(
+    rt: &H,
     alloc: Global,
     rack: &mut R,
     resource: B,
     effect: Effect,
-) -> Result<Store<B>, Fail>
+) -> Store<B>
     requires empty { Told (R.disk rack.old) → file_of (R.disk rack.old).files 1 ≡ [] }
     requires forward { effect.undo ≡ false }
     requires amount { is_amount effect.call.amount ≡ true }
-    ensures stands { Told (R.disk rack.new) → IfOk result (λ store. Stands store (R.disk rack.new)) }
-    ensures fits { IfOk result (λ store. Fits B.Resource (account_of store)) }
-    ensures book { IfOk result (λ store. store.book ≡ effect ∷ []) }
-    ensures doubt { IfOk result (λ store. store.doubt ≡ None) }
+    ensures stands { Told (R.disk rack.new) → Stands result (R.disk rack.new) }
+    ensures fits { Fits B.Resource (account_of result) }
+    ensures book { result.book ≡ effect ∷ [] }
+    ensures doubt { result.doubt ≡ None }
 {
     let Ok(mut store) = Store::create(alloc, rack, 1, resource) else {
-        return Err("no store".into());
+        panic!(rt; "no store");
     };
     let Prepare::Prepared = store.prepare(rack, effect) else {
-        return Err("not prepared".into());
+        panic!(rt; "not prepared");
     };
-    store.commit(rack)?;
-    Ok(store)
+    let Ok(()) = store.commit(rack) else {
+        panic!(rt; "not committed");
+    };
+    store
 }
 
 #[test]
-fn a_committed_effect_is_the_file_and_bars_a_take_of_more(rt: HostRuntime) -> Result<(), Fail> {
+fn a_committed_effect_is_the_file_and_bars_a_take_of_more(rt: HostRuntime) {
     let alloc = rt.alloc();
-    let mut rack = MemoryRack::new(alloc, Vec::new(alloc))?;
-    let mut store = committed(alloc, &mut rack, counters(alloc)?, ADD)?;
+    let Ok(mut rack) = MemoryRack::new(alloc, Vec::new(alloc)) else {
+        panic!(&rt; "no memory");
+    };
+    let mut store = committed(&rt, alloc, &mut rack, counters(&rt, alloc), ADD);
     assert_eq!(rt; store.look(1), 5);
     let calls = rack.calls();
     assert_eq!(rt; store.prepare(&mut rack, TAKE_MORE), Prepare::Barred);
     assert_eq!(rt; rack.calls(), calls);
-    assert!(rt; is_file(alloc, &mut rack, whole_file())?);
-    Ok(())
+    assert!(rt; is_file(&rt, alloc, &mut rack, whole_file()));
 }
 
 // A stop within a call of the `roll_back`, calls 14 and 15, and whether it leaves the effect in doubt: `create` makes calls 0
@@ -104,11 +107,12 @@ const STOPS: [(u32, u32, u8, bool); 8] = [
 ];
 
 // An effect is prepared in a store and taken back.
-fn roll_back<R: Rack, B: Resource>(
+fn roll_back<H: Abort, R: Rack, B: Resource>(
+    rt: &H,
     store: &mut Store<B>,
     rack: &mut R,
     effect: Effect,
-) -> Result<(), Fail>
+)
     requires settled { store.old.doubt ≡ None }
     requires few { length store.old.book < 16384 }
     requires follows { may_follow store.old.kind store.old.book effect ≡ true }
@@ -118,56 +122,54 @@ fn roll_back<R: Rack, B: Resource>(
     ensures { Fits B.Resource (account_of store.new) }
 {
     let Prepare::Prepared = store.prepare(rack, effect) else {
-        return Err("not prepared".into());
+        panic!(rt; "not prepared");
     };
-    store.roll_back(rack)?;
-    Ok(())
+    let Ok(()) = store.roll_back(rack) else {
+        panic!(rt; "not rolled back");
+    };
 }
 
 // A rack on which adding was committed, and taking was rolled back.
-fn rolled_back<H: Abort>(rt: &H, alloc: Global) -> Result<MemoryRack, Fail> {
-    let mut rack = MemoryRack::new(alloc, Vec::new(alloc))?;
-    let mut store = committed(alloc, &mut rack, counters(alloc)?, ADD)?;
-    roll_back(&mut store, &mut rack, TAKE)?;
+fn rolled_back<H: Abort>(rt: &H, alloc: Global) -> MemoryRack {
+    let Ok(mut rack) = MemoryRack::new(alloc, Vec::new(alloc)) else {
+        panic!(rt; "no memory");
+    };
+    let mut store = committed(rt, alloc, &mut rack, counters(rt, alloc), ADD);
+    roll_back(rt, &mut store, &mut rack, TAKE);
     assert_eq!(rt; store.look(1), 5);
-    Ok(rack)
+    rack
 }
 
 // What the store of file 1 has in doubt beside the first effect, if it is one.
-fn doubt_beside(alloc: Global, rack: &mut MemoryRack) -> Result<Option<Option<Effect>>, Fail> {
-    let Ok(store) = Store::open(alloc, rack, 1, counters(alloc)?) else {
-        return Ok(None);
+fn doubt_beside(rt: &impl Abort, alloc: Global, rack: &mut MemoryRack) -> Option<Option<Effect>> {
+    let Ok(store) = Store::open(alloc, rack, 1, counters(rt, alloc)) else {
+        return None;
     };
     if store.book() != [ADD].as_slice() {
-        return Ok(None);
+        return None;
     }
-    Ok(Some(store.in_doubt().copied()))
+    Some(store.in_doubt().copied())
 }
 
 // What a stop within a call leaves in doubt.
-fn expect_stop<H: Abort>(
-    rt: &H,
-    alloc: Global,
-    rack: &MemoryRack,
-    stop: (u32, u32, u8, bool),
-) -> Result<(), Fail> {
+fn expect_stop<H: Abort>(rt: &H, alloc: Global, rack: &MemoryRack, stop: (u32, u32, u8, bool)) {
     let (call, keep, fill, is_left) = stop;
     assert!(rt; u64::from(call) < rack.calls());
-    let mut left = rack.stopped(alloc, call, keep, fill)?;
+    let mut left = must(rt, rack.stopped(alloc, call, keep, fill));
     let want = if is_left { Some(TAKE) } else { None };
-    assert_eq!(rt; doubt_beside(alloc, &mut left)?, Some(want), "call {call}");
-    Ok(())
+    assert_eq!(rt;
+        doubt_beside(rt, alloc, &mut left),
+        Some(want),
+        "call {call}"
+    );
 }
 
 #[test]
-fn a_stop_within_a_roll_back_leaves_the_effect_in_doubt_or_not(
-    rt: HostRuntime,
-) -> Result<(), Fail> {
+fn a_stop_within_a_roll_back_leaves_the_effect_in_doubt_or_not(rt: HostRuntime) {
     let alloc = rt.alloc();
-    let rack = rolled_back(&rt, alloc)?;
+    let rack = rolled_back(&rt, alloc);
     assert_eq!(rt; rack.calls(), 16);
     for stop in &STOPS {
-        expect_stop(&rt, alloc, &rack, *stop)?;
+        expect_stop(&rt, alloc, &rack, *stop);
     }
-    Ok(())
 }

@@ -2,7 +2,7 @@
 use process_disk::{MemoryRack, Rack};
 use resource_box::{Counters, Resource};
 use std::alloc::Global;
-use std::test::Fail;
+use std::process::Abort;
 
 // File 1 after one committed effect: its header, the record of the effect, that of its commit, and a closed gate. The record has
 // the number, the process, the step, the direction, the verb, the key and the amount.
@@ -16,22 +16,30 @@ pub fn whole_file() -> &'static [u8] {
     FILE
 }
 
+/// What was to be had: memory is never wanting here, and no call fails.
+pub fn must<T: Drop, E: Drop>(rt: &impl Abort, found: Result<T, E>) -> T {
+    match found {
+        Ok(value) => value,
+        Err(_) => panic!(rt; "no memory, or a failed call"),
+    }
+}
+
 /// A rack whose file 1 has these bytes.
-pub fn rack_of(alloc: Global, bytes: &[u8]) -> Result<MemoryRack, Fail> {
-    let mut rack = MemoryRack::new(alloc, Vec::new(alloc))?;
-    rack.write_at(1, 0, bytes)?;
-    Ok(rack)
+pub fn rack_of(rt: &impl Abort, alloc: Global, bytes: &[u8]) -> MemoryRack {
+    let mut rack = must(rt, MemoryRack::new(alloc, Vec::new(alloc)));
+    must(rt, rack.write_at(1, 0, bytes));
+    rack
 }
 
 /// Counters without a value.
-pub fn counters(alloc: Global) -> Result<Box<dyn Resource + Send>, Fail> {
-    Ok(Box::new(alloc, Counters::new(alloc))? as Box<dyn Resource + Send>)
+pub fn counters(rt: &impl Abort, alloc: Global) -> Box<dyn Resource + Send> {
+    must(rt, Box::new(alloc, Counters::new(alloc))) as Box<dyn Resource + Send>
 }
 
 /// Whether file 1 of a rack has these bytes and no others.
-pub fn is_file(alloc: Global, rack: &mut MemoryRack, bytes: &[u8]) -> Result<bool, Fail> {
-    let mut found = vec![in alloc; 0; 45]?;
-    let count = rack.read(1, 0, &mut found)?;
-    let len = rack.len(1)?;
-    Ok(count == 45 && len == 45 && found.as_slice() == bytes)
+pub fn is_file(rt: &impl Abort, alloc: Global, rack: &mut MemoryRack, bytes: &[u8]) -> bool {
+    let mut found = must(rt, vec![in alloc; 0; 45]);
+    let count = must(rt, rack.read(1, 0, &mut found));
+    let len = must(rt, rack.len(1));
+    count == 45 && len == 45 && found.as_slice() == bytes
 }
