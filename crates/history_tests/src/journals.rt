@@ -1,6 +1,6 @@
 // What no clause of `process_journal` says: each damage and each cut of a file, the bytes of a whole journal, and that each call
 // which wants memory succeeds where there is enough.
-ghost use Rattle.std.specs.Prelude.{◌≡◌, ◌<◌, IfOk};
+ghost use Rattle.std.specs.Prelude.{◌≡◌, ◌<◌};
 
 use crate::damages::{CUTS, DAMAGES};
 use commute_table::read_catalog;
@@ -11,7 +11,6 @@ use process_tree::Entry;
 use schedule_model::Event;
 use std::alloc::Global;
 use std::process::Abort;
-use std::test::Fail;
 
 // File 0 after the run of one process of one step.
 const FILE: [u8; 76] = *b"tpsl\x01\x00\x00\x00\
@@ -20,19 +19,27 @@ const FILE: [u8; 76] = *b"tpsl\x01\x00\x00\x00\
 \x01\x08\x00\x02\x01\x00\x00\x00\x00\x00\x00\
 \x01\x05\x00\x03\x01\x00\x00\x00\x00";
 
+// What was to be had: memory is never wanting here, and no call fails.
+fn must<T: Drop, E: Drop>(rt: &impl Abort, found: Result<T, E>) -> T {
+    match found {
+        Ok(value) => value,
+        Err(_) => panic!(rt; "no memory, or a failed call"),
+    }
+}
+
 // How many events the history of file 0 has, or why there is none.
-fn events(alloc: Global, bytes: &[u8]) -> Result<Result<usize, JournalError>, Fail> {
-    let mut rack = MemoryRack::new(alloc, Vec::new(alloc))?;
-    rack.write_at(0, 0, bytes)?;
+fn events(rt: &impl Abort, alloc: Global, bytes: &[u8]) -> Result<usize, JournalError> {
+    let mut rack = must(rt, MemoryRack::new(alloc, Vec::new(alloc)));
+    must(rt, rack.write_at(0, 0, bytes));
     match Journal::open(alloc, &mut rack) {
-        Ok((_, _, history)) => Ok(Ok(history.events.as_slice().len())),
-        Err(error) => Ok(Err(error)),
+        Ok((_, _, history)) => Ok(history.events.as_slice().len()),
+        Err(error) => Err(error),
     }
 }
 
 // That file, of which no proof knows the bytes.
-fn whole_file(alloc: Global) -> Result<Vec<u8>, Fail> {
-    Ok(FILE.to_vec(alloc)?)
+fn whole_file(rt: &impl Abort, alloc: Global) -> Vec<u8> {
+    must(rt, FILE.to_vec(alloc))
 }
 
 // What is answered with this byte at a place.
@@ -42,55 +49,51 @@ fn expect_damage<H: Abort>(
     place: usize,
     byte: u8,
     want: Result<usize, JournalError>,
-) -> Result<(), Fail> {
-    let mut file = whole_file(alloc)?;
+) {
+    let mut file = whole_file(rt, alloc);
     assert!(rt; place < file.len());
     if byte != file[place] {
         file[place] = byte;
-        assert_eq!(rt; events(alloc, &file)?, want, "{byte} at {place}");
+        assert_eq!(rt; events(rt, alloc, &file), want, "{byte} at {place}");
     }
-    Ok(())
 }
 
 #[test]
-fn each_damage_has_its_answer(rt: HostRuntime) -> Result<(), Fail> {
+fn each_damage_has_its_answer(rt: HostRuntime) {
     let alloc = rt.alloc();
-    assert_eq!(rt; events(alloc, &FILE)?, Ok(3));
+    assert_eq!(rt; events(&rt, alloc, &FILE), Ok(3));
     let mut covered = 0;
     for (from, to, first, middle, last, want) in DAMAGES {
         assert!(rt; from <= covered);
         covered = to;
         for place in from..to {
             for byte in [first, middle, last] {
-                expect_damage(&rt, alloc, place, byte, want)?;
+                expect_damage(&rt, alloc, place, byte, want);
             }
         }
     }
     assert_eq!(rt; covered, FILE.len());
-    Ok(())
 }
 
 #[test]
-fn a_journal_of_version_2_is_opened(rt: HostRuntime) -> Result<(), Fail> {
+fn a_journal_of_version_2_is_opened(rt: HostRuntime) {
     let alloc = rt.alloc();
-    let mut file = whole_file(alloc)?;
+    let mut file = whole_file(&rt, alloc);
     assert!(rt; file.len() == FILE.len());
     file[12] = 2;
     file[21] = 2;
-    assert_eq!(rt; events(alloc, &file)?, Ok(3));
-    Ok(())
+    assert_eq!(rt; events(&rt, alloc, &file), Ok(3));
 }
 
 #[test]
-fn each_cut_has_its_answer(rt: HostRuntime) -> Result<(), Fail> {
+fn each_cut_has_its_answer(rt: HostRuntime) {
     let alloc = rt.alloc();
     for (from, to, want) in CUTS {
         for size in from..to {
             assert!(rt; size <= FILE.len());
-            assert_eq!(rt; events(alloc, &FILE[..size])?, want, "cut after {size}");
+            assert_eq!(rt; events(&rt, alloc, &FILE[..size]), want, "cut after {size}");
         }
     }
-    Ok(())
 }
 
 // A rack in memory of which nothing is told, so that no call asks what its files hold. Its count of faults stands at the last
@@ -139,8 +142,8 @@ const STEP: Entry = Entry {
 };
 
 // The journal of no record yet.
-fn new_journal<H: Abort>(rt: &H, alloc: Global, rack: &mut Untold) -> Result<Journal, Fail>
-    ensures { IfOk result (λ journal. journal.count ≡ 1) }
+fn new_journal<H: Abort>(rt: &H, alloc: Global, rack: &mut Untold) -> Journal
+    ensures { result.count ≡ 1 }
 {
     let Ok(catalog) = read_catalog(alloc, &FILE[12..22]) else {
         panic!(rt; "no catalog");
@@ -148,30 +151,38 @@ fn new_journal<H: Abort>(rt: &H, alloc: Global, rack: &mut Untold) -> Result<Jou
     let Ok(journal) = Journal::create(alloc, rack, &catalog) else {
         panic!(rt; "no journal");
     };
-    Ok(journal)
+    journal
 }
 
 // Appends the records of that run.
-fn append_run(alloc: Global, rack: &mut Untold, journal: &mut Journal) -> Result<(), Fail>
+fn append_run<H: Abort>(rt: &H, alloc: Global, rack: &mut Untold, journal: &mut Journal)
     requires { journal.old.count < 100 }
 {
-    let text = Body::new(FILE[30..56].to_vec(alloc)?);
-    journal.append(rack, &Record::Start(1, text))?;
-    journal.append(rack, &Record::Act(STEP))?;
-    journal.append(rack, &Record::End(1))?;
-    Ok(())
+    let Ok(bytes) = FILE[30..56].to_vec(alloc) else {
+        panic!(rt; "no memory");
+    };
+    let text = Body::new(bytes);
+    let Ok(()) = journal.append(rack, &Record::Start(1, text)) else {
+        panic!(rt; "no start");
+    };
+    let Ok(()) = journal.append(rack, &Record::Act(STEP)) else {
+        panic!(rt; "no step");
+    };
+    let Ok(()) = journal.append(rack, &Record::End(1)) else {
+        panic!(rt; "no end");
+    };
 }
 
 // The bytes of file 0, which are fewer than 100.
-fn bytes_in(alloc: Global, rack: &mut Untold) -> Result<Vec<u8>, Fail> {
-    let mut bytes = vec![in alloc; 0; 100]?;
-    let count = rack.read(0, 0, &mut bytes)?;
+fn bytes_in(rt: &impl Abort, alloc: Global, rack: &mut Untold) -> Vec<u8> {
+    let mut bytes = must(rt, vec![in alloc; 0; 100]);
+    let count = must(rt, rack.read(0, 0, &mut bytes));
     bytes.truncate(count);
-    Ok(bytes)
+    bytes
 }
 
 // File 0 is the journal of that run.
-fn expect_run<H: Abort>(rt: &H, alloc: Global, rack: &mut Untold) -> Result<(), Fail> {
+fn expect_run<H: Abort>(rt: &H, alloc: Global, rack: &mut Untold) {
     let Ok((journal, catalog, history)) = Journal::open(alloc, rack) else {
         panic!(rt; "not opened");
     };
@@ -180,19 +191,18 @@ fn expect_run<H: Abort>(rt: &H, alloc: Global, rack: &mut Untold) -> Result<(), 
     assert_eq!(rt; history.plans.as_slice().len(), 1);
     let events = [Event::Start(1), Event::Act(STEP), Event::End(1)];
     assert_eq!(rt; history.events.as_slice(), events.as_slice());
-    Ok(())
 }
 
 #[test]
-fn the_records_of_a_run_are_written_and_read(rt: HostRuntime) -> Result<(), Fail> {
+fn the_records_of_a_run_are_written_and_read(rt: HostRuntime) {
     let alloc = rt.alloc();
     let mut rack = Untold {
-        rack: MemoryRack::new(alloc, Vec::new(alloc))?,
+        rack: must(&rt, MemoryRack::new(alloc, Vec::new(alloc))),
     };
-    let mut journal = new_journal(&rt, alloc, &mut rack)?;
+    let mut journal = new_journal(&rt, alloc, &mut rack);
     assert_eq!(rt; rack.len(0), Ok(23));
-    append_run(alloc, &mut rack, &mut journal)?;
+    append_run(&rt, alloc, &mut rack, &mut journal);
     assert_eq!(rt; rack.len(0), Ok(76));
-    assert!(rt; bytes_in(alloc, &mut rack)? == whole_file(alloc)?);
+    assert!(rt; bytes_in(&rt, alloc, &mut rack) == whole_file(&rt, alloc));
     expect_run(&rt, alloc, &mut rack)
 }
