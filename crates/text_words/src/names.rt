@@ -25,14 +25,7 @@ impl<'a> Model for Names<'a> {
 fn is_among(names: &[&[u8]], name: &[u8]) -> bool
     ensures { result ≡ list_any (same_text name.now) (map (λ n. n.now) names.now) }
 {
-    let mut rest = names;
-    while let [taken, after @ ..] = rest {
-        if is_word(name, taken) {
-            return true;
-        }
-        rest = after;
-    }
-    false
+    names.iter().any(|taken| is_word(name, taken))
 }
 
 impl<'a> Names<'a> {
