@@ -1,9 +1,9 @@
 -- Loops over steps: the first bad one, and the first with the name of an earlier one.
 use Rattle.std.proofs.Math.Bool.{or-false, or_comm}
-use Rattle.std.proofs.Common.{◌≡◌, ℕ, ◌+◌, ◌<◌, true, false, ◌||◌, List, [], ◌∷◌, ◌++◌, length, map, take, drop, drop-cons, reverse, get_or, add-one, Option, Some, ap, ◌∙◌, sym, refl, if◌then◌else◌}
+use Rattle.std.proofs.Common.{◌≡◌, ℕ, ◌+◌, ◌<◌, Bool, true, false, not, ◌||◌, List, [], ◌∷◌, ◌++◌, length, map, take, drop, drop-cons, reverse, get_or, add-one, Option, Some, ap, ◌∙◌, sym, refl, if◌then◌else◌}
 use Rattle.std.proofs.lemmas.List.{take_more, reverse-append, map-append}
 use Rattle.std.proofs.lemmas.List.Folds.{list_any-append}
-use Rattle.std.specs.List.{list_any}
+use Rattle.std.specs.List.{list_any, position_from}
 use Rattle.std.proofs.Common.{Bor}
 use Rattle.process_tree.specs.declared.step.Step.{Step}
 use Rattle.process_tree.specs.Making.{is_good_step, same_text, first_same_name, first_bad_step}
@@ -16,19 +16,14 @@ now rs = map (λ s. s.now) rs
 pub now-drop : (rs : List (Bor Step)) (n : ℕ) (r : Bor Step) → n < length rs → r ≡ get_or rs n r → now (drop n rs) ≡ r.now ∷ now (drop (n + 1) rs)
 now-drop rs n r lt is = rw (add-one, drop-cons rs n r, ← is) refl
 
--- a good step is passed over
-pub bad_next : (rs : List (Bor Step)) (n : ℕ) (r : Bor Step) (w : Option ℕ) → n < length rs → r ≡ get_or rs n r → is_good_step r.now ≡ true → first_bad_step n (now (drop n rs)) ≡ w → first_bad_step (n + 1) (now (drop (n + 1) rs)) ≡ w
-bad_next rs n r w lt is good inv =
-    let step : first_bad_step n (r.now ∷ now (drop (n + 1) rs)) ≡ first_bad_step (n + 1) (now (drop (n + 1) rs)) =
-    ap (λ b. if b then first_bad_step (n + 1) (now (drop (n + 1) rs)) else Some n) good in
-    sym step ∙ sym (ap (first_bad_step n) (now-drop rs n r lt is)) ∙ inv
-
--- a bad step is the answer
-pub bad_here : (rs : List (Bor Step)) (n : ℕ) (r : Bor Step) (w : Option ℕ) → n < length rs → r ≡ get_or rs n r → is_good_step r.now ≡ false → first_bad_step n (now (drop n rs)) ≡ w → Some n ≡ w
-bad_here rs n r w lt is bad inv =
-    let step : first_bad_step n (r.now ∷ now (drop (n + 1) rs)) ≡ Some n =
-    ap (λ b. if b then first_bad_step (n + 1) (now (drop (n + 1) rs)) else Some n) bad in
-    sym step ∙ sym (ap (first_bad_step n) (now-drop rs n r lt is)) ∙ inv
+-- where the first bad step is found behind references, of which n stand before
+pub bad_at : (rs : List (Bor Step)) (n : ℕ) → position_from (λ r. not (is_good_step r.now)) n rs ≡ first_bad_step n (now rs)
+bad_at [] n = refl
+bad_at (r ∷ rs) n = here (is_good_step r.now) (bad_at rs (n + 1))
+  where
+    here : (good : Bool) {x y : Option ℕ} → x ≡ y → (if not good then Some n else x) ≡ (if good then y else Some n)
+    here true e = e
+    here false e = refl
 
 -- the names of these steps, the last first
 abbrev pub names_back : List (Bor Step) → List (List ℕ)

@@ -93,10 +93,5 @@ pub fn first_bad_step(steps: &[&Step]) -> Option<usize>
     ensures first { result ≡ first_bad_step 0 (map (λ s. s.now) steps.now) }
     ensures within { IfSome result (λ place. place < length steps.now) }
 {
-    for (place, step) in steps.iter().enumerate() {
-        if !is_good_step(step) {
-            return Some(place);
-        }
-    }
-    None
+    steps.iter().position(|step| !is_good_step(step))
 }
