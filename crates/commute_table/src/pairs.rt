@@ -97,14 +97,7 @@ fn pair_in(version: u8, value: &Value) -> Option<(&str, &str, Mode)>
 fn are_pairs(version: u8, items: &[Value]) -> bool
     ensures { result ≡ are_pairs version (items_view items.now) }
 {
-    let mut rest = items;
-    while let [first, after @ ..] = rest {
-        if pair_in(version, first).is_none() {
-            return false;
-        }
-        rest = after;
-    }
-    true
+    items.iter().all(|item| pair_in(version, item).is_some())
 }
 
 // The number of the operation that a conflict names.

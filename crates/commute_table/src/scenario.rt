@@ -101,14 +101,7 @@ fn op_of(alloc: Global, earlier: &[Op], table: &Table) -> Result<Op, ScenarioErr
 fn are_tables(items: &[Value]) -> bool
     ensures { result ≡ are_tables (items_view items.now) }
 {
-    let mut rest = items;
-    while let [first, after @ ..] = rest {
-        if !first.is_table() {
-            return false;
-        }
-        rest = after;
-    }
-    true
+    items.iter().all(|item| item.is_table())
 }
 
 fn ops_of(alloc: Global, items: &[Value]) -> Result<Ops, ScenarioError>
@@ -162,12 +155,7 @@ pub fn number_of(ops: &[Op], name: &[u8]) -> Option<usize>
     ensures number { result ≡ number_of ops.now name.now }
     ensures within { IfSome result (λ n. n < length ops.now) }
 {
-    for (number, op) in ops.iter().enumerate() {
-        if op.name.bytes() == name {
-            return Some(number);
-        }
-    }
-    None
+    ops.iter().position(|op| op.name.bytes() == name)
 }
 
 #[tactic(auto, unfolding(crate::specs::Document::processes_said))]
