@@ -170,12 +170,7 @@ fn all_stand(conflicts: &Conflicts, pairs: &[Pair]) -> bool
     requires within { Each (IsPairOf (operations_in conflicts.now)) pairs.now }
     ensures { result ≡ list_all (λ p. same_mode (mode_of conflicts.now p.first p.second) p.mode) pairs.now }
 {
-    for pair in pairs {
-        if !same_mode(conflicts.mode(pair.first, pair.second), pair.mode) {
-            return false;
-        }
-    }
-    true
+    pairs.iter().all(|pair| same_mode(conflicts.mode(pair.first, pair.second), pair.mode))
 }
 
 // The table of the pairs. It has the modes of all unless two disagree.
