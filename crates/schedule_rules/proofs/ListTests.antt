@@ -1,5 +1,5 @@
 -- Tests on lists of entries.
-use Rattle.std.proofs.Common.{◌≡◌, inl, inr, ◌-◌, ◌≤◌, suc, Bool, true, false, cond, ◌||◌, List, [], ◌∷◌, ◌++◌, filter, length, take, drop, get_or, sym, refl, ap, ◌∙◌, subst, arith}
+use Rattle.std.proofs.Common.{◌≡◌, inl, inr, ℕ, ◌-◌, ◌<◌, ◌≤◌, zero, suc, Bool, true, false, cond, ◌||◌, List, [], ◌∷◌, ◌++◌, filter, length, take, drop, get_or, sym, refl, ap, ◌∙◌, subst, arith}
 use Rattle.std.specs.List.{list_any}
 use Rattle.std.proofs.Math.Seq.{split_at}
 use Rattle.std.proofs.lemmas.Bool.{false≢true}
@@ -45,6 +45,12 @@ module _ {X : Type 0} where
   each-among P x [] each is = absurd is
   each-among P x (y ∷ xs) each (inl here) = subst P here each.0
   each-among P x (y ∷ xs) each (inr later) = each-among P x xs each.1 later
+
+  -- and so has the one at a place
+  pub each_at : (P : X → Type 0) (xs : List X) → Each P xs → (x : X) (k : ℕ) → k < length xs → x ≡ get_or xs k x → P x
+  each_at P [] each x k less is = absurd (omega arith)
+  each_at P (y ∷ xs) each x zero less is = subst P (sym is) each.0
+  each_at P (y ∷ xs) each x (suc k) less is = each_at P xs each.1 x k (omega arith) is
 
   pub each_from : (P : X → Type 0) (xs : List X) → ((x : X) → Among x xs → P x) → Each P xs
   each_from P [] all = tt

@@ -55,14 +55,7 @@ fn can_pass(c: &Conflicts, entry: &Entry, others: &[Entry]) -> bool
     requires others { AreKnown c.now others.now }
     ensures { result ≡ list_all (can_change (do_conflict c.now) entry.now) others.now }
 {
-    let mut rest = others;
-    while let [other, after @ ..] = rest {
-        if !can_change(c, entry, other) {
-            return false;
-        }
-        rest = after;
-    }
-    true
+    others.iter().all(|other| can_change(c, entry, other))
 }
 
 /// Whether each of these may change places with an entry behind it.
@@ -71,14 +64,7 @@ fn can_be_passed(c: &Conflicts, entry: &Entry, others: &[Entry]) -> bool
     requires others { AreKnown c.now others.now }
     ensures { result ≡ list_all (λ other. can_change (do_conflict c.now) other entry.now) others.now }
 {
-    let mut rest = others;
-    while let [other, after @ ..] = rest {
-        if !can_change(c, other, entry) {
-            return false;
-        }
-        rest = after;
-    }
-    true
+    others.iter().all(|other| can_change(c, other, entry))
 }
 
 /// The first entry of a part comes behind its last.

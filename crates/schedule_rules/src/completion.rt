@@ -68,14 +68,7 @@ fn ended(alloc: Global, events: &[Event]) -> Result<Vec<u32>, AllocError>
 fn is_listed(numbers: &[u32], i: u32) -> bool
     ensures { result ≡ is_in i numbers.now }
 {
-    let mut rest = numbers;
-    while let [number, after @ ..] = rest {
-        if *number == i {
-            return true;
-        }
-        rest = after;
-    }
-    false
+    numbers.iter().any(|number| *number == i)
 }
 
 /// Who is active, by number.
@@ -159,14 +152,7 @@ fn backward_of_all(
 pub fn has_same_step(entries: &[Entry], entry: &Entry) -> bool
     ensures { result ≡ list_any (same_step entry.now) entries.now }
 {
-    let mut rest = entries;
-    while let [other, after @ ..] = rest {
-        if is_same_step(entry, other) {
-            return true;
-        }
-        rest = after;
-    }
-    false
+    entries.iter().any(|other| is_same_step(entry, other))
 }
 
 /// The undo of an entry.
