@@ -104,10 +104,5 @@ pub fn any_marked(marks: &[bool]) -> bool
     ensures some { result ≡ true → SomeMarked marks.now }
     ensures none { result ≡ false → NoneMarked marks.now }
 {
-    for mark in marks {
-        if *mark {
-            return true;
-        }
-    }
-    false
+    marks.iter().any(|mark| *mark)
 }
