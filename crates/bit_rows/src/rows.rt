@@ -73,10 +73,5 @@ pub fn is_nowhere(rows: &[BitRow], place: usize) -> bool
     ensures none { result ≡ true → (a : ℕ) → cell rows.now a place ≡ false }
     ensures some { result ≡ false → (a : ℕ) × (cell rows.now a place ≡ true) }
 {
-    for at in 0..rows.len() {
-        if rows[at].has(place) {
-            return false;
-        }
-    }
-    true
+    rows.iter().all(|row| !row.has(place))
 }

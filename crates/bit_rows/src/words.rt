@@ -55,10 +55,5 @@ pub fn is_zero(words: &Words) -> bool
     ensures none { result ≡ true → (k : ℕ) → has_column words.now k ≡ false }
     ensures some { result ≡ false → (k : ℕ) × (k < 256) × (has_column words.now k ≡ true) }
 {
-    for at in 0..4 {
-        if !has_none(words[at]) {
-            return false;
-        }
-    }
-    true
+    words.iter().all(|word| has_none(*word))
 }
