@@ -26,6 +26,12 @@ Each-taken P zero k (x ∷ p) h lt inside = absurd (omega arith)
 Each-taken P (suc n) zero (x ∷ p) h lt inside = h.0
 Each-taken P (suc n) (suc k) (x ∷ p) h lt inside = Each-taken P n k p h.1 (omega arith) (omega arith)
 
+-- and each of all, one that stands at a place
+pub Each-at : {A : Type 0} (P : A → Type 0) (xs : List A) (k : ℕ) (d : A) → k < length xs → Each P xs → P (slice_index_or xs k d)
+Each-at P [] k d lt h = absurd (omega arith)
+Each-at P (x ∷ xs) zero d lt h = h.0
+Each-at P (x ∷ xs) (suc k) d lt h = Each-at P xs k d (omega arith) h.1
+
 -- one more
 pub Each-next : {A : Type 0} (P : A → Type 0) (k : ℕ) (xs : List A) (d : A) → k < length xs → Each P (take k xs) → P (slice_index_or xs k d) → Each P (take (k + 1) xs)
 Each-next P k xs d lt h one = subst (Each P) (sym (ap (λ n. take n xs) (add-one k) ∙ take-suc xs k d lt)) (Each-append P (take k xs) (slice_index_or xs k d ∷ []) h (one, tt))

@@ -99,10 +99,7 @@ pub fn has_way_on(paths: &[Places], branch: &[u16], fixed: usize, step: u16) -> 
     requires within { fixed ≤ length branch.now }
     ensures { result ≡ list_any (leaves_later (fixed - 1) branch.now step) paths.now }
 {
-    for path in paths {
-        if leaves_later(path.as_slice(), branch, fixed, step) {
-            return true;
-        }
-    }
-    false
+    paths
+        .iter()
+        .any(|path| leaves_later(path.as_slice(), branch, fixed, step))
 }

@@ -18,12 +18,9 @@ fn can_any_be_refused(kinds: &[StepKind], steps: &[u16]) -> bool
     requires { Each (λ b. b < length kinds.now) steps.now }
     ensures { result ≡ list_any (λ b. can_be_refused (slice_index_or kinds.now b C)) steps.now }
 {
-    for step in steps {
-        if kinds[usize::from(*step)].can_be_refused() {
-            return true;
-        }
-    }
-    false
+    steps
+        .iter()
+        .any(|step| kinds[usize::from(*step)].can_be_refused())
 }
 
 /// Whether a step can be refused, and is the first such step behind this branch on its own.
