@@ -2,9 +2,8 @@
 ghost use Rattle.std.specs.Prelude.{◌≡◌, ◌≢◌, ◌++◌, IfOk};
 ghost use Rattle.machine_model.specs.Calls.{next, next_is};
 ghost use Rattle.machine_model.specs.Replies.{stuck};
-ghost use Rattle.machine_model.specs.CallLaws.{IsStuck};
 ghost use Rattle.process_core.specs.Answers.{answer_in};
-ghost use Rattle.process_core.specs.Cores.{courses_in, moment_of, relation};
+ghost use Rattle.process_core.specs.Moments.{IsStuckIn};
 ghost use Rattle.engine_calls.specs.Runs.{IsReady};
 ghost use Rattle.worker_gate.specs.Running.{IsOutcome};
 ghost use Rattle.scenario_run.specs.Reports.{HasUsedUp, exhausted_line};
@@ -45,7 +44,7 @@ fn stuck_line<R: Rack + Drop, B: Resource>(
 ) -> Result<Vec<u8>, AllocError>
     requires ready { IsReady B.Resource engine.old }
     requires replied { (answer_in engine.old.core next).reply ≡ next_is (stuck i) }
-    requires stuck { IsStuck (relation engine.old.core) (courses_in engine.old.core) (moment_of engine.old.core) i }
+    requires stuck { IsStuckIn engine.old.core i }
     ensures text { IfOk result (λ text. text.items ≡ line_in engine.old.core ++ exhausted_line engine.old.core i) }
     ensures used_up { HasUsedUp engine.old.core i }
     ensures left { engine.new ≡ engine.old }

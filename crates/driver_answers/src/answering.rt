@@ -1,11 +1,9 @@
 // The lines of a driver.
 ghost use Rattle.std.specs.Prelude.{◌≡◌, ◌≢◌, ◌++◌, ◌⊎◌, ℕ, List, Option, Err, drop, IfOk, IfErr, OnOk};
-ghost use Rattle.process_flow.specs.Causes.{Rose};
 ghost use Rattle.process_tree.specs.Order.{Each};
 ghost use Rattle.process_tree.specs.declared.plan.Plan.{Plan as Plan'};
 ghost use Rattle.engine_steps.specs.Beginning.{IsPlanFor};
-ghost use Rattle.engine_steps.specs.declared.engines.Phase.TheVariants as phase;
-ghost use Rattle.engine_calls.specs.Runs.{GoesOn, IsReady};
+ghost use Rattle.engine_calls.specs.Runs.{GoesOn, IsClosedByFault, IsReady};
 ghost use Rattle.history_files.specs.Standing.{EachFits};
 ghost use Rattle.session_play.specs.Answering.{IsAnswered, IsCopy};
 ghost use Rattle.session_play.specs.AtHand.{session_with, AreAtHand};
@@ -64,9 +62,7 @@ fn answer_session<R: Rack + Drop, B: Resource>(
         ⊎ ((copy : Option Plan') × IsCopy (plan_for plans.now line.now) copy
         × (engine.new.core ≡ (play engine.old.catalog
         (session_with engine.old.core hand.old) line.now copy).state.core))))) }
-    ensures fault { IfErr result
-        (λ cut. cut ≡ DiskFault → (engine.new.phase ≡ phase.Closed)
-        × Rose (R.faults engine.old.files.rack) (R.faults engine.new.files.rack)) }
+    ensures fault { IfErr result (λ cut. cut ≡ DiskFault → IsClosedByFault R.Rack engine.old engine.new) }
     ensures goes { GoesOn R.Rack plans.now engine.old engine.new }
     ensures fits { EachFits B.Resource engine.new.files.stores }
     ensures ready { result ≢ Err DiskFault → IsReady B.Resource engine.new }
@@ -101,9 +97,7 @@ pub fn answer_line<R: Rack + Drop, B: Resource>(
     ensures cut { IfErr result
         (λ cut. IsLineCut engine.old.catalog plans.now
         (state_of engine.old.core hand.old) line.now cut engine.new.core) }
-    ensures fault { IfErr result
-        (λ cut. cut ≡ DiskFault → (engine.new.phase ≡ phase.Closed)
-        × Rose (R.faults engine.old.files.rack) (R.faults engine.new.files.rack)) }
+    ensures fault { IfErr result (λ cut. cut ≡ DiskFault → IsClosedByFault R.Rack engine.old engine.new) }
     // No start was under way but of a plan of the scenario, or of one that the line spells.
     ensures goes { (spelled : List Plan') × GoesOn R.Rack (plans.now ++ spelled) engine.old engine.new }
     ensures fits { EachFits B.Resource engine.new.files.stores }

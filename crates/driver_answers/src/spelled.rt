@@ -1,18 +1,16 @@
 // Processes that a line spells.
 ghost use Rattle.std.specs.Prelude.{◌≡◌, ◌≢◌, ◌⊎◌, ◌∷◌, [], length, Err, List, Some, IfSome, IfNone, IfOk, IfErr, OnOk};
-ghost use Rattle.process_flow.specs.Causes.{Rose};
 ghost use Rattle.process_tree.specs.Order.{Each};
 ghost use Rattle.process_tree.specs.declared.plan.Plan.{Plan as Plan'};
 ghost use Rattle.process_text.specs.Canonical.{line_of};
 ghost use Rattle.engine_steps.specs.Beginning.{IsPlanFor};
-ghost use Rattle.engine_steps.specs.declared.engines.Phase.TheVariants as phase;
-ghost use Rattle.engine_calls.specs.Runs.{GoesOn, IsReady};
+ghost use Rattle.engine_calls.specs.Runs.{GoesOn, IsClosedByFault, IsReady};
 ghost use Rattle.history_files.specs.Standing.{EachFits};
 ghost use Rattle.machine_model.specs.Replies.{Handed};
 ghost use Rattle.engine_calls.specs.Acknowledged.{IsOneOf};
 ghost use Rattle.command_input.specs.Scenarios.{AreGoodPlans};
 ghost use Rattle.session_play.specs.Answering.{IsAnswered, IsCut};
-ghost use Rattle.group_flush.specs.Queues.{AreQueued};
+ghost use Rattle.group_flush.specs.Queues.{KeepsQueued};
 ghost use Rattle.session_play.specs.Pieces.{session_of};
 ghost use Rattle.session_play.specs.Playing.{play_start};
 ghost use Rattle.session_play.specs.declared.cut.Cut.TheVariants.{DiskFault, NoMemory};
@@ -76,10 +74,8 @@ fn start_named<R: Rack + Drop, B: Resource>(
     ensures cut { IfErr result
         (λ cut. (ps qs : List Handed) → IsCut cut
         (play_start (session_of engine.old.core ps qs) plan.name (Some plan)) engine.old.core engine.new.core) }
-    ensures fault { IfErr result
-        (λ cut. cut ≡ DiskFault → (engine.new.phase ≡ phase.Closed)
-        × Rose (R.faults engine.old.files.rack) (R.faults engine.new.files.rack)) }
-    ensures queued { OnOk result ((queued : List Handed) → AreQueued engine.old queued → AreQueued engine.new queued) }
+    ensures fault { IfErr result (λ cut. cut ≡ DiskFault → IsClosedByFault R.Rack engine.old engine.new) }
+    ensures queued { OnOk result (KeepsQueued engine.old engine.new) }
     ensures goes { (may_start : List Plan') → IsOneOf may_start plan → GoesOn R.Rack may_start engine.old engine.new }
     ensures fits { EachFits B.Resource engine.new.files.stores }
     ensures ready { result ≢ Err DiskFault → IsReady B.Resource engine.new }
@@ -107,10 +103,8 @@ fn start_one<R: Rack + Drop, B: Resource>(
         (λ cut. ((cut ≡ DiskFault) × (engine.new.core ≡ engine.old.core)) ⊎ ((cut ≡ NoMemory) × ((engine.new.core ≡ engine.old.core)
         ⊎ ((p : Plan') × (plans.items ≡ p ∷ []) ×
         ((ps qs : List Handed) → engine.new.core ≡ (play_start (session_of engine.old.core ps qs) p.name (Some p)).state.core))))) }
-    ensures fault { IfErr result
-        (λ cut. cut ≡ DiskFault → (engine.new.phase ≡ phase.Closed)
-        × Rose (R.faults engine.old.files.rack) (R.faults engine.new.files.rack)) }
-    ensures queued { OnOk result ((queued : List Handed) → AreQueued engine.old queued → AreQueued engine.new queued) }
+    ensures fault { IfErr result (λ cut. cut ≡ DiskFault → IsClosedByFault R.Rack engine.old engine.new) }
+    ensures queued { OnOk result (KeepsQueued engine.old engine.new) }
     ensures goes { (may_start : List Plan') → ((p : Plan') → plans.items ≡ p ∷ [] → IsOneOf may_start p)
         → GoesOn R.Rack may_start engine.old engine.new }
     ensures fits { EachFits B.Resource engine.new.files.stores }
@@ -140,10 +134,8 @@ pub fn start_spelled<R: Rack + Drop, B: Resource>(
         ⊎ ((p : Plan') × AreGoodPlans engine.old.catalog.ops spelled.now (p ∷ [])
         × ((ps qs : List Handed)
         → engine.new.core ≡ (play_start (session_of engine.old.core ps qs) p.name (Some p)).state.core))))) }
-    ensures fault { IfErr result
-        (λ cut. cut ≡ DiskFault → (engine.new.phase ≡ phase.Closed)
-        × Rose (R.faults engine.old.files.rack) (R.faults engine.new.files.rack)) }
-    ensures queued { OnOk result ((queued : List Handed) → AreQueued engine.old queued → AreQueued engine.new queued) }
+    ensures fault { IfErr result (λ cut. cut ≡ DiskFault → IsClosedByFault R.Rack engine.old engine.new) }
+    ensures queued { OnOk result (KeepsQueued engine.old engine.new) }
     // No start was under way but of a plan that the text spells.
     ensures goes { (spelled : List Plan') ×
         ((may_start : List Plan') → ((p : Plan') → IsOneOf spelled p → IsOneOf may_start p)

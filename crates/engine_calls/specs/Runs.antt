@@ -3,6 +3,7 @@ use Rattle.std.specs.Prelude.{◌≡◌, ◌≤◌, ℕ, List, ◌++◌}
 use Rattle.process_disk.specs.declared.rack.Rack.{Ghosts as Racks}
 use Rattle.process_disk.specs.Disk.{Disk, Told}
 use Rattle.process_disk.specs.Images.{ImagesFollow}
+use Rattle.process_flow.specs.Causes.{Rose}
 use Rattle.process_tree.specs.declared.plan.Plan.{Plan}
 use Rattle.process_tree.specs.declared.play.Outcome.{Outcome}
 use Rattle.schedule_model.specs.declared.event.Event.{Event}
@@ -21,6 +22,10 @@ use Rattle.engine_calls.specs.Acknowledged.{ComeInTurn, IsOneAhead, events_of}
 pub record IsReady {R B : Type 0} (box : Resources B) (e : EngineState R B) : Type 0 where
   pub settled : e.phase ≡ phase.Settled
   pub fits : EachFits box e.files.stores
+
+-- a call of the rack failed, so that its count of faults rose, and the engine is closed
+abbrev pub IsClosedByFault : {R B : Type 0} → Racks R → EngineState R B → EngineState R B → Type 0
+IsClosedByFault racks old new = (new.phase ≡ phase.Closed) × Rose (racks.faults old.files.rack) (racks.faults new.files.rack)
 
 -- A piece ended by one of its two outcomes, with this answer.
 pub record EndsPiece {R B : Type 0} (disk : R → Disk) (old new : EngineState R B) (p : Handed) (result : Finish) : Type 0 where

@@ -11,9 +11,9 @@ use Rattle.commute_table.specs.Binding.{IsPlanOf}
 use Rattle.machine_model.specs.declared.replies.StartWhy.{StartWhy}
 use Rattle.machine_model.specs.declared.replies.StartWhy.TheVariants as core
 use Rattle.machine_model.specs.Calls.{start, started}
-use Rattle.machine_model.specs.Runs.{start_refusal}
 use Rattle.process_core.specs.Answers.{after_start, answer_in}
-use Rattle.process_core.specs.Cores.{CoreState, courses_in, moment_of}
+use Rattle.process_core.specs.Cores.{CoreState}
+use Rattle.process_core.specs.Moments.{refusal_in}
 use Rattle.process_journal.specs.Bodies.{with_start}
 use Rattle.engine_steps.specs.Engines.{EngineState, full_history}
 use Rattle.engine_steps.specs.declared.engines.Phase.TheVariants as phase
@@ -30,13 +30,9 @@ pub record IsPlanFor (c : Catalog) (p : Plan) : Type 0 where
 abbrev pub history_with : CoreState → Plan → History
 history_with core p = with_start (full_history core) (length core.plans + 1) p
 
--- why a core refuses a start
-abbrev pub refusal_in : CoreState → Plan → StartWhy → Type 0
-refusal_in core p why = start_refusal (courses_in core) (moment_of core) (course_of p) ≡ Some why
-
--- it refuses none
+-- a core refuses no start of a process of this plan
 abbrev pub IsFree : CoreState → Plan → Type 0
-IsFree core p = start_refusal (courses_in core) (moment_of core) (course_of p) ≡ None
+IsFree core p = refusal_in core p ≡ None
 
 -- what a core's refusal is of an engine
 abbrev pub of_start_why : StartWhy → EngineStartWhy
@@ -48,8 +44,8 @@ of_start_why core.NoMemory = NoMemory
 -- it.
 abbrev pub IsDueToStart : {R B : Type 0} → EngineState R B → Plan → EngineStartWhy → Type 0
 IsDueToStart e p (Closed n) = (e.phase ≡ phase.Closed) × (n ≡ length e.core.kept)
-IsDueToStart e p (TooMany n) = (e.phase ≢ phase.Closed) × refusal_in e.core p (core.TooMany n)
-IsDueToStart e p (NoRoom n) = (e.phase ≢ phase.Closed) × refusal_in e.core p (core.NoRoom n)
+IsDueToStart e p (TooMany n) = (e.phase ≢ phase.Closed) × (refusal_in e.core p ≡ Some (core.TooMany n))
+IsDueToStart e p (NoRoom n) = (e.phase ≢ phase.Closed) × (refusal_in e.core p ≡ Some (core.NoRoom n))
 IsDueToStart e p NoMemory = (e.phase ≢ phase.Closed) × IsFree e.core p
 IsDueToStart e p DiskFault = (e.phase ≢ phase.Closed) × IsFree e.core p
 

@@ -6,7 +6,7 @@ ghost use Rattle.schedule_model.specs.Histories.{active, starts};
 ghost use Rattle.schedule_model.specs.Limits.{entries, most_active, most_entries, most_processes};
 ghost use Rattle.process_core.specs.Cores.{IsCore, IsHandedBy, began_in, courses_in, history_of, moment_of};
 ghost use Rattle.machine_model.specs.Pieces.{state_of};
-ghost use Rattle.machine_model.specs.State.{undo_next};
+ghost use Rattle.process_core.specs.Moments.{undo_next_in};
 ghost use Rattle.history_files.specs.Sound.{IsSound};
 ghost use Rattle.engine_steps.specs.Engines.{AreAtRest, AreExactly, IsClosed, IsUnder, full_history};
 ghost use Rattle.engine_steps.specs.declared.engines.Phase.TheVariants as phase;
@@ -140,7 +140,7 @@ impl<R: Rack + Drop, B: Drop> Engine<R, B> {
 
     /// The process of the last pending entry in joint order, whose undo comes next where all complete.
     pub fn undo_next(&self) -> Option<u32>
-        ensures { result ≡ undo_next (courses_in self.now.core) (moment_of self.now.core) }
+        ensures { result ≡ undo_next_in self.now.core }
     {
         self.core.undo_next()
     }

@@ -5,7 +5,7 @@ ghost use Rattle.process_disk.specs.Racks.{LeavesImages};
 ghost use Rattle.commute_table.specs.Operations.{IsCatalog};
 ghost use Rattle.process_core.specs.Cores.{opened_on};
 ghost use Rattle.process_journal.specs.Bodies.{no_history};
-ghost use Rattle.history_files.specs.Boxes.{AreBoxes, AreEmpty};
+ghost use Rattle.history_files.specs.Boxes.{AreBoxes, AreCleared};
 ghost use Rattle.history_files.specs.Standing.{EachFits};
 ghost use Rattle.history_files.specs.declared.faults.CreateError.TheVariants.{DiskFault as Fault, NoMemory};
 ghost use Rattle.engine_steps.specs.Engines.{AreAtRest, IsNew};
@@ -35,7 +35,7 @@ fn new_core(alloc: Global, catalog: &Catalog) -> Result<Core, AllocError>
 fn without_memory<R: Rack + Drop, B: Resource>(parts: Parts<R, B>) -> CreateRefused<R, B>
     requires boxes { AreBoxes B.sort parts.resources.items }
     ensures rack { result.parts.rack ≡ parts.rack }
-    ensures boxes { AreBoxes B.sort result.parts.resources.items × AreEmpty B.meaning result.parts.resources.items }
+    ensures boxes { AreCleared B.Resource result.parts.resources.items }
     ensures why { result.why ≡ NoMemory }
 {
     let Parts { rack, resources } = parts;
@@ -63,7 +63,7 @@ impl<R: Rack + Drop, B: Resource> Engine<R, B> {
         ensures fits { IfOk result (λ e. EachFits B.Resource e.files.stores) }
         ensures refused { Told (R.disk parts.rack) → IfErr result
             (λ r. IsRefusedMaking (R.disk parts.rack) (R.disk r.parts.rack) r.why) }
-        ensures back { IfErr result (λ r. AreBoxes B.sort r.parts.resources.items × AreEmpty B.meaning r.parts.resources.items) }
+        ensures back { IfErr result (λ r. AreCleared B.Resource r.parts.resources.items) }
         ensures rack { IfOk result (λ e. LeavesImages R.Rack parts.rack e.files.rack ⊥) }
         ensures rack_back { IfErr result (λ r. LeavesImages R.Rack parts.rack r.parts.rack (r.why ≡ Fault)) }
     {

@@ -4,7 +4,7 @@ ghost use Rattle.process_disk.specs.Disk.{Told};
 ghost use Rattle.process_disk.specs.Racks.{LeavesImages};
 ghost use Rattle.process_core.specs.Cores.{opened_on};
 ghost use Rattle.process_journal.specs.Journals.{IsHistoryUnder};
-ghost use Rattle.history_files.specs.Boxes.{AreBoxes, AreEmpty};
+ghost use Rattle.history_files.specs.Boxes.{AreBoxes, AreCleared};
 ghost use Rattle.history_files.specs.Standing.{EachFits};
 ghost use Rattle.history_opening.specs.declared.faults.OpenError.TheVariants.{DiskFault as Fault, NoMemory};
 ghost use Rattle.engine_steps.specs.Engines.{AreAtRest, full_history};
@@ -35,7 +35,7 @@ fn opened_core(alloc: Global, catalog: &Catalog, history: History) -> Result<Cor
 fn closed<R: Rack + Drop, B: Resource>(files: Files<R, B>) -> OpenRefused<R, B>
     requires fits { EachFits B.Resource files.stores }
     ensures rack { result.parts.rack ≡ files.rack }
-    ensures boxes { AreBoxes B.sort result.parts.resources.items × AreEmpty B.meaning result.parts.resources.items }
+    ensures boxes { AreCleared B.Resource result.parts.resources.items }
     ensures why { result.why ≡ NoMemory }
 {
     let mut parts = files.into_parts();
@@ -60,7 +60,7 @@ fn engine_on<R: Rack + Drop, B: Resource>(
     ensures on { IfOk result (IsOn catalog history files) }
     ensures rack { IfErr result (λ r. r.parts.rack ≡ files.rack) }
     ensures why { IfErr result (λ r. r.why ≡ NoMemory) }
-    ensures back { IfErr result (λ r. AreBoxes B.sort r.parts.resources.items × AreEmpty B.meaning r.parts.resources.items) }
+    ensures back { IfErr result (λ r. AreCleared B.Resource r.parts.resources.items) }
 {
     match opened_core(alloc, &catalog, history) {
         Ok(core) => Ok(Engine {
@@ -86,7 +86,7 @@ impl<R: Rack + Drop, B: Resource> Engine<R, B> {
         ensures fits { IfOk result (λ e. EachFits B.Resource e.files.stores) }
         ensures refused { Told (R.disk parts.rack) → IfErr result
             (λ r. IsRefusedOpening (R.disk parts.rack) (R.disk r.parts.rack) r.why) }
-        ensures back { IfErr result (λ r. AreBoxes B.sort r.parts.resources.items × AreEmpty B.meaning r.parts.resources.items) }
+        ensures back { IfErr result (λ r. AreCleared B.Resource r.parts.resources.items) }
         ensures rack { IfOk result (λ e. LeavesImages R.Rack parts.rack e.files.rack ⊥) }
         ensures rack_back { IfErr result (λ r. LeavesImages R.Rack parts.rack r.parts.rack (r.why ≡ Fault)) }
     {

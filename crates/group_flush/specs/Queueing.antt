@@ -1,5 +1,5 @@
 -- How a piece is queued.
-use Rattle.std.specs.Prelude.{◌≡◌, ◌⊎◌, ⊤, Bool, true, false, ◌&&◌, List, [], ◌∷◌, ◌++◌, filter, length, nat_le}
+use Rattle.std.specs.Prelude.{◌≡◌, ◌⊎◌, ⊤, ℕ, Bool, true, false, ◌&&◌, List, [], ◌∷◌, ◌++◌, filter, length, nat_le}
 use Rattle.std.specs.List.{list_any}
 use Rattle.schedule_model.specs.Histories.{is_in}
 use Rattle.process_tree.specs.declared.play.Outcome.TheVariants.{Refused as Fails}
@@ -10,11 +10,12 @@ use Rattle.machine_model.specs.Advance.{advance}
 use Rattle.machine_model.specs.Moment.{Piece}
 use Rattle.machine_model.specs.declared.replies.Refusal.TheVariants.{Retry as TryAgain, Alternative, RollBack, Exhausted as UsedUp}
 use Rattle.machine_model.specs.Calls.{finish}
-use Rattle.machine_model.specs.Groups.{Taken, as_done, as_refused, as_barred, Queue as Reply, queued, full, refused, over, dropped}
+use Rattle.machine_model.specs.Groups.{Subsystems, Taken, as_done, as_refused, as_barred}
+use Rattle.machine_model.specs.Groups.{Queue as Reply, queued, full, refused, over, dropped}
 use Rattle.machine_model.specs.Groups.{is_end_piece, queue_reply, share_store}
 use Rattle.machine_model.specs.Replies.{Handed, refusal_reply}
 use Rattle.process_core.specs.Answers.{after_call}
-use Rattle.process_core.specs.Cores.{courses_in, moment_of, relation}
+use Rattle.process_core.specs.Cores.{CoreState, courses_in, moment_of, relation}
 use Rattle.history_files.specs.Effects.{subsystem_of}
 use Rattle.engine_steps.specs.Engines.{EngineState, with_core}
 use Rattle.engine_steps.specs.Rooms.{MakesRoomFor}
@@ -33,11 +34,15 @@ taken_by IsRefused barred = as_refused
 taken_by Done true = as_barred
 taken_by Done false = as_done
 
+-- the reply of a core's machine to the queueing of piece n behind a group, by the subsystem of each operation
+abbrev pub queue_reply_in : CoreState → Subsystems → List ℕ → ℕ → Taken → Reply
+queue_reply_in c subsystems group n taken = queue_reply (relation c) subsystems (courses_in c) (moment_of c) group n taken
+
 -- the machine's reply to the queueing of a piece
 abbrev pub reply_to : {R B : Type 0} → EngineState R B → List Handed → Handed → Answer → Reply
 reply_to e group p answer =
-    queue_reply (relation e.core) (subsystem_of e.catalog.ops) (courses_in e.core) (moment_of e.core) (numbers_of (pieces_of group))
-    p.piece.number (taken_by answer (is_barred e p.piece))
+    queue_reply_in e.core (subsystem_of e.catalog.ops) (numbers_of (pieces_of group)) p.piece.number
+    (taken_by answer (is_barred e p.piece))
 
 -- The answer is the machine's reply; where memory was wanting, the piece would have been queued.
 abbrev pub RepliesAs : Queue → Reply → Type 0

@@ -60,6 +60,10 @@ pub record AreQueued {R B : Type 0} (e : EngineState R B) (group : List Handed) 
   pub few : length group ≤ 16
   pub room : Each (HasRoomFor e) (pieces_of group)
 
+-- whatever is queued at an engine may be queued at it later too
+abbrev pub KeepsQueued : {R B : Type 0} → EngineState R B → EngineState R B → Type 0
+KeepsQueued old new = (queued : List Handed) → AreQueued old queued → AreQueued new queued
+
 -- Pieces that may take effect together: this core handed each out and it is out, each once, no two that need one store, the numbers
 -- of each fit their bytes, and the store of each step has room for it.
 pub record IsGroup {R B : Type 0} (e : EngineState R B) (ps : List Piece) : Type 0 where

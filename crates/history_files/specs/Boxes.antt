@@ -16,6 +16,10 @@ AreBoxes sort boxes = map sort boxes ≡ kinds
 abbrev pub AreEmpty : {B : Type 0} → (B → Pairs) → List B → Type 0
 AreEmpty meaning boxes = AtEach (λ q b. (meaning b).items ≡ []) boxes
 
+-- the boxes are those of the eight subsystems, and empty
+abbrev pub AreCleared : {B : Type 0} → Resources B → List B → Type 0
+AreCleared box boxes = AreBoxes box.sort boxes × AreEmpty box.meaning boxes
+
 -- the stores of the first subsystems, and the boxes of the others, the last one first
 abbrev pub AreParted : {B : Type 0} → (B → Kind) → List (Opened B) → List B → Type 0
 AreParted sort stores boxes = map (λ s. s.kind) stores ++ reverse (map sort boxes) ≡ kinds
@@ -25,5 +29,5 @@ AreParted sort stores boxes = map (λ s. s.kind) stores ++ reverse (map sort box
 pub record AreInStores {T E B : Type 0} (box : Resources B) (boxes : Vec B Global) (result : Result T E)
     : Type 0 where
   pub emptied : OnOk result (boxes.items ≡ [])
-  pub back : OnErr result (AreBoxes box.sort boxes.items × AreEmpty box.meaning boxes.items)
+  pub back : OnErr result (AreCleared box boxes.items)
   pub room : 8 ≤ vec_capacity boxes

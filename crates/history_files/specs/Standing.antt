@@ -84,6 +84,10 @@ pub record Stand {B : Type 0} (c : Catalog) (h : History) (log : LogState) (all 
   pub good : AreGoodBooks all
   pub books : ComeTo c.ops h all
 
+-- they stand for some history under some catalog
+abbrev pub StandForSome : {B : Type 0} → LogState → List (Opened B) → Disk → Type 0
+StandForSome log all disk = (c : Catalog) × (h : History) × Stand c h log all disk
+
 -- Files in which nothing has happened: no store has an effect, each box fits the book of its store, and the journal has the one
 -- record of its catalog.
 pub record AreNewFiles {R B : Type 0} (box : Resources B) (f : FilesState R B) : Type 0 where

@@ -5,7 +5,7 @@ ghost use Rattle.process_disk.specs.Racks.{LeavesRack, LeavesImages};
 ghost use Rattle.process_disk.specs.Images.{AllAsBefore};
 ghost use Rattle.commute_table.specs.Operations.{IsCatalog};
 ghost use Rattle.process_journal.specs.Bodies.{no_history};
-ghost use Rattle.history_files.specs.Boxes.{AreBoxes, AreEmpty, AreInStores};
+ghost use Rattle.history_files.specs.Boxes.{AreBoxes, AreCleared, AreInStores};
 ghost use Rattle.history_files.specs.Creating.{first_used, IsDueToFiles, AreLeftUnmade};
 ghost use Rattle.history_files.specs.Standing.{AtEach, AreNewFiles, AreStores, EachFits, AreGoodBooks, Stand};
 ghost use Rattle.history_files.specs.declared.faults.CreateError.TheVariants.{DiskFault as Fault, NoMemory};
@@ -46,7 +46,7 @@ fn made<R: Rack, B: Resource>(
     catalog: &Catalog,
 ) -> Result<(Journal, Vec<Store<B>>), CreateError>
     requires catalog { IsCatalog catalog.now }
-    requires boxes { AreBoxes B.sort boxes.old.items × AreEmpty B.meaning boxes.old.items }
+    requires boxes { AreCleared B.Resource boxes.old.items }
     requires room { 8 ≤ vec_capacity boxes.old }
     ensures stand { Told (R.disk rack.old) → IfOk result
         (λ made. Stand catalog.now no_history made.0 made.1.items (R.disk rack.new)) }
@@ -97,7 +97,7 @@ impl<R: Rack + Drop, B: Resource> Files<R, B> {
         ensures due { Told (R.disk parts.rack) → IfErr result (λ r. IsDueToFiles (first_used (R.disk parts.rack).files) r.why) }
         ensures left { Told (R.disk parts.rack) → IfErr result
             (λ r. AreLeftUnmade r.why (R.disk parts.rack) (R.disk r.parts.rack)) }
-        ensures back { IfErr result (λ r. AreBoxes B.sort r.parts.resources.items × AreEmpty B.meaning r.parts.resources.items) }
+        ensures back { IfErr result (λ r. AreCleared B.Resource r.parts.resources.items) }
         ensures rack { IfOk result (λ f. LeavesImages R.Rack parts.rack f.rack ⊥) }
         ensures rack_back { IfErr result (λ r. LeavesImages R.Rack parts.rack r.parts.rack (r.why ≡ Fault)) }
     {

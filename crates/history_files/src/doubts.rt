@@ -9,7 +9,8 @@ ghost use Rattle.commute_table.specs.declared.catalog.Catalog.{Catalog};
 ghost use Rattle.subsystem_store.specs.declared.effect.Effect.{Effect};
 ghost use Rattle.subsystem_store.specs.Opened.{Opened, Fits, account_of, Stands, IsStoreOfEither};
 ghost use Rattle.history_files.specs.Sound.{IsSound};
-ghost use Rattle.history_files.specs.Standing.{Stand, EachFits, AreGoodBooks, DoubtIs, Changes, EndsDoubt, book_after};
+ghost use Rattle.history_files.specs.Standing.{AreGoodBooks, Changes, DoubtIs, EachFits, EndsDoubt, Stand, StandForSome};
+ghost use Rattle.history_files.specs.Standing.{book_after};
 
 use crate::Files;
 use gate_log::DiskFault;
@@ -51,8 +52,7 @@ impl<R: Rack + Drop, B: Resource> Files<R, B> {
         requires subsystem { q < 8 }
         requires fits { EachFits B.Resource self.old.stores }
         requires doubt { (s : Opened B) → slice_get self.old.stores q ≡ Some s → IsSome s.doubt }
-        requires stand { Told (R.disk self.old.rack) → (c : Catalog) × (h : History)
-            × Stand c h self.old.journal self.old.stores (R.disk self.old.rack) }
+        requires stand { Told (R.disk self.old.rack) → StandForSome self.old.journal self.old.stores (R.disk self.old.rack) }
         ensures acknowledged { Told (R.disk self.old.rack) → (c : Catalog) (h : History)
             → Stand c h self.old.journal self.old.stores (R.disk self.old.rack) →
             DoubtIs recorded c.ops h q self.old.stores →

@@ -12,7 +12,7 @@ ghost use Rattle.journal_records.specs.Bytes.{bytes_of};
 ghost use Rattle.process_journal.specs.Journals.{AreMadeBy};
 ghost use Rattle.process_journal.specs.Opened.{GoesOnStaged};
 ghost use Rattle.history_files.specs.Sound.{IsSound, IsSoundForEither};
-ghost use Rattle.history_files.specs.Standing.{Stand, ComeTo, EachFits, AreGoodBooks};
+ghost use Rattle.history_files.specs.Standing.{AreGoodBooks, ComeTo, EachFits, Stand, StandForSome};
 ghost use Rattle.store_group.specs.Events.{BecomeEach, IsUnchanged, IsPrepared, IsCommitted, MayPrepareEach, effect_for};
 ghost use Rattle.history_files.specs.Groups.{FitEach, LacksEach, HasEachDoubt};
 
@@ -31,8 +31,7 @@ impl<R: Rack + Drop, B: Resource> Files<R, B> {
         requires fits { EachFits B.Resource self.old.stores }
         requires may_come { MayPrepareEach group.now self.old.stores }
         requires bytes { FitEach group.now }
-        requires stand { Told (R.disk self.old.rack) → (c : Catalog) × (h : History)
-            × Stand c h self.old.journal self.old.stores (R.disk self.old.rack) }
+        requires stand { Told (R.disk self.old.rack) → StandForSome self.old.journal self.old.stores (R.disk self.old.rack) }
         ensures acknowledged { Told (R.disk self.old.rack) → (c : Catalog) (h : History)
             → Stand c h self.old.journal self.old.stores (R.disk self.old.rack) →
             LacksEach c.ops h group.now → OnOk result (Stand c h self.new.journal self.new.stores (R.disk self.new.rack)) }
@@ -54,8 +53,7 @@ impl<R: Rack + Drop, B: Resource> Files<R, B> {
     /// the history, whichever effects are committed in them.
     pub fn commit_staged(&mut self) -> Result<(), DiskFault>
         requires fits { EachFits B.Resource self.old.stores }
-        requires stand { Told (R.disk self.old.rack) → (c : Catalog) × (h : History)
-            × Stand c h self.old.journal self.old.stores (R.disk self.old.rack) }
+        requires stand { Told (R.disk self.old.rack) → StandForSome self.old.journal self.old.stores (R.disk self.old.rack) }
         ensures acknowledged { Told (R.disk self.old.rack) → (c : Catalog) (h : History)
             → Stand c h self.old.journal self.old.stores (R.disk self.old.rack) →
             HasEachDoubt c.ops h self.old.stores → OnOk result (Stand c h self.new.journal self.new.stores (R.disk self.new.rack)) }

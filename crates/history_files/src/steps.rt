@@ -14,7 +14,8 @@ ghost use Rattle.history_files.specs.Effects.{effects};
 ghost use Rattle.process_journal.specs.Journals.{IsHistoryUnder, IsMadeBy};
 ghost use Rattle.process_journal.specs.Opened.{GoesOn};
 ghost use Rattle.history_files.specs.Sound.{IsSound, IsSoundForEither, is_among};
-ghost use Rattle.history_files.specs.Standing.{Stand, EachFits, AreGoodBooks, AnswersPrepare, IsLeftByPrepare, ComeTo};
+ghost use Rattle.history_files.specs.Standing.{AnswersPrepare, AreGoodBooks, ComeTo, EachFits, IsLeftByPrepare, Stand};
+ghost use Rattle.history_files.specs.Standing.{StandForSome};
 
 use crate::Files;
 use gate_log::DiskFault;
@@ -31,8 +32,7 @@ impl<R: Rack + Drop, B: Resource> Files<R, B> {
         requires may_come { (s : Opened B) → slice_get self.old.stores q ≡ Some s
             → (s.doubt ≡ None) × (length s.book < 16384) × (may_follow s.kind s.book effect ≡ true) }
         requires amount { is_amount effect.call.amount ≡ true }
-        requires stand { Told (R.disk self.old.rack) → (c : Catalog) × (h : History)
-            × Stand c h self.old.journal self.old.stores (R.disk self.old.rack) }
+        requires stand { Told (R.disk self.old.rack) → StandForSome self.old.journal self.old.stores (R.disk self.old.rack) }
         ensures acknowledged { Told (R.disk self.old.rack) → (c : Catalog) (h : History)
             → Stand c h self.old.journal self.old.stores (R.disk self.old.rack) →
             is_among effect (effects c.ops h q) ≡ false → result ≢ Prepare.DiskFault →

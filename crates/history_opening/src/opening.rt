@@ -5,7 +5,7 @@ ghost use Rattle.process_disk.specs.Racks.{LeavesRack, LeavesImages};
 ghost use Rattle.process_disk.specs.Images.{AllAsBefore};
 ghost use Rattle.process_journal.specs.Bodies.{journal_bodies};
 ghost use Rattle.process_journal.specs.Journals.{IsHistoryUnder};
-ghost use Rattle.history_files.specs.Boxes.{AreBoxes, AreEmpty, AreInStores};
+ghost use Rattle.history_files.specs.Boxes.{AreBoxes, AreCleared, AreInStores};
 ghost use Rattle.history_files.specs.Standing.{ComeTo, EachFits, Stand};
 ghost use Rattle.history_opening.specs.Images.{FoundSound, LeftByRefusal};
 ghost use Rattle.history_opening.specs.Opening.{IsDueToOpening};
@@ -29,7 +29,7 @@ fn read_sound<R: Rack, B: Resource>(
     rack: &mut R,
     boxes: &mut Vec<B>,
 ) -> Result<ReadFiles<B>, OpenError>
-    requires boxes { AreBoxes B.sort boxes.old.items × AreEmpty B.meaning boxes.old.items }
+    requires boxes { AreCleared B.Resource boxes.old.items }
     requires room { 8 ≤ vec_capacity boxes.old }
     ensures journal { IfOk result
         (λ r. (r.journal.file ≡ 0) × (r.journal.count ≡ length (journal_bodies r.catalog r.history))
@@ -65,7 +65,7 @@ fn read_sound<R: Rack, B: Resource>(
 fn into_cleared<R: Rack + Drop, B: Resource>(files: Files<R, B>) -> Parts<R, B>
     requires fits { EachFits B.Resource files.stores }
     ensures rack { result.rack ≡ files.rack }
-    ensures boxes { AreBoxes B.sort result.resources.items × AreEmpty B.meaning result.resources.items }
+    ensures boxes { AreCleared B.Resource result.resources.items }
 {
     let mut parts = files.into_parts();
     clear_all(&mut parts.resources);
@@ -85,7 +85,7 @@ pub fn open_files<R: Rack + Drop, B: Resource>(
     ensures sound { Told (R.disk parts.rack) → IfOk result (λ o. FoundSound o.1 o.2 (R.disk parts.rack) (R.disk o.0.rack)) }
     ensures due { Told (R.disk parts.rack) → IfErr result (λ r. IsDueToOpening (R.disk parts.rack).files r.why) }
     ensures refused { Told (R.disk parts.rack) → IfErr result (λ r. LeftByRefusal r.why (R.disk parts.rack) (R.disk r.parts.rack)) }
-    ensures back { IfErr result (λ r. AreBoxes B.sort r.parts.resources.items × AreEmpty B.meaning r.parts.resources.items) }
+    ensures back { IfErr result (λ r. AreCleared B.Resource r.parts.resources.items) }
     ensures rack { IfOk result (λ o. LeavesImages R.Rack parts.rack o.0.rack ⊥) }
     ensures rack_back { IfErr result (λ r. LeavesImages R.Rack parts.rack r.parts.rack (r.why ≡ Fault)) }
 {

@@ -6,7 +6,7 @@ ghost use Rattle.process_disk.specs.Images.{AllAsBefore};
 ghost use Rattle.subsystem_store.specs.Opened.{Stands};
 ghost use Rattle.process_journal.specs.Bodies.{journal_bodies};
 ghost use Rattle.process_journal.specs.Journals.{IsHistoryUnder};
-ghost use Rattle.history_files.specs.Boxes.{AreBoxes, AreEmpty, AreInStores, AreParted};
+ghost use Rattle.history_files.specs.Boxes.{AreCleared, AreInStores, AreParted};
 ghost use Rattle.history_files.specs.Standing.{AtEach};
 ghost use Rattle.history_opening.specs.Reading.{AreOpenStores, StandAsRead};
 ghost use Rattle.history_opening.specs.Opening.{book_in, IsDueToStore, IsDueToReading};
@@ -72,7 +72,7 @@ pub fn read_files<R: Rack, B: Resource>(
     rack: &mut R,
     boxes: &mut Vec<B>,
 ) -> Result<ReadFiles<B>, OpenError>
-    requires boxes { AreBoxes B.sort boxes.old.items × AreEmpty B.meaning boxes.old.items }
+    requires boxes { AreCleared B.Resource boxes.old.items }
     requires room { 8 ≤ vec_capacity boxes.old }
     ensures journal { IfOk result
         (λ r. (r.journal.file ≡ 0) × (r.journal.count ≡ length (journal_bodies r.catalog r.history))

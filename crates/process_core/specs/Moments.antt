@@ -3,15 +3,18 @@ use Rattle.std.specs.Prelude.{ℕ, Bool, List, Option, find}
 use Rattle.std.specs.List.{slice_get}
 use Rattle.std.specs.Option.{option_map}
 use Rattle.process_tree.specs.declared.plan.Plan.{Plan}
+use Rattle.process_tree.specs.declared.play.Outcome.{Outcome}
 use Rattle.schedule_model.specs.Course.{course_of}
 use Rattle.schedule_model.specs.Histories.{is_in, starts}
 use Rattle.machine_model.specs.declared.kept.Kept.{Kept}
+use Rattle.machine_model.specs.declared.replies.Aborted.{Aborted}
 use Rattle.machine_model.specs.declared.replies.StartWhy.{StartWhy}
-use Rattle.machine_model.specs.Replies.{Admit, Handed, Next, BlockedProcess, admit_reply, all_victims, blocked_in_rotation, hand_to}
-use Rattle.machine_model.specs.Replies.{none_free_reply, piece_unless, rotation}
+use Rattle.machine_model.specs.CallLaws.{IsStuck}
+use Rattle.machine_model.specs.Replies.{Admit, Finish, Handed, Next, BlockedProcess, abort_reply, admit_reply, all_victims}
+use Rattle.machine_model.specs.Replies.{blocked_in_rotation, finish_reply, hand_to, none_free_reply, piece_unless, rotation}
 use Rattle.machine_model.specs.Moment.{has_begun}
 use Rattle.machine_model.specs.Runs.{may_be_kept, start_refusal}
-use Rattle.machine_model.specs.State.{block_of, is_free, victim_of}
+use Rattle.machine_model.specs.State.{block_of, is_free, undo_next, victim_of}
 use Rattle.core_state.specs.Cores.{CoreState, courses_in, moment_of, relation}
 use Rattle.core_state.specs.Seats.{SeatState, seat_of}
 use Rattle.process_core.specs.Rotation.{can_be_victim}
@@ -67,3 +70,19 @@ can_be_victim_in c i = can_be_victim (has_begun (moment_of c) i) (reply_in c i)
 -- why a process of this plan may not start
 abbrev pub refusal_in : CoreState → Plan → Option StartWhy
 refusal_in c p = start_refusal (courses_in c) (moment_of c) (course_of p)
+
+-- the reply to the finish of piece n with this outcome
+abbrev pub finish_reply_in : CoreState → ℕ → Outcome → Finish
+finish_reply_in c n outcome = finish_reply (relation c) (courses_in c) (moment_of c) n outcome
+
+-- the reply to a request that process i complete
+abbrev pub abort_reply_in : CoreState → ℕ → Aborted
+abort_reply_in c i = abort_reply (courses_in c) (moment_of c) i
+
+-- the process of the last pending entry in joint order
+abbrev pub undo_next_in : CoreState → Option ℕ
+undo_next_in c = undo_next (courses_in c) (moment_of c)
+
+-- process i is stuck
+abbrev pub IsStuckIn : CoreState → ℕ → Type 0
+IsStuckIn c i = IsStuck (relation c) (courses_in c) (moment_of c) i

@@ -6,8 +6,7 @@ ghost use Rattle.machine_model.specs.declared.kept.Kept.TheVariants.{Victim};
 ghost use Rattle.process_core.specs.Answers.{after_call, answer_in};
 ghost use Rattle.core_state.specs.Beginnings.{IsBackward};
 ghost use Rattle.process_core.specs.Handing.{with_kept};
-ghost use Rattle.core_state.specs.Cores.{courses_in, moment_of};
-ghost use Rattle.process_core.specs.Moments.{may_keep};
+ghost use Rattle.process_core.specs.Moments.{abort_reply_in, may_keep};
 
 use crate::cores::Core;
 use core_state::{Beginners, begin, begin_each, drag_along, some_can_begin};
@@ -56,7 +55,7 @@ impl Core {
     }
     /// What a request to complete answers, with nothing kept.
     fn abort_reply(&self, i: u32) -> Aborted
-        ensures { result ≡ abort_reply (courses_in self.now) (moment_of self.now) i }
+        ensures { result ≡ abort_reply_in self.now i }
     {
         let count = self.seats.len();
         if i == 0 {

@@ -2,7 +2,7 @@
 ghost use Rattle.std.specs.Prelude.{◌≡◌, IfOk};
 ghost use Rattle.core_state.specs.Cores.{IsCore, IsHandedBy, began_in, courses_in, history_of, moment_of, opened_on};
 ghost use Rattle.machine_model.specs.Pieces.{state_of};
-ghost use Rattle.machine_model.specs.State.{undo_next};
+ghost use Rattle.process_core.specs.Moments.{undo_next_in};
 
 use crate::pieces::Piece;
 use core_state::{Cascade, Seat, last_pending, opened_seats, opened_tables, room_at_opening};
@@ -134,7 +134,7 @@ impl Core {
 
     /// The process of the last pending entry in joint order, whose undo comes next where all complete.
     pub fn undo_next(&self) -> Option<u32>
-        ensures { result ≡ undo_next (courses_in self.now) (moment_of self.now) }
+        ensures { result ≡ undo_next_in self.now }
     {
         last_pending(&self.holds)
     }

@@ -10,10 +10,10 @@ use Rattle.machine_model.specs.declared.replies.Refusal.TheVariants.{Retry as Tr
 use Rattle.machine_model.specs.Calls.{finish}
 use Rattle.machine_model.specs.Moment.{Piece}
 use Rattle.machine_model.specs.Progress.{same_work}
-use Rattle.machine_model.specs.Replies.{Handed, Finish as Reply, effected, refused, over, dropped, finish_reply}
+use Rattle.machine_model.specs.Replies.{Handed, Finish as Reply, effected, refused, over, dropped}
 use Rattle.commute_table.specs.declared.catalog.Catalog.{Catalog}
 use Rattle.process_core.specs.Answers.{after_call}
-use Rattle.process_core.specs.Cores.{courses_in, moment_of, relation}
+use Rattle.process_core.specs.Moments.{finish_reply_in}
 use Rattle.history_files.specs.Sound.{IsSound, IsSoundForEither}
 use Rattle.engine_steps.specs.Engines.{EngineState, full_history}
 use Rattle.engine_steps.specs.Pieces.{act_of, bars_act, history_with}
@@ -106,7 +106,7 @@ Acknowledges old new disk p (Closed n) = ⊤
 -- What a finish of a piece with this outcome does to an engine that is open and at rest.
 pub record Finishes {R B : Type 0} (disk : R → Disk) (old new : EngineState R B) (p : Handed) (outcome : Outcome)
     (result : Finish) : Type 0 where
-  pub reply : RepliesAs result (finish_reply (relation old.core) (courses_in old.core) (moment_of old.core) p.piece.number outcome)
+  pub reply : RepliesAs result (finish_reply_in old.core p.piece.number outcome)
   pub left : Leaves old new p result
   pub any_moment : Told (disk old.files.rack) → EachImage (disk new.files.rack) (disk old.files.rack).moment
       (MayLeave result old.catalog (full_history old.core) (history_with old.core p.piece))

@@ -23,7 +23,8 @@ use Rattle.engine_calls.specs.Runs.{GoesOn}
 use Rattle.engine_calls.proofs.Acknowledged.{in_turn_so}
 use Rattle.engine_calls.proofs.Opened.{are_kept}
 use Rattle.process_restart.specs.Completing.{IsCompleting, IsNextOfCompletion, IsNextUnderWay, IsOutcome}
-use Rattle.process_restart.specs.Restarting.{AreCleared, IsLater, IsRestart}
+use Rattle.history_files.specs.Boxes.{AreCleared}
+use Rattle.process_restart.specs.Restarting.{IsLater, IsRestart}
 use Rattle.process_restart.specs.declared.completing.Completion.{Completion}
 use Rattle.process_restart.specs.declared.completing.Completion.TheVariants.{Ended, Exhausted, DiskFault, NoMemory}
 

@@ -12,7 +12,7 @@ use Rattle.process_core.specs.Cores.{CoreState, history_of}
 use Rattle.history_opening.specs.declared.faults.OpenError.{OpenError}
 use Rattle.history_opening.specs.declared.faults.OpenError.TheVariants.{DiskFault, NoMemory}
 use Rattle.history_opening.specs.Opening.{IsDueToOpening}
-use Rattle.history_files.specs.Boxes.{AreBoxes, AreEmpty}
+use Rattle.history_files.specs.Boxes.{AreCleared}
 use Rattle.engine_steps.specs.Engines.{AreExactly, full_history}
 use Rattle.engine_steps.specs.Opening.{LeftByOpening}
 use Rattle.engine_steps.specs.declared.engines.Phase.{Phase}
@@ -59,11 +59,6 @@ IsRestartedAs disk gate entry (Refused parts why) = IsNotOpened gate why (disk e
 pub record IsLater {R : Type 0} (racks : Racks R) (old new : R) : Type 0 where
   pub tells : (racks.disk new).tells ≡ (racks.disk old).tells
   pub later : racks.faults old ≤ racks.faults new
-
--- The boxes of the eight subsystems, all empty.
-pub record AreCleared {B : Type 0} (box : Resources B) (boxes : List B) : Type 0 where
-  pub kinds : AreBoxes box.sort boxes
-  pub empty : AreEmpty box.meaning boxes
 
 -- What a restart hands back: an engine that may be called; or the boxes empty, and where a call of the rack failed its count of
 -- faults rose.

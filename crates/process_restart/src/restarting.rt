@@ -1,9 +1,9 @@
 // Files are restarted.
 ghost use Rattle.std.specs.Prelude.{◌≡◌};
-ghost use Rattle.history_files.specs.Boxes.{AreBoxes};
+ghost use Rattle.history_files.specs.Boxes.{AreBoxes, AreCleared};
 ghost use Rattle.history_files.specs.Standing.{EachFits};
 ghost use Rattle.engine_calls.specs.GateAnswers.{asked};
-ghost use Rattle.process_restart.specs.Restarting.{AreCleared, HandsBack, IsRestartedAs};
+ghost use Rattle.process_restart.specs.Restarting.{HandsBack, IsRestartedAs};
 
 use crate::RestartError;
 use crate::completing::{Completion, complete};

@@ -2,9 +2,8 @@
 ghost use Rattle.std.specs.Prelude.{◌≡◌, ◌++◌, IfOk};
 ghost use Rattle.machine_model.specs.Calls.{next, next_is};
 ghost use Rattle.machine_model.specs.Replies.{stuck};
-ghost use Rattle.machine_model.specs.CallLaws.{IsStuck};
 ghost use Rattle.process_core.specs.Answers.{answer_in};
-ghost use Rattle.process_core.specs.Cores.{courses_in, moment_of, relation};
+ghost use Rattle.process_core.specs.Moments.{IsStuckIn};
 ghost use Rattle.engine_calls.specs.Runs.{IsReady};
 ghost use Rattle.scenario_run.specs.Reports.{HasUsedUp, causes_in, exhausted_line, report_in, step_due};
 
@@ -55,7 +54,7 @@ pub fn report_now<R: Rack + Drop, B: Resource>(
 pub fn stuck_step<R: Rack + Drop, B: Resource>(engine: &mut Engine<R, B>, i: u32) -> u16
     requires ready { IsReady B.Resource engine.old }
     requires replied { (answer_in engine.old.core next).reply ≡ next_is (stuck i) }
-    requires stuck { IsStuck (relation engine.old.core) (courses_in engine.old.core) (moment_of engine.old.core) i }
+    requires stuck { IsStuckIn engine.old.core i }
     ensures step { result ≡ step_due engine.old.core i }
     ensures used_up { HasUsedUp engine.old.core i }
     ensures left { engine.new ≡ engine.old }
@@ -75,7 +74,7 @@ pub fn stuck_report<R: Rack + Drop, B: Resource>(
 ) -> Result<Vec<u8>, AllocError>
     requires ready { IsReady B.Resource engine.old }
     requires replied { (answer_in engine.old.core next).reply ≡ next_is (stuck i) }
-    requires stuck { IsStuck (relation engine.old.core) (courses_in engine.old.core) (moment_of engine.old.core) i }
+    requires stuck { IsStuckIn engine.old.core i }
     ensures text { IfOk result
         (λ text. text.items ≡ report_in engine.old.catalog engine.old.core ++ exhausted_line engine.old.core i) }
     ensures used_up { HasUsedUp engine.old.core i }

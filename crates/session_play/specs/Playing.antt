@@ -8,7 +8,6 @@ use Rattle.process_tree.specs.declared.plan.Plan.{Plan}
 use Rattle.process_tree.specs.declared.play.Outcome.{Outcome}
 use Rattle.process_tree.specs.declared.play.Outcome.TheVariants.{Done, Refused}
 use Rattle.process_text.specs.Canonical.{line_of}
-use Rattle.schedule_model.specs.Course.{course_of}
 use Rattle.schedule_model.specs.Histories.{is_in, starts}
 use Rattle.commute_table.specs.declared.catalog.Catalog.{Catalog}
 use Rattle.machine_model.specs.declared.began.Began.{Began}
@@ -21,19 +20,19 @@ use Rattle.machine_model.specs.Advance.{advance_all}
 use Rattle.machine_model.specs.Calls.{Call, admit, next, finish, abort}
 use Rattle.machine_model.specs.Moment.{Piece}
 use Rattle.machine_model.specs.Groups as groups
-use Rattle.machine_model.specs.Groups.{Queue as QueueReply, flush_reply, queue_adds, queue_reply}
+use Rattle.machine_model.specs.Groups.{Queue as QueueReply, flush_reply, queue_adds}
 use Rattle.machine_model.specs.Pieces.{hands, piece_of, runs}
 use Rattle.machine_model.specs.Progress.{same_work}
-use Rattle.machine_model.specs.Replies.{Next as NextReply, admit_reply, all_victims, next_reply, finish_reply, abort_reply}
-use Rattle.machine_model.specs.Runs.{start_refusal}
+use Rattle.machine_model.specs.Replies.{Next as NextReply, next_reply}
 use Rattle.process_core.specs.Answers.{after_call, after_start, answer_in}
 use Rattle.process_core.specs.Cores.{CoreState, began_in, courses_in, history_of, moment_of, relation}
+use Rattle.process_core.specs.Moments.{abort_reply_in, finish_reply_in, refusal_in, reply_in, victims_in}
 use Rattle.process_engine.specs.Finishing.{outcome_of}
 use Rattle.process_engine.specs.declared.gates.Answer.{Answer}
 use Rattle.process_engine.specs.declared.gates.Answer.TheVariants as answers
 use Rattle.history_files.specs.Effects.{subsystem_of}
 use Rattle.group_flush.specs.Pieces.{after_effects}
-use Rattle.group_flush.specs.Queueing.{taken_by}
+use Rattle.group_flush.specs.Queueing.{queue_reply_in, taken_by}
 use Rattle.engine_calls.specs.GateAnswers.{is_barred_in}
 use Rattle.process_report.specs.Lines.{Line as Words, text_of}
 use Rattle.session_text.specs.declared.line.Line.{Line}
@@ -81,13 +80,13 @@ start_unless s name p (Some why) = stays s (not_started_words why)
 -- `start NAME`, where the scenario has this plan of that name, or none
 abbrev pub play_start : SessionState → List ℕ → Option Plan → Played
 play_start s name None = stays s (no_process_words name)
-play_start s name (Some p) = start_unless s name p (start_refusal (courses_in s.core) (moment_of s.core) (course_of p))
+play_start s name (Some p) = start_unless s name p (refusal_in s.core p)
 
 -- `admit I`
 abbrev pub play_admit : SessionState → ℕ → Played
 play_admit s i = record {
   state = called s (admit i);
-  printed = line_of (admit_words s.core.plans i (admit_reply (relation s.core) (courses_in s.core) (moment_of s.core) i));
+  printed = line_of (admit_words s.core.plans i (reply_in s.core i));
 }
 
 -- the process, if the kept event is that it was chosen as a victim
@@ -103,9 +102,8 @@ victim_of Restart = None
 -- what the machine replies to a request for any piece, once it made its victims
 abbrev pub reply_to_next : CoreState → NextReply
 reply_to_next core =
-    let m = moment_of core in
-    next_reply (relation core) (courses_in core)
-    (advance_all (relation core) (courses_in core) m (all_victims (relation core) (courses_in core) m)) core.served
+    next_reply (relation core) (courses_in core) (advance_all (relation core) (courses_in core) (moment_of core) (victims_in core))
+    core.served
 
 -- `next`
 abbrev pub play_next : SessionState → Played
@@ -132,9 +130,7 @@ finish_as s p outcome = record {
     unfinished = without p.number s.unfinished;
     group = s.group;
   };
-  printed =
-      line_of (finish_words s.core.plans p
-      (finish_reply (relation s.core) (courses_in s.core) (moment_of s.core) p.number outcome));
+  printed = line_of (finish_words s.core.plans p (finish_reply_in s.core p.number outcome));
 }
 
 -- it is an end, and told to be refused
@@ -197,8 +193,7 @@ queue_with s p reply = record {
 -- the machine's reply to the queueing of a piece whose work came to this
 abbrev pub reply_to_queue : Catalog → SessionState → Piece → Answer → QueueReply
 reply_to_queue c s p answer =
-    queue_reply (relation s.core) (subsystem_of c.ops) (courses_in s.core) (moment_of s.core) s.group p.number
-    (taken_by answer (is_barred_in c s.core p))
+    queue_reply_in s.core (subsystem_of c.ops) s.group p.number (taken_by answer (is_barred_in c s.core p))
 
 -- piece n, if it is unfinished, is queued; but an end is not refused
 abbrev pub queue_piece : Catalog → SessionState → ℕ → Outcome → Option Piece → Played
@@ -235,8 +230,7 @@ just_began core = filter (λ i. is_at (length core.kept) (began_in core i)) (num
 abbrev pub play_abort : SessionState → ℕ → Played
 play_abort s i = record {
   state = called s (abort i);
-  printed =
-      line_of (abort_words i (just_began (after_call s.core (abort i))) (abort_reply (courses_in s.core) (moment_of s.core) i));
+  printed = line_of (abort_words i (just_began (after_call s.core (abort i))) (abort_reply_in s.core i));
 }
 
 -- `show`: the report of this moment, with the causes of this session

@@ -1,7 +1,7 @@
 // The lines `admit I`, `next` and `abort I`.
 ghost use Rattle.std.specs.Prelude.{◌≡◌, List, IfOk, IfErr, OnOk};
 ghost use Rattle.machine_model.specs.Replies.{Handed};
-ghost use Rattle.group_flush.specs.Queues.{AreQueued};
+ghost use Rattle.group_flush.specs.Queues.{KeepsQueued};
 ghost use Rattle.engine_calls.specs.Runs.{GoesOnAlone, IsReady};
 ghost use Rattle.session_play.specs.Answering.{IsAnswered, IsCut};
 ghost use Rattle.session_play.specs.Pieces.{session_of, AreHandedBy};
@@ -36,7 +36,7 @@ pub fn play_admit<R: Rack + Drop, B: Resource>(
     ensures cut { IfErr result
         (λ cut. (cut ≡ NoMemory) × ((queued : List Handed) → IsCut cut
         (play_admit (session_of engine.old.core pieces.old.items queued) i) engine.old.core engine.new.core)) }
-    ensures queued { OnOk result ((queued : List Handed) → AreQueued engine.old queued → AreQueued engine.new queued) }
+    ensures queued { OnOk result (KeepsQueued engine.old engine.new) }
     ensures goes { GoesOnAlone R.Rack engine.old engine.new }
     ensures ready { IsReady B.Resource engine.new }
 {
@@ -63,7 +63,7 @@ pub fn play_next<R: Rack + Drop, B: Resource>(
     ensures cut { IfErr result
         (λ cut. (cut ≡ NoMemory) × ((queued : List Handed) → IsCut cut
         (play_next (session_of engine.old.core pieces.old.items queued)) engine.old.core engine.new.core)) }
-    ensures queued { OnOk result ((queued : List Handed) → AreQueued engine.old queued → AreQueued engine.new queued) }
+    ensures queued { OnOk result (KeepsQueued engine.old engine.new) }
     ensures goes { GoesOnAlone R.Rack engine.old engine.new }
     ensures ready { IsReady B.Resource engine.new }
 {
@@ -94,7 +94,7 @@ pub fn play_abort<R: Rack + Drop, B: Resource>(
     ensures cut { IfErr result
         (λ cut. (cut ≡ NoMemory) × ((queued : List Handed) → IsCut cut
         (play_abort (session_of engine.old.core pieces.now.items queued) i) engine.old.core engine.new.core)) }
-    ensures queued { OnOk result ((queued : List Handed) → AreQueued engine.old queued → AreQueued engine.new queued) }
+    ensures queued { OnOk result (KeepsQueued engine.old engine.new) }
     ensures goes { GoesOnAlone R.Rack engine.old engine.new }
     ensures ready { IsReady B.Resource engine.new }
 {

@@ -1,13 +1,11 @@
 // The lines `finish N done` and `finish N refused`.
 ghost use Rattle.std.specs.Prelude.{◌≡◌, ◌≢◌, true, false, Err, IfOk, IfErr, OnOk};
-ghost use Rattle.process_flow.specs.Causes.{Rose};
 ghost use Rattle.process_text.specs.Canonical.{line_of};
 ghost use Rattle.machine_model.specs.declared.kept.Work.TheVariants.{End};
 ghost use Rattle.machine_model.specs.Progress.{same_work};
 ghost use Rattle.process_core.specs.Cores.{IsHandedBy};
 ghost use Rattle.history_files.specs.Standing.{EachFits};
-ghost use Rattle.engine_steps.specs.declared.engines.Phase.TheVariants as phase;
-ghost use Rattle.engine_calls.specs.Runs.{GoesOnAlone, IsReady};
+ghost use Rattle.engine_calls.specs.Runs.{GoesOnAlone, IsClosedByFault, IsReady};
 ghost use Rattle.group_flush.specs.Queues.{AreQueued};
 ghost use Rattle.session_text.specs.Answers.{group_open_words, no_piece_words, no_refusal_words};
 ghost use Rattle.session_play.specs.Answering.{finish_alone, IsAnswered, IsCut};
@@ -61,9 +59,7 @@ fn finish_piece<R: Rack + Drop, B: Resource>(
     ensures text { IfOk result (λ text. text.items ≡ (finish_alone engine.old.catalog engine.old.core piece.piece answer).printed) }
     ensures cut { IfErr result
         (λ cut. IsCut cut (finish_alone engine.old.catalog engine.old.core piece.piece answer) engine.old.core engine.new.core) }
-    ensures fault { IfErr result
-        (λ cut. cut ≡ DiskFault → (engine.new.phase ≡ phase.Closed)
-        × Rose (R.faults engine.old.files.rack) (R.faults engine.new.files.rack)) }
+    ensures fault { IfErr result (λ cut. cut ≡ DiskFault → IsClosedByFault R.Rack engine.old engine.new) }
     ensures goes { GoesOnAlone R.Rack engine.old engine.new }
     ensures fits { EachFits B.Resource engine.new.files.stores }
     ensures ready { result ≢ Err DiskFault → IsReady B.Resource engine.new }
@@ -132,9 +128,7 @@ pub fn play_finish<R: Rack + Drop, B: Resource>(
         (λ cut. IsCut cut (play_finish engine.old.catalog
         (session_of engine.old.core pieces.old.items queued.now) n outcome) engine.old.core engine.new.core) }
     ensures queued { AreQueued engine.old queued.now → AreQueued engine.new queued.now }
-    ensures fault { IfErr result
-        (λ cut. cut ≡ DiskFault → (engine.new.phase ≡ phase.Closed)
-        × Rose (R.faults engine.old.files.rack) (R.faults engine.new.files.rack)) }
+    ensures fault { IfErr result (λ cut. cut ≡ DiskFault → IsClosedByFault R.Rack engine.old engine.new) }
     ensures goes { GoesOnAlone R.Rack engine.old engine.new }
     ensures fits { EachFits B.Resource engine.new.files.stores }
     ensures ready { result ≢ Err DiskFault → IsReady B.Resource engine.new }

@@ -1,12 +1,10 @@
 // The line `flush`.
 ghost use Rattle.std.specs.Prelude.{◌≡◌, ◌≢◌, ◌++◌, [], List, Err, IfOk, IfErr, OnOk};
-ghost use Rattle.process_flow.specs.Causes.{Rose};
 ghost use Rattle.process_text.specs.Canonical.{line_of};
 ghost use Rattle.process_report.specs.Lines.{text_of};
 ghost use Rattle.machine_model.specs.Replies.{Handed};
 ghost use Rattle.history_files.specs.Standing.{EachFits};
-ghost use Rattle.engine_steps.specs.declared.engines.Phase.TheVariants as phase;
-ghost use Rattle.engine_calls.specs.Runs.{GoesOnAlone, IsReady};
+ghost use Rattle.engine_calls.specs.Runs.{GoesOnAlone, IsClosedByFault, IsReady};
 ghost use Rattle.group_flush.specs.Ends.{ended_as};
 ghost use Rattle.group_flush.specs.Queues.{AreQueued};
 ghost use Rattle.session_text.specs.Answers.{ending_words, flush_lines};
@@ -64,9 +62,7 @@ pub fn play_flush<R: Rack + Drop, B: Resource>(
         (λ cut. (pieces : List Handed) → IsCut cut (play_flush
         (session_of engine.old.core pieces queued.old)) engine.old.core engine.new.core) }
     ensures queued { OnOk result (queued.new ≡ []) }
-    ensures fault { IfErr result
-        (λ cut. cut ≡ DiskFault → (engine.new.phase ≡ phase.Closed)
-        × Rose (R.faults engine.old.files.rack) (R.faults engine.new.files.rack)) }
+    ensures fault { IfErr result (λ cut. cut ≡ DiskFault → IsClosedByFault R.Rack engine.old engine.new) }
     ensures goes { GoesOnAlone R.Rack engine.old engine.new }
     ensures fits { EachFits B.Resource engine.new.files.stores }
     ensures ready { result ≢ Err DiskFault → IsReady B.Resource engine.new }

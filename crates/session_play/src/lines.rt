@@ -1,15 +1,11 @@
 // The lines of a session.
-ghost use Rattle.std.specs.Prelude.{◌≡◌, ◌≢◌, Option, Err, IfOk, IfErr, OnOk};
-ghost use Rattle.process_flow.specs.Causes.{Rose};
+ghost use Rattle.std.specs.Prelude.{◌≡◌, ◌≢◌, Err, IfOk, IfErr, OnOk};
 ghost use Rattle.process_tree.specs.Order.{Each};
-ghost use Rattle.process_tree.specs.declared.plan.Plan.{Plan};
 ghost use Rattle.engine_steps.specs.Beginning.{IsPlanFor};
 ghost use Rattle.history_files.specs.Standing.{EachFits};
-ghost use Rattle.engine_steps.specs.declared.engines.Phase.TheVariants as phase;
-ghost use Rattle.engine_calls.specs.Runs.{GoesOn, IsReady};
-ghost use Rattle.session_play.specs.Answering.{IsAnswered, IsCopy, IsCut};
+ghost use Rattle.engine_calls.specs.Runs.{GoesOn, IsClosedByFault, IsReady};
+ghost use Rattle.session_play.specs.Answering.{AnswersLine, CutsLine};
 ghost use Rattle.session_play.specs.AtHand.{session_with, AreAtHand};
-ghost use Rattle.session_play.specs.Playing.{plan_for, play};
 ghost use Rattle.session_play.specs.declared.cut.Cut.TheVariants.{DiskFault};
 
 use crate::asking::{play_abort, play_admit, play_next};
@@ -37,17 +33,13 @@ pub fn play_line<R: Rack + Drop, B: Resource>(
     requires ready { IsReady B.Resource engine.old }
     requires plans { Each (IsPlanFor engine.old.catalog) plans.now }
     requires at_hand { AreAtHand engine.old hand.old }
-    ensures answered { IfOk result (λ text. (copy : Option Plan) × IsCopy (plan_for plans.now line.now) copy
-        × IsAnswered (play engine.old.catalog
-        (session_with engine.old.core hand.old) line.now copy)
+    ensures answered { IfOk result (λ text. AnswersLine engine.old.catalog plans.now
+        (session_with engine.old.core hand.old) line.now
         engine.new.core hand.new.unfinished.items hand.new.queued text.items) }
     ensures at_hand { OnOk result (AreAtHand engine.new hand.new) }
-    ensures cut { IfErr result (λ cut. (copy : Option Plan) × IsCopy (plan_for plans.now line.now) copy
-        × IsCut cut (play engine.old.catalog
-        (session_with engine.old.core hand.old) line.now copy) engine.old.core engine.new.core) }
-    ensures fault { IfErr result
-        (λ cut. cut ≡ DiskFault → (engine.new.phase ≡ phase.Closed)
-        × Rose (R.faults engine.old.files.rack) (R.faults engine.new.files.rack)) }
+    ensures cut { IfErr result (λ cut. CutsLine engine.old.catalog plans.now
+        (session_with engine.old.core hand.old) line.now cut engine.old.core engine.new.core) }
+    ensures fault { IfErr result (λ cut. cut ≡ DiskFault → IsClosedByFault R.Rack engine.old engine.new) }
     ensures goes { GoesOn R.Rack plans.now engine.old engine.new }
     ensures fits { EachFits B.Resource engine.new.files.stores }
     ensures ready { result ≢ Err DiskFault → IsReady B.Resource engine.new }

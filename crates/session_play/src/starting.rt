@@ -2,16 +2,14 @@
 ghost use Rattle.std.specs.Prelude.{◌≡◌, ◌≢◌, ◌++◌, ◌⊎◌, ℕ, List, Option, None, Some, Err, IfSome, IfNone, IfOk, IfErr, OnOk};
 ghost use Rattle.process_tree.specs.Order.{Each};
 ghost use Rattle.process_tree.specs.declared.plan.Plan.{Plan};
-ghost use Rattle.process_flow.specs.Causes.{Rose};
 ghost use Rattle.process_text.specs.Canonical.{line_of};
 ghost use Rattle.machine_model.specs.Replies.{Handed};
 ghost use Rattle.machine_model.specs.declared.replies.StartWhy.{StartWhy};
 ghost use Rattle.history_files.specs.Standing.{EachFits};
 ghost use Rattle.engine_steps.specs.Beginning.{IsPlanFor, of_start_why};
-ghost use Rattle.engine_steps.specs.declared.engines.Phase.TheVariants as phase;
 ghost use Rattle.engine_calls.specs.Acknowledged.{IsOneOf};
-ghost use Rattle.engine_calls.specs.Runs.{GoesOn, IsReady};
-ghost use Rattle.group_flush.specs.Queues.{AreQueued};
+ghost use Rattle.engine_calls.specs.Runs.{GoesOn, IsClosedByFault, IsReady};
+ghost use Rattle.group_flush.specs.Queues.{KeepsQueued};
 ghost use Rattle.session_text.specs.Answers.{no_process_words, not_started_words};
 ghost use Rattle.session_play.specs.Answering.{IsAnswered, IsCopy, IsCut};
 ghost use Rattle.session_play.specs.Pieces.{session_of};
@@ -78,10 +76,8 @@ pub fn play_plan<R: Rack + Drop, B: Resource>(
     ensures cut { IfErr result
         (λ cut. (ps queued : List Handed) → IsCut cut
         (play_start (session_of engine.old.core ps queued) name.now (Some plan)) engine.old.core engine.new.core) }
-    ensures queued { OnOk result ((queued : List Handed) → AreQueued engine.old queued → AreQueued engine.new queued) }
-    ensures fault { IfErr result
-        (λ cut. cut ≡ DiskFault → (engine.new.phase ≡ phase.Closed)
-        × Rose (R.faults engine.old.files.rack) (R.faults engine.new.files.rack)) }
+    ensures queued { OnOk result (KeepsQueued engine.old engine.new) }
+    ensures fault { IfErr result (λ cut. cut ≡ DiskFault → IsClosedByFault R.Rack engine.old engine.new) }
     ensures goes { (may_start : List Plan) → IsOneOf may_start plan → GoesOn R.Rack may_start engine.old engine.new }
     ensures fits { EachFits B.Resource engine.new.files.stores }
     ensures ready { result ≢ Err DiskFault → IsReady B.Resource engine.new }
@@ -119,10 +115,8 @@ pub fn play_start<R: Rack + Drop, B: Resource>(
     ensures cut { IfErr result (λ cut. (copy : Option Plan) × IsCopy (plan_named plans.now name.now) copy
         × ((ps queued : List Handed) → IsCut cut
         (play_start (session_of engine.old.core ps queued) name.now copy) engine.old.core engine.new.core)) }
-    ensures queued { OnOk result ((queued : List Handed) → AreQueued engine.old queued → AreQueued engine.new queued) }
-    ensures fault { IfErr result
-        (λ cut. cut ≡ DiskFault → (engine.new.phase ≡ phase.Closed)
-        × Rose (R.faults engine.old.files.rack) (R.faults engine.new.files.rack)) }
+    ensures queued { OnOk result (KeepsQueued engine.old engine.new) }
+    ensures fault { IfErr result (λ cut. cut ≡ DiskFault → IsClosedByFault R.Rack engine.old engine.new) }
     ensures goes { GoesOn R.Rack plans.now engine.old engine.new }
     ensures fits { EachFits B.Resource engine.new.files.stores }
     ensures ready { result ≢ Err DiskFault → IsReady B.Resource engine.new }

@@ -1,15 +1,11 @@
 // The lines of a session, one after another.
-ghost use Rattle.std.specs.Prelude.{◌≡◌, ◌≢◌, ◌≤◌, ◌+◌, ◌++◌, [], ℕ, List, Option, Err, vec_len, vec_capacity, IfErr, OnOk, OnErr};
-ghost use Rattle.process_flow.specs.Causes.{Rose};
+ghost use Rattle.std.specs.Prelude.{◌≡◌, ◌≢◌, ◌≤◌, ◌+◌, ◌++◌, [], ℕ, List, Err, vec_len, vec_capacity, IfErr, OnOk, OnErr};
 ghost use Rattle.process_tree.specs.Order.{Each};
-ghost use Rattle.process_tree.specs.declared.plan.Plan.{Plan};
 ghost use Rattle.history_files.specs.Standing.{EachFits};
 ghost use Rattle.engine_steps.specs.Beginning.{IsPlanFor};
-ghost use Rattle.engine_steps.specs.declared.engines.Phase.TheVariants as phase;
-ghost use Rattle.engine_calls.specs.Runs.{GoesOn, IsReady};
-ghost use Rattle.session_play.specs.Answering.{IsAnswered, IsCopy, IsCut};
+ghost use Rattle.engine_calls.specs.Runs.{GoesOn, IsClosedByFault, IsReady};
+ghost use Rattle.session_play.specs.Answering.{AnswersLine, CutsLine};
 ghost use Rattle.session_play.specs.AtHand.{session_with, AreAtHand};
-ghost use Rattle.session_play.specs.Playing.{plan_for, play};
 ghost use Rattle.session_play.specs.declared.cut.Cut.TheVariants.{DiskFault};
 ghost use Rattle.session_run.specs.Playthrough.{fault_line, status_of, HasPlayed};
 
@@ -70,19 +66,16 @@ fn answer_line<R: Rack + Drop, B: Resource>(
     requires plans { Each (IsPlanFor engine.old.catalog) plans.now }
     requires at_hand { AreAtHand engine.old hand.old }
     requires room { vec_len said.old + 11 ≤ vec_capacity said.old }
-    ensures answered { OnOk result ((copy : Option Plan) × (text : List ℕ) × IsCopy (plan_for plans.now line.now) copy
-        × IsAnswered (play engine.old.catalog
-        (session_with engine.old.core hand.old) line.now copy) engine.new.core hand.new.unfinished.items hand.new.queued text
+    ensures answered { OnOk result ((text : List ℕ) × AnswersLine engine.old.catalog plans.now
+        (session_with engine.old.core hand.old) line.now
+        engine.new.core hand.new.unfinished.items hand.new.queued text
         × (said.new.items ≡ said.old.items ++ text)) }
     ensures at_hand { OnOk result (AreAtHand engine.new hand.new) }
-    ensures cut { IfErr result (λ cut. (copy : Option Plan) × IsCopy (plan_for plans.now line.now) copy
-        × IsCut cut (play engine.old.catalog
-        (session_with engine.old.core hand.old) line.now copy) engine.old.core engine.new.core) }
+    ensures cut { IfErr result (λ cut. CutsLine engine.old.catalog plans.now
+        (session_with engine.old.core hand.old) line.now cut engine.old.core engine.new.core) }
     ensures left { OnErr result (said.new.items ≡ said.old.items) }
     ensures room { vec_len said.new + 11 ≤ vec_capacity said.new }
-    ensures fault { IfErr result
-        (λ cut. cut ≡ DiskFault → (engine.new.phase ≡ phase.Closed)
-        × Rose (R.faults engine.old.files.rack) (R.faults engine.new.files.rack)) }
+    ensures fault { IfErr result (λ cut. cut ≡ DiskFault → IsClosedByFault R.Rack engine.old engine.new) }
     ensures goes { GoesOn R.Rack plans.now engine.old engine.new }
     ensures fits { EachFits B.Resource engine.new.files.stores }
     ensures ready { result ≢ Err DiskFault → IsReady B.Resource engine.new }
@@ -106,8 +99,7 @@ pub fn play_lines<R: Rack + Drop, B: Resource>(
     requires empty { said.old.items ≡ [] }
     requires room { vec_len said.old + 11 ≤ vec_capacity said.old }
     ensures played { HasPlayed engine.old.catalog plans.now engine.old.core engine.new.core lines.now said.new.items result }
-    ensures fault { result ≡ Status.DiskFault → (engine.new.phase ≡ phase.Closed)
-        × Rose (R.faults engine.old.files.rack) (R.faults engine.new.files.rack) }
+    ensures fault { result ≡ Status.DiskFault → IsClosedByFault R.Rack engine.old engine.new }
     ensures goes { GoesOn R.Rack plans.now engine.old engine.new }
     ensures fits { EachFits B.Resource engine.new.files.stores }
     ensures ready { result ≢ Status.DiskFault → IsReady B.Resource engine.new }

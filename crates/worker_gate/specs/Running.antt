@@ -7,11 +7,11 @@ use Rattle.schedule_model.specs.Histories.{active}
 use Rattle.machine_model.specs.declared.kept.Kept.{Kept}
 use Rattle.machine_model.specs.declared.kept.Kept.TheVariants.{Start, Hand, Effect, Refuse, Abort, Victim, Restart}
 use Rattle.machine_model.specs.Calls.{finish, next, next_is}
-use Rattle.machine_model.specs.CallLaws.{IsStuck}
 use Rattle.machine_model.specs.Replies.{Handed, chosen, stuck}
 use Rattle.commute_table.specs.declared.catalog.Catalog.{Catalog}
 use Rattle.process_core.specs.Answers.{after_call, answer_in}
-use Rattle.process_core.specs.Cores.{CoreState, IsCore, courses_in, history_of, moment_of, relation}
+use Rattle.process_core.specs.Cores.{CoreState, IsCore, history_of, moment_of}
+use Rattle.process_core.specs.Moments.{IsStuckIn}
 use Rattle.engine_steps.specs.Engines.{EngineState}
 use Rattle.engine_steps.specs.declared.engines.Phase.TheVariants as phase
 use Rattle.process_engine.specs.declared.finishing.Finish.{Finish}
@@ -79,7 +79,7 @@ pub record HasRun (gate : AskedGate) (c : Catalog) (begun now : CoreState) : Typ
 abbrev pub IsOutcome : {R B : Type 0} → EngineState R B → RunOutcome → Type 0
 IsOutcome e AllEnded = active (history_of e.core) ≡ []
 IsOutcome e (Stuck i) =
-    ((answer_in e.core next).reply ≡ next_is (stuck i)) × IsStuck (relation e.core) (courses_in e.core) (moment_of e.core) i
+    ((answer_in e.core next).reply ≡ next_is (stuck i)) × IsStuckIn e.core i
 IsOutcome e DiskFault = e.phase ≡ phase.Closed
 IsOutcome e NoMemory = ⊤
 

@@ -54,9 +54,9 @@ loop-rest-preserved g c =
     let new = c.answer_line.new.engine in
     let left = c.answer_line.new.hand.unfinished.items in
     let waiting = c.answer_line.new.hand.queued in
-    let here = subst (λ k. IsAnswered (play k (session_of now pieces queued) l told.0) new.core left waiting told.1) inv.goes.catalog told.3 in
+    let here = subst (λ k. IsAnswered (play k (session_of now pieces queued) l told.1.0) new.core left waiting told.0) inv.goes.catalog told.1.2 in
     record {
-      answered = subst (λ said. HasAnswered cat plans core new.core left waiting lines after said) (sym told.4) (answered_more cat plans core now pieces queued lines l after text told.0 before told.2 new.core left waiting told.1 here);
+      answered = subst (λ said. HasAnswered cat plans core new.core left waiting lines after said) (sym told.2) (answered_more cat plans core now pieces queued lines l after text told.1.0 before told.1.1 new.core left waiting told.0 here);
       goes = goes_then g.R.Rack plans c.args.engine.now c.loop-rest.engine new inv.ready.settled inv.core.session.one_each (g.met.R.Rack.honest new.files.rack) inv.goes c.answer_line.ensures.goes;
       ready = c.answer_line.ensures.ready (λ bad. absurd (let is = c.in_default-answer_line.is in cc));
       core = c.invariant_holds-in-len1-up.ensures.run;
