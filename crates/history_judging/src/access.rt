@@ -100,14 +100,9 @@ impl Accesses {
 fn is_listed(accesses: &[Access], entry: &Entry) -> bool
     ensures { result ≡ list_any (same_access (access_of entry.now)) accesses.now }
 {
-    let mut rest = accesses;
-    while let [other, after @ ..] = rest {
-        if entry.op == other.op && entry.key == other.key {
-            return true;
-        }
-        rest = after;
-    }
-    false
+    accesses
+        .iter()
+        .any(|other| entry.op == other.op && entry.key == other.key)
 }
 
 /// Lists an operation, each once, where there is room for it.
@@ -123,14 +118,7 @@ fn list_op(ops: &mut Vec<u16>, op: u16)
 fn has_op(ops: &[u16], op: u16) -> bool
     ensures { result ≡ list_any (nat_eq op) ops.now }
 {
-    let mut rest = ops;
-    while let [other, after @ ..] = rest {
-        if op == *other {
-            return true;
-        }
-        rest = after;
-    }
-    false
+    ops.iter().any(|other| op == *other)
 }
 
 /// Whether one of these operations conflicts with another on all keys.
@@ -139,14 +127,7 @@ fn always_conflicts(c: &Conflicts, ops: &[u16], op: u16) -> bool
     requires known { Each (λ o. o < operations_in c.now) ops.now }
     ensures { result ≡ list_any (λ o. is_always (mode_of c.now o op)) ops.now }
 {
-    let mut rest = ops;
-    while let [other, after @ ..] = rest {
-        if c.mode(*other, op) == Mode::Always {
-            return true;
-        }
-        rest = after;
-    }
-    false
+    ops.iter().any(|other| c.mode(*other, op) == Mode::Always)
 }
 
 /// Whether one of these operations conflicts with another on some keys.
@@ -155,14 +136,7 @@ fn may_conflict(c: &Conflicts, ops: &[u16], op: u16) -> bool
     requires known { Each (λ o. o < operations_in c.now) ops.now }
     ensures { result ≡ list_any (λ o. not (is_never (mode_of c.now o op))) ops.now }
 {
-    let mut rest = ops;
-    while let [other, after @ ..] = rest {
-        if c.mode(*other, op) != Mode::Never {
-            return true;
-        }
-        rest = after;
-    }
-    false
+    ops.iter().any(|other| c.mode(*other, op) != Mode::Never)
 }
 
 /// Whether one of these accesses conflicts with what an entry does.
@@ -171,14 +145,9 @@ fn conflicts_on_key(c: &Conflicts, accesses: &[Access], entry: &Entry) -> bool
     requires known { Each (λ a. a.op < operations_in c.now) accesses.now }
     ensures { result ≡ access_conflicts (do_conflict c.now) accesses.now (access_of entry.now) }
 {
-    let mut rest = accesses;
-    while let [other, after @ ..] = rest {
-        if c.holds(other.op, other.key, entry.op, entry.key) {
-            return true;
-        }
-        rest = after;
-    }
-    false
+    accesses
+        .iter()
+        .any(|other| c.holds(other.op, other.key, entry.op, entry.key))
 }
 
 /// What these entries do.

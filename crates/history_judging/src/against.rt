@@ -21,14 +21,7 @@ pub fn conflicts_with_any(c: &Conflicts, entry: &Entry, others: &[Entry]) -> boo
     requires others { AreKnown c.now others.now }
     ensures { result ≡ conflicts_with_any (do_conflict c.now) entry.now others.now }
 {
-    let mut rest = others;
-    while let [other, after @ ..] = rest {
-        if conflict(c, entry, other) {
-            return true;
-        }
-        rest = after;
-    }
-    false
+    others.iter().any(|other| conflict(c, entry, other))
 }
 
 /// Whether one of those behind the entry of its step does.
@@ -54,14 +47,7 @@ fn conflicts_among(c: &Conflicts, process: u32, accesses: &Accesses, others: &[E
     ensures { result ≡ list_any
         (λ x. not (nat_eq process x.process) && access_conflicts (do_conflict c.now) accesses.now (access_of x)) others.now }
 {
-    let mut rest = others;
-    while let [other, after @ ..] = rest {
-        if process != other.process && accesses.conflict(c, other) {
-            return true;
-        }
-        rest = after;
-    }
-    false
+    others.iter().any(|other| process != other.process && accesses.conflict(c, other))
 }
 
 /// Whether one of these steps of a process conflicts with one of two lists of entries.

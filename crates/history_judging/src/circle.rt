@@ -99,12 +99,5 @@ fn conflicts_with_marked(c: &Conflicts, step: &Entry, entries: &[Entry], marks: 
     requires numbers { Each (λ e. e.process < length marks.now) entries.now }
     ensures { result ≡ list_any (λ x. conflict (do_conflict c.now) step.now x && is_marked marks.now x.process) entries.now }
 {
-    let mut rest = entries;
-    while let [entry, after @ ..] = rest {
-        if conflict(c, step, entry) && marks[entry.process as usize] {
-            return true;
-        }
-        rest = after;
-    }
-    false
+    entries.iter().any(|entry| conflict(c, step, entry) && marks[entry.process as usize])
 }

@@ -41,14 +41,7 @@ pub fn goes_on_to(tree: &Tree, done: &[u16], step: u16) -> bool
 fn is_listed(paths: &[Places], done: &[u16]) -> bool
     ensures { result ≡ list_any (same_steps done.now) paths.now }
 {
-    let mut rest = paths;
-    while let [path, after @ ..] = rest {
-        if done == path.as_slice() {
-            return true;
-        }
-        rest = after;
-    }
-    false
+    paths.iter().any(|path| done == path.as_slice())
 }
 
 /// Whether these are a whole path or nothing.
