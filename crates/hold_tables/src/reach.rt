@@ -70,14 +70,7 @@ pub fn conflicts_with(conflicts: &Conflicts, entries: &[Entry], e: Entry) -> boo
     requires each { Each (IsKnown conflicts.now) entries.now }
     ensures { result ≡ conflicts_with (do_conflict conflicts.now) entries.now e }
 {
-    let mut rest = entries;
-    while let [other, after @ ..] = rest {
-        if conflicts.between(e, *other) {
-            return true;
-        }
-        rest = after;
-    }
-    false
+    entries.iter().any(|other| conflicts.between(e, *other))
 }
 
 /// Whether the entry conflicts with a net entry. Their operations are marked, so that what conflicts with none is found at once.
