@@ -36,10 +36,5 @@ pub fn next_waiting(marks: &[Mark]) -> Option<usize>
     ensures some { IfSome result (λ k. (k < length marks.now) × (marked marks.now k ≡ true) × (done marks.now k ≡ false)) }
     ensures none { result ≡ None → (k : ℕ) → marked marks.now k ≡ true → done marks.now k ≡ true }
 {
-    for place in 0..marks.len() {
-        if marks[place] == Mark::Waiting {
-            return Some(place);
-        }
-    }
-    None
+    marks.iter().position(|mark| *mark == Mark::Waiting)
 }

@@ -1,5 +1,5 @@
 // The conflicts of a scenario: pairs of names of operations, each with a mode.
-ghost use Rattle.std.specs.Prelude.{◌≡◌, ◌<◌, ◌≤◌, length, option_map, IfOk, [], true};
+ghost use Rattle.std.specs.Prelude.{◌≡◌, ◌<◌, ◌≤◌, length, option_map, IfOk, []};
 ghost use Rattle.toml.specs.Data.{as_array, item, no_items};
 ghost use Rattle.toml.specs.View.{view, items_view, table_view};
 ghost use Rattle.process_tree.specs.Conflicts.{operations_in, mode_of, no_conflicts};

@@ -1,5 +1,5 @@
 // Scenarios: a catalog and the text of processes, read from a TOML document.
-ghost use Rattle.std.specs.Prelude.{◌≡◌, ◌<◌, length, IfOk, IfSome, [], true};
+ghost use Rattle.std.specs.Prelude.{◌≡◌, ◌<◌, length, IfOk, IfSome, []};
 ghost use Rattle.toml.specs.Data.{as_array, as_table};
 ghost use Rattle.toml.specs.View.{items_view, table_view};
 ghost use Rattle.commute_table.specs.Operations.{IsCatalog};

@@ -9,26 +9,12 @@ use crate::seats::Seat;
 pub fn some_can_begin(seats: &[Seat]) -> bool
     ensures { result ≡ list_any can_begin seats.now }
 {
-    let mut rest = seats;
-    'seats: while let Some((seat, after)) = rest.split_first() {
-        if seat.can_begin() {
-            return true;
-        }
-        rest = after;
-    }
-    false
+    seats.iter().any(|seat| seat.can_begin())
 }
 
 /// Whether one of these has a piece that is out.
 pub fn some_runs(seats: &[Seat]) -> bool
     ensures { result ≡ list_any (λ s. is_some s.out) seats.now }
 {
-    let mut rest = seats;
-    'seats: while let Some((seat, after)) = rest.split_first() {
-        if seat.is_running() {
-            return true;
-        }
-        rest = after;
-    }
-    false
+    seats.iter().any(|seat| seat.is_running())
 }

@@ -85,13 +85,6 @@ impl<R: Rack + Drop, B: Drop> Engine<R, B> {
         self.files.soundness_holds();
     }
 
-    /// What is going on.
-    pub fn phase(&self) -> Phase
-        ensures { result ≡ self.now.phase }
-    {
-        self.phase
-    }
-
     /// What happened, and the plans of all that started.
     pub fn history(&self) -> &History
         ensures { result.now ≡ full_history self.now.core }

@@ -1,13 +1,12 @@
 // Histories judged event by event.
-ghost use Rattle.std.specs.Prelude.{◌≡◌, ◌<◌, ◌⊎◌, ◌+◌, List, ◌++◌, ◌∷◌, [], length, true, false, IfOk, IfErr, Some};
+ghost use Rattle.std.specs.Prelude.{◌≡◌, ◌<◌, ◌⊎◌, ◌+◌, List, ◌++◌, ◌∷◌, [], true, false, IfOk, IfErr, Some};
 ghost use Rattle.process_tree.specs.declared.entry.Entry.{Entry};
 ghost use Rattle.process_tree.specs.declared.plan.Plan.{Plan};
 ghost use Rattle.process_tree.specs.Conflicts.{Table, do_conflict};
 ghost use Rattle.schedule_model.specs.declared.event.Event.{Event};
 ghost use Rattle.schedule_model.specs.Course.{courses_of};
-ghost use Rattle.schedule_model.specs.Histories.{active, starts};
 ghost use Rattle.schedule_model.specs.Legal.{may_come};
-ghost use Rattle.schedule_model.specs.Limits.{entries, limits, stands_within};
+ghost use Rattle.schedule_model.specs.Limits.{limits, stands_within};
 ghost use Rattle.history_judging.specs.Errors.{event_text};
 ghost use Rattle.history_judging.specs.Judging.{AreReady, comes, kept_after};
 ghost use Rattle.history_judging.specs.Keeping.{ArePlans, HasPlan, IsJudged};
@@ -125,22 +124,6 @@ impl Legality {
         Ok(longer)
     }
 
-    /// How many processes have started.
-    pub fn started_len(&self) -> usize
-        ensures { (table : Table) (plans : List Plan) (h : List Event) → IsJudged table plans h self.now
-            → result ≡ length (starts h) }
-    {
-        self.processes.len()
-    }
-
-    /// How many processes are active.
-    pub fn active_len(&self) -> usize
-        ensures { (table : Table) (plans : List Plan) (h : List Event) → IsJudged table plans h self.now
-            → result ≡ length (active h) }
-    {
-        self.active
-    }
-
     /// Whether no more processes are active, have started, and are done and reserved of acts and ends than may be.
     pub fn is_within_limits(&self) -> bool
         ensures { (table : Table) (plans : List Plan) (h : List Event) → IsJudged table plans h self.now
@@ -149,14 +132,6 @@ impl Legality {
         self.active <= MOST_ACTIVE
             && self.processes.len() <= MOST_PROCESSES
             && self.entries <= MOST_ENTRIES
-    }
-
-    /// How many acts and ends there are, done and reserved.
-    pub fn entries_len(&self) -> usize
-        ensures { (table : Table) (plans : List Plan) (h : List Event) → IsJudged table plans h self.now
-            → result ≡ entries (courses_of plans) h }
-    {
-        self.entries
     }
 }
 

@@ -1,6 +1,6 @@
 // The core: its opening, and what is read of it.
 ghost use Rattle.std.specs.Prelude.{◌≡◌, IfOk};
-ghost use Rattle.core_state.specs.Cores.{IsCore, IsHandedBy, began_in, courses_in, history_of, moment_of, opened_on};
+ghost use Rattle.core_state.specs.Cores.{IsCore, IsHandedBy, began_in, history_of, moment_of, opened_on};
 ghost use Rattle.machine_model.specs.Pieces.{state_of};
 ghost use Rattle.process_core.specs.Moments.{undo_next_in};
 
