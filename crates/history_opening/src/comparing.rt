@@ -30,14 +30,7 @@ pub fn same_effect(a: &Effect, b: &Effect) -> bool
 pub fn is_among(effect: &Effect, effects: &[Effect]) -> bool
     ensures { result ≡ is_among effect.now effects.now }
 {
-    let mut rest = effects;
-    while let [first, others @ ..] = rest {
-        if same_effect(effect, first) {
-            return true;
-        }
-        rest = others;
-    }
-    false
+    effects.iter().any(|other| same_effect(effect, other))
 }
 
 // The difference of no effect and some effects.
