@@ -4,8 +4,8 @@
 //! `specs/Standing` for which history files stand. `Files` makes nine empty files stand for no history (`create`), and takes the
 //! steps of an event: an effect is prepared, the event is recorded, and the effect is committed (`end_doubt`). Of each step a
 //! clause says what a crash within it leaves. A group of events takes each step for all its events at once, with two syncs:
-//! `prepare_staged`, `record_staged` and `commit_staged`. `soundness_holds` leads from `Stand` to sound images. `history_opening` opens
-//! nine files and makes `Files` of what it reads (`Files::new`); an effect that is left in doubt it commits or takes back by
+//! `prepare_staged`, `record_staged` and `commit_staged`. `soundness_holds` leads from `Stand` to sound images. `history_opening`
+//! opens nine files and makes `Files` of what it reads (`Files::new`); an effect that is left in doubt it commits or takes back by
 //! `end_doubt`, as the history says. Which event comes next is decided by the layer above.
 #![tactic(auto)]
 

@@ -2,6 +2,7 @@
 use Rattle.std.proofs.Common.{◌≡◌, ◌∙◌, ◌≤◌, List, [], refl, subst, sym, arith}
 use Rattle.process_flow.specs.Causes.{Rose}
 use Rattle.process_disk.specs.declared.rack.Rack.{Ghosts as Racks}
+use Rattle.process_disk.specs.Racks.{LeavesRack}
 use Rattle.process_disk.specs.Disk.{Disk, FileSet, IsHonest, Told}
 use Rattle.process_disk.specs.Images.{EachImage}
 use Rattle.process_disk.proofs.Images.{still_told}
@@ -24,7 +25,7 @@ use Rattle.engine_calls.proofs.Acknowledged.{in_turn_so}
 use Rattle.engine_calls.proofs.Opened.{are_kept}
 use Rattle.process_restart.specs.Completing.{IsCompleting, IsNextOfCompletion, IsNextUnderWay, IsOutcome}
 use Rattle.history_files.specs.Boxes.{AreCleared}
-use Rattle.process_restart.specs.Restarting.{IsLater, IsRestart}
+use Rattle.process_restart.specs.Restarting.{IsRestart}
 use Rattle.process_restart.specs.declared.completing.Completion.{Completion}
 use Rattle.process_restart.specs.declared.completing.Completion.TheVariants.{Ended, Exhausted, DiskFault, NoMemory}
 
@@ -101,11 +102,11 @@ module _ {R B : Type 0} (r : Racks R) (honest : (rack : R) → Told (r.disk rack
 
 -- What a rack came to by an opening and what followed.
 pub later_then : {R : Type 0} (racks : Racks R) (entry opened now : R) → (racks.disk opened).tells ≡ (racks.disk entry).tells → racks.faults entry ≤ racks.faults opened → (racks.disk now).tells ≡ (racks.disk opened).tells → racks.faults opened ≤ racks.faults now
-    → IsLater racks entry now
-later_then racks entry opened now tells later tells_on later_on = record { tells = tells_on ∙ tells; later = omega (arith, later, later_on) }
+    → LeavesRack racks entry now ⊥
+later_then racks entry opened now tells later tells_on later_on = record { tells = tells_on ∙ tells; later = omega (arith, later, later_on); fault = λ none. absurd none }
 
 -- So it is of a rack that is handed back with its boxes empty.
-pub handed_back : {R B : Type 0} (racks : Racks R) (box : Resources B) (entry now back : R) (boxes : List B) (why : OpenError) → back ≡ now → IsLater racks entry now
-    → AreCleared box boxes → (why ≡ errors.DiskFault → Rose (racks.faults entry) (racks.faults now)) → IsLater racks entry back × AreCleared box boxes × (why ≡ errors.DiskFault → Rose (racks.faults entry) (racks.faults back))
-handed_back racks box entry now back boxes why same later cleared rose =
-    subst (λ rack. IsLater racks entry rack × AreCleared box boxes × (why ≡ errors.DiskFault → Rose (racks.faults entry) (racks.faults rack))) (sym same) (later, cleared, rose)
+pub handed_back : {R B : Type 0} (racks : Racks R) (box : Resources B) (entry now back : R) (boxes : List B) (why : OpenError) → back ≡ now → LeavesRack racks entry now ⊥
+    → AreCleared box boxes → (why ≡ errors.DiskFault → Rose (racks.faults entry) (racks.faults now)) → LeavesRack racks entry back (why ≡ errors.DiskFault) × AreCleared box boxes
+handed_back racks box entry now back boxes why same left cleared rose =
+    subst (λ rack. LeavesRack racks entry rack (why ≡ errors.DiskFault) × AreCleared box boxes) (sym same) (record { tells = left.tells; later = left.later; fault = rose }, cleared)

@@ -1,7 +1,7 @@
 -- Files that are restarted: opened on their history, which is then completed.
-use Rattle.std.specs.Prelude.{◌≡◌, ◌⊎◌, ◌≤◌}
-use Rattle.process_flow.specs.Causes.{Rose}
+use Rattle.std.specs.Prelude.{◌≡◌, ◌⊎◌}
 use Rattle.process_disk.specs.declared.rack.Rack.{Ghosts as Racks}
+use Rattle.process_disk.specs.Racks.{LeavesRack}
 use Rattle.process_disk.specs.Disk.{Disk, Told}
 use Rattle.process_disk.specs.Images.{EachImage}
 use Rattle.resource_box.specs.declared.resource.Resource.{Ghosts as Resources}
@@ -55,17 +55,10 @@ IsRestartedAs disk gate entry (Refused parts why) = IsNotOpened gate why (disk e
     ⊎ ((c : Catalog) × (h : History) × (now : CoreState) × (on : Phase) × IsCutOffBy why on
     × IsRestart gate c h now on (disk entry) (disk parts.rack))
 
--- A rack tells as it did, and its count of faults isn't lower.
-pub record IsLater {R : Type 0} (racks : Racks R) (old new : R) : Type 0 where
-  pub tells : (racks.disk new).tells ≡ (racks.disk old).tells
-  pub later : racks.faults old ≤ racks.faults new
-
 -- What a restart hands back: an engine that may be called; or the boxes empty, and where a call of the rack failed its count of
 -- faults rose.
-abbrev pub HandsBack : {R B : Type 0} → Racks R → Resources B → R → Restarted R B → Type 0
-HandsBack racks box entry (Ended e) = IsLater racks entry e.files.rack × IsReady box e
-HandsBack racks box entry (Exhausted e process step) =
-    IsLater racks entry e.files.rack × IsReady box e
-HandsBack racks box entry (Refused parts why) =
-    IsLater racks entry parts.rack × AreCleared box parts.resources.items
-    × (why ≡ DiskFault → Rose (racks.faults entry) (racks.faults parts.rack))
+abbrev pub HandsBackParts : {R B : Type 0} → Racks R → Resources B → R → Restarted R B → Type 0
+HandsBackParts racks box entry (Ended e) = LeavesRack racks entry e.files.rack ⊥ × IsReady box e
+HandsBackParts racks box entry (Exhausted e process step) = LeavesRack racks entry e.files.rack ⊥ × IsReady box e
+HandsBackParts racks box entry (Refused parts why) =
+    LeavesRack racks entry parts.rack (why ≡ DiskFault) × AreCleared box parts.resources.items

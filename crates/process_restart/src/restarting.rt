@@ -3,7 +3,7 @@ ghost use Rattle.std.specs.Prelude.{◌≡◌};
 ghost use Rattle.history_files.specs.Boxes.{AreBoxes, AreCleared};
 ghost use Rattle.history_files.specs.Standing.{EachFits};
 ghost use Rattle.engine_calls.specs.GateAnswers.{asked};
-ghost use Rattle.process_restart.specs.Restarting.{HandsBack, IsRestartedAs};
+ghost use Rattle.process_restart.specs.Restarting.{HandsBackParts, IsRestartedAs};
 
 use crate::RestartError;
 use crate::completing::{Completion, complete};
@@ -50,7 +50,7 @@ pub fn restart<R: Rack + Drop, B: Resource, G: Gate>(
 ) -> Restarted<R, B>
     requires boxes { AreBoxes B.sort parts.resources.items }
     ensures restarted { IsRestartedAs R.disk (asked G.Gate gate.old gate.new) parts.rack result }
-    ensures back { HandsBack R.Rack B.Resource parts.rack result }
+    ensures back { HandsBackParts R.Rack B.Resource parts.rack result }
 {
     let mut engine = match Engine::open(alloc, parts) {
         Ok(engine) => engine,

@@ -81,7 +81,7 @@ abbrev pub needs : Option Command → Needs
 needs None = record { input = false; files = false; boxes = false; gate = false; gates = 1; workers = None }
 needs (Some Check) = record { input = true; files = false; boxes = false; gate = false; gates = 1; workers = None }
 needs (Some Init) = record { input = true; files = true; boxes = true; gate = false; gates = 1; workers = None }
-needs (Some (Run workers)) = record { input = true; files = true; boxes = true; gate = true; gates = workers; workers = Some workers }
+needs (Some (Run n)) = record { input = true; files = true; boxes = true; gate = true; gates = n; workers = Some n }
 needs (Some Session) = record { input = true; files = true; boxes = true; gate = false; gates = 1; workers = None }
 needs (Some Serve) = record { input = true; files = true; boxes = true; gate = false; gates = 1; workers = None }
 needs (Some Restart) = record { input = false; files = true; boxes = true; gate = true; gates = 1; workers = None }

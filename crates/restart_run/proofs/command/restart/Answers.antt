@@ -68,4 +68,4 @@ returns-in-Refused-clause-complete g c =
     λ d h told sound quiet.
     c.open_refusal.ensures.refusal
     ∙ found_is_complete c.sound_files_are_opened.ensures gate before after (Err (open_refusal why))
-    (refused_found gate before after why c.in-Refused.ensures.back.2 c.in-Refused.ensures.restarted) d h told sound quiet
+    (refused_found gate before after why c.in-Refused.ensures.back.0.fault c.in-Refused.ensures.restarted) d h told sound quiet
