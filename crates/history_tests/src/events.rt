@@ -1,8 +1,8 @@
 // Who is active in a history and what stands in it.
+use crate::journals::must;
 use process_tree::Entry;
 use schedule_model::{Event, Events, History, Plans};
 use schedule_rules::{active, net, not_serial};
-use std::test::Fail;
 
 const X: Entry = Entry {
     process: 1,
@@ -36,17 +36,15 @@ const EVENTS: [Event; 6] = [
 ];
 
 #[test]
-fn an_undo_takes_its_step_away(rt: HostRuntime) -> Result<(), Fail> {
+fn an_undo_takes_its_step_away(rt: HostRuntime) {
     let alloc = rt.alloc();
-    let history = History {
-        plans: Plans::new(Vec::new(alloc))?,
-        events: Events::new(EVENTS.to_vec(alloc)?)?,
-    };
+    let plans = must(&rt, Plans::new(Vec::new(alloc)));
+    let events = must(&rt, Events::new(must(&rt, EVENTS.to_vec(alloc))));
+    let history = History { plans, events };
     for (process, is) in [(1, false), (2, true), (3, false)] {
         assert_eq!(rt; active(&history, process), is);
     }
-    let entries = net(alloc, &history)?;
+    let entries = must(&rt, net(alloc, &history));
     assert!(rt; entries.as_slice() == [U].as_slice());
     assert!(rt; not_serial(&entries).is_none());
-    Ok(())
 }

@@ -19,8 +19,8 @@ const FILE: [u8; 76] = *b"tpsl\x01\x00\x00\x00\
 \x01\x08\x00\x02\x01\x00\x00\x00\x00\x00\x00\
 \x01\x05\x00\x03\x01\x00\x00\x00\x00";
 
-// What was to be had: memory is never wanting here, and no call fails.
-fn must<T: Drop, E: Drop>(rt: &impl Abort, found: Result<T, E>) -> T {
+/// What was to be had: memory is never wanting here, and no call fails.
+pub fn must<T: Drop, E: Drop>(rt: &impl Abort, found: Result<T, E>) -> T {
     match found {
         Ok(value) => value,
         Err(_) => panic!(rt; "no memory, or a failed call"),

@@ -1,5 +1,5 @@
 // A purchase and a sale over one stock, event by event.
-ghost use Rattle.std.specs.Prelude.{◌≡◌, ◌<◌, ◌∷◌, [], map, length, nat_lt, IfOk, IsTrue, None};
+ghost use Rattle.std.specs.Prelude.{◌≡◌, ◌<◌, ◌∷◌, [], map, length, nat_lt, IsTrue, None};
 ghost use Rattle.std.specs.List.{list_all};
 ghost use Rattle.process_tree.specs.Blocks.{outline};
 ghost use Rattle.process_tree.specs.Conflicts.{operations_in};
@@ -11,6 +11,7 @@ ghost use Rattle.process_tree.specs.declared.plan.Plan.{Plan};
 ghost use Rattle.process_tree.specs.declared.step.StepKind.TheVariants.{C, P};
 ghost use Rattle.schedule_model.specs.Laws.{IsGoodPlan, IsPlanned};
 
+use crate::journals::must;
 use history_judging::{LegalError, legal};
 use process_tree::{
     Block, Conflicts, Entry, Mode, Name, Operations, Plan, Step, StepKind, Steps, Tail, Tree,
@@ -18,7 +19,7 @@ use process_tree::{
 use schedule_model::{Event, Events, History, Plans};
 use schedule_rules::{completed, started};
 use std::alloc::Global;
-use std::test::Fail;
+use std::process::Abort;
 
 pub const ADD: u16 = 0;
 
@@ -30,105 +31,131 @@ pub const NOTE: u16 = 3;
 
 pub const BOOK: u16 = 4;
 
-pub fn step(alloc: Global, kind: StepKind, name: &[u8], key: u32) -> Result<Step, Fail>
-    ensures { IfOk result (λ step. step.kind ≡ kind) }
+pub fn step(rt: &impl Abort, alloc: Global, kind: StepKind, name: &[u8], key: u32) -> Step
+    ensures { result.kind ≡ kind }
 {
-    Ok(Step {
+    Step {
         kind,
-        name: Name::new(alloc, name)?,
-        op: Name::new(alloc, b"op")?,
+        name: must(rt, Name::new(alloc, name)),
+        op: must(rt, Name::new(alloc, b"op")),
         key,
         amount: 5,
         tries: 3,
         undo_tries: 3,
         refuse: 0,
         undo_refuse: 0,
-    })
+    }
 }
 
 /// A compensatable step and a pivot on one key.
-fn steps(alloc: Global, key: u32) -> Result<Steps, Fail>
-    ensures { IfOk result (λ steps. map (λ s. s.kind) steps ≡ C ∷ P ∷ []) }
+fn steps(rt: &impl Abort, alloc: Global, key: u32) -> Steps
+    ensures { map (λ s. s.kind) result ≡ C ∷ P ∷ [] }
 {
-    let first = step(alloc, StepKind::C, b"x", key)?;
-    let second = step(alloc, StepKind::P, b"y", key)?;
+    let first = step(rt, alloc, StepKind::C, b"x", key);
+    let second = step(rt, alloc, StepKind::P, b"y", key);
     let mut steps = Vec::new(alloc);
-    steps.push(first)?;
-    steps.push(second)?;
-    Ok(Steps::new(steps))
+    let Ok(()) = steps.push(first) else {
+        panic!(rt; "no memory");
+    };
+    let Ok(()) = steps.push(second) else {
+        panic!(rt; "no memory");
+    };
+    Steps::new(steps)
 }
 
 /// The process of these steps.
-fn tree(alloc: Global, key: u32) -> Result<Tree, Fail>
-    ensures good { IfOk result (λ tree. IsWellFormed (shape_of tree) × (tree_fault tree ≡ None)) }
-    ensures count { IfOk result (λ tree. length (outline tree).steps ≡ 2) }
+fn tree(rt: &impl Abort, alloc: Global, key: u32) -> Tree
+    ensures good { IsWellFormed (shape_of result) × (tree_fault result ≡ None) }
+    ensures count { length (outline result).steps ≡ 2 }
 {
-    let steps = steps(alloc, key)?;
+    let steps = steps(rt, alloc, key);
     let root = Block {
         steps,
         tail: Tail::End,
     };
-    Ok(Tree::build(alloc, root)?)
+    let Ok(tree) = Tree::build(alloc, root) else {
+        panic!(rt; "no tree");
+    };
+    tree
 }
 
 /// Its plan with this operation and that of paying.
-fn plan(alloc: Global, op: u16, key: u32) -> Result<Plan, Fail>
+fn plan(rt: &impl Abort, alloc: Global, op: u16, key: u32) -> Plan
     requires { op < 5 }
-    ensures good { IfOk result IsGoodPlan }
-    ensures known { IfOk result (λ p. IsTrue (list_all (λ a. nat_lt a 5) p.ops)) }
+    ensures good { IsGoodPlan result }
+    ensures known { IsTrue (list_all (λ a. nat_lt a 5) result.ops) }
 {
-    let tree = tree(alloc, key)?;
+    let name = must(rt, Name::new(alloc, b"plan"));
+    let tree = tree(rt, alloc, key);
     let mut ops = Vec::new(alloc);
-    ops.push(op)?;
-    ops.push(PAY)?;
-    Ok(Plan {
-        name: Name::new(alloc, b"plan")?,
+    let Ok(()) = ops.push(op) else {
+        panic!(rt; "no memory");
+    };
+    let Ok(()) = ops.push(PAY) else {
+        panic!(rt; "no memory");
+    };
+    Plan {
+        name,
         tree,
         ops: Operations::new(ops),
-    })
+    }
 }
 
 /// The pairs that conflict do so by this mode.
-pub fn conflicts(alloc: Global, mode: Mode) -> Result<Conflicts, Fail>
-    ensures { IfOk result (λ c. operations_in c ≡ 5) }
+pub fn conflicts(rt: &impl Abort, alloc: Global, mode: Mode) -> Conflicts
+    ensures { operations_in result ≡ 5 }
 {
-    let mut c = Conflicts::new(alloc, 5)?;
+    let Ok(mut c) = Conflicts::new(alloc, 5) else {
+        panic!(rt; "no memory");
+    };
     c.set(ADD, TAKE, mode);
     c.set(TAKE, TAKE, mode);
     c.set(NOTE, NOTE, mode);
     c.set(BOOK, BOOK, mode);
-    Ok(c)
+    c
 }
 
 /// The plan of a purchase on key 1, and of sales on this key, so many together.
-fn plans(alloc: Global, count: usize, key: u32) -> Result<Vec<Plan>, Fail>
-    ensures count { IfOk result (λ plans. length plans.items ≡ count) }
-    ensures good { IfOk result (λ plans. Each IsGoodPlan plans.items) }
-    ensures known { IfOk result (λ plans. Each (λ (p : Plan). IsTrue (list_all (λ a. nat_lt a 5) p.ops)) plans.items) }
+fn plans(rt: &impl Abort, alloc: Global, count: usize, key: u32) -> Vec<Plan>
+    ensures count { length result.items ≡ count }
+    ensures good { Each IsGoodPlan result.items }
+    ensures known { Each (λ (p : Plan). IsTrue (list_all (λ a. nat_lt a 5) p.ops)) result.items }
 {
     let mut plans = Vec::new(alloc);
     for place in 0..count {
-        plans.push(if place == 0 {
-            plan(alloc, ADD, 1)?
+        let plan = if place == 0 {
+            plan(rt, alloc, ADD, 1)
         } else {
-            plan(alloc, TAKE, key)?
-        })?;
+            plan(rt, alloc, TAKE, key)
+        };
+        let Ok(()) = plans.push(plan) else {
+            panic!(rt; "no memory");
+        };
     }
-    Ok(plans)
+    plans
 }
 
 /// Both start, the sale on this key, and then these events come.
-fn history(alloc: Global, events: &[Event], key: u32) -> Result<History, Fail>
-    ensures { IfOk result (λ h. IsPlanned 5 h.plans h.events) }
+fn history(rt: &impl Abort, alloc: Global, events: &[Event], key: u32) -> History
+    ensures { IsPlanned 5 result.plans result.events }
 {
-    let mut all = vec![in alloc; Event::Start(1), Event::Start(2)]?;
-    all.extend_from_slice(events)?;
-    let started = started(alloc, &all)?;
-    let plans = plans(alloc, started.len(), key)?;
-    Ok(History {
-        plans: Plans::new(plans)?,
-        events: Events::new(all)?,
-    })
+    let Ok(mut all) = vec![in alloc; Event::Start(1), Event::Start(2)] else {
+        panic!(rt; "no memory");
+    };
+    let Ok(()) = all.extend_from_slice(events) else {
+        panic!(rt; "no memory");
+    };
+    let Ok(started) = started(alloc, &all) else {
+        panic!(rt; "no memory");
+    };
+    let plans = plans(rt, alloc, started.len(), key);
+    let Ok(plans) = Plans::new(plans) else {
+        panic!(rt; "no memory");
+    };
+    let Ok(events) = Events::new(all) else {
+        panic!(rt; "no memory");
+    };
+    History { plans, events }
 }
 
 // The steps of the purchase, which is process 1, and of the sale, 2, and their undos.
@@ -228,47 +255,45 @@ const APART: [(&[Event], Result<(), LegalError>); 5] = [
 ];
 
 /// What completes a history, if that is legal.
-pub fn completion(alloc: Global, h: &History, c: &Conflicts) -> Result<Vec<Event>, Fail>
+pub fn completion(rt: &impl Abort, alloc: Global, h: &History, c: &Conflicts) -> Vec<Event>
     requires { IsPlanned (operations_in c.now) h.now.plans h.now.events }
 {
     match legal(alloc, h, c) {
-        Ok(()) => Ok(completed(alloc, h)?),
-        Err(_) => Ok(Vec::new(alloc)),
+        Ok(()) => must(rt, completed(alloc, h)),
+        Err(_) => Vec::new(alloc),
     }
 }
 
 #[test]
-fn a_sale_is_paid_once_the_purchase_before_it_has_ended(rt: HostRuntime) -> Result<(), Fail> {
+fn a_sale_is_paid_once_the_purchase_before_it_has_ended(rt: HostRuntime) {
     let alloc = rt.alloc();
     for mode in [Mode::Always, Mode::Key] {
-        let c = conflicts(alloc, mode)?;
+        let c = conflicts(&rt, alloc, mode);
         for (events, answer) in ROWS {
-            let h = history(alloc, events, 1)?;
+            let h = history(&rt, alloc, events, 1);
             assert_eq!(rt; legal(alloc, &h, &c), answer);
         }
     }
-    Ok(())
 }
 
 #[test]
-fn a_sale_of_other_goods_waits_for_no_purchase(rt: HostRuntime) -> Result<(), Fail> {
+fn a_sale_of_other_goods_waits_for_no_purchase(rt: HostRuntime) {
     let alloc = rt.alloc();
-    let by_key = conflicts(alloc, Mode::Key)?;
+    let by_key = conflicts(&rt, alloc, Mode::Key);
     for (events, answer) in APART {
-        let h = history(alloc, events, 2)?;
+        let h = history(&rt, alloc, events, 2);
         assert_eq!(rt; legal(alloc, &h, &by_key), answer);
     }
-    let always = conflicts(alloc, Mode::Always)?;
-    let h = history(alloc, &[X, OTHER_U, OTHER_V], 2)?;
+    let always = conflicts(&rt, alloc, Mode::Always);
+    let h = history(&rt, alloc, &[X, OTHER_U, OTHER_V], 2);
     assert_eq!(rt; legal(alloc, &h, &always), Err(LegalError::At(5)));
-    Ok(())
 }
 
 #[test]
-fn what_a_purchase_has_done_is_undone(rt: HostRuntime) -> Result<(), Fail> {
+fn what_a_purchase_has_done_is_undone(rt: HostRuntime) {
     let alloc = rt.alloc();
-    let h = history(alloc, &[X], 1)?;
-    let added = completion(alloc, &h, &conflicts(alloc, Mode::Always)?)?;
+    let h = history(&rt, alloc, &[X], 1);
+    let c = conflicts(&rt, alloc, Mode::Always);
+    let added = completion(&rt, alloc, &h, &c);
     assert!(rt; added.as_slice() == [UNDO_X, Event::End(1), Event::End(2)].as_slice());
-    Ok(())
 }

@@ -1,5 +1,5 @@
 // Two orders of one plan: a note and a booking that can be tried until they are done and can be undone, and a payment between.
-ghost use Rattle.std.specs.Prelude.{◌≡◌, ◌∷◌, [], map, length, nat_lt, IfOk, IsTrue, None};
+ghost use Rattle.std.specs.Prelude.{◌≡◌, ◌∷◌, [], map, length, nat_lt, IsTrue, None};
 ghost use Rattle.std.specs.List.{list_all};
 ghost use Rattle.process_tree.specs.Blocks.{outline};
 ghost use Rattle.process_tree.specs.Making.{tree_fault};
@@ -10,82 +10,110 @@ ghost use Rattle.process_tree.specs.declared.plan.Plan.{Plan};
 ghost use Rattle.process_tree.specs.declared.step.StepKind.TheVariants.{P, Cr};
 ghost use Rattle.schedule_model.specs.Laws.{IsGoodPlan, IsPlanned};
 
+use crate::journals::must;
 use crate::legality::{BOOK, NOTE, PAY, completion, conflicts, step};
 use history_judging::{LegalError, legal};
 use process_tree::{Block, Entry, Mode, Name, Operations, Plan, StepKind, Steps, Tail, Tree};
 use schedule_model::{Event, Events, History, Plans};
 use schedule_rules::started;
 use std::alloc::Global;
-use std::test::Fail;
+use std::process::Abort;
 
 /// The steps of an order.
-fn steps(alloc: Global) -> Result<Steps, Fail>
-    ensures { IfOk result (λ steps. map (λ s. s.kind) steps ≡ Cr ∷ P ∷ Cr ∷ []) }
+fn steps(rt: &impl Abort, alloc: Global) -> Steps
+    ensures { map (λ s. s.kind) result ≡ Cr ∷ P ∷ Cr ∷ [] }
 {
-    let note = step(alloc, StepKind::Cr, b"note", 1)?;
-    let pay = step(alloc, StepKind::P, b"pay", 1)?;
-    let book = step(alloc, StepKind::Cr, b"book", 1)?;
+    let note = step(rt, alloc, StepKind::Cr, b"note", 1);
+    let pay = step(rt, alloc, StepKind::P, b"pay", 1);
+    let book = step(rt, alloc, StepKind::Cr, b"book", 1);
     let mut steps = Vec::new(alloc);
-    steps.push(note)?;
-    steps.push(pay)?;
-    steps.push(book)?;
-    Ok(Steps::new(steps))
+    let Ok(()) = steps.push(note) else {
+        panic!(rt; "no memory");
+    };
+    let Ok(()) = steps.push(pay) else {
+        panic!(rt; "no memory");
+    };
+    let Ok(()) = steps.push(book) else {
+        panic!(rt; "no memory");
+    };
+    Steps::new(steps)
 }
 
 /// The process of these steps.
-fn tree(alloc: Global) -> Result<Tree, Fail>
-    ensures good { IfOk result (λ tree. IsWellFormed (shape_of tree) × (tree_fault tree ≡ None)) }
-    ensures count { IfOk result (λ tree. length (outline tree).steps ≡ 3) }
+fn tree(rt: &impl Abort, alloc: Global) -> Tree
+    ensures good { IsWellFormed (shape_of result) × (tree_fault result ≡ None) }
+    ensures count { length (outline result).steps ≡ 3 }
 {
-    let steps = steps(alloc)?;
+    let steps = steps(rt, alloc);
     let root = Block {
         steps,
         tail: Tail::End,
     };
-    Ok(Tree::build(alloc, root)?)
+    let Ok(tree) = Tree::build(alloc, root) else {
+        panic!(rt; "no tree");
+    };
+    tree
 }
 
-fn plan(alloc: Global) -> Result<Plan, Fail>
-    ensures good { IfOk result IsGoodPlan }
-    ensures known { IfOk result (λ p. IsTrue (list_all (λ a. nat_lt a 5) p.ops)) }
+fn plan(rt: &impl Abort, alloc: Global) -> Plan
+    ensures good { IsGoodPlan result }
+    ensures known { IsTrue (list_all (λ a. nat_lt a 5) result.ops) }
 {
-    let tree = tree(alloc)?;
+    let name = must(rt, Name::new(alloc, b"order"));
+    let tree = tree(rt, alloc);
     let mut ops = Vec::new(alloc);
-    ops.push(NOTE)?;
-    ops.push(PAY)?;
-    ops.push(BOOK)?;
-    Ok(Plan {
-        name: Name::new(alloc, b"order")?,
+    let Ok(()) = ops.push(NOTE) else {
+        panic!(rt; "no memory");
+    };
+    let Ok(()) = ops.push(PAY) else {
+        panic!(rt; "no memory");
+    };
+    let Ok(()) = ops.push(BOOK) else {
+        panic!(rt; "no memory");
+    };
+    Plan {
+        name,
         tree,
         ops: Operations::new(ops),
-    })
+    }
 }
 
 /// The plans of so many orders.
-fn plans(alloc: Global, count: usize) -> Result<Vec<Plan>, Fail>
-    ensures count { IfOk result (λ plans. length plans.items ≡ count) }
-    ensures good { IfOk result (λ plans. Each IsGoodPlan plans.items) }
-    ensures known { IfOk result (λ plans. Each (λ (p : Plan). IsTrue (list_all (λ a. nat_lt a 5) p.ops)) plans.items) }
+fn plans(rt: &impl Abort, alloc: Global, count: usize) -> Vec<Plan>
+    ensures count { length result.items ≡ count }
+    ensures good { Each IsGoodPlan result.items }
+    ensures known { Each (λ (p : Plan). IsTrue (list_all (λ a. nat_lt a 5) p.ops)) result.items }
 {
     let mut plans = Vec::new(alloc);
     for place in 0..count {
-        plans.push(plan(alloc)?)?;
+        let Ok(()) = plans.push(plan(rt, alloc)) else {
+            panic!(rt; "no memory");
+        };
     }
-    Ok(plans)
+    plans
 }
 
 /// Both orders start, and then these events come.
-fn history(alloc: Global, events: &[Event]) -> Result<History, Fail>
-    ensures { IfOk result (λ h. IsPlanned 5 h.plans h.events) }
+fn history(rt: &impl Abort, alloc: Global, events: &[Event]) -> History
+    ensures { IsPlanned 5 result.plans result.events }
 {
-    let mut all = vec![in alloc; Event::Start(1), Event::Start(2)]?;
-    all.extend_from_slice(events)?;
-    let started = started(alloc, &all)?;
-    let plans = plans(alloc, started.len())?;
-    Ok(History {
-        plans: Plans::new(plans)?,
-        events: Events::new(all)?,
-    })
+    let Ok(mut all) = vec![in alloc; Event::Start(1), Event::Start(2)] else {
+        panic!(rt; "no memory");
+    };
+    let Ok(()) = all.extend_from_slice(events) else {
+        panic!(rt; "no memory");
+    };
+    let Ok(started) = started(alloc, &all) else {
+        panic!(rt; "no memory");
+    };
+    let plans = plans(rt, alloc, started.len());
+    let Ok(plans) = Plans::new(plans) else {
+        panic!(rt; "no memory");
+    };
+    let Ok(events) = Events::new(all) else {
+        panic!(rt; "no memory");
+    };
+    History { plans, events }
 }
 
 // The steps of the first order, and their undos.
@@ -183,23 +211,21 @@ const ROWS: [(&[Event], Result<(), LegalError>); 9] = [
 ];
 
 #[test]
-fn a_step_is_undone_until_a_payment_makes_it_owed(rt: HostRuntime) -> Result<(), Fail> {
+fn a_step_is_undone_until_a_payment_makes_it_owed(rt: HostRuntime) {
     let alloc = rt.alloc();
-    let c = conflicts(alloc, Mode::Always)?;
+    let c = conflicts(&rt, alloc, Mode::Always);
     for (events, answer) in ROWS {
-        let h = history(alloc, events)?;
+        let h = history(&rt, alloc, events);
         assert_eq!(rt; legal(alloc, &h, &c), answer);
     }
-    Ok(())
 }
 
 #[test]
-fn what_was_noted_is_undone_and_what_was_paid_is_booked(rt: HostRuntime) -> Result<(), Fail> {
+fn what_was_noted_is_undone_and_what_was_paid_is_booked(rt: HostRuntime) {
     let alloc = rt.alloc();
-    let c = conflicts(alloc, Mode::Always)?;
-    let noted = completion(alloc, &history(alloc, &[NOTED])?, &c)?;
+    let c = conflicts(&rt, alloc, Mode::Always);
+    let noted = completion(&rt, alloc, &history(&rt, alloc, &[NOTED]), &c);
     assert!(rt; noted.as_slice() == [UNNOTED, Event::End(1), Event::End(2)].as_slice());
-    let paid = completion(alloc, &history(alloc, &[NOTED, PAID])?, &c)?;
+    let paid = completion(&rt, alloc, &history(&rt, alloc, &[NOTED, PAID]), &c);
     assert!(rt; paid.as_slice() == [BOOKED, Event::End(1), Event::End(2)].as_slice());
-    Ok(())
 }

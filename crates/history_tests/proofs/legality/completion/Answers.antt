@@ -4,7 +4,7 @@ use Rattle.schedule_model.proofs.NoConflict.{own_order-legal}
 use Rattle.history_tests.proofs.legality.completion.Goals as goal
 
 pub completed-requires-clause-planned : goal.completed-requires-clause-planned
-completed-requires-clause-planned c = (operations_in c.args.c.now, c.requires)
+completed-requires-clause-planned g c = (operations_in c.args.c.now, c.requires)
 
 pub completed-requires-clause-own_order : goal.completed-requires-clause-own_order
-completed-requires-clause-own_order c = own_order-legal (courses_of c.args.h.now.plans) (do_conflict c.args.c.now) c.args.h.now.events c.in-Ok.ensures.legal
+completed-requires-clause-own_order g c = own_order-legal (courses_of c.args.h.now.plans) (do_conflict c.args.c.now) c.args.h.now.events c.in-Ok.ensures.legal

@@ -7,5 +7,5 @@ use Rattle.schedule_model.specs.Laws.{IsGoodPlan}
 use Rattle.history_tests.proofs.undoable_until_owed.plans.Given as goal
 
 abbrev pub invariant-loop-place : goal.invariant-loop-place
-invariant-loop-place l =
+invariant-loop-place g l =
     (length l.plans.items ≡ l.place) × Each IsGoodPlan l.plans.items × Each (λ (p : Plan). IsTrue (list_all (λ a. nat_lt a 5) p.ops)) l.plans.items

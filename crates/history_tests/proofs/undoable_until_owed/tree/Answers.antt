@@ -8,9 +8,9 @@ use Rattle.history_tests.proofs.AroundAPivot.{three, steps_around}
 use Rattle.history_tests.proofs.undoable_until_owed.tree.Goals as goal
 
 pub returns-clause-good : goal.returns-clause-good
-returns-clause-good c =
-    subst (λ (root : Block). IsWellFormed (shape_of root) × (tree_fault root ≡ None)) (sym c.in_ok-build.ensures.tree)
-    (steps_around c.in_ok-steps.steps c.in_ok-steps.ensures, c.in_ok-build.ensures.good)
+returns-clause-good g c =
+    subst (λ (root : Block). IsWellFormed (shape_of root) × (tree_fault root ≡ None)) (sym c.in-Ok.ensures.tree)
+    (steps_around c.steps-steps.result c.steps-steps.ensures, c.in-Ok.ensures.good)
 
 pub returns-clause-count : goal.returns-clause-count
-returns-clause-count c = ap (λ (root : Block). length (outline root).steps) c.in_ok-build.ensures.tree ∙ three c.in_ok-steps.steps c.in_ok-steps.ensures
+returns-clause-count g c = ap (λ (root : Block). length (outline root).steps) c.in-Ok.ensures.tree ∙ three c.steps-steps.result c.steps-steps.ensures
