@@ -1,4 +1,5 @@
 // Worked sessions: what their lines ask for, and what is printed of their answers.
+use crate::shop::must;
 use machine_model::{Aborted, Blocked, Refusal, Rule, StartWhy, Work};
 use process_report::put_line;
 use process_text::read;
@@ -11,7 +12,6 @@ use session_text::{
 };
 use std::alloc::{AllocError, Global};
 use std::process::Abort;
-use std::test::Fail;
 
 // Writes what a line asks for.
 fn put_asked(alloc: Global, line: &Line, out: &mut Vec<u8>) -> Result<(), AllocError> {
@@ -31,12 +31,12 @@ fn put_asked(alloc: Global, line: &Line, out: &mut Vec<u8>) -> Result<(), AllocE
 }
 
 // What the lines of a text ask for, each on a line.
-fn asked(alloc: Global, text: &[u8]) -> Result<Vec<u8>, LinesError> {
+fn asked(rt: &impl Abort, alloc: Global, text: &[u8]) -> Result<Vec<u8>, LinesError> {
     let divided = divide(text);
     let lines = read_lines(alloc, divided.lines, divided.first)?;
     let mut out = Vec::new(alloc);
     for line in &lines {
-        put_asked(alloc, line, &mut out)?;
+        must(rt, put_asked(alloc, line, &mut out));
     }
     Ok(out)
 }
@@ -87,12 +87,10 @@ const SCRIPTS: [(&[u8], Result<&[u8], u32>); 23] = [
 ];
 
 #[test]
-fn lines_are_read_up_to_stop_or_the_first_is_told_that_has_no_form(
-    rt: HostRuntime,
-) -> Result<(), Fail> {
+fn lines_are_read_up_to_stop_or_the_first_is_told_that_has_no_form(rt: HostRuntime) {
     let alloc = rt.alloc();
     for (text, expected) in SCRIPTS {
-        let found = asked(alloc, text);
+        let found = asked(&rt, alloc, text);
         let found: Result<&[u8], u32> = match &found {
             Ok(lines) => Ok(lines.as_slice()),
             Err(LinesError::BadLine(n)) => Err(*n),
@@ -100,7 +98,6 @@ fn lines_are_read_up_to_stop_or_the_first_is_told_that_has_no_form(
         };
         assert_eq!(rt; found, expected);
     }
-    Ok(())
 }
 
 // An answer of a session.
@@ -167,107 +164,123 @@ fn block(on: u32, other: u16, own: u16, rule: Rule) -> Blocked {
 }
 
 // A history of a purchase a with the steps x, y and s, and a sale b with the steps u and v.
-fn history(alloc: Global) -> Result<History, Fail> {
+fn history(rt: &impl Abort, alloc: Global) -> History {
     let text =
         b"process a c x add 1 5 p y pay 1 5 r s note 1 1 end process b c u take 1 2 r v ship 1 1 end";
     let mut plans = Vec::new(alloc);
-    for named in read(alloc, text)? {
-        plans.push(Plan {
+    for named in must(rt, read(alloc, text)) {
+        let plan = Plan {
             name: named.name,
             tree: named.tree,
             ops: Operations::new(Vec::new(alloc)),
-        })?;
+        };
+        must(rt, plans.push(plan));
     }
-    Ok(History {
-        plans: Plans::new(plans)?,
-        events: Events::new(Vec::new(alloc))?,
-    })
+    History {
+        plans: must(rt, Plans::new(plans)),
+        events: must(rt, Events::new(Vec::new(alloc))),
+    }
 }
 
 // The answers of a session, and its lines.
-fn sessions(alloc: Global) -> Result<Vec<(Vec<Answer>, &'static [u8])>, Fail> {
-    Ok(vec![in alloc;
+fn sessions(rt: &impl Abort, alloc: Global) -> Vec<(Vec<Answer>, &'static [u8])> {
+    let sessions = vec![in alloc;
         (
-            vec![in alloc;
-                Answer::Started(1, b"a"),
-                Answer::Started(2, b"b"),
-                Answer::Piece(1, 1, 0, Work::Forward),
-                Answer::Numbered(b"effected", 3),
-                Answer::Piece(2, 2, 0, Work::Forward),
-                Answer::Numbered(b"effected", 4),
-                Answer::Waits(b"blocked", 2, block(1, 0, 0, Rule::A3)),
-                Answer::Piece(3, 1, 1, Work::Forward),
-                Answer::Numbered(b"effected", 5),
-                Answer::Piece(4, 1, 0, Work::End),
-                Answer::Numbered(b"effected", 6),
-                Answer::Piece(5, 2, 1, Work::Forward)
-            ]?,
+            must(
+                rt,
+                vec![in alloc;
+                    Answer::Started(1, b"a"),
+                    Answer::Started(2, b"b"),
+                    Answer::Piece(1, 1, 0, Work::Forward),
+                    Answer::Numbered(b"effected", 3),
+                    Answer::Piece(2, 2, 0, Work::Forward),
+                    Answer::Numbered(b"effected", 4),
+                    Answer::Waits(b"blocked", 2, block(1, 0, 0, Rule::A3)),
+                    Answer::Piece(3, 1, 1, Work::Forward),
+                    Answer::Numbered(b"effected", 5),
+                    Answer::Piece(4, 1, 0, Work::End),
+                    Answer::Numbered(b"effected", 6),
+                    Answer::Piece(5, 2, 1, Work::Forward)
+                ]
+            ),
             b"started 1 a\nstarted 2 b\npiece 1: do 1.x\neffected 3\npiece 2: do 2.u\neffected 4\nblocked on 1.x by 2.u rule A3\n\
 piece 3: do 1.y\neffected 5\npiece 4: end 1\neffected 6\npiece 5: do 2.v\n" as &[u8],
         ),
         (
-            vec![in alloc;
-                Answer::Aborted(1, &[1, 2], Aborted::Ok),
-                Answer::Piece(3, 2, 0, Work::Undo),
-                Answer::Numbered(b"effected", 5),
-                Answer::Piece(4, 1, 0, Work::Undo),
-                Answer::AllEnded,
-                Answer::Aborted(1, &[], Aborted::Ended)
-            ]?,
+            must(
+                rt,
+                vec![in alloc;
+                    Answer::Aborted(1, &[1, 2], Aborted::Ok),
+                    Answer::Piece(3, 2, 0, Work::Undo),
+                    Answer::Numbered(b"effected", 5),
+                    Answer::Piece(4, 1, 0, Work::Undo),
+                    Answer::AllEnded,
+                    Answer::Aborted(1, &[], Aborted::Ended)
+                ]
+            ),
             b"aborting 1 2\npiece 3: undo 2.u\neffected 5\npiece 4: undo 1.x\nall ended\nended 1\n" as &[u8],
         ),
         (
-            vec![in alloc;
-                Answer::Waits(b"blocked", 2, block(1, 1, 0, Rule::A1)),
-                Answer::Refused(1, 0, Refusal::RollBack),
-                Answer::Numbered(b"victim", 2),
-                Answer::Waits(b"wait", 1, block(2, 0, 2, Rule::A2)),
-                Answer::Waiting
-            ]?,
+            must(
+                rt,
+                vec![in alloc;
+                    Answer::Waits(b"blocked", 2, block(1, 1, 0, Rule::A1)),
+                    Answer::Refused(1, 0, Refusal::RollBack),
+                    Answer::Numbered(b"victim", 2),
+                    Answer::Waits(b"wait", 1, block(2, 0, 2, Rule::A2)),
+                    Answer::Waiting
+                ]
+            ),
             b"blocked on 1.y by 2.u rule A1\nfailed\nvictim 2\nwait on 2.u by 1.s rule A2\nwait\n" as &[u8],
         ),
         (
-            vec![in alloc;
-                Answer::Numbered(b"running", 1),
-                Answer::Aborted(1, &[1], Aborted::Ok),
-                Answer::Aborted(1, &[], Aborted::Already),
-                Answer::Numbered(b"dropped", 3),
-                Answer::Numbered(b"unknown", 9),
-                Answer::NoPiece(1),
-                Answer::Aborted(9, &[], Aborted::Unknown)
-            ]?,
+            must(
+                rt,
+                vec![in alloc;
+                    Answer::Numbered(b"running", 1),
+                    Answer::Aborted(1, &[1], Aborted::Ok),
+                    Answer::Aborted(1, &[], Aborted::Already),
+                    Answer::Numbered(b"dropped", 3),
+                    Answer::Numbered(b"unknown", 9),
+                    Answer::NoPiece(1),
+                    Answer::Aborted(9, &[], Aborted::Unknown)
+                ]
+            ),
             b"running 1\naborting 1\nalready 1\ndropped 3\nunknown 9\nno piece 1\nunknown 9\n" as &[u8],
         ),
         (
-            vec![in alloc;
-                Answer::NoProcess(b"c"),
-                Answer::NotStarted(StartWhy::TooMany(4096)),
-                Answer::NotStarted(StartWhy::NoRoom(16387)),
-                Answer::NotStarted(StartWhy::NoMemory),
-                Answer::Refused(2, 1, Refusal::Retry(2)),
-                Answer::Refused(2, 1, Refusal::Exhausted),
-                Answer::Exhausted(2, 0),
-                Answer::Refused(1, 0, Refusal::Alternative),
-                Answer::NoRefusal(4),
-                Answer::Numbered(b"stuck", 2),
-                Answer::Aborted(2, &[], Aborted::Exhausted)
-            ]?,
+            must(
+                rt,
+                vec![in alloc;
+                    Answer::NoProcess(b"c"),
+                    Answer::NotStarted(StartWhy::TooMany(4096)),
+                    Answer::NotStarted(StartWhy::NoRoom(16387)),
+                    Answer::NotStarted(StartWhy::NoMemory),
+                    Answer::Refused(2, 1, Refusal::Retry(2)),
+                    Answer::Refused(2, 1, Refusal::Exhausted),
+                    Answer::Exhausted(2, 0),
+                    Answer::Refused(1, 0, Refusal::Alternative),
+                    Answer::NoRefusal(4),
+                    Answer::Numbered(b"stuck", 2),
+                    Answer::Aborted(2, &[], Aborted::Exhausted)
+                ]
+            ),
             b"no process c\ntoo many 4096\nno room 16387\nno memory\nretry 2\nexhausted 2 v\nexhausted 2 u\nfailed\n\
 end is not refused 4\nstuck 2\nexhausted 2\n" as &[u8],
         ),
-    ]?)
+    ];
+    must(rt, sessions)
 }
 
 #[test]
-fn each_answer_is_printed_on_a_line(rt: HostRuntime) -> Result<(), Fail> {
+fn each_answer_is_printed_on_a_line(rt: HostRuntime) {
     let alloc = rt.alloc();
-    let h = history(alloc)?;
-    for (answers, expected) in sessions(alloc)? {
+    let h = history(&rt, alloc);
+    for (answers, expected) in sessions(&rt, alloc) {
         let mut out = Vec::new(alloc);
         for answer in answers {
-            put_answer(alloc, &h, answer, &mut out)?;
+            must(&rt, put_answer(alloc, &h, answer, &mut out));
         }
         assert_eq!(rt; out.as_slice(), expected);
     }
-    Ok(())
 }

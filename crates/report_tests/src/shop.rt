@@ -1,5 +1,5 @@
 // Entries and plans, and a history of the shop: a purchase and a sale.
-ghost use Rattle.std.specs.Prelude.{◌≡◌, [], ◌∷◌, false, true, IfOk};
+ghost use Rattle.std.specs.Prelude.{◌≡◌, [], ◌∷◌, false, true};
 ghost use Rattle.schedule_model.specs.PlannedExample.{plain_step, purchase_plan, sale_plan, two_steps};
 ghost use Rattle.process_report.specs.Examples.{both_undone};
 ghost use Rattle.process_report.specs.KeyedExamples.{on_key};
@@ -7,7 +7,15 @@ ghost use Rattle.process_report.specs.KeyedExamples.{on_key};
 use process_tree::{Block, Entry, Name, Operations, Plan, Step, StepKind, Steps, Tail, Tree};
 use schedule_model::{Event, Events, History, Plans};
 use std::alloc::Global;
-use std::test::Fail;
+use std::process::Abort;
+
+/// What was to be had: memory is never wanting here, and no call fails.
+pub fn must<T: Drop, E: Drop>(rt: &impl Abort, found: Result<T, E>) -> T {
+    match found {
+        Ok(value) => value,
+        Err(_) => panic!(rt; "no memory, or a failed call"),
+    }
+}
 
 /// The operations of the shop by number: `add` and `take` conflict, and so does `take` with itself.
 pub const ADD: u16 = 0;
@@ -53,77 +61,99 @@ pub fn undone(process: u32, step: u16, op: u16) -> Entry
 
 /// A step of a plan, on this key.
 pub fn step_on(
+    rt: &impl Abort,
     alloc: Global,
     key: u32,
     kind: StepKind,
     name: &[u8],
     op: &[u8],
-) -> Result<Step, Fail>
-    ensures { IfOk result (λ s. s ≡ on_key key (plain_step kind name.now op.now)) }
+) -> Step
+    ensures { result ≡ on_key key (plain_step kind name.now op.now) }
 {
-    Ok(Step {
+    let Ok(name) = Name::new(alloc, name) else {
+        panic!(rt; "no memory");
+    };
+    let Ok(op) = Name::new(alloc, op) else {
+        panic!(rt; "no memory");
+    };
+    Step {
         kind,
-        name: Name::new(alloc, name)?,
-        op: Name::new(alloc, op)?,
+        name,
+        op,
         key,
         amount: 5,
         tries: 3,
         undo_tries: 3,
         refuse: 0,
         undo_refuse: 0,
-    })
+    }
 }
 
-fn step(alloc: Global, kind: StepKind, name: &[u8], op: &[u8]) -> Result<Step, Fail>
-    ensures { IfOk result (λ s. s ≡ plain_step kind name.now op.now) }
+fn step(rt: &impl Abort, alloc: Global, kind: StepKind, name: &[u8], op: &[u8]) -> Step
+    ensures { result ≡ plain_step kind name.now op.now }
 {
-    step_on(alloc, 1, kind, name, op)
+    step_on(rt, alloc, 1, kind, name, op)
 }
 
 /// A process of two steps with these operations.
 pub fn plan(
+    rt: &impl Abort,
     alloc: Global,
     name: &[u8],
     first: Step,
     second: Step,
     op: u16,
     then: u16,
-) -> Result<Plan, Fail>
-    ensures { IfOk result (λ p. p ≡ record { name = name.now; tree = two_steps first second; ops = op ∷ then ∷ [] }) }
+) -> Plan
+    ensures { result ≡ record { name = name.now; tree = two_steps first second; ops = op ∷ then ∷ [] } }
 {
+    let Ok(steps) = vec![in alloc; first, second] else {
+        panic!(rt; "no memory");
+    };
     let root = Block {
-        steps: Steps::new(vec![in alloc; first, second]?),
+        steps: Steps::new(steps),
         tail: Tail::End,
     };
-    Ok(Plan {
-        name: Name::new(alloc, name)?,
-        tree: Tree::build(alloc, root)?,
-        ops: Operations::new(vec![in alloc; op, then]?),
-    })
+    let Ok(name) = Name::new(alloc, name) else {
+        panic!(rt; "no memory");
+    };
+    let Ok(tree) = Tree::build(alloc, root) else {
+        panic!(rt; "no tree");
+    };
+    let Ok(ops) = vec![in alloc; op, then] else {
+        panic!(rt; "no memory");
+    };
+    Plan {
+        name,
+        tree,
+        ops: Operations::new(ops),
+    }
 }
 
-fn purchase(alloc: Global) -> Result<Plan, Fail>
-    ensures { IfOk result (λ p. p ≡ purchase_plan) }
+fn purchase(rt: &impl Abort, alloc: Global) -> Plan
+    ensures { result ≡ purchase_plan }
 {
-    let fetch = step(alloc, StepKind::C, b"fetch", b"add")?;
-    let settle = step(alloc, StepKind::P, b"settle", b"pay")?;
-    plan(alloc, b"purchase", fetch, settle, ADD, PAY)
+    let fetch = step(rt, alloc, StepKind::C, b"fetch", b"add");
+    let settle = step(rt, alloc, StepKind::P, b"settle", b"pay");
+    plan(rt, alloc, b"purchase", fetch, settle, ADD, PAY)
 }
 
-fn sale(alloc: Global) -> Result<Plan, Fail>
-    ensures { IfOk result (λ p. p ≡ sale_plan) }
+fn sale(rt: &impl Abort, alloc: Global) -> Plan
+    ensures { result ≡ sale_plan }
 {
-    let deliver = step(alloc, StepKind::C, b"deliver", b"take")?;
-    let settle = step(alloc, StepKind::P, b"settle", b"pay")?;
-    plan(alloc, b"sale", deliver, settle, TAKE, PAY)
+    let deliver = step(rt, alloc, StepKind::C, b"deliver", b"take");
+    let settle = step(rt, alloc, StepKind::P, b"settle", b"pay");
+    plan(rt, alloc, b"sale", deliver, settle, TAKE, PAY)
 }
 
 /// A purchase and a sale that builds on it, of which both are undone.
-pub fn both_undone(alloc: Global) -> Result<History, Fail>
-    ensures { IfOk result (λ h. h ≡ record { plans = purchase_plan ∷ sale_plan ∷ []; events = both_undone.events }) }
+pub fn both_undone(rt: &impl Abort, alloc: Global) -> History
+    ensures { result ≡ record { plans = purchase_plan ∷ sale_plan ∷ []; events = both_undone.events } }
 {
-    let plans = vec![in alloc; purchase(alloc)?, sale(alloc)?]?;
-    let events = vec![in alloc;
+    let Ok(plans) = vec![in alloc; purchase(rt, alloc), sale(rt, alloc)] else {
+        panic!(rt; "no memory");
+    };
+    let Ok(events) = vec![in alloc;
         Event::Start(1),
         Event::Start(2),
         Event::Act(done(1, 0, ADD)),
@@ -132,9 +162,14 @@ pub fn both_undone(alloc: Global) -> Result<History, Fail>
         Event::Act(undone(1, 0, ADD)),
         Event::End(2),
         Event::End(1),
-    ]?;
-    Ok(History {
-        plans: Plans::new(plans)?,
-        events: Events::new(events)?,
-    })
+    ] else {
+        panic!(rt; "no memory");
+    };
+    let Ok(plans) = Plans::new(plans) else {
+        panic!(rt; "no memory");
+    };
+    let Ok(events) = Events::new(events) else {
+        panic!(rt; "no memory");
+    };
+    History { plans, events }
 }

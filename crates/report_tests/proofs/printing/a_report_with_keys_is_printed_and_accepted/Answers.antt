@@ -9,8 +9,8 @@ is_catalog : IsCatalog goods
 is_catalog = record { version = refl; few = omega arith; good = refl; own_names = refl; table = refl; of_all = refl; modes = refl }
 
 pub report-requires-clause-catalog : goal.report-requires-clause-catalog
-report-requires-clause-catalog g c = subst IsCatalog (sym c.in_ok-catalog.ensures) is_catalog
+report-requires-clause-catalog g c = subst IsCatalog (sym c.catalog_of_goods-catalog.ensures) is_catalog
 
 pub report-requires-clause-planned : goal.report-requires-clause-planned
 report-requires-clause-planned g c =
-    rw (c.in_ok-catalog.ensures, ap (λ (h : History). h.plans) c.in_ok-history.ensures, ap (λ (h : History). h.events) c.in_ok-history.ensures) two_goods-is_planned
+    rw (c.catalog_of_goods-catalog.ensures, ap (λ (h : History). h.plans) c.two_goods-history.ensures, ap (λ (h : History). h.events) c.two_goods-history.ensures) two_goods-is_planned

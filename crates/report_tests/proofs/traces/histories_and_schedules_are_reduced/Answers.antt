@@ -5,4 +5,4 @@ use Rattle.report_tests.proofs.traces.histories_and_schedules_are_reduced.Goals 
 
 pub trace-requires-clause-planned : goal.trace-requires-clause-planned
 trace-requires-clause-planned g c =
-    rw (c.in_ok-table.ensures, ap (λ (h : History). h.plans) c.in_ok-history.ensures, ap (λ (h : History). h.events) c.in_ok-history.ensures) both_undone-is_planned
+    rw (c.stock_table-table.ensures, ap (λ (h : History). h.plans) c.both_undone-history.ensures, ap (λ (h : History). h.events) c.both_undone-history.ensures) both_undone-is_planned
