@@ -1,5 +1,5 @@
 // Calls of a core by the numbers of processes and pieces.
-ghost use Rattle.std.specs.Prelude.{◌≡◌, ◌<◌, length, IfOk, IfSome};
+ghost use Rattle.std.specs.Prelude.{◌≡◌, ◌<◌, length, IfSome};
 ghost use Rattle.machine_model.specs.declared.replies.PieceState.TheVariants.{Out};
 ghost use Rattle.machine_model.specs.Pieces.{state_of};
 ghost use Rattle.process_core.specs.Cores.{IsHandedBy, moment_of};
@@ -7,7 +7,7 @@ ghost use Rattle.core_tests.specs.Pieces.{AreHandedBy, StayHanded};
 
 use machine_model::{Blocked, Rule};
 use process_core::{Aborted, Admit, Core, Next, Piece, PieceState, Refusal, Waiting, Work};
-use std::alloc::AllocError;
+use std::process::Abort;
 
 /// A call of a core.
 #[derive(Clone, Copy, Debug, PartialEq, Eq)]
@@ -92,44 +92,48 @@ fn wait_of(waiting: Option<Waiting>) -> Answer {
 }
 
 // Asks for a piece of a process, and keeps it.
-fn admitted(core: &mut Core, pieces: &mut Vec<Piece>, i: u32) -> Result<Answer, AllocError>
+fn admitted(rt: &impl Abort, core: &mut Core, pieces: &mut Vec<Piece>, i: u32) -> Answer
     requires { AreHandedBy core.old pieces.old.items }
-    ensures pieces { IfOk result (λ _. AreHandedBy core.new pieces.new.items) }
-    ensures conflicts { IfOk result (λ _. core.new.conflicts ≡ core.old.conflicts) }
+    ensures pieces { AreHandedBy core.new pieces.new.items }
+    ensures conflicts { core.new.conflicts ≡ core.old.conflicts }
 {
     let reply = core.admit(i);
     core.run_holds();
     match reply {
         Admit::Piece(piece) => {
             let answer = answer_of(&piece);
-            pieces.push(piece)?;
-            Ok(answer)
+            let Ok(()) = pieces.push(piece) else {
+                panic!(rt; "no memory");
+            };
+            answer
         }
-        Admit::Blocked(block) => Ok(blocked_by(block)),
-        Admit::Running => Ok(Answer::Running),
-        Admit::Unknown => Ok(Answer::Unknown),
-        Admit::Ended => Ok(Answer::Ended),
-        Admit::Exhausted(step) => Ok(Answer::Exhausted(step)),
+        Admit::Blocked(block) => blocked_by(block),
+        Admit::Running => Answer::Running,
+        Admit::Unknown => Answer::Unknown,
+        Admit::Ended => Answer::Ended,
+        Admit::Exhausted(step) => Answer::Exhausted(step),
     }
 }
 
 // Asks for any piece, and keeps it.
-fn chosen(core: &mut Core, pieces: &mut Vec<Piece>) -> Result<Answer, AllocError>
+fn chosen(rt: &impl Abort, core: &mut Core, pieces: &mut Vec<Piece>) -> Answer
     requires { AreHandedBy core.old pieces.old.items }
-    ensures pieces { IfOk result (λ _. AreHandedBy core.new pieces.new.items) }
-    ensures conflicts { IfOk result (λ _. core.new.conflicts ≡ core.old.conflicts) }
+    ensures pieces { AreHandedBy core.new pieces.new.items }
+    ensures conflicts { core.new.conflicts ≡ core.old.conflicts }
 {
     let reply = core.next();
     core.run_holds();
     match reply {
         Next::Piece(piece) => {
             let answer = answer_of(&piece);
-            pieces.push(piece)?;
-            Ok(answer)
+            let Ok(()) = pieces.push(piece) else {
+                panic!(rt; "no memory");
+            };
+            answer
         }
-        Next::Wait(waiting) => Ok(wait_of(waiting)),
-        Next::AllEnded => Ok(Answer::AllEnded),
-        Next::Stuck(i) => Ok(Answer::Stuck(i)),
+        Next::Wait(waiting) => wait_of(waiting),
+        Next::AllEnded => Answer::AllEnded,
+        Next::Stuck(i) => Answer::Stuck(i),
     }
 }
 
@@ -186,20 +190,20 @@ fn finished(core: &mut Core, pieces: &mut Vec<Piece>, number: u32, is_done: bool
 }
 
 /// What a call answers.
-pub fn reply_to(core: &mut Core, pieces: &mut Vec<Piece>, call: Call) -> Result<Answer, AllocError>
+pub fn reply_to(rt: &impl Abort, core: &mut Core, pieces: &mut Vec<Piece>, call: Call) -> Answer
     requires { AreHandedBy core.old pieces.old.items }
-    ensures pieces { IfOk result (λ _. AreHandedBy core.new pieces.new.items) }
-    ensures conflicts { IfOk result (λ _. core.new.conflicts ≡ core.old.conflicts) }
+    ensures pieces { AreHandedBy core.new pieces.new.items }
+    ensures conflicts { core.new.conflicts ≡ core.old.conflicts }
 {
     match call {
-        Call::Admit(i) => admitted(core, pieces, i),
-        Call::Next => chosen(core, pieces),
-        Call::Done(number) => Ok(finished(core, pieces, number, true)),
-        Call::Refused(number) => Ok(finished(core, pieces, number, false)),
-        Call::Abort(i) => Ok(Answer::Aborted(core.abort(i))),
+        Call::Admit(i) => admitted(rt, core, pieces, i),
+        Call::Next => chosen(rt, core, pieces),
+        Call::Done(number) => finished(core, pieces, number, true),
+        Call::Refused(number) => finished(core, pieces, number, false),
+        Call::Abort(i) => Answer::Aborted(core.abort(i)),
         Call::CompleteAll => {
             core.complete_all();
-            Ok(Answer::AllComplete)
+            Answer::AllComplete
         }
     }
 }

@@ -4,7 +4,6 @@ use crate::plays::{FIRST_STEPS, Happens, Play, expect_plays};
 use crate::starts::{ADD, NOTE, PAY, TAKE};
 use machine_model::Rule;
 use process_core::{Aborted, Cause, Refusal, Work};
-use std::test::Fail;
 
 const CHOOSING: [Play; 6] = [
     Play {
@@ -197,6 +196,6 @@ const CHOOSING: [Play; 6] = [
 ];
 
 #[test]
-fn pieces_are_chosen_by_the_rules(rt: HostRuntime) -> Result<(), Fail> {
-    expect_plays(&rt, rt.alloc(), &CHOOSING)
+fn pieces_are_chosen_by_the_rules(rt: HostRuntime) {
+    expect_plays(&rt, rt.alloc(), &CHOOSING);
 }

@@ -4,7 +4,6 @@ use crate::plays::{FIRST_STEPS, Happens, Play, expect_plays};
 use crate::starts::{ADD, PAY, PURCHASE, SALE, SHIP, TAKE};
 use machine_model::Rule;
 use process_core::{Aborted, Cause, Refusal, Work};
-use std::test::Fail;
 
 const CHOICE: &[u8] =
     b"process b p x pay 1 5 choose c y take 1 2 c z ship 1 1 or c m ship 2 1 or r t ship 3 1 done end";
@@ -199,6 +198,6 @@ const GOING_BACK: [Play; 7] = [
 ];
 
 #[test]
-fn processes_go_back_by_the_rules(rt: HostRuntime) -> Result<(), Fail> {
-    expect_plays(&rt, rt.alloc(), &GOING_BACK)
+fn processes_go_back_by_the_rules(rt: HostRuntime) {
+    expect_plays(&rt, rt.alloc(), &GOING_BACK);
 }

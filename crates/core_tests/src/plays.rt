@@ -9,7 +9,6 @@ use process_tree::Entry;
 use schedule_model::Event;
 use std::alloc::Global;
 use std::process::Abort;
-use std::test::Fail;
 
 /// What happens in a play.
 #[derive(Clone, Copy, Debug, PartialEq, Eq)]
@@ -76,9 +75,7 @@ fn expect_turns<H: Abort>(
     ensures conflicts { core.new.conflicts ≡ core.old.conflicts }
 {
     for (turn, (call, wanted)) in turns.iter().enumerate() {
-        let Ok(answered) = reply_to(core, pieces, *call) else {
-            panic!(rt; "no memory");
-        };
+        let answered = reply_to(rt, core, pieces, *call);
         assert_eq!(rt; answered, *wanted, "{name}, turn {turn}: {call:?}");
     }
 }
@@ -120,19 +117,17 @@ fn expect_beginnings<H: Abort>(rt: &H, core: &Core, play: &Play) {
 }
 
 // The play goes as it should.
-fn expect_play<H: Abort>(rt: &H, alloc: Global, play: &Play) -> Result<(), Fail> {
-    let catalog = catalog(alloc)?;
-    let mut core = started(alloc, &catalog, play.texts)?;
+fn expect_play<H: Abort>(rt: &H, alloc: Global, play: &Play) {
+    let catalog = catalog(rt, alloc);
+    let mut core = started(rt, alloc, &catalog, play.texts);
     expect_answers(rt, alloc, &mut core, play.name, play.opening, play.turns);
     expect_history(rt, &core, play);
     expect_beginnings(rt, &core, play);
-    Ok(())
 }
 
 /// So do all of these.
-pub fn expect_plays<H: Abort>(rt: &H, alloc: Global, plays: &[Play]) -> Result<(), Fail> {
+pub fn expect_plays<H: Abort>(rt: &H, alloc: Global, plays: &[Play]) {
     for play in plays {
-        expect_play(rt, alloc, play)?;
+        expect_play(rt, alloc, play);
     }
-    Ok(())
 }

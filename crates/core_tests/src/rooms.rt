@@ -14,19 +14,20 @@ use process_tree::{Conflicts, Plan};
 use schedule_model::Event;
 use std::alloc::Global;
 use std::process::Abort;
-use std::test::Fail;
 
 #[test]
-fn a_core_opens_on_nothing(rt: HostRuntime) -> Result<(), Fail> {
+fn a_core_opens_on_nothing(rt: HostRuntime) {
     let alloc = rt.alloc();
-    let mut core = opened(alloc, Conflicts::new(alloc, 0)?)?;
+    let Ok(conflicts) = Conflicts::new(alloc, 0) else {
+        panic!(rt; "no memory");
+    };
+    let mut core = opened(&rt, alloc, conflicts);
     core.complete_all();
     assert!(rt; core.abort(1) == Aborted::Unknown);
     assert!(rt; core.kept().is_empty());
     assert!(rt; core.history().events.as_slice().is_empty());
     assert!(rt; core.began(1).is_none());
     assert!(rt; core.undo_next().is_none());
-    Ok(())
 }
 
 // The room for a process of this plan.
@@ -53,12 +54,12 @@ fn start_in_room<H: Abort>(rt: &H, core: &mut Core, plan: Plan) -> u32
 }
 
 // A core on which a purchase has started, and a sale in room that was made before, with the number of the sale.
-fn sale_in_room<H: Abort>(rt: &H, alloc: Global) -> Result<(Core, u32), Fail> {
-    let catalog = catalog(alloc)?;
-    let plan = planned(alloc, SALE, &catalog)?;
-    let mut core = started(alloc, &catalog, &[PURCHASE])?;
+fn sale_in_room<H: Abort>(rt: &H, alloc: Global) -> (Core, u32) {
+    let catalog = catalog(rt, alloc);
+    let plan = planned(rt, alloc, SALE, &catalog);
+    let mut core = started(rt, alloc, &catalog, &[PURCHASE]);
     let number = start_in_room(rt, &mut core, plan);
-    Ok((core, number))
+    (core, number)
 }
 
 // Two processes have started, and nothing else happened.
@@ -73,11 +74,10 @@ const SOLD: &[(Call, Answer)] = &[
 ];
 
 #[test]
-fn a_process_starts_in_room_that_was_made_before(rt: HostRuntime) -> Result<(), Fail> {
+fn a_process_starts_in_room_that_was_made_before(rt: HostRuntime) {
     let alloc = rt.alloc();
-    let (mut core, number) = sale_in_room(&rt, alloc)?;
+    let (mut core, number) = sale_in_room(&rt, alloc);
     assert_eq!(rt; number, 2);
     expect_two_starts(&rt, &core);
     expect_answers(&rt, alloc, &mut core, "started in room", &[], SOLD);
-    Ok(())
 }

@@ -9,25 +9,36 @@ use process_tree::Conflicts;
 use schedule_model::{Events, History, Plans};
 use std::alloc::Global;
 use std::process::Abort;
-use std::test::Fail;
 
 // A core that opens on the history of another of one process.
-fn opened_again(alloc: Global, core: &Core, conflicts: Conflicts) -> Result<Core, Fail>
+fn opened_again(rt: &impl Abort, alloc: Global, core: &Core, conflicts: Conflicts) -> Core
     requires { conflicts ≡ core.now.conflicts }
 {
     core.run_holds();
     let history = core.history();
     let [plan] = history.plans.as_slice() else {
-        return Err("not one process".into());
+        panic!(rt; "not one process");
+    };
+    let Ok(copy) = plan.copy(alloc) else {
+        panic!(rt; "no memory");
     };
     let mut plans = Vec::new(alloc);
-    plans.push(plan.copy(alloc)?)?;
-    let events = history.events.as_slice().to_vec(alloc)?;
-    let again = History {
-        plans: Plans::new(plans)?,
-        events: Events::new(events)?,
+    let Ok(()) = plans.push(copy) else {
+        panic!(rt; "no memory");
     };
-    Ok(Core::open(alloc, again, conflicts)?)
+    let Ok(events) = history.events.as_slice().to_vec(alloc) else {
+        panic!(rt; "no memory");
+    };
+    let Ok(plans) = Plans::new(plans) else {
+        panic!(rt; "no memory");
+    };
+    let Ok(events) = Events::new(events) else {
+        panic!(rt; "no memory");
+    };
+    let Ok(again) = Core::open(alloc, History { plans, events }, conflicts) else {
+        panic!(rt; "no memory");
+    };
+    again
 }
 
 const FIRST: [(Call, Answer); 6] = [
@@ -51,21 +62,20 @@ const LATER: [(Call, Answer); 8] = [
 ];
 
 // A core of a second session, on the history of a first.
-fn second_session<H: Abort>(rt: &H, alloc: Global) -> Result<Core, Fail> {
-    let catalog = catalog(alloc)?;
+fn second_session<H: Abort>(rt: &H, alloc: Global) -> Core {
+    let catalog = catalog(rt, alloc);
     let texts: [&[u8]; 1] = [b"process a p x pay 1 5 r y ship 1 1 tries 3 end"];
-    let mut core = started(alloc, &catalog, &texts)?;
+    let mut core = started(rt, alloc, &catalog, &texts);
     expect_answers(rt, alloc, &mut core, "the first session", &[], &FIRST);
     let Ok(conflicts) = catalog.conflicts.copy(alloc) else {
         panic!(rt; "no memory");
     };
-    opened_again(alloc, &core, conflicts)
+    opened_again(rt, alloc, &core, conflicts)
 }
 
 #[test]
-fn each_session_counts_its_own_tries(rt: HostRuntime) -> Result<(), Fail> {
+fn each_session_counts_its_own_tries(rt: HostRuntime) {
     let alloc = rt.alloc();
-    let mut later = second_session(&rt, alloc)?;
+    let mut later = second_session(&rt, alloc);
     expect_answers(&rt, alloc, &mut later, "the later session", &[], &LATER);
-    Ok(())
 }

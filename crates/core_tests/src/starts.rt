@@ -1,5 +1,5 @@
 // Processes start from their text, over a catalog of nine operations.
-ghost use Rattle.std.specs.Prelude.{◌≡◌, ◌<◌, None, IfOk};
+ghost use Rattle.std.specs.Prelude.{◌≡◌, ◌<◌, None};
 ghost use Rattle.process_tree.specs.Conflicts.{operations_in};
 ghost use Rattle.process_tree.specs.Making.{tree_fault};
 ghost use Rattle.process_tree.specs.Order.{Each};
@@ -12,7 +12,7 @@ use process_text::read;
 use process_tree::{Conflicts, Named, Plan};
 use schedule_model::{Events, History, Plans};
 use std::alloc::Global;
-use std::test::Fail;
+use std::process::Abort;
 use well_formed::{Verdict, check};
 
 pub const ADD: u16 = 0;
@@ -53,85 +53,94 @@ const CATALOG: &[u8] = b"\x02\x09\x00\
 \x00\x00\
 \x00";
 
-pub fn catalog(alloc: Global) -> Result<Catalog, Fail>
-    ensures { IfOk result IsCatalog }
+pub fn catalog(rt: &impl Abort, alloc: Global) -> Catalog
+    ensures { IsCatalog result }
 {
     let Ok(catalog) = read_catalog(alloc, CATALOG) else {
-        return Err("no catalog".into());
+        panic!(rt; "no catalog");
     };
-    Ok(catalog)
+    catalog
 }
 
 /// A core on which nothing has happened.
-pub fn opened(alloc: Global, conflicts: Conflicts) -> Result<Core, Fail>
-    ensures { IfOk result (λ core. core.conflicts ≡ conflicts) }
+pub fn opened(rt: &impl Abort, alloc: Global, conflicts: Conflicts) -> Core
+    ensures { result.conflicts ≡ conflicts }
 {
-    let plans = Plans::new(Vec::new(alloc))?;
-    let events = Events::new(Vec::new(alloc))?;
-    Ok(Core::open(alloc, History { plans, events }, conflicts)?)
+    let Ok(plans) = Plans::new(Vec::new(alloc)) else {
+        panic!(rt; "no memory");
+    };
+    let Ok(events) = Events::new(Vec::new(alloc)) else {
+        panic!(rt; "no memory");
+    };
+    let Ok(core) = Core::open(alloc, History { plans, events }, conflicts) else {
+        panic!(rt; "no memory");
+    };
+    core
 }
 
 // The plan of a process that can't get stuck.
-fn plan(alloc: Global, named: Named, catalog: &Catalog) -> Result<Plan, Fail>
+fn plan(rt: &impl Abort, alloc: Global, named: Named, catalog: &Catalog) -> Plan
     requires catalog { IsCatalog catalog.now }
     requires tree { tree_fault named.tree ≡ None }
-    ensures good { IfOk result IsGoodPlan }
-    ensures known { IfOk result (λ plan. Each (λ op. op < operations_in catalog.now.conflicts) plan.ops) }
+    ensures good { IsGoodPlan result }
+    ensures known { Each (λ op. op < operations_in catalog.now.conflicts) result.ops }
 {
     let Verdict::Good = check(alloc, &named.tree) else {
-        return Err("not well-formed".into());
+        panic!(rt; "not well-formed");
     };
     let Ok(plan) = bind(alloc, named, catalog) else {
-        return Err("unknown operation".into());
+        panic!(rt; "unknown operation");
     };
-    Ok(plan)
+    plan
 }
 
 // The process of a text.
-fn process(alloc: Global, text: &[u8]) -> Result<Named, Fail>
-    ensures { IfOk result (λ named. tree_fault named.tree ≡ None) }
+fn process(rt: &impl Abort, alloc: Global, text: &[u8]) -> Named
+    ensures { tree_fault result.tree ≡ None }
 {
     let Ok(mut found) = read(alloc, text) else {
-        return Err("no process text".into());
+        panic!(rt; "no process text");
     };
     let Some(last) = found.pop() else {
-        return Err("no process".into());
+        panic!(rt; "no process");
     };
-    Ok(last)
+    last
 }
 
 /// The plan of the process of a text.
-pub fn planned(alloc: Global, text: &[u8], catalog: &Catalog) -> Result<Plan, Fail>
+pub fn planned(rt: &impl Abort, alloc: Global, text: &[u8], catalog: &Catalog) -> Plan
     requires catalog { IsCatalog catalog.now }
-    ensures good { IfOk result IsGoodPlan }
-    ensures known { IfOk result (λ plan. Each (λ op. op < operations_in catalog.now.conflicts) plan.ops) }
+    ensures good { IsGoodPlan result }
+    ensures known { Each (λ op. op < operations_in catalog.now.conflicts) result.ops }
 {
-    let named = process(alloc, text)?;
-    plan(alloc, named, catalog)
+    let named = process(rt, alloc, text);
+    plan(rt, alloc, named, catalog)
 }
 
 /// Starts the process of a text.
-pub fn start(alloc: Global, core: &mut Core, text: &[u8], catalog: &Catalog) -> Result<u32, Fail>
+pub fn start(rt: &impl Abort, alloc: Global, core: &mut Core, text: &[u8], catalog: &Catalog) -> u32
     requires catalog { IsCatalog catalog.now }
     requires conflicts { core.old.conflicts ≡ catalog.now.conflicts }
-    ensures { IfOk result (λ i. core.new.conflicts ≡ catalog.now.conflicts) }
+    ensures { core.new.conflicts ≡ catalog.now.conflicts }
 {
-    let plan = planned(alloc, text, catalog)?;
-    match core.start(plan) {
-        Ok(number) => Ok(number),
-        Err(_) => Err("not started".into()),
-    }
+    let plan = planned(rt, alloc, text, catalog);
+    let Ok(number) = core.start(plan) else {
+        panic!(rt; "not started");
+    };
+    number
 }
 
 /// A core on which the processes of these texts have started.
-pub fn started(alloc: Global, catalog: &Catalog, texts: &[&[u8]]) -> Result<Core, Fail>
+pub fn started(rt: &impl Abort, alloc: Global, catalog: &Catalog, texts: &[&[u8]]) -> Core
     requires catalog { IsCatalog catalog.now }
-    ensures { IfOk result (λ core. core.conflicts ≡ catalog.now.conflicts) }
+    ensures { result.conflicts ≡ catalog.now.conflicts }
 {
-    let conflicts = catalog.conflicts.copy(alloc)?;
-    let mut core = opened(alloc, conflicts)?;
+    let Ok(conflicts) = catalog.conflicts.copy(alloc) else {
+        panic!(rt; "no memory");
+    };
+    let mut core = opened(rt, alloc, conflicts);
     for text in texts {
-        start(alloc, &mut core, text, catalog)?;
+        start(rt, alloc, &mut core, text, catalog);
     }
-    Ok(core)
+    core
 }

@@ -4,7 +4,6 @@ use crate::plays::{FIRST_STEPS, Happens, Play, expect_plays};
 use crate::starts::{ADD, BOOK, NOTE, PAY, PURCHASE, SALE, SHIP, TAKE};
 use machine_model::Rule;
 use process_core::{Aborted, Cause, Refusal, Work};
-use std::test::Fail;
 
 const WAITING: [Play; 7] = [
     Play {
@@ -164,6 +163,6 @@ const WAITING: [Play; 7] = [
 ];
 
 #[test]
-fn processes_wait_by_the_rules(rt: HostRuntime) -> Result<(), Fail> {
-    expect_plays(&rt, rt.alloc(), &WAITING)
+fn processes_wait_by_the_rules(rt: HostRuntime) {
+    expect_plays(&rt, rt.alloc(), &WAITING);
 }
