@@ -13,7 +13,7 @@ use process_text::read;
 use process_tree::{Named, Plan};
 use resource_box::Resource;
 use std::alloc::Global;
-use std::test::Fail;
+use std::process::Abort;
 use well_formed::{Verdict, check};
 
 // A table of six operations: version and count, then each with its subsystem and verb, and then the pairs of each with itself and
@@ -32,26 +32,38 @@ const CATALOG: &[u8] = b"\x01\x06\x00\
 \x01\x00\
 \x01";
 
-fn catalog(alloc: Global) -> Result<Catalog, Fail>
-    ensures { IfOk result IsCatalog }
+/// What was to be had: memory is never wanting here, and no call fails.
+pub fn must<T: Drop, E: Drop>(rt: &impl Abort, found: Result<T, E>) -> T {
+    match found {
+        Ok(value) => value,
+        Err(_) => panic!(rt; "no memory, or a failed call"),
+    }
+}
+
+fn catalog(rt: &impl Abort, alloc: Global) -> Catalog
+    ensures { IsCatalog result }
 {
     let Ok(catalog) = read_catalog(alloc, CATALOG) else {
-        return Err("no catalog".into());
+        panic!(rt; "no catalog");
     };
-    Ok(catalog)
+    catalog
 }
 
 /// An engine in which nothing has happened.
-pub fn created<B: Resource>(alloc: Global, resources: Vec<B>) -> Result<Engine<MemoryRack, B>, Fail>
+pub fn created<H: Abort, B: Resource>(
+    rt: &H,
+    alloc: Global,
+    resources: Vec<B>,
+) -> Engine<MemoryRack, B>
     requires { AreBoxes B.sort resources.items }
-    ensures { IfOk result (IsReady B.Resource) }
+    ensures { IsReady B.Resource result }
 {
-    let catalog = catalog(alloc)?;
-    let rack = MemoryRack::new(alloc, Vec::new(alloc))?;
-    match Engine::create(alloc, Parts { rack, resources }, catalog) {
-        Ok(engine) => Ok(engine),
-        Err(_) => Err("not created".into()),
-    }
+    let catalog = catalog(rt, alloc);
+    let rack = must(rt, MemoryRack::new(alloc, Vec::new(alloc)));
+    let Ok(engine) = Engine::create(alloc, Parts { rack, resources }, catalog) else {
+        panic!(rt; "not created");
+    };
+    engine
 }
 
 /// An engine on the history of the files of a rack, or why there is none.
@@ -68,74 +80,77 @@ pub fn opened<B: Resource>(
 }
 
 // The process of a text.
-fn process(alloc: Global, text: &[u8]) -> Result<Named, Fail>
-    ensures { IfOk result (λ named. tree_fault named.tree ≡ None) }
+fn process(rt: &impl Abort, alloc: Global, text: &[u8]) -> Named
+    ensures { tree_fault result.tree ≡ None }
 {
     let Ok(mut found) = read(alloc, text) else {
-        return Err("no process text".into());
+        panic!(rt; "no process text");
     };
     let Some(last) = found.pop() else {
-        return Err("no process".into());
+        panic!(rt; "no process");
     };
-    Ok(last)
+    last
 }
 
 // The plan of a process that can't get stuck.
-fn plan(alloc: Global, named: Named, catalog: &Catalog) -> Result<Plan, Fail>
+fn plan(rt: &impl Abort, alloc: Global, named: Named, catalog: &Catalog) -> Plan
     requires catalog { IsCatalog catalog.now }
     requires tree { tree_fault named.tree ≡ None }
-    ensures { IfOk result (IsPlanFor catalog.now) }
+    ensures { IsPlanFor catalog.now result }
 {
     let Verdict::Good = check(alloc, &named.tree) else {
-        return Err("not well-formed".into());
+        panic!(rt; "not well-formed");
     };
     let Ok(plan) = bind(alloc, named, catalog) else {
-        return Err("unknown operation".into());
+        panic!(rt; "unknown operation");
     };
-    Ok(plan)
+    plan
 }
 
 /// The plan of the process of a text, under the catalog of an engine.
-pub fn planned<R: Rack + Drop, B: Resource>(
+pub fn planned<H: Abort, R: Rack + Drop, B: Resource>(
+    rt: &H,
     alloc: Global,
     engine: &Engine<R, B>,
     text: &[u8],
-) -> Result<Plan, Fail>
-    ensures { IfOk result (IsPlanFor engine.now.catalog) }
+) -> Plan
+    ensures { IsPlanFor engine.now.catalog result }
 {
     engine.invariant_holds();
-    let named = process(alloc, text)?;
-    plan(alloc, named, engine.catalog())
+    let named = process(rt, alloc, text);
+    plan(rt, alloc, named, engine.catalog())
 }
 
 /// The process of a text starts.
-pub fn start<R: Rack + Drop, B: Resource>(
+pub fn start<H: Abort, R: Rack + Drop, B: Resource>(
+    rt: &H,
     alloc: Global,
     engine: &mut Engine<R, B>,
     text: &[u8],
-) -> Result<u32, Fail>
+) -> u32
     requires { IsReady B.Resource engine.old }
-    ensures { IfOk result (λ _. IsReady B.Resource engine.new) }
+    ensures { IsReady B.Resource engine.new }
 {
-    let plan = planned(alloc, engine, text)?;
+    let plan = planned(rt, alloc, engine, text);
     let Ok(number) = engine.start(alloc, plan) else {
-        return Err("not started".into());
+        panic!(rt; "not started");
     };
-    Ok(number)
+    number
 }
 
 /// An engine in which the processes of these texts have started too.
-pub fn start_all<R: Rack + Drop, B: Resource>(
+pub fn start_all<H: Abort, R: Rack + Drop, B: Resource>(
+    rt: &H,
     alloc: Global,
     engine: Engine<R, B>,
     texts: &[&[u8]],
-) -> Result<Engine<R, B>, Fail>
+) -> Engine<R, B>
     requires { IsReady B.Resource engine }
-    ensures { IfOk result (IsReady B.Resource) }
+    ensures { IsReady B.Resource result }
 {
     let mut engine = engine;
     for text in texts {
-        start(alloc, &mut engine, text)?;
+        start(rt, alloc, &mut engine, text);
     }
-    Ok(engine)
+    engine
 }

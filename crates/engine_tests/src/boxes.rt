@@ -1,42 +1,54 @@
 // The boxes of eight subsystems.
-ghost use Rattle.std.specs.Prelude.{◌≡◌, IfOk};
+ghost use Rattle.std.specs.Prelude.{◌≡◌};
 ghost use Rattle.resource_box.specs.declared.call.Kind.TheVariants as kind;
 ghost use Rattle.history_files.specs.Boxes.{AreBoxes};
 
 use resource_box::{Cells, Counters, Resource, Seats};
 use std::alloc::Global;
-use std::test::Fail;
+use std::process::Abort;
 
-fn counters(alloc: Global) -> Result<Box<dyn Resource + Send>, Fail>
-    ensures { IfOk result (λ b. sort b ≡ kind.Counters) }
+fn counters(rt: &impl Abort, alloc: Global) -> Box<dyn Resource + Send>
+    ensures { sort result ≡ kind.Counters }
 {
-    Ok(Box::new(alloc, Counters::new(alloc))? as Box<dyn Resource + Send>)
+    let Ok(counters) = Box::new(alloc, Counters::new(alloc)) else {
+        panic!(rt; "no memory");
+    };
+    counters as Box<dyn Resource + Send>
 }
 
-fn cells(alloc: Global) -> Result<Box<dyn Resource + Send>, Fail>
-    ensures { IfOk result (λ b. sort b ≡ kind.Cells) }
+fn cells(rt: &impl Abort, alloc: Global) -> Box<dyn Resource + Send>
+    ensures { sort result ≡ kind.Cells }
 {
-    Ok(Box::new(alloc, Cells::new(alloc))? as Box<dyn Resource + Send>)
+    let Ok(cells) = Box::new(alloc, Cells::new(alloc)) else {
+        panic!(rt; "no memory");
+    };
+    cells as Box<dyn Resource + Send>
 }
 
-fn seats(alloc: Global) -> Result<Box<dyn Resource + Send>, Fail>
-    ensures { IfOk result (λ b. sort b ≡ kind.Seats) }
+fn seats(rt: &impl Abort, alloc: Global) -> Box<dyn Resource + Send>
+    ensures { sort result ≡ kind.Seats }
 {
-    Ok(Box::new(alloc, Seats::new(alloc))? as Box<dyn Resource + Send>)
+    let Ok(seats) = Box::new(alloc, Seats::new(alloc)) else {
+        panic!(rt; "no memory");
+    };
+    seats as Box<dyn Resource + Send>
 }
 
 /// The empty boxes of eight subsystems.
-pub fn boxes(alloc: Global) -> Result<Vec<Box<dyn Resource + Send>>, Fail>
-    ensures { IfOk result (λ boxes. AreBoxes (λ b. sort b) boxes.items) }
+pub fn boxes(rt: &impl Abort, alloc: Global) -> Vec<Box<dyn Resource + Send>>
+    ensures { AreBoxes (λ b. sort b) result.items }
 {
-    let mut boxes = Vec::new(alloc);
-    boxes.push(counters(alloc)?)?;
-    boxes.push(counters(alloc)?)?;
-    boxes.push(counters(alloc)?)?;
-    boxes.push(counters(alloc)?)?;
-    boxes.push(cells(alloc)?)?;
-    boxes.push(cells(alloc)?)?;
-    boxes.push(seats(alloc)?)?;
-    boxes.push(seats(alloc)?)?;
-    Ok(boxes)
+    let Ok(boxes) = vec![in alloc;
+        counters(rt, alloc),
+        counters(rt, alloc),
+        counters(rt, alloc),
+        counters(rt, alloc),
+        cells(rt, alloc),
+        cells(rt, alloc),
+        seats(rt, alloc),
+        seats(rt, alloc),
+    ] else {
+        panic!(rt; "no memory");
+    };
+    boxes
 }

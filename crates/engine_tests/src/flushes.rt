@@ -1,5 +1,5 @@
 // Pieces that are queued and take effect together: what each queueing and flush says, and stops within each device call of a flush.
-ghost use Rattle.std.specs.Prelude.{◌≡◌, [], IfOk};
+ghost use Rattle.std.specs.Prelude.{◌≡◌, []};
 ghost use Rattle.history_files.specs.Boxes.{AreBoxes};
 ghost use Rattle.engine_calls.specs.GateAnswers.{IsGiven};
 ghost use Rattle.engine_calls.specs.Runs.{IsReady as IsReadyToRun};
@@ -17,7 +17,6 @@ use process_engine::{Answer, Engine, Parts};
 use resource_box::Resource;
 use std::alloc::Global;
 use std::process::Abort;
-use std::test::Fail;
 use worker_gate::PlainGate;
 
 fn said_of(reply: &Queue) -> Said {
@@ -137,18 +136,19 @@ fn after_turns<R: Rack + Drop, B: Resource>(engine: Engine<R, B>, turns: usize) 
 }
 
 // The processes of a row have started, and some have taken a turn.
-fn started<B: Resource>(
+fn started<H: Abort, B: Resource>(
+    rt: &H,
     alloc: Global,
     row: &Row,
     resources: Vec<B>,
-) -> Result<Engine<MemoryRack, B>, Fail>
+) -> Engine<MemoryRack, B>
     requires { AreBoxes B.sort resources.items }
-    ensures { IfOk result (IsReady B.Resource) }
+    ensures { IsReady B.Resource result }
 {
-    let engine = created(alloc, resources)?;
-    let engine = start_all(alloc, engine, row.ahead)?;
+    let engine = created(rt, alloc, resources);
+    let engine = start_all(rt, alloc, engine, row.ahead);
     let engine = after_turns(engine, row.ahead.len());
-    start_all(alloc, engine, row.beside)
+    start_all(rt, alloc, engine, row.beside)
 }
 
 // These lines are played at an engine where nothing is queued.
@@ -176,14 +176,16 @@ fn played<H: Abort, B: Resource>(
     row: &Row,
     lines: &[Line],
     resources: Vec<B>,
-) -> Result<Engine<MemoryRack, B>, Fail>
+) -> Engine<MemoryRack, B>
     requires { AreBoxes B.sort resources.items }
-    ensures { IfOk result (IsReadyToRun B.Resource) }
+    ensures { IsReadyToRun B.Resource result }
 {
-    let mut queued = Queued::new(alloc)?;
-    let mut engine = started(alloc, row, resources)?;
+    let Ok(mut queued) = Queued::new(alloc) else {
+        panic!(rt; "no memory");
+    };
+    let mut engine = started(rt, alloc, row, resources);
     play(rt, &mut engine, &mut queued, row, lines);
-    Ok(engine)
+    engine
 }
 
 // How many device calls come before the last line; the boxes are handed back.
@@ -192,16 +194,16 @@ fn calls_before<H: Abort, B: Resource>(
     alloc: Global,
     row: &Row,
     resources: Vec<B>,
-) -> Result<(u32, Vec<B>), Fail>
+) -> (u32, Vec<B>)
     requires { AreBoxes B.sort resources.items }
-    ensures { IfOk result (λ made. AreBoxes B.sort made.1.items) }
+    ensures { AreBoxes B.sort result.1.items }
 {
     let Some((_, before)) = row.lines.split_last() else {
-        return Err("no line".into());
+        panic!(rt; "no line");
     };
-    let engine = played(rt, alloc, row, before, resources)?;
+    let engine = played(rt, alloc, row, before, resources);
     let Parts { rack, resources } = engine.into_parts();
-    Ok((short(rt, rack.calls()), resources))
+    (short(rt, rack.calls()), resources)
 }
 
 // All lines of a row; the boxes are handed back.
@@ -210,26 +212,21 @@ fn whole_row<H: Abort, B: Resource>(
     alloc: Global,
     row: &Row,
     resources: Vec<B>,
-) -> Result<(Whole, Vec<B>), Fail>
+) -> (Whole, Vec<B>)
     requires { AreBoxes B.sort resources.items }
-    ensures { IfOk result (λ run. AreBoxes B.sort run.1.items) }
+    ensures { AreBoxes B.sort result.1.items }
 {
-    let (made, resources) = calls_before(rt, alloc, row, resources)?;
-    let engine = played(rt, alloc, row, row.lines, resources)?;
-    Ok(whole_of(rt, alloc, engine, made))
+    let (made, resources) = calls_before(rt, alloc, row, resources);
+    let engine = played(rt, alloc, row, row.lines, resources);
+    whole_of(rt, alloc, engine, made)
 }
 
 // Stops within each device call of the last line of a row.
-fn expect_row<H: Abort, B: Resource>(
-    rt: &H,
-    alloc: Global,
-    row: &Row,
-    resources: Vec<B>,
-) -> Result<Vec<B>, Fail>
+fn expect_row<H: Abort, B: Resource>(rt: &H, alloc: Global, row: &Row, resources: Vec<B>) -> Vec<B>
     requires { AreBoxes B.sort resources.items }
-    ensures { IfOk result (λ boxes. AreBoxes B.sort boxes.items) }
+    ensures { AreBoxes B.sort result.items }
 {
-    let (whole, resources) = whole_row(rt, alloc, row, resources)?;
+    let (whole, resources) = whole_row(rt, alloc, row, resources);
     let with = whole.events.len();
     let around = Around {
         before: with.wrapping_sub(row.size),
@@ -237,45 +234,31 @@ fn expect_row<H: Abort, B: Resource>(
     };
     let (next, resources) = expect_calls(
         rt, alloc, &whole, whole.made, around, row.lefts, resources,
-    )?;
+    );
     assert_eq!(rt; u64::from(next), whole.rack.calls(), "{}", row.name);
-    Ok(resources)
+    resources
 }
 
 // Stops within each device call of the last line of these rows.
-fn expect_rows<H: Abort, B: Resource>(
-    rt: &H,
-    alloc: Global,
-    rows: &[Row],
-    resources: Vec<B>,
-) -> Result<(), Fail>
+fn expect_rows<H: Abort, B: Resource>(rt: &H, alloc: Global, rows: &[Row], resources: Vec<B>)
     requires { AreBoxes B.sort resources.items }
 {
     let mut resources = resources;
     for row in rows {
-        resources = expect_row(rt, alloc, row, resources)?;
+        resources = expect_row(rt, alloc, row, resources);
     }
-    Ok(())
 }
 
 /// A stop within any device call of a flush leaves the history before or with the whole group.
-pub fn expect_groups<H: Abort, B: Resource>(
-    rt: &H,
-    alloc: Global,
-    resources: Vec<B>,
-) -> Result<(), Fail>
+pub fn expect_groups<H: Abort, B: Resource>(rt: &H, alloc: Global, resources: Vec<B>)
     requires { AreBoxes B.sort resources.items }
 {
-    expect_rows(rt, alloc, &GROUPS, resources)
+    expect_rows(rt, alloc, &GROUPS, resources);
 }
 
 /// A piece for which the group is full, and one that is dropped, keep nothing.
-pub fn expect_idle<H: Abort, B: Resource>(
-    rt: &H,
-    alloc: Global,
-    resources: Vec<B>,
-) -> Result<(), Fail>
+pub fn expect_idle<H: Abort, B: Resource>(rt: &H, alloc: Global, resources: Vec<B>)
     requires { AreBoxes B.sort resources.items }
 {
-    expect_rows(rt, alloc, &IDLE, resources)
+    expect_rows(rt, alloc, &IDLE, resources);
 }

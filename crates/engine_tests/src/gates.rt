@@ -1,8 +1,7 @@
 // Runs of one process with a gate: what each turn comes to.
-ghost use Rattle.std.specs.Prelude.{IfOk};
 ghost use Rattle.history_files.specs.Boxes.{AreBoxes};
 
-use crate::beginnings::{created, planned, start_all};
+use crate::beginnings::{created, must, planned, start_all};
 use crate::turns::{Turn, take_turn};
 use process_disk::Rack;
 use process_engine::{Engine, StartLimit, fits};
@@ -10,7 +9,6 @@ use process_tree::Plan;
 use resource_box::Resource;
 use std::alloc::Global;
 use std::process::Abort;
-use std::test::Fail;
 use worker_gate::{Gate, PlainGate, ScriptGate};
 
 struct Run {
@@ -112,50 +110,40 @@ fn expect_turns<H: Abort, B: Resource, G: Gate>(
     run: &Run,
     gate: &mut G,
     resources: Vec<B>,
-) -> Result<Vec<B>, Fail>
+) -> Vec<B>
     requires { AreBoxes B.sort resources.items }
-    ensures { IfOk result (λ boxes. AreBoxes B.sort boxes.items) }
+    ensures { AreBoxes B.sort result.items }
 {
-    let engine = created(alloc, resources)?;
-    let mut engine = start_all(alloc, engine, &[run.text])?;
+    let engine = created(rt, alloc, resources);
+    let mut engine = start_all(rt, alloc, engine, &[run.text]);
     for (place, wanted) in run.turns.iter().enumerate() {
         let came = take_turn(&mut engine, gate);
         assert_eq!(rt; came, *wanted, "{}, turn {place}", run.name);
     }
-    Ok(engine.into_parts().resources)
+    engine.into_parts().resources
 }
 
-fn expect_run<H: Abort, B: Resource>(
-    rt: &H,
-    alloc: Global,
-    run: &Run,
-    resources: Vec<B>,
-) -> Result<Vec<B>, Fail>
+fn expect_run<H: Abort, B: Resource>(rt: &H, alloc: Global, run: &Run, resources: Vec<B>) -> Vec<B>
     requires { AreBoxes B.sort resources.items }
-    ensures { IfOk result (λ boxes. AreBoxes B.sort boxes.items) }
+    ensures { AreBoxes B.sort result.items }
 {
     match run.refuse {
         None => expect_turns(rt, alloc, run, &mut PlainGate::new(), resources),
         Some(calls) => {
-            let mut gate = ScriptGate::new(calls.to_vec(alloc)?);
+            let mut gate = ScriptGate::new(must(rt, calls.to_vec(alloc)));
             expect_turns(rt, alloc, run, &mut gate, resources)
         }
     }
 }
 
 /// Gates refuse what they were told.
-pub fn expect_runs<H: Abort, B: Resource>(
-    rt: &H,
-    alloc: Global,
-    resources: Vec<B>,
-) -> Result<(), Fail>
+pub fn expect_runs<H: Abort, B: Resource>(rt: &H, alloc: Global, resources: Vec<B>)
     requires { AreBoxes B.sort resources.items }
 {
     let mut resources = resources;
     for run in &RUNS {
-        resources = expect_run(rt, alloc, run, resources)?;
+        resources = expect_run(rt, alloc, run, resources);
     }
-    Ok(())
 }
 
 const FIRST: &[u8] = b"process a c x add 1 5 end";
@@ -171,16 +159,11 @@ fn limit_with<R: Rack + Drop, B: Resource>(
 }
 
 /// A process fits beside another.
-pub fn expect_room<H: Abort, B: Resource>(
-    rt: &H,
-    alloc: Global,
-    resources: Vec<B>,
-) -> Result<(), Fail>
+pub fn expect_room<H: Abort, B: Resource>(rt: &H, alloc: Global, resources: Vec<B>)
     requires { AreBoxes B.sort resources.items }
 {
-    let engine = created(alloc, resources)?;
-    let engine = start_all(alloc, engine, &[FIRST])?;
-    let plan = planned(alloc, &engine, SECOND)?;
+    let engine = created(rt, alloc, resources);
+    let engine = start_all(rt, alloc, engine, &[FIRST]);
+    let plan = planned(rt, alloc, &engine, SECOND);
     assert_eq!(rt; limit_with(&engine, plan), Ok(()));
-    Ok(())
 }

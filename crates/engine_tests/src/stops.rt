@@ -1,17 +1,15 @@
 // Stops within each device call of a run of three processes that conflict: one is done, one goes back and drags the third along.
-ghost use Rattle.std.specs.Prelude.{IfOk};
 ghost use Rattle.history_files.specs.Boxes.{AreBoxes};
 ghost use Rattle.history_files.specs.Standing.{EachFits};
 
-use crate::beginnings::{created, opened, start_all};
+use crate::beginnings::{created, must, opened, start_all};
 use crate::turns::{Turn, take_turns};
 use process_disk::{MemoryRack, Rack};
 use process_engine::{Engine, Parts};
 use resource_box::Resource;
 use schedule_model::Event;
-use std::alloc::{AllocError, Global};
+use std::alloc::Global;
 use std::process::Abort;
-use std::test::Fail;
 use subsystem_store::Effect;
 use worker_gate::PlainGate;
 
@@ -115,15 +113,17 @@ fn count_after(around: Around, left: Left, stop: Stop) -> usize {
     }
 }
 
-fn books_of<R: Rack + Drop, B: Resource>(
+fn books_of<H: Abort, R: Rack + Drop, B: Resource>(
+    rt: &H,
     alloc: Global,
     engine: &Engine<R, B>,
-) -> Result<Vec<Vec<Effect>>, AllocError> {
+) -> Vec<Vec<Effect>> {
     let mut books = Vec::new(alloc);
     for q in 0..8 {
-        books.push(engine.book(q).to_vec(alloc)?)?;
+        let book = must(rt, engine.book(q).to_vec(alloc));
+        must(rt, books.push(book));
     }
-    Ok(books)
+    books
 }
 
 /// A count that is small.
@@ -133,17 +133,13 @@ pub fn short<H: Abort>(rt: &H, count: u64) -> u32 {
 }
 
 // How many device calls make nine files; the boxes are handed back.
-fn calls_to_create<H: Abort, B: Resource>(
-    rt: &H,
-    alloc: Global,
-    resources: Vec<B>,
-) -> Result<(u32, Vec<B>), Fail>
+fn calls_to_create<H: Abort, B: Resource>(rt: &H, alloc: Global, resources: Vec<B>) -> (u32, Vec<B>)
     requires { AreBoxes B.sort resources.items }
-    ensures { IfOk result (λ made. AreBoxes B.sort made.1.items) }
+    ensures { AreBoxes B.sort result.1.items }
 {
-    let engine = created(alloc, resources)?;
+    let engine = created(rt, alloc, resources);
     let Parts { rack, resources } = engine.into_parts();
-    Ok((short(rt, rack.calls()), resources))
+    (short(rt, rack.calls()), resources)
 }
 
 /// A run that has come to its end; the boxes are handed back.
@@ -156,12 +152,8 @@ pub fn whole_of<H: Abort, B: Resource>(
     requires { EachFits B.Resource engine.files.stores }
     ensures { AreBoxes B.sort result.1.items }
 {
-    let Ok(events) = engine.history().events.as_slice().to_vec(alloc) else {
-        panic!(rt; "no memory");
-    };
-    let Ok(books) = books_of(alloc, &engine) else {
-        panic!(rt; "no memory");
-    };
+    let events = must(rt, engine.history().events.as_slice().to_vec(alloc));
+    let books = books_of(rt, alloc, &engine);
     let Parts { rack, resources } = engine.into_parts();
     let whole = Whole {
         events,
@@ -172,20 +164,16 @@ pub fn whole_of<H: Abort, B: Resource>(
     (whole, resources)
 }
 
-fn whole_run<H: Abort, B: Resource>(
-    rt: &H,
-    alloc: Global,
-    resources: Vec<B>,
-) -> Result<(Whole, Vec<B>), Fail>
+fn whole_run<H: Abort, B: Resource>(rt: &H, alloc: Global, resources: Vec<B>) -> (Whole, Vec<B>)
     requires { AreBoxes B.sort resources.items }
-    ensures { IfOk result (λ run. AreBoxes B.sort run.1.items) }
+    ensures { AreBoxes B.sort result.1.items }
 {
-    let (made, resources) = calls_to_create(rt, alloc, resources)?;
-    let engine = created(alloc, resources)?;
-    let mut engine = start_all(alloc, engine, &TEXTS)?;
+    let (made, resources) = calls_to_create(rt, alloc, resources);
+    let engine = created(rt, alloc, resources);
+    let mut engine = start_all(rt, alloc, engine, &TEXTS);
     let end = take_turns(&mut engine, &mut PlainGate::new(), MOST_TURNS);
     assert_eq!(rt; end, Turn::AllEnded);
-    Ok(whole_of(rt, alloc, engine, made))
+    whole_of(rt, alloc, engine, made)
 }
 
 // The book has the effects of so many acts of the whole run.
@@ -256,13 +244,13 @@ fn expect_stop<H: Abort, B: Resource>(
     stop: Stop,
     count: usize,
     resources: Vec<B>,
-) -> Result<Vec<B>, Fail>
+) -> Vec<B>
     requires { AreBoxes B.sort resources.items }
-    ensures { IfOk result (λ boxes. AreBoxes B.sort boxes.items) }
+    ensures { AreBoxes B.sort result.items }
 {
     let Stop { call, keep, fill } = stop;
     assert!(rt; u64::from(call) < whole.rack.calls());
-    let rack = whole.rack.stopped(alloc, call, keep, fill)?;
+    let rack = must(rt, whole.rack.stopped(alloc, call, keep, fill));
     let Ok(mut engine) = opened(alloc, rack, resources) else {
         panic!(rt; "not opened: {stop:?}");
     };
@@ -270,7 +258,7 @@ fn expect_stop<H: Abort, B: Resource>(
     let end = take_turns(&mut engine, &mut PlainGate::new(), MOST_TURNS);
     assert_eq!(rt; end, Turn::AllEnded, "{stop:?}");
     expect_ended(rt, &engine, stop);
-    Ok(engine.into_parts().resources)
+    engine.into_parts().resources
 }
 
 // Stops within a device call.
@@ -282,9 +270,9 @@ fn expect_stops<H: Abort, B: Resource>(
     around: Around,
     left: Left,
     resources: Vec<B>,
-) -> Result<Vec<B>, Fail>
+) -> Vec<B>
     requires { AreBoxes B.sort resources.items }
-    ensures { IfOk result (λ boxes. AreBoxes B.sort boxes.items) }
+    ensures { AreBoxes B.sort result.items }
 {
     let mut resources = resources;
     for (keep, fill) in &KEEPS {
@@ -294,9 +282,9 @@ fn expect_stops<H: Abort, B: Resource>(
             fill: *fill,
         };
         let count = count_after(around, left, stop);
-        resources = expect_stop(rt, alloc, whole, stop, count, resources)?;
+        resources = expect_stop(rt, alloc, whole, stop, count, resources);
     }
-    Ok(resources)
+    resources
 }
 
 /// Stops within each device call of what is under way, the first of which has this number; the number of the next.
@@ -308,28 +296,24 @@ pub fn expect_calls<H: Abort, B: Resource>(
     around: Around,
     lefts: &[Left],
     resources: Vec<B>,
-) -> Result<(u32, Vec<B>), Fail>
+) -> (u32, Vec<B>)
     requires { AreBoxes B.sort resources.items }
-    ensures { IfOk result (λ next. AreBoxes B.sort next.1.items) }
+    ensures { AreBoxes B.sort result.1.items }
 {
     let mut resources = resources;
     let mut call = first;
     for left in lefts {
-        resources = expect_stops(rt, alloc, whole, call, around, *left, resources)?;
+        resources = expect_stops(rt, alloc, whole, call, around, *left, resources);
         call = call.wrapping_add(1);
     }
-    Ok((call, resources))
+    (call, resources)
 }
 
 /// A stop within any device call leaves the history before or with the event under way.
-pub fn expect_any_stop<H: Abort, B: Resource>(
-    rt: &H,
-    alloc: Global,
-    resources: Vec<B>,
-) -> Result<(), Fail>
+pub fn expect_any_stop<H: Abort, B: Resource>(rt: &H, alloc: Global, resources: Vec<B>)
     requires { AreBoxes B.sort resources.items }
 {
-    let (whole, resources) = whole_run(rt, alloc, resources)?;
+    let (whole, resources) = whole_run(rt, alloc, resources);
     let mut resources = resources;
     let mut call = whole.made;
     for (count, event) in whole.events.iter().enumerate() {
@@ -338,10 +322,9 @@ pub fn expect_any_stop<H: Abort, B: Resource>(
             before: count,
             with: count.wrapping_add(1),
         };
-        let (next, boxes) = expect_calls(rt, alloc, &whole, call, around, lefts, resources)?;
+        let (next, boxes) = expect_calls(rt, alloc, &whole, call, around, lefts, resources);
         call = next;
         resources = boxes;
     }
     assert_eq!(rt; u64::from(call), whole.rack.calls());
-    Ok(())
 }

@@ -8,7 +8,6 @@ use crate::stops::expect_any_stop;
 use resource_box::Resource;
 use std::alloc::Global;
 use std::process::Abort;
-use std::test::Fail;
 
 #[derive(Clone, Copy)]
 enum Test {
@@ -20,12 +19,7 @@ enum Test {
 }
 
 // A test with these boxes.
-fn run<H: Abort>(
-    rt: &H,
-    alloc: Global,
-    test: Test,
-    boxes: Vec<Box<dyn Resource + Send>>,
-) -> Result<(), Fail>
+fn run<H: Abort>(rt: &H, alloc: Global, test: Test, boxes: Vec<Box<dyn Resource + Send>>)
     requires { AreBoxes (λ b. sort b) boxes.items }
 {
     match test {
@@ -38,36 +32,34 @@ fn run<H: Abort>(
 }
 
 // A test with the boxes of eight subsystems.
-fn with_boxes<H: Abort>(rt: &H, alloc: Global, test: Test) -> Result<(), Fail> {
-    let boxes = boxes(alloc)?;
-    run(rt, alloc, test, boxes)
+fn with_boxes<H: Abort>(rt: &H, alloc: Global, test: Test) {
+    let boxes = boxes(rt, alloc);
+    run(rt, alloc, test, boxes);
 }
 
 #[test]
-fn a_process_fits_beside_another(rt: HostRuntime) -> Result<(), Fail> {
-    with_boxes(&rt, rt.alloc(), Test::Room)
+fn a_process_fits_beside_another(rt: HostRuntime) {
+    with_boxes(&rt, rt.alloc(), Test::Room);
 }
 
 #[test]
-fn gates_refuse_what_they_were_told(rt: HostRuntime) -> Result<(), Fail> {
-    with_boxes(&rt, rt.alloc(), Test::Runs)
+fn gates_refuse_what_they_were_told(rt: HostRuntime) {
+    with_boxes(&rt, rt.alloc(), Test::Runs);
 }
 
 #[test]
-fn a_stop_within_any_device_call_leaves_the_history_before_or_with_the_event(
-    rt: HostRuntime,
-) -> Result<(), Fail> {
-    with_boxes(&rt, rt.alloc(), Test::Stops)
+fn a_stop_within_any_device_call_leaves_the_history_before_or_with_the_event(rt: HostRuntime) {
+    with_boxes(&rt, rt.alloc(), Test::Stops);
 }
 
 #[test]
 fn a_stop_within_any_device_call_of_a_flush_leaves_the_history_before_or_with_the_whole_group(
     rt: HostRuntime,
-) -> Result<(), Fail> {
-    with_boxes(&rt, rt.alloc(), Test::Groups)
+) {
+    with_boxes(&rt, rt.alloc(), Test::Groups);
 }
 
 #[test]
-fn a_piece_that_is_full_or_dropped_keeps_nothing(rt: HostRuntime) -> Result<(), Fail> {
-    with_boxes(&rt, rt.alloc(), Test::Idle)
+fn a_piece_that_is_full_or_dropped_keeps_nothing(rt: HostRuntime) {
+    with_boxes(&rt, rt.alloc(), Test::Idle);
 }

@@ -1,7 +1,7 @@
 // Two workers at one engine.
 ghost use Rattle.history_files.specs.Boxes.{AreBoxes};
 
-use crate::beginnings::{created, start_all};
+use crate::beginnings::{created, must, start_all};
 use crate::boxes::boxes;
 use process_disk::Rack;
 use process_engine::Engine;
@@ -9,7 +9,6 @@ use resource_box::Resource;
 use std::alloc::Global;
 use std::process::Abort;
 use std::sync::Wait;
-use std::test::Fail;
 use std::thread::Threads;
 use thread_workers::{MeetingGate, Ran, run_workers};
 use worker_gate::RunOutcome;
@@ -31,13 +30,15 @@ fn expect_meeting<H: Abort + Threads + Wait + Sync, B: Resource + Send>(
     rt: &H,
     alloc: Global,
     resources: Vec<B>,
-) -> Result<(), Fail>
+)
     requires { AreBoxes B.sort resources.items }
 {
-    let (one, other) = MeetingGate::pair(alloc, LOOKS)?;
-    let gates = vec![in alloc; one, other]?;
-    let engine = created(alloc, resources)?;
-    let engine = start_all(alloc, engine, &TEXTS)?;
+    let (one, other) = must(rt, MeetingGate::pair(alloc, LOOKS));
+    let Ok(gates) = vec![in alloc; one, other] else {
+        panic!(rt; "no memory");
+    };
+    let engine = created(rt, alloc, resources);
+    let engine = start_all(rt, alloc, engine, &TEXTS);
     let Ok(()) = engine.not_closed() else {
         panic!(rt; "closed");
     };
@@ -49,12 +50,11 @@ fn expect_meeting<H: Abort + Threads + Wait + Sync, B: Resource + Send>(
     assert_eq!(rt; outcome, RunOutcome::AllEnded, "the outcome");
     assert_eq!(rt; gates.len(), 2, "the gates");
     expect_both(rt, &engine);
-    Ok(())
 }
 
 #[test]
-fn two_workers_meet(rt: HostRuntime) -> Result<(), Fail> {
+fn two_workers_meet(rt: HostRuntime) {
     let alloc = rt.alloc();
-    let boxes = boxes(alloc)?;
-    expect_meeting(&rt, alloc, boxes)
+    let boxes = boxes(&rt, alloc);
+    expect_meeting(&rt, alloc, boxes);
 }
