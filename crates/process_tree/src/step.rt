@@ -1,6 +1,6 @@
 // Steps of a process.
 ghost use Rattle.std.specs.Prelude.{◌≡◌};
-ghost use Rattle.process_tree.specs.Shape.{commits_by_kind, can_be_refused, can_be_undone};
+ghost use Rattle.process_tree.specs.Shape.{commits_by_kind, can_be_refused};
 
 use crate::Name;
 use plain_list::Items;
@@ -37,16 +37,6 @@ impl StepKind {
         match self {
             StepKind::C | StepKind::P => true,
             StepKind::R | StepKind::Cr => false,
-        }
-    }
-
-    /// Whether a step of this kind can be undone, where it is no commit point.
-    pub fn can_be_undone(self) -> bool
-        ensures { result ≡ can_be_undone self }
-    {
-        match self {
-            StepKind::C | StepKind::Cr => true,
-            StepKind::P | StepKind::R => false,
         }
     }
 }
