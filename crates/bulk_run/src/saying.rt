@@ -1,8 +1,5 @@
 // What there is to say of a run.
 ghost use Rattle.std.specs.Prelude.{◌≡◌, ◌≢◌, ◌++◌, IfOk};
-ghost use Rattle.machine_model.specs.Calls.{next, next_is};
-ghost use Rattle.machine_model.specs.Replies.{stuck};
-ghost use Rattle.process_core.specs.Answers.{answer_in};
 ghost use Rattle.process_core.specs.Moments.{IsStuckIn};
 ghost use Rattle.engine_calls.specs.Runs.{IsReady};
 ghost use Rattle.worker_gate.specs.Running.{IsOutcome};
@@ -43,7 +40,6 @@ fn stuck_line<R: Rack + Drop, B: Resource>(
     i: u32,
 ) -> Result<Vec<u8>, AllocError>
     requires ready { IsReady B.Resource engine.old }
-    requires replied { (answer_in engine.old.core next).reply ≡ next_is (stuck i) }
     requires stuck { IsStuckIn engine.old.core i }
     ensures text { IfOk result (λ text. text.items ≡ line_in engine.old.core ++ exhausted_line engine.old.core i) }
     ensures used_up { HasUsedUp engine.old.core i }

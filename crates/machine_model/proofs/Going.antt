@@ -1,21 +1,22 @@
 -- Where no active process is exhausted, a request for any piece isn't answered that one is stuck: a victim makes nobody exhausted,
 -- and once all that are active have begun to complete, one of them is free.
-use Rattle.std.proofs.Common.{◌≡◌, ◌≢◌, ◌⊎◌, inl, inr, ⊎_elim, ℕ, zero, suc, Bool, true, false, not, eqb, ◌&&◌, if◌then◌else◌, List, [], ◌∷◌, length, map, filter, Option, Some, None, is_some, sym, refl, ap, subst, ◌∙◌, append-nil}
+use Rattle.std.proofs.Common.{◌≡◌, ◌≢◌, ◌⊎◌, inl, inr, ⊎_elim, ℕ, zero, suc, Bool, true, false, not, eqb, ◌&&◌, if◌then◌else◌, List, [], ◌∷◌, length, map, filter, Option, Some, None, is_some, unwrap_or, sym, refl, ap, subst, ◌∙◌, append-nil}
 use Rattle.std.specs.Bool.{IsTrue}
 use Rattle.std.specs.List.{list_any}
 use Rattle.std.specs.Option.{option_or}
 use Rattle.std.proofs.lemmas.Bool.{and_parts, and_from, or_cases, or_left, eq-eqb, eqb-true, not-true, false≢true}
 use Rattle.process_tree.specs.Order.{Each}
-use Rattle.process_tree.specs.Shape.{first_of}
+use Rattle.process_tree.specs.Shape.{first_of, least}
 use Rattle.process_tree.specs.declared.entry.Entry.{Entry}
 use Rattle.process_tree.specs.declared.plan.Plan.{Plan}
 use Rattle.process_tree.proofs.Every.{Each-weaker}
+use Rattle.process_tree.proofs.Numbers.{least_some}
 use Rattle.schedule_model.specs.declared.event.Event.{Event}
 use Rattle.schedule_model.specs.Course.{Course, course, courses_of}
 use Rattle.schedule_model.specs.Conflict.{ConflictRelation}
 use Rattle.schedule_model.specs.Histories.{active, ends, is_active, is_in, net, same_step, starts}
 use Rattle.schedule_model.specs.Laws.{AreGood}
-use Rattle.schedule_model.proofs.Active.{is_active-is_in}
+use Rattle.schedule_model.proofs.Active.{is_active-is_in, is_in-filter}
 use Rattle.machine_model.specs.declared.blocked.Blocked.{Blocked}
 use Rattle.machine_model.specs.declared.kept.Kept.TheVariants.{Victim}
 use Rattle.machine_model.specs.Moment.{Moment, has_begun, opening_moment}
@@ -25,7 +26,7 @@ use Rattle.machine_model.specs.State.{block_of, is_blocked, is_exhausted, is_pen
 use Rattle.machine_model.specs.Advance.{Machine, advance, advance_all}
 use Rattle.machine_model.specs.Runs.{goes_on_from, is_victim, may_be_kept, now}
 use Rattle.machine_model.specs.Replies.{all_victims, victim_then, victims}
-use Rattle.machine_model.specs.CallLaws.{IsStuck}
+use Rattle.machine_model.specs.CallLaws.{IsStuck, StuckIsExhausted}
 use Rattle.machine_model.specs.PieceLaws.{begun_where}
 use Rattle.machine_model.specs.Laws.{AllHaveBegun, IsSession, ProgressLaw, next_in_restart}
 use Rattle.machine_model.proofs.Allowances.{course_tries, left_at_first}
@@ -140,6 +141,21 @@ never_stuck table plans s session none k is =
         → IsTrue (is_exhausted s.courses (now table s) i) ⊎ (IsTrue (has_begun (now table s) i) × IsTrue (is_blocked table s.courses (now table s) i)) → ⊥
     by_either i active' free (inl ex) = false≢true (sym (none i active') ∙ ex)
     by_either i active' free (inr began) = not_blocked (is_exhausted s.courses (now table s) i) (block_of table s.courses (now table s) i) free began.1
+
+-- so whoever is stuck is the least exhausted process
+pub stuck_is_exhausted : StuckIsExhausted
+stuck_is_exhausted table plans s session i is = by_list (filter (is_exhausted s.courses (now table s)) (active (now table s).events)) refl
+  where
+    left_by : (k : ℕ) (t : Bool) → is_exhausted s.courses (now table s) k ≡ t → is_active (now table s).events k ≡ true → filter (is_exhausted s.courses (now table s)) (active (now table s).events) ≡ [] → is_exhausted s.courses (now table s) k ≡ false
+    left_by k false at goes none = at
+    left_by k true at goes none = absurd
+        (false≢true (ap (is_in k) (sym none) ∙ (is_in-filter (is_exhausted s.courses (now table s)) k (active (now table s).events) ∙ and_from (is_in k (active (now table s).events)) (is_exhausted s.courses (now table s) k) (is_active-is_in (now table s).events k ∙ goes) at)))
+
+    by_list : (ks : List ℕ) → filter (is_exhausted s.courses (now table s)) (active (now table s).events) ≡ ks → least (filter (is_exhausted s.courses (now table s)) (active (now table s).events)) ≡ Some i
+    by_list [] none = absurd (never_stuck table plans s session (λ k goes. left_by k (is_exhausted s.courses (now table s) k) refl goes none) i is)
+    by_list (k ∷ ks) some =
+        let found = least_some k ks in
+        ap least some ∙ (found.1 ∙ ap Some (sym (is.least ∙ (ap (λ (xs : List ℕ). unwrap_or (least xs) 0) some ∙ ap (λ o. unwrap_or o 0) found.1))))
 
 pub progress_law : ProgressLaw
 progress_law table plans s session none k answered' =

@@ -1,5 +1,7 @@
 -- The laws of calls and of turns, as statements.
-use Rattle.std.specs.Prelude.{◌≡◌, ◌≢◌, ◌⊎◌, ◌↔◌, ◌≤◌, ℕ, List, [], ◌++◌, length, map, filter, IsTrue, None}
+use Rattle.std.specs.Prelude.{◌≡◌, ◌≢◌, ◌⊎◌, ◌↔◌, ◌≤◌, ℕ, List, [], ◌++◌, length, map, filter, IsTrue, Some, None}
+use Rattle.process_tree.specs.declared.plan.Plan.{Plan}
+use Rattle.process_tree.specs.Shape.{least}
 use Rattle.schedule_model.specs.declared.event.Event.{Event}
 use Rattle.schedule_model.specs.Course.{Course}
 use Rattle.schedule_model.specs.Conflict.{ConflictRelation}
@@ -11,11 +13,12 @@ use Rattle.machine_model.specs.Pieces.{runs, state_of}
 use Rattle.machine_model.specs.Moment.{Moment, has_begun}
 use Rattle.machine_model.specs.State.{is_blocked, is_exhausted, victim_of}
 use Rattle.machine_model.specs.Advance.{Machine, advance_all}
-use Rattle.machine_model.specs.Runs.{is_run, now}
+use Rattle.machine_model.specs.Runs.{history, is_run, now}
 use Rattle.machine_model.specs.Replies.{stuck, victims, all_victims, least_exhausted}
 use Rattle.machine_model.specs.Calls.{IsNoStart, Call, answer, answer_next, answered, next_is}
 use Rattle.machine_model.specs.Groups.{Subsystems, flush_kept}
 use Rattle.machine_model.specs.Turns.{Board, Turn, AreTurns}
+use Rattle.machine_model.specs.Laws.{IsSession}
 
 -- Each beginning of a run is one.
 abbrev pub BeginningsOfRunsAreRuns : Type 0
@@ -48,6 +51,12 @@ abbrev pub StuckIsExact : Type 0
 StuckIsExact = (table : ConflictRelation) (courses : List Course) (m : Moment) (served i : ℕ)
     → ((answer_next table courses m served).reply ≡ next_is (stuck i)) ↔ IsStuck table courses
     (advance_all table courses m (all_victims table courses m)) i
+
+-- In a session in which one is stuck, some process is exhausted, and the one that is named is the least of those.
+abbrev pub StuckIsExhausted : Type 0
+StuckIsExhausted = (table : ConflictRelation) (plans : List Plan) (s : Machine) → IsSession table plans s → (i : ℕ)
+    → IsStuck table s.courses (now table s) i
+    → least (filter (is_exhausted s.courses (now table s)) (active (history table s))) ≡ Some i
 
 -- Turns make a run: where nothing was queued at first, what they keep makes a longer one.
 abbrev pub TurnsMakeRuns : Type 0

@@ -15,7 +15,7 @@ ghost use Rattle.machine_model.specs.CauseLaws.{BeginningsHaveCauses, Beginnings
 ghost use Rattle.machine_model.specs.DropLaws.{HandsAreParted, HandsAreWithinTries, OneIsDropped, RefusalsAreWithinTries};
 ghost use Rattle.machine_model.specs.OpenLaws.{EndsDropHoldings, OpenHoldingsAreEnough};
 ghost use Rattle.machine_model.specs.CallLaws.{BeginningsOfRunsAreRuns, CallsKeepRuns, FlushesKeepWhatRuns, QueuedAreOutOrDropped};
-ghost use Rattle.machine_model.specs.CallLaws.{StuckIsExact, TurnsMakeRuns, VictimsRunDry};
+ghost use Rattle.machine_model.specs.CallLaws.{StuckIsExact, StuckIsExhausted, TurnsMakeRuns, VictimsRunDry};
 
 /// The computed cascade of an active process is the least set.
 pub fn cascade_is_least()
@@ -60,6 +60,11 @@ pub fn victims_run_dry()
 /// A request for any piece answers that one is stuck exactly where nobody can go on or go back.
 pub fn stuck_is_exact()
     ensures { StuckIsExact }
+{}
+
+/// Whoever is stuck is the least exhausted process.
+pub fn stuck_is_exhausted()
+    ensures { StuckIsExhausted }
 {}
 
 /// The turns of several threads make a run.

@@ -1,17 +1,16 @@
 -- A process that is stuck has no try left, and a request for its piece says so.
-use Rattle.std.proofs.Common.{◌≡◌, ◌∙◌, ℕ, Bool, true, false, eqb, List, [], ◌∷◌, ◌++◌, filter, find, None, unwrap_or, refl, ap, sym, append-nil}
-use Rattle.std.proofs.lemmas.Bool.{and_from, and_parts, false≢true}
-use Rattle.process_tree.specs.Shape.{least}
-use Rattle.process_tree.proofs.Numbers.{least_is, least_some}
+use Rattle.std.proofs.Common.{◌≡◌, ◌∙◌, ℕ, true, eqb, List, ◌++◌, filter, find, None, ap, sym, append-nil}
+use Rattle.std.proofs.lemmas.Bool.{and_parts}
+use Rattle.process_tree.proofs.Numbers.{least_is}
 use Rattle.schedule_model.specs.Course.{Course}
 use Rattle.schedule_model.specs.Histories.{active, is_active, is_in}
 use Rattle.schedule_model.proofs.Active.{is_active-is_in, is_in-filter}
-use Rattle.machine_model.specs.Calls.{admit, admit_kept, admitted, next, next_is}
+use Rattle.machine_model.specs.Calls.{admit, admit_kept, admitted}
 use Rattle.machine_model.specs.CallLaws.{IsStuck}
 use Rattle.machine_model.specs.Moment.{Moment, Piece}
-use Rattle.machine_model.specs.Replies.{exhausted, stuck}
+use Rattle.machine_model.specs.Replies.{exhausted}
 use Rattle.machine_model.specs.State.{is_exhausted}
-use Rattle.machine_model.proofs.Going.{progress_law}
+use Rattle.machine_model.proofs.Going.{stuck_is_exhausted}
 use Rattle.process_core.specs.Answers.{after_call, answer_in}
 use Rattle.process_core.specs.Cores.{CoreState, IsCore, courses_in, machine_of, moment_of, relation}
 use Rattle.process_core.specs.Handing.{admit_reply_of}
@@ -20,30 +19,19 @@ use Rattle.process_core.specs.declared.replies.Admit.TheVariants.{Piece as IsPie
 use Rattle.process_core.proofs.SeatReplies.{reply_parts, started_if}
 use Rattle.scenario_run.specs.Reports.{step_due}
 
-module _ (core : CoreState) (is : IsCore core) (i : ℕ) (replied : (answer_in core next).reply ≡ next_is (stuck i)) (stays : IsStuck (relation core) (courses_in core) (moment_of core) i) where
+module _ (core : CoreState) (is : IsCore core) (i : ℕ) (stays : IsStuck (relation core) (courses_in core) (moment_of core) i) where
   abbrev m : Moment
   m = moment_of core
 
   abbrev cs : List Course
   cs = courses_in core
 
-  -- whoever is active and isn't listed has a try left
-  left_by : (k : ℕ) (t : Bool) → is_exhausted cs m k ≡ t → is_active m.events k ≡ true → filter (is_exhausted cs m) (active m.events) ≡ [] → is_exhausted cs m k ≡ false
-  left_by k false at goes none = at
-  left_by k true at goes none = absurd
-      (false≢true (ap (is_in k) (sym none) ∙ (is_in-filter (is_exhausted cs m) k (active m.events) ∙ and_from (is_in k (active m.events)) (is_exhausted cs m k) (is_active-is_in m.events k ∙ goes) at)))
-
-  by_list : (ks : List ℕ) → filter (is_exhausted cs m) (active m.events) ≡ ks → (is_active m.events i ≡ true) × (is_exhausted cs m i ≡ true)
-  by_list [] none = absurd (progress_law (relation core) core.plans (machine_of core) is.session (λ k goes. left_by k (is_exhausted cs m k) refl goes none) i replied)
-  by_list (k ∷ ks) some =
-      let found = least_some k ks in
-      let same : i ≡ found.0 = stays.least ∙ (ap (λ (xs : List ℕ). unwrap_or (least xs) 0) some ∙ ap (λ o. unwrap_or o 0) found.1) in
-      let listed : is_in found.0 (k ∷ ks) ≡ true = (least_is (k ∷ ks) found.0 found.1).0 in
-      let both = and_parts (is_in i (active m.events)) (is_exhausted cs m i) (sym (is_in-filter (is_exhausted cs m) i (active m.events)) ∙ (ap (is_in i) some ∙ (ap (λ n. is_in n (k ∷ ks)) same ∙ listed))) in
-      (sym (is_active-is_in m.events i) ∙ both.0, both.1)
-
+  -- it is active, and it has no try left
   pub spent : (is_active m.events i ≡ true) × (is_exhausted cs m i ≡ true)
-  spent = by_list (filter (is_exhausted cs m) (active m.events)) refl
+  spent =
+      let listed = (least_is (filter (is_exhausted cs m) (active m.events)) i (stuck_is_exhausted (relation core) core.plans (machine_of core) is.session i stays)).0 in
+      let both = and_parts (is_in i (active m.events)) (is_exhausted cs m i) (sym (is_in-filter (is_exhausted cs m) i (active m.events)) ∙ listed) in
+      (sym (is_active-is_in m.events i) ∙ both.0, both.1)
 
   nothing_runs : find (λ (p : Piece). eqb p.process i) m.out ≡ None
   nothing_runs = ap (λ (ps : List Piece). find (λ (p : Piece). eqb p.process i) ps) stays.nothing_runs

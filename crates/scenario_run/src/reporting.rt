@@ -1,8 +1,5 @@
 // What is printed of a run.
 ghost use Rattle.std.specs.Prelude.{◌≡◌, ◌++◌, IfOk};
-ghost use Rattle.machine_model.specs.Calls.{next, next_is};
-ghost use Rattle.machine_model.specs.Replies.{stuck};
-ghost use Rattle.process_core.specs.Answers.{answer_in};
 ghost use Rattle.process_core.specs.Moments.{IsStuckIn};
 ghost use Rattle.engine_calls.specs.Runs.{IsReady};
 ghost use Rattle.scenario_run.specs.Reports.{HasUsedUp, causes_in, exhausted_line, report_in, step_due};
@@ -53,7 +50,6 @@ pub fn report_now<R: Rack + Drop, B: Resource>(
 /// The step that has no try left, of a process that is stuck.
 pub fn stuck_step<R: Rack + Drop, B: Resource>(engine: &mut Engine<R, B>, i: u32) -> u16
     requires ready { IsReady B.Resource engine.old }
-    requires replied { (answer_in engine.old.core next).reply ≡ next_is (stuck i) }
     requires stuck { IsStuckIn engine.old.core i }
     ensures step { result ≡ step_due engine.old.core i }
     ensures used_up { HasUsedUp engine.old.core i }
@@ -73,7 +69,6 @@ pub fn stuck_report<R: Rack + Drop, B: Resource>(
     i: u32,
 ) -> Result<Vec<u8>, AllocError>
     requires ready { IsReady B.Resource engine.old }
-    requires replied { (answer_in engine.old.core next).reply ≡ next_is (stuck i) }
     requires stuck { IsStuckIn engine.old.core i }
     ensures text { IfOk result
         (λ text. text.items ≡ report_in engine.old.catalog engine.old.core ++ exhausted_line engine.old.core i) }
