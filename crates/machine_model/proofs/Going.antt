@@ -142,20 +142,26 @@ never_stuck table plans s session none k is =
     by_either i active' free (inl ex) = false≢true (sym (none i active') ∙ ex)
     by_either i active' free (inr began) = not_blocked (is_exhausted s.courses (now table s) i) (block_of table s.courses (now table s) i) free began.1
 
+-- where some number passes, the least that does is there
+least_passes : (p : ℕ → Bool) (xs : List ℕ) (i : ℕ) → (((k : ℕ) → is_in k xs ≡ true → p k ≡ false) → ⊥) → i ≡ unwrap_or (least (filter p xs)) 0 → least (filter p xs) ≡ Some i
+least_passes p xs i some is = by_list (filter p xs) refl
+  where
+    fails : (k : ℕ) (t : Bool) → p k ≡ t → is_in k xs ≡ true → filter p xs ≡ [] → p k ≡ false
+    fails k false at listed none = at
+    fails k true at listed none = absurd (false≢true (ap (is_in k) (sym none) ∙ (is_in-filter p k xs ∙ and_from (is_in k xs) (p k) listed at)))
+
+    by_list : (ks : List ℕ) → filter p xs ≡ ks → least (filter p xs) ≡ Some i
+    by_list [] none = absurd (some (λ k listed. fails k (p k) refl listed none))
+    by_list (k ∷ ks) found =
+        let first = least_some k ks in
+        ap least found ∙ (first.1 ∙ ap Some (sym (is ∙ (ap (λ (ys : List ℕ). unwrap_or (least ys) 0) found ∙ ap (λ o. unwrap_or o 0) first.1))))
+
 -- so whoever is stuck is the least exhausted process
 pub stuck_is_exhausted : StuckIsExhausted
-stuck_is_exhausted table plans s session i is = by_list (filter (is_exhausted s.courses (now table s)) (active (now table s).events)) refl
-  where
-    left_by : (k : ℕ) (t : Bool) → is_exhausted s.courses (now table s) k ≡ t → is_active (now table s).events k ≡ true → filter (is_exhausted s.courses (now table s)) (active (now table s).events) ≡ [] → is_exhausted s.courses (now table s) k ≡ false
-    left_by k false at goes none = at
-    left_by k true at goes none = absurd
-        (false≢true (ap (is_in k) (sym none) ∙ (is_in-filter (is_exhausted s.courses (now table s)) k (active (now table s).events) ∙ and_from (is_in k (active (now table s).events)) (is_exhausted s.courses (now table s) k) (is_active-is_in (now table s).events k ∙ goes) at)))
-
-    by_list : (ks : List ℕ) → filter (is_exhausted s.courses (now table s)) (active (now table s).events) ≡ ks → least (filter (is_exhausted s.courses (now table s)) (active (now table s).events)) ≡ Some i
-    by_list [] none = absurd (never_stuck table plans s session (λ k goes. left_by k (is_exhausted s.courses (now table s) k) refl goes none) i is)
-    by_list (k ∷ ks) some =
-        let found = least_some k ks in
-        ap least some ∙ (found.1 ∙ ap Some (sym (is.least ∙ (ap (λ (xs : List ℕ). unwrap_or (least xs) 0) some ∙ ap (λ o. unwrap_or o 0) found.1))))
+stuck_is_exhausted table plans s session i is =
+    let m = now table s in
+    least_passes (is_exhausted s.courses m) (active m.events) i
+    (λ none. never_stuck table plans s session (λ k goes. none k (is_active-is_in m.events k ∙ goes)) i is) is.least
 
 pub progress_law : ProgressLaw
 progress_law table plans s session none k answered' =
