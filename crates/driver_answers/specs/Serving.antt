@@ -18,7 +18,7 @@ use Rattle.command_input.specs.Scenarios.{AreGoodPlans, AreNoGoodPlans}
 use Rattle.session_text.specs.declared.line.Line.{Line}
 use Rattle.session_text.specs.declared.line.Line.TheVariants.{Start, Admit, Next, Finish, Queue, Flush, Abort, Show, Stop}
 use Rattle.session_text.specs.Answers.{numbered}
-use Rattle.session_play.specs.Answering.{IsAnswered, IsCopy}
+use Rattle.session_play.specs.Answering.{AnswersLine, IsAnswered, IsCopy}
 use Rattle.session_play.specs.declared.at_hand.AtHand.{AtHand}
 use Rattle.session_play.specs.AtHand.{Hand, hand_of}
 use Rattle.session_play.specs.Pieces.{session_of}
@@ -62,10 +62,15 @@ has_many_lines Flush = true
 has_many_lines (Abort i) = false
 has_many_lines Stop = false
 
--- A line of a session is answered as there; behind a piece that it hands out stands what that calls.
+-- what a session prints for its line; behind a piece that it hands out stands what that calls
 abbrev pub served : DriverState → DriverState → Line → List ℕ → List ℕ
 served s t l printed =
     framed (has_many_lines l) (with_call t.core.plans (drop (length s.hand.unfinished) t.hand.unfinished) printed)
+
+-- a line of a session is answered so
+abbrev pub IsSessionAnswered : Catalog → List Plan → DriverState → Line → DriverState → List ℕ → Type 0
+IsSessionAnswered c plans s l t text =
+    (printed : List ℕ) × AnswersLine c plans (as_session s) l t.core t.hand.unfinished t.hand.queued printed × (text ≡ served s t l printed)
 
 -- pieces with what they call, a line each
 abbrev pub listed : List Plan → List Handed → List ℕ
@@ -107,9 +112,7 @@ IsSpelledAnswered c s n spelled t text =
 -- what is asked for was answered
 abbrev pub IsRequestAnswered : Catalog → List Plan → DriverState → ℕ → List ℕ → Option Request → DriverState → List ℕ → Type 0
 IsRequestAnswered c plans s n line None t text = (t ≡ s) × (text ≡ line_of (bad_line_words n))
-IsRequestAnswered c plans s n line (Some (Session l)) t text =
-    (copy : Option Plan) × (printed : List ℕ) × IsCopy (plan_for plans l) copy
-    × IsAnswered (play c (as_session s) l copy) t.core t.hand.unfinished t.hand.queued printed × (text ≡ served s t l printed)
+IsRequestAnswered c plans s n line (Some (Session l)) t text = IsSessionAnswered c plans s l t text
 IsRequestAnswered c plans s n line (Some StartSpelled) t text = IsSpelledAnswered c s n (drop 6 line) t text
 IsRequestAnswered c plans s n line (Some Pieces) t text = (t ≡ s) × (text ≡ numbered_lines (listed s.core.plans s.hand.unfinished))
 IsRequestAnswered c plans s n line (Some (Happened i name)) t text =

@@ -1,15 +1,14 @@
 // The lines of a driver.
-ghost use Rattle.std.specs.Prelude.{◌≡◌, ◌≢◌, ◌++◌, ◌⊎◌, ℕ, List, Option, Err, drop, IfOk, IfErr, OnOk};
+ghost use Rattle.std.specs.Prelude.{◌≡◌, ◌≢◌, ◌++◌, List, Err, drop, IfOk, IfErr, OnOk};
 ghost use Rattle.process_tree.specs.Order.{Each};
 ghost use Rattle.process_tree.specs.declared.plan.Plan.{Plan as Plan'};
 ghost use Rattle.engine_steps.specs.Beginning.{IsPlanFor};
 ghost use Rattle.engine_calls.specs.Runs.{GoesOn, IsClosedByFault, IsReady};
 ghost use Rattle.history_files.specs.Standing.{EachFits};
-ghost use Rattle.session_play.specs.Answering.{IsAnswered, IsCopy};
+ghost use Rattle.session_play.specs.Answering.{CutsLine};
 ghost use Rattle.session_play.specs.AtHand.{session_with, AreAtHand};
-ghost use Rattle.session_play.specs.Playing.{plan_for, play};
-ghost use Rattle.session_play.specs.declared.cut.Cut.TheVariants.{DiskFault, NoMemory};
-ghost use Rattle.driver_answers.specs.Serving.{has_many_lines, served, state_of, IsLineAnswered, IsLineCut};
+ghost use Rattle.session_play.specs.declared.cut.Cut.TheVariants.{DiskFault};
+ghost use Rattle.driver_answers.specs.Serving.{has_many_lines, state_of, IsLineAnswered, IsLineCut, IsSessionAnswered};
 
 use crate::happenings::happened_text;
 use crate::listing::{add_handed, pieces_text};
@@ -52,16 +51,13 @@ fn answer_session<R: Rack + Drop, B: Resource>(
     requires ready { IsReady B.Resource engine.old }
     requires plans { Each (IsPlanFor engine.old.catalog) plans.now }
     requires at_hand { AreAtHand engine.old hand.old }
-    ensures answered { IfOk result (λ text. (copy : Option Plan') × (printed : List ℕ) × IsCopy (plan_for plans.now line.now) copy
-        × IsAnswered (play engine.old.catalog
-        (session_with engine.old.core hand.old) line.now copy) engine.new.core hand.new.unfinished.items hand.new.queued printed
-        × (text.items ≡ served (state_of engine.old.core hand.old) (state_of engine.new.core hand.new) line.now printed)) }
+    ensures answered { IfOk result
+        (λ text. IsSessionAnswered engine.old.catalog plans.now
+        (state_of engine.old.core hand.old) line.now (state_of engine.new.core hand.new) text.items) }
     ensures at_hand { OnOk result (AreAtHand engine.new hand.new) }
     ensures cut { IfErr result
-        (λ cut. ((cut ≡ DiskFault) × (engine.new.core ≡ engine.old.core)) ⊎ ((cut ≡ NoMemory) × ((engine.new.core ≡ engine.old.core)
-        ⊎ ((copy : Option Plan') × IsCopy (plan_for plans.now line.now) copy
-        × (engine.new.core ≡ (play engine.old.catalog
-        (session_with engine.old.core hand.old) line.now copy).state.core))))) }
+        (λ cut. CutsLine engine.old.catalog plans.now
+        (session_with engine.old.core hand.old) line.now cut engine.old.core engine.new.core) }
     ensures fault { IfErr result (λ cut. cut ≡ DiskFault → IsClosedByFault R.Rack engine.old engine.new) }
     ensures goes { GoesOn R.Rack plans.now engine.old engine.new }
     ensures fits { EachFits B.Resource engine.new.files.stores }
