@@ -124,23 +124,28 @@ module _ (courses : List Course) (m : Moment) where
 not_blocked : (ex : Bool) (o : Option Blocked) → o ≡ None → (not ex && is_some o) ≡ true → ⊥
 not_blocked ex o none is = false≢true (sym (ap is_some none) ∙ (and_parts (not ex) (is_some o) is).1)
 
--- in a session nobody is stuck without being exhausted
-never_stuck : (table : ConflictRelation) (plans : List Plan) (s : Machine) → IsSession table plans s → NoneExhausted s.courses (now table s) → (k : ℕ) → IsStuck table s.courses (now table s) k → ⊥
-never_stuck table plans s session none k is =
-    let turn = some_turn s.courses (now table s) is.some_active in
-    by_either turn.0 turn.2 (restart_is_free table plans s session all turn.0 turn.1) (is.nobody_goes turn.0 turn.2)
-  where
-    all : AllHaveBegun (now table s)
-    all i active' = by_part (is.nobody_goes i active')
-      where
-        by_part : IsTrue (is_exhausted s.courses (now table s) i) ⊎ (IsTrue (has_begun (now table s) i) × IsTrue (is_blocked table s.courses (now table s) i)) → has_begun (now table s) i ≡ true
-        by_part (inl ex) = absurd (false≢true (sym (none i active') ∙ ex))
-        by_part (inr began) = began.0
+module _ (table : ConflictRelation) (plans : List Plan) (s : Machine) (session : IsSession table plans s) (none : NoneExhausted s.courses (now table s)) where
+  abbrev m : Moment
+  m = now table s
 
-    by_either : (i : ℕ) → is_active (now table s).events i ≡ true → block_of table s.courses (now table s) i ≡ None
-        → IsTrue (is_exhausted s.courses (now table s) i) ⊎ (IsTrue (has_begun (now table s) i) × IsTrue (is_blocked table s.courses (now table s) i)) → ⊥
-    by_either i active' free (inl ex) = false≢true (sym (none i active') ∙ ex)
-    by_either i active' free (inr began) = not_blocked (is_exhausted s.courses (now table s) i) (block_of table s.courses (now table s) i) free began.1
+  -- as a stuck process leaves each one
+  abbrev CannotGo : ℕ → Type 0
+  CannotGo i = IsTrue (is_exhausted s.courses m i) ⊎ (IsTrue (has_begun m i) × IsTrue (is_blocked table s.courses m i))
+
+  begun_unless_exhausted : (i : ℕ) → is_active m.events i ≡ true → CannotGo i → has_begun m i ≡ true
+  begun_unless_exhausted i active' (inl ex) = absurd (false≢true (sym (none i active') ∙ ex))
+  begun_unless_exhausted i active' (inr began) = began.0
+
+  free_goes : (i : ℕ) → is_active m.events i ≡ true → block_of table s.courses m i ≡ None → CannotGo i → ⊥
+  free_goes i active' free (inl ex) = false≢true (sym (none i active') ∙ ex)
+  free_goes i active' free (inr began) = not_blocked (is_exhausted s.courses m i) (block_of table s.courses m i) free began.1
+
+  -- in a session nobody is stuck without being exhausted
+  never_stuck : (k : ℕ) → IsStuck table s.courses m k → ⊥
+  never_stuck k is =
+      let turn = some_turn s.courses m is.some_active in
+      let all : AllHaveBegun m = λ i active'. begun_unless_exhausted i active' (is.nobody_goes i active') in
+      free_goes turn.0 turn.2 (restart_is_free table plans s session all turn.0 turn.1) (is.nobody_goes turn.0 turn.2)
 
 -- where some number passes, the least that does is there
 least_passes : (p : ℕ → Bool) (xs : List ℕ) (i : ℕ) → (((k : ℕ) → is_in k xs ≡ true → p k ≡ false) → ⊥) → i ≡ unwrap_or (least (filter p xs)) 0 → least (filter p xs) ≡ Some i
