@@ -1,7 +1,7 @@
 -- A core can open on the history of another of one process, with an equal plan.
 use Rattle.std.specs.Bool.{IsTrue}
 use Rattle.std.specs.List.{Contains}
-use Rattle.std.proofs.Common.{◌≡◌, ◌<◌, ◌≤◌, ℕ, zero, suc, List, [], ◌∷◌, length, map, sym, ap, subst, refl, ◌∙◌, slice_index_or, arith}
+use Rattle.std.proofs.Common.{◌≡◌, ◌<◌, ◌≤◌, ℕ, zero, suc, List, [], ◌∷◌, ◌++◌, if◌then◌else◌, is_ok, length, map, Result, Ok, IfOk, sym, ap, subst, refl, ◌∙◌, slice_index_or, arith}
 use Rattle.process_tree.specs.declared.plan.Plan.{Plan}
 use Rattle.process_tree.specs.Blocks.{Outline, outline}
 use Rattle.process_tree.specs.Conflicts.{Table, operations_in}
@@ -36,6 +36,15 @@ good_copy p q equal good = record {
   well_formed = subst (λ o. IsWellFormed (shape_by o)) (sym equal.says) good.well_formed;
   operations = ap length equal.ops ∙ (good.operations ∙ ap (λ (o : Outline). length o.steps) (sym equal.says));
 }
+
+-- what holds of any value that is answered holds of this one
+pub of_ok : {X E : Type 0} {r : Result X E} {x : X} (P : X → Type 0) → r ≡ Ok x → IfOk r P → P x
+of_ok P is each = subst (λ r. IfOk r P) is each
+
+-- what is pushed on nothing is there alone
+pub one_pushed : {X U E : Type 0} {r : Result U E} {u : U} {after : List X} (before : List X) (x : X) → before ≡ [] → r ≡ Ok u
+    → after ≡ (if is_ok r then before ++ x ∷ [] else before) → after ≡ x ∷ []
+one_pushed before x empty went pushed = pushed ∙ (ap (λ r. if is_ok r then before ++ x ∷ [] else before) went ∙ ap (λ xs. xs ++ x ∷ []) empty)
 
 only_one : {X : Type 0} (x y : X) → Contains (x ∷ []) y → x ≡ y
 only_one x y (zero, within, is) = is

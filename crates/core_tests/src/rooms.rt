@@ -8,7 +8,7 @@ ghost use Rattle.process_core.specs.StartRoom.{IsRoomFor};
 
 use crate::calls::{Answer, Call};
 use crate::plays::expect_answers;
-use crate::starts::{PURCHASE, SALE, catalog, opened, planned, started};
+use crate::starts::{PURCHASE, SALE, catalog, must, opened, planned, started};
 use process_core::{Aborted, Core, StartRoom, Work};
 use process_tree::{Conflicts, Plan};
 use schedule_model::Event;
@@ -18,9 +18,7 @@ use std::process::Abort;
 #[test]
 fn a_core_opens_on_nothing(rt: HostRuntime) {
     let alloc = rt.alloc();
-    let Ok(conflicts) = Conflicts::new(alloc, 0) else {
-        panic!(rt; "no memory");
-    };
+    let conflicts = must(&rt, Conflicts::new(alloc, 0));
     let mut core = opened(&rt, alloc, conflicts);
     core.complete_all();
     assert!(rt; core.abort(1) == Aborted::Unknown);

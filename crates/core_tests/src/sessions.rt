@@ -3,7 +3,7 @@ ghost use Rattle.std.specs.Prelude.{◌≡◌};
 
 use crate::calls::{Answer, Call};
 use crate::plays::expect_answers;
-use crate::starts::{catalog, started};
+use crate::starts::{catalog, must, started};
 use process_core::{Core, Refusal, Work};
 use process_tree::Conflicts;
 use schedule_model::{Events, History, Plans};
@@ -19,26 +19,13 @@ fn opened_again(rt: &impl Abort, alloc: Global, core: &Core, conflicts: Conflict
     let [plan] = history.plans.as_slice() else {
         panic!(rt; "not one process");
     };
-    let Ok(copy) = plan.copy(alloc) else {
-        panic!(rt; "no memory");
-    };
+    let copy = must(rt, plan.copy(alloc));
     let mut plans = Vec::new(alloc);
-    let Ok(()) = plans.push(copy) else {
-        panic!(rt; "no memory");
-    };
-    let Ok(events) = history.events.as_slice().to_vec(alloc) else {
-        panic!(rt; "no memory");
-    };
-    let Ok(plans) = Plans::new(plans) else {
-        panic!(rt; "no memory");
-    };
-    let Ok(events) = Events::new(events) else {
-        panic!(rt; "no memory");
-    };
-    let Ok(again) = Core::open(alloc, History { plans, events }, conflicts) else {
-        panic!(rt; "no memory");
-    };
-    again
+    must(rt, plans.push(copy));
+    let events = must(rt, history.events.as_slice().to_vec(alloc));
+    let plans = must(rt, Plans::new(plans));
+    let events = must(rt, Events::new(events));
+    must(rt, Core::open(alloc, History { plans, events }, conflicts))
 }
 
 const FIRST: [(Call, Answer); 6] = [
@@ -67,9 +54,7 @@ fn second_session<H: Abort>(rt: &H, alloc: Global) -> Core {
     let texts: [&[u8]; 1] = [b"process a p x pay 1 5 r y ship 1 1 tries 3 end"];
     let mut core = started(rt, alloc, &catalog, &texts);
     expect_answers(rt, alloc, &mut core, "the first session", &[], &FIRST);
-    let Ok(conflicts) = catalog.conflicts.copy(alloc) else {
-        panic!(rt; "no memory");
-    };
+    let conflicts = must(rt, catalog.conflicts.copy(alloc));
     opened_again(rt, alloc, &core, conflicts)
 }
 

@@ -1,5 +1,5 @@
 // Processes start from their text, over a catalog of nine operations.
-ghost use Rattle.std.specs.Prelude.{◌≡◌, ◌<◌, None};
+ghost use Rattle.std.specs.Prelude.{◌≡◌, ◌<◌, None, Ok};
 ghost use Rattle.process_tree.specs.Conflicts.{operations_in};
 ghost use Rattle.process_tree.specs.Making.{tree_fault};
 ghost use Rattle.process_tree.specs.Order.{Each};
@@ -53,6 +53,16 @@ const CATALOG: &[u8] = b"\x02\x09\x00\
 \x00\x00\
 \x00";
 
+/// What was to be had: memory is never wanting here.
+pub fn must<T: Drop, E: Drop>(rt: &impl Abort, found: Result<T, E>) -> T
+    ensures { found ≡ Ok result }
+{
+    match found {
+        Ok(value) => value,
+        Err(_) => panic!(rt; "no memory"),
+    }
+}
+
 pub fn catalog(rt: &impl Abort, alloc: Global) -> Catalog
     ensures { IsCatalog result }
 {
@@ -66,16 +76,9 @@ pub fn catalog(rt: &impl Abort, alloc: Global) -> Catalog
 pub fn opened(rt: &impl Abort, alloc: Global, conflicts: Conflicts) -> Core
     ensures { result.conflicts ≡ conflicts }
 {
-    let Ok(plans) = Plans::new(Vec::new(alloc)) else {
-        panic!(rt; "no memory");
-    };
-    let Ok(events) = Events::new(Vec::new(alloc)) else {
-        panic!(rt; "no memory");
-    };
-    let Ok(core) = Core::open(alloc, History { plans, events }, conflicts) else {
-        panic!(rt; "no memory");
-    };
-    core
+    let plans = must(rt, Plans::new(Vec::new(alloc)));
+    let events = must(rt, Events::new(Vec::new(alloc)));
+    must(rt, Core::open(alloc, History { plans, events }, conflicts))
 }
 
 // The plan of a process that can't get stuck.
@@ -135,9 +138,7 @@ pub fn started(rt: &impl Abort, alloc: Global, catalog: &Catalog, texts: &[&[u8]
     requires catalog { IsCatalog catalog.now }
     ensures { result.conflicts ≡ catalog.now.conflicts }
 {
-    let Ok(conflicts) = catalog.conflicts.copy(alloc) else {
-        panic!(rt; "no memory");
-    };
+    let conflicts = must(rt, catalog.conflicts.copy(alloc));
     let mut core = opened(rt, alloc, conflicts);
     for text in texts {
         start(rt, alloc, &mut core, text, catalog);
