@@ -10,7 +10,7 @@ ghost use Rattle.machine_model.specs.Replies.{Handed};
 ghost use Rattle.engine_calls.specs.Acknowledged.{IsOneOf};
 ghost use Rattle.command_input.specs.Scenarios.{AreGoodPlans};
 ghost use Rattle.session_play.specs.Answering.{IsAnswered, IsCut};
-ghost use Rattle.group_flush.specs.Queues.{KeepsQueued};
+ghost use Rattle.process_engine.specs.Queues.{KeepsQueued};
 ghost use Rattle.session_play.specs.Pieces.{session_of};
 ghost use Rattle.session_play.specs.Playing.{play_start};
 ghost use Rattle.session_play.specs.declared.cut.Cut.TheVariants.{DiskFault, NoMemory};

@@ -24,17 +24,17 @@ use Rattle.engine_steps.specs.Rooms.{MakesRoomFor}
 use Rattle.engine_steps.specs.declared.engines.Phase.TheVariants as phase
 use Rattle.engine_steps.proofs.SameHistory.{refused_same}
 use Rattle.process_engine.specs.declared.gates.Answer.{Answer}
-use Rattle.group_flush.specs.Flushing.{Flushes, history_with_group}
-use Rattle.group_flush.specs.Pieces.{after_all, events_of}
-use Rattle.group_flush.specs.Queueing.{IsRefusedIn, Queues}
-use Rattle.group_flush.specs.Queues.{AreQueued, pieces_of, running_of}
-use Rattle.group_flush.specs.declared.group.Flush.{Flush}
-use Rattle.group_flush.specs.declared.group.Flush.TheVariants as flushes
-use Rattle.group_flush.specs.declared.group.Flush.TheVariants.{Flushed, DiskFault}
-use Rattle.group_flush.specs.declared.replies.Queue.{Queue}
-use Rattle.group_flush.specs.declared.replies.Queue.TheVariants.{Queued, Full, Retry, Failed, Over, Dropped, Exhausted, NoMemory, Closed}
-use Rattle.group_flush.proofs.GroupKept.{all_out}
-use Rattle.group_flush.proofs.Running.{some_distinct}
+use Rattle.process_engine.specs.Flushing.{Flushes, history_with_group}
+use Rattle.process_engine.specs.Pieces.{after_all, events_of}
+use Rattle.process_engine.specs.Queueing.{IsRefusedIn, Queues}
+use Rattle.process_engine.specs.Queues.{AreQueued, pieces_of, running_of}
+use Rattle.process_engine.specs.declared.group.Flush.{Flush}
+use Rattle.process_engine.specs.declared.group.Flush.TheVariants as flushes
+use Rattle.process_engine.specs.declared.group.Flush.TheVariants.{Flushed, DiskFault}
+use Rattle.process_engine.specs.declared.replies.Queue.{Queue}
+use Rattle.process_engine.specs.declared.replies.Queue.TheVariants.{Queued, Full, Retry, Failed, Over, Dropped, Exhausted, NoMemory, Closed}
+use Rattle.process_engine.proofs.GroupKept.{all_out}
+use Rattle.process_engine.proofs.Running.{some_distinct}
 use Rattle.engine_calls.specs.Acknowledged.{AreOut}
 use Rattle.engine_calls.specs.Runs.{GoesOn}
 use Rattle.engine_calls.proofs.Ends.{called_goes, events_goes, fault_goes, still_goes}

@@ -5,15 +5,14 @@ ghost use Rattle.machine_model.specs.declared.kept.Work.TheVariants.{End};
 ghost use Rattle.process_core.specs.Cores.{IsHandedBy};
 ghost use Rattle.history_files.specs.Standing.{EachFits};
 ghost use Rattle.engine_steps.specs.declared.engines.Phase.TheVariants as phase;
-ghost use Rattle.group_flush.specs.Flushing.{Flushes};
-ghost use Rattle.group_flush.specs.Queueing.{Queues};
-ghost use Rattle.group_flush.specs.Queues.{AreQueued};
+ghost use Rattle.process_engine.specs.Flushing.{Flushes};
+ghost use Rattle.process_engine.specs.Queueing.{Queues};
+ghost use Rattle.process_engine.specs.Queues.{AreQueued};
 ghost use Rattle.engine_calls.specs.Runs.{GoesOnAlone, IsReady};
 
-use group_flush::{Flush, Queue, Queued};
 use process_core::Piece;
 use process_disk::Rack;
-use process_engine::{Answer, Engine};
+use process_engine::{Answer, Engine, Flush, Queue, Queued};
 use resource_box::Resource;
 
 /// Queues a piece that this engine handed out, by what came of its work, to take effect with the next flush; an end is answered
@@ -34,7 +33,7 @@ pub fn queue<R: Rack + Drop, B: Resource>(
     ensures ready { IsReady B.Resource engine.new }
 {
     engine.invariant_holds();
-    group_flush::queue(engine, queued, piece, answer)
+    process_engine::queue(engine, queued, piece, answer)
 }
 
 /// The queued pieces that run take effect together, in the order in which they were queued. After a fault of the rack the engine is
@@ -50,7 +49,7 @@ pub fn flush<R: Rack + Drop, B: Resource>(engine: &mut Engine<R, B>, queued: &mu
     ensures fits { EachFits B.Resource engine.new.files.stores }
 {
     engine.invariant_holds();
-    let result = group_flush::flush(engine, queued);
+    let result = process_engine::flush(engine, queued);
     engine.invariant_holds();
     result
 }

@@ -1,12 +1,10 @@
--- Groups without an effect: nothing is prepared, and nothing committed.
-use Rattle.std.proofs.Common.{◌≡◌, ◌<◌, ℕ, zero, suc, false, List, [], ◌∷◌, Option, Some, None, is_some, Bor, refl, sym, subst}
-use Rattle.std.specs.Prelude.{option_copied}
-use Rattle.std.specs.List.{slice_get}
+-- Groups without an effect: nothing is prepared.
+use Rattle.std.proofs.Common.{◌≡◌, ℕ, zero, suc, false, List, [], ◌∷◌, Option, Some, None, refl, sym, subst}
 use Rattle.subsystem_store.specs.declared.effect.Effect.{Effect}
 use Rattle.subsystem_store.specs.Opened.{Opened}
-use Rattle.store_group.specs.Events.{BecomeEach, IsCommitted, IsPrepared, effect_for}
+use Rattle.store_group.specs.Events.{BecomeEach, IsPrepared, effect_for}
 use Rattle.store_group.proofs.InOrder.{one_there}
-use Rattle.engine_steps.specs.Groups.{HasNoDoubt, has_effect}
+use Rattle.engine_steps.specs.Groups.{has_effect}
 
 -- where there is no effect at any place,
 no_effect_at : (group : List (Option Effect)) → has_effect group ≡ false → (q : ℕ) → effect_for group q ≡ None
@@ -24,22 +22,3 @@ none_prepared group stores none = record {
   count = refl;
   each = λ q s t at too. subst (IsPrepared (effect_for group q) s) (one_there stores q s t at too) (prepared_as_none s (effect_for group q) (no_effect_at group none q));
 }
-
-committed_as_none : {B : Type 0} (s : Opened B) → s.doubt ≡ None → IsCommitted s s
-committed_as_none s none = record { file = refl; kind = refl; book = rw none refl; doubt = none }
-
--- and where nothing is in doubt they are committed as they are
-pub none_committed : {B : Type 0} (stores : List (Opened B)) → HasNoDoubt stores → BecomeEach (λ q s t. IsCommitted s t) stores stores
-none_committed stores none = record {
-  count = refl;
-  each = λ q s t at too. subst (IsCommitted s) (one_there stores q s t at too) (committed_as_none s (none q s at));
-}
-
--- nothing is in doubt in the stores below a place
-abbrev pub NoneBelow : {B : Type 0} → ℕ → List (Opened B) → Type 0
-NoneBelow {B} q stores = (k : ℕ) (s : Opened B) → k < q → slice_get stores k ≡ Some s → s.doubt ≡ None
-
--- what is copied is there where it was
-pub still_some : {A : Type 0} (o : Option (Bor A)) → is_some (option_copied o) ≡ is_some o
-still_some None = refl
-still_some (Some x) = refl

@@ -6,13 +6,8 @@ pub mod StartRecord
 pub mod NewEngine
 pub mod OpenedEngine
 pub mod NextHistory
-pub mod PreparedStores
-pub mod RecordedStores
-pub mod RecordedPieces
 pub mod Subsystems
-pub mod PreparedPieces
 pub mod StoresThere
-pub mod EndedPieces
 pub mod ExactFiles
 pub mod GroupSteps
 pub mod KeptEffects

@@ -3,7 +3,6 @@ use Rattle.std.proofs.Common.{◌≡◌, ◌∙◌, ◌&&◌, List, true, false,
 use Rattle.std.specs.Bool.{IsTrue}
 use Rattle.std.proofs.lemmas.Bool.{and_from, false≢true}
 use Rattle.process_tree.specs.Conflicts.{do_conflict}
-use Rattle.process_tree.specs.declared.entry.Entry.{Entry}
 use Rattle.process_tree.specs.declared.plan.Plan.{Plan}
 use Rattle.process_tree.specs.declared.play.Outcome.TheVariants.{Done}
 use Rattle.schedule_model.specs.declared.event.Event.TheVariants.{Act}
@@ -11,8 +10,6 @@ use Rattle.schedule_model.specs.Course.{courses_of, op_of, key_of}
 use Rattle.schedule_model.specs.Legal.{is_legal}
 use Rattle.schedule_model.specs.Limits.{is_within_limits}
 use Rattle.commute_table.specs.declared.catalog.Catalog.{Catalog}
-use Rattle.journal_records.specs.Laws.{FitsItsBytes}
-use Rattle.journal_records.specs.declared.record.Record.TheVariants as records
 use Rattle.machine_model.specs.Advance.{event_by, event_of}
 use Rattle.machine_model.specs.Calls.{finish}
 use Rattle.machine_model.specs.Moment.{Moment, Piece}
@@ -28,11 +25,9 @@ use Rattle.process_core.specs.Cores.{CoreState, IsCore, IsHandedBy, courses_in, 
 use Rattle.process_core.proofs.CoreEffects.{effected_after, takes_effect}
 use Rattle.process_core.proofs.EffectSeats.{events_are}
 use Rattle.process_core.proofs.HandStands.{core_kept, moment_kept, with_event as with_kept_event}
-use Rattle.process_journal.specs.Bodies.{with_event}
-use Rattle.process_journal.specs.Journals.{IsHistoryUnder, is_allowed}
-use Rattle.process_journal.specs.Laws.{RecordsMakeHistories}
-use Rattle.engine_steps.specs.Engines.{IsUnder, full_history}
-use Rattle.engine_steps.specs.Pieces.{IsStepOut, act_of, history_with}
+use Rattle.process_journal.specs.Journals.{is_allowed}
+use Rattle.engine_steps.specs.Engines.{full_history}
+use Rattle.engine_steps.specs.Pieces.{act_of, history_with}
 
 -- the event of a piece that is no end is its act
 pub act_is : (plans : List Plan) (p : Piece) → same_work p.work End ≡ false → event_of (courses_of plans) p ≡ Act (act_of plans p)
@@ -66,19 +61,3 @@ module _ (core : CoreState) (is : IsCore core) (p : Piece) (handed : IsHandedBy 
       let both = runs_are_legal (relation core) core.plans (machine_of next) next_is_core.session in
       subst (λ h. IsTrue (is_allowed c h)) kept_history
       (subst (λ t. IsTrue (is_legal (do_conflict t) (courses_in core) (history_of next) && is_within_limits (courses_in core) (history_of next))) table (and_from _ _ both.0 both.1))
-
--- So is the history with the act of a piece that is out,
-pub next_is_history : RecordsMakeHistories → (c : Catalog) (core : CoreState) → IsUnder c core → IsCore core → (p : Piece) → IsStepOut core p
-    → (e : Entry) → e ≡ act_of core.plans p → FitsItsBytes (records.Act e) → IsHistoryUnder c (with_event (full_history core) (Act e))
-next_is_history law c core under is p out e act fits =
-    law c (records.Act e) (full_history core) (with_event (full_history core) (Act e)) under.history refl fits
-    (subst (λ x. IsTrue (is_allowed c (with_event (full_history core) x))) (act_is core.plans p out.no_end ∙ ap Act (sym act)) (next_allowed core is p out.handed out.out c under.table))
-
--- which is the history after its effect.
-pub with_its_act : (core : CoreState) (p : Piece) → IsStepOut core p → (e : Entry) → e ≡ act_of core.plans p → with_event (full_history core) (Act e) ≡ history_with core p
-with_its_act core p out e act = ap (with_event (full_history core)) (ap Act act ∙ sym (act_is core.plans p out.no_end))
-
--- A core that kept the effect is under the catalog too.
-pub still_under_with : (c : Catalog) (core : CoreState) → IsUnder c core → IsCore core → (p : Piece) → IsStepOut core p → IsHistoryUnder c (history_with core p)
-    → IsUnder c (after_call core (finish p.number Done))
-still_under_with c core under is p out may = record { table = under.table; history = subst (IsHistoryUnder c) (sym (history_is core is p out.handed out.out)) may }

@@ -1,5 +1,5 @@
 -- Several events that take effect together: prepared in their stores, recorded by one write of the journal, and committed.
-use Rattle.std.specs.Prelude.{◌≡◌, ◌≢◌, ◌≤◌, ℕ, ◌+◌, ⊤, List, [], ◌∷◌, ◌++◌, length, map, Bool, Option, None, is_some, Result}
+use Rattle.std.specs.Prelude.{◌≡◌, ◌≢◌, ◌≤◌, ℕ, ◌+◌, ⊤, List, [], ◌∷◌, ◌++◌, length, map, Bool, Option, is_some, Result}
 use Rattle.std.specs.Prelude.{OnErr}
 use Rattle.std.specs.List.{list_any}
 use Rattle.process_tree.specs.Order.{Each}
@@ -20,7 +20,7 @@ use Rattle.process_journal.specs.Bodies.{with_event}
 use Rattle.process_journal.specs.Journals.{AreMadeBy}
 use Rattle.history_files.specs.Groups.{AddsGroup}
 use Rattle.history_files.specs.Laws.{AreSettled}
-use Rattle.history_files.specs.Standing.{AreGoodBooks, AtEach, Stand}
+use Rattle.history_files.specs.Standing.{AreGoodBooks, Stand}
 use Rattle.engine_steps.specs.Engines.{AreAtRest, EngineState, full_history}
 use Rattle.engine_steps.specs.declared.engines.Phase.TheVariants as phase
 
@@ -44,10 +44,6 @@ IsNoStart (End i) = ⊤
 -- there is an effect at some place
 abbrev pub has_effect : List (Option Effect) → Bool
 has_effect group = list_any is_some group
-
--- nothing is in doubt in any store
-abbrev pub HasNoDoubt : {B : Type 0} → List (Opened B) → Type 0
-HasNoDoubt stores = AtEach (λ q s. s.doubt ≡ None) stores
 
 -- The effects of a group are in doubt, each in the store of its subsystem, behind books that are the effects of the history.
 pub record AreInDoubt {B : Type 0} (ops : List Op) (h : History) (group : List (Option Effect)) (stores : List (Opened B)) : Type 0

@@ -3,5 +3,4 @@ pub mod Engines
 pub mod Groups
 pub mod Opening
 pub mod Pieces
-pub mod UnderWay
 pub mod Rooms

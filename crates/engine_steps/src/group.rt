@@ -18,12 +18,12 @@ ghost use Rattle.process_core.specs.Cores.{IsHandedBy, courses_in, moment_of};
 ghost use Rattle.journal_records.specs.Bytes.{bytes_of};
 ghost use Rattle.subsystem_store.specs.declared.effect.Effect.{Effect};
 ghost use Rattle.store_group.specs.Events.{MayPrepareEach};
-ghost use Rattle.history_files.specs.Groups.{FitEach, LacksEach};
+ghost use Rattle.history_files.specs.Groups.{FitEach, HasNoDoubt, LacksEach};
 ghost use Rattle.history_files.specs.Sound.{IsSound, IsSoundForEither};
 ghost use Rattle.history_files.specs.Standing.{EachFits};
 ghost use Rattle.engine_steps.specs.Engines.{AreAtRest, full_history, with_core};
 ghost use Rattle.engine_steps.specs.Groups.{AreGroupEvents, IsGroupCommitted, IsGroupPrepared, IsGroupRecorded, IsNoStart};
-ghost use Rattle.engine_steps.specs.Groups.{HasNoDoubt, LeavesCore, MayBeRecorded, has_effect, settled_as};
+ghost use Rattle.engine_steps.specs.Groups.{LeavesCore, MayBeRecorded, has_effect, settled_as};
 ghost use Rattle.engine_steps.specs.Groups.{bodies_of, record_for, staging_all, with_events};
 ghost use Rattle.engine_steps.specs.declared.engines.Phase.TheVariants as phase;
 
@@ -43,22 +43,6 @@ fn has_effect(group: &[Option<Effect>]) -> bool
     ensures { result ≡ has_effect group.now }
 {
     group.iter().any(Option::is_some)
-}
-
-// Whether an effect is in doubt in the store of some subsystem.
-fn is_in_doubt<R: Rack + Drop, B: Resource>(files: &Files<R, B>) -> bool
-    ensures settled { result ≡ false → HasNoDoubt files.now.stores }
-    ensures some { HasNoDoubt files.now.stores → result ≡ false }
-{
-    files.stores_hold();
-    let mut q = 0;
-    while q < 8 {
-        if files.in_doubt(q).is_some() {
-            return true;
-        }
-        q += 1;
-    }
-    false
 }
 
 /// The number of a process fits its bytes.
@@ -178,10 +162,6 @@ impl<R: Rack + Drop, B: Resource> Engine<R, B> {
         ensures rack { LeavesImages R.Rack self.old.files.rack self.new.files.rack (IsErr result) }
     {
         books_come_to_groups::<B>();
-        self.files.soundness_holds();
-        if !is_in_doubt(&self.files) {
-            return Ok(());
-        }
         match self.files.commit_staged() {
             Ok(()) => Ok(()),
             Err(fault) => {

@@ -2,13 +2,13 @@
 //!
 //! An engine is seen as a core, a catalog and files (`specs/Engines`). While nothing is under way and no call of the rack failed,
 //! its files stand for the history of its core, and each book is the effects of that history. It is made on nine empty files, or
-//! opened on the history that nine files have; it starts processes, and hands out their pieces. A piece takes effect in three steps
-//! (`specs/Pieces`), the end of a process in one, and a refusal touches no file; `process_engine` makes one call of these.
+//! opened on the history that nine files have; it starts processes, and hands out their pieces. The events of pieces take
+//! effect together, one or more, in three steps (`specs/Groups`): prepared in the stores, recorded in the journal, and committed. A
+//! refusal touches no file. `process_engine` makes one call of these steps.
 #![tactic(auto)]
 
 mod asking;
 mod beginning;
-mod ending;
 mod engines;
 mod group;
 mod handing_back;
@@ -21,4 +21,3 @@ pub use beginning::{EngineStart, EngineStartWhy};
 pub use engines::{Closed, Engine, Phase};
 pub use history_files::{CreateError, CreateRefused, Parts};
 pub use history_opening::{BookFault, OpenError, OpenRefused};
-pub use pieces::{PreparePiece, Prepared, Recorded};

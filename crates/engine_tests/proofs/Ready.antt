@@ -10,8 +10,8 @@ use Rattle.history_files.specs.Standing.{EachFits}
 use Rattle.engine_steps.specs.Engines.{EngineState, with_core}
 use Rattle.engine_steps.specs.declared.engines.Phase.{Phase}
 use Rattle.engine_steps.specs.declared.engines.Phase.TheVariants as phase
-use Rattle.group_flush.specs.Queues.{AreQueued}
-use Rattle.group_flush.proofs.QueuedCalls.{queued_at_abort, queued_at_next}
+use Rattle.process_engine.specs.Queues.{AreQueued}
+use Rattle.process_engine.proofs.QueuedCalls.{queued_at_abort, queued_at_next}
 use Rattle.engine_calls.specs.Runs.{IsReady as IsReadyToRun}
 use Rattle.engine_tests.specs.Ready.{IsReady, MayQueue}
 

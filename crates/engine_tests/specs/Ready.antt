@@ -5,7 +5,7 @@ use Rattle.machine_model.specs.Replies.{Handed}
 use Rattle.history_files.specs.Standing.{EachFits}
 use Rattle.engine_steps.specs.Engines.{EngineState}
 use Rattle.engine_steps.specs.declared.engines.Phase.TheVariants as phase
-use Rattle.group_flush.specs.Queues.{AreQueued}
+use Rattle.process_engine.specs.Queues.{AreQueued}
 use Rattle.engine_calls.specs.Runs.{IsReady as IsReadyToRun}
 
 -- Its boxes fit the books, and no piece is on its way through the files.

@@ -1,6 +1,6 @@
 // Rows of pieces that are queued and take effect together.
 use crate::stops::{ACT, Left, RECORD};
-use group_flush::GroupEnd;
+use process_engine::GroupEnd;
 
 // What is done with pieces.
 pub enum Line {

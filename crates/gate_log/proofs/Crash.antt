@@ -3,7 +3,7 @@ use Rattle.std.proofs.Common.{◌≡◌, ◌⊎◌, inl, inr, ℕ, ◌+◌, ◌*
 use Rattle.std.proofs.lemmas.List.{take_at, drop_at, drop_more}
 use Rattle.std.proofs.lemmas.Bool.{cases_eq}
 use Rattle.process_disk.specs.Disk.{Torn, written}
-use Rattle.gate_log.specs.LogFile.{AreRecords, IsLog, header, end_of, most_records, framed}
+use Rattle.gate_log.specs.LogFile.{AreRecords, IsLog, header, end_of, most_records}
 use Rattle.gate_log.proofs.Logs.{length-before, records-push}
 
 -- the parts of a list round one place
@@ -70,25 +70,6 @@ two_bytes n = omega arith
 pub written_at : (at : ℕ) (before : List ℕ) (x : ℕ) (after list bytes : List ℕ) → Round at before x after list → written list at bytes ≡ before ++ bytes ++ drop (at + length bytes) list
 written_at at before x after list bytes round = ap (λ (l : List ℕ). l ++ bytes ++ drop (at + length bytes) list) (front at before x after list round)
 
--- a log with a body written behind its closed gate is so
-pub staged_by_write : (q : ℕ) (bodies : List (List ℕ)) (body file : List ℕ) → IsLog q bodies file → IsStaged q bodies body (written file (end_of bodies + 1) (framed body ++ 0 ∷ []))
-staged_by_write q bodies body file log =
-    let before = header q ++ log.opened in
-    let end = end_of bodies in
-    let bytes = framed body ++ 0 ∷ [] in
-    let rest = drop (end + 1 + length bytes) file in
-    let gate = gate_of q bodies file log in
-    record {
-      few = log.few;
-      opened = log.opened;
-      records = log.records;
-      low = length body % 256;
-      high = length body / 256;
-      size = two_bytes (length body);
-      free = rest;
-      is = ap (λ (l : List ℕ). l ++ bytes ++ rest) (through end before 0 log.free file gate) ∙ regroup_staged before (framed body) rest;
-    }
-
 -- the closed gate of such a file
 pub gate_of_staged : (q : ℕ) (bodies : List (List ℕ)) (body file : List ℕ) (staged : IsStaged q bodies body file) → Round (end_of bodies) (header q ++ staged.opened) 0 (staged.low ∷ staged.high ∷ body ++ 0 ∷ staged.free) file
 gate_of_staged q bodies body file staged = record {
@@ -127,17 +108,6 @@ log_torn_gate q bodies body file c staged room torn =
       | inl shut ↦ inl (record { few = staged.few; opened = staged.opened; records = staged.records; free = after; is = whole ∙ ap (λ (g : ℕ). before ++ g ∷ after) shut })
       | inr is_open ↦ inr (opened_log q bodies body file c staged room gate (omega arith) whole)
     ]
-
--- and once the gate is opened it is the log with the body
-pub log_by_gate : (q : ℕ) (bodies : List (List ℕ)) (body file : List ℕ) → IsStaged q bodies body file → length bodies + 1 ≤ most_records → IsLog q (bodies ++ body ∷ []) (written file (end_of bodies) (1 ∷ []))
-log_by_gate q bodies body file staged room =
-    let before = header q ++ staged.opened in
-    let after = staged.low ∷ staged.high ∷ body ++ 0 ∷ staged.free in
-    let end = end_of bodies in
-    let round = gate_of_staged q bodies body file staged in
-    let is : written file end (1 ∷ []) ≡ before ++ 1 ∷ after =
-    written_at end before 0 after file (1 ∷ []) round ∙ ap (λ (l : List ℕ). before ++ (1 ∷ []) ++ l) (back end before 0 after file round) ∙ append_assoc before (1 ∷ []) after in
-    opened_log q bodies body file (written file end (1 ∷ [])) staged room 1 (omega arith) is
 
 -- an empty log in an empty place
 pub log_of_none : (q : ℕ) (rest : List ℕ) → IsLog q [] (header q ++ 0 ∷ rest)

@@ -1,6 +1,6 @@
 -- The bytes of a record in the buffer.
 use Rattle.std.specs.Prelude.{slice_set}
-use Rattle.std.proofs.Common.{◌≡◌, ℕ, ◌+◌, ◌<◌, ◌≤◌, zero, suc, List, [], ◌∷◌, ◌++◌, length, take, drop, Some, refl, sym, ◌∙◌, ap, arith, append_assoc, append-nil, length-append, take-append-drop}
+use Rattle.std.proofs.Common.{◌≡◌, ℕ, ◌+◌, ◌<◌, ◌≤◌, suc, List, [], ◌∷◌, ◌++◌, length, take, drop, Some, refl, sym, ◌∙◌, ap, arith, append_assoc, append-nil, length-append, take-append-drop}
 use Rattle.std.proofs.lemmas.List.{take_at, take-take, take_more_set, length-drop, length-take-le}
 use Rattle.std.proofs.lemmas.Grind.{flat_map-append}
 use Rattle.gate_log.specs.LogFile.{framed}
@@ -23,12 +23,6 @@ framed_front (x ∷ y ∷ z ∷ []) body rest gate low high last three room =
     let behind : take (n + 1) (slice_set all n last) ≡ body ++ last ∷ [] =
     take_more_set all n last (omega (arith, length-append body (drop n rest), length-drop n rest)) ∙ ap (λ (l : List ℕ). l ++ last ∷ []) (take_at body (drop n rest) n refl) in
     rw size (ap (λ (l : List ℕ). gate ∷ low ∷ high ∷ l) behind)
-
--- the open gate alone, at the front of a buffer that is so far filled
-pub gate_alone : (size : ℕ) (buffer rest : List ℕ) → 1 ≤ size → take size buffer ≡ 1 ∷ rest → take 1 buffer ≡ 1 ∷ []
-gate_alone zero buffer rest some is = absurd (omega arith)
-gate_alone (suc size) [] rest some is = absurd cc
-gate_alone (suc size) (gate ∷ buffer) rest some is = let first : gate ≡ 1 = cc in ap (λ g. g ∷ []) first
 
 -- bytes at the front of what follows a place, seen from the front of all
 pub framed_behind : (at n : ℕ) (front rest buffer back bytes : List ℕ) → buffer ≡ front ++ back → length front ≡ at → take n rest ≡ bytes → n ≤ length rest → take (at + n) (front ++ rest) ≡ take at buffer ++ bytes

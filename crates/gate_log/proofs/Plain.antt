@@ -5,10 +5,9 @@ use Rattle.std.proofs.lemmas.Grind.{flat_map-append}
 use Rattle.std.specs.List.{flat_map}
 use Rattle.process_disk.specs.Disk.{FileSet, Disk, IsHonest, file_of, put, written}
 use Rattle.gate_log.specs.LogFile.{header, framed, plain_log, records_size, end_of}
-use Rattle.gate_log.specs.Standing.{LogState, StandsFor}
 use Rattle.gate_log.specs.Staging.{plain_records}
 use Rattle.gate_log.proofs.Crash.{Round, back, through, written_at}
-use Rattle.gate_log.proofs.Appending.{RecordDone, file_of_put, nine_files}
+use Rattle.gate_log.proofs.Appending.{file_of_put, nine_files}
 
 -- a record as a log writes it
 abbrev record_of : List ℕ → List ℕ
@@ -68,14 +67,6 @@ plain_with q end bodies (body ∷ more) old mid new honest honest_mid below at s
     let staged : file_of mid.files q ≡ (header q ++ flat_map record_of bodies) ++ 0 ∷ (tail ++ 0 ∷ []) =
     ap (λ (files : FileSet). file_of files q) put_records ∙ file_of_put old.files q (end_of bodies + 1) (tail ++ 0 ∷ []) (omega (arith, nine_files old honest)) ∙ plain_behind q bodies tail (file_of old.files q) plain in
     ap (λ (files : FileSet). file_of files q) put_gate ∙ file_of_put mid.files q (end_of bodies) (1 ∷ []) (omega (arith, nine_files mid honest_mid)) ∙ plain_opened q bodies body more (file_of mid.files q) staged
-
--- what an append makes of it
-pub plain_appended : (log : LogState) (bodies : List (List ℕ)) (body bytes gate : List ℕ) (old mid new : Disk) → IsHonest old → IsHonest mid → log.file < 9 → StandsFor log bodies old → RecordDone log body bytes old mid
-    → gate ≡ 1 ∷ [] → new.files ≡ put mid.files log.file log.end gate → file_of old.files log.file ≡ plain_log log.file bodies → file_of new.files log.file ≡ plain_log log.file (bodies ++ body ∷ [])
-plain_appended log bodies body bytes gate old mid new honest honest_mid below stands done gate_is is plain =
-    let alone : bytes ≡ drop 1 (plain_records (body ∷ [])) = done.bytes_are ∙ ap (λ (l : List ℕ). l ++ 0 ∷ []) (sym (append-nil (framed body))) in
-    let first : mid.files ≡ put old.files log.file (log.end + 1) (drop 1 (plain_records (body ∷ []))) = subst (λ (bs : List ℕ). mid.files ≡ put old.files log.file (log.end + 1) bs) alone done.written in
-    plain_with log.file log.end bodies (body ∷ []) old mid new honest honest_mid below stands.end (λ none. cc) first (subst (λ (bs : List ℕ). new.files ≡ put mid.files log.file log.end bs) gate_is is) plain
 
 -- what the first write makes of an empty file
 pub plain_created : (q : ℕ) (bytes : List ℕ) (old new : Disk) → IsHonest old → q < 9 → file_of old.files q ≡ [] → bytes ≡ header q ++ 0 ∷ [] → new.files ≡ put old.files q 0 bytes → file_of new.files q ≡ plain_log q []

@@ -12,7 +12,6 @@
 #![tactic(auto)]
 
 mod body;
-mod buffer;
 mod device;
 mod errors;
 mod laws;

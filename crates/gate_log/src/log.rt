@@ -11,7 +11,6 @@ ghost use Rattle.gate_log.specs.Staging.{plain_records, staging, unstaged, with_
 ghost use Rattle.gate_log.specs.Staging.{AreOnDisk, IsOpened, MayOpen};
 ghost use Rattle.gate_log.specs.declared.errors.LogError.TheVariants.{NoMemory};
 
-use crate::buffer::Buffer;
 use crate::device::{whole_file, write_and_sync};
 use crate::records::{after_header, bodies_in, first_bytes, last_size};
 use crate::shared_sync::{sync, write};
@@ -30,7 +29,6 @@ pub struct Log {
     end: u64,
     // how many bytes the last body has, while it can be retracted
     last: Option<u32>,
-    buffer: Buffer,
     staged: Staged,
 }
 
@@ -63,7 +61,6 @@ impl Log {
         // No failed call of the rack is passed over.
         ensures quiet { OnOk result (R.faults rack.new ≡ R.faults rack.old) }
     {
-        let buffer = Buffer::new(alloc)?;
         let staged = Staged::new(alloc)?;
         write_and_sync(rack, file, 0, &first_bytes(file))?;
         Ok(Log {
@@ -71,7 +68,6 @@ impl Log {
             count: 0,
             end: 8,
             last: None,
-            buffer,
             staged,
         })
     }
@@ -90,7 +86,6 @@ impl Log {
         ensures rack { LeavesRack R.Rack rack.old rack.new (IsErrOf result LogError.DiskFault) }
         ensures quiet { OnOk result (R.faults rack.new ≡ R.faults rack.old) }
     {
-        let buffer = Buffer::new(alloc)?;
         let staged = Staged::new(alloc)?;
         rack.sync()?;
         let bytes = whole_file(alloc, rack, file)?;
@@ -103,7 +98,6 @@ impl Log {
             count: read.bodies.len() as u32,
             end: 8 + read.size as u64,
             last: last_size(&read.bodies),
-            buffer,
             staged,
         };
         Ok((log, read.bodies))
@@ -116,7 +110,7 @@ impl Log {
         self.count
     }
 
-    /// Adds a body. A crash leaves the list before or with it.
+    /// Adds a body, staged by itself. A crash leaves the list before or with it. What was staged before is let go.
     pub fn append<R: Rack>(&mut self, rack: &mut R, body: &[u8]) -> Result<(), DiskFault>
         requires size { length body.now < 2 ^ 16 }
         requires room { self.old.count < 65536 }
@@ -130,20 +124,16 @@ impl Log {
         ensures any_moment { Told (R.disk rack.old) → (bodies : List (List ℕ)) → StandsFor self.old bodies (R.disk rack.old) →
             EachImage (R.disk rack.new) (R.disk rack.old).moment (LogsBeforeOrWith self.old.file bodies body.now) }
         ensures others { Told (R.disk rack.old) → OthersAsBefore self.old.file (R.disk rack.old) (R.disk rack.new) }
-        // What was staged is let go.
         ensures ok { OnOk result (HasOneMore self.old self.new) }
-        ensures err { OnErr result (self.new ≡ self.old) }
+        ensures err { OnErr result (self.new ≡ unstaged self.old) }
         ensures rack { LeavesRack R.Rack rack.old rack.new (IsErr result) }
         ensures quiet { OnOk result (R.faults rack.new ≡ R.faults rack.old) }
     {
-        let size = self.buffer.fill(body);
-        write_and_sync(rack, self.file, self.end + 1, self.buffer.part(1, size))?;
-        write_and_sync(rack, self.file, self.end, self.buffer.part(0, 1))?;
-        self.end += size as u64 - 1;
-        self.count += 1;
-        self.last = Some(body.len() as u32);
-        self.staged.clear();
-        Ok(())
+        self.unstage();
+        self.stage(body);
+        let result = self.append_staged(rack);
+        self.unstage();
+        result
     }
 
     /// Adds a body to those that `append_staged` will append. The log stands for the same list.
@@ -275,7 +265,7 @@ impl Log {
         sync(rack)
     }
 
-    /// Whether the last body can be retracted: after an `append`, and after an `open` that found a record, until a `retract`.
+    /// Whether the last body can be retracted: after an append, and after an `open` that found a record, until a `retract`.
     pub fn can_retract(&self) -> bool
         ensures { IsTrue result ↔ CanRetract self.now }
     {

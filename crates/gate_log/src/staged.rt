@@ -3,7 +3,6 @@ ghost use Rattle.std.specs.Prelude.{◌≡◌, ◌<◌, ◌≤◌, ◌+◌, ◌^
 ghost use Rattle.gate_log.specs.LogFile.{framed, records_size, last_size};
 ghost use Rattle.gate_log.specs.Staging.{plain_records};
 
-use crate::buffer::frame;
 use std::alloc::{AllocError, Global};
 use std::marker::Model;
 
@@ -33,6 +32,24 @@ impl Model for Staged {
         × (take (s.size + 1) s.bytes.items ≡ plain_records (staged_in (take (s.size + 1) s.bytes.items)))
         × (s.count ≡ length (staged_in (take (s.size + 1) s.bytes.items)))
         × (s.last ≡ last_size (staged_in (take (s.size + 1) s.bytes.items))) };
+}
+
+// Puts an open gate, a body behind its length, and a closed gate at the front, and says how many bytes they are.
+fn frame(buffer: &mut [u8], body: &[u8]) -> usize
+    requires body { length body.now < 2 ^ 16 }
+    requires room { length body.now + 4 ≤ length buffer.old }
+    ensures size { result ≡ length body.now + 4 }
+    ensures same { length buffer.new ≡ length buffer.old }
+    ensures bytes { take result buffer.new ≡ 1 ∷ framed body.now ++ 0 ∷ [] }
+{
+    let size = body.len();
+    let (head, rest) = buffer.split_at_mut(3);
+    head[0] = 1;
+    head[1] = (size % 256) as u8;
+    head[2] = (size / 256) as u8;
+    rest[..size].copy_from_slice(body);
+    rest[size] = 0;
+    size + 4
 }
 
 // Puts an open gate, a body behind its length, and a closed gate at a place.

@@ -4,7 +4,10 @@ use Rattle.std.proofs.lemmas.Bool.{false≢true}
 use Rattle.std.specs.Prelude.{IsSome}
 use Rattle.subsystem_store.specs.declared.effect.Effect.{Effect}
 use Rattle.history_files.specs.Sound.{counted, is_among}
-use Rattle.history_files.specs.Standing.{book_after}
+
+-- the book once an effect in doubt is committed, as a recorded one is, or taken back
+abbrev pub book_after : Bool → List Effect → Effect → List Effect
+book_after recorded book e = if recorded then book ++ e ∷ [] else book
 
 -- once the doubt is ended by whether the effect stands among the effects, the book is all of them
 pub counts_after : (recorded : Bool) (es book : List Effect) (e : Effect) → is_among e es ≡ recorded → counted es book (Some e) ≡ es → book_after recorded book e ≡ es

@@ -8,7 +8,7 @@ pub mod EndedDoubts
 pub mod Answered
 pub mod Preparing
 pub mod GoodBooks
-pub mod PrepareAnswers
+pub mod NoDoubt
 pub mod Clearing
 pub mod MadeStores
 pub mod UsedFiles

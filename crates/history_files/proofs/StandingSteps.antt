@@ -13,7 +13,7 @@ use Rattle.process_tree.specs.declared.plan.Plan.{Plan}
 use Rattle.schedule_model.specs.declared.event.Event.{Event}
 use Rattle.schedule_model.specs.declared.event.Event.TheVariants.{Start, Act, End}
 use Rattle.schedule_model.specs.Conflict.{ConflictRelation}
-use Rattle.schedule_model.specs.Course.{Course, op_of, access_at}
+use Rattle.schedule_model.specs.Course.{Course, access_at}
 use Rattle.schedule_model.specs.Histories.{acts, net, net_of, same_step}
 use Rattle.schedule_model.specs.Legal.{is_clear, is_legal, may_come}
 use Rattle.schedule_model.specs.OwnOrder.{keeps_order}

@@ -1,5 +1,5 @@
 -- Effects of several events at once, and what a history says of them.
-use Rattle.std.specs.Prelude.{◌≡◌, ℕ, true, false, List, ◌++◌, Option, Some}
+use Rattle.std.specs.Prelude.{◌≡◌, ℕ, true, false, List, ◌++◌, Option, Some, None}
 use Rattle.schedule_model.specs.declared.history.History.{History}
 use Rattle.commute_table.specs.declared.op.Op.{Op}
 use Rattle.subsystem_store.specs.declared.effect.Effect.{Effect}
@@ -9,7 +9,11 @@ use Rattle.store_group.specs.Events.{BecomeEach, IsCommitted, IsPrepared, effect
 use Rattle.history_files.specs.Effects.{effects}
 use Rattle.history_files.specs.Sound.{is_among}
 use Rattle.history_files.specs.Laws.{AreSettled}
-use Rattle.history_files.specs.Standing.{ComeTo, DoubtIs}
+use Rattle.history_files.specs.Standing.{AtEach, ComeTo, DoubtIs}
+
+-- nothing is in doubt in any store
+abbrev pub HasNoDoubt : {B : Type 0} → List (Opened B) → Type 0
+HasNoDoubt stores = AtEach (λ q s. s.doubt ≡ None) stores
 
 -- each of these effects fits its bytes
 abbrev pub FitEach : List (Option Effect) → Type 0

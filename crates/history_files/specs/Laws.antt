@@ -1,5 +1,5 @@
 -- What is proved of the effects of histories.
-use Rattle.std.specs.Prelude.{◌≡◌, ◌≢◌, ◌<◌, ℕ, true, false, List, [], ◌∷◌, ◌++◌, length, Some, None}
+use Rattle.std.specs.Prelude.{◌≡◌, ◌≢◌, ◌<◌, ℕ, true, false, List, [], ◌∷◌, ◌++◌, length, None}
 use Rattle.process_tree.specs.declared.entry.Entry.{Entry}
 use Rattle.process_tree.specs.declared.plan.Plan.{Plan}
 use Rattle.schedule_model.specs.declared.event.Event.TheVariants.{Act, End}
@@ -15,7 +15,7 @@ use Rattle.process_journal.specs.Bodies.{with_event, with_start}
 use Rattle.process_journal.specs.Journals.{IsHistoryUnder}
 use Rattle.history_files.specs.Effects.{effect_of, effects, subsystem_of}
 use Rattle.history_files.specs.Sound.{is_among, kind_of}
-use Rattle.history_files.specs.Standing.{AtEach, Changes, ComeTo, Commits, Doubts}
+use Rattle.history_files.specs.Standing.{AtEach}
 
 -- the effect that an act has behind a history
 abbrev pub next_effect : List Op → History → Entry → Effect
@@ -42,24 +42,6 @@ StartsAddNone = (c : Catalog) (h : History) (i : ℕ) (p : Plan) (q : ℕ) → I
 -- nothing is in doubt, and each book has the effects of the history
 abbrev pub AreSettled : {B : Type 0} → List Op → History → List (Opened B) → Type 0
 AreSettled ops h stores = AtEach (λ q s. (s.doubt ≡ None) × (s.book ≡ effects ops h q)) stores
-
--- Where the effect of an act is prepared behind settled stores, the books come to the effects of the history with the act too,
-abbrev pub PreparedComeTo : Type 0 → Type 0
-PreparedComeTo B = (ops : List Op) (h : History) (e : Entry) (q : ℕ) (old new : List (Opened B)) → subsystem_of ops e.op ≡ q
-    → AreSettled ops h old
-    → Changes q (Doubts (Some (next_effect ops h e))) old new → ComeTo ops (with_event h (Act e)) new
-
--- and once it is committed, the stores are settled for that history.
-abbrev pub CommittedAreSettled : Type 0 → Type 0
-CommittedAreSettled B = (ops : List Op) (h : History) (e : Entry) (q : ℕ) (old new last : List (Opened B))
-    → subsystem_of ops e.op ≡ q → AreSettled ops h old
-    → Changes q (Doubts (Some (next_effect ops h e))) old new → Changes q Commits new last
-    → AreSettled ops (with_event h (Act e)) last
-
--- Where nothing came to be in doubt they stay settled for the history.
-abbrev pub BarredAreSettled : Type 0 → Type 0
-BarredAreSettled B = (ops : List Op) (h : History) (q : ℕ) (old new : List (Opened B)) → AreSettled ops h old
-    → Changes q (Doubts None) old new → AreSettled ops h new
 
 -- What a store is asked of an effect that is prepared.
 pub record MayBePrepared (c : Catalog) (h : History) (e : Entry) (q : ℕ) : Type 0 where

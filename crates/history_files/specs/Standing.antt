@@ -1,6 +1,5 @@
 -- What nine files are seen as, and for which history they stand.
-use Rattle.std.specs.Prelude.{◌≡◌, ◌↔◌, ◌⊎◌, ℕ, ◌+◌, Bool, true, List, [], ◌∷◌, ◌++◌, length, Option, Some, None, IfSome, slice_set}
-use Rattle.std.specs.Prelude.{if◌then◌else◌}
+use Rattle.std.specs.Prelude.{◌≡◌, ℕ, ◌+◌, Bool, List, [], length, Some, None, slice_set}
 use Rattle.std.specs.List.{slice_get}
 use Rattle.process_disk.specs.Disk.{Disk}
 use Rattle.gate_log.specs.Standing.{LogState}
@@ -9,15 +8,11 @@ use Rattle.schedule_model.specs.declared.history.History.{History}
 use Rattle.commute_table.specs.declared.catalog.Catalog.{Catalog}
 use Rattle.commute_table.specs.declared.op.Op.{Op}
 use Rattle.subsystem_store.specs.declared.effect.Effect.{Effect}
-use Rattle.subsystem_store.specs.declared.errors.Prepare.{Prepare}
-use Rattle.subsystem_store.specs.declared.errors.Prepare.TheVariants.{Prepared, Barred, DiskFault as PrepareFault}
-use Rattle.subsystem_store.specs.declared.errors.Prepare.TheVariants.{NoMemory as PrepareMemory}
-use Rattle.subsystem_store.specs.Answers.{doubt_after}
 use Rattle.subsystem_store.specs.Laws.{IsGoodBook}
 use Rattle.subsystem_store.specs.Opened.{Opened, Fits, account_of, Stands}
 use Rattle.process_journal.specs.Opened.{Stands as JournalStands}
 use Rattle.history_files.specs.Effects.{effects}
-use Rattle.history_files.specs.Sound.{kind_of, counted, is_among, is_barred}
+use Rattle.history_files.specs.Sound.{kind_of, counted, is_among}
 
 -- What the files are seen as: their rack, the journal, and the stores of the subsystems in order.
 pub record FilesState (R B : Type 0) : Type 0 where
@@ -60,21 +55,9 @@ pub record Changes {B : Type 0} (q : ℕ) (step : Opened B → Opened B → Type
   pub is : new ≡ slice_set old q after
   pub by : step before after
 
--- the book once an effect in doubt is committed, as a recorded one is, or taken back
-abbrev pub book_after : Bool → List Effect → Effect → List Effect
-book_after recorded book e = if recorded then book ++ e ∷ [] else book
-
--- the effect in doubt is committed or taken back
-abbrev pub EndsDoubt : {B : Type 0} → Bool → Opened B → Opened B → Type 0
-EndsDoubt recorded before after = (after.doubt ≡ None) × IfSome before.doubt (λ e. after.book ≡ book_after recorded before.book e)
-
--- the effect in doubt is committed
-abbrev pub Commits : {B : Type 0} → Opened B → Opened B → Type 0
-Commits before after = EndsDoubt true before after
-
--- this is in doubt afterwards
-abbrev pub Doubts : {B : Type 0} → Option Effect → Opened B → Opened B → Type 0
-Doubts doubt before after = (after.doubt ≡ doubt) × (after.book ≡ before.book)
+-- the effect in doubt is taken back
+abbrev pub RollsBack : {B : Type 0} → Opened B → Opened B → Type 0
+RollsBack before after = (after.doubt ≡ None) × (after.book ≡ before.book)
 
 -- The files stand for a history: the journal stands for it, each store stands for a book that it may have, and each book comes to
 -- the effects of the history.
@@ -95,16 +78,3 @@ pub record AreNewFiles {R B : Type 0} (box : Resources B) (f : FilesState R B) :
   pub fits : EachFits box f.stores
   pub good : AreGoodBooks f.stores
   pub count : f.journal.count ≡ 1
-
--- What a prepare answers: the effect is barred exactly where the values of its store bar it; an undo never is, nor does it want
--- memory.
-pub record AnswersPrepare {B : Type 0} (q : ℕ) (effect : Effect) (stores : List (Opened B)) (result : Prepare) : Type 0 where
-  pub barred : (s : Opened B) → slice_get stores q ≡ Some s → (result ≡ Barred) ↔ (is_barred s.kind s.book effect ≡ true)
-  pub undo : effect.undo ≡ true → (result ≡ Prepared) ⊎ (result ≡ PrepareFault)
-
--- What it leaves of the files: the effect is in doubt in its store where it is prepared, the rest is as before, and where it is
--- barred, or wants memory, the rack is too.
-pub record IsLeftByPrepare {R B : Type 0} (q : ℕ) (effect : Effect) (old new : FilesState R B) (result : Prepare) : Type 0 where
-  pub journal : new.journal ≡ old.journal
-  pub changes : Changes q (Doubts (doubt_after result effect)) old.stores new.stores
-  pub untouched : ((result ≡ Barred) ⊎ (result ≡ PrepareMemory)) → new.rack ≡ old.rack

@@ -1,5 +1,5 @@
-// The steps of several events at once: prepared, recorded, committed.
-ghost use Rattle.std.specs.Prelude.{◌≢◌, ◌≤◌, ◌≡◌, ◌<◌, ◌+◌, [], List, length, map, OnOk, OnErr, IsErr};
+// The steps of events: prepared, recorded, committed, several at once.
+ghost use Rattle.std.specs.Prelude.{◌≢◌, ◌≤◌, ◌≡◌, ◌<◌, ◌+◌, ◌^◌, [], List, length, map, OnOk, OnErr, IsErr, IsOk, Option, None, false};
 ghost use Rattle.process_disk.specs.Disk.{Told};
 ghost use Rattle.process_disk.specs.Racks.{LeavesImages};
 ghost use Rattle.process_disk.specs.Images.{EachImage};
@@ -9,12 +9,12 @@ ghost use Rattle.schedule_model.specs.declared.history.History.{History};
 ghost use Rattle.commute_table.specs.declared.catalog.Catalog.{Catalog};
 ghost use Rattle.journal_records.specs.declared.record.Record.{Record};
 ghost use Rattle.journal_records.specs.Bytes.{bytes_of};
-ghost use Rattle.process_journal.specs.Journals.{AreMadeBy};
-ghost use Rattle.process_journal.specs.Opened.{GoesOnStaged};
+ghost use Rattle.process_journal.specs.Journals.{AreMadeBy, IsHistoryUnder, IsMadeBy};
+ghost use Rattle.process_journal.specs.Opened.{GoesOn, GoesOnStaged};
 ghost use Rattle.history_files.specs.Sound.{IsSound, IsSoundForEither};
 ghost use Rattle.history_files.specs.Standing.{AreGoodBooks, ComeTo, EachFits, Stand, StandForSome};
 ghost use Rattle.store_group.specs.Events.{BecomeEach, IsUnchanged, IsPrepared, IsCommitted, MayPrepareEach, effect_for};
-ghost use Rattle.history_files.specs.Groups.{FitEach, LacksEach, HasEachDoubt};
+ghost use Rattle.history_files.specs.Groups.{FitEach, HasEachDoubt, HasNoDoubt, LacksEach};
 
 use crate::Files;
 use gate_log::DiskFault;
@@ -50,7 +50,7 @@ impl<R: Rack + Drop, B: Resource> Files<R, B> {
     }
 
     /// Commits each effect that is in doubt, which the history has, with two syncs for all. A crash leaves files that are sound for
-    /// the history, whichever effects are committed in them.
+    /// the history, whichever effects are committed in them. With nothing in doubt it makes no call of the rack.
     pub fn commit_staged(&mut self) -> Result<(), DiskFault>
         requires fits { EachFits B.Resource self.old.stores }
         requires stand { Told (R.disk self.old.rack) → StandForSome self.old.journal self.old.stores (R.disk self.old.rack) }
@@ -64,10 +64,15 @@ impl<R: Rack + Drop, B: Resource> Files<R, B> {
         ensures good { AreGoodBooks self.old.stores → AreGoodBooks self.new.stores }
         ensures journal { self.new.journal ≡ self.old.journal }
         ensures ok { OnOk result (BecomeEach (λ q s t. IsCommitted s t) self.old.stores self.new.stores) }
+        ensures none { HasNoDoubt self.old.stores → IsOk result × (self.new ≡ self.old) }
         ensures err { OnErr result (BecomeEach (λ q s t. IsUnchanged s t) self.old.stores self.new.stores) }
         ensures rack { LeavesImages R.Rack self.old.rack self.new.rack (IsErr result) }
     {
         calls_make_good_books();
+        self.soundness_holds();
+        if !self.has_doubt() {
+            return Ok(());
+        }
         commit_each(&mut self.stores, &mut self.rack)
     }
 
@@ -107,5 +112,26 @@ impl<R: Rack + Drop, B: Resource> Files<R, B> {
         ensures rack { LeavesImages R.Rack self.old.rack self.new.rack (IsErr result) }
     {
         self.journal.append_staged(&mut self.rack)
+    }
+
+    /// Adds a record to the journal, by itself. A crash leaves files that are sound for the history before it or with it.
+    pub fn record(&mut self, entry: &Record) -> Result<(), DiskFault>
+        requires size { length (bytes_of entry.now) < 2 ^ 16 }
+        requires room { self.old.journal.count < 65536 }
+        requires goes_on { Told (R.disk self.old.rack) → GoesOn self.old.journal entry.now (R.disk self.old.rack) }
+        ensures acknowledged { Told (R.disk self.old.rack) → (c : Catalog) (h after : History)
+            → Stand c h self.old.journal self.old.stores (R.disk self.old.rack) →
+            IsMadeBy c entry.now h after → IsHistoryUnder c after → ComeTo c.ops after self.old.stores →
+            OnOk result (Stand c after self.new.journal self.new.stores (R.disk self.new.rack)) }
+        ensures any_moment { Told (R.disk self.old.rack) → (c : Catalog) (h after : History)
+            → Stand c h self.old.journal self.old.stores (R.disk self.old.rack) →
+            IsMadeBy c entry.now h after → IsHistoryUnder c after → ComeTo c.ops after self.old.stores →
+            EachImage (R.disk self.new.rack) (R.disk self.old.rack).moment (IsSoundForEither c h after) }
+        ensures same { self.new.stores ≡ self.old.stores }
+        ensures ok { OnOk result (self.new.journal.count ≡ self.old.journal.count + 1) }
+        ensures err { OnErr result (self.new.journal ≡ unstaged self.old.journal) }
+        ensures rack { LeavesImages R.Rack self.old.rack self.new.rack (IsErr result) }
+    {
+        self.journal.append(&mut self.rack, entry)
     }
 }

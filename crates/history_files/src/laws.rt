@@ -1,7 +1,6 @@
 // What is proved of the effects of histories: each function says it, and does nothing.
 ghost use Rattle.history_files.specs.Laws.{ActsAddTheirEffect, EndsAddNone, StartsAddNone, NextEffectsMayBePrepared};
 ghost use Rattle.history_files.specs.Groups.{GroupsComeTo, GroupsAreSettled};
-ghost use Rattle.history_files.specs.Laws.{PreparedComeTo, CommittedAreSettled, BarredAreSettled};
 
 /// An act adds its effect to those of the history on its subsystem, and neither a start nor an end adds any.
 pub fn events_add_effects()
@@ -13,14 +12,6 @@ pub fn events_add_effects()
 /// The effect of each act that a history may go on with may be prepared in its store.
 pub fn next_effects_may_be_prepared()
     ensures { NextEffectsMayBePrepared }
-{}
-
-/// Once the effect of an act is prepared, the books come to the effects of the history with the act; committed, they have them;
-/// refused, they have those of before.
-pub fn books_come_to_acts<B: Drop>()
-    ensures prepared { PreparedComeTo B }
-    ensures committed { CommittedAreSettled B }
-    ensures barred { BarredAreSettled B }
 {}
 
 /// Once the effects of a group are prepared, the books come to the effects of the history with all its events, which has them;

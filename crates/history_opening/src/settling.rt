@@ -5,10 +5,11 @@ ghost use Rattle.process_disk.specs.Racks.{LeavesImages};
 ghost use Rattle.process_disk.specs.Images.{EachImage};
 ghost use Rattle.schedule_model.specs.Histories.{acts};
 ghost use Rattle.history_files.specs.Effects.{effects};
+ghost use Rattle.history_files.specs.Groups.{HasEachDoubt};
 ghost use Rattle.history_files.specs.Laws.{AreSettled};
 ghost use Rattle.history_files.specs.Sound.{IsSound, is_among};
 ghost use Rattle.history_files.specs.Standing.{Stand, EachFits, AreGoodBooks, ComeTo};
-ghost use Rattle.history_opening.specs.Settling.{AreSettledBelow};
+ghost use Rattle.history_opening.specs.Settling.{AreDueBelow};
 
 use crate::effects::has_effect;
 use commute_table::Catalog;
@@ -33,8 +34,8 @@ fn is_recorded(catalog: &Catalog, history: &History, q: u8, effect: &Effect) -> 
     )
 }
 
-// Commits the effect that is in doubt in the store of a subsystem, if the history has it, and takes it back if not.
-fn settle<R: Rack + Drop, B: Resource>(
+// Takes back the effect that is in doubt in the store of a subsystem, if the history lacks it.
+fn take_back<R: Rack + Drop, B: Resource>(
     files: &mut Files<R, B>,
     q: u8,
     catalog: &Catalog,
@@ -44,7 +45,7 @@ fn settle<R: Rack + Drop, B: Resource>(
     requires fits { EachFits B.Resource files.old.stores }
     requires few { length (acts history.now.events) < 2 ^ 32 }
     requires come { ComeTo catalog.now.ops history.now files.old.stores }
-    requires below { AreSettledBelow q catalog.now.ops history.now files.old.stores }
+    requires below { AreDueBelow q catalog.now.ops history.now files.old.stores }
     requires stand { Told (R.disk files.old.rack) → Stand catalog.now history.now files.old.journal files.old.stores
         (R.disk files.old.rack) }
     ensures acknowledged { Told (R.disk files.old.rack)
@@ -52,7 +53,7 @@ fn settle<R: Rack + Drop, B: Resource>(
     ensures any_moment { Told (R.disk files.old.rack)
         → EachImage (R.disk files.new.rack) (R.disk files.old.rack).moment (IsSound catalog.now history.now) }
     ensures come { OnOk result (ComeTo catalog.now.ops history.now files.new.stores) }
-    ensures below { OnOk result (AreSettledBelow (q + 1) catalog.now.ops history.now files.new.stores) }
+    ensures below { OnOk result (AreDueBelow (q + 1) catalog.now.ops history.now files.new.stores) }
     ensures fits { EachFits B.Resource files.new.stores }
     ensures good { AreGoodBooks files.old.stores → AreGoodBooks files.new.stores }
     ensures journal { files.new.journal ≡ files.old.journal }
@@ -63,10 +64,46 @@ fn settle<R: Rack + Drop, B: Resource>(
         Some(effect) => *effect,
         None => return Ok(()),
     };
-    files.end_doubt(q, is_recorded(catalog, history, q, &effect))
+    if is_recorded(catalog, history, q, &effect) {
+        return Ok(());
+    }
+    files.roll_back(q)
 }
 
-/// Settles what is in doubt in each store by the history: it commits what the history has, and takes back the others.
+// Takes back each effect that is in doubt and that the history lacks.
+fn take_back_each<R: Rack + Drop, B: Resource>(
+    files: &mut Files<R, B>,
+    catalog: &Catalog,
+    history: &History,
+) -> Result<(), DiskFault>
+    requires fits { EachFits B.Resource files.old.stores }
+    requires few { length (acts history.now.events) < 2 ^ 32 }
+    requires come { ComeTo catalog.now.ops history.now files.old.stores }
+    requires stand { Told (R.disk files.old.rack) → Stand catalog.now history.now files.old.journal files.old.stores
+        (R.disk files.old.rack) }
+    ensures acknowledged { Told (R.disk files.old.rack)
+        → OnOk result (Stand catalog.now history.now files.new.journal files.new.stores (R.disk files.new.rack)) }
+    ensures any_moment { Told (R.disk files.old.rack)
+        → EachImage (R.disk files.new.rack) (R.disk files.old.rack).moment (IsSound catalog.now history.now) }
+    ensures come { OnOk result (ComeTo catalog.now.ops history.now files.new.stores) }
+    ensures due { OnOk result (HasEachDoubt catalog.now.ops history.now files.new.stores) }
+    ensures fits { EachFits B.Resource files.new.stores }
+    ensures good { AreGoodBooks files.old.stores → AreGoodBooks files.new.stores }
+    ensures journal { files.new.journal ≡ files.old.journal }
+    ensures rack { LeavesImages R.Rack files.old.rack files.new.rack (IsErr result) }
+{
+    files.soundness_holds();
+    let mut q = 0;
+    while q < 8 {
+        take_back(files, q, catalog, history)?;
+        q += 1;
+    }
+    files.stores_hold();
+    Ok(())
+}
+
+/// Settles what is in doubt in each store by the history: it takes back what the history lacks, and commits the others, with two
+/// syncs for all.
 pub fn settle_all<R: Rack + Drop, B: Resource>(
     files: &mut Files<R, B>,
     catalog: &Catalog,
@@ -87,12 +124,6 @@ pub fn settle_all<R: Rack + Drop, B: Resource>(
     ensures journal { files.new.journal ≡ files.old.journal }
     ensures rack { LeavesImages R.Rack files.old.rack files.new.rack (IsErr result) }
 {
-    files.soundness_holds();
-    let mut q = 0;
-    while q < 8 {
-        settle(files, q, catalog, history)?;
-        q += 1;
-    }
-    files.stores_hold();
-    Ok(())
+    take_back_each(files, catalog, history)?;
+    files.commit_staged()
 }

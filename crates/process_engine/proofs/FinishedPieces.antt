@@ -1,8 +1,7 @@
 -- What an effect makes of an engine, and a fault of the rack on the way to it.
-use Rattle.std.proofs.Common.{◌≡◌, ◌∙◌, ◌+◌, ◌∷◌, [], inl, ℕ, false, length, length-append, ap, sym, subst, if◌then◌else◌}
+use Rattle.std.proofs.Common.{◌≡◌, ◌∙◌, ◌+◌, ◌∷◌, [], ℕ, false, length, length-append, ap, sym, subst, if◌then◌else◌}
 use Rattle.process_disk.specs.Disk.{Disk, Told}
-use Rattle.process_disk.specs.Images.{EachImage, ImagesFollow}
-use Rattle.process_disk.proofs.Images.{each_so, each_then}
+use Rattle.process_disk.specs.Images.{EachImage}
 use Rattle.process_tree.specs.declared.play.Outcome.TheVariants.{Done as Succeeds}
 use Rattle.machine_model.specs.declared.kept.Work.TheVariants.{End}
 use Rattle.machine_model.specs.declared.replies.PieceState.TheVariants.{Out}
@@ -40,17 +39,6 @@ module _ {R B : Type 0} (disk : R → Disk) (old mid new : EngineState R B) (p :
     (out : state_of (moment_of old.core) p.piece.number ≡ Out) (core_mid : mid.core ≡ old.core) (catalog_mid : mid.catalog ≡ old.catalog) where
   machine_reply : finish_reply (relation old.core) (courses_in old.core) (moment_of old.core) p.piece.number Succeeds ≡ effected (length (history_of old.core) + 1)
   machine_reply = reply_is old.core p.piece handed out
-
-  -- each image is sound for the history before or with the event
-  pub images_through : ImagesFollow (disk old.files.rack) (disk mid.files.rack) → ImagesFollow (disk mid.files.rack) (disk new.files.rack)
-      → EachImage (disk mid.files.rack) (disk old.files.rack).moment (IsSound old.catalog (full_history old.core))
-      → EachImage (disk new.files.rack) (disk mid.files.rack).moment (IsSoundForEither mid.catalog (full_history mid.core) (history_with mid.core p.piece))
-      → EachImage (disk new.files.rack) (disk old.files.rack).moment (IsSoundForEither old.catalog (full_history old.core) (history_with old.core p.piece))
-  images_through before follow first second =
-      each_then (disk mid.files.rack) (disk new.files.rack) (disk old.files.rack).moment (IsSoundForEither old.catalog (full_history old.core) (history_with old.core p.piece)) before.later follow
-      (each_so (disk mid.files.rack) (disk old.files.rack).moment (IsSound old.catalog (full_history old.core)) (IsSoundForEither old.catalog (full_history old.core) (history_with old.core p.piece)) (λ files sound. inl sound) first)
-      (subst (λ c. EachImage (disk new.files.rack) (disk mid.files.rack).moment (IsSoundForEither old.catalog (full_history c) (history_with c p.piece))) core_mid
-      (subst (λ c. EachImage (disk new.files.rack) (disk mid.files.rack).moment (IsSoundForEither c (full_history mid.core) (history_with mid.core p.piece))) catalog_mid second))
 
   pub failed_finishes : new.core ≡ mid.core → new.catalog ≡ mid.catalog → new.phase ≡ phase.Closed
       → (Told (disk old.files.rack) → EachImage (disk new.files.rack) (disk old.files.rack).moment (IsSoundForEither old.catalog (full_history old.core) (history_with old.core p.piece)))

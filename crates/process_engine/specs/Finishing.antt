@@ -1,5 +1,5 @@
 -- How a piece is finished.
-use Rattle.std.specs.Prelude.{◌≡◌, ◌⊎◌, ⊤, ℕ, Bool, true, false, length, if◌then◌else◌}
+use Rattle.std.specs.Prelude.{◌≡◌, ◌⊎◌, ⊤, ℕ, Bool, true, false, length, if◌then◌else◌, Result, OnOk, OnErr, IfOk}
 use Rattle.process_disk.specs.Disk.{Disk, FileSet, Told}
 use Rattle.process_disk.specs.Images.{EachImage}
 use Rattle.process_tree.specs.declared.play.Outcome.{Outcome}
@@ -7,12 +7,13 @@ use Rattle.process_tree.specs.declared.play.Outcome.TheVariants.{Done as Succeed
 use Rattle.schedule_model.specs.declared.history.History.{History}
 use Rattle.machine_model.specs.declared.kept.Work.TheVariants.{Forward, End}
 use Rattle.machine_model.specs.declared.replies.Refusal.TheVariants.{Retry as TryAgain, Alternative, RollBack, Exhausted as UsedUp}
-use Rattle.machine_model.specs.Calls.{finish}
+use Rattle.machine_model.specs.Calls.{finish, finished}
 use Rattle.machine_model.specs.Moment.{Piece}
 use Rattle.machine_model.specs.Progress.{same_work}
 use Rattle.machine_model.specs.Replies.{Handed, Finish as Reply, effected, refused, over, dropped}
 use Rattle.commute_table.specs.declared.catalog.Catalog.{Catalog}
-use Rattle.process_core.specs.Answers.{after_call}
+use Rattle.gate_log.specs.declared.errors.DiskFault.{DiskFault as DiskFailed}
+use Rattle.process_core.specs.Answers.{after_call, answer_in}
 use Rattle.process_core.specs.Moments.{finish_reply_in}
 use Rattle.history_files.specs.Sound.{IsSound, IsSoundForEither}
 use Rattle.engine_steps.specs.Engines.{EngineState, full_history}
@@ -111,3 +112,13 @@ pub record Finishes {R B : Type 0} (disk : R → Disk) (old new : EngineState R 
   pub any_moment : Told (disk old.files.rack) → EachImage (disk new.files.rack) (disk old.files.rack).moment
       (MayLeave result old.catalog (full_history old.core) (history_with old.core p.piece))
   pub acknowledged : Acknowledges old new (disk new.files.rack) p.piece result
+
+-- What comes of a piece that takes effect by itself: the core has kept what the machine does of a piece that succeeds, with its
+-- reply, and nothing is under way; or a call of the rack failed, the engine is closed, and its core is as it was.
+pub record SettlesPiece {R B : Type 0} (old new : EngineState R B) (p : Handed) (result : Result ℕ DiskFailed) : Type 0 where
+  pub core : OnOk result (new.core ≡ after_call old.core (finish p.piece.number Succeeds))
+  pub reply : IfOk result (λ n. (answer_in old.core (finish p.piece.number Succeeds)).reply ≡ finished (effected n))
+  pub settled : OnOk result (new.phase ≡ phase.Settled)
+  pub left : OnErr result (new.core ≡ old.core)
+  pub closed : OnErr result (new.phase ≡ phase.Closed)
+  pub catalog : new.catalog ≡ old.catalog

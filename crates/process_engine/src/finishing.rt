@@ -1,10 +1,10 @@
 // Pieces are finished.
-ghost use Rattle.std.specs.Prelude.{◌≡◌, ◌≢◌, length, IsErr};
+ghost use Rattle.std.specs.Prelude.{◌≡◌, ◌≢◌, length, IsErr, OnErr, OnOk};
 ghost use Rattle.process_disk.specs.Disk.{Told};
 ghost use Rattle.process_disk.specs.Racks.{LeavesImages};
 ghost use Rattle.process_disk.specs.Images.{EachImage};
 ghost use Rattle.process_tree.specs.declared.play.Outcome.TheVariants.{Done as Succeeds, Refused as Fails};
-ghost use Rattle.machine_model.specs.declared.kept.Work.TheVariants.{End};
+ghost use Rattle.machine_model.specs.declared.kept.Work.TheVariants.{End, Forward};
 ghost use Rattle.machine_model.specs.declared.replies.PieceState.TheVariants.{Out};
 ghost use Rattle.machine_model.specs.Pieces.{state_of};
 ghost use Rattle.machine_model.specs.Replies.{refused};
@@ -12,16 +12,20 @@ ghost use Rattle.process_core.specs.Cores.{IsHandedBy, moment_of};
 ghost use Rattle.history_files.specs.Sound.{IsSoundForEither};
 ghost use Rattle.history_files.specs.Standing.{EachFits};
 ghost use Rattle.engine_steps.specs.Engines.{full_history};
-ghost use Rattle.engine_steps.specs.Pieces.{IsPrepared, IsStepOut, history_with, SettlesPiece};
+ghost use Rattle.engine_steps.specs.Pieces.{IsStepOut, history_with};
 ghost use Rattle.engine_steps.specs.declared.engines.Phase.TheVariants as phase;
-ghost use Rattle.process_engine.specs.Finishing.{Finishes, RepliesAs, is_barred, outcome_of};
+ghost use Rattle.process_engine.specs.Finishing.{Finishes, RepliesAs, SettlesPiece, is_barred, outcome_of};
+ghost use Rattle.process_engine.specs.Pieces.{FitsItsBytes, IsOut};
+ghost use Rattle.process_engine.specs.Queues.{HasRoomFor};
 
 use crate::Answer;
-use engine_steps::{Closed, Engine, PreparePiece, Prepared};
+use crate::flushing::put_group;
+use engine_steps::{Closed, Engine};
 use gate_log::DiskFault;
 use process_core::{Piece, PieceState, Refusal, Work};
 use process_disk::Rack;
 use resource_box::Resource;
+use std::alloc::AllocError;
 
 /// What the end of a piece answers.
 #[derive(Drop)]
@@ -70,19 +74,72 @@ fn finish_refused<R: Rack + Drop, B: Resource>(engine: &mut Engine<R, B>, piece:
     refused_as(engine.refuse_piece(piece))
 }
 
-// The end of a process takes effect.
-fn finish_end<R: Rack + Drop, B: Resource>(engine: &mut Engine<R, B>, piece: Piece) -> Finish
+// The numbers of a piece fit their bytes.
+fn piece_fits(piece: &Piece)
+    ensures { FitsItsBytes piece.now.piece }
+{
+    let _ = (piece.process(), piece.step());
+}
+
+// Makes room for the effect of a piece: a step needs it, and an undo and an end don't.
+fn make_room<R: Rack + Drop, B: Resource>(
+    engine: &mut Engine<R, B>,
+    piece: &Piece,
+) -> Result<(), AllocError>
+    requires fits { EachFits B.Resource engine.old.files.stores }
+    ensures core { engine.new.core ≡ engine.old.core }
+    ensures catalog { engine.new.catalog ≡ engine.old.catalog }
+    ensures phase { engine.new.phase ≡ engine.old.phase }
+    ensures rack { engine.new.files.rack ≡ engine.old.files.rack }
+    ensures room { OnOk result (HasRoomFor engine.new piece.now.piece) }
+    ensures step { OnErr result (piece.now.piece.work ≡ Forward) }
+    ensures fits { EachFits B.Resource engine.new.files.stores }
+{
+    match piece.work() {
+        Work::Forward => engine.make_room(piece),
+        Work::Undo | Work::End => Ok(()),
+    }
+}
+
+// A piece that is out takes effect, as a group of one; the answer is how many events the history has then.
+fn put_alone<R: Rack + Drop, B: Resource>(
+    engine: &mut Engine<R, B>,
+    piece: Piece,
+) -> Result<u32, DiskFault>
     requires fits { EachFits B.Resource engine.old.files.stores }
     requires settled { engine.old.phase ≡ phase.Settled }
-    requires handed { IsHandedBy engine.old.core piece.piece }
-    requires out { state_of (moment_of engine.old.core) piece.piece.number ≡ Out }
-    requires end { piece.piece.work ≡ End }
+    requires out { IsOut engine.old.core piece.piece }
+    requires room { HasRoomFor engine.old piece.piece }
+    ensures settles { SettlesPiece engine.old engine.new piece result }
+    ensures any_moment { Told (R.disk engine.old.files.rack)
+        → EachImage (R.disk engine.new.files.rack) (R.disk engine.old.files.rack).moment
+        (IsSoundForEither engine.old.catalog (full_history engine.old.core) (history_with engine.old.core piece.piece)) }
+    ensures fits { EachFits B.Resource engine.new.files.stores }
+    ensures rack { LeavesImages R.Rack engine.old.files.rack engine.new.files.rack (IsErr result) }
+{
+    engine.invariant_holds();
+    piece_fits(&piece);
+    let events = [engine.event_of(&piece)];
+    put_group(engine, &events)?;
+    let count = engine.keep_effect(piece);
+    engine.settle_group();
+    Ok(count)
+}
+
+// A piece takes effect: a step that nothing bars, an undo, or the end of a process.
+fn finish_effect<R: Rack + Drop, B: Resource>(engine: &mut Engine<R, B>, piece: Piece) -> Finish
+    requires fits { EachFits B.Resource engine.old.files.stores }
+    requires settled { engine.old.phase ≡ phase.Settled }
+    requires out { IsOut engine.old.core piece.piece }
     ensures finishes { Finishes R.disk engine.old engine.new piece Succeeds result }
     ensures fits { EachFits B.Resource engine.new.files.stores }
     ensures rack { LeavesImages R.Rack engine.old.files.rack engine.new.files.rack (result ≡ Finish.DiskFault) }
 {
     engine.invariant_holds();
-    match engine.end_piece(piece) {
+    if make_room(engine, &piece).is_err() {
+        return Finish::NoMemory(piece);
+    }
+    match put_alone(engine, piece) {
         Ok(count) => {
             engine.invariant_holds();
             Finish::Effected(count)
@@ -91,25 +148,7 @@ fn finish_end<R: Rack + Drop, B: Resource>(engine: &mut Engine<R, B>, piece: Pie
     }
 }
 
-// A prepared piece is recorded and settled; the answer is how many events the history has then.
-fn finish_prepared<R: Rack + Drop, B: Resource>(
-    engine: &mut Engine<R, B>,
-    prepared: Prepared,
-) -> Result<u32, DiskFault>
-    requires fits { EachFits B.Resource engine.old.files.stores }
-    requires prepared { IsPrepared engine.old (R.disk engine.old.files.rack) prepared }
-    ensures settles { SettlesPiece engine.old engine.new prepared.piece result }
-    ensures any_moment { Told (R.disk engine.old.files.rack)
-        → EachImage (R.disk engine.new.files.rack) (R.disk engine.old.files.rack).moment
-        (IsSoundForEither engine.old.catalog (full_history engine.old.core) (history_with engine.old.core prepared.piece.piece)) }
-    ensures fits { EachFits B.Resource engine.new.files.stores }
-    ensures rack { LeavesImages R.Rack engine.old.files.rack engine.new.files.rack (IsErr result) }
-{
-    let recorded = engine.record_piece(prepared)?;
-    engine.settle_piece(recorded)
-}
-
-// The work of a piece is done: it takes effect, unless the values bar it.
+// The work of a step or of an undo is done: it takes effect, unless the values bar it.
 fn finish_done<R: Rack + Drop, B: Resource>(engine: &mut Engine<R, B>, piece: Piece) -> Finish
     requires fits { EachFits B.Resource engine.old.files.stores }
     requires settled { engine.old.phase ≡ phase.Settled }
@@ -119,19 +158,10 @@ fn finish_done<R: Rack + Drop, B: Resource>(engine: &mut Engine<R, B>, piece: Pi
     ensures fits { EachFits B.Resource engine.new.files.stores }
     ensures rack { LeavesImages R.Rack engine.old.files.rack engine.new.files.rack (result ≡ Finish.DiskFault) }
 {
-    engine.invariant_holds();
-    match engine.prepare_piece(piece) {
-        PreparePiece::Ready(prepared) => match finish_prepared(engine, prepared) {
-            Ok(count) => {
-                engine.invariant_holds();
-                Finish::Effected(count)
-            }
-            Err(DiskFault) => Finish::DiskFault,
-        },
-        PreparePiece::Barred(piece) => finish_refused(engine, piece),
-        PreparePiece::DiskFault => Finish::DiskFault,
-        PreparePiece::NoMemory(piece) => Finish::NoMemory(piece),
+    if engine.bars(&piece) {
+        return finish_refused(engine, piece);
     }
+    finish_effect(engine, piece)
 }
 
 // A piece that is out is finished.
@@ -150,7 +180,7 @@ fn finish_out<R: Rack + Drop, B: Resource>(
     ensures rack { LeavesImages R.Rack engine.old.files.rack engine.new.files.rack (result ≡ Finish.DiskFault) }
 {
     if let Work::End = piece.work() {
-        return finish_end(engine, piece);
+        return finish_effect(engine, piece);
     }
     match answer {
         Answer::Done => finish_done(engine, piece),
@@ -159,7 +189,7 @@ fn finish_out<R: Rack + Drop, B: Resource>(
 }
 
 /// Ends a piece that this engine handed out, by what came of its work; an end is answered that it is done. A piece whose work is
-/// done takes effect, unless the values bar it, which is as if it were refused.
+/// done takes effect, as a group of one, unless the values bar it, which is as if it were refused.
 pub fn finish_piece<R: Rack + Drop, B: Resource>(
     engine: &mut Engine<R, B>,
     piece: Piece,

@@ -138,7 +138,7 @@ impl Journal {
         ensures others { Told (R.disk rack.old) → OthersAsBefore 0 (R.disk rack.old) (R.disk rack.new) }
         // What was staged is let go.
         ensures ok { OnOk result (HasOneMore self.old self.new) }
-        ensures err { OnErr result (self.new ≡ self.old) }
+        ensures err { OnErr result (self.new ≡ unstaged self.old) }
         ensures rack { LeavesRack R.Rack rack.old rack.new (IsErr result) }
         ensures quiet { OnOk result (R.faults rack.new ≡ R.faults rack.old) }
     {
@@ -202,7 +202,7 @@ impl Journal {
         ensures others { Told (R.disk rack.old) → OthersAsBefore self.old.file (R.disk rack.old) (R.disk rack.new) }
         ensures file { self.old.file ≡ 0 }
         ensures ok { OnOk result (HasOneMore self.old self.new) }
-        ensures err { OnErr result (self.new ≡ self.old) }
+        ensures err { OnErr result (self.new ≡ unstaged self.old) }
         ensures rack { LeavesRack R.Rack rack.old rack.new (IsErr result) }
         ensures quiet { OnOk result (R.faults rack.new ≡ R.faults rack.old) }
     {

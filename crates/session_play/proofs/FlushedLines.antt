@@ -3,8 +3,8 @@ use Rattle.std.proofs.Common.{◌≡◌, Bool, true, false, cond, List, [], ◌�
 use Rattle.machine_model.specs.Moment.{Moment}
 use Rattle.machine_model.specs.Pieces.{runs}
 use Rattle.machine_model.specs.Replies.{Handed}
-use Rattle.group_flush.specs.Pieces.{numbers_of}
-use Rattle.group_flush.specs.Queues.{pieces_of}
+use Rattle.process_engine.specs.Pieces.{numbers_of}
+use Rattle.process_engine.specs.Queues.{pieces_of}
 use Rattle.session_play.specs.Pieces.{number_of}
 
 -- the numbers of those that run

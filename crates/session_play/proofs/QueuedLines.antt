@@ -15,11 +15,11 @@ use Rattle.engine_steps.specs.Engines.{EngineState}
 use Rattle.engine_steps.specs.Rooms.{MakesRoomFor}
 use Rattle.process_engine.specs.Finishing.{is_barred}
 use Rattle.process_engine.specs.declared.gates.Answer.{Answer}
-use Rattle.group_flush.specs.Pieces.{numbers_of}
-use Rattle.group_flush.specs.Queueing.{Leaves, Queues, RepliesAs, reply_to, taken_by}
-use Rattle.group_flush.specs.Queues.{pieces_of}
-use Rattle.group_flush.specs.declared.replies.Queue.{Queue}
-use Rattle.group_flush.specs.declared.replies.Queue.TheVariants as queues
+use Rattle.process_engine.specs.Pieces.{numbers_of}
+use Rattle.process_engine.specs.Queueing.{Leaves, Queues, RepliesAs, reply_to, taken_by}
+use Rattle.process_engine.specs.Queues.{pieces_of}
+use Rattle.process_engine.specs.declared.replies.Queue.{Queue}
+use Rattle.process_engine.specs.declared.replies.Queue.TheVariants as queues
 use Rattle.session_play.specs.Answering.{queue_alone}
 use Rattle.session_play.specs.Pieces.{full_of, number_of, session_of}
 use Rattle.session_play.specs.Playing.{SessionState, core_after, queue_with, reply_to_queue}

@@ -3,7 +3,7 @@ use Rattle.std.specs.Prelude.{List, []}
 use Rattle.machine_model.specs.Replies.{Handed}
 use Rattle.process_core.specs.Cores.{CoreState}
 use Rattle.engine_steps.specs.Engines.{EngineState}
-use Rattle.group_flush.specs.Queues.{AreQueued}
+use Rattle.process_engine.specs.Queues.{AreQueued}
 use Rattle.session_play.specs.declared.at_hand.AtHand.{AtHand}
 use Rattle.session_play.specs.Pieces.{AreHandedBy, session_of}
 use Rattle.session_play.specs.Playing.{SessionState}

@@ -8,8 +8,8 @@ use Rattle.process_core.specs.declared.replies.Admit.{Admit}
 use Rattle.process_core.specs.declared.replies.Admit.TheVariants as admits
 use Rattle.process_core.specs.declared.replies.Next.{Next}
 use Rattle.process_core.specs.declared.replies.Next.TheVariants as nexts
-use Rattle.group_flush.specs.declared.replies.Queue.{Queue}
-use Rattle.group_flush.specs.declared.replies.Queue.TheVariants as queues
+use Rattle.process_engine.specs.declared.replies.Queue.{Queue}
+use Rattle.process_engine.specs.declared.replies.Queue.TheVariants as queues
 use Rattle.session_play.specs.Playing.{SessionState}
 
 abbrev pub number_of : Handed → ℕ

@@ -31,8 +31,8 @@ use Rattle.process_engine.specs.Finishing.{outcome_of}
 use Rattle.process_engine.specs.declared.gates.Answer.{Answer}
 use Rattle.process_engine.specs.declared.gates.Answer.TheVariants as answers
 use Rattle.history_files.specs.Effects.{subsystem_of}
-use Rattle.group_flush.specs.Pieces.{after_effects}
-use Rattle.group_flush.specs.Queueing.{queue_reply_in, taken_by}
+use Rattle.process_engine.specs.Pieces.{after_effects}
+use Rattle.process_engine.specs.Queueing.{queue_reply_in, taken_by}
 use Rattle.engine_calls.specs.GateAnswers.{is_barred_in}
 use Rattle.process_report.specs.Lines.{Line as Words, text_of}
 use Rattle.session_text.specs.declared.line.Line.{Line}

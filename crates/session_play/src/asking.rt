@@ -1,7 +1,7 @@
 // The lines `admit I`, `next` and `abort I`.
 ghost use Rattle.std.specs.Prelude.{◌≡◌, List, IfOk, IfErr, OnOk};
 ghost use Rattle.machine_model.specs.Replies.{Handed};
-ghost use Rattle.group_flush.specs.Queues.{KeepsQueued};
+ghost use Rattle.process_engine.specs.Queues.{KeepsQueued};
 ghost use Rattle.engine_calls.specs.Runs.{GoesOnAlone, IsReady};
 ghost use Rattle.session_play.specs.Answering.{IsAnswered, IsCut};
 ghost use Rattle.session_play.specs.Pieces.{session_of, AreHandedBy};

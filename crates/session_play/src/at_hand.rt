@@ -2,7 +2,7 @@
 ghost use Rattle.std.specs.Prelude.{◌≡◌, IfOk};
 ghost use Rattle.session_play.specs.AtHand.{hand_of, none_at_hand};
 
-use group_flush::Queued;
+use process_engine::Queued;
 use process_core::Piece;
 use std::alloc::{AllocError, Global};
 

@@ -5,7 +5,7 @@ ghost use Rattle.session_play.specs.Pieces.{admitted_pieces, chosen_pieces, full
 ghost use Rattle.session_play.specs.declared.cut.Cut.TheVariants.{NoMemory};
 
 use crate::Cut;
-use group_flush::Queue;
+use process_engine::Queue;
 use process_core::{Admit, Next, Piece};
 
 /// The place of the piece of this number.

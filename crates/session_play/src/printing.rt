@@ -9,16 +9,15 @@ ghost use Rattle.machine_model.specs.Replies.{Finish as FinishReply, Handed};
 ghost use Rattle.process_core.specs.Handing.{admit_reply_of};
 ghost use Rattle.process_core.specs.Rotation.{next_reply_of};
 ghost use Rattle.process_engine.specs.Finishing.{RepliesAs};
-ghost use Rattle.group_flush.specs.Queueing.{RepliesAs as IsReplyTo};
+ghost use Rattle.process_engine.specs.Queueing.{RepliesAs as IsReplyTo};
 ghost use Rattle.process_report.specs.Lines.{text_of};
 ghost use Rattle.session_text.specs.Answers.{admit_words, finish_words, next_words, numbered, piece_words, queue_words};
 ghost use Rattle.session_play.specs.Playing.{victim_of};
 ghost use Rattle.session_play.specs.declared.cut.Cut.TheVariants.{DiskFault, NoMemory};
 
 use crate::Cut;
-use group_flush::Queue;
 use process_core::{Admit, Kept, Next, Piece, Refusal};
-use process_engine::Finish;
+use process_engine::{Finish, Queue};
 use schedule_model::History;
 use session_text::{
     put_all_ended, put_block, put_exhausted, put_no_piece, put_number, put_piece, put_refusal,

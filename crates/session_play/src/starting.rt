@@ -9,7 +9,7 @@ ghost use Rattle.history_files.specs.Standing.{EachFits};
 ghost use Rattle.engine_steps.specs.Beginning.{IsPlanFor, of_start_why};
 ghost use Rattle.engine_calls.specs.Acknowledged.{IsOneOf};
 ghost use Rattle.engine_calls.specs.Runs.{GoesOn, IsClosedByFault, IsReady};
-ghost use Rattle.group_flush.specs.Queues.{KeepsQueued};
+ghost use Rattle.process_engine.specs.Queues.{KeepsQueued};
 ghost use Rattle.session_text.specs.Answers.{no_process_words, not_started_words};
 ghost use Rattle.session_play.specs.Answering.{IsAnswered, IsCopy, IsCut};
 ghost use Rattle.session_play.specs.Pieces.{session_of};

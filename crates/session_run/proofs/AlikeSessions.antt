@@ -42,12 +42,12 @@ use Rattle.session_text.specs.declared.line.Line.TheVariants as lines
 use Rattle.session_play.specs.Answering.{IsCopy}
 use Rattle.session_run.specs.Alike.{AreAlike, AreAlikeSessions, with_plans}
 use Rattle.scenario_run.specs.Reports.{cause_of, causes_in}
-use Rattle.group_flush.specs.Queueing.{taken_by}
+use Rattle.process_engine.specs.Queueing.{taken_by}
 use Rattle.machine_model.specs.Groups as groups
 use Rattle.machine_model.specs.Groups.{Queue as QueueReply, flush_reply, queue_reply}
 use Rattle.machine_model.specs.Pieces.{runs}
 use Rattle.session_text.specs.Answers.{flush_lines, group_open_words}
-use Rattle.group_flush.specs.Pieces.{after_effects}
+use Rattle.process_engine.specs.Pieces.{after_effects}
 use Rattle.session_play.specs.Playing.{SessionState, Played, answer_of, called, core_after, finish_as, finish_piece, is_at, is_open, is_refused_end, just_began, play, play_abort, play_admit, play_flush, play_next, play_show, play_start, queue_piece, queue_with, reply_to_next, reply_to_queue, start_unless, stays, victim_of}
 use Rattle.session_run.proofs.EqualPlans.{admit_same, effect_same, effects_same, equal_count, equal_push, finish_same, queue_same, next_lines_same, report_same}
 

@@ -20,15 +20,15 @@ use Rattle.history_files.specs.Effects.{subsystem_of}
 use Rattle.engine_steps.specs.Engines.{EngineState}
 use Rattle.engine_steps.specs.declared.engines.Phase.{Phase}
 use Rattle.engine_steps.specs.declared.engines.Phase.TheVariants.{Settled, Closed as Shut}
-use Rattle.group_flush.specs.Flushing.{Flushes}
+use Rattle.process_engine.specs.Flushing.{Flushes}
 use Rattle.shared_engine.specs.GroupTurns.{flush_says}
-use Rattle.group_flush.specs.Pieces.{AreDistinct, IsOut, after_all, numbers_of}
-use Rattle.group_flush.specs.Queues.{AreQueued, board_of, closed_at, pieces_of, running_of}
-use Rattle.group_flush.specs.declared.group.Flush.{Flush}
-use Rattle.group_flush.specs.declared.group.Flush.TheVariants as answers
-use Rattle.group_flush.proofs.GroupCores.{all_out, apart_from, next_core}
-use Rattle.group_flush.proofs.GroupKept as together
-use Rattle.group_flush.proofs.Running.{some_distinct}
+use Rattle.process_engine.specs.Pieces.{AreDistinct, IsOut, after_all, numbers_of}
+use Rattle.process_engine.specs.Queues.{AreQueued, board_of, closed_at, pieces_of, running_of}
+use Rattle.process_engine.specs.declared.group.Flush.{Flush}
+use Rattle.process_engine.specs.declared.group.Flush.TheVariants as answers
+use Rattle.process_engine.proofs.GroupCores.{all_out, apart_from, next_core}
+use Rattle.process_engine.proofs.GroupKept as together
+use Rattle.process_engine.proofs.Running.{some_distinct}
 
 -- the events that say that these took effect
 abbrev pub effects_kept : List ℕ → List Kept

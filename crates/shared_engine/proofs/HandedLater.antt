@@ -24,7 +24,7 @@ use Rattle.shared_engine.specs.declared.entries.FlushSaid.{FlushSaid}
 use Rattle.shared_engine.specs.declared.entries.FlushSaid.TheVariants as flushed
 use Rattle.shared_engine.specs.declared.entries.TurnEntry.{TurnEntry}
 use Rattle.shared_engine.specs.declared.entries.TurnEntry.TheVariants.{Next, Queue, Flush}
-use Rattle.group_flush.specs.Pieces.{after_effects}
+use Rattle.process_engine.specs.Pieces.{after_effects}
 use Rattle.shared_engine.specs.Progress.{AreTold, Progress, after, after_all, after_flush, after_next, after_queue}
 use Rattle.shared_engine.specs.Tallies.{IsOfHanded, gate_asked, is_worked_on}
 

@@ -30,17 +30,17 @@ use Rattle.engine_steps.specs.declared.engines.Phase.{Phase}
 use Rattle.engine_steps.specs.declared.engines.Phase.TheVariants.{Settled, UnderWay, Closed}
 use Rattle.process_engine.specs.declared.gates.Answer.{Answer}
 use Rattle.process_engine.specs.declared.gates.Answer.TheVariants.{Done}
-use Rattle.group_flush.specs.Flushing.{Flushes}
-use Rattle.group_flush.specs.Pieces.{numbers_of}
-use Rattle.group_flush.specs.Queueing.{IsRefusedIn, Queues, reply_to}
-use Rattle.group_flush.specs.Queues.{AreQueued, pieces_of}
-use Rattle.group_flush.specs.declared.group.Flush.{Flush as EngineFlush}
-use Rattle.group_flush.specs.declared.group.Flush.TheVariants as flush
-use Rattle.group_flush.specs.declared.replies.Queue.{Queue as EngineQueue}
-use Rattle.group_flush.specs.declared.replies.Queue.TheVariants as queue
+use Rattle.process_engine.specs.Flushing.{Flushes}
+use Rattle.process_engine.specs.Pieces.{numbers_of}
+use Rattle.process_engine.specs.Queueing.{IsRefusedIn, Queues, reply_to}
+use Rattle.process_engine.specs.Queues.{AreQueued, pieces_of}
+use Rattle.process_engine.specs.declared.group.Flush.{Flush as EngineFlush}
+use Rattle.process_engine.specs.declared.group.Flush.TheVariants as flush
+use Rattle.process_engine.specs.declared.replies.Queue.{Queue as EngineQueue}
+use Rattle.process_engine.specs.declared.replies.Queue.TheVariants as queue
 use Rattle.shared_engine.proofs.FlushTurns.{flushed_kept}
 use Rattle.shared_engine.proofs.QueueTurns.{full_answer, queued_answer, refused_cause, refused_kept}
-use Rattle.group_flush.proofs.QueuedCalls.{queued_at_next}
+use Rattle.process_engine.proofs.QueuedCalls.{queued_at_next}
 use Rattle.engine_calls.specs.GateAnswers.{IsGiven, IsHandedAs}
 use Rattle.engine_calls.specs.Runs.{GoesOnAlone, IsReady}
 use Rattle.engine_calls.proofs.Goes.{goes_then}

@@ -34,12 +34,12 @@ use Rattle.engine_steps.specs.declared.engines.Phase.TheVariants.{Settled, Close
 use Rattle.process_engine.specs.Finishing.{is_barred}
 use Rattle.process_engine.specs.declared.gates.Answer.{Answer}
 use Rattle.process_engine.specs.declared.gates.Answer.TheVariants.{Done, Refused}
-use Rattle.group_flush.specs.Pieces.{numbers_of}
-use Rattle.group_flush.specs.Queueing.{IsRefusedIn, Queues, reply_to, taken_by}
+use Rattle.process_engine.specs.Pieces.{numbers_of}
+use Rattle.process_engine.specs.Queueing.{IsRefusedIn, Queues, reply_to, taken_by}
 use Rattle.shared_engine.specs.GroupTurns.{outcome_as, queue_says}
-use Rattle.group_flush.specs.Queues.{board_of, closed_at, pieces_of}
-use Rattle.group_flush.specs.declared.replies.Queue.{Queue}
-use Rattle.group_flush.specs.declared.replies.Queue.TheVariants as answers
+use Rattle.process_engine.specs.Queues.{board_of, closed_at, pieces_of}
+use Rattle.process_engine.specs.declared.replies.Queue.{Queue}
+use Rattle.process_engine.specs.declared.replies.Queue.TheVariants as answers
 
 -- only a step is barred
 barred_step : (X : Bool) (w : Work) → (if same_work w End then false else (if same_work w Undo then false else X)) ≡ true → same_work w Forward ≡ true

@@ -29,8 +29,8 @@ use Rattle.process_core.specs.declared.replies.Next.{Next as CoreNext}
 use Rattle.process_core.specs.declared.replies.Next.TheVariants as core
 use Rattle.process_engine.specs.declared.gates.Answer.{Answer}
 use Rattle.process_engine.specs.declared.gates.Answer.TheVariants.{Done, Refused}
-use Rattle.group_flush.specs.Pieces.{numbers_of}
-use Rattle.group_flush.specs.Queues.{pieces_of}
+use Rattle.process_engine.specs.Pieces.{numbers_of}
+use Rattle.process_engine.specs.Queues.{pieces_of}
 use Rattle.engine_calls.specs.GateAnswers.{AreAnswered, GateCounts, IsAnswered, IsByGate, IsGiven, IsHandedAs, as_handed, is_barred_in, is_step_hand, is_unbarred, kept_since, steps_handed, unbarred_refusals}
 use Rattle.engine_calls.proofs.GateRuns.{EndsNone, by_gate_none, by_gate_then, gate_from, keeping, kept_is}
 use Rattle.history_lock.specs.Weights.{total}

@@ -15,15 +15,15 @@ use Rattle.engine_steps.specs.Rooms.{MakesRoomFor}
 use Rattle.engine_steps.specs.declared.engines.Phase.{Phase}
 use Rattle.engine_steps.specs.declared.engines.Phase.TheVariants.{Settled}
 use Rattle.process_engine.specs.declared.gates.Answer.{Answer}
-use Rattle.group_flush.specs.Flushing.{Flushes}
-use Rattle.group_flush.specs.Pieces.{after_effects, numbers_of}
-use Rattle.group_flush.specs.Queueing.{IsRefusedIn, Queues, reply_to}
+use Rattle.process_engine.specs.Flushing.{Flushes}
+use Rattle.process_engine.specs.Pieces.{after_effects, numbers_of}
+use Rattle.process_engine.specs.Queueing.{IsRefusedIn, Queues, reply_to}
 use Rattle.shared_engine.specs.GroupTurns.{flush_says, outcome_as, queue_says}
-use Rattle.group_flush.specs.Queues.{AreQueued, pieces_of}
-use Rattle.group_flush.specs.declared.group.Flush.{Flush as EngineFlush}
-use Rattle.group_flush.specs.declared.group.Flush.TheVariants as flush
-use Rattle.group_flush.specs.declared.replies.Queue.{Queue as EngineQueue}
-use Rattle.group_flush.specs.declared.replies.Queue.TheVariants as queue
+use Rattle.process_engine.specs.Queues.{AreQueued, pieces_of}
+use Rattle.process_engine.specs.declared.group.Flush.{Flush as EngineFlush}
+use Rattle.process_engine.specs.declared.group.Flush.TheVariants as flush
+use Rattle.process_engine.specs.declared.replies.Queue.{Queue as EngineQueue}
+use Rattle.process_engine.specs.declared.replies.Queue.TheVariants as queue
 use Rattle.shared_engine.proofs.FlushTurns.{flush_turn, running_numbers}
 use Rattle.shared_engine.proofs.QueueTurns.{numbers-snoc, queue_turn}
 use Rattle.shared_engine.specs.declared.entries.FlushSaid.TheVariants as flushed

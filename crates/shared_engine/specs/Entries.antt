@@ -13,10 +13,10 @@ use Rattle.process_core.specs.declared.replies.Waiting.{Waiting}
 use Rattle.process_core.specs.Rotation.{waiting_of}
 use Rattle.engine_steps.specs.declared.engines.Closed.{Closed as IsShut}
 use Rattle.process_engine.specs.declared.gates.Answer.{Answer}
-use Rattle.group_flush.specs.declared.group.Flush.{Flush as EngineFlush}
-use Rattle.group_flush.specs.declared.group.Flush.TheVariants as flush
-use Rattle.group_flush.specs.declared.replies.Queue.{Queue as EngineQueue}
-use Rattle.group_flush.specs.declared.replies.Queue.TheVariants as queue
+use Rattle.process_engine.specs.declared.group.Flush.{Flush as EngineFlush}
+use Rattle.process_engine.specs.declared.group.Flush.TheVariants as flush
+use Rattle.process_engine.specs.declared.replies.Queue.{Queue as EngineQueue}
+use Rattle.process_engine.specs.declared.replies.Queue.TheVariants as queue
 use Rattle.shared_engine.specs.declared.entries.NextSaid.{NextSaid}
 use Rattle.shared_engine.specs.declared.entries.NextSaid.TheVariants as asked
 use Rattle.shared_engine.specs.declared.entries.QueueSaid.{QueueSaid}

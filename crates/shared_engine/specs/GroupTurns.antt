@@ -6,10 +6,10 @@ use Rattle.machine_model.specs.Groups.{Ended, GroupEnd, Queue as Reply, dropped_
 use Rattle.machine_model.specs.Turns.{Said, says, no_memory, disk_fault, is_closed}
 use Rattle.process_engine.specs.declared.gates.Answer.{Answer}
 use Rattle.process_engine.specs.declared.gates.Answer.TheVariants.{Done, Refused}
-use Rattle.group_flush.specs.declared.group.Flush.{Flush}
-use Rattle.group_flush.specs.declared.group.Flush.TheVariants as flush
-use Rattle.group_flush.specs.declared.replies.Queue.{Queue}
-use Rattle.group_flush.specs.declared.replies.Queue.TheVariants as queue
+use Rattle.process_engine.specs.declared.group.Flush.{Flush}
+use Rattle.process_engine.specs.declared.group.Flush.TheVariants as flush
+use Rattle.process_engine.specs.declared.replies.Queue.{Queue}
+use Rattle.process_engine.specs.declared.replies.Queue.TheVariants as queue
 
 -- the outcome of a piece as its gate answers it
 abbrev pub outcome_as : Answer → Outcome

@@ -4,8 +4,8 @@ use Rattle.machine_model.specs.Replies.{Handed}
 use Rattle.process_core.specs.Cores.{CoreState}
 use Rattle.process_engine.specs.declared.gates.Answer.{Answer}
 use Rattle.process_engine.specs.declared.gates.Answer.TheVariants.{Done}
-use Rattle.group_flush.specs.declared.replies.Queue.{Queue as EngineQueue}
-use Rattle.group_flush.specs.declared.replies.Queue.TheVariants as queue
+use Rattle.process_engine.specs.declared.replies.Queue.{Queue as EngineQueue}
+use Rattle.process_engine.specs.declared.replies.Queue.TheVariants as queue
 use Rattle.engine_calls.specs.GateAnswers.{IsGiven}
 use Rattle.shared_engine.specs.declared.entries.TurnEntry.{TurnEntry}
 use Rattle.shared_engine.specs.declared.entries.TurnEntry.TheVariants.{Next, Queue, Flush}

@@ -10,8 +10,8 @@ use Rattle.process_core.specs.Cores.{CoreState, machine_of, moment_of, relation}
 use Rattle.engine_steps.specs.Engines.{EngineState}
 use Rattle.engine_steps.specs.declared.engines.Phase.{Phase}
 use Rattle.engine_steps.specs.declared.engines.Phase.TheVariants.{Closed}
-use Rattle.group_flush.specs.Pieces.{after_effects, numbers_of}
-use Rattle.group_flush.specs.Queues.{closed_at, pieces_of}
+use Rattle.process_engine.specs.Pieces.{after_effects, numbers_of}
+use Rattle.process_engine.specs.Queues.{closed_at, pieces_of}
 use Rattle.shared_engine.specs.declared.entries.NextSaid.{NextSaid}
 use Rattle.shared_engine.specs.declared.entries.NextSaid.TheVariants as asked
 use Rattle.shared_engine.specs.declared.entries.QueueSaid.{QueueSaid}

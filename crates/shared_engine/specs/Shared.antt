@@ -14,7 +14,7 @@ use Rattle.history_files.specs.Standing.{EachFits}
 use Rattle.engine_steps.specs.Engines.{EngineState, full_history}
 use Rattle.engine_steps.specs.declared.engines.Phase.{Phase}
 use Rattle.engine_steps.specs.declared.engines.Phase.TheVariants.{Settled, UnderWay, Closed}
-use Rattle.group_flush.specs.Queues.{AreQueued}
+use Rattle.process_engine.specs.Queues.{AreQueued}
 use Rattle.engine_calls.specs.GateAnswers.{IsHandedAs}
 use Rattle.engine_calls.specs.Runs.{GoesOnAlone, IsReady}
 use Rattle.engine_calls.proofs.Goes.{goes_none}

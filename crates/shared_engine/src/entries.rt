@@ -2,11 +2,10 @@
 ghost use Rattle.std.specs.Prelude.{◌≡◌, ◌≤◌, if◌then◌else◌};
 ghost use Rattle.shared_engine.specs.Entries.{flush_said, next_said, queue_said};
 ghost use Rattle.shared_engine.specs.GroupTurns.{effects_in, took_effect};
-ghost use Rattle.group_flush.specs.Ends.{end_as};
+ghost use Rattle.process_engine.specs.Ends.{end_as};
 
-use group_flush::{Flush, Group, GroupEnd, Queue};
 use process_core::{Next, Waiting};
-use process_engine::{Answer, Closed};
+use process_engine::{Answer, Closed, Flush, Group, GroupEnd, Queue};
 
 /// What a request for any piece answers, with the number of the piece.
 #[derive(Clone, Copy)]

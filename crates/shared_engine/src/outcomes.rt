@@ -3,9 +3,8 @@ ghost use Rattle.std.specs.Prelude.{◌≡◌};
 ghost use Rattle.shared_engine.specs.Outcomes.{is_flush, next_entry, queue_entry, queue_entry_again};
 
 use crate::entries::{TurnEntry, asked, flushed, queued};
-use group_flush::{Flush, Queue};
 use process_core::{Next, Piece};
-use process_engine::{Answer, Closed};
+use process_engine::{Answer, Closed, Flush, Queue};
 
 /// What a turn for a request comes to.
 #[derive(Drop)]

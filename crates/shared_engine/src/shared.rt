@@ -13,11 +13,10 @@ ghost use Rattle.shared_engine.specs.Shared.{AreOf, MayBeCalled, StandsFor, open
 use crate::entries::TurnEntry;
 use crate::outcomes::{NextTurn, QueueTurn};
 use engine_calls::{flush, next, queue};
-use group_flush::{Flush, Queue, Queued};
 use history_lock::Held;
 use process_core::{Next, Piece};
 use process_disk::Rack;
-use process_engine::{Answer, Closed, Engine};
+use process_engine::{Answer, Closed, Engine, Flush, Queue, Queued};
 use resource_box::Resource;
 
 /// An engine, and what is queued at it.

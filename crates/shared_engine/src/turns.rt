@@ -10,11 +10,10 @@ ghost use Rattle.shared_engine.specs.Shared.{IsOpening};
 
 use crate::outcomes::{NextTurn, QueueTurn, queue_entry};
 use crate::shared::SharedEngine;
-use group_flush::Queue;
 use history_lock::{Desk, Held, Seat, Turn};
 use process_core::Piece;
 use process_disk::Rack;
-use process_engine::Answer;
+use process_engine::{Answer, Queue};
 use resource_box::Resource;
 use std::sync::Wait;
 

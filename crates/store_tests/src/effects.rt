@@ -1,16 +1,15 @@
 // An effect is committed, which makes the file; one that is barred leaves it; and a stop within a roll back leaves what it should.
-ghost use Rattle.std.specs.Prelude.{◌≡◌, ◌<◌, ◌∷◌, [], length, None, true, false};
+ghost use Rattle.std.specs.Prelude.{◌≡◌, [], false};
 ghost use Rattle.process_disk.specs.Disk.{Told, file_of};
-ghost use Rattle.subsystem_store.specs.Bodies.{is_amount};
-ghost use Rattle.subsystem_store.specs.Order.{may_follow};
-ghost use Rattle.subsystem_store.specs.Opened.{Fits, Stands, account_of};
+ghost use Rattle.subsystem_store.specs.Opened.{Fits, account_of};
 
-use crate::files::{counters, is_file, must, whole_file};
+use crate::files::{counters, is_file, must, prepared_file, rack_of, whole_file};
 use process_disk::{MemoryRack, Rack};
 use resource_box::{Call, Resource, Verb};
 use std::alloc::Global;
 use std::process::Abort;
-use subsystem_store::{Effect, Prepare, Store};
+use store_group::{commit_each, prepare_each};
+use subsystem_store::{Effect, Store};
 
 // Adds 5 at key 1.
 const ADD: Effect = Effect {
@@ -51,7 +50,7 @@ const TAKE_MORE: Effect = Effect {
     },
 };
 
-// The store of file 1, in which this effect is committed.
+// The store of file 1, in which this effect is prepared and committed.
 fn committed<H: Abort, R: Rack, B: Resource>(
     rt: &H,
     alloc: Global,
@@ -61,20 +60,18 @@ fn committed<H: Abort, R: Rack, B: Resource>(
 ) -> Store<B>
     requires empty { Told (R.disk rack.old) → file_of (R.disk rack.old).files 1 ≡ [] }
     requires forward { effect.undo ≡ false }
-    requires amount { is_amount effect.call.amount ≡ true }
-    ensures stands { Told (R.disk rack.new) → Stands result (R.disk rack.new) }
     ensures fits { Fits B.Resource (account_of result) }
-    ensures book { result.book ≡ effect ∷ [] }
-    ensures doubt { result.doubt ≡ None }
 {
     let Ok(mut store) = Store::create(alloc, rack, 1, resource) else {
         panic!(rt; "no store");
     };
-    let Prepare::Prepared = store.prepare(rack, effect) else {
-        panic!(rt; "not prepared");
-    };
-    let Ok(()) = store.commit(rack) else {
-        panic!(rt; "not committed");
+    must(rt, store.make_room(effect.call.key));
+    let mut stores = must(rt, Vec::with_capacity(alloc, 1));
+    stores.push_reserved(store);
+    must(rt, prepare_each(&mut stores, rack, &[Some(effect)]));
+    must(rt, commit_each(&mut stores, rack));
+    let Some(store) = stores.pop() else {
+        panic!(rt; "no store");
     };
     store
 }
@@ -85,57 +82,36 @@ fn a_committed_effect_is_the_file_and_bars_a_take_of_more(rt: HostRuntime) {
     let Ok(mut rack) = MemoryRack::new(alloc, Vec::new(alloc)) else {
         panic!(&rt; "no memory");
     };
-    let mut store = committed(&rt, alloc, &mut rack, counters(&rt, alloc), ADD);
+    let store = committed(&rt, alloc, &mut rack, counters(&rt, alloc), ADD);
     assert_eq!(rt; store.look(1), 5);
-    let calls = rack.calls();
-    assert_eq!(rt; store.prepare(&mut rack, TAKE_MORE), Prepare::Barred);
-    assert_eq!(rt; rack.calls(), calls);
+    assert!(rt; store.bars(&TAKE_MORE));
+    assert!(rt; !store.bars(&TAKE));
     assert!(rt; is_file(&rt, alloc, &mut rack, whole_file()));
 }
 
-// A stop within a call of the `roll_back`, calls 14 and 15, and whether it leaves the effect in doubt: `create` makes calls 0
-// and 1, the first effect 2 to 9, and preparing the second 10 to 13.
+// A stop within a call of the `roll_back`, calls 2 and 3, and whether it leaves the effect in doubt: call 0 writes the file, and
+// `open` syncs it.
 const STOPS: [(u32, u32, u8, bool); 8] = [
-    (14, 0, 0x00, false),
-    (14, 0, 0x77, true),
-    (14, 1, 0x00, false),
-    (14, 1, 0x77, false),
-    (15, 0, 0x00, false),
-    (15, 0, 0x77, true),
-    (15, 1, 0x00, false),
-    (15, 1, 0x77, false),
+    (2, 0, 0x00, false),
+    (2, 0, 0x77, true),
+    (2, 1, 0x00, false),
+    (2, 1, 0x77, false),
+    (3, 0, 0x00, false),
+    (3, 0, 0x77, true),
+    (3, 1, 0x00, false),
+    (3, 1, 0x77, false),
 ];
 
-// An effect is prepared in a store and taken back.
-fn roll_back<H: Abort, R: Rack, B: Resource>(
-    rt: &H,
-    store: &mut Store<B>,
-    rack: &mut R,
-    effect: Effect,
-)
-    requires settled { store.old.doubt ≡ None }
-    requires few { length store.old.book < 16384 }
-    requires follows { may_follow store.old.kind store.old.book effect ≡ true }
-    requires amount { is_amount effect.call.amount ≡ true }
-    requires fits { Fits B.Resource (account_of store.old) }
-    requires stands { Told (R.disk rack.old) → Stands store.old (R.disk rack.old) }
-    ensures { Fits B.Resource (account_of store.new) }
-{
-    let Prepare::Prepared = store.prepare(rack, effect) else {
-        panic!(rt; "not prepared");
-    };
-    let Ok(()) = store.roll_back(rack) else {
-        panic!(rt; "not rolled back");
-    };
-}
-
-// A rack on which adding was committed, and taking was rolled back.
+// A rack whose file 1 had adding committed, and taking prepared and taken back.
 fn rolled_back<H: Abort>(rt: &H, alloc: Global) -> MemoryRack {
-    let Ok(mut rack) = MemoryRack::new(alloc, Vec::new(alloc)) else {
-        panic!(rt; "no memory");
+    let mut rack = rack_of(rt, alloc, prepared_file());
+    let Ok(mut store) = Store::open(alloc, &mut rack, 1, counters(rt, alloc)) else {
+        panic!(rt; "no store");
     };
-    let mut store = committed(rt, alloc, &mut rack, counters(rt, alloc), ADD);
-    roll_back(rt, &mut store, &mut rack, TAKE);
+    if store.in_doubt().is_none() {
+        panic!(rt; "nothing in doubt");
+    }
+    must(rt, store.roll_back(&mut rack));
     assert_eq!(rt; store.look(1), 5);
     rack
 }
@@ -168,7 +144,7 @@ fn expect_stop<H: Abort>(rt: &H, alloc: Global, rack: &MemoryRack, stop: (u32, u
 fn a_stop_within_a_roll_back_leaves_the_effect_in_doubt_or_not(rt: HostRuntime) {
     let alloc = rt.alloc();
     let rack = rolled_back(&rt, alloc);
-    assert_eq!(rt; rack.calls(), 16);
+    assert_eq!(rt; rack.calls(), 4);
     for stop in &STOPS {
         expect_stop(&rt, alloc, &rack, *stop);
     }

@@ -1,6 +1,6 @@
 -- The bodies of a store's file, and the images of a call.
-use Rattle.std.specs.Prelude.{flat_map, IfSome, IsSome, is_some, is_err, OnOk}
-use Rattle.std.proofs.Common.{◌≡◌, ◌<◌, ◌≤◌, false, Result, Ok, Err, inl, inr, ℕ, ◌*◌, List, [], ◌∷◌, ◌++◌, length, Option, Some, None, refl, sym, ◌∙◌, ap, subst, arith, append_assoc, append-nil, length-append, ⊎_elim}
+use Rattle.std.specs.Prelude.{flat_map, IfSome, IsSome, is_some}
+use Rattle.std.proofs.Common.{◌≡◌, ◌<◌, ◌≤◌, inl, inr, ℕ, ◌*◌, List, [], ◌∷◌, ◌++◌, length, Option, Some, None, refl, sym, ◌∙◌, ap, subst, arith, append_assoc, append-nil, length-append, ⊎_elim}
 use Rattle.std.proofs.lemmas.Grind.{flat_map-append}
 use Rattle.process_disk.specs.Disk.{Disk}
 use Rattle.process_disk.specs.Images.{EachImage}
@@ -37,12 +37,6 @@ pub length-bodies : (book : List Effect) (doubt : Option Effect) → length (sto
 length-bodies book None = omega (arith, length-two book, length-append (flat_map two_of book) [])
 length-bodies book (Some e) = omega (arith, length-two book, length-append (flat_map two_of book) (prepared_bytes e ∷ []))
 
--- the images of a prepare,
-pub images_prepare : (q : ℕ) (book : List Effect) (e : Effect) (body : List ℕ) (disk : Disk) (t : ℕ) → body ≡ prepared_bytes e → EachImage disk t (LogsBeforeOrWith q (store_bodies book None) body) → EachImage disk t (IsStoreOfEither q (book, None) (book, Some e))
-images_prepare q book e body disk t is images =
-    each_so disk t (LogsBeforeOrWith q (store_bodies book None) body) (IsStoreOfEither q (book, None) (book, Some e))
-    (λ files. ⊎_elim (λ l. inl l) (λ l. inr (subst (λ bs. Logs q bs files) (ap (λ b. store_bodies book None ++ b ∷ []) is ∙ sym (bodies_prepared book e)) l))) images
-
 -- and those of a commit
 pub images_commit : (q : ℕ) (book : List Effect) (e : Effect) (body : List ℕ) (disk : Disk) (t : ℕ) → body ≡ committed_bytes e.number → EachImage disk t (LogsBeforeOrWith q (store_bodies book (Some e)) body)
     → EachImage disk t (IsStoreOfEither q (book, Some e) (book ++ e ∷ [], None))
@@ -56,14 +50,6 @@ pub bodies_due : (book new : List Effect) (o : Option Effect) (number : ℕ) (bo
 bodies_due book new None number body is some bytes = absurd cc
 bodies_due book new (Some e) number body is some bytes =
     ap (λ (b : List Effect). store_bodies b None) is.1 ∙ bodies_committed book e ∙ ap (λ b. store_bodies book (Some e) ++ b ∷ []) (ap committed_bytes is.0 ∙ bytes)
-
-pub some_effect : (a b : Effect) → Some a ≡ Some b → a ≡ b
-some_effect a b is = cc
-
--- what holds at Ok, where the answer is no error
-pub at_ok : {T E : Type 0} {P : Type 0} (r : Result T E) → is_err r ≡ false → OnOk r P → P
-at_ok (Ok x) ok p = p
-at_ok (Err e) ok p = absurd cc
 
 -- What an opened file's log is to the account.
 pub opened_room : (book : List Effect) (doubt : Option Effect) (bodies : List (List ℕ)) (count : ℕ) (last : Option ℕ) → store_bodies book doubt ≡ bodies → count ≡ length bodies → length bodies ≤ 32768 → last ≡ last_size bodies

@@ -1,4 +1,4 @@
-// Why a store was not made or opened, and what preparing answers.
+// Why a store was not made or opened.
 ghost use Rattle.std.specs.Prelude.{◌≡◌};
 ghost use Rattle.subsystem_store.specs.Errors.{of_log_error};
 
@@ -22,16 +22,6 @@ pub enum StoreError {
 pub struct StoreRefused<B: Drop = Box<dyn Resource + Send>> {
     pub resource: B,
     pub why: StoreError,
-}
-
-#[derive(Clone, Copy, Debug, PartialEq, Eq)]
-pub enum Prepare {
-    Prepared,
-    /// The values bar the call.
-    Barred,
-    /// A call of the rack failed. The store has to be opened again.
-    DiskFault,
-    NoMemory,
 }
 
 impl From<LogError> for StoreError {

@@ -6,8 +6,8 @@
 //! `specs/Opened` what an open store stands for, and `specs/Laws` which books a store may have; each is read back as that book.
 //! The layer above decides what becomes of an effect that is in doubt.
 //!
-//! A prepare and a commit can also be taken by parts that sync nothing, so that several stores share their syncs (`specs/Staged`);
-//! `make_room` has taken before what memory that needs.
+//! A prepare and a commit are taken by parts that sync nothing, so that several stores share their syncs (`specs/Staged`): a record is
+//! staged, written, its gate opened, and then taken. `make_room` has taken before what memory that needs.
 #![tactic(auto)]
 
 mod account;
@@ -20,7 +20,7 @@ mod replaying;
 mod store;
 
 pub use effect::Effect;
-pub use errors::{Prepare, StoreError, StoreRefused};
+pub use errors::{StoreError, StoreRefused};
 pub use laws::{books_are_read_back, calls_make_good_books, effects_fit_their_bytes};
 pub use matching::same_call;
 pub use store::Store;

@@ -13,13 +13,13 @@ ghost use Rattle.subsystem_store.specs.Bodies.{is_amount, prepared_bytes, commit
 ghost use Rattle.subsystem_store.specs.Values.{values};
 ghost use Rattle.subsystem_store.specs.Order.{may_follow, read_store};
 ghost use Rattle.subsystem_store.specs.Laws.{IsGoodBook};
-ghost use Rattle.subsystem_store.specs.Answers.{OpensAs, IsFault, AnswersPrepare, IsLeftByPrepare};
+ghost use Rattle.subsystem_store.specs.Answers.{OpensAs, IsFault};
 ghost use Rattle.subsystem_store.specs.Opened.{Opened, Fits, Stands, account_of, IsStoreOf, IsStoreOfEither};
 ghost use Rattle.subsystem_store.specs.Staged.{IsWritten, IsOnDisk, HasOpened, IsBeforeOrWith};
 
 use crate::account::Account;
 use crate::bodies::{committed_bytes, prepared_bytes};
-use crate::{Effect, Prepare, StoreError, StoreRefused};
+use crate::{Effect, StoreError, StoreRefused};
 use gate_log::{DiskFault, Log};
 use process_disk::Rack;
 use resource_box::Resource;
@@ -113,67 +113,6 @@ impl<B: Resource> Store<B> {
                 why: error.into(),
             }),
         }
-    }
-
-    /// Prepares an effect: from then on it is in doubt.
-    pub fn prepare<R: Rack>(&mut self, rack: &mut R, effect: Effect) -> Prepare
-        requires settled { self.old.doubt ≡ None }
-        requires few { length self.old.book < 16384 }
-        requires follows { may_follow self.old.kind self.old.book effect ≡ true }
-        requires amount { is_amount effect.call.amount ≡ true }
-        requires fits { Fits B.Resource (account_of self.old) }
-        requires stands { Told (R.disk rack.old) → Stands self.old (R.disk rack.old) }
-        ensures acknowledged { Told (R.disk rack.old) → result ≡ Prepare.Prepared → Stands self.new (R.disk rack.new) }
-        ensures any_moment { Told (R.disk rack.old) →
-            EachImage (R.disk rack.new) (R.disk rack.old).moment
-            (IsStoreOfEither self.old.log.file (self.old.book, None) (self.old.book, Some effect)) }
-        ensures fits { Fits B.Resource (account_of self.new) }
-        ensures answer { AnswersPrepare self.old effect result }
-        ensures left { IsLeftByPrepare self.old self.new effect result }
-        ensures untouched { ((result ≡ Prepare.Barred) ⊎ (result ≡ Prepare.NoMemory))
-            → (rack.new ≡ rack.old) × (self.new.log ≡ self.old.log) }
-        ensures others { Told (R.disk rack.old) → OthersAsBefore self.old.log.file (R.disk rack.old) (R.disk rack.new) }
-        ensures rack { LeavesRack R.Rack rack.old rack.new (result ≡ Prepare.DiskFault) }
-    {
-        if self.account.bars(&effect) {
-            return Prepare::Barred;
-        }
-        if self.account.hold(effect).is_err() {
-            return Prepare::NoMemory;
-        }
-        match self.log.append(rack, &prepared_bytes(&effect)) {
-            Ok(()) => Prepare::Prepared,
-            Err(_) => {
-                self.account.release();
-                Prepare::DiskFault
-            }
-        }
-    }
-
-    /// Commits the effect in doubt.
-    pub fn commit<R: Rack>(&mut self, rack: &mut R) -> Result<(), DiskFault>
-        requires doubt { IsSome self.old.doubt }
-        requires fits { Fits B.Resource (account_of self.old) }
-        requires stands { Told (R.disk rack.old) → Stands self.old (R.disk rack.old) }
-        ensures acknowledged { Told (R.disk rack.old) → OnOk result (Stands self.new (R.disk rack.new)) }
-        ensures any_moment { Told (R.disk rack.old) → (e : Effect) → self.old.doubt ≡ Some e →
-            EachImage (R.disk rack.new) (R.disk rack.old).moment
-            (IsStoreOfEither self.old.log.file (self.old.book, Some e) (self.old.book ++ e ∷ [], None)) }
-        ensures fits { Fits B.Resource (account_of self.new) }
-        ensures ok { OnOk result ((self.new.doubt ≡ None) × IfSome self.old.doubt (λ e. self.new.book ≡ self.old.book ++ e ∷ [])) }
-        ensures err { OnErr result ((self.new.book ≡ self.old.book) × (self.new.doubt ≡ self.old.doubt)) }
-        ensures same { (self.new.log.file ≡ self.old.log.file) × (self.new.kind ≡ self.old.kind)
-            × (self.new.ready ≡ self.old.ready) }
-        ensures others { Told (R.disk rack.old) → OthersAsBefore self.old.log.file (R.disk rack.old) (R.disk rack.new) }
-        ensures rack { LeavesRack R.Rack rack.old rack.new (IsErr result) }
-    {
-        let number = match self.account.in_doubt() {
-            Some(effect) => effect.number,
-            None => unreachable!(),
-        };
-        self.log.append(rack, &committed_bytes(number))?;
-        self.account.commit();
-        Ok(())
     }
 
     /// Takes the effect in doubt back.

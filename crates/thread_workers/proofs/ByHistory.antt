@@ -27,7 +27,7 @@ use Rattle.shared_engine.specs.declared.entries.FlushSaid.TheVariants as flushed
 use Rattle.shared_engine.specs.declared.entries.QueueSaid.TheVariants as put
 use Rattle.shared_engine.specs.declared.entries.TurnEntry.{TurnEntry}
 use Rattle.shared_engine.specs.declared.entries.TurnEntry.TheVariants.{Next, Queue, Flush}
-use Rattle.group_flush.specs.Pieces.{after_effects}
+use Rattle.process_engine.specs.Pieces.{after_effects}
 use Rattle.shared_engine.specs.Progress.{Progress, after, after_all, opened, progress}
 use Rattle.shared_engine.specs.Tallies.{IsAnswerTo, IsByEntries, IsToldOf, gate_asked, gate_refused}
 use Rattle.shared_engine.proofs.HandedLater.{led_to}

@@ -40,7 +40,7 @@ use Rattle.shared_engine.specs.declared.entries.QueueSaid.TheVariants as put
 use Rattle.shared_engine.specs.declared.shared.SharedEngine.{SharedEngine}
 use Rattle.shared_engine.specs.declared.entries.TurnEntry.{TurnEntry}
 use Rattle.shared_engine.specs.declared.entries.TurnEntry.TheVariants.{Next, Queue, Flush}
-use Rattle.group_flush.specs.Pieces.{after_effects}
+use Rattle.process_engine.specs.Pieces.{after_effects}
 use Rattle.shared_engine.specs.Progress.{AreTold, IsTold, Progress, after, after_flush, after_next, after_queue, progress}
 use Rattle.thread_workers.specs.Workers.{Has, Stops}
 use Rattle.thread_workers.proofs.Reported.{flush_closed, moves, none_moves, none_running, reported, reported_closed}

@@ -10,10 +10,9 @@ ghost use Rattle.thread_workers.specs.History.{IsOneHistory};
 
 use crate::crew::run_jobs;
 use crate::seats::{give_jobs, take_all_in};
-use group_flush::Queued;
 use history_lock::{Desk, DeskRefused};
 use process_disk::Rack;
-use process_engine::{Engine, Gate};
+use process_engine::{Engine, Gate, Queued};
 use resource_box::Resource;
 use shared_engine::SharedEngine;
 use std::alloc::Global;

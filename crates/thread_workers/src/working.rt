@@ -12,11 +12,10 @@ ghost use Rattle.shared_engine.specs.Seats.{HasOpened, knowledge};
 ghost use Rattle.shared_engine.specs.Tallies.{IsAnswerTo};
 ghost use Rattle.thread_workers.specs.Workers.{HasAnswered, HasGot, HasStopped, Stops, WorkerKnows, asks_for};
 
-use group_flush::{Flush, Queue};
 use history_lock::{Desk, Seat};
 use process_core::{Piece, Work};
 use process_disk::Rack;
-use process_engine::{Answer, Gate};
+use process_engine::{Answer, Flush, Gate, Queue};
 use resource_box::Resource;
 use shared_engine::{QueueTurn, SharedEngine, hand_in, hand_in_again};
 use std::sync::Wait;

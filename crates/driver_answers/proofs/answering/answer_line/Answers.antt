@@ -2,7 +2,7 @@ use Rattle.std.proofs.Common.{◌≡◌, ◌∙◌, ◌⊎◌, List, [], ◌∷�
 use Rattle.process_tree.specs.declared.plan.Plan.{Plan}
 use Rattle.command_input.specs.Scenarios.{AreGoodPlans}
 use Rattle.machine_model.specs.Replies.{Handed}
-use Rattle.group_flush.specs.Queues.{AreQueued}
+use Rattle.process_engine.specs.Queues.{AreQueued}
 use Rattle.session_play.specs.AtHand.{AreAtHand}
 use Rattle.session_play.specs.Pieces.{session_of}
 use Rattle.session_play.specs.Playing.{play_start}

@@ -1,7 +1,7 @@
 use Rattle.std.proofs.Common.{[], subst, sym}
 use Rattle.session_play.proofs.AskedPieces.{all_stay}
-use Rattle.group_flush.specs.Queues.{AreQueued}
-use Rattle.group_flush.proofs.QueuedCalls.{queued_at_abort}
+use Rattle.process_engine.specs.Queues.{AreQueued}
+use Rattle.process_engine.proofs.QueuedCalls.{queued_at_abort}
 use Rattle.session_play.proofs.asking.play_abort.Goals as goal
 
 pub returns-clause-handed : goal.returns-clause-handed

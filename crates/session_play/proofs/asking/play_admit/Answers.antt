@@ -1,8 +1,8 @@
 use Rattle.std.proofs.Common.{[], sym, subst}
 use Rattle.session_play.specs.Pieces.{AreHandedBy}
 use Rattle.session_play.proofs.AskedPieces.{admit_handed, all_stay}
-use Rattle.group_flush.specs.Queues.{AreQueued}
-use Rattle.group_flush.proofs.QueuedCalls.{queued_at_admit}
+use Rattle.process_engine.specs.Queues.{AreQueued}
+use Rattle.process_engine.proofs.QueuedCalls.{queued_at_admit}
 use Rattle.session_play.proofs.asking.play_admit.Goals as goal
 
 pub returns-clause-handed : goal.returns-clause-handed

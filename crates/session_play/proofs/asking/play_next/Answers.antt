@@ -14,8 +14,8 @@ use Rattle.session_play.specs.Answering.{IsAnswered}
 use Rattle.session_play.specs.Pieces.{AreHandedBy, session_of}
 use Rattle.session_play.specs.Playing.{play_next, victim_of}
 use Rattle.session_play.proofs.AskedPieces.{all_stay, next_answered, next_handed}
-use Rattle.group_flush.specs.Queues.{AreQueued}
-use Rattle.group_flush.proofs.QueuedCalls.{queued_at_next}
+use Rattle.process_engine.specs.Queues.{AreQueued}
+use Rattle.process_engine.proofs.QueuedCalls.{queued_at_next}
 use Rattle.session_play.proofs.asking.play_next.Goals as goal
 
 pub returns-clause-answered : goal.returns-clause-answered

@@ -4,7 +4,7 @@ use Rattle.machine_model.specs.Groups.{flush_reply}
 use Rattle.machine_model.specs.Pieces.{runs}
 use Rattle.machine_model.specs.Replies.{Handed}
 use Rattle.process_core.specs.Cores.{history_of, moment_of}
-use Rattle.group_flush.specs.Pieces.{after_effects}
+use Rattle.process_engine.specs.Pieces.{after_effects}
 use Rattle.session_text.specs.Answers.{flush_lines}
 use Rattle.session_play.specs.declared.cut.Cut.TheVariants.{NoMemory}
 use Rattle.session_play.specs.Answering.{IsCut}

@@ -3,7 +3,7 @@ use Rattle.std.specs.List.{slice_get}
 use Rattle.process_text.specs.Canonical.{line_of}
 use Rattle.process_report.specs.Lines.{text_of}
 use Rattle.machine_model.specs.Groups.{Ended}
-use Rattle.group_flush.specs.Ends.{ended_as}
+use Rattle.process_engine.specs.Ends.{ended_as}
 use Rattle.session_text.specs.Answers.{ending_words}
 use Rattle.session_play.proofs.flushing.put_group.Goals as goal
 

@@ -1,7 +1,7 @@
 use Rattle.std.proofs.Common.{◌≡◌, List, [], arith, subst, sym}
 use Rattle.engine_calls.proofs.Goes.{goes_none}
 use Rattle.machine_model.specs.Replies.{Handed}
-use Rattle.group_flush.specs.Queues.{AreQueued}
+use Rattle.process_engine.specs.Queues.{AreQueued}
 use Rattle.session_play.specs.AtHand.{AreAtHand}
 use Rattle.session_play.proofs.AskedPieces.{all_stay}
 use Rattle.session_play.proofs.Outcomes.{on_ok_both}

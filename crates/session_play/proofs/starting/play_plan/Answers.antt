@@ -3,8 +3,8 @@ use Rattle.machine_model.specs.declared.replies.StartWhy.{StartWhy}
 use Rattle.machine_model.specs.declared.replies.StartWhy.TheVariants as whys
 use Rattle.engine_steps.specs.Beginning.{of_start_why}
 use Rattle.engine_steps.specs.declared.beginning.EngineStartWhy.TheVariants.{DiskFault}
-use Rattle.group_flush.specs.Queues.{AreQueued}
-use Rattle.group_flush.proofs.QueuedCalls.{queued_at_start}
+use Rattle.process_engine.specs.Queues.{AreQueued}
+use Rattle.process_engine.proofs.QueuedCalls.{queued_at_start}
 use Rattle.scenario_run.proofs.OneOf.{stands_among}
 use Rattle.session_play.proofs.starting.play_plan.Goals as goal
 use Rattle.session_play.proofs.starting.play_plan.Goals.{in-Ok+in_ok-put_started-in-Ok, in-Err+in_ok-put_refusal-in-Err}

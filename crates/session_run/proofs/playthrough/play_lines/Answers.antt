@@ -3,7 +3,7 @@ use Rattle.process_tree.specs.Order.{Each}
 use Rattle.engine_steps.specs.Beginning.{IsPlanFor}
 use Rattle.engine_calls.proofs.Goes.{goes_none, goes_then}
 use Rattle.session_play.specs.Answering.{IsAnswered, IsCut}
-use Rattle.group_flush.specs.Queues.{AreQueued}
+use Rattle.process_engine.specs.Queues.{AreQueued}
 use Rattle.session_play.specs.AtHand.{Hand}
 use Rattle.session_play.specs.Pieces.{AreHandedBy, session_of}
 use Rattle.session_play.specs.Playing.{play}

@@ -1,5 +1,5 @@
 use Rattle.std.proofs.Common.{◌≤◌, ◌+◌, arith, refl}
-use Rattle.group_flush.specs.Ends.{end_as, ended_as}
+use Rattle.process_engine.specs.Ends.{end_as, ended_as}
 use Rattle.shared_engine.specs.GroupTurns.{took_effect}
 use Rattle.shared_engine.proofs.Effects.{none_more, one_more}
 use Rattle.shared_engine.proofs.entries.effects_in.Goals as goal

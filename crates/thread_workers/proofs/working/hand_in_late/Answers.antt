@@ -1,7 +1,7 @@
 use Rattle.std.proofs.Common.{◌∙◌, IfOk, Result, sym, subst}
 use Rattle.machine_model.specs.Replies.{Handed}
 use Rattle.process_engine.specs.declared.gates.Answer.TheVariants.{Done}
-use Rattle.group_flush.specs.declared.replies.Queue.{Queue}
+use Rattle.process_engine.specs.declared.replies.Queue.{Queue}
 use Rattle.worker_gate.specs.declared.alone.RunOutcome.{RunOutcome}
 use Rattle.shared_engine.specs.Outcomes.{HandsBack, queue_entry}
 use Rattle.shared_engine.specs.Tallies.{IsAnswerTo}

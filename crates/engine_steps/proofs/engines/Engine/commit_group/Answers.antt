@@ -1,4 +1,4 @@
-use Rattle.std.proofs.Common.{◌∙◌, List, Option, refl, sym, subst}
+use Rattle.std.proofs.Common.{◌∙◌, List, Option, sym, subst}
 use Rattle.process_disk.specs.Disk.{Told}
 use Rattle.process_disk.specs.Images.{EachImage}
 use Rattle.schedule_model.specs.declared.history.History.{History}
@@ -7,26 +7,11 @@ use Rattle.history_files.specs.Sound.{IsSound}
 use Rattle.history_files.specs.Standing.{EachFits}
 use Rattle.engine_steps.specs.Engines.{EngineState}
 use Rattle.engine_steps.specs.Groups.{IsGroupCommitted, IsGroupRecorded}
-use Rattle.engine_steps.proofs.EmptyGroups.{none_committed}
 use Rattle.engine_steps.proofs.GroupSteps.{group_committed, has_each}
 use Rattle.engine_steps.proofs.engines.Engine.commit_group.Goals as goal
 
 pub commit_staged-requires-clause-fits : goal.commit_staged-requires-clause-fits
 commit_staged-requires-clause-fits g c = subst (λ x. EachFits g.B.Resource x.files.stores) (sym c.self.view_is) c.requires.fits
-
-pub returns-then-not-is_in_doubt-clause-committed : goal.returns-then-not-is_in_doubt-clause-committed
-returns-then-not-is_in_doubt-clause-committed g c =
-    let e : EngineState g.row.R.Denot g.row.B.Denot = record { core = c.self.inside.core; catalog = c.self.inside.catalog; files = c.self.inside.files; phase = c.self.inside.phase } in
-    subst (λ x. (group : List (Option Effect)) (h : History) → IsGroupRecorded x (g.R.Rack.disk x.files.rack) group h → IsGroupCommitted x (g.R.Rack.disk x.files.rack) h) c.self.view_is
-    (λ group h recorded. group_committed e (g.R.Rack.disk e.files.rack) group h recorded c.books_come_to_groups.ensures.committed e.files (g.R.Rack.disk e.files.rack)
-    (none_committed e.files.stores (c.is_in_doubt.ensures.settled c.if-not-is_in_doubt.true)) refl recorded.good recorded.stand)
-
-pub returns-then-not-is_in_doubt-clause-any_moment : goal.returns-then-not-is_in_doubt-clause-any_moment
-returns-then-not-is_in_doubt-clause-any_moment g c =
-    let e : EngineState g.row.R.Denot g.row.B.Denot = record { core = c.self.inside.core; catalog = c.self.inside.catalog; files = c.self.inside.files; phase = c.self.inside.phase } in
-    subst (λ x. Told (g.R.Rack.disk x.files.rack) → (group : List (Option Effect)) (h : History) → IsGroupRecorded x (g.R.Rack.disk x.files.rack) group h
-    → EachImage (g.R.Rack.disk x.files.rack) (g.R.Rack.disk x.files.rack).moment (IsSound x.catalog h)) c.self.view_is
-    (λ told group h recorded. c.soundness_holds.ensures.each told e.catalog h (recorded.stand told))
 
 pub returns-in-Ok-clause-committed : goal.returns-in-Ok-clause-committed
 returns-in-Ok-clause-committed g c =

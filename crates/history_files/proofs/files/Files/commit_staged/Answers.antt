@@ -9,6 +9,7 @@ use Rattle.history_files.specs.Sound.{IsSound}
 use Rattle.history_files.specs.Standing.{AreGoodBooks, EachFits, Stand}
 use Rattle.history_files.proofs.Answered.{OnOk-both, either_answer}
 use Rattle.history_files.proofs.EndedDoubts.{ended_is_good}
+use Rattle.history_files.proofs.NoDoubt.{none_committed}
 use Rattle.history_files.proofs.Groups.{after_commit, as_committed, committed_keep, good_unchanged, good_with_commits, images_of_group, may_be_committed, stands_with_group, stores_became, unchanged_keep}
 use Rattle.history_files.proofs.files.Files.commit_staged.Goals as goal
 
@@ -89,3 +90,6 @@ returns-clause-ok g c =
 pub returns-clause-err : goal.returns-clause-err
 returns-clause-err g c =
     subst (λ ss. OnErr c.commit_each.result (BecomeEach (λ q s t. IsUnchanged s t) ss c.commit_each.new.stores.items)) (ap (λ f. f.stores) c.self.view_is) c.commit_each.ensures.err
+
+pub returns-then-not-has_doubt-clause-ok : goal.returns-then-not-has_doubt-clause-ok
+returns-then-not-has_doubt-clause-ok g c = none_committed c.args.self.now.stores (c.has_doubt.ensures.settled c.if-not-has_doubt.true)

@@ -1,6 +1,0 @@
-pub mod Ends
-pub mod Events
-pub mod Flushing
-pub mod Pieces
-pub mod Queueing
-pub mod Queues

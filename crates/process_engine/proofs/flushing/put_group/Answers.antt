@@ -1,0 +1,84 @@
+use Rattle.std.proofs.Common.{◌∙◌, length, inl, inr, sym, subst}
+use Rattle.process_disk.specs.Images.{EachImage}
+use Rattle.schedule_model.specs.Histories.{acts}
+use Rattle.process_core.specs.Cores.{history_of}
+use Rattle.process_engine.specs.Events.{ListsEffects}
+use Rattle.history_files.specs.Sound.{IsSound, IsSoundForEither}
+use Rattle.process_disk.proofs.Images.{each_so}
+use Rattle.std.specs.Prelude.{OnOk}
+use Rattle.engine_steps.specs.Engines.{full_history}
+use Rattle.engine_steps.specs.Groups.{IsGroupCommitted, with_events}
+use Rattle.process_engine.proofs.GroupPut.{MeetsEach, group_meets, images_of_three, recordable}
+use Rattle.process_engine.proofs.flushing.put_group.Given as given
+use Rattle.process_engine.proofs.flushing.put_group.Goals as goal
+use Rattle.process_engine.proofs.flushing.put_group.Goals.{After-group_of-group}
+
+-- what the steps ask of the group
+meets : (g : given.Over) (c : goal.After-group_of-group g) → MeetsEach c.args.engine.now c.args.events.now c.group_of-group.result
+meets g c =
+    let e = c.args.engine.now in
+    let ps = c.requires.group.0 in
+    let is = c.requires.group.2 in
+    subst (λ es. MeetsEach e es c.group_of-group.result) (sym is)
+    (group_meets c.events_add_effects.ensures.act c.events_add_effects.ensures.end c.next_effects_may_be_prepared.ensures c.journals_keep_histories.ensures.made e (g.R.Rack.disk e.files.rack) c.invariant_holds.ensures.run c.invariant_holds.ensures.under
+    (c.invariant_holds.ensures.rest c.requires.settled) c.stores_hold.ensures ps c.requires.group.1 c.group_of-group.result
+    (subst (λ es. ListsEffects e.catalog.ops e.core.plans (length (acts (history_of e.core))) es c.group_of-group.result) is c.group_of-group.ensures))
+
+pub effects_fit-requires : goal.effects_fit-requires
+effects_fit-requires g c = (meets g (goal.at.effects_fit-requires g c).After-group_of-group).amounts
+
+pub prepare_group-requires-clause-may : goal.prepare_group-requires-clause-may
+prepare_group-requires-clause-may g c = (meets g (goal.at.prepare_group-requires-clause-may g c).After-group_of-group).may
+
+pub prepare_group-requires-clause-lacks : goal.prepare_group-requires-clause-lacks
+prepare_group-requires-clause-lacks g c = (meets g (goal.at.prepare_group-requires-clause-lacks g c).After-group_of-group).lacks
+
+pub record_group-requires-clause-may : goal.record_group-requires-clause-may
+record_group-requires-clause-may g c = (
+  c.group_of-group.result,
+  (recordable c.args.engine.now c.prepare_group.new.self (g.R.Rack.disk c.prepare_group.new.self.files.rack) c.args.events.now c.group_of-group.result (meets g (goal.at.record_group-requires-clause-may g c).After-group_of-group)
+      c.prepare_group.ensures.step.core c.prepare_group.ensures.step.catalog c.in_ok-prepare_group.ensures.prepared),
+)
+
+pub record_group-requires-clause-events : goal.record_group-requires-clause-events
+record_group-requires-clause-events g c = (meets g (goal.at.record_group-requires-clause-events g c).After-group_of-group).are_events
+
+pub commit_group-requires-clause-recorded : goal.commit_group-requires-clause-recorded
+commit_group-requires-clause-recorded g c = (
+  c.group_of-group.result,
+  with_events (full_history c.prepare_group.new.self.core) c.args.events.now,
+  c.in_ok-record_group.ensures.recorded c.group_of-group.result (recordable c.args.engine.now c.prepare_group.new.self (g.R.Rack.disk c.prepare_group.new.self.files.rack) c.args.events.now c.group_of-group.result (meets g (goal.at.commit_group-requires-clause-recorded g c).After-group_of-group)
+      c.prepare_group.ensures.step.core c.prepare_group.ensures.step.catalog c.in_ok-prepare_group.ensures.prepared),
+)
+
+pub returns-clause-committed : goal.returns-clause-committed
+returns-clause-committed g c =
+    let recorded = c.in_ok-record_group.ensures.recorded c.group_of-group.result (recordable c.args.engine.now c.prepare_group.new.self (g.R.Rack.disk c.prepare_group.new.self.files.rack) c.args.events.now c.group_of-group.result (meets g (goal.at.returns-clause-committed g c).After-group_of-group)
+    c.prepare_group.ensures.step.core c.prepare_group.ensures.step.catalog c.in_ok-prepare_group.ensures.prepared) in
+    subst (λ k. OnOk c.commit_group.result (IsGroupCommitted c.commit_group.new.self (g.R.Rack.disk c.commit_group.new.self.files.rack) (with_events (full_history k) c.args.events.now))) c.prepare_group.ensures.step.core
+    (c.commit_group.ensures.committed c.group_of-group.result (with_events (full_history c.prepare_group.new.self.core) c.args.events.now) recorded)
+
+pub returns-clause-any_moment : goal.returns-clause-any_moment
+returns-clause-any_moment g c told =
+    let e = c.args.engine.now in
+    let prepared = c.prepare_group.ensures in
+    let written = c.record_group.ensures in
+    let later = c.commit_group.ensures in
+    let recorded = c.in_ok-record_group.ensures.recorded c.group_of-group.result (recordable c.args.engine.now c.prepare_group.new.self (g.R.Rack.disk c.prepare_group.new.self.files.rack) c.args.events.now c.group_of-group.result (meets g (goal.at.returns-clause-any_moment g c).After-group_of-group)
+    c.prepare_group.ensures.step.core c.prepare_group.ensures.step.catalog c.in_ok-prepare_group.ensures.prepared) in
+    let told_one = prepared.rack.tells ∙ told in
+    let told_two = written.rack.tells ∙ told_one in
+    let events = c.args.events.now in
+    let disk_one = g.R.Rack.disk c.prepare_group.new.self.files.rack in
+    let disk_two = g.R.Rack.disk c.record_group.new.self.files.rack in
+    let disk_three = g.R.Rack.disk c.commit_group.new.self.files.rack in
+    let P = IsSoundForEither e.catalog (full_history e.core) (with_events (full_history e.core) events) in
+    images_of_three P (g.R.Rack.disk e.files.rack) disk_one disk_two disk_three
+    (prepared.rack.follow told) (written.rack.follow told_one) (later.rack.follow told_two)
+    (each_so disk_one (g.R.Rack.disk e.files.rack).moment (IsSound e.catalog (full_history e.core)) P (λ files sound. inl sound) (prepared.any_moment told))
+    (subst (λ k. EachImage disk_two disk_one.moment (IsSoundForEither e.catalog (full_history k) (with_events (full_history k) events))) prepared.step.core
+    (subst (λ d. EachImage disk_two disk_one.moment (IsSoundForEither d (full_history c.prepare_group.new.self.core) (with_events (full_history c.prepare_group.new.self.core) events))) prepared.step.catalog (written.any_moment told_one)))
+    (each_so disk_three disk_two.moment (IsSound e.catalog (with_events (full_history e.core) events)) P (λ files sound. inr sound)
+    (subst (λ k. EachImage disk_three disk_two.moment (IsSound e.catalog (with_events (full_history k) events))) prepared.step.core
+    (subst (λ d. EachImage disk_three disk_two.moment (IsSound d (with_events (full_history c.prepare_group.new.self.core) events))) (written.step.catalog ∙ prepared.step.catalog)
+    (later.any_moment told_two c.group_of-group.result (with_events (full_history c.prepare_group.new.self.core) events) recorded))))

@@ -1,0 +1,253 @@
+// A piece is queued.
+ghost use Rattle.std.specs.Prelude.{◌≡◌, ◌≢◌, ◌<◌, ◌&&◌, ◌||◌, ◌++◌, ◌∷◌, [], false, filter, length, nat_le};
+ghost use Rattle.std.specs.List.{list_any};
+ghost use Rattle.schedule_model.specs.Histories.{is_in};
+ghost use Rattle.machine_model.specs.declared.kept.Work.TheVariants.{End, Forward};
+ghost use Rattle.machine_model.specs.declared.replies.PieceState.TheVariants.{Out};
+ghost use Rattle.machine_model.specs.Groups.{is_end_piece, refused, share_store};
+ghost use Rattle.machine_model.specs.Pieces.{state_of};
+ghost use Rattle.process_core.specs.Cores.{IsHandedBy, courses_in, moment_of};
+ghost use Rattle.history_files.specs.Effects.{subsystem_of};
+ghost use Rattle.history_files.specs.Standing.{EachFits};
+ghost use Rattle.engine_steps.specs.Pieces.{IsStepOut};
+ghost use Rattle.engine_steps.specs.declared.engines.Phase.TheVariants as phase;
+ghost use Rattle.process_engine.specs.Pieces.{numbers_of};
+ghost use Rattle.process_engine.specs.Queueing.{HasPlace, IsRefusal, IsRefusedIn, Queues, RepliesAs, refusal_of};
+ghost use Rattle.process_engine.specs.Queues.{AreQueued, pieces_of};
+
+use crate::replies::Queue;
+use crate::{Answer, Queued};
+use engine_steps::{Closed, Engine};
+use process_core::{Piece, PieceState, Refusal, Work};
+use process_disk::Rack;
+use resource_box::Resource;
+
+// What a refusal answers.
+fn refused_as(refusal: Refusal) -> Queue
+    ensures { RepliesAs result (refused refusal) }
+{
+    match refusal {
+        Refusal::Retry(count) => Queue::Retry(count),
+        Refusal::Alternative | Refusal::RollBack => Queue::Failed,
+        Refusal::Exhausted => Queue::Exhausted,
+    }
+}
+
+// Whether a piece of this number is among them.
+fn has_number(pieces: &[Piece], number: u32) -> bool
+    ensures { result ≡ is_in number (numbers_of (pieces_of pieces.now)) }
+{
+    let mut rest = pieces;
+    while let [piece, after @ ..] = rest {
+        if piece.number() == number {
+            return true;
+        }
+        rest = after;
+    }
+    false
+}
+
+// Whether two pieces need one store: no end does.
+fn share_store<R: Rack + Drop, B: Resource>(
+    engine: &Engine<R, B>,
+    one: &Piece,
+    other: &Piece,
+) -> bool
+    ensures { result ≡ share_store (subsystem_of engine.now.catalog.ops) (courses_in engine.now.core) one.now.piece
+        other.now.piece }
+{
+    !is_end(one) && !is_end(other) && engine.subsystem(one) == engine.subsystem(other)
+}
+
+// Whether a piece is the end of a process.
+fn is_end(piece: &Piece) -> bool
+    ensures { result ≡ is_end_piece piece.now.piece }
+{
+    match piece.work() {
+        Work::End => true,
+        Work::Forward | Work::Undo => false,
+    }
+}
+
+// Whether one of the pieces needs the store that this piece needs.
+fn is_store_taken<R: Rack + Drop, B: Resource>(
+    engine: &Engine<R, B>,
+    pieces: &[Piece],
+    piece: &Piece,
+) -> bool
+    ensures { result ≡ list_any (share_store (subsystem_of engine.now.catalog.ops) (courses_in engine.now.core) piece.now.piece)
+        (pieces_of pieces.now) }
+{
+    let mut rest = pieces;
+    while let [other, after @ ..] = rest {
+        if share_store(engine, piece, other) {
+            return true;
+        }
+        rest = after;
+    }
+    false
+}
+
+// How many of the pieces are ends.
+fn ends_among(pieces: &[Piece]) -> usize
+    ensures { result ≡ length (filter is_end_piece (pieces_of pieces.now)) }
+{
+    let mut count = 0;
+    let mut rest = pieces;
+    while let [piece, after @ ..] = rest {
+        if is_end(piece) {
+            count += 1;
+        }
+        rest = after;
+    }
+    count
+}
+
+// Whether there is no place for a piece among these.
+fn is_full<R: Rack + Drop, B: Resource>(
+    engine: &Engine<R, B>,
+    pieces: &[Piece],
+    piece: &Piece,
+) -> bool
+    ensures { result ≡ (list_any (share_store (subsystem_of engine.now.catalog.ops) (courses_in engine.now.core) piece.now.piece)
+        (pieces_of pieces.now)
+        || (is_end_piece piece.now.piece && nat_le 8 (length (filter is_end_piece (pieces_of pieces.now))))) }
+{
+    is_store_taken(engine, pieces, piece) || (is_end(piece) && 8 <= ends_among(pieces))
+}
+
+// A piece comes behind those that are queued.
+fn put_in(queued: &mut Queued, piece: Piece)
+    requires { length queued.old < 16 }
+    ensures { queued.new ≡ queued.old ++ piece ∷ [] }
+{
+    queued.pieces.push_reserved(piece);
+}
+
+// A piece is refused.
+fn refuse<R: Rack + Drop, B: Resource>(engine: &mut Engine<R, B>, piece: Piece) -> Queue
+    requires settled { engine.old.phase ≡ phase.Settled }
+    requires out { IsStepOut engine.old.core piece.piece }
+    ensures reply { RepliesAs result (refused (refusal_of engine.old piece.piece)) }
+    ensures refusal { IsRefusal result }
+    ensures refused { IsRefusedIn engine.old engine.new piece }
+{
+    refused_as(engine.refuse_piece(piece))
+}
+
+// A step that finds a place in the group: it is refused where the values bar it, and else room is made for it.
+fn queue_step<R: Rack + Drop, B: Resource>(
+    engine: &mut Engine<R, B>,
+    queued: &mut Queued,
+    piece: Piece,
+) -> Queue
+    requires fits { EachFits B.Resource engine.old.files.stores }
+    requires settled { engine.old.phase ≡ phase.Settled }
+    requires out { IsStepOut engine.old.core piece.piece }
+    requires forward { piece.piece.work ≡ Forward }
+    requires place { HasPlace engine.old queued.old piece.piece }
+    ensures queues { Queues engine.old engine.new queued.old queued.new piece Answer.Done result }
+    ensures queued { AreQueued engine.new queued.new }
+    ensures fits { EachFits B.Resource engine.new.files.stores }
+    ensures rack { engine.new.files.rack ≡ engine.old.files.rack }
+{
+    engine.invariant_holds();
+    if engine.bars(&piece) {
+        return refuse(engine, piece);
+    }
+    match engine.make_room(&piece) {
+        Ok(()) => {
+            put_in(queued, piece);
+            Queue::Queued
+        }
+        Err(_) => Queue::NoMemory(piece),
+    }
+}
+
+// The work of a piece is done: it is queued where there is a place for it, unless the values bar it.
+fn queue_done<R: Rack + Drop, B: Resource>(
+    engine: &mut Engine<R, B>,
+    queued: &mut Queued,
+    piece: Piece,
+) -> Queue
+    requires fits { EachFits B.Resource engine.old.files.stores }
+    requires settled { engine.old.phase ≡ phase.Settled }
+    requires handed { IsHandedBy engine.old.core piece.piece }
+    requires out { state_of (moment_of engine.old.core) piece.piece.number ≡ Out }
+    requires queued { AreQueued engine.old queued.old }
+    requires new { is_in piece.piece.number (numbers_of (pieces_of queued.old)) ≡ false }
+    ensures queues { Queues engine.old engine.new queued.old queued.new piece Answer.Done result }
+    ensures queued { AreQueued engine.new queued.new }
+    ensures fits { EachFits B.Resource engine.new.files.stores }
+    ensures rack { engine.new.files.rack ≡ engine.old.files.rack }
+{
+    engine.invariant_holds();
+    if is_full(engine, &queued.pieces, &piece) {
+        return Queue::Full(piece);
+    }
+    match piece.work() {
+        Work::Forward => queue_step(engine, queued, piece),
+        Work::Undo | Work::End => {
+            put_in(queued, piece);
+            Queue::Queued
+        }
+    }
+}
+
+/// Queues a piece that this engine handed out, by what came of its work; an end is answered that it is done. A piece whose work is
+/// done is queued, unless the values bar it, which is as if it were refused. It makes no call of the rack.
+pub fn queue<R: Rack + Drop, B: Resource>(
+    engine: &mut Engine<R, B>,
+    queued: &mut Queued,
+    piece: Piece,
+    answer: Answer,
+) -> Queue
+    requires fits { EachFits B.Resource engine.old.files.stores }
+    requires rest { engine.old.phase ≢ phase.UnderWay }
+    requires handed { IsHandedBy engine.old.core piece.piece }
+    requires end { piece.piece.work ≡ End → answer ≡ Answer.Done }
+    requires queued { AreQueued engine.old queued.old }
+    ensures queues { engine.old.phase ≡ phase.Settled → Queues engine.old engine.new queued.old queued.new piece answer result }
+    ensures closed { engine.old.phase ≡ phase.Closed → (result ≡ Queue.Closed (length engine.old.core.kept))
+        × (engine.new ≡ engine.old) × (queued.new ≡ queued.old) }
+    ensures queued { AreQueued engine.new queued.new }
+    ensures fits { EachFits B.Resource engine.new.files.stores }
+    ensures rack { engine.new.files.rack ≡ engine.old.files.rack }
+{
+    if let Err(Closed(count)) = engine.not_closed() {
+        return Queue::Closed(count);
+    }
+    if has_number(&queued.pieces, piece.number()) {
+        return Queue::Over;
+    }
+    match engine.state(&piece) {
+        PieceState::Out => queue_out(engine, queued, piece, answer),
+        PieceState::Dropped(event) => Queue::Dropped(event),
+        PieceState::Over => Queue::Over,
+    }
+}
+
+// A piece that is out and isn't queued.
+fn queue_out<R: Rack + Drop, B: Resource>(
+    engine: &mut Engine<R, B>,
+    queued: &mut Queued,
+    piece: Piece,
+    answer: Answer,
+) -> Queue
+    requires fits { EachFits B.Resource engine.old.files.stores }
+    requires settled { engine.old.phase ≡ phase.Settled }
+    requires handed { IsHandedBy engine.old.core piece.piece }
+    requires out { state_of (moment_of engine.old.core) piece.piece.number ≡ Out }
+    requires end { piece.piece.work ≡ End → answer ≡ Answer.Done }
+    requires queued { AreQueued engine.old queued.old }
+    requires new { is_in piece.piece.number (numbers_of (pieces_of queued.old)) ≡ false }
+    ensures queues { Queues engine.old engine.new queued.old queued.new piece answer result }
+    ensures queued { AreQueued engine.new queued.new }
+    ensures fits { EachFits B.Resource engine.new.files.stores }
+    ensures rack { engine.new.files.rack ≡ engine.old.files.rack }
+{
+    match answer {
+        Answer::Done => queue_done(engine, queued, piece),
+        Answer::Refused => refuse(engine, piece),
+    }
+}
