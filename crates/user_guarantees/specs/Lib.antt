@@ -1,0 +1,4 @@
+pub mod Tables
+pub mod TableExamples
+pub mod Independence
+pub mod IndependenceExamples
