@@ -5,3 +5,6 @@ pub mod LeftAlone
 pub mod NeverDragged
 pub mod Independent
 pub mod OwnCauses
+pub mod FirstWay
+pub mod OnItsWay
+pub mod PreferredWay

@@ -1,4 +1,5 @@
 // The laws: each function says one, and does nothing.
+ghost use Rattle.user_guarantees.specs.FirstWay.{PreferredWay, UndosHaveCauses};
 ghost use Rattle.user_guarantees.specs.Independence.{TablesByKeyConflictByKey, WhoHasItsKeysIsLeftAlone};
 ghost use Rattle.user_guarantees.specs.Independence.{WhoSharesNothingGoesBackOfItself, WhoSharesNothingIsLeftAlone};
 ghost use Rattle.user_guarantees.specs.Tables.{FewerConflictsAllowMore, FewerConflictsFailNoEarlier, LooserTablesAllowMore};
@@ -36,4 +37,14 @@ pub fn who_shares_nothing_goes_back_of_itself()
 /// By a table without the mode always conflicts are by key.
 pub fn tables_by_key_conflict_by_key()
     ensures { TablesByKeyConflictByKey }
+{}
+
+/// A process that nothing kept from it is on its first way, without an undo.
+pub fn preferred_way()
+    ensures { PreferredWay }
+{}
+
+/// Each undo has a cause that is kept.
+pub fn undos_have_causes()
+    ensures { UndosHaveCauses }
 {}
