@@ -8,3 +8,6 @@ pub mod OwnCauses
 pub mod FirstWay
 pub mod OnItsWay
 pub mod PreferredWay
+pub mod Sessions
+pub mod RoundAndRound
+pub mod PassedOver

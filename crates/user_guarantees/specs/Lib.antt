@@ -4,3 +4,4 @@ pub mod Independence
 pub mod IndependenceExamples
 pub mod FirstWay
 pub mod FirstWayExamples
+pub mod Dialogue

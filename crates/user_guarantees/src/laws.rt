@@ -1,4 +1,5 @@
 // The laws: each function says one, and does nothing.
+ghost use Rattle.user_guarantees.specs.Dialogue.{NobodyIsPassedOver};
 ghost use Rattle.user_guarantees.specs.FirstWay.{PreferredWay, UndosHaveCauses};
 ghost use Rattle.user_guarantees.specs.Independence.{TablesByKeyConflictByKey, WhoHasItsKeysIsLeftAlone};
 ghost use Rattle.user_guarantees.specs.Independence.{WhoSharesNothingGoesBackOfItself, WhoSharesNothingIsLeftAlone};
@@ -47,4 +48,9 @@ pub fn preferred_way()
 /// Each undo has a cause that is kept.
 pub fn undos_have_causes()
     ensures { UndosHaveCauses }
+{}
+
+/// Nobody is passed over by as many requests as there are processes.
+pub fn nobody_is_passed_over()
+    ensures { NobodyIsPassedOver }
 {}
