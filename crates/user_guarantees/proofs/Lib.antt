@@ -11,3 +11,4 @@ pub mod PreferredWay
 pub mod Sessions
 pub mod RoundAndRound
 pub mod PassedOver
+pub mod DialogueEnds

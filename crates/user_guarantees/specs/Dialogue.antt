@@ -1,16 +1,29 @@
--- A driver's dialogue: whom requests serve.
-use Rattle.std.specs.Prelude.{◌≤◌, ℕ, suc, Bool, true, false, ◌&&◌, ◌||◌, List, [], ◌∷◌, length, nat_eq, IsTrue}
+-- A driver's dialogue: what it is told that finishes each piece before it asks again, and whom requests serve.
+use Rattle.std.specs.Prelude.{◌≡◌, ◌≤◌, ℕ, zero, suc, Bool, true, false, ◌&&◌, ◌||◌, List, [], ◌∷◌, length, nat_eq, IsTrue, if◌then◌else◌}
+use Rattle.std.specs.List.{sum_by}
 use Rattle.process_tree.specs.Order.{Each}
 use Rattle.process_tree.specs.declared.plan.Plan.{Plan}
+use Rattle.process_tree.specs.declared.play.Outcome.{Outcome}
+use Rattle.process_tree.specs.declared.play.Outcome.TheVariants.{Done}
 use Rattle.schedule_model.specs.Conflict.{ConflictRelation}
 use Rattle.schedule_model.specs.Histories.{is_active, starts}
+use Rattle.machine_model.specs.declared.kept.Work.TheVariants.{End}
 use Rattle.machine_model.specs.Advance.{Machine, advance_all}
 use Rattle.machine_model.specs.Calls.{Call, start, admit, next, finish, abort, complete_all, IsNoStart, answer, answered}
-use Rattle.machine_model.specs.Laws.{IsSession}
+use Rattle.machine_model.specs.Laws.{IsSession, pieces_for}
 use Rattle.machine_model.specs.Moment.{Moment}
-use Rattle.machine_model.specs.Replies.{Next, chosen, wait, all_ended, stuck, all_victims, next_reply}
+use Rattle.machine_model.specs.Progress.{same_work}
+use Rattle.machine_model.specs.Replies.{Handed, Next, chosen, wait, all_ended, stuck, all_victims, next_reply}
 use Rattle.machine_model.specs.Runs.{history, now}
 use Rattle.machine_model.specs.State.{is_free}
+
+-- a driver answers each piece that it is handed, as it likes
+abbrev pub Driver : Type 0
+Driver = Handed → Outcome
+
+-- but the end of a process, where there is nothing to do, is done
+abbrev pub said : Driver → Handed → Outcome
+said driver d = if same_work d.piece.work End then Done else driver d
 
 -- the moment at which a request for any piece is answered: after the victims that it makes
 abbrev pub at_request : ConflictRelation → Machine → Moment
@@ -19,6 +32,35 @@ at_request table s = let m = now table s in advance_all table s.courses m (all_v
 -- what a request for any piece is told
 abbrev pub told : ConflictRelation → Machine → Next
 told table s = next_reply table s.courses (at_request table s) s.served
+
+-- the driver finishes the piece that it was handed, if it was handed one
+abbrev pub finishing : ConflictRelation → Driver → Machine → Next → Machine
+finishing table driver s (chosen d) = answered s (answer table s (finish d.piece.number (said driver d)))
+finishing table driver s (wait b) = s
+finishing table driver s all_ended = s
+finishing table driver s (stuck i) = s
+
+-- a request, and what it handed out finished
+abbrev pub after_request : ConflictRelation → Driver → Machine → Machine
+after_request table driver s = finishing table driver (answered s (answer table s next)) (told table s)
+
+-- so many of them
+abbrev pub after_requests : ℕ → ConflictRelation → Driver → Machine → Machine
+after_requests zero table driver s = s
+after_requests (suc n) table driver s = after_requests n table driver (after_request table driver s)
+
+-- there is nothing more to be handed out: all have ended, or one is stuck
+abbrev pub is_over : Next → Bool
+is_over (chosen d) = false
+is_over (wait b) = false
+is_over all_ended = true
+is_over (stuck i) = true
+
+-- A dialogue ends: whatever it answers, a driver that finishes each piece before it asks again is told so behind at most as many
+-- requests as the processes can take pieces.
+abbrev pub DialoguesEnd : Type 0
+DialoguesEnd = (table : ConflictRelation) (plans : List Plan) (s : Machine) (driver : Driver) → IsSession table plans s → (now table s).out ≡ []
+    → (n : ℕ) × (n ≤ sum_by (pieces_for s.courses) (starts (history table s))) × IsTrue (is_over (told table (after_requests n table driver s)))
 
 -- process i is handed a piece
 abbrev pub serves : ℕ → Next → Bool

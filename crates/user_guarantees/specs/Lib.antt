@@ -5,3 +5,4 @@ pub mod IndependenceExamples
 pub mod FirstWay
 pub mod FirstWayExamples
 pub mod Dialogue
+pub mod DialogueExamples

@@ -1,5 +1,5 @@
 // The laws: each function says one, and does nothing.
-ghost use Rattle.user_guarantees.specs.Dialogue.{NobodyIsPassedOver};
+ghost use Rattle.user_guarantees.specs.Dialogue.{DialoguesEnd, NobodyIsPassedOver};
 ghost use Rattle.user_guarantees.specs.FirstWay.{PreferredWay, UndosHaveCauses};
 ghost use Rattle.user_guarantees.specs.Independence.{TablesByKeyConflictByKey, WhoHasItsKeysIsLeftAlone};
 ghost use Rattle.user_guarantees.specs.Independence.{WhoSharesNothingGoesBackOfItself, WhoSharesNothingIsLeftAlone};
@@ -53,4 +53,9 @@ pub fn undos_have_causes()
 /// Nobody is passed over by as many requests as there are processes.
 pub fn nobody_is_passed_over()
     ensures { NobodyIsPassedOver }
+{}
+
+/// A driver that finishes each piece before it asks again is told that all is over.
+pub fn dialogues_end()
+    ensures { DialoguesEnd }
 {}
