@@ -8,7 +8,3 @@ pub mod OwnCauses
 pub mod FirstWay
 pub mod OnItsWay
 pub mod PreferredWay
-pub mod Sessions
-pub mod RoundAndRound
-pub mod PassedOver
-pub mod DialogueEnds

@@ -41,7 +41,7 @@ each-among P x [] all is = absurd is
 each-among P x (y ∷ ys) all (inl here) = subst P here all.0
 each-among P x (y ∷ ys) all (inr later) = each-among P x ys all.1 later
 
-pub found-among : {X : Type 0} (q : X → Bool) (x : X) (xs : List X) → find q xs ≡ Some x → Among x xs
+found-among : {X : Type 0} (q : X → Bool) (x : X) (xs : List X) → find q xs ≡ Some x → Among x xs
 found-among q x [] is = absurd (none-some x is)
 found-among q x (y ∷ ys) is = by_test (q y) is (found-among q x ys)
   where

@@ -4,5 +4,3 @@ pub mod Independence
 pub mod IndependenceExamples
 pub mod FirstWay
 pub mod FirstWayExamples
-pub mod Dialogue
-pub mod DialogueExamples

@@ -1,5 +1,4 @@
 // The laws: each function says one, and does nothing.
-ghost use Rattle.user_guarantees.specs.Dialogue.{DialoguesEnd, NobodyIsPassedOver};
 ghost use Rattle.user_guarantees.specs.FirstWay.{PreferredWay, UndosHaveCauses};
 ghost use Rattle.user_guarantees.specs.Independence.{TablesByKeyConflictByKey, WhoHasItsKeysIsLeftAlone};
 ghost use Rattle.user_guarantees.specs.Independence.{WhoSharesNothingGoesBackOfItself, WhoSharesNothingIsLeftAlone};
@@ -48,14 +47,4 @@ pub fn preferred_way()
 /// Each undo has a cause that is kept.
 pub fn undos_have_causes()
     ensures { UndosHaveCauses }
-{}
-
-/// Nobody is passed over by as many requests as there are processes.
-pub fn nobody_is_passed_over()
-    ensures { NobodyIsPassedOver }
-{}
-
-/// A driver that finishes each piece before it asks again is told that all is over.
-pub fn dialogues_end()
-    ensures { DialoguesEnd }
 {}

@@ -3,15 +3,14 @@ use Rattle.std.proofs.Common.{◌≡◌, ◌⊎◌, inl, inr, ⊎_elim, ℕ, ◌
 use Rattle.std.specs.Bool.{IsTrue}
 use Rattle.std.specs.List.{list_all}
 use Rattle.std.proofs.lemmas.Bool.{and_from, eqb-true, false≢true, le-leb, ltb-true, lt-ltb, or_cases, or_left, or_right, cases_lt}
-use Rattle.std.proofs.lemmas.Option.{same_Some}
+use Rattle.std.proofs.lemmas.Option.{none-some, same_Some}
 use Rattle.schedule_model.specs.Histories.{is_in}
 use Rattle.schedule_model.proofs.Active.{is_in-filter}
 use Rattle.schedule_model.proofs.Appends.{is_in-append}
-use Rattle.schedule_model.proofs.Members.{all-among, among-filter, among-is_in, is_in-among}
+use Rattle.schedule_model.proofs.Members.{Among, all-among, among-filter, among-is_in, is_in-among}
 use Rattle.schedule_model.proofs.Rising.{Rising}
 use Rattle.schedule_model.proofs.Walks.{any-is_in}
 use Rattle.machine_model.proofs.Stuck.{none_passes}
-use Rattle.user_guarantees.proofs.NeverDragged.{found-among}
 
 -- how many numbers stand between the process that was served and process i, round and round
 abbrev pub between : ℕ → ℕ → ℕ → ℕ
@@ -23,6 +22,15 @@ not_less a b le = by_test (ltb a b) refl
     by_test : (t : Bool) → ltb a b ≡ t → ltb a b ≡ false
     by_test false is = is
     by_test true is = let less = ltb-true a b is in absurd (omega arith)
+
+-- what is found is there
+found-among : (q : ℕ → Bool) (x : ℕ) (xs : List ℕ) → find q xs ≡ Some x → Among x xs
+found-among q x [] is = absurd (none-some x is)
+found-among q x (y ∷ ys) is = by_test (q y) is (found-among q x ys)
+  where
+    by_test : (t : Bool) → cond t (Some y) (find q ys) ≡ Some x → (find q ys ≡ Some x → Among x ys) → Among x (y ∷ ys)
+    by_test true here rest = inl (same_Some y x here)
+    by_test false later rest = inr (rest later)
 
 -- Of rising numbers that pass a test, the first that passes another is the least.
 module _ (p q : ℕ → Bool) where

@@ -25,9 +25,9 @@ use Rattle.machine_model.specs.State.{block_of, is_exhausted, is_free, victim_of
 use Rattle.machine_model.proofs.OwnOrder.{run-own_order}
 use Rattle.machine_model.proofs.SessionCalls.{calls_make_sessions}
 use Rattle.machine_model.proofs.Snoc.{advances}
-use Rattle.user_guarantees.specs.Dialogue.{NobodyIsPassedOver, at_request, is_free_at_each, is_served, requests, serves, told}
-use Rattle.user_guarantees.proofs.RoundAndRound.{between, nearer, somebody}
-use Rattle.user_guarantees.proofs.Sessions.{called-starts}
+use Rattle.driver_guarantees.specs.Dialogue.{NobodyIsPassedOver, at_request, is_free_at_each, is_served, requests, serves, told}
+use Rattle.driver_guarantees.proofs.RoundAndRound.{between, nearer, somebody}
+use Rattle.driver_guarantees.proofs.Sessions.{called-starts}
 
 -- who is free is active
 free_active : (table : ConflictRelation) (courses : List Course) (m : Moment) (i : ℕ) → is_free table courses m i ≡ true → is_active m.events i ≡ true

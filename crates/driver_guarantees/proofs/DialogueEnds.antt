@@ -30,8 +30,8 @@ use Rattle.machine_model.proofs.RunInduction.{IsKeptByBeginnings, advance-keeps}
 use Rattle.machine_model.proofs.SessionCalls.{calls_make_sessions}
 use Rattle.machine_model.proofs.Snoc.{advance_all-append, hands-append}
 use Rattle.machine_model.proofs.TidyMoments.{IsPieceOfItsNumber}
-use Rattle.user_guarantees.specs.Dialogue.{DialoguesEnd, Driver, after_request, after_requests, at_request, finishing, is_over, said, told}
-use Rattle.user_guarantees.proofs.Sessions.{called-now, called-starts}
+use Rattle.driver_guarantees.specs.Dialogue.{DialoguesEnd, Driver, after_request, after_requests, at_request, finishing, is_over, said, told}
+use Rattle.driver_guarantees.proofs.Sessions.{called-now, called-starts}
 
 -- nothing is out
 abbrev Idle : Moment → Type 0

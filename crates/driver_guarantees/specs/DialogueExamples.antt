@@ -6,7 +6,7 @@ use Rattle.schedule_model.specs.Samples.{order}
 use Rattle.machine_model.specs.Advance.{Machine}
 use Rattle.machine_model.specs.Calls.{start, next, session}
 use Rattle.machine_model.specs.Replies.{all_ended}
-use Rattle.user_guarantees.specs.Dialogue.{after_requests, is_free_at_each, is_over, is_served, told}
+use Rattle.driver_guarantees.specs.Dialogue.{after_requests, is_free_at_each, is_over, is_served, told}
 
 -- one order has started
 abbrev pub one_order : Machine

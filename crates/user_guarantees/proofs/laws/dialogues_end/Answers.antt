@@ -1,5 +1,0 @@
-use Rattle.user_guarantees.proofs.DialogueEnds.{dialogues_end}
-use Rattle.user_guarantees.proofs.laws.dialogues_end.Goals as goal
-
-pub returns : goal.returns
-returns c = dialogues_end

@@ -1,5 +1,0 @@
-use Rattle.user_guarantees.proofs.PassedOver.{nobody_is_passed_over}
-use Rattle.user_guarantees.proofs.laws.nobody_is_passed_over.Goals as goal
-
-pub returns : goal.returns
-returns c = nobody_is_passed_over
