@@ -1,5 +1,6 @@
 -- A driver's dialogue: what it is told that finishes each piece before it asks again, and whom requests serve.
-use Rattle.std.specs.Prelude.{◌≡◌, ◌≤◌, ℕ, zero, suc, Bool, true, false, ◌&&◌, ◌||◌, List, [], ◌∷◌, length, nat_eq, IsTrue, if◌then◌else◌}
+use Rattle.std.specs.Prelude.{◌≡◌, ◌≤◌, ℕ, zero, suc, Bool, true, false, ◌&&◌, ◌||◌, List, [], ◌∷◌, length, nat_eq, IsTrue}
+use Rattle.std.specs.Prelude.{if◌then◌else◌}
 use Rattle.std.specs.List.{sum_by}
 use Rattle.process_tree.specs.Order.{Each}
 use Rattle.process_tree.specs.declared.plan.Plan.{Plan}
@@ -59,8 +60,10 @@ is_over (stuck i) = true
 -- A dialogue ends: whatever it answers, a driver that finishes each piece before it asks again is told so behind at most as many
 -- requests as the processes can take pieces.
 abbrev pub DialoguesEnd : Type 0
-DialoguesEnd = (table : ConflictRelation) (plans : List Plan) (s : Machine) (driver : Driver) → IsSession table plans s → (now table s).out ≡ []
-    → (n : ℕ) × (n ≤ sum_by (pieces_for s.courses) (starts (history table s))) × IsTrue (is_over (told table (after_requests n table driver s)))
+DialoguesEnd = (table : ConflictRelation) (plans : List Plan) (s : Machine) (driver : Driver) → IsSession table plans s
+    → (now table s).out ≡ []
+    → (n : ℕ) × (n ≤ sum_by (pieces_for s.courses) (starts (history table s)))
+    × IsTrue (is_over (told table (after_requests n table driver s)))
 
 -- process i is handed a piece
 abbrev pub serves : ℕ → Next → Bool
@@ -110,6 +113,7 @@ is_served table i s (c ∷ cs) = is_served_by table i s c || is_served table i (
 -- Nobody is passed over: who is free at each of as many requests as there are processes is served by one of them, whatever else
 -- is called between them.
 abbrev pub NobodyIsPassedOver : Type 0
-NobodyIsPassedOver = (table : ConflictRelation) (plans : List Plan) (s : Machine) (i : ℕ) (cs : List Call) → IsSession table plans s
+NobodyIsPassedOver = (table : ConflictRelation) (plans : List Plan) (s : Machine) (i : ℕ) (cs : List Call)
+    → IsSession table plans s
     → IsTrue (is_active (history table s) i) → Each IsNoStart cs → length (starts (history table s)) ≤ requests cs
     → IsTrue (is_free_at_each table i s cs) → IsTrue (is_served table i s cs)

@@ -7,4 +7,5 @@ pub mod Independent
 pub mod OwnCauses
 pub mod FirstWay
 pub mod OnItsWay
+pub mod HaveWays
 pub mod PreferredWay

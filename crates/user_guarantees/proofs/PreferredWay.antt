@@ -8,9 +8,10 @@ use Rattle.process_tree.specs.Shape.{first_of}
 use Rattle.process_tree.specs.declared.plan.Plan.{Plan}
 use Rattle.schedule_model.specs.declared.event.Event.{Event}
 use Rattle.schedule_model.specs.Course.{Course, courses_of, shape}
-use Rattle.schedule_model.specs.Conflict.{ConflictRelation}
+use Rattle.schedule_model.specs.Conflict.{ConflictRelation, no_conflict}
 use Rattle.schedule_model.specs.Histories.{is_active, is_in, net_steps, starts}
 use Rattle.schedule_model.specs.Laws.{AreGood}
+use Rattle.schedule_model.specs.Legal.{is_legal}
 use Rattle.schedule_model.proofs.Members.{Among, among-filter, among-left, filter-none, in_filter, map-none, none_pass}
 use Rattle.machine_model.specs.declared.kept.Kept.{Kept}
 use Rattle.machine_model.specs.declared.kept.Kept.TheVariants.{Start, Hand, Effect, Refuse, Abort, Victim, Restart}
@@ -20,7 +21,7 @@ use Rattle.machine_model.specs.Pieces.{hands, is_refusal, piece_of, refused_piec
 use Rattle.machine_model.specs.Progress.{is_only_try, same_work, step_or_end}
 use Rattle.machine_model.specs.State.{refused_steps}
 use Rattle.machine_model.specs.Advance.{Machine, advance, advance_all, event_of}
-use Rattle.machine_model.specs.Runs.{goes_on_from, may_be_kept, now}
+use Rattle.machine_model.specs.Runs.{goes_on_from, history, may_be_kept, now}
 use Rattle.machine_model.specs.Laws.{IsSession}
 use Rattle.machine_model.proofs.Begun.{advance-begun}
 use Rattle.machine_model.proofs.Frames.{piece_of-plain}
@@ -28,6 +29,7 @@ use Rattle.machine_model.proofs.OwnOrder.{InOwnOrder, advance-own_order, out_pie
 use Rattle.machine_model.proofs.RunInduction.{goes_on-keeps}
 use Rattle.machine_model.proofs.Snoc.{added_by_piece, advances, hands-append}
 use Rattle.user_guarantees.specs.FirstWay.{IsOnItsWay, PreferredWay, UndosHaveCauses, has_undo, undoes_next}
+use Rattle.user_guarantees.proofs.HaveWays.{has_way}
 use Rattle.user_guarantees.proofs.OnItsWay.{OnWay, next_on_way, way-other, way-own, way-start, way-unstarted}
 
 -- what was refused stays so
@@ -146,6 +148,8 @@ cause_or_way courses m i false (b ∷ bs) never refused way = inr (b, ap (is_in 
 cause_or_way courses m i false [] never refused way = absurd (way never refused)
 
 pub undos_have_causes : UndosHaveCauses
-undos_have_causes table plans s i w session new first undone =
+undos_have_causes table plans s i session new undone =
+    let legal = (run-own_order table plans session.good s session.courses session.legal session.run).legal in
+    let way = has_way s.courses (now table s) (subst (λ cs. IsTrue (is_legal no_conflict cs (history table s))) (sym session.courses) legal) i undone in
     cause_or_way s.courses (now table s) i (has_begun (now table s) i) (refused_steps s.courses (now table s) i) refl refl
-    (λ never none. no_undo_on_way s.courses (now table s) i w (preferred_way table plans s i w session new first never none) undone)
+    (λ never none. no_undo_on_way s.courses (now table s) i way.0 (preferred_way table plans s i way.0 session new way.1 never none) undone)

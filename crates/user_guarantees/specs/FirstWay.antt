@@ -44,10 +44,10 @@ PreferredWay = (table : ConflictRelation) (plans : List Plan) (s : Machine) (i :
     → has_begun (now table s) i ≡ false → refused_steps s.courses (now table s) i ≡ []
     → IsOnItsWay s.courses (now table s) i w
 
--- Each undo has a cause that is kept: where one took effect or is next, the process has begun to complete, or a step of it was
--- refused.
+-- Each undo has a cause that is kept: where one of a process that started in the session took effect or is next, the process has
+-- begun to complete, or a step of it was refused that has one try.
 abbrev pub UndosHaveCauses : Type 0
-UndosHaveCauses = (table : ConflictRelation) (plans : List Plan) (s : Machine) (i : ℕ) (w : List ℕ) → IsSession table plans s
-    → is_in i (starts s.opening) ≡ false → IsFirstWay (shape s.courses i) w
+UndosHaveCauses = (table : ConflictRelation) (plans : List Plan) (s : Machine) (i : ℕ) → IsSession table plans s
+    → is_in i (starts s.opening) ≡ false
     → IsTrue (has_undo (history table s) i) ⊎ IsTrue (undoes_next s.courses (now table s) i)
     → IsTrue (has_begun (now table s) i) ⊎ ((b : ℕ) × IsTrue (is_in b (refused_steps s.courses (now table s) i)))

@@ -26,7 +26,8 @@ steps_in courses i = numbers_from 0 (length (course courses i).ops)
 -- a step of process i conflicts with a step of process k
 abbrev pub steps_conflict : ConflictRelation → List Course → ℕ → ℕ → Bool
 steps_conflict table courses i k =
-    list_any (λ b. list_any (λ d. table (access_at courses i b) (access_at courses k d)) (steps_in courses k)) (steps_in courses i)
+    list_any (λ b. list_any (λ d. table (access_at courses i b) (access_at courses k d)) (steps_in courses k))
+    (steps_in courses i)
 
 -- process i shares nothing: no step of it conflicts with a step of another active process
 abbrev pub shares_nothing : ConflictRelation → List Course → List Event → ℕ → Bool
@@ -39,7 +40,8 @@ pub record IsLeftAlone (table : ConflictRelation) (courses : List Course) (m : M
   -- it is no victim
   pub no_victim : victim_of table courses m ≢ Some i
   -- it is in no cascade of another active process
-  pub never_dragged : (j : ℕ) → IsTrue (is_active m.events j) → nat_eq j i ≡ false → is_in i (cascade_of table courses m j) ≡ false
+  pub never_dragged : (j : ℕ) → IsTrue (is_active m.events j) → nat_eq j i ≡ false
+      → is_in i (cascade_of table courses m j) ≡ false
 
 -- Who shares nothing waits for nobody, and nobody takes it back.
 abbrev pub WhoSharesNothingIsLeftAlone : Type 0
@@ -47,8 +49,8 @@ WhoSharesNothingIsLeftAlone = (table : ConflictRelation) (plans : List Plan) (s 
     → IsTrue (is_active (history table s) i) → IsTrue (shares_nothing table s.courses (history table s) i)
     → IsLeftAlone table s.courses (now table s) i
 
--- a process goes back of itself where its own step was refused for good, where it was asked to complete, and at a restart; a victim
--- and a member of a cascade go back for others
+-- a process goes back of itself where its own step was refused for good, where it was asked to complete, and at a restart;
+-- a victim and a member of a cascade go back for others
 abbrev pub is_own_cause : Cause → Bool
 is_own_cause (Refused b) = true
 is_own_cause Abort = true
@@ -69,7 +71,8 @@ ConflictsByKey table = (a b : Access) → IsTrue (table a b) → a.key ≡ b.key
 
 -- a step of process i has the key of a step of process k
 abbrev pub keys_meet : List Course → ℕ → ℕ → Bool
-keys_meet courses i k = list_any (λ b. list_any (λ d. nat_eq (key_of courses i b) (key_of courses k d)) (steps_in courses k)) (steps_in courses i)
+keys_meet courses i k =
+    list_any (λ b. list_any (λ d. nat_eq (key_of courses i b) (key_of courses k d)) (steps_in courses k)) (steps_in courses i)
 
 -- no step of process i has the key of a step of another active process
 abbrev pub has_own_keys : List Course → List Event → ℕ → Bool
@@ -77,7 +80,8 @@ has_own_keys courses h i = list_all (λ k. nat_eq k i || not (keys_meet courses 
 
 -- Where conflicts are by key, orders for other goods never wait for each other: whoever has its keys for itself is left alone.
 abbrev pub WhoHasItsKeysIsLeftAlone : Type 0
-WhoHasItsKeysIsLeftAlone = (table : ConflictRelation) (plans : List Plan) (s : Machine) (i : ℕ) → IsSession table plans s → ConflictsByKey table
+WhoHasItsKeysIsLeftAlone = (table : ConflictRelation) (plans : List Plan) (s : Machine) (i : ℕ) → IsSession table plans s
+    → ConflictsByKey table
     → IsTrue (is_active (history table s) i) → IsTrue (has_own_keys s.courses (history table s) i)
     → IsLeftAlone table s.courses (now table s) i
 

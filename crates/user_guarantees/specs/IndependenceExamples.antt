@@ -29,7 +29,8 @@ other_goods_are_paid = refl
 pub the_same_goods_are_shared : has_own_keys (goods_shop 1) (taken 1) 2 ≡ false
 the_same_goods_are_shared = refl
 
-pub the_same_goods_wait : block_of goods_table (goods_shop 1) (opening_moment (taken 1)) 2 ≡ Some (record { on = 1; other = 0; own = 0; rule = A3 })
+pub the_same_goods_wait : block_of goods_table (goods_shop 1) (opening_moment (taken 1)) 2
+    ≡ Some (record { on = 1; other = 0; own = 0; rule = A3 })
 the_same_goods_wait = refl
 
 -- a table for each kind of goods is by key, and one for the whole stock isn't
