@@ -17,7 +17,8 @@ after_calls cs = (session no_conflict [] [] cs).machine
 
 -- it is shipped: the order has ended on its first way
 abbrev pub shipped : Machine
-shipped = after_calls (start order ∷ next ∷ finish 1 Done ∷ next ∷ finish 2 Done ∷ next ∷ finish 3 Done ∷ next ∷ finish 4 Done ∷ [])
+shipped =
+    after_calls (start order ∷ next ∷ finish 1 Done ∷ next ∷ finish 2 Done ∷ next ∷ finish 3 Done ∷ next ∷ finish 4 Done ∷ [])
 
 pub shipped_is_over : ends (history no_conflict shipped) ≡ 1 ∷ []
 shipped_is_over = refl

@@ -20,8 +20,8 @@ FewerConflictsAllowMore = (less table : ConflictRelation) (courses : List Course
 -- And a history that isn't is judged so no earlier: where an event is the first that may not come under fewer conflicts, one up
 -- to it is the first under more.
 abbrev pub FewerConflictsFailNoEarlier : Type 0
-FewerConflictsFailNoEarlier = (less table : ConflictRelation) (courses : List Course) (h : List Event) (n : ℕ) → IsWithin less table
-    → first_illegal less courses h ≡ Some n → (k : ℕ) × (first_illegal table courses h ≡ Some k) × (k ≤ n)
+FewerConflictsFailNoEarlier = (less table : ConflictRelation) (courses : List Course) (h : List Event) (n : ℕ)
+    → IsWithin less table → first_illegal less courses h ≡ Some n → (k : ℕ) × (first_illegal table courses h ≡ Some k) × (k ≤ n)
 
 -- a mode makes no two steps conflict that another doesn't: never is the loosest, then on equal keys, then always
 abbrev pub is_no_stricter : Mode → Mode → Bool
