@@ -1,0 +1,4 @@
+pub mod Sessions
+pub mod RoundAndRound
+pub mod PassedOver
+pub mod DialogueEnds

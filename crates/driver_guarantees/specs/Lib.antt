@@ -1,0 +1,2 @@
+pub mod Dialogue
+pub mod DialogueExamples

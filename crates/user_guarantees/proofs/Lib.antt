@@ -1,0 +1,11 @@
+pub mod FewerConflicts
+pub mod KnownEntries
+pub mod HeldEntries
+pub mod LeftAlone
+pub mod NeverDragged
+pub mod Independent
+pub mod OwnCauses
+pub mod FirstWay
+pub mod OnItsWay
+pub mod HaveWays
+pub mod PreferredWay
