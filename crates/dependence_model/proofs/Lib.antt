@@ -1,0 +1,5 @@
+pub mod Sublists
+pub mod Once
+pub mod Takings
+pub mod Unique
+pub mod PlacedTakings

@@ -43,7 +43,7 @@ entries_of xs = map (λ x. x.entry) xs
 -- a step and its undo are taken away, between which no chain leads
 abbrev pub IsTaken : ConflictRelation → List Placed → List Placed → Type 0
 IsTaken table xs ys = (before between after : List Placed) × (f u : Placed)
-    × (xs ≡ before ++ f ∷ between ++ u ∷ after) × (ys ≡ before ++ between ++ after)
+    × (xs ≡ before ++ f ∷ (between ++ u ∷ after)) × (ys ≡ before ++ (between ++ after))
     × IsTrue (is_pair f.entry u.entry) × IsTrue (can_go table f.entry (entries_of between) u.entry)
 
 -- one pair after another

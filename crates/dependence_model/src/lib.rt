@@ -7,6 +7,8 @@
 //! has no algorithm.
 #![tactic(auto)]
 
+mod laws;
 mod placed;
 
+pub use laws::left_is_unique;
 pub use placed::Placed;
