@@ -1,6 +1,5 @@
 -- The same with places: what is taken away of a list with places is taken away of its entries, and the other way round.
-use Rattle.std.proofs.Common.{◌≡◌, ◌⊎◌, inl, inr, ⊎_elim, ℕ, suc, ◌+◌, ◌≤◌, true, false, not, List, [], ◌∷◌, ◌++◌, length, map, sym, refl, ap, ◌∙◌, subst, arith, length-append}
-use Rattle.std.specs.Bool.{IsTrue}
+use Rattle.std.proofs.Common.{◌≡◌, inl, inr, ℕ, ◌+◌, true, false, not, List, [], ◌∷◌, ◌++◌, length, sym, refl, ap, ◌∙◌, subst, arith}
 use Rattle.std.proofs.lemmas.Bool.{not-true}
 use Rattle.std.proofs.lemmas.List.{map-append}
 use Rattle.process_tree.specs.declared.entry.Entry.{Entry}
@@ -35,7 +34,7 @@ module _ (table : ConflictRelation) where
   closes-at f u found (x ∷ between) after pair none =
       let rest = closes-at f u (grown table f found x) between after pair none in (inr rest.0, ap (λ es. x ∷ es) rest.1)
 
-  takes-at : (f u : Entry) (before between after : List Entry) → is_pair f u ≡ true → depends_on_any table (chained table f [] between) u ≡ false
+  pub takes-at : (f u : Entry) (before between after : List Entry) → is_pair f u ≡ true → depends_on_any table (chained table f [] between) u ≡ false
       → (t : Takes table f u (before ++ f ∷ (between ++ u ∷ after))) × (taken table f u (before ++ f ∷ (between ++ u ∷ after)) t ≡ before ++ (between ++ after))
   takes-at f u [] between after pair none = let c = closes-at f u [] between after pair none in (inl (refl, c.0), c.1)
   takes-at f u (x ∷ before) between after pair none = let rest = takes-at f u before between after pair none in (inr rest.0, ap (λ es. x ∷ es) rest.1)

@@ -1,5 +1,5 @@
 -- Parts of a list, in the order of the list.
-use Rattle.std.proofs.Common.{◌≡◌, ◌⊎◌, inl, inr, ⊎_elim, ℕ, ◌≤◌, List, [], ◌∷◌, length, sym, refl, ap, ◌∙◌, arith}
+use Rattle.std.proofs.Common.{◌≡◌, ◌⊎◌, inl, inr, ◌≤◌, List, [], ◌∷◌, length, sym, refl, ap, ◌∙◌, arith}
 use Rattle.schedule_model.proofs.Members.{Among}
 
 -- the elements of xs stand in ys in the same order, among others

@@ -1,6 +1,5 @@
 -- A step and its undo are taken away: by recursion on the list, without places.
 use Rattle.std.proofs.Common.{◌≡◌, ◌⊎◌, inl, inr, ⊎_elim, Bool, true, false, cond, if◌then◌else◌, List, [], ◌∷◌, ◌++◌, sym, refl, ap, ◌∙◌, subst}
-use Rattle.std.proofs.lemmas.Bool.{false≢true}
 use Rattle.process_tree.specs.declared.entry.Entry.{Entry}
 use Rattle.schedule_model.specs.Conflict.{ConflictRelation}
 use Rattle.schedule_model.specs.Reduction.{is_pair}
@@ -8,7 +7,7 @@ use Rattle.schedule_model.proofs.Members.{Among, among-left, among-right, among-
 use Rattle.dependence_model.specs.Dependence.{depends, depends_on_any}
 use Rattle.dependence_model.specs.Laws.{AreOnce}
 use Rattle.dependence_model.proofs.Sublists.{Sub, sub-itself, sub-more, among-sub}
-use Rattle.dependence_model.proofs.Once.{none-among, AreTwins, twins-turned, no-twin, not-behind, pair-apart}
+use Rattle.dependence_model.proofs.Once.{none-among, AreTwins, twins-turned, no-twin}
 
 -- every one of these is one of those
 abbrev pub AllIn : List Entry → List Entry → Type 0

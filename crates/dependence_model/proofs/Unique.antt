@@ -1,15 +1,14 @@
 -- What is left doesn't depend on the order of taking away.
-use Rattle.std.proofs.Common.{◌≡◌, ◌⊎◌, inl, inr, ⊎_elim, true, false, List, [], ◌∷◌, sym, refl, ap, ◌∙◌, subst}
+use Rattle.std.proofs.Common.{◌≡◌, ◌⊎◌, inl, inr, ⊎_elim, true, List, [], ◌∷◌, sym, ap, ◌∙◌, subst}
 use Rattle.std.proofs.lemmas.Bool.{false≢true}
 use Rattle.process_tree.specs.declared.entry.Entry.{Entry}
 use Rattle.schedule_model.specs.Conflict.{ConflictRelation}
 use Rattle.schedule_model.specs.Reduction.{is_pair}
 use Rattle.schedule_model.proofs.Members.{Among}
-use Rattle.dependence_model.specs.Dependence.{depends_on_any}
 use Rattle.dependence_model.specs.Laws.{AreOnce}
 use Rattle.dependence_model.proofs.Sublists.{Sub, sub-itself, sub-trans, sub-both, among-sub}
 use Rattle.dependence_model.proofs.Once.{twin-itself, once-sub, not-behind, undos-twins, steps-twins, pair-step, pair-undo, pair-apart}
-use Rattle.dependence_model.proofs.Takings.{AllIn, grown, grown-has, grown-more, depends-less, Closes, closed, Takes, taken, closes-pair, takes-pair, undo-among, takes-step, takes-undo, closed-sub, taken-sub, taken-or_left, closed-no_twin, taken-no_undo, taken-no_step}
+use Rattle.dependence_model.proofs.Takings.{AllIn, grown, grown-has, grown-more, depends-less, Closes, closed, Takes, taken, closes-pair, takes-pair, undo-among, takes-step, takes-undo, taken-sub, taken-or_left, closed-no_twin, taken-no_undo, taken-no_step}
 
 -- one pair after another goes
 pub data TakesAll (table : ConflictRelation) : List Entry → List Entry → Type 0 where

@@ -10,5 +10,9 @@
 mod laws;
 mod placed;
 
-pub use laws::left_is_unique;
+pub use laws::{
+    left_is_computed, left_is_unique, legal_is_reducible, order_is_computed, schedules_are_once,
+    serial_is_neither, serial_list_is_reached, serial_orders_are_reached, steps_keep_verdict,
+    test_is_exact,
+};
 pub use placed::Placed;
