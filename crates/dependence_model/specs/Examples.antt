@@ -10,7 +10,7 @@ use Rattle.schedule_model.specs.Graph.{Arrow, leads}
 use Rattle.schedule_model.specs.Histories.{doing, undoing}
 use Rattle.schedule_model.specs.Samples.{stock_table, did, line, take, note}
 use Rattle.schedule_model.specs.Examples.{shop, paid_too_early, paid_in_time}
-use Rattle.dependence_model.specs.Dependence.{can_go, left_of, is_barred, is_cyclic, must_precede, processes_of}
+use Rattle.dependence_model.specs.Dependence.{can_go, left_of, is_barred, is_cyclic, must_precede, processes_of, entries_of}
 use Rattle.dependence_model.specs.SerialOrder.{order_of, serial_list}
 use Rattle.dependence_model.specs.Audited.{completed_schedule, ComesBack, StandsBefore, IsToldCycle}
 
@@ -45,6 +45,9 @@ addition_goes = refl
 pub paid_in_time_is_not_cyclic : is_cyclic stock_table (completed_schedule shop paid_in_time) ≡ false
 paid_in_time_is_not_cyclic = refl
 
+pub paid_in_time_is_left : entries_of (left_of stock_table (completed_schedule shop paid_in_time)) ≡ completed_schedule shop paid_in_time
+paid_in_time_is_left = refl
+
 pub paid_in_time_in_order : order_of stock_table (left_of stock_table (completed_schedule shop paid_in_time)) ≡ 1 ∷ 2 ∷ []
 paid_in_time_in_order = refl
 
@@ -61,6 +64,11 @@ crossed_is_not_barred = refl
 
 pub crossed_is_cyclic : is_cyclic stock_table (completed_schedule takers crossed) ≡ true
 crossed_is_cyclic = refl
+
+-- the first owes its note, and all stands for good
+pub crossed_is_left : entries_of (left_of stock_table (completed_schedule takers crossed))
+    ≡ doing takers 1 0 ∷ doing takers 2 0 ∷ doing takers 2 1 ∷ doing takers 1 1 ∷ []
+crossed_is_left = refl
 
 -- the cycle that is told of it: from the first to the second, and back
 pub crossed_is_told : (let left = left_of stock_table (completed_schedule takers crossed) in
