@@ -1,0 +1,15 @@
+pub mod Sublists
+pub mod Once
+pub mod Takings
+pub mod Unique
+pub mod PlacedTakings
+pub mod Computed
+pub mod Exchanges
+pub mod Bubbles
+pub mod Rounds
+pub mod Verdicts
+pub mod SerialLists
+pub mod Orders
+pub mod SerialOrders
+pub mod OnceSchedules
+pub mod Exact

@@ -1,0 +1,5 @@
+pub mod Dependence
+pub mod SerialOrder
+pub mod Audited
+pub mod Laws
+pub mod Examples
