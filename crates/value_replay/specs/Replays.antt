@@ -1,5 +1,5 @@
 -- What a replay tells and leaves.
-use Rattle.std.specs.Prelude.{◌≡◌, ◌<◌, ℕ, false, ℤ, List, [], ◌∷◌, ◌++◌, Some, None}
+use Rattle.std.specs.Prelude.{◌≡◌, ◌<◌, ℕ, false, ℤ, List, [], ◌∷◌, ◌++◌, Some, None, length}
 use Rattle.std.specs.List.{Contains}
 use Rattle.process_tree.specs.declared.entry.Entry.{Entry}
 use Rattle.process_tree.specs.declared.plan.Plan.{Plan}
@@ -13,6 +13,7 @@ use Rattle.resource_box.specs.Table.{kind_of}
 use Rattle.subsystem_store.specs.declared.effect.Effect.{Effect}
 use Rattle.subsystem_store.specs.Values.{values}
 use Rattle.history_files.specs.Effects.{effects_from, key_of, subsystem_of}
+use Rattle.history_files.specs.Sound.{kinds}
 use Rattle.history_files.specs.Standing.{AtEach}
 use Rattle.value_rules.specs.ValueConflict.{first_commuting}
 use Rattle.value_rules.specs.HistoryValues.{value_after}
@@ -51,9 +52,13 @@ books ops plans es q = effects_from ops plans q 0 es
 abbrev pub AreSteps : List Entry → Type 0
 AreSteps es = (e : Entry) → Contains es e → e.undo ≡ false
 
--- each operation is on one of the eight subsystems
+-- how many subsystems there are
+abbrev pub subsystems : ℕ
+subsystems = length kinds
+
+-- each operation is on one of the subsystems
 abbrev pub ArePlaces : List Op → Type 0
-ArePlaces ops = (op : ℕ) → subsystem_of ops op < 8
+ArePlaces ops = (op : ℕ) → subsystem_of ops op < subsystems
 
 -- why a replay is refused: memory is wanting only where the catalog names each conflict in value
 abbrev pub IsWhyRefused : Catalog → ReplayRefused → Type 0

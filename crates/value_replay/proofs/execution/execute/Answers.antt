@@ -15,7 +15,7 @@ use Rattle.history_files.specs.Effects.{call_of, key_of, subsystem_of}
 use Rattle.history_files.proofs.Clearing.{map-set}
 use Rattle.value_replay.specs.Replays.{HaveValues, books, lines_behind}
 use Rattle.value_replay.proofs.Executed.{has-after, has-before, lines-more}
-use Rattle.value_replay.proofs.Places.{are-eight, box-kind}
+use Rattle.value_replay.proofs.Places.{as-many, box-kind}
 use Rattle.value_replay.proofs.execution.execute.Goals as goal
 
 pub returns-clause-line : goal.returns-clause-line
@@ -24,8 +24,8 @@ returns-clause-line g c =
     let is_step : e.undo ≡ false = c.requires.steps e (Contains-get_or c.args.serial.now c.args.at _ c.requires.there) in
     let on : subsystem_of c.args.ops.now e.op ≡ c.from-place.result = sym (c.from-place.ensures ∙ c.subsystem_of.ensures) in
     let low = c.requires.places e.op in
-    let eight = are-eight g.B.Resource.sort c.args.boxes.now.items c.requires.boxes in
-    let within : c.from-place.result < length c.args.boxes.now.items = omega (arith, on, low, eight) in
+    let many = as-many g.B.Resource.sort c.args.boxes.now.items c.requires.boxes in
+    let within : c.from-place.result < length c.args.boxes.now.items = omega (arith, on, low, many) in
     let there : slice_get c.args.boxes.now.items c.from-place.result ≡ Some c.index_mut-resource.result.now =
     slice_get-get_or c.args.boxes.now.items c.from-place.result _ within ∙ ap Some (sym c.index_mut-resource.ensures.value) in
     let key_is : c.effect_of.result.call.key ≡ key_of c.args.plans.now e.process e.step = ap (λ (x : Effect). x.call.key) c.effect_of.ensures in
@@ -48,8 +48,8 @@ returns-clause-values g c =
     let is_step : e.undo ≡ false = c.requires.steps e (Contains-get_or c.args.serial.now c.args.at _ c.requires.there) in
     let on : subsystem_of c.args.ops.now e.op ≡ c.from-place.result = sym (c.from-place.ensures ∙ c.subsystem_of.ensures) in
     let low = c.requires.places e.op in
-    let eight = are-eight g.B.Resource.sort c.args.boxes.now.items c.requires.boxes in
-    let within : c.from-place.result < length c.args.boxes.now.items = omega (arith, on, low, eight) in
+    let many = as-many g.B.Resource.sort c.args.boxes.now.items c.requires.boxes in
+    let within : c.from-place.result < length c.args.boxes.now.items = omega (arith, on, low, many) in
     let there : slice_get c.args.boxes.now.items c.from-place.result ≡ Some c.index_mut-resource.result.now =
     slice_get-get_or c.args.boxes.now.items c.from-place.result _ within ∙ ap Some (sym c.index_mut-resource.ensures.value) in
     let call_is : c.effect_of.result.call ≡ call_of c.args.ops.now c.args.plans.now e = ap (λ (x : Effect). x.call) c.effect_of.ensures in
@@ -71,7 +71,7 @@ pub returns-clause-kinds : goal.returns-clause-kinds
 returns-clause-kinds g c =
     let on = sym (c.from-place.ensures ∙ c.subsystem_of.ensures) in
     let low = c.requires.places (get_or c.args.serial.now c.args.at (record { process = 0; step = 0; op = 0; key = 0; undo = false })).op in
-    let eight = are-eight g.B.Resource.sort c.args.boxes.now.items c.requires.boxes in
-    map-set g.B.Resource.sort c.args.boxes.now.items c.from-place.result c.apply-before.new.self c.index_mut-resource.result.now (omega (arith, on, low, eight))
+    let many = as-many g.B.Resource.sort c.args.boxes.now.items c.requires.boxes in
+    map-set g.B.Resource.sort c.args.boxes.now.items c.from-place.result c.apply-before.new.self c.index_mut-resource.result.now (omega (arith, on, low, many))
     (c.apply-before.ensures.kind ∙ (c.in_ok-ready.ensures.kind ∙ ap g.B.Resource.sort c.index_mut-resource.ensures.value))
     ∙ c.requires.boxes
