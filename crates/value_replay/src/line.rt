@@ -21,6 +21,7 @@ pub enum ReplayRefused {
 }
 
 /// The boxes, handed back, and what was told.
+#[derive(Drop)]
 pub struct Replayed<B: Drop> {
     pub resources: Vec<B>,
     pub outcome: Result<Lines, ReplayRefused>,
