@@ -1,0 +1,3 @@
+mod Executed
+mod Places
+mod Serial

@@ -1,0 +1,16 @@
+mod Wraps
+mod Steps
+mod Pairs
+mod Once
+mod Chains
+mod PlanDeeds
+mod HistoryOnce
+mod Books
+mod Tells
+mod Takes
+mod Barred
+mod Forward
+mod Found
+mod ValueLaws
+mod RealTime
+mod LeastPair

@@ -1,0 +1,6 @@
+pub mod ValueConflict
+pub mod Soundness
+pub mod Ledgers
+pub mod Laws
+pub mod HistoryValues
+pub mod Examples
