@@ -1,0 +1,112 @@
+#!/usr/bin/env node
+/** Plays the tables of clients/tests against the library in JavaScript, as play.py does in Python. PROGRAM names the program. */
+import assert from "node:assert/strict";
+import { mkdtempSync, readFileSync, rmSync } from "node:fs";
+import { tmpdir } from "node:os";
+import { join } from "node:path";
+import { Action, Answer, Scheduler, SihtolemError, State, Work, settle } from "../node/src/index.mjs";
+import { readPiece } from "../node/src/dialogue.mjs";
+import { answerOf } from "../node/src/opening.mjs";
+import { conflict, operationsOf, readReport } from "../node/src/report.mjs";
+import { filled } from "../node/src/statements.mjs";
+import { Memory } from "./memory.mjs";
+
+const PROGRAM = process.env.PROGRAM;
+const OPERATIONS = ["deliver", "reserve", "charge", "place", "ship", "mail"];
+const isLoud = process.argv.includes("-v");
+const quiet = { debug() {}, info() {}, warn() {}, error() {} };
+
+const table = (name) => JSON.parse(readFileSync(new URL(`${name}.json`, import.meta.url), "utf8"));
+const values = (choices) => Object.values(choices);
+
+function playSettling() {
+  const rows = table("settling");
+  const all = values(State).flatMap((state) => values(Answer).map((answer) => `${state}, ${answer}`));
+  assert.deepEqual(rows.map(([state, answer]) => `${state}, ${answer}`).sort(), all.sort());
+  for (const [state, answer, action] of rows) {
+    assert.ok(values(Action).includes(action));
+    assert.equal(settle(state, answer), action, `${state}, ${answer}`);
+  }
+}
+
+function playLines() {
+  const lines = table("lines");
+  for (const [line, piece] of lines.pieces) assert.deepEqual(readPiece(line), piece, line);
+  for (const [line, answer] of lines.answers) assert.equal(answerOf(line), answer);
+  for (const [text, operations] of lines.operations) assert.deepEqual(operationsOf(text), operations);
+  for (const [statement, wanted] of lines.fills) assert.equal(filled(statement, new Work("m", "2.x", true, "order_1", "take", 3, -7)), wanted);
+  for (const report of lines.reports) {
+    const told = readReport(report.lines);
+    for (const part of ["names", "paths", "acts"]) assert.deepEqual(Object.fromEntries(told[part]), report[part]);
+    assert.deepEqual([...told.ended], report.ended);
+    for (const [one, key, other, otherKey, wanted] of report.conflicts) assert.equal(conflict(told.conflicts, [one, key], [other, otherKey]), wanted);
+  }
+}
+
+/** The text for each number, where the story has a count. */
+const spread = (story, text) =>
+  text.includes("#") ? Array.from({ length: story.count }, (_, at) => text.replaceAll("#", String(at + 1))) : [text];
+
+async function playStory(scenario, story) {
+  const folder = mkdtempSync(join(tmpdir(), "sihtolem-"));
+  try {
+    const memory = new Memory(OPERATIONS, story.handlers, story.commits);
+    const texts = story.processes.flatMap((text) => spread(story, text));
+    const options = { program: PROGRAM, mark: "m", firstPause: 10, longestPause: 50, mostActive: story.most_active ?? 64, log: isLoud ? console : quiet };
+    const scheduler = await Scheduler.open(join(folder, "files"), scenario, [memory], options);
+    memory.onCall = (count) => (story.kill_at ?? []).includes(count) && process.kill(scheduler.dialogue.pid, "SIGKILL");
+    const outcomes = await submitAll(scheduler, story, texts);
+    await scheduler.close();
+    if (!story.any_end) {
+      const wanted = Object.entries(story.ends).flatMap(([text, end]) => spread(story, text).map((name) => [name, end]));
+      assert.deepEqual(Object.fromEntries([...outcomes].map(([name, it]) => [name, [it.path, it.reasons]])), Object.fromEntries(wanted), story.name);
+    }
+    checkWhole(story.name, memory, outcomes);
+    for (const [step, state] of Object.entries(story.states ?? {})) {
+      assert.deepEqual([...memory.states].filter(([place]) => place.endsWith(`.${step}`)).map(([, told]) => told), [state]);
+    }
+    const { calls } = memory;
+    const again = await Scheduler.open(join(folder, "files"), scenario, [memory], options);
+    const paths = (told) => Object.fromEntries([...told].map(([name, it]) => [name, it.path]));
+    assert.deepEqual(paths(await submitAll(again, story, texts)), paths(outcomes), `${story.name}, once more`);
+    await again.close();
+    assert.equal(memory.calls, calls, `${story.name}, calls once more`);
+  } finally {
+    rmSync(folder, { recursive: true, force: true });
+  }
+}
+
+/** The outcome of each process by name, one after another or all at once. Those that are refused have the class of their error. */
+async function submitAll(scheduler, story, texts) {
+  const outcomes = new Map();
+  const refused = {};
+  const submit = async (text) => {
+    const name = text.split(" ")[text.startsWith("process ") ? 1 : 0];
+    try {
+      outcomes.set(name, await scheduler.submit(text));
+    } catch (error) {
+      if (!(error instanceof SihtolemError)) throw error;
+      refused[name] = error.name;
+    }
+  };
+  if (story.one_by_one) for (const text of texts) await submit(text);
+  else await Promise.all(texts.map(submit));
+  assert.deepEqual(refused, story.refused ?? {}, `${story.name}: what is refused`);
+  return outcomes;
+}
+
+/** The system has committed exactly the steps that the outcomes tell, and nothing is left over. */
+function checkWhole(name, memory, outcomes) {
+  const at = (...states) => [...memory.states].filter(([, state]) => states.includes(state)).map(([place]) => place).sort();
+  assert.deepEqual(at(State.COMMITTED), [...outcomes.values()].flatMap((it) => it.path.map((step) => `${it.number}.${step}`)).sort(), `${name}: what stands`);
+  assert.deepEqual(at(State.PREPARED, State.UNDO_PREPARED), [], `${name}: what is open`);
+}
+
+playSettling();
+playLines();
+const stories = table("stories");
+for (const story of stories.stories) {
+  if (isLoud) console.log(story.name);
+  await playStory(stories.scenario, story);
+}
+console.log(`clients, JavaScript: the settling over ${table("settling").length} states, lines, and ${stories.stories.length} stories`);
