@@ -1,15 +1,16 @@
 #!/usr/bin/env node
 /** Plays the tables of clients/tests against the library in JavaScript, as play.py does in Python. PROGRAM names the program. */
 import assert from "node:assert/strict";
-import { mkdtempSync, readFileSync, rmSync } from "node:fs";
+import { mkdtempSync, readFileSync, readdirSync, rmSync } from "node:fs";
 import { tmpdir } from "node:os";
 import { join } from "node:path";
-import { Action, Answer, Scheduler, SihtolemError, State, Work, settle } from "../node/src/index.mjs";
+import { Action, Answer, Outbox, Scheduler, SihtolemError, Sqlite, State, Work, settle } from "../node/src/index.mjs";
 import { readPiece } from "../node/src/dialogue.mjs";
 import { answerOf } from "../node/src/opening.mjs";
 import { conflict, operationsOf, readReport } from "../node/src/report.mjs";
 import { filled } from "../node/src/statements.mjs";
 import { Memory } from "./memory.mjs";
+import { openDatabase } from "./sqlite.mjs";
 
 const PROGRAM = process.env.PROGRAM;
 const OPERATIONS = ["deliver", "reserve", "charge", "place", "ship", "mail"];
@@ -102,6 +103,56 @@ function checkWhole(name, memory, outcomes) {
   assert.deepEqual(at(State.PREPARED, State.UNDO_PREPARED), [], `${name}: what is open`);
 }
 
+/** As play_outbox in play.py. */
+async function playOutbox() {
+  const story = table("outbox");
+  const received = new Map();
+  const calls = [];
+  const send = async (work) => {
+    const step = `${work.process}.${work.place.split(".")[1]}${work.undo ? " undo" : ""}`;
+    calls.push(step);
+    if (story.fails[step]-- > 0) throw new Error("played");
+    if (!received.has(work.name)) received.set(work.name, step);
+  };
+  const folder = mkdtempSync(join(tmpdir(), "sihtolem-"));
+  const options = { program: PROGRAM, mark: "m", firstPause: 10, longestPause: 50, log: isLoud ? console : quiet };
+  const told = () => [...received.values()].sort();
+  try {
+    const run = async (files, task) => {
+      const databases = [await openDatabase(join(folder, "shop.db")), await openDatabase(join(folder, "mail.db"))];
+      const shop = new Sqlite(databases[0], story.shop, { setUp: story.tables });
+      const outbox = new Outbox(databases[1], story.sent, send, { firstPause: 10, longestPause: 50 });
+      const scheduler = await Scheduler.open(join(folder, files), story.scenario, [shop, outbox], options);
+      await task(scheduler, outbox, databases);
+      await scheduler.close();
+      await databases[1].exec("UPDATE sihtolem_outbox SET sent = 0");
+      databases.forEach((database) => database.close());
+    };
+    const untilSent = async (outbox) => {
+      while ((await outbox.unsent()).length) await new Promise((done) => setTimeout(done, 10));
+    };
+    await run("files", async (scheduler, outbox) => {
+      for (const text of story.processes) {
+        const outcome = await scheduler.submit(text);
+        assert.deepEqual([outcome.path, outcome.reasons], story.ends[outcome.name], text);
+      }
+      await untilSent(outbox);
+      await scheduler.backup(join(folder, "copy"));
+      assert.equal(readdirSync(join(folder, "copy")).length, 9);
+    });
+    assert.deepEqual(told(), [...story.received].sort(), "what was received");
+    const sent = calls.length;
+    await run("copy", async (scheduler, outbox, databases) => {
+      await untilSent(outbox);
+      assert.deepEqual((await databases[0].prepare("SELECT free FROM shelves").all()).map(({ free }) => free), [story.free]);
+    });
+    assert.equal(calls.length - sent, story.received.length, "what was sent again");
+    assert.deepEqual(told(), [...story.received].sort(), "what was received once more");
+  } finally {
+    rmSync(folder, { recursive: true, force: true });
+  }
+}
+
 playSettling();
 playLines();
 const stories = table("stories");
@@ -109,4 +160,5 @@ for (const story of stories.stories) {
   if (isLoud) console.log(story.name);
   await playStory(stories.scenario, story);
 }
-console.log(`clients, JavaScript: the settling over ${table("settling").length} states, lines, and ${stories.stories.length} stories`);
+await playOutbox();
+console.log(`clients, JavaScript: the settling over ${table("settling").length} states, lines, ${stories.stories.length} stories, and an outbox`);

@@ -10,6 +10,7 @@ import os
 import re
 import sys
 import tempfile
+import time
 
 HERE = os.path.dirname(os.path.realpath(__file__))
 sys.path[:0] = [f"{HERE}/../python", HERE]
@@ -17,7 +18,7 @@ sys.dont_write_bytecode = True
 
 import sihtolem
 from memory import Memory
-from sihtolem import Action, Answer, Scheduler, State, Work, settle
+from sihtolem import Action, Answer, Held, Outbox, Scheduler, Sqlite, State, Work, settle
 from sihtolem.dialogue import read_piece
 from sihtolem.opening import answer_of
 from sihtolem.report import conflict, operations_of, read_report
@@ -121,6 +122,55 @@ def check_whole(name, memory, outcomes):
     check(f"{name}: what is open", [place for place, state in memory.states.items() if state in (State.PREPARED, State.UNDO_PREPARED)], [])
 
 
+def play_outbox():
+    """A shop in SQLite, and mail behind an outbox, whose receiver fails at first. The last run sends what the run before marked as unsent again:
+    so it would be after a kill between the two. The receiver drops it by its name."""
+    story, received, calls = table("outbox"), {}, []
+    fails = dict(story["fails"])
+
+    def send(work):
+        step = f"{work.process}.{work.place.partition('.')[2]}" + (" undo" if work.undo else "")
+        calls.append(step)
+        if fails.get(step, 0):
+            fails[step] -= 1
+            raise ConnectionError("played")
+        received.setdefault(work.name, step)
+
+    with tempfile.TemporaryDirectory() as folder:
+        options = {"program": PROGRAM, "mark": "m", "first_pause": 0.01, "longest_pause": 0.05}
+
+        def participants():
+            held = {operation: Held(**{word: tuple(it) if isinstance(it, list) else it for word, it in words.items()}) for operation, words in story["shop"].items()}
+            shop = Sqlite(f"{folder}/shop.db", held, set_up=";".join(story["tables"]))
+            return shop, Outbox(f"{folder}/mail.db", story["sent"], send, first_pause=0.01, longest_pause=0.05)
+
+        shop, outbox = participants()
+        with Scheduler(f"{folder}/files", story["scenario"], [shop, outbox], **options) as scheduler:
+            for text in story["processes"]:
+                outcome = scheduler.submit(text).result(30)
+                check(text, [list(outcome.path), list(outcome.reasons)], story["ends"][outcome.name])
+            until(lambda: not outbox.unsent())
+            scheduler.backup(f"{folder}/copy")
+            check("the backup", sorted(os.listdir(f"{folder}/copy")), sorted(f"tps.{number}" for number in range(9)))
+        check("what was received", sorted(received.values()), sorted(story["received"]))
+        outbox.read("UPDATE sihtolem_outbox SET sent = 0")
+        sent = len(calls)
+        shop, outbox = participants()
+        with Scheduler(f"{folder}/copy", story["scenario"], [shop, outbox], **options):
+            until(lambda: not outbox.unsent())
+            check("what is free", shop.read("SELECT free FROM shelves"), [(story["free"],)])
+        check("what was sent again", len(calls) - sent, len(story["received"]))
+        check("what was received once more", sorted(received.values()), sorted(story["received"]))
+
+
+def until(what):
+    for _ in range(1000):
+        if what():
+            return
+        time.sleep(0.01)
+    sys.exit("it takes too long")
+
+
 def main():
     logging.basicConfig(level=logging.CRITICAL if "-v" not in sys.argv else logging.INFO, format="%(relativeCreated)d %(message)s")
     play_settling()
@@ -129,7 +179,8 @@ def main():
     for story in stories["stories"]:
         logging.info("%s", story["name"])
         play_story(stories["scenario"], story)
-    print(f"clients, Python: the settling over {len(table('settling'))} states, lines, and {len(stories['stories'])} stories")
+    play_outbox()
+    print(f"clients, Python: the settling over {len(table('settling'))} states, lines, {len(stories['stories'])} stories, and an outbox")
 
 
 main()

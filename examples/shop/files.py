@@ -5,7 +5,9 @@ import shutil
 import subprocess
 import tempfile
 
-from dialogue import Stopped
+from databases import TOP  # which makes the library known
+
+from sihtolem.dialogue import Ended
 
 
 class Files:
@@ -38,20 +40,20 @@ class Files:
         """What is said of a report: `accepted`, or why not."""
         try:
             return self._read("verify", self._folder, report).rstrip("\n")
-        except Stopped as stop:
-            return stop.line
+        except Ended as ended:
+            return ended.line
 
     def _read(self, word, folder, text):
         """A command that only reads is called again where something killed it."""
         while True:
             try:
                 return self._call(word, folder, text)
-            except Stopped as stop:
-                if not stop.was_killed:
+            except Ended as ended:
+                if ended.status >= 0:
                     raise
 
     def _call(self, word, folder, text):
         done = subprocess.run([self._program, word], cwd=folder, input=text, stdout=subprocess.PIPE, encoding="ascii")
         if done.returncode:
-            raise Stopped(done.stdout.rstrip("\n"), done.returncode)
+            raise Ended(done.stdout.rstrip("\n"), done.returncode)
         return done.stdout

@@ -12,7 +12,7 @@ export function answerOf(line) {
 const UNDOS = [Action.COMMIT_UNDO, Action.TAKE_BACK_UNDO, Action.UNDO];
 
 /** What has to be done, in order, or an error where only a person can tell. First everything is looked at; nothing is changed here. */
-export async function planSettling(mark, participants, report, dialogue) {
+export async function planSettling(mark, participants, report, dialogue, alone = []) {
   const found = [];
   for (const participant of participants) found.push([participant, await participant.found(mark)]);
   const open = found.flatMap(([, states]) => [...states].filter(([, state]) => [State.PREPARED, State.UNDO_PREPARED].includes(state)).map(([place]) => place));
@@ -24,7 +24,8 @@ export async function planSettling(mark, participants, report, dialogue) {
     if (participant.keepsNoWork) continue;
     const operations = new Set(participant.operations);
     for (const [place, [answer, operation]] of report.acts) {
-      if (answer === Answer.DONE && operations.has(operation) && !states.has(place)) plan.push([participant, place, settle(State.ABSENT, answer)]);
+      const isAlone = alone.includes(report.names.get(parseInt(place)));
+      if (answer === Answer.DONE && operations.has(operation) && !states.has(place) && !isAlone) plan.push([participant, place, settle(State.ABSENT, answer)]);
     }
   }
   stopForAPerson(mark, plan);

@@ -10,7 +10,7 @@ import { conflict, operationsOf, readReport } from "./report.mjs";
 
 const { Closed, FilesFull, FilesRefused, FolderInUse, NoParticipant, ProcessRefused, Refused, ScenarioRefused, ServeFailed, SihtolemError, Unreachable } = errors;
 const debug = debuglog("sihtolem");
-const DEFAULTS = { program: "tps", mostActive: 64, workers: 16, patience: 60_000, firstPause: 50, longestPause: 30_000 };
+const DEFAULTS = { program: "tps", alone: [], mostActive: 64, workers: 16, patience: 60_000, firstPause: 50, longestPause: 30_000 };
 
 /** Nothing is out, and nothing can go on: tries are used up. */
 class Stuck extends Error {}
@@ -225,7 +225,7 @@ export class Scheduler {
     this.#forget();
     this.learned = readReport(await this.dialogue.ask("show"));
     for (const participant of this.participants) await this.#untilReached(() => participant.begin(this.mark));
-    const plan = await this.#untilReached(() => planSettling(this.mark, this.participants, this.learned, this.dialogue));
+    const plan = await this.#untilReached(() => planSettling(this.mark, this.participants, this.learned, this.dialogue, this.alone));
     for (const [participant, action, work] of plan) {
       this.log.info(`${work.name}: ${action}`);
       await this.#untilReached(() => carryOut(participant, action, work));

@@ -1,6 +1,6 @@
 """What is done between the start of `tps serve` and the first piece: the library learns the files, and settles what a stop left."""
 import logging
-from collections.abc import Iterator, Sequence
+from collections.abc import Collection, Iterator, Sequence
 
 from .dialogue import Dialogue
 from .errors import Unsettled, WorkAhead, WorkLost
@@ -22,8 +22,8 @@ def answer_of(line: str) -> Answer:
 class Settling:
     """The settling of one start. First everything is looked at, and only then is anything changed."""
 
-    def __init__(self, mark: str, participants: Sequence[Participant], report: Report):
-        self._mark, self._participants, self._report = mark, participants, report
+    def __init__(self, mark: str, participants: Sequence[Participant], report: Report, alone: Collection[str]):
+        self._mark, self._participants, self._report, self._alone = mark, participants, report, alone
 
     def settle(self, dialogue: Dialogue) -> Iterator[tuple[Participant, Action, Work]]:
         """What has to be done, in order, or an error where only a person can tell."""
@@ -49,13 +49,16 @@ class Settling:
         return Answer.NOT_DONE if int(place.partition(".")[0]) in self._report.names else Answer.UNKNOWN
 
     def _done_by(self, participant: Participant) -> list[str]:
-        return [place for place, (answer, operation) in self._report.acts.items() if answer is Answer.DONE and operation in participant.operations]
+        acts = [(place, operation) for place, (answer, operation) in self._report.acts.items() if answer is Answer.DONE]
+        return [place for place, operation in acts if operation in participant.operations and self._name(place) not in self._alone]
+
+    def _name(self, place: str) -> str:
+        return self._report.names.get(int(place.partition(".")[0]), "")
 
     def _work(self, place: str, undo: bool) -> Work:
         """Of settled work the name alone counts: its system kept the rest with it."""
-        process = self._report.names.get(int(place.partition(".")[0]), "")
         operation = self._report.acts.get(place, (Answer.NOT_DONE, ""))[1]
-        return Work(self._mark, place, undo, process, operation, 0, 0)
+        return Work(self._mark, place, undo, self._name(place), operation, 0, 0)
 
     def _stop_for_a_person(self, plan: list[tuple[str, Action]]) -> None:
         kinds: list[tuple[Action, type[Unsettled], str]] = [

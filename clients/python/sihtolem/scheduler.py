@@ -6,7 +6,7 @@ import queue
 import threading
 import time
 from collections import deque
-from collections.abc import Callable, Iterable
+from collections.abc import Callable, Collection, Iterable, Iterator
 from concurrent.futures import Future, ThreadPoolExecutor, wait
 from dataclasses import dataclass, field
 from typing import Any
@@ -28,7 +28,8 @@ from .errors import (
 from .files import copy_files, make_files
 from .opening import Settling, carry_out
 from .participants import Participant, Work
-from .report import Report, conflict, operations_of, read_report
+from .report import conflict, operations_of, read_report
+from .settling import Action
 
 log = logging.getLogger("sihtolem")
 
@@ -89,7 +90,10 @@ class Stuck(Exception):
 
 
 class Scheduler:
-    """Runs processes over the files of a folder. It returns once what a stop left is settled; `with` closes it."""
+    """Runs processes over the files of a folder. It returns once what a stop left is settled; `with` closes it.
+
+    `mark` stands before each name of work in the systems, and is the folder's name if it isn't said. `alone` has the names of processes that
+    `tps run` ran on these files: no system has work of theirs. Pauses and `patience` are in seconds."""
 
     def __init__(
         self,
@@ -99,6 +103,7 @@ class Scheduler:
         *,
         program: str = "tps",
         mark: str | None = None,
+        alone: Collection[str] = (),
         most_active: int = 64,
         workers: int = 16,
         patience: float = 60.0,
@@ -109,7 +114,7 @@ class Scheduler:
         self.mark = mark if mark is not None else os.path.basename(self._folder)
         self._participants = list(participants)
         self._of = {operation: participant for participant in self._participants for operation in participant.operations}
-        self._most_active, self._patience = most_active, patience
+        self._most_active, self._patience, self._alone = most_active, patience, alone
         self._first_pause, self._longest_pause = first_pause, longest_pause
         self._preparing = ThreadPoolExecutor(workers, thread_name_prefix="sihtolem-prepare")
         self._settling = ThreadPoolExecutor(workers, thread_name_prefix="sihtolem-settle")
@@ -282,11 +287,14 @@ class Scheduler:
         self._report = read_report(dialogue.ask("show"))
         for participant in self._participants:
             self._until_reached(lambda: participant.begin(self.mark))
-        for participant, action, work in self._until_reached(lambda: list(Settling(self.mark, self._participants, self._report).settle(dialogue))):
+        for participant, action, work in self._until_reached(lambda: list(self._settling_of(dialogue))):
             self._until_reached(lambda: carry_out(participant, action, work))
         self._learn_names(dialogue.active)
         if not self._opened.done():
             self._opened.set_result(None)
+
+    def _settling_of(self, dialogue: Dialogue) -> Iterator[tuple[Participant, Action, Work]]:
+        return Settling(self.mark, self._participants, self._report, self._alone).settle(dialogue)
 
     def _learn_names(self, active: dict[int, str]) -> None:
         with self._lock:

@@ -4,6 +4,7 @@ import threading
 from collections.abc import Callable, Collection, Iterator, Mapping
 from contextlib import contextmanager
 from dataclasses import dataclass, replace
+from typing import Any
 
 from .errors import Refused, Unreachable
 from .participants import Work
@@ -82,6 +83,11 @@ class Sqlite:
             elif not work.undo and state is State.PREPARED:
                 self._run(execute, self._held[work.operation].release, work)
                 execute("DELETE FROM sihtolem_work WHERE mark = ? AND place = ?", (work.mark, work.place))
+
+    def read(self, statement: str, values: tuple[int | str, ...] = ()) -> list[tuple[Any, ...]]:
+        """The rows of a statement of the owner's own, in a transaction."""
+        with self._transaction() as execute:
+            return execute(statement, values).fetchall()
 
     def close(self) -> None:
         for connection in self._connections:
