@@ -10,6 +10,8 @@ import { conflict, operationsOf, readReport } from "./report.mjs";
 
 const { Closed, FilesFull, FilesRefused, FolderInUse, NoParticipant, ProcessRefused, Refused, ScenarioRefused, ServeFailed, SihtolemError, Unreachable } = errors;
 const debug = debuglog("sihtolem");
+// So many ends are in one group at most.
+const MOST_ENDS = 8;
 const DEFAULTS = { program: "tps", alone: [], mostActive: 64, workers: 16, patience: 60_000, firstPause: 50, longestPause: 30_000 };
 
 /** Nothing is out, and nothing can go on: tries are used up. */
@@ -453,25 +455,38 @@ export class Scheduler {
     this.timers.add(timer);
   }
 
-  /** Reports what is prepared: one piece by `finish`, more of them by one `flush`, as far as a group takes them. */
+  /** Reports what is prepared: one piece by `finish`, more of them by one `flush`. What finds no room in it comes first in the next one. */
   async #reportPrepared() {
-    while (this.prepared.length) {
-      const jobs = this.prepared;
-      this.prepared = [];
-      const word = (job) => (job.refusal === null ? "done" : "refused");
-      if (jobs.length === 1) {
-        this.#answered(jobs[0], (await this.dialogue.ask(`finish ${jobs[0].piece.number} ${word(jobs[0])}`))[0]);
-        continue;
-      }
-      const answers = await this.dialogue.askAll([...jobs.map((job) => `queue ${job.piece.number} ${word(job)}`), "flush"]);
-      const flushed = answers.pop();
-      const queued = jobs.filter((_, at) => answers[at][0].startsWith("queued "));
-      jobs.forEach((job, at) => {
-        if (answers[at][0].startsWith("full ")) this.prepared.push(job);
-        else if (!queued.includes(job)) this.#answered(job, answers[at][0]);
-      });
-      queued.forEach((job, at) => this.#answered(job, flushed[at]));
-    }
+    const jobs = this.#nextGroup();
+    if (jobs.length === 1) this.#answered(jobs[0], (await this.dialogue.ask(`finish ${jobs[0].piece.number} ${wordOf(jobs[0])}`))[0]);
+    else if (jobs.length) await this.#reportGroup(jobs);
+  }
+
+  /** What may be in one group: the first piece of each operation, since a group has one of each store, eight ends, and all that was refused. The
+   * rest stays. */
+  #nextGroup() {
+    const counts = new Map();
+    const left = [];
+    const taken = this.prepared.filter((job) => {
+      const { operation } = job.piece;
+      const count = counts.get(operation) ?? 0;
+      const isTaken = job.refusal !== null || count < (job.work ? 1 : MOST_ENDS);
+      if (isTaken) counts.set(operation, count + 1);
+      else left.push(job);
+      return isTaken;
+    });
+    this.prepared = left;
+    return taken;
+  }
+
+  async #reportGroup(jobs) {
+    const answers = await this.dialogue.askAll([...jobs.map((job) => `queue ${job.piece.number} ${wordOf(job)}`), "flush"]);
+    const flushed = answers.pop();
+    const isQueued = (at) => answers[at][0].startsWith("queued ");
+    const isFull = (at) => answers[at][0].startsWith("full ");
+    jobs.forEach((job, at) => isQueued(at) || isFull(at) || this.#answered(job, answers[at][0]));
+    jobs.filter((_, at) => isQueued(at)).forEach((job, at) => this.#answered(job, flushed[at]));
+    this.prepared.unshift(...jobs.filter((_, at) => isFull(at)));
   }
 
   #answered(job, answer) {
@@ -528,6 +543,8 @@ export class Scheduler {
     while (this.#atWork.size) await Promise.all(this.#atWork);
   }
 }
+
+const wordOf = (job) => (job.refusal === null ? "done" : "refused");
 
 function raiseIfUseless(ended) {
   const what = `${ended.line || "no line"}, status ${ended.status}`;

@@ -32,6 +32,8 @@ from .report import conflict, operations_of, read_report
 from .settling import Action
 
 log = logging.getLogger("sihtolem")
+# So many ends are in one group at most.
+MOST_ENDS = 8
 
 
 @dataclass(frozen=True)
@@ -344,8 +346,8 @@ class Scheduler:
             self._report_prepared()
             self._start_waiting()
             self._hand_out()
-            if not self._prepared and not self._is_done():
-                self._take_messages()
+            if not self._is_done():
+                self._take_messages(is_idle=not self._prepared)
 
     def _is_done(self) -> bool:
         if self._closing == "now":
@@ -356,11 +358,11 @@ class Scheduler:
     def _set_closing(self, how: str) -> None:
         self._closing = how
 
-    def _take_messages(self) -> None:
-        """Waits for a message or a timer, and takes all that are there."""
+    def _take_messages(self, is_idle: bool) -> None:
+        """Takes all messages that are there, and what the timers bring. It waits for the first where there is nothing else to do."""
         timeout = max(self._timers[0][0] - time.monotonic(), 0) if self._timers else None
         try:
-            self._inbox.get(timeout=timeout).do()
+            self._inbox.get(block=is_idle, timeout=timeout).do()
         except queue.Empty:
             pass
         while True:
@@ -511,24 +513,40 @@ class Scheduler:
         self._after(pause, do)
 
     def _report_prepared(self) -> None:
-        """Reports what is prepared: one piece by `finish`, more of them by one `flush`, as far as a group takes them."""
-        while self._prepared:
-            jobs, self._prepared = self._prepared, []
-            assert self._dialogue
-            if len(jobs) == 1:
-                self._answered(jobs[0], self._ask(f"finish {jobs[0].piece.number} {self._word(jobs[0])}")[0])
-                continue
-            *answers, flushed = self._dialogue.ask_all([f"queue {job.piece.number} {self._word(job)}" for job in jobs] + ["flush"])
-            queued = []
-            for job, (answer, *_) in zip(jobs, answers):
-                if answer.startswith("queued "):
-                    queued.append(job)
-                elif answer.startswith("full "):
-                    self._prepared.append(job)
-                else:
-                    self._answered(job, answer)
-            for job, answer in zip(queued, flushed):
+        """Reports what is prepared: one piece by `finish`, more of them by one `flush`. What finds no room in it comes first in the next one."""
+        jobs = self._next_group()
+        if len(jobs) == 1:
+            self._answered(jobs[0], self._ask(f"finish {jobs[0].piece.number} {self._word(jobs[0])}")[0])
+        elif jobs:
+            self._report_group(jobs)
+
+    def _next_group(self) -> list[Job]:
+        """What may be in one group: the first piece of each operation, since a group has one of each store, eight ends, and all that was refused.
+        The rest stays."""
+        taken, left, operations = [], [], list[str]()
+        for job in self._prepared:
+            if job.refusal is not None or operations.count(job.piece.operation) < (MOST_ENDS if job.work is None else 1):
+                taken.append(job)
+                operations.append(job.piece.operation)
+            else:
+                left.append(job)
+        self._prepared = left
+        return taken
+
+    def _report_group(self, jobs: list[Job]) -> None:
+        assert self._dialogue
+        *answers, flushed = self._dialogue.ask_all([f"queue {job.piece.number} {self._word(job)}" for job in jobs] + ["flush"])
+        queued, full = [], []
+        for job, (answer, *_) in zip(jobs, answers):
+            if answer.startswith("queued "):
+                queued.append(job)
+            elif answer.startswith("full "):
+                full.append(job)
+            else:
                 self._answered(job, answer)
+        for job, answer in zip(queued, flushed):
+            self._answered(job, answer)
+        self._prepared = full + self._prepared
 
     @staticmethod
     def _word(job: Job) -> str:
