@@ -153,6 +153,38 @@ async function playOutbox() {
   }
 }
 
+/** As play_closing in play.py. */
+async function playClosing(scenario) {
+  const order = "process a r tell mail 1 1 end";
+  const folder = mkdtempSync(join(tmpdir(), "sihtolem-"));
+  const files = join(folder, "files");
+  const options = { program: PROGRAM, mark: "m", firstPause: 10, longestPause: 50, log: isLoud ? console : quiet };
+  const isOf = (name) => (error) => error.name === name && error.message.endsWith(error.advice);
+  try {
+    const memory = new Memory(OPERATIONS, { "a.tell": Array(100000).fill("unreachable") });
+    const first = await Scheduler.open(files, scenario, [memory], options);
+    const outcome = first.submit(order);
+    const closed = assert.rejects(outcome, isOf("Closed"));
+    await assert.rejects(Scheduler.open(files, scenario, [new Memory(OPERATIONS)], { ...options, patience: 300 }), isOf("FolderInUse"));
+    let isOpen = false;
+    const second = Scheduler.open(files, scenario, [memory], options).finally(() => (isOpen = true));
+    await new Promise((done) => setTimeout(done, 300));
+    assert.equal(isOpen, false, "waits for the folder");
+    await first.close({ untilEnded: false });
+    await closed;
+    await assert.rejects(first.submit(order), isOf("Closed"));
+    memory.prepares = {};
+    const scheduler = await second;
+    assert.equal((await scheduler.submit(order)).name, "a");
+    await scheduler.close();
+    await assert.rejects(Scheduler.open(files, scenario, [memory], { ...options, program: "no_such_program" }), isOf("ProgramMissing"));
+    await assert.rejects(Scheduler.open(join(folder, "other"), "version", [memory], options), isOf("ScenarioRefused"));
+    await assert.rejects(Scheduler.open(files, "version = 1\n", [memory], options), isOf("ScenarioRefused"));
+  } finally {
+    rmSync(folder, { recursive: true, force: true });
+  }
+}
+
 playSettling();
 playLines();
 const stories = table("stories");
@@ -160,5 +192,6 @@ for (const story of stories.stories) {
   if (isLoud) console.log(story.name);
   await playStory(stories.scenario, story);
 }
+await playClosing(stories.scenario);
 await playOutbox();
 console.log(`clients, JavaScript: the settling over ${table("settling").length} states, lines, ${stories.stories.length} stories, and an outbox`);

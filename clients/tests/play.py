@@ -11,6 +11,7 @@ import re
 import sys
 import tempfile
 import time
+from concurrent.futures import ThreadPoolExecutor
 
 HERE = os.path.dirname(os.path.realpath(__file__))
 sys.path[:0] = [f"{HERE}/../python", HERE]
@@ -163,6 +164,40 @@ def play_outbox():
         check("what was received once more", sorted(received.values()), sorted(story["received"]))
 
 
+def play_closing(scenario):
+    """A folder in use is waited for, but not for longer than `patience`. A scheduler that is closed at once leaves what its systems don't take, and tells
+    so; the next one goes on with it."""
+    order = "process a r tell mail 1 1 end"
+    with tempfile.TemporaryDirectory() as folder:
+        options = {"program": PROGRAM, "mark": "m", "first_pause": 0.01, "longest_pause": 0.05}
+        memory = Memory(OPERATIONS, {"a.tell": ["unreachable"] * 100000})
+        first = Scheduler(f"{folder}/files", scenario, [memory], **options)
+        future = first.submit(order)
+        check("the same future", first.submit(order), future)
+        refused("FolderInUse", lambda: Scheduler(f"{folder}/files", scenario, [Memory(OPERATIONS)], patience=0.3, **options))
+        with ThreadPoolExecutor(1) as pool:
+            second = pool.submit(Scheduler, f"{folder}/files", scenario, [memory], **options)
+            time.sleep(0.3)
+            check("waits for the folder", second.done(), False)
+            first.close(until_ended=False)
+            refused("Closed", future.result)
+            refused("Closed", lambda: first.submit(order))
+            memory.prepares = {}
+            with second.result(30) as scheduler:
+                check("the end", scheduler.submit(order).result(30).name, "a")
+        refused("ProgramMissing", lambda: Scheduler(f"{folder}/files", scenario, [memory], **{**options, "program": "no_such_program"}))
+        refused("ScenarioRefused", lambda: Scheduler(f"{folder}/other", "version", [memory], **options))
+        refused("ScenarioRefused", lambda: Scheduler(f"{folder}/files", "version = 1\n", [memory], **options))
+
+
+def refused(kind, do):
+    try:
+        do()
+    except sihtolem.SihtolemError as error:
+        return check("the error", type(error).__name__, kind)
+    sys.exit(f"{kind} isn't told")
+
+
 def until(what):
     for _ in range(1000):
         if what():
@@ -179,6 +214,7 @@ def main():
     for story in stories["stories"]:
         logging.info("%s", story["name"])
         play_story(stories["scenario"], story)
+    play_closing(stories["scenario"])
     play_outbox()
     print(f"clients, Python: the settling over {len(table('settling'))} states, lines, {len(stories['stories'])} stories, and an outbox")
 

@@ -24,7 +24,11 @@ class Files:
         return f"{self._folder}/{number}"
 
     def begin(self, scenario):
-        """Makes a fresh set and runs the processes of that scenario on it. It is in use once all that is done: by its new name."""
+        """Makes a fresh set and runs the processes of that scenario on it. It is in use once all that is done: by its new name. Where something
+        killed the program on the way, it is made once more."""
+        self._until_alive(lambda: self._make(scenario))
+
+    def _make(self, scenario):
         for left in glob.glob(self.folder("next*")):
             shutil.rmtree(left, ignore_errors=True)
         made = tempfile.mkdtemp(prefix="next", dir=self._folder)
@@ -44,10 +48,14 @@ class Files:
             return ended.line
 
     def _read(self, word, folder, text):
-        """A command that only reads is called again where something killed it."""
+        return self._until_alive(lambda: self._call(word, folder, text))
+
+    @staticmethod
+    def _until_alive(do):
+        """Does it again where something killed the program."""
         while True:
             try:
-                return self._call(word, folder, text)
+                return do()
             except Ended as ended:
                 if ended.status >= 0:
                     raise
