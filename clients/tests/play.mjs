@@ -15,7 +15,7 @@ import { openDatabase } from "./sqlite.mjs";
 const PROGRAM = process.env.PROGRAM;
 const OPERATIONS = ["deliver", "reserve", "charge", "place", "ship", "mail"];
 const isLoud = process.argv.includes("-v");
-const quiet = { debug() {}, info() {}, warn() {}, error() {} };
+const log = isLoud ? console : { debug() {}, info() {}, warn() {}, error() {} };
 
 const table = (name) => JSON.parse(readFileSync(new URL(`${name}.json`, import.meta.url), "utf8"));
 const values = (choices) => Object.values(choices);
@@ -53,7 +53,7 @@ async function playStory(scenario, story) {
   try {
     const memory = new Memory(OPERATIONS, story.handlers, story.commits);
     const texts = story.processes.flatMap((text) => spread(story, text));
-    const options = { program: PROGRAM, mark: "m", firstPause: 10, longestPause: 50, mostActive: story.most_active ?? 64, log: isLoud ? console : quiet };
+    const options = { program: PROGRAM, mark: "m", firstPause: 10, longestPause: 50, mostActive: story.most_active ?? 64, log };
     const scheduler = await Scheduler.open(join(folder, "files"), scenario, [memory], options);
     memory.onCall = (count) => (story.kill_at ?? []).includes(count) && process.kill(scheduler.dialogue.pid, "SIGKILL");
     const outcomes = await submitAll(scheduler, story, texts);
@@ -99,7 +99,8 @@ async function submitAll(scheduler, story, texts) {
 /** The system has committed exactly the steps that the outcomes tell, and nothing is left over. */
 function checkWhole(name, memory, outcomes) {
   const at = (...states) => [...memory.states].filter(([, state]) => states.includes(state)).map(([place]) => place).sort();
-  assert.deepEqual(at(State.COMMITTED), [...outcomes.values()].flatMap((it) => it.path.map((step) => `${it.number}.${step}`)).sort(), `${name}: what stands`);
+  const told = [...outcomes.values()].flatMap((it) => it.path.map((step) => `${it.number}.${step}`));
+  assert.deepEqual(at(State.COMMITTED), told.sort(), `${name}: what stands`);
   assert.deepEqual(at(State.PREPARED, State.UNDO_PREPARED), [], `${name}: what is open`);
 }
 
@@ -115,7 +116,7 @@ async function playOutbox() {
     if (!received.has(work.name)) received.set(work.name, step);
   };
   const folder = mkdtempSync(join(tmpdir(), "sihtolem-"));
-  const options = { program: PROGRAM, mark: "m", firstPause: 10, longestPause: 50, log: isLoud ? console : quiet };
+  const options = { program: PROGRAM, mark: "m", firstPause: 10, longestPause: 50, log };
   const told = () => [...received.values()].sort();
   try {
     const run = async (files, task) => {
@@ -158,7 +159,7 @@ async function playClosing(scenario) {
   const order = "process a r tell mail 1 1 end";
   const folder = mkdtempSync(join(tmpdir(), "sihtolem-"));
   const files = join(folder, "files");
-  const options = { program: PROGRAM, mark: "m", firstPause: 10, longestPause: 50, log: isLoud ? console : quiet };
+  const options = { program: PROGRAM, mark: "m", firstPause: 10, longestPause: 50, log };
   const isOf = (name) => (error) => error.name === name && error.message.endsWith(error.advice);
   try {
     const memory = new Memory(OPERATIONS, { "a.tell": Array(100000).fill("unreachable") });
@@ -185,6 +186,22 @@ async function playClosing(scenario) {
   }
 }
 
+/** As play_resuming in play.py. */
+async function playResuming(scenario) {
+  const folder = mkdtempSync(join(tmpdir(), "sihtolem-"));
+  try {
+    const memory = new Memory(OPERATIONS);
+    const program = new URL("resuming", import.meta.url).pathname;
+    const scheduler = await Scheduler.open(join(folder, "files"), scenario, [memory], { program, mark: "m", log });
+    const outcomes = await Promise.all(["a", "b"].map((name) => scheduler.submit(`process ${name} r tell mail 1 1 end`)));
+    assert.deepEqual(outcomes.map((it) => it.path), [["tell"], []], "who goes on");
+    await scheduler.close();
+    assert.deepEqual(Object.fromEntries(memory.states), { "1.tell": State.COMMITTED });
+  } finally {
+    rmSync(folder, { recursive: true, force: true });
+  }
+}
+
 playSettling();
 playLines();
 const stories = table("stories");
@@ -193,5 +210,6 @@ for (const story of stories.stories) {
   await playStory(stories.scenario, story);
 }
 await playClosing(stories.scenario);
+await playResuming(stories.scenario);
 await playOutbox();
 console.log(`clients, JavaScript: the settling over ${table("settling").length} states, lines, ${stories.stories.length} stories, and an outbox`);

@@ -141,7 +141,8 @@ def play_outbox():
         options = {"program": PROGRAM, "mark": "m", "first_pause": 0.01, "longest_pause": 0.05}
 
         def participants():
-            held = {operation: Held(**{word: tuple(it) if isinstance(it, list) else it for word, it in words.items()}) for operation, words in story["shop"].items()}
+            lists = {operation: {word: tuple(it) if isinstance(it, list) else it for word, it in words.items()} for operation, words in story["shop"].items()}
+            held = {operation: Held(**words) for operation, words in lists.items()}
             shop = Sqlite(f"{folder}/shop.db", held, set_up=";".join(story["tables"]))
             return shop, Outbox(f"{folder}/mail.db", story["sent"], send, first_pause=0.01, longest_pause=0.05)
 
@@ -165,8 +166,8 @@ def play_outbox():
 
 
 def play_closing(scenario):
-    """A folder in use is waited for, but not for longer than `patience`. A scheduler that is closed at once leaves what its systems don't take, and tells
-    so; the next one goes on with it."""
+    """A folder in use is waited for, but not for longer than `patience`. A scheduler that is closed at once leaves what its systems don't take,
+    and tells so; the next one goes on with it."""
     order = "process a r tell mail 1 1 end"
     with tempfile.TemporaryDirectory() as folder:
         options = {"program": PROGRAM, "mark": "m", "first_pause": 0.01, "longest_pause": 0.05}
@@ -188,6 +189,16 @@ def play_closing(scenario):
         refused("ProgramMissing", lambda: Scheduler(f"{folder}/files", scenario, [memory], **{**options, "program": "no_such_program"}))
         refused("ScenarioRefused", lambda: Scheduler(f"{folder}/other", "version", [memory], **options))
         refused("ScenarioRefused", lambda: Scheduler(f"{folder}/files", "version = 1\n", [memory], **options))
+
+
+def play_resuming(scenario):
+    """Whoever goes on and whoever goes back are both known, and not started again."""
+    with tempfile.TemporaryDirectory() as folder:
+        memory = Memory(OPERATIONS)
+        with Scheduler(f"{folder}/files", scenario, [memory], program=f"{HERE}/resuming", mark="m") as scheduler:
+            futures = [scheduler.submit(f"process {name} r tell mail 1 1 end") for name in "ab"]
+            check("who goes on", [future.result(30).path for future in futures], [("tell",), ()])
+        check("what stands", memory.states, {"1.tell": State.COMMITTED})
 
 
 def refused(kind, do):
@@ -215,6 +226,7 @@ def main():
         logging.info("%s", story["name"])
         play_story(stories["scenario"], story)
     play_closing(stories["scenario"])
+    play_resuming(stories["scenario"])
     play_outbox()
     print(f"clients, Python: the settling over {len(table('settling'))} states, lines, {len(stories['stories'])} stories, and an outbox")
 

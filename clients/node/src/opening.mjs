@@ -9,27 +9,31 @@ export function answerOf(line) {
   throw new Error(`\`done\` is answered ${line}`);
 }
 
+const OPEN = [State.PREPARED, State.UNDO_PREPARED];
 const UNDOS = [Action.COMMIT_UNDO, Action.TAKE_BACK_UNDO, Action.UNDO];
 
 /** What has to be done, in order, or an error where only a person can tell. First everything is looked at; nothing is changed here. */
 export async function planSettling(mark, participants, report, dialogue, alone = []) {
   const found = [];
   for (const participant of participants) found.push([participant, await participant.found(mark)]);
-  const open = found.flatMap(([, states]) => [...states].filter(([, state]) => [State.PREPARED, State.UNDO_PREPARED].includes(state)).map(([place]) => place));
+  const open = found.flatMap(([, states]) => [...states.keys()].filter((place) => OPEN.includes(states.get(place))));
   const told = await dialogue.askAll(open.map((place) => `done ${place}`));
   const answers = new Map(open.map((place, at) => [place, answerOf(told[at][0])]));
   const plan = [];
   for (const [participant, states] of found) {
     for (const [place, state] of states) plan.push([participant, place, settle(state, answers.get(place) ?? toldOf(report, place))]);
     if (participant.keepsNoWork) continue;
-    const operations = new Set(participant.operations);
-    for (const [place, [answer, operation]] of report.acts) {
-      const isAlone = alone.includes(report.names.get(parseInt(place)));
-      if (answer === Answer.DONE && operations.has(operation) && !states.has(place) && !isAlone) plan.push([participant, place, settle(State.ABSENT, answer)]);
-    }
+    for (const place of doneBy(participant, report, alone)) if (!states.has(place)) plan.push([participant, place, settle(State.ABSENT, Answer.DONE)]);
   }
   stopForAPerson(mark, plan);
-  return plan.filter(([, , action]) => action !== Action.NOTHING).map(([participant, place, action]) => [participant, action, workOf(mark, report, place, action)]);
+  const wanted = plan.filter(([, , action]) => action !== Action.NOTHING);
+  return wanted.map(([participant, place, action]) => [participant, action, workOf(mark, report, place, action)]);
+}
+
+function doneBy(participant, report, alone) {
+  const operations = new Set(participant.operations);
+  const acts = [...report.acts].filter(([, [answer, operation]]) => answer === Answer.DONE && operations.has(operation));
+  return acts.map(([place]) => place).filter((place) => !alone.includes(report.names.get(parseInt(place))));
 }
 
 function toldOf(report, place) {

@@ -8,10 +8,12 @@ import { literal } from "./statements.mjs";
 const debug = debuglog("sihtolem");
 const QUEUE =
   "CREATE TABLE IF NOT EXISTS sihtolem_outbox (number INTEGER PRIMARY KEY, name TEXT NOT NULL UNIQUE, mark TEXT NOT NULL, place TEXT NOT NULL," +
-  " undo INTEGER NOT NULL, process TEXT NOT NULL, operation TEXT NOT NULL, key INTEGER NOT NULL, amount INTEGER NOT NULL, sent INTEGER NOT NULL DEFAULT 0)";
+  " undo INTEGER NOT NULL, process TEXT NOT NULL, operation TEXT NOT NULL, key INTEGER NOT NULL, amount INTEGER NOT NULL," +
+  " sent INTEGER NOT NULL DEFAULT 0)";
 const put = (behind, undo) =>
   "INSERT OR IGNORE INTO sihtolem_outbox (name, mark, place, undo, process, operation, key, amount)" +
-  ` SELECT mark || '/' || place || '${behind}', mark, place, ${undo}, process, operation, key, amount FROM sihtolem_work WHERE mark || '/' || place = :name`;
+  ` SELECT mark || '/' || place || '${behind}', mark, place, ${undo}, process, operation, key, amount FROM sihtolem_work` +
+  " WHERE mark || '/' || place = :name";
 
 /** Sends the work of these operations by `send(work)`, in the order of their commits, again and again until it throws nothing. `work.name` is the
  * idempotency key: the receiver drops what comes twice. The undo of a step is work too, with `work.undo`, and goes out behind the step. */

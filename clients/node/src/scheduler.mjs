@@ -2,13 +2,24 @@
 import { basename, resolve } from "node:path";
 import { debuglog } from "node:util";
 import { Dialogue, Ended, placeOf, readPiece } from "./dialogue.mjs";
-import * as errors from "./errors.mjs";
+import {
+  Closed,
+  FilesFull,
+  FilesRefused,
+  FolderInUse,
+  NoParticipant,
+  ProcessRefused,
+  Refused,
+  ScenarioRefused,
+  ServeFailed,
+  SihtolemError,
+  Unreachable,
+} from "./errors.mjs";
 import { copyFiles, makeFiles } from "./files.mjs";
 import { carryOut, planSettling } from "./opening.mjs";
 import { Work } from "./participants.mjs";
 import { conflict, operationsOf, readReport } from "./report.mjs";
 
-const { Closed, FilesFull, FilesRefused, FolderInUse, NoParticipant, ProcessRefused, Refused, ScenarioRefused, ServeFailed, SihtolemError, Unreachable } = errors;
 const debug = debuglog("sihtolem");
 // So many ends are in one group at most.
 const MOST_ENDS = 8;

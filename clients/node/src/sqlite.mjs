@@ -31,7 +31,8 @@ export class Sqlite {
   }
 
   async found(mark) {
-    const rows = await this.transaction(() => this.database.prepare(`SELECT place, state FROM sihtolem_work WHERE mark = ${literal(mark)} ORDER BY rowid`).all());
+    const query = `SELECT place, state FROM sihtolem_work WHERE mark = ${literal(mark)} ORDER BY rowid`;
+    const rows = await this.transaction(() => this.database.prepare(query).all());
     return new Map(rows.map(({ place, state }) => [place, state]));
   }
 

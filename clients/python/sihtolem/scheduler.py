@@ -508,8 +508,11 @@ class Scheduler:
         assert job.work
         pause = self._pause(job.tries)
         job.tries += 1
-        trace = None if isinstance(error, Unreachable) else error
-        log.log(logging.WARNING if trace is None else logging.ERROR, "%s, try %d again in %.2f s: %s", job.work.name, job.tries, pause, error, exc_info=trace)
+        told = ("%s, try %d again in %.2f s: %s", job.work.name, job.tries, pause, error)
+        if isinstance(error, Unreachable):
+            log.warning(*told)
+        else:
+            log.error(*told, exc_info=error)
         self._after(pause, do)
 
     def _report_prepared(self) -> None:

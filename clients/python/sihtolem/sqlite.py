@@ -17,6 +17,8 @@ TABLE = """
         state TEXT NOT NULL, PRIMARY KEY (mark, place)
     )
 """
+# The errors of what may go well later.
+LATER = (sqlite3.SQLITE_BUSY, sqlite3.SQLITE_LOCKED, sqlite3.SQLITE_IOERR, sqlite3.SQLITE_FULL, sqlite3.SQLITE_CANTOPEN)
 
 
 @dataclass(frozen=True)
@@ -135,7 +137,7 @@ class Sqlite:
                     connection.execute("ROLLBACK")
                 raise
         except sqlite3.OperationalError as error:
-            if error.sqlite_errorcode & 0xFF in (sqlite3.SQLITE_BUSY, sqlite3.SQLITE_LOCKED, sqlite3.SQLITE_IOERR, sqlite3.SQLITE_FULL, sqlite3.SQLITE_CANTOPEN):
+            if error.sqlite_errorcode & 0xFF in LATER:
                 raise Unreachable(f"{self._path}: {error}") from error
             raise
         except sqlite3.IntegrityError as error:
