@@ -186,6 +186,24 @@ async function playClosing(scenario) {
   }
 }
 
+/** As play_abort in play.py. */
+async function playAbort(scenario) {
+  const folder = mkdtempSync(join(tmpdir(), "sihtolem-"));
+  try {
+    const memory = new Memory(OPERATIONS);
+    const scheduler = await Scheduler.open(join(folder, "files"), scenario, [memory], { program: PROGRAM, mark: "m", mostActive: 1, log });
+    memory.onCall = (count) => count === 2 && ["b", "a"].forEach((name) => scheduler.abort(name));
+    const text = (name) => `process ${name} c reserve reserve 3 2 p pay charge 1 40 r tell mail 1 1 end`;
+    const outcomes = await Promise.all(["a", "b"].map((name) => scheduler.submit(text(name))));
+    const wanted = [[1, [], ["aborted"]], [0, [], ["aborted before its start"]]];
+    assert.deepEqual(outcomes.map((it) => [it.number, it.path, it.reasons]), wanted);
+    await scheduler.close();
+    assert.deepEqual(Object.fromEntries(memory.states), { "1.reserve": State.UNDONE, "1.pay": State.ABSENT });
+  } finally {
+    rmSync(folder, { recursive: true, force: true });
+  }
+}
+
 /** As play_resuming in play.py. */
 async function playResuming(scenario) {
   const folder = mkdtempSync(join(tmpdir(), "sihtolem-"));
@@ -210,6 +228,7 @@ for (const story of stories.stories) {
   await playStory(stories.scenario, story);
 }
 await playClosing(stories.scenario);
+await playAbort(stories.scenario);
 await playResuming(stories.scenario);
 await playOutbox();
 console.log(`clients, JavaScript: the settling over ${table("settling").length} states, lines, ${stories.stories.length} stories, and an outbox`);

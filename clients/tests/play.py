@@ -191,6 +191,18 @@ def play_closing(scenario):
         refused("ScenarioRefused", lambda: Scheduler(f"{folder}/files", "version = 1\n", [memory], **options))
 
 
+def play_abort(scenario):
+    """One is aborted while its second step is prepared, and goes back; another one waits for its start, and isn't started."""
+    with tempfile.TemporaryDirectory() as folder:
+        memory = Memory(OPERATIONS)
+        with Scheduler(f"{folder}/files", scenario, [memory], program=PROGRAM, mark="m", most_active=1) as scheduler:
+            memory.on_call = lambda count: [scheduler.abort(name) for name in "ba"] if count == 2 else None
+            futures = [scheduler.submit(f"process {name} c reserve reserve 3 2 p pay charge 1 40 r tell mail 1 1 end") for name in "ab"]
+            told = [(it.number, it.path, it.reasons) for it in (future.result(30) for future in futures)]
+        check("aborted", told, [(1, (), ("aborted",)), (0, (), ("aborted before its start",))])
+        check("what is left", memory.states, {"1.reserve": State.UNDONE, "1.pay": State.ABSENT})
+
+
 def play_resuming(scenario):
     """Whoever goes on and whoever goes back are both known, and not started again."""
     with tempfile.TemporaryDirectory() as folder:
@@ -226,6 +238,7 @@ def main():
         logging.info("%s", story["name"])
         play_story(stories["scenario"], story)
     play_closing(stories["scenario"])
+    play_abort(stories["scenario"])
     play_resuming(stories["scenario"])
     play_outbox()
     print(f"clients, Python: the settling over {len(table('settling'))} states, lines, {len(stories['stories'])} stories, and an outbox")

@@ -127,7 +127,8 @@ export class Scheduler {
     return process.promise;
   }
 
-  /** Has the process go back, or on to its end where it can't. One that waits for its start still isn't started. */
+  /** Has the process go back, or on to its end where it can't. One that waits for its start still isn't started. A handler doesn't wait for this,
+   * since at a new start of the program the scheduler waits for its handlers. */
   abort(name) {
     return this.#call(() => this.#abort(name));
   }

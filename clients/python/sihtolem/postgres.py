@@ -185,7 +185,10 @@ class Postgres:
             raise
         except Exception as error:
             self._give_up(session, name)
-            raise self._named(error) from error
+            named = self._named(error)
+            if named is error:
+                raise
+            raise named from error
         else:
             self._take(session)
 

@@ -156,9 +156,10 @@ class Scheduler:
                 self._inbox.put(Message(lambda: self._wait_for_start(known)))
         return known.future
 
-    def abort(self, name: str) -> None:
-        """Has the process go back, or on to its end where it can't. One that waits for its start still isn't started."""
-        self._call(lambda: self._abort(name)).result()
+    def abort(self, name: str) -> "Future[None]":
+        """Has the process go back, or on to its end where it can't. One that waits for its start still isn't started. The future tells when it has
+        begun to; a handler doesn't wait for it, since at a new start of the program the scheduler waits for its handlers."""
+        return self._call(lambda: self._abort(name))
 
     def backup(self, folder: str | os.PathLike[str]) -> None:
         """Copies the files, at a moment when no line is unanswered, into a fresh folder."""
