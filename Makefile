@@ -1,6 +1,6 @@
-# `make` proves and builds the program; `make demo` runs it on the examples; `make shop` and `make travel` run a shop and trips beside it;
-# `make test` is what CI runs; `make install` puts the program and its manual page under PREFIX.
-.PHONY: build demo shop travel test edits bench install
+# `make` proves and builds the program; `make demo` runs it on the examples; `make shop` runs a shop beside it; `make test` is what CI runs;
+# `make install` puts the program and its manual page under PREFIX.
+.PHONY: build demo shop test edits bench install
 
 PREFIX ?= /usr/local
 
@@ -15,6 +15,7 @@ shop:
 	@folder=$$(mktemp -d) && trap 'rm -rf "$$folder"' EXIT && examples/shop/shop.py "$$folder" --orders 60 --orders-in-files 25
 
 # A hundred trips in Python and in JavaScript, on a PostgreSQL server of their own.
+.PHONY: travel
 travel:
 	@examples/travel/run
 
