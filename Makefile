@@ -14,6 +14,11 @@ demo:
 shop:
 	@folder=$$(mktemp -d) && trap 'rm -rf "$$folder"' EXIT && examples/shop/shop.py "$$folder" --orders 60 --orders-in-files 25
 
+# A hundred trips in Python and in JavaScript, on a PostgreSQL server of their own.
+.PHONY: travel
+travel:
+	@examples/travel/run
+
 test:
 	./gate
 

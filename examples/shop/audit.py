@@ -2,7 +2,7 @@
 from collections import Counter
 from dataclasses import dataclass
 
-from orders import AT_FIRST, ITEMS, Delivery, order
+from orders import AT_FIRST, ITEMS, Delivery, order_of
 
 TITLES = ("conflicts 2", "history", "completion", "ends", "causes", "trace", "serial")
 
@@ -18,7 +18,7 @@ class Fate:
 
     @property
     def order(self):
-        return order(int(self.name.split("_")[1]))
+        return order_of(self.name)
 
     @property
     def is_opening(self):
@@ -71,8 +71,7 @@ def faults(files, databases):
 def differences(orders, databases):
     """The rows that stand in the databases and that no step of the files tells, and the other way round."""
     told = {f"{fate.files}/{fate.process}.{step}": fate.order.calls[step] for fate in orders for step in fate.path or ()}
-    rows = [row for database in databases.all for row in database.standing() if not row[0].startswith("opening/")]
-    standing = {name: (operation, key, abs(amount)) for name, operation, key, amount in rows}
+    standing = {name: tuple(call) for database in databases.all for name, *call in database.standing()}
     for name in sorted({*told, *standing}):
         if told.get(name) != standing.get(name):
             yield f"{name} is {told.get(name)} in the files and {standing.get(name)} in the databases"

@@ -1,155 +1,108 @@
-"""Three databases of a shop. Each has rows that are pending or committed, under the name of the piece of work that wrote them.
+"""Three databases of a shop, which take part by the library: what each operation holds back, and what it does once it took effect.
 
-A row is what changes: the goods on a shelf, the money of a card, the parcels. So what there is is the sum of the committed rows, and an undo
-is a row of its own with the opposite amount.
+Each keeps the work of the steps in a table of the library, so what there is can be compared with what the files tell.
 """
-import random
-import sqlite3
-from contextlib import contextmanager
+import os
+import sys
 
-TABLE = """
-    CREATE TABLE IF NOT EXISTS rows (
-        name TEXT PRIMARY KEY,
-        operation TEXT NOT NULL,
-        key INTEGER NOT NULL,
-        amount INTEGER NOT NULL,
-        state TEXT NOT NULL CHECK (state IN ('pending', 'committed'))
-    )
-"""
+TOP = os.path.dirname(os.path.dirname(os.path.dirname(os.path.realpath(__file__))))
+sys.path.insert(0, f"{TOP}/clients/python")
+
+from sihtolem import Held, Sqlite
+
+HASTY = os.environ.get("SHOP_HASTY") == "1"
 
 
-class Database:
-    """Its connection belongs to the thread that opened it."""
-
-    file = None
-    operations = ()
+class Database(Sqlite):
+    file = ""
+    tables = ""
+    held = {}
 
     def __init__(self, folder):
-        self._connection = sqlite3.connect(f"{folder}/{self.file}", timeout=60, isolation_level=None)
-        self._connection.execute("PRAGMA journal_mode = WAL")
-        self._connection.execute("PRAGMA synchronous = FULL")
-        self._connection.execute(TABLE)
+        super().__init__(f"{folder}/{self.file}", self.held, set_up=self.tables)
 
-    def close(self):
-        self._connection.close()
-
-    def prepare(self, name, operation, key, amount):
-        """Writes a pending row, or says why it can't. A row that has this name already stays as it is: the same work may be asked for twice."""
-        with self._transaction():
-            if self._all("SELECT 1 FROM rows WHERE name = ?", name):
-                return None
-            why = self._refusal(operation, key, amount)
-            if why is None:
-                change = self._change(operation, amount)
-                self._all("INSERT INTO rows VALUES (?, ?, ?, ?, 'pending')", name, operation, key, change)
-            return why
-
-    def prepare_undo(self, name):
-        """Writes the pending row that takes back the committed row of this name. It can't be refused."""
-        with self._transaction():
-            self._all("INSERT OR IGNORE INTO rows SELECT name || ' undo', operation, key, -amount, 'pending' FROM rows WHERE name = ?", name)
-
-    def commit(self, name):
-        self._all("UPDATE rows SET state = 'committed' WHERE name = ?", name)
-
-    def take_back(self, name):
-        self._all("DELETE FROM rows WHERE name = ?", name)
+    def prepare(self, work):
+        super().prepare(work)
+        if HASTY:
+            self.commit(work)
 
     def pending(self):
-        """The names of the pending rows, in the order in which they were written."""
-        return [name for name, in self._all("SELECT name FROM rows WHERE state = 'pending' ORDER BY rowid")]
+        """The names of the steps of which work is pending."""
+        return [name for name, in self.read("SELECT mark || '/' || place FROM sihtolem_work WHERE state IN ('prepared', 'undo prepared')")]
 
     def standing(self):
-        """The committed rows, (name, operation, key, amount), that no committed row takes back."""
-        return self._all(
-            "SELECT name, operation, key, amount FROM rows WHERE state = 'committed' AND name NOT LIKE '% undo'"
-            " AND name || ' undo' NOT IN (SELECT name FROM rows WHERE state = 'committed') ORDER BY rowid"
-        )
-
-    def total(self, key=None):
-        """What the committed rows of a key come to, or all of them."""
-        return self._sum("state = 'committed'", key)
-
-    def _refusal(self, operation, key, amount):
-        return None
-
-    def _change(self, operation, amount):
-        return amount
-
-    def _sum(self, condition, key):
-        return self._all(f"SELECT COALESCE(SUM(amount), 0) FROM rows WHERE ({condition}) AND key = COALESCE(?, key)", key)[0][0]
-
-    def _all(self, statement, *values):
-        return self._connection.execute(statement, values).fetchall()
-
-    @contextmanager
-    def _transaction(self):
-        self._connection.execute("BEGIN IMMEDIATE")
-        try:
-            yield
-        except BaseException:
-            self._connection.execute("ROLLBACK")
-            raise
-        self._connection.execute("COMMIT")
+        """The committed steps that aren't undone: (name, operation, key, amount)."""
+        return self.read("SELECT mark || '/' || place, operation, key, amount FROM sihtolem_work WHERE state = 'committed' ORDER BY rowid")
 
 
 class Stock(Database):
     """The shelves, by item. What is pending to go is gone for others, and what is pending to come isn't there yet."""
 
     file = "stock.db"
-    operations = ("deliver", "reserve")
+    tables = "CREATE TABLE IF NOT EXISTS shelves (item INTEGER PRIMARY KEY, count INTEGER NOT NULL, free INTEGER NOT NULL)"
+    held = {
+        "reserve": Held(
+            hold="UPDATE shelves SET free = free - :amount WHERE item = :key AND free >= :amount",
+            commit="UPDATE shelves SET count = count - :amount WHERE item = :key",
+            release="UPDATE shelves SET free = free + :amount WHERE item = :key",
+            undo="UPDATE shelves SET count = count + :amount, free = free + :amount WHERE item = :key",
+            refusal="there are too few",
+        ),
+        "deliver": Held(commit="UPDATE shelves SET count = count + :amount, free = free + :amount WHERE item = :key"),
+    }
 
     def open_shelf(self, item, count):
         """What is on the shelf when the shop opens for the first time."""
-        self._all("INSERT OR IGNORE INTO rows VALUES (?, 'deliver', ?, ?, 'committed')", f"opening/{item}", item, count)
+        self.read("INSERT OR IGNORE INTO shelves VALUES (?, ?, ?)", (item, count, count))
 
-    def _refusal(self, operation, item, count):
-        free = self._sum("state = 'committed' OR amount < 0", item)
-        return "there are too few" if operation == "reserve" and free < count else None
-
-    def _change(self, operation, count):
-        return -count if operation == "reserve" else count
+    def total(self, item):
+        return self.read("SELECT count FROM shelves WHERE item = ?", (item,))[0][0]
 
 
 class Payments(Database):
     """The money that was charged, by card. A card has a limit for one charge."""
 
     file = "payments.db"
-    operations = ("charge",)
-    limits = {1: 500, 2: 500, 3: 500, 4: 90, 5: 30}
+    tables = """
+        CREATE TABLE IF NOT EXISTS cards (card INTEGER PRIMARY KEY, most INTEGER NOT NULL, charged INTEGER NOT NULL);
+        INSERT OR IGNORE INTO cards VALUES (1, 500, 0), (2, 500, 0), (3, 500, 0), (4, 90, 0), (5, 30, 0);
+    """
+    held = {
+        "charge": Held(
+            hold="SELECT 1 FROM cards WHERE card = :key AND most >= :amount",
+            commit="UPDATE cards SET charged = charged + :amount WHERE card = :key",
+            refusal="the card is refused",
+        )
+    }
 
-    def _refusal(self, operation, card, price):
-        return "the card is refused" if price > self.limits[card] else None
+    def __init__(self, folder):
+        super().__init__(folder)
+        self.on_charge = lambda order: None
+
+    def prepare(self, work):
+        super().prepare(work)
+        self.on_charge(work.process)
+
+    def total(self):
+        return self.read("SELECT SUM(charged) FROM cards")[0][0]
 
 
 class Parcels(Database):
-    """The places in the vans by the orders that have them, the parcels that went by van and those that are kept at the counter, by order."""
+    """The places in the vans by the orders that have them, the parcels that went by van and those that are kept at the counter, by order. The
+    counter is busy now and then, and a van takes four at most. The places are counted by the program."""
 
     file = "parcels.db"
-    operations = ("place", "ship", "keep")
-    most_in_a_van = 4
-
-    def _refusal(self, operation, key, amount):
-        if operation == "ship" and amount > self.most_in_a_van:
-            return "the courier says no"
-        if operation == "keep" and random.random() < 0.2:
-            return "the counter is busy"
-        return None
+    held = {
+        "place_north": Held(),
+        "place_south": Held(),
+        "ship": Held(hold="SELECT 1 WHERE :amount <= 4", refusal="the courier says no"),
+        "keep": Held(hold="SELECT 1 WHERE abs(random()) % 5 > 0", refusal="the counter is busy"),
+    }
 
 
 class Databases:
-    """The three of a folder, as one thread opens them. An operation is of the database that has its first word: `place_north` is of the parcels."""
-
-    kinds = (Stock, Payments, Parcels)
+    """The three of a folder."""
 
     def __init__(self, folder):
-        self.all = [kind(folder) for kind in self.kinds]
+        self.all = [kind(folder) for kind in (Stock, Payments, Parcels)]
         self.stock, self.payments, self.parcels = self.all
-
-    def of(self, operation):
-        word = operation.split("_")[0]
-        return next(database for database in self.all if word in database.operations)
-
-    def close(self):
-        for database in self.all:
-            database.close()

@@ -5,7 +5,9 @@ import shutil
 import subprocess
 import tempfile
 
-from dialogue import Stopped
+from databases import TOP  # which makes the library known
+
+from sihtolem.dialogue import Ended
 
 
 class Files:
@@ -22,7 +24,11 @@ class Files:
         return f"{self._folder}/{number}"
 
     def begin(self, scenario):
-        """Makes a fresh set and runs the processes of that scenario on it. It is in use once all that is done: by its new name."""
+        """Makes a fresh set and runs the processes of that scenario on it. It is in use once all that is done: by its new name. Where something
+        killed the program on the way, it is made once more."""
+        self._until_alive(lambda: self._make(scenario))
+
+    def _make(self, scenario):
         for left in glob.glob(self.folder("next*")):
             shutil.rmtree(left, ignore_errors=True)
         made = tempfile.mkdtemp(prefix="next", dir=self._folder)
@@ -38,20 +44,24 @@ class Files:
         """What is said of a report: `accepted`, or why not."""
         try:
             return self._read("verify", self._folder, report).rstrip("\n")
-        except Stopped as stop:
-            return stop.line
+        except Ended as ended:
+            return ended.line
 
     def _read(self, word, folder, text):
-        """A command that only reads is called again where something killed it."""
+        return self._until_alive(lambda: self._call(word, folder, text))
+
+    @staticmethod
+    def _until_alive(do):
+        """Does it again where something killed the program."""
         while True:
             try:
-                return self._call(word, folder, text)
-            except Stopped as stop:
-                if not stop.was_killed:
+                return do()
+            except Ended as ended:
+                if ended.status >= 0:
                     raise
 
     def _call(self, word, folder, text):
         done = subprocess.run([self._program, word], cwd=folder, input=text, stdout=subprocess.PIPE, encoding="ascii")
         if done.returncode:
-            raise Stopped(done.stdout.rstrip("\n"), done.returncode)
+            raise Ended(done.stdout.rstrip("\n"), done.returncode)
         return done.stdout

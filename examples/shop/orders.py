@@ -99,6 +99,10 @@ def spell(call):
     return " ".join(map(str, call))
 
 
+def order_of(name):
+    return order(int(name.split("_")[1]))
+
+
 def order(number):
     """What comes in as number `number`: always the same. Each fifth is a delivery."""
     chance = random.Random(number)

@@ -1,0 +1,247 @@
+#!/usr/bin/env python3
+"""Plays the tables of clients/tests against the library in Python: the settling over all its states, lines, reports, and stories over real files.
+
+PROGRAM names the program.
+"""
+import copy
+import json
+import logging
+import os
+import re
+import sys
+import tempfile
+import time
+from concurrent.futures import ThreadPoolExecutor
+
+HERE = os.path.dirname(os.path.realpath(__file__))
+sys.path[:0] = [f"{HERE}/../python", HERE]
+sys.dont_write_bytecode = True
+
+import sihtolem
+from memory import Memory
+from sihtolem import Action, Answer, Held, Outbox, Scheduler, Sqlite, State, Work, settle
+from sihtolem.dialogue import read_piece
+from sihtolem.opening import answer_of
+from sihtolem.report import conflict, operations_of, read_report
+from sihtolem.statements import filled
+
+PROGRAM = os.path.abspath(os.environ["PROGRAM"])
+OPERATIONS = ("deliver", "reserve", "charge", "place", "ship", "mail")
+
+
+def table(name):
+    with open(f"{HERE}/{name}.json") as file:
+        return json.load(file)
+
+
+def check(what, told, wanted):
+    if told != wanted:
+        sys.exit(f"{what}:\n  {told}\nand not\n  {wanted}")
+
+
+def play_settling():
+    rows = table("settling")
+    check("the states of the table", sorted(row[:2] for row in rows), sorted([state.value, answer.value] for state in State for answer in Answer))
+    for state, answer, action in rows:
+        check(f"{state}, {answer}", settle(State(state), Answer(answer)), Action(action))
+
+
+def play_lines():
+    lines = table("lines")
+    for line, piece in lines["pieces"]:
+        told = read_piece(line)
+        check(line, None if told is None else vars(told), piece)
+    for line, answer in lines["answers"]:
+        check(line, answer_of(line).value, answer)
+    for text, operations in lines["operations"]:
+        check(text, operations_of(text), operations)
+    for statement, wanted in lines["fills"]:
+        check(statement, filled(statement, Work("m", "2.x", True, "order_1", "take", 3, -7)), wanted)
+    for report in lines["reports"]:
+        told = read_report(report["lines"])
+        check("names", {str(number): name for number, name in told.names.items()}, report["names"])
+        check("ended", sorted(told.ended), report["ended"])
+        check("paths", {str(number): path for number, path in told.paths.items()}, report["paths"])
+        check("acts", {place: [answer.value, operation] for place, (answer, operation) in told.acts.items()}, report["acts"])
+        for one, key, other, other_key, wanted in report["conflicts"]:
+            check(f"{one} {key} {other} {other_key}", conflict(told.conflicts, (one, key), (other, other_key)), wanted)
+
+
+def spread(story, text):
+    """The text for each number, where the story has a count."""
+    return [text.replace("#", str(number)) for number in range(1, story.get("count", 0) + 1)] if "#" in text else [text]
+
+
+def play_story(scenario, story):
+    story = copy.deepcopy(story)
+    with tempfile.TemporaryDirectory() as folder:
+        memory = Memory(OPERATIONS, story.get("handlers"), story.get("commits"))
+        texts = [one for text in story["processes"] for one in spread(story, text)]
+        options = {"program": PROGRAM, "mark": "m", "first_pause": 0.01, "longest_pause": 0.05, "most_active": story.get("most_active", 64)}
+        with Scheduler(f"{folder}/files", scenario, [memory], **options) as scheduler:
+            kills = set(story.get("kill_at", ()))
+            memory.on_call = lambda count: os.kill(scheduler._dialogue.pid, 9) if count in kills else None
+            outcomes = submit_all(scheduler, story, texts)
+        wanted = {name: tuple(end) for text, end in story["ends"].items() for name in spread(story, text) for end in [end]}
+        if not story.get("any_end"):
+            told = {name: (list(outcome.path), list(outcome.reasons)) for name, outcome in outcomes.items()}
+            check(story["name"], told, {name: (path, reasons) for name, (path, reasons) in wanted.items()})
+        check_whole(story["name"], memory, outcomes)
+        for step, state in story.get("states", {}).items():
+            check(step, [told.value for place, told in memory.states.items() if place.endswith(f".{step}")], [state])
+        calls = memory.calls
+        with Scheduler(f"{folder}/files", scenario, [memory], **options) as scheduler:
+            again = submit_all(scheduler, story, texts)
+        check(f"{story['name']}, once more", {name: it.path for name, it in again.items()}, {name: it.path for name, it in outcomes.items()})
+        check(f"{story['name']}, calls once more", memory.calls, calls)
+
+
+def submit_all(scheduler, story, texts):
+    """The outcome of each process by name, one after another or all at once. Those that are refused have the class of their error."""
+    futures, outcomes, refused = {}, {}, {}
+    for text in texts:
+        name = text.split()[1] if text.startswith("process ") else text.split()[0]
+        try:
+            futures[name] = scheduler.submit(text)
+            if story.get("one_by_one"):
+                futures[name].result(30)
+        except sihtolem.SihtolemError as error:
+            refused[name] = type(error).__name__
+    for name, future in futures.items():
+        try:
+            outcomes[name] = future.result(30)
+        except sihtolem.SihtolemError as error:
+            refused[name] = type(error).__name__
+    check(f"{story['name']}: what is refused", refused, story.get("refused", {}))
+    return outcomes
+
+
+def check_whole(name, memory, outcomes):
+    """The system has committed exactly the steps that the outcomes tell, and nothing is left over."""
+    stand = sorted(place for place, state in memory.states.items() if state is State.COMMITTED)
+    check(f"{name}: what stands", stand, sorted(f"{it.number}.{step}" for it in outcomes.values() for step in it.path))
+    check(f"{name}: what is open", [place for place, state in memory.states.items() if state in (State.PREPARED, State.UNDO_PREPARED)], [])
+
+
+def play_outbox():
+    """A shop in SQLite, and mail behind an outbox, whose receiver fails at first. The last run sends what the run before marked as unsent again:
+    so it would be after a kill between the two. The receiver drops it by its name."""
+    story, received, calls = table("outbox"), {}, []
+    fails = dict(story["fails"])
+
+    def send(work):
+        step = f"{work.process}.{work.place.partition('.')[2]}" + (" undo" if work.undo else "")
+        calls.append(step)
+        if fails.get(step, 0):
+            fails[step] -= 1
+            raise ConnectionError("played")
+        received.setdefault(work.name, step)
+
+    with tempfile.TemporaryDirectory() as folder:
+        options = {"program": PROGRAM, "mark": "m", "first_pause": 0.01, "longest_pause": 0.05}
+
+        def participants():
+            lists = {operation: {word: tuple(it) if isinstance(it, list) else it for word, it in words.items()} for operation, words in story["shop"].items()}
+            held = {operation: Held(**words) for operation, words in lists.items()}
+            shop = Sqlite(f"{folder}/shop.db", held, set_up=";".join(story["tables"]))
+            return shop, Outbox(f"{folder}/mail.db", story["sent"], send, first_pause=0.01, longest_pause=0.05)
+
+        shop, outbox = participants()
+        with Scheduler(f"{folder}/files", story["scenario"], [shop, outbox], **options) as scheduler:
+            for text in story["processes"]:
+                outcome = scheduler.submit(text).result(30)
+                check(text, [list(outcome.path), list(outcome.reasons)], story["ends"][outcome.name])
+            until(lambda: not outbox.unsent())
+            scheduler.backup(f"{folder}/copy")
+            check("the backup", sorted(os.listdir(f"{folder}/copy")), sorted(f"tps.{number}" for number in range(9)))
+        check("what was received", sorted(received.values()), sorted(story["received"]))
+        outbox.read("UPDATE sihtolem_outbox SET sent = 0")
+        sent = len(calls)
+        shop, outbox = participants()
+        with Scheduler(f"{folder}/copy", story["scenario"], [shop, outbox], **options):
+            until(lambda: not outbox.unsent())
+            check("what is free", shop.read("SELECT free FROM shelves"), [(story["free"],)])
+        check("what was sent again", len(calls) - sent, len(story["received"]))
+        check("what was received once more", sorted(received.values()), sorted(story["received"]))
+
+
+def play_closing(scenario):
+    """A folder in use is waited for, but not for longer than `patience`. A scheduler that is closed at once leaves what its systems don't take,
+    and tells so; the next one goes on with it."""
+    order = "process a r tell mail 1 1 end"
+    with tempfile.TemporaryDirectory() as folder:
+        options = {"program": PROGRAM, "mark": "m", "first_pause": 0.01, "longest_pause": 0.05}
+        memory = Memory(OPERATIONS, {"a.tell": ["unreachable"] * 100000})
+        first = Scheduler(f"{folder}/files", scenario, [memory], **options)
+        future = first.submit(order)
+        check("the same future", first.submit(order), future)
+        refused("FolderInUse", lambda: Scheduler(f"{folder}/files", scenario, [Memory(OPERATIONS)], patience=0.3, **options))
+        with ThreadPoolExecutor(1) as pool:
+            second = pool.submit(Scheduler, f"{folder}/files", scenario, [memory], **options)
+            time.sleep(0.3)
+            check("waits for the folder", second.done(), False)
+            first.close(until_ended=False)
+            refused("Closed", future.result)
+            refused("Closed", lambda: first.submit(order))
+            memory.prepares = {}
+            with second.result(30) as scheduler:
+                check("the end", scheduler.submit(order).result(30).name, "a")
+        refused("ProgramMissing", lambda: Scheduler(f"{folder}/files", scenario, [memory], **{**options, "program": "no_such_program"}))
+        refused("ScenarioRefused", lambda: Scheduler(f"{folder}/other", "version", [memory], **options))
+        refused("ScenarioRefused", lambda: Scheduler(f"{folder}/files", "version = 1\n", [memory], **options))
+
+
+def play_abort(scenario):
+    """One is aborted while its second step is prepared, and goes back; another one waits for its start, and isn't started."""
+    with tempfile.TemporaryDirectory() as folder:
+        memory = Memory(OPERATIONS)
+        with Scheduler(f"{folder}/files", scenario, [memory], program=PROGRAM, mark="m", most_active=1) as scheduler:
+            memory.on_call = lambda count: [scheduler.abort(name) for name in "ba"] if count == 2 else None
+            futures = [scheduler.submit(f"process {name} c reserve reserve 3 2 p pay charge 1 40 r tell mail 1 1 end") for name in "ab"]
+            told = [(it.number, it.path, it.reasons) for it in (future.result(30) for future in futures)]
+        check("aborted", told, [(1, (), ("aborted",)), (0, (), ("aborted before its start",))])
+        check("what is left", memory.states, {"1.reserve": State.UNDONE, "1.pay": State.ABSENT})
+
+
+def play_resuming(scenario):
+    """Whoever goes on and whoever goes back are both known, and not started again."""
+    with tempfile.TemporaryDirectory() as folder:
+        memory = Memory(OPERATIONS)
+        with Scheduler(f"{folder}/files", scenario, [memory], program=f"{HERE}/resuming", mark="m") as scheduler:
+            futures = [scheduler.submit(f"process {name} r tell mail 1 1 end") for name in "ab"]
+            check("who goes on", [future.result(30).path for future in futures], [("tell",), ()])
+        check("what stands", memory.states, {"1.tell": State.COMMITTED})
+
+
+def refused(kind, do):
+    try:
+        do()
+    except sihtolem.SihtolemError as error:
+        return check("the error", type(error).__name__, kind)
+    sys.exit(f"{kind} isn't told")
+
+
+def until(what):
+    for _ in range(1000):
+        if what():
+            return
+        time.sleep(0.01)
+    sys.exit("it takes too long")
+
+
+def main():
+    logging.basicConfig(level=logging.CRITICAL if "-v" not in sys.argv else logging.INFO, format="%(relativeCreated)d %(message)s")
+    play_settling()
+    play_lines()
+    stories = table("stories")
+    for story in stories["stories"]:
+        logging.info("%s", story["name"])
+        play_story(stories["scenario"], story)
+    play_closing(stories["scenario"])
+    play_abort(stories["scenario"])
+    play_resuming(stories["scenario"])
+    play_outbox()
+    print(f"clients, Python: the settling over {len(table('settling'))} states, lines, {len(stories['stories'])} stories, and an outbox")
+
+
+main()
