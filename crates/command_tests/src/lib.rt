@@ -12,6 +12,8 @@ mod check;
 #[cfg(test)]
 mod expected;
 #[cfg(test)]
+mod help;
+#[cfg(test)]
 mod init;
 #[cfg(test)]
 mod program;

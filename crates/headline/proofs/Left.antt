@@ -13,7 +13,7 @@ use Rattle.history_files.specs.Sound.{IsSound}
 use Rattle.engine_steps.specs.Engines.{full_history}
 use Rattle.process_tree.specs.declared.plan.Plan.{Plan}
 use Rattle.program_words.specs.declared.reading.Command.{Command}
-use Rattle.program_words.specs.declared.reading.Command.TheVariants.{Check, Init, Run, Session, Serve, Restart, Show, Verify, Gen, Bulk}
+use Rattle.program_words.specs.declared.reading.Command.TheVariants.{Check, Init, Run, Session, Serve, Restart, Show, Verify, Gen, Bulk, Help, Version}
 use Rattle.command_input.specs.Inputs.{Input}
 use Rattle.process_top.specs.Worlds.{World}
 use Rattle.engine_calls.specs.Acknowledged.{ComeInTurn, IsUnderWay, acknowledged, events_of}
@@ -43,6 +43,8 @@ ahead_events (Some Show) before after c h now k ahead = absurd ahead
 ahead_events (Some Verify) before after c h now k ahead = absurd ahead
 ahead_events (Some (Gen number count)) before after c h now k ahead = absurd ahead
 ahead_events (Some (Bulk number count)) before after c h now k ahead = absurd ahead
+ahead_events (Some (Help about)) before after c h now k ahead = absurd ahead
+ahead_events (Some Version) before after c h now k ahead = absurd ahead
 ahead_events None before after c h now k ahead = absurd ahead
 
 -- Files that a stop left are sound for this history.

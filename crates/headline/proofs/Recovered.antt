@@ -28,7 +28,7 @@ use Rattle.command_refusals.specs.Statuses.{number_of, IsOneOf}
 use Rattle.command_input.specs.declared.said.Said.{Said}
 use Rattle.scenario_run.specs.Opening.{AreNotOpened, open_refusal}
 use Rattle.engine_calls.specs.GateAnswers.{AskedGate}
-use Rattle.process_top.specs.Replies.{Reply, checked, created, ended, served, shown, accepted, generated, refused, IsReplyTold}
+use Rattle.process_top.specs.Replies.{Reply, checked, created, ended, served, shown, accepted, printed, refused, IsReplyTold}
 use Rattle.process_top.specs.Run.{first_gate, gates_asked}
 use Rattle.process_top.specs.Told.{IsTold}
 use Rattle.process_top.specs.Worlds.{BoxState, World}
@@ -202,7 +202,7 @@ module _ {S K R : Type 0} (c : Catalog) (h : History) (MayBeAhead : History → 
   by_reply (served text at) due told = absurd due
   by_reply (shown d k) due told = absurd due
   by_reply accepted due told = absurd due
-  by_reply (generated text) due told = absurd due
+  by_reply (printed text) due told = absurd due
 
   pub came_of : Came
   came_of = by_reply on.answered.reply

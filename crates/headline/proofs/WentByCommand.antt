@@ -14,7 +14,7 @@ use Rattle.command_refusals.specs.Statuses.{number_of}
 use Rattle.command_refusals.specs.declared.status.Status.{Status}
 use Rattle.command_refusals.specs.declared.status.Status.TheVariants as statuses
 use Rattle.program_words.specs.declared.reading.Command.{Command}
-use Rattle.program_words.specs.declared.reading.Command.TheVariants.{Check, Init, Run, Session, Serve, Restart, Show, Verify, Gen, Bulk}
+use Rattle.program_words.specs.declared.reading.Command.TheVariants.{Check, Init, Run, Session, Serve, Restart, Show, Verify, Gen, Bulk, Help, Version}
 use Rattle.command_input.specs.declared.said.Said.{Said}
 use Rattle.command_refusals.specs.declared.refusal.Refusal.{Refusal}
 use Rattle.scenario_run.specs.Opening.{IsNotOpenedFor}
@@ -30,7 +30,7 @@ use Rattle.process_restart.specs.Completing.{IsNextOfCompletion}
 use Rattle.process_restart.specs.Restarting.{IsRestart}
 use Rattle.restart_run.specs.Restart.{SaysRestart}
 use Rattle.process_top.specs.Commands.{IsDueTo}
-use Rattle.process_top.specs.Replies.{Reply, checked, created, ended, served, shown, accepted, generated, refused, IsReplyTold}
+use Rattle.process_top.specs.Replies.{Reply, checked, created, ended, served, shown, accepted, printed, refused, IsReplyTold}
 use Rattle.process_top.specs.Restart.{IsRestartDue}
 use Rattle.process_top.specs.Run.{IsRunDue, first_gate, first_gates, gates_asked}
 use Rattle.process_top.specs.Said.{IsResultTold}
@@ -104,7 +104,7 @@ module _ {S K R : Type 0} (c : Catalog) (h : History) (before after : World S K 
     run_due (served text at) due out = absurd due
     run_due (shown d k) due out = absurd due
     run_due accepted due out = absurd due
-    run_due (generated text) due out = absurd due
+    run_due (printed text) due out = absurd due
 
   -- `session`,
   abbrev Ended : Status → Type 0
@@ -160,7 +160,7 @@ module _ {S K R : Type 0} (c : Catalog) (h : History) (before after : World S K 
   session_due (served text at) due out = absurd due
   session_due (shown d k) due out = absurd due
   session_due accepted due out = absurd due
-  session_due (generated text) due out = absurd due
+  session_due (printed text) due out = absurd due
 
   -- `serve`,
   abbrev IsAnEnd : Status → Type 0
@@ -227,7 +227,7 @@ module _ {S K R : Type 0} (c : Catalog) (h : History) (before after : World S K 
   serve_due created due out = absurd due
   serve_due (shown d k) due out = absurd due
   serve_due accepted due out = absurd due
-  serve_due (generated text) due out = absurd due
+  serve_due (printed text) due out = absurd due
 
   -- and `restart`.
   restart_on : (d : Catalog) (k : History) (now : CoreState) (on : Phase) → IsRestart (first_gate gates) d k now on before.files.disk after.files.disk → Settles on → IsLate → Of Restart
@@ -252,7 +252,7 @@ module _ {S K R : Type 0} (c : Catalog) (h : History) (before after : World S K 
   restart_due (served text at) due out = absurd due
   restart_due (shown d k) due out = absurd due
   restart_due accepted due out = absurd due
-  restart_due (generated text) due out = absurd due
+  restart_due (printed text) due out = absurd due
 
   -- Whatever words asked for one of them.
   pub went_by : (o : Option Command) → goes_on o ≡ true → (reply : Reply) → IsDueTo o gates before.input after.input before.files after.files reply
@@ -267,4 +267,6 @@ module _ {S K R : Type 0} (c : Catalog) (h : History) (before after : World S K 
   went_by (Some Verify) goes reply due out = absurd cc
   went_by (Some (Gen number count)) goes reply due out = absurd cc
   went_by (Some (Bulk number count)) goes reply due out = absurd cc
+  went_by (Some (Help about)) goes reply due out = absurd cc
+  went_by (Some Version) goes reply due out = absurd cc
   went_by None goes reply due out = absurd cc

@@ -18,7 +18,7 @@ use Rattle.resource_box.specs.declared.resource.Resource.{Ghosts as Resources}
 use Rattle.command_refusals.specs.Statuses.{number_of}
 use Rattle.program_words.specs.Commands.{asked}
 use Rattle.program_words.specs.declared.reading.Command.{Command}
-use Rattle.program_words.specs.declared.reading.Command.TheVariants.{Check, Init, Run, Session, Serve, Restart, Show, Verify, Gen, Bulk}
+use Rattle.program_words.specs.declared.reading.Command.TheVariants.{Check, Init, Run, Session, Serve, Restart, Show, Verify, Gen, Bulk, Help, Version}
 use Rattle.process_top.specs.Commands.{Answers}
 use Rattle.process_top.specs.Worlds.{World}
 use Rattle.headline.specs.Headline.{Headline, HoldsAcknowledged, IsAhead, IsBeginningOf, IsAtEntry, OfEachRestart, Outside, StopsAreRestored, WentOn, goes_on, seen}
@@ -56,6 +56,8 @@ module _ {S K R B G : Type 0} (sources : Sources S) (sinks : Sinks K) (racks : R
     agree (Some Verify) now came went moment read begins holds is = absurd cc
     agree (Some (Gen number count)) now came went moment read begins holds is = absurd cc
     agree (Some (Bulk number count)) now came went moment read begins holds is = absurd cc
+    agree (Some (Help about)) now came went moment read begins holds is = absurd cc
+    agree (Some Version) now came went moment read begins holds is = absurd cc
     agree None now came went moment read begins holds is = absurd cc
 
     pub each_restart : (now : CoreState) (came : List (ℕ × List Event)) (went : WentOn (asked words) c h (see before) (see after) now came)

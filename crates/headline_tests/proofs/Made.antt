@@ -16,7 +16,7 @@ use Rattle.command_refusals.specs.declared.status.Status.{Status}
 use Rattle.command_refusals.specs.declared.status.Status.TheVariants.{Done}
 use Rattle.process_top.specs.Commands.{IsDueTo}
 use Rattle.process_top.specs.Init.{IsInitDue}
-use Rattle.process_top.specs.Replies.{Reply, accepted, checked, created, ended, generated, refused, served, shown, IsReplyTold}
+use Rattle.process_top.specs.Replies.{Reply, accepted, checked, created, ended, printed, refused, served, shown, IsReplyTold}
 use Rattle.process_top.specs.Run.{gates_asked}
 use Rattle.process_top.specs.Told.{IsRefusalTold, Output}
 use Rattle.process_top.specs.Worlds.{World}
@@ -45,7 +45,7 @@ module _ {S K R : Type 0} (before after : World S K R) (told : Told before.files
   made_by (shown c h) due out = absurd due
   made_by (served text at) due out = absurd due
   made_by accepted due out = absurd due
-  made_by (generated text) due out = absurd due
+  made_by (printed text) due out = absurd due
 
 -- The files of an `init` that ended well are sound for a history without events.
 module _ {S K R B G : Type 0} (sources : Sources S) (sinks : Sinks K) (racks : Racks R) (resources : Resources B) (workers : Gates G) where

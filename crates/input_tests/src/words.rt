@@ -1,5 +1,7 @@
 // The words of a call.
-use program_words::{Command, WordsError, read_number_and_count, read_words, read_workers};
+use program_words::{
+    Command, CommandName, WordsError, read_number_and_count, read_words, read_workers,
+};
 use std::alloc::Global;
 use std::process::Abort;
 
@@ -23,7 +25,7 @@ fn words_of(rt: &impl Abort, alloc: Global, line: &str) -> Vec<String> {
 }
 
 // Lines, and what is asked for.
-const COMMANDS: [(&str, Result<Command, WordsError>); 36] = [
+const COMMANDS: [(&str, Result<Command, WordsError>); 50] = [
     ("check", Ok(Command::Check)),
     ("init", Ok(Command::Init)),
     ("run", Ok(Command::Run { workers: 1 })),
@@ -87,8 +89,32 @@ const COMMANDS: [(&str, Result<Command, WordsError>); 36] = [
     ),
     ("bulk", Err(WordsError::BadWords)),
     ("bulk 1 257", Err(WordsError::BadWords)),
-    ("help", Err(WordsError::BadWords)),
-    ("--help", Err(WordsError::BadWords)),
+    ("help", Ok(Command::Help { about: None })),
+    (
+        "help run",
+        Ok(Command::Help {
+            about: Some(CommandName::Run),
+        }),
+    ),
+    (
+        "help version",
+        Ok(Command::Help {
+            about: Some(CommandName::Version),
+        }),
+    ),
+    ("--help", Ok(Command::Help { about: None })),
+    ("-h", Ok(Command::Help { about: None })),
+    ("version", Ok(Command::Version)),
+    ("--version", Ok(Command::Version)),
+    ("help all", Err(WordsError::BadWords)),
+    ("help --help", Err(WordsError::BadWords)),
+    ("help run show", Err(WordsError::BadWords)),
+    ("--help run", Err(WordsError::BadWords)),
+    ("-h --", Err(WordsError::BadWords)),
+    ("version 1", Err(WordsError::BadWords)),
+    ("--version --", Err(WordsError::BadWords)),
+    ("-V", Err(WordsError::BadWords)),
+    ("-- help", Err(WordsError::BadWords)),
     ("-- check", Err(WordsError::BadWords)),
 ];
 

@@ -17,7 +17,7 @@ use Rattle.serve_run.specs.Serve.{OnEnding}
 use Rattle.process_top.specs.Worlds.{BoxState, World}
 use Rattle.history_files.specs.Boxes.{AreBoxes}
 use Rattle.command_input.specs.FilesLeft.{AreLeft}
-use Rattle.process_top.specs.Replies.{Reply, checked, created, ended, served, shown, accepted, generated, refused, is_refused, status_of, text_of, IsReplyTold}
+use Rattle.process_top.specs.Replies.{Reply, checked, created, ended, served, shown, accepted, printed, refused, is_refused, status_of, text_of, IsReplyTold}
 use Rattle.process_top.specs.Told.{Output, IsRefusalTold, IsTold}
 use Rattle.process_top.specs.Said.{EndsBy, Says, HasWorked, IsResultTold}
 use Rattle.process_top.specs.Run.{gates_asked}
@@ -55,7 +55,7 @@ said_told reply said old new at isnt text status told = by_reply reply isnt
     by_reply (served text status) isnt told = told
     by_reply (shown c h) isnt told = told
     by_reply accepted isnt told = told
-    by_reply (generated text) isnt told = told
+    by_reply (printed text) isnt told = told
     by_reply (refused r) isnt told = absurd (cc)
 
 module _ {S K R : Type 0} (o : Option Command) (before after : World S K R) (number : ℕ) (at : Status) (numbered : number ≡ number_of at) (left : AreLeft before.files after.files)
@@ -94,7 +94,7 @@ module _ {S K R : Type 0} (o : Option Command) (before after : World S K R) (num
   said_early (served text status) s isnt is same early = absurd (cc)
   said_early (shown c h) s isnt is same early = absurd (cc)
   said_early accepted s isnt is same early = absurd (cc)
-  said_early (generated text) s isnt is same early = absurd (cc)
+  said_early (printed text) s isnt is same early = absurd (cc)
   said_early (refused r) s isnt is same early = absurd (cc)
 
   -- what is refused isn't told at that status

@@ -1,7 +1,7 @@
 -- What commands ask for where a call may not wait.
 use Rattle.std.proofs.Common.{◌≡◌, Option, Some, None, ℕ, ap, refl, subst, sym, unwrap_or}
 use Rattle.program_words.specs.declared.reading.Command.{Command}
-use Rattle.program_words.specs.declared.reading.Command.TheVariants.{Check, Init, Run, Session, Serve, Restart, Show, Verify, Gen, Bulk}
+use Rattle.program_words.specs.declared.reading.Command.TheVariants.{Check, Init, Run, Session, Serve, Restart, Show, Verify, Gen, Bulk, Help, Version}
 use Rattle.process_top.specs.Worlds.{GatesState}
 use Rattle.process_top.specs.Commands.{AreOthersAsBefore, at_once, needs}
 
@@ -18,6 +18,8 @@ one_at_once (Some Show) = refl
 one_at_once (Some Verify) = refl
 one_at_once (Some (Gen number count)) = refl
 one_at_once (Some (Bulk number count)) = refl
+one_at_once (Some (Help about)) = refl
+one_at_once (Some Version) = refl
 
 pub others_at_once : (o : Option Command) (before after : GatesState) → AreOthersAsBefore 1 before after → AreOthersAsBefore (needs (at_once o)).gates before after
 others_at_once o before after others = subst (λ n. AreOthersAsBefore n before after) (sym (one_at_once o)) others
@@ -34,6 +36,8 @@ run_is Show workers is = absurd cc
 run_is Verify workers is = absurd cc
 run_is (Gen number count) workers is = absurd cc
 run_is (Bulk number count) workers is = absurd cc
+run_is (Help about) workers is = absurd cc
+run_is Version workers is = absurd cc
 
 -- and each other is asked for at once
 pub at_once_is : (c : Command) → (needs (Some c)).workers ≡ None → at_once (Some c) ≡ Some c
@@ -47,3 +51,5 @@ at_once_is Show is = refl
 at_once_is Verify is = refl
 at_once_is (Gen number count) is = refl
 at_once_is (Bulk number count) is = refl
+at_once_is (Help about) is = refl
+at_once_is Version is = refl

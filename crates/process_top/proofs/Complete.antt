@@ -6,7 +6,7 @@ use Rattle.process_flow.specs.Causes.{Rose}
 use Rattle.trace_verify.specs.declared.verdict.Verified.{Verified}
 use Rattle.trace_verify.specs.Verdicts.{verdict}
 use Rattle.program_words.specs.declared.reading.Command.{Command}
-use Rattle.program_words.specs.declared.reading.Command.TheVariants.{Check, Init, Run, Session, Serve, Restart, Show, Verify, Gen, Bulk}
+use Rattle.program_words.specs.declared.reading.Command.TheVariants.{Check, Init, Run, Session, Serve, Restart, Show, Verify, Gen, Bulk, Help, Version}
 use Rattle.command_refusals.specs.Statuses.{IsOneOf}
 use Rattle.command_refusals.specs.declared.status.Status.{Status}
 use Rattle.command_refusals.specs.declared.status.Status.TheVariants.{Done, Exhausted, NoMemory}
@@ -18,7 +18,7 @@ use Rattle.command_refusals.specs.Refusals.{report_status, refusal_status}
 use Rattle.command_refusals.specs.Verdicts.{any_fault}
 use Rattle.process_top.specs.Worlds.{World, Input, Files}
 use Rattle.command_input.specs.Inputs.{most_input, first_refusal, input_tests, text_tests, IsRefused}
-use Rattle.process_top.specs.Replies.{Reply, checked, created, ended, served, shown, accepted, generated, refused, status_of, IsReplyTold}
+use Rattle.process_top.specs.Replies.{Reply, checked, created, ended, served, shown, accepted, printed, refused, status_of, IsReplyTold}
 use Rattle.process_top.specs.Told.{Output}
 use Rattle.process_top.specs.Said.{HasWorked, IsResultTold}
 use Rattle.process_top.specs.Check.{IsCheckDue, IsCheckComplete}
@@ -34,7 +34,9 @@ use Rattle.process_top.specs.Bulk.{IsBulkComplete}
 use Rattle.process_top.specs.Serve.{IsServeComplete}
 use Rattle.process_top.specs.Session.{IsSessionComplete}
 use Rattle.process_top.specs.Show.{IsShowDue, IsShowComplete}
-use Rattle.process_top.specs.Gen.{IsGenDue, IsGenComplete}
+use Rattle.process_top.specs.Printed.{IsTextDue, IsTextComplete}
+use Rattle.command_help.specs.Pages.{page_of, version_line}
+use Rattle.scenario_gen.specs.Generated.{generated as scenario}
 use Rattle.process_top.specs.Verify.{verdict_of, verified_status, IsVerifyDue, IsVerifyComplete}
 use Rattle.process_top.specs.Commands.{IsDueTo, IsQuiet, DoesItsWork}
 use Rattle.command_input.proofs.InputRefusals.{is_within}
@@ -53,7 +55,7 @@ check_ends text faults after (ended said) status due is quiet qs within reading 
 check_ends text faults after (served said at) status due is quiet qs within reading = absurd due
 check_ends text faults after (shown c h) status due is quiet qs within reading = absurd due
 check_ends text faults after accepted status due is quiet qs within reading = absurd due
-check_ends text faults after (generated said) status due is quiet qs within reading = absurd due
+check_ends text faults after (printed said) status due is quiet qs within reading = absurd due
 
 check_done : (left : Option (List ℕ)) (faults : ℕ) (after : Input) (reply : Reply) (status : Status) → IsCheckDue (given left faults) after reply → status ≡ status_of reply → ¬ Rose faults after.faults
     → IsCheckComplete (given left faults) status
@@ -71,7 +73,7 @@ init_ends text faults after files files_after (ended said) status due is quiet q
 init_ends text faults after files files_after (served said at) status due is quiet quiet_files c within has told empty = absurd due
 init_ends text faults after files files_after (shown d h) status due is quiet quiet_files c within has told empty = absurd due
 init_ends text faults after files files_after accepted status due is quiet quiet_files c within has told empty = absurd due
-init_ends text faults after files files_after (generated said) status due is quiet quiet_files c within has told empty = absurd due
+init_ends text faults after files files_after (printed said) status due is quiet quiet_files c within has told empty = absurd due
 
 init_done : (left : Option (List ℕ)) (faults : ℕ) (after : Input) (files files_after : Files) (reply : Reply) (status : Status) → IsInitDue (given left faults) after files files_after reply → status ≡ status_of reply
     → ¬ Rose faults after.faults → ¬ Rose files.faults files_after.faults → IsInitComplete (given left faults) files.disk status
@@ -138,6 +140,8 @@ worked_due (Some Verify) before after found status has told later = tt
 worked_due (Some (Gen number count)) before after found status has told later = tt
 worked_due (Some (Bulk number count)) before after found status has told later = λ quiet c plans fits empty.
     told_report found before.output after.output status (has c plans fits empty (quiet.files refl)) told quiet.output
+worked_due (Some (Help about)) before after found status has told later = tt
+worked_due (Some Version) before after found status has told later = tt
 
 -- of a dialogue that was held, which no other command does
 pub worked_held : {S K R : Type 0} (o : Option Command) (before after : World S K R) (text : List ℕ) (at status : Status)
@@ -155,6 +159,8 @@ worked_held (Some Show) before after text at status due has = tt
 worked_held (Some Verify) before after text at status due has = tt
 worked_held (Some (Gen number count)) before after text at status due has = tt
 worked_held (Some (Bulk number count)) before after text at status due has = absurd due
+worked_held (Some (Help about)) before after text at status due has = tt
+worked_held (Some Version) before after text at status due has = tt
 
 -- a show
 show_done : (files files_after : Files) (reply : Reply) (status : Status) → IsShowDue files files_after reply → status ≡ status_of reply → ¬ Rose files.faults files_after.faults → IsShowComplete files.disk status
@@ -165,7 +171,7 @@ show_done files files_after (checked ps vs) status due is quiet c h good told lo
 show_done files files_after created status due is quiet c h good told log = absurd due
 show_done files files_after (ended said) status due is quiet c h good told log = absurd due
 show_done files files_after accepted status due is quiet c h good told log = absurd due
-show_done files files_after (generated text) status due is quiet c h good told log = absurd due
+show_done files files_after (printed text) status due is quiet c h good told log = absurd due
 
 -- the status of a fault is that of its verdict
 fault_status : (fault : ReportFault) → report_status fault ≡ verified_status (verdict_of fault)
@@ -197,7 +203,7 @@ verify_ends text faults after created status due is quiet within = absurd due
 verify_ends text faults after (ended said) status due is quiet within = absurd due
 verify_ends text faults after (served said at) status due is quiet within = absurd due
 verify_ends text faults after (shown c h) status due is quiet within = absurd due
-verify_ends text faults after (generated said) status due is quiet within = absurd due
+verify_ends text faults after (printed said) status due is quiet within = absurd due
 verify_ends text faults after (refused (refusals.Report fault)) status due is quiet within =
     verified_by text (verdict_of fault) status due.1.1.0 (is ∙ fault_status fault)
 verify_ends text faults after (refused refusals.BadWords) status due is quiet within = not_verified text faults after refusals.BadWords status due is quiet within
@@ -219,16 +225,16 @@ verify_done : (left : Option (List ℕ)) (faults : ℕ) (after : Input) (reply :
 verify_done None faults after reply status due is quiet = tt
 verify_done (Some text) faults after reply status due is quiet = verify_ends text faults after reply status due is quiet
 
--- a generation
-gen_done : (number count : ℕ) (reply : Reply) (status : Status) → IsGenDue number count reply → status ≡ status_of reply → IsGenComplete status
-gen_done number count (generated text) status due is = inl is
-gen_done number count (refused r) status due is = inr (inl (is ∙ ap refusal_status due))
-gen_done number count (checked ps vs) status due is = absurd due
-gen_done number count created status due is = absurd due
-gen_done number count (ended said) status due is = absurd due
-gen_done number count (served said at) status due is = absurd due
-gen_done number count (shown c h) status due is = absurd due
-gen_done number count accepted status due is = absurd due
+-- a text that is printed as it is
+text_done : (wanted : List ℕ) (reply : Reply) (status : Status) → IsTextDue wanted reply → status ≡ status_of reply → IsTextComplete status
+text_done wanted (printed text) status due is = inl is
+text_done wanted (refused r) status due is = inr (inl (is ∙ ap refusal_status due))
+text_done wanted (checked ps vs) status due is = absurd due
+text_done wanted created status due is = absurd due
+text_done wanted (ended said) status due is = absurd due
+text_done wanted (served said at) status due is = absurd due
+text_done wanted (shown c h) status due is = absurd due
+text_done wanted accepted status due is = absurd due
 
 -- each command
 done_by : {S K R : Type 0} (o : Option Command) (gates : AskedGates) (before after : World S K R) (status : Status) (reply : Reply) → IsDueTo o gates before.input after.input before.files after.files reply
@@ -243,8 +249,10 @@ done_by (Some Serve) gates before after status reply due is worked quiet = worke
 done_by (Some Restart) gates before after status reply due is worked quiet = worked quiet
 done_by (Some Show) gates before after status reply due is worked quiet = show_done before.files after.files reply status due.0 is (quiet.files refl)
 done_by (Some Verify) gates before after status reply due is worked quiet = verify_done before.input.left before.input.faults after.input reply status due.0 is (quiet.input refl)
-done_by (Some (Gen number count)) gates before after status reply due is worked quiet = gen_done number count reply status due.0 is
+done_by (Some (Gen number count)) gates before after status reply due is worked quiet = text_done (scenario number count) reply status due.0 is
 done_by (Some (Bulk number count)) gates before after status reply due is worked quiet = worked quiet
+done_by (Some (Help about)) gates before after status reply due is worked quiet = text_done (page_of about) reply status due.0 is
+done_by (Some Version) gates before after status reply due is worked quiet = text_done version_line reply status due.0 is
 
 -- at want of memory each does what may be wanted of it
 given_memory : (left : Option (List ℕ)) (P : List ℕ → Type 0) → ((text : List ℕ) → P text) → IfSome left P
@@ -263,6 +271,8 @@ wanting (Some Show) input files status is = λ c h good told log. inr (inl is)
 wanting (Some Verify) input files status is = given_memory input.left _ (λ text within. inr (inl is))
 wanting (Some (Gen number count)) input files status is = inr (inl is)
 wanting (Some (Bulk number count)) input files status is = λ c plans fits empty. inr (inr (inl is))
+wanting (Some (Help about)) input files status is = inr (inl is)
+wanting (Some Version) input files status is = inr (inl is)
 
 -- without a fault of the sink, the status is that of the reply, or memory was wanting
 status_told : (reply : Reply) (old new : Output) (status : Status) → IsReplyTold reply old new status → ¬ Rose old.faults new.faults → (status ≡ status_of reply) ⊎ (status ≡ NoMemory)
@@ -274,7 +284,7 @@ status_told (ended said) old new status told quiet = inl (told_well _ _ old new 
 status_told (served text at) old new status told quiet = inl (told_well _ _ old new status told quiet)
 status_told (shown c h) old new status told quiet = inl (told_well _ _ old new status told quiet)
 status_told accepted old new status told quiet = inl (told_well _ _ old new status told quiet)
-status_told (generated text) old new status told quiet = inl (told_well _ _ old new status told quiet)
+status_told (printed text) old new status told quiet = inl (told_well _ _ old new status told quiet)
 
 pub done_or_wanting : {S K R : Type 0} (o : Option Command) (gates : AskedGates) (before after : World S K R) (status : Status) (reply : Reply) → IsDueTo o gates before.input after.input before.files after.files reply
     → IsReplyTold reply before.output after.output status → Worked o before after status → IsQuiet o before after → DoesItsWork o before.input before.files status

@@ -4,7 +4,7 @@ use Rattle.process_journal.specs.declared.errors.JournalError.TheVariants as jou
 use Rattle.history_opening.specs.declared.faults.OpenError.TheVariants as opening
 use Rattle.commute_table.specs.declared.errors.ScenarioError.TheVariants as scenarios
 use Rattle.program_words.specs.declared.reading.Command.{Command}
-use Rattle.program_words.specs.declared.reading.Command.TheVariants.{Check, Init, Run, Session, Serve, Restart, Show, Verify, Gen, Bulk}
+use Rattle.program_words.specs.declared.reading.Command.TheVariants.{Check, Init, Run, Session, Serve, Restart, Show, Verify, Gen, Bulk, Help, Version}
 use Rattle.command_refusals.specs.declared.refusal.Refusal.TheVariants.{NoMemory}
 use Rattle.command_input.specs.FilesLeft.{AreUntouched}
 use Rattle.worker_gate.specs.ManyGates.{AskedGates}
@@ -25,3 +25,5 @@ no_words_due (Some Show) gates before after files files_after unasked untouched 
 no_words_due (Some Verify) gates before after files files_after unasked untouched = (tt, untouched)
 no_words_due (Some (Gen number count)) gates before after files files_after unasked untouched = (refl, untouched)
 no_words_due (Some (Bulk number count)) gates before after files files_after unasked untouched = inl (inl ((scenarios.NoMemory, refl, tt), untouched))
+no_words_due (Some (Help about)) gates before after files files_after unasked untouched = (refl, untouched)
+no_words_due (Some Version) gates before after files files_after unasked untouched = (refl, untouched)

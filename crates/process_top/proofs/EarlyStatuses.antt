@@ -6,7 +6,7 @@ use Rattle.process_journal.specs.declared.errors.JournalError.{JournalError}
 use Rattle.process_journal.specs.declared.errors.JournalError.TheVariants as journal
 use Rattle.program_words.specs.Commands.{asked}
 use Rattle.program_words.specs.declared.reading.Command.{Command}
-use Rattle.program_words.specs.declared.reading.Command.TheVariants.{Check, Init, Run, Session, Serve, Restart, Show, Verify, Gen, Bulk}
+use Rattle.program_words.specs.declared.reading.Command.TheVariants.{Check, Init, Run, Session, Serve, Restart, Show, Verify, Gen, Bulk, Help, Version}
 use Rattle.command_refusals.specs.Statuses.{number_of}
 use Rattle.command_refusals.specs.declared.status.Status.{Status}
 use Rattle.command_refusals.specs.declared.status.Status.TheVariants as statuses
@@ -47,7 +47,7 @@ use Rattle.serve_run.specs.Dialogue.{EndsWith, number_behind}
 use Rattle.serve_run.specs.Serve.{IsNotServed, IsServeTold, IsSpoken}
 use Rattle.schedule_model.specs.declared.history.History.{History}
 use Rattle.process_top.specs.Run.{first_gate, first_gates, gates_asked}
-use Rattle.process_top.specs.Replies.{Reply, checked, created, ended, served, shown, accepted, generated, refused, status_of, IsReplyTold}
+use Rattle.process_top.specs.Replies.{Reply, checked, created, ended, served, shown, accepted, printed, refused, status_of, IsReplyTold}
 use Rattle.process_top.specs.Told.{IsTold}
 use Rattle.process_top.specs.Commands.{is_early, is_verdict, IsDueTo, Answers, needs}
 use Rattle.process_top.proofs.StatusNumbers.{same_status}
@@ -269,6 +269,8 @@ module _ {S K R : Type 0} (before after : World S K R) where
   by_command (Some Check) gates reply due untouched early is = untouched refl
   by_command (Some Verify) gates reply due untouched early is = untouched refl
   by_command (Some (Gen number count)) gates reply due untouched early is = untouched refl
+  by_command (Some (Help about)) gates reply due untouched early is = untouched refl
+  by_command (Some Version) gates reply due untouched early is = untouched refl
   by_command (Some Init) gates created due untouched early is = absurd (cc)
   by_command (Some Init) gates (refused r) due untouched early is = early (early_init r before.input after.input before.files after.files due is)
   by_command (Some Init) gates (checked ps vs) due untouched early is = absurd due
@@ -276,7 +278,7 @@ module _ {S K R : Type 0} (before after : World S K R) where
   by_command (Some Init) gates (served text at) due untouched early is = absurd due
   by_command (Some Init) gates (shown c h) due untouched early is = absurd due
   by_command (Some Init) gates accepted due untouched early is = absurd due
-  by_command (Some Init) gates (generated text) due untouched early is = absurd due
+  by_command (Some Init) gates (printed text) due untouched early is = absurd due
   by_command (Some (Run workers)) gates (ended said) due untouched early is = early (always_said (first_gates workers gates) before.input after.input before.files after.files said due is)
   by_command (Some (Run workers)) gates (refused r) due untouched early is = early (always_refusal r is)
   by_command (Some (Run workers)) gates (checked ps vs) due untouched early is = absurd due
@@ -284,7 +286,7 @@ module _ {S K R : Type 0} (before after : World S K R) where
   by_command (Some (Run workers)) gates (served text at) due untouched early is = absurd due
   by_command (Some (Run workers)) gates (shown c h) due untouched early is = absurd due
   by_command (Some (Run workers)) gates accepted due untouched early is = absurd due
-  by_command (Some (Run workers)) gates (generated text) due untouched early is = absurd due
+  by_command (Some (Run workers)) gates (printed text) due untouched early is = absurd due
   by_command (Some Session) gates (ended said) due untouched early is = early (session_said before.input after.input before.files after.files said due is)
   by_command (Some Session) gates (refused r) due untouched early is = early (always_refusal r is)
   by_command (Some Session) gates (checked ps vs) due untouched early is = absurd due
@@ -292,7 +294,7 @@ module _ {S K R : Type 0} (before after : World S K R) where
   by_command (Some Session) gates (served text at) due untouched early is = absurd due
   by_command (Some Session) gates (shown c h) due untouched early is = absurd due
   by_command (Some Session) gates accepted due untouched early is = absurd due
-  by_command (Some Session) gates (generated text) due untouched early is = absurd due
+  by_command (Some Session) gates (printed text) due untouched early is = absurd due
   by_command (Some Serve) gates (served text at) due untouched early is = absurd (late_serve before.input after.input before.files after.files text at due is)
   by_command (Some Serve) gates (ended said) due untouched early is = early (serve_said before.input after.input before.files after.files said due is)
   by_command (Some Serve) gates (refused r) due untouched early is = early (always_refusal r (dialogue_always (refusal_status r) is))
@@ -300,7 +302,7 @@ module _ {S K R : Type 0} (before after : World S K R) where
   by_command (Some Serve) gates created due untouched early is = absurd due
   by_command (Some Serve) gates (shown c h) due untouched early is = absurd due
   by_command (Some Serve) gates accepted due untouched early is = absurd due
-  by_command (Some Serve) gates (generated text) due untouched early is = absurd due
+  by_command (Some Serve) gates (printed text) due untouched early is = absurd due
   by_command (Some Restart) gates (ended said) due untouched early is = absurd (late_restart_said (first_gate gates) before.files after.files said due is)
   by_command (Some Restart) gates (refused r) due untouched early is = absurd (late_restart (first_gate gates) before.files after.files r due is)
   by_command (Some Restart) gates (checked ps vs) due untouched early is = absurd due
@@ -308,7 +310,7 @@ module _ {S K R : Type 0} (before after : World S K R) where
   by_command (Some Restart) gates (served text at) due untouched early is = absurd due
   by_command (Some Restart) gates (shown c h) due untouched early is = absurd due
   by_command (Some Restart) gates accepted due untouched early is = absurd due
-  by_command (Some Restart) gates (generated text) due untouched early is = absurd due
+  by_command (Some Restart) gates (printed text) due untouched early is = absurd due
   by_command (Some (Bulk number count)) gates (ended said) due untouched early is = early (bulk_said (first_gate gates) (scenario number count) before.files after.files said due is)
   by_command (Some (Bulk number count)) gates (refused r) due untouched early is = early (always_refusal r is)
   by_command (Some (Bulk number count)) gates (checked ps vs) due untouched early is = absurd due
@@ -316,7 +318,7 @@ module _ {S K R : Type 0} (before after : World S K R) where
   by_command (Some (Bulk number count)) gates (served text at) due untouched early is = absurd due
   by_command (Some (Bulk number count)) gates (shown c h) due untouched early is = absurd due
   by_command (Some (Bulk number count)) gates accepted due untouched early is = absurd due
-  by_command (Some (Bulk number count)) gates (generated text) due untouched early is = absurd due
+  by_command (Some (Bulk number count)) gates (printed text) due untouched early is = absurd due
   by_command (Some Show) gates (served text at) due untouched early is = absurd due.0
   by_command (Some Show) gates (shown c h) due untouched early is = absurd (cc)
   by_command (Some Show) gates (refused r) due untouched early is =
@@ -325,7 +327,7 @@ module _ {S K R : Type 0} (before after : World S K R) where
   by_command (Some Show) gates created due untouched early is = absurd due.0
   by_command (Some Show) gates (ended said) due untouched early is = absurd due.0
   by_command (Some Show) gates accepted due untouched early is = absurd due.0
-  by_command (Some Show) gates (generated text) due untouched early is = absurd due.0
+  by_command (Some Show) gates (printed text) due untouched early is = absurd due.0
 
   -- neither a write fault nor want of memory is such a status
   late_for : (o : Option Command) → (is_early_for o statuses.WriteFault ≡ false) × (is_early_for o statuses.NoMemory ≡ false)
@@ -340,6 +342,8 @@ module _ {S K R : Type 0} (before after : World S K R) where
   late_for (Some Verify) = (refl, refl)
   late_for (Some (Gen number count)) = (refl, refl)
   late_for (Some (Bulk number count)) = (refl, refl)
+  late_for (Some (Help about)) = (refl, refl)
+  late_for (Some Version) = (refl, refl)
 
   by_told : (o : Option Command) (s status : Status) (text : List ℕ) (old new : Output) (at : Status) → IsTold status text old new at → at ≡ s → is_early_for o s ≡ true → is_early_for o status ≡ true
   by_told o s status text old new at (inl well) same is = ap (is_early_for o) (sym well.0 ∙ same) ∙ is
@@ -356,7 +360,7 @@ module _ {S K R : Type 0} (before after : World S K R) where
   by_reply o s (served text at') old new at told same is = by_told o s _ _ old new at told same is
   by_reply o s (shown c h) old new at told same is = by_told o s _ _ old new at told same is
   by_reply o s accepted old new at told same is = by_told o s _ _ old new at told same is
-  by_reply o s (generated text) old new at told same is = by_told o s _ _ old new at told same is
+  by_reply o s (printed text) old new at told same is = by_told o s _ _ old new at told same is
 
   pub early_status_leaves : (words : List (List ℕ)) (number : ℕ) (s : Status) → Answers words before after number → is_early_for (asked words) s ≡ true → number ≡ number_of s → after.rack ≡ before.rack
   early_status_leaves words number s answers is numbered =

@@ -2,7 +2,7 @@
 use Rattle.std.proofs.Common.{◌≡◌, ◌≤◌, ℕ, Option, Some, None, Err, refl, subst, sym, inl, arith}
 use Rattle.program_words.specs.Asked.{Answers as IsReadAs}
 use Rattle.program_words.specs.declared.reading.Command.{Command}
-use Rattle.program_words.specs.declared.reading.Command.TheVariants.{Check, Init, Run, Session, Serve, Restart, Show, Verify, Gen, Bulk}
+use Rattle.program_words.specs.declared.reading.Command.TheVariants.{Check, Init, Run, Session, Serve, Restart, Show, Verify, Gen, Bulk, Help, Version}
 use Rattle.program_words.specs.declared.refusals.WordsError.{WordsError}
 use Rattle.program_words.specs.declared.refusals.WordsError.TheVariants.{BadWords, NoMemory}
 use Rattle.command_refusals.specs.Statuses.{number_of}
@@ -44,6 +44,8 @@ wanting_worked (Some Show) before after files files_after out out_after = tt
 wanting_worked (Some Verify) before after files files_after out out_after = tt
 wanting_worked (Some (Gen number count)) before after files files_after out out_after = tt
 wanting_worked (Some (Bulk number count)) before after files files_after out out_after = λ c plans fits empty quiet. refl
+wanting_worked (Some (Help about)) before after files files_after out out_after = tt
+wanting_worked (Some Version) before after files files_after out out_after = tt
 
 worked_of : (o : Option Command) (before after : Input) (files files_after : Files) (out out_after : Output) (why : WordsError) → (why ≡ BadWords → o ≡ None)
     → HasWorked o before after files files_after out out_after (endings.Due (Err (words_refusal why)))

@@ -4,7 +4,7 @@ use Rattle.std.specs.Str.{bytes_eq}
 use Rattle.program_words.specs.Commands.{asked}
 use Rattle.program_words.specs.declared.reading.Command.{Command}
 use Rattle.program_words.specs.declared.reading.Command.TheVariants.{Check, Init, Run, Session, Serve, Restart, Show, Verify, Gen}
-use Rattle.program_words.specs.declared.reading.Command.TheVariants.{Bulk}
+use Rattle.program_words.specs.declared.reading.Command.TheVariants.{Bulk, Help, Version}
 use Rattle.program_words.specs.declared.refusals.WordsError.{WordsError}
 use Rattle.program_words.specs.declared.refusals.WordsError.TheVariants as errors
 use Rattle.process_flow.specs.Causes.{Rose}
@@ -32,6 +32,7 @@ use Rattle.process_top.specs.Show.{IsShowDue, IsShowComplete}
 use Rattle.process_top.specs.Verify.{IsVerifyDue, IsVerifyComplete}
 use Rattle.process_top.specs.Gen.{IsGenDue, IsGenComplete}
 use Rattle.process_top.specs.Bulk.{IsBulkDue, IsBulkComplete}
+use Rattle.process_top.specs.Help.{IsHelpDue, IsVersionDue, IsHelpComplete}
 
 -- what may be due to a command, which may ask the first gate, and `run` the first of them; to words that ask for none, that they
 -- are bad, or that memory was wanting for them
@@ -51,6 +52,8 @@ IsDueTo (Some (Gen number count)) gates before after files files_after reply =
     IsGenDue number count reply × AreUntouched files files_after
 IsDueTo (Some (Bulk number count)) gates before after files files_after reply =
     IsBulkDue (first_gate gates) number count files files_after reply
+IsDueTo (Some (Help about)) gates before after files files_after reply = IsHelpDue about reply × AreUntouched files files_after
+IsDueTo (Some Version) gates before after files files_after reply = IsVersionDue reply × AreUntouched files files_after
 
 -- what a command does where nothing fails
 abbrev pub DoesItsWork : Option Command → Input → Files → Status → Type 0
@@ -65,6 +68,8 @@ DoesItsWork (Some Show) input files status = IsShowComplete files.disk status
 DoesItsWork (Some Verify) input files status = IsVerifyComplete input status
 DoesItsWork (Some (Gen number count)) input files status = IsGenComplete status
 DoesItsWork (Some (Bulk number count)) input files status = IsBulkComplete number count files status
+DoesItsWork (Some (Help about)) input files status = IsHelpComplete status
+DoesItsWork (Some Version) input files status = IsHelpComplete status
 
 -- What a command needs: whether it reads the input, calls the rack, uses the boxes and asks a gate; how many of the gates it may
 -- ask; and the workers that it waits for.
@@ -89,6 +94,8 @@ needs (Some Show) = record { input = false; files = true; boxes = false; gate = 
 needs (Some Verify) = record { input = true; files = false; boxes = false; gate = false; gates = 1; workers = None }
 needs (Some (Gen number count)) = record { input = false; files = false; boxes = false; gate = false; gates = 1; workers = None }
 needs (Some (Bulk number count)) = record { input = false; files = true; boxes = true; gate = true; gates = 1; workers = None }
+needs (Some (Help about)) = record { input = false; files = false; boxes = false; gate = false; gates = 1; workers = None }
+needs (Some Version) = record { input = false; files = false; boxes = false; gate = false; gates = 1; workers = None }
 
 -- no call failed of the source, the rack and the sink, as far as the command uses them
 pub record IsQuiet {S K R : Type 0} (asked : Option Command) (before after : World S K R) : Type 0 where

@@ -9,7 +9,9 @@ pub mod Serve
 pub mod Restart
 pub mod Show
 pub mod Verify
+pub mod Printed
 pub mod Gen
+pub mod Help
 pub mod Bulk
 pub mod Commands
 pub mod Said

@@ -26,8 +26,8 @@ pub data Reply : Type 0 where
   shown : Catalog → History → Reply
   -- the report is accepted
   accepted : Reply
-  -- a scenario was generated, of this text
-  generated : List ℕ → Reply
+  -- a text was to be printed as it is: a generated scenario, a page of help, or the version
+  printed : List ℕ → Reply
   -- the command did not do what it is for
   refused : Refusal → Reply
 
@@ -42,7 +42,7 @@ status_of (ended said) = said.status
 status_of (served text status) = status
 status_of (shown c h) = Done
 status_of accepted = Done
-status_of (generated text) = Done
+status_of (printed text) = Done
 status_of (refused r) = refusal_status r
 
 abbrev pub text_of : Reply → List ℕ
@@ -52,7 +52,7 @@ text_of (ended said) = said.text.items
 text_of (served text status) = text
 text_of (shown c h) = report_text c h []
 text_of accepted = codes "accepted\n"
-text_of (generated text) = text
+text_of (printed text) = text
 text_of (refused r) = refusal_line r
 
 -- a reply was told: its text went out, at its status; or it is a refusal whose line needs memory, and it was told that there is

@@ -17,13 +17,13 @@ ghost use Rattle.process_top.specs.Commands.{at_once, first_is_show, needs};
 ghost use Rattle.process_top.specs.Commands.{Answers, AnswersAtOnce, AnswersTo, AreOthersAsBefore, IsDueTo, words_refusal};
 
 use crate::check::check;
-use crate::generating::scenario;
+use crate::generating::{help, scenario, version};
 use crate::running::run_by_first;
 use crate::show::show;
 use crate::told::tell_ending;
 use crate::verify::verify;
 use bulk_run::bulk;
-use command_input::CommandEnd;
+use command_input::{CommandEnd, Said};
 use command_refusals::{Refusal, Status};
 use init_run::init;
 use process_disk::Rack;
@@ -55,6 +55,16 @@ pub struct Finished<R, G, B = Box<dyn Resource + Send>> {
     pub rack: R,
     pub resources: Vec<B>,
     pub gates: Vec<G>,
+}
+
+// What was found is still to be told.
+fn untold<P: Drop>(parts: P, found: Result<Said, Refusal>) -> Served<P>
+    ensures { result ≡ record { parts = parts; ending = Ending.Due found } }
+{
+    Served {
+        parts,
+        ending: Ending::Due(found),
+    }
 }
 
 // What a command has to say is still to be told.
@@ -103,37 +113,24 @@ fn done<S: Source, K: Sink, R: Rack + Drop, B: Resource, G: Gate>(
         → HaveValuesOf (λ b. (B.meaning b).items) (R.disk result.parts.rack).files result.parts.resources.items)) result.ending }
 {
     match command {
-        Command::Check => Served {
-            parts,
-            ending: Ending::Due(check(alloc, source)),
-        },
+        Command::Check => untold(parts, check(alloc, source)),
         Command::Init => unsaid(init(alloc, source, parts)),
-        Command::Run { .. } => Served {
-            parts,
-            ending: Ending::Due(Err(Refusal::BadWords)),
-        },
+        Command::Run { .. } => untold(parts, Err(Refusal::BadWords)),
         Command::Session => unsaid(session(alloc, source, parts)),
         Command::Serve => serve(alloc, source, sink, parts),
         Command::Restart => unsaid(restart(alloc, parts, &mut gates[0])),
         Command::Show => {
             let mut parts = parts;
             let found = show(alloc, &mut parts.rack);
-            Served {
-                parts,
-                ending: Ending::Due(found),
-            }
+            untold(parts, found)
         }
-        Command::Verify => Served {
-            parts,
-            ending: Ending::Due(verify(alloc, source)),
-        },
-        Command::Gen { number, count } => Served {
-            parts,
-            ending: Ending::Due(scenario(alloc, number, count)),
-        },
+        Command::Verify => untold(parts, verify(alloc, source)),
+        Command::Gen { number, count } => untold(parts, scenario(alloc, number, count)),
         Command::Bulk { number, count } => {
             unsaid(bulk(alloc, number, count, parts, &mut gates[0]))
         }
+        Command::Help { about } => untold(parts, help(alloc, about)),
+        Command::Version => untold(parts, version(alloc)),
     }
 }
 

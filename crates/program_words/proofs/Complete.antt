@@ -1,6 +1,6 @@
 -- What is written as it should be is taken.
 use Rattle.std.proofs.Common.{◌≡◌, ◌∙◌, ◌≤◌, ℕ, false, List, [], ◌∷◌, drop, take, ◌-◌, refl, map, slice_index_or, ap, ap₂, sym, subst, inl, inr, ◌⊎◌, arith, ◌==◌, length}
-use Rattle.std.specs.Prelude.{Option, Some, None, Result, Ok, Err, option_and_then, option_map, unwrap_or, codes, decimal, ⊤}
+use Rattle.std.specs.Prelude.{Option, Some, None, Result, Ok, Err, option_map, unwrap_or, codes, decimal, ⊤}
 use Rattle.std.specs.Option.{option_map_or}
 use Rattle.std.specs.Str.Parse.{digits_value, without_leading_plus}
 use Rattle.std.proofs.lemmas.List.{take_all}
@@ -9,9 +9,10 @@ use Rattle.clap.specs.Simple.{matches_of}
 use Rattle.clap.specs.Faults.{fault_of}
 use Rattle.program_words.specs.Apps.{numbers_app, plain_app, workers_app}
 use Rattle.program_words.specs.Asked.{Answers, number_of, numbers_asked, workers_asked}
-use Rattle.program_words.specs.Commands.{asked, asked_after, plain_asked}
-use Rattle.program_words.specs.Names.{named}
-use Rattle.program_words.specs.declared.names.Name.{Name}
+use Rattle.program_words.specs.Commands.{asked, asked_by, plain_asked}
+use Rattle.program_words.specs.Names.{named, name_text}
+use Rattle.program_words.specs.declared.names.CommandName.{CommandName}
+use Rattle.program_words.specs.declared.names.CommandName.TheVariants as name
 use Rattle.program_words.specs.Forms.{IsCommandForm, IsNumbersForm, IsWorkersForm}
 use Rattle.program_words.specs.declared.reading.Command.{Command}
 use Rattle.program_words.specs.declared.reading.Command.TheVariants as command
@@ -77,6 +78,21 @@ numbers_form_asked name n k words h =
 plain_written : (name : Text) (c : Command) → plain_asked name c [] ≡ Some c
 plain_written name c = ap (option_map (λ (_ : ⊤). c)) (taken_by (fault_of (plain_app name) []) tt (nothing_passes name))
 
+-- the name of a command, as it is written, names it
+names_itself : (n : CommandName) → named (name_text n) ≡ Some n
+names_itself name.Check = refl
+names_itself name.Init = refl
+names_itself name.Run = refl
+names_itself name.Session = refl
+names_itself name.Serve = refl
+names_itself name.Restart = refl
+names_itself name.Show = refl
+names_itself name.Verify = refl
+names_itself name.Gen = refl
+names_itself name.Bulk = refl
+names_itself name.Help = refl
+names_itself name.Version = refl
+
 -- a command as it is written asks for itself
 pub form_asked : (c : Command) (words : List Text) → IsCommandForm c words → asked words ≡ Some c
 form_asked command.Check words is = ap asked is ∙ plain_written (codes "check") command.Check
@@ -92,6 +108,12 @@ form_asked (command.Gen number count) words (rest, is, form) =
     ap asked is ∙ ap (option_map (λ ((n, k) : ℕ × ℕ). command.Gen n k)) (numbers_form_asked (codes "gen") number count rest form)
 form_asked (command.Bulk number count) words (rest, is, form) =
     ap asked is ∙ ap (option_map (λ ((n, k) : ℕ × ℕ). command.Bulk n k)) (numbers_form_asked (codes "bulk") number count rest form)
+form_asked (command.Help None) words (inl is) = ap asked is
+form_asked (command.Help None) words (inr (inl is)) = ap asked is
+form_asked (command.Help None) words (inr (inr is)) = ap asked is
+form_asked (command.Help (Some about)) words is = ap asked is ∙ ap (option_map (λ (n : CommandName). command.Help (Some n))) (names_itself about)
+form_asked command.Version words (inl is) = ap asked is ∙ plain_written (codes "version") command.Version
+form_asked command.Version words (inr is) = ap asked is
 
 -- an answer to words that ask for something is that, or memory is wanting
 pub answered : {X : Type 0} (x : X) (o : Option X) (r : Result X WordsError) → Answers o r → o ≡ Some x
@@ -104,11 +126,12 @@ answered x o (Err BadWords) a e =
     cc
 answered x o (Err NoMemory) a e = inr refl
 
--- what words ask for, by the first word's name
-pub asked_named : {X : Type 0} (text : X → Text) (xs : List X) (x : X) (n : Name) → 1 ≤ length xs → x ≡ slice_index_or xs 0 x → named (text x) ≡ Some n
-    → asked (map text xs) ≡ asked_after n (map text (take (length xs - 1) (drop 1 xs)))
-asked_named text [] x n some first is = absurd (omega arith)
-asked_named text (y ∷ ys) x n some first is =
+-- what words ask for, by what the first names
+pub asked_named : {X : Type 0} (text : X → Text) (xs : List X) (x : X) (o : Option CommandName) → 1 ≤ length xs → x ≡ slice_index_or xs 0 x → named (text x) ≡ o
+    → asked (map text xs) ≡ asked_by o (text x) (map text (take (length xs - 1) (drop 1 xs)))
+asked_named text [] x o some first is = absurd (omega arith)
+asked_named text (y ∷ ys) x o some first is =
     let all : take (length (y ∷ ys) - 1) ys ≡ ys = take_all (length (y ∷ ys) - 1) ys (omega arith) in
-    ap (option_and_then (λ (name : Name). asked_after name (map text ys))) (ap (λ z. named (text z)) (sym first) ∙ is)
-    ∙ ap (λ zs. asked_after n (map text zs)) (sym all)
+    ap (λ z. asked_by (named (text z)) (text z) (map text ys)) (sym first)
+    ∙ ap (λ p. asked_by p (text x) (map text ys)) is
+    ∙ ap (λ zs. asked_by o (text x) (map text zs)) (sym all)

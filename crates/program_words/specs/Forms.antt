@@ -1,6 +1,7 @@
 -- How commands and their arguments are written.
-use Rattle.std.specs.Prelude.{◌≡◌, ◌⊎◌, ◌≤◌, ℕ, List, [], ◌∷◌, codes, decimal, ⊤}
+use Rattle.std.specs.Prelude.{◌≡◌, ◌⊎◌, ◌≤◌, ℕ, List, [], ◌∷◌, Some, None, codes, decimal, ⊤}
 use Rattle.clap.specs.Walk.{Text}
+use Rattle.program_words.specs.Names.{name_text}
 use Rattle.program_words.specs.declared.reading.Command.{Command}
 use Rattle.program_words.specs.declared.reading.Command.TheVariants as command
 
@@ -32,6 +33,9 @@ IsCommandForm command.Verify words = IsNamed (codes "verify") words
 IsCommandForm (command.Gen number count) words = (rest : List Text) × (words ≡ codes "gen" ∷ rest) × IsNumbersForm number count rest
 IsCommandForm (command.Bulk number count) words =
     (rest : List Text) × (words ≡ codes "bulk" ∷ rest) × IsNumbersForm number count rest
+IsCommandForm (command.Help None) words = IsNamed (codes "help") words ⊎ IsNamed (codes "--help") words ⊎ IsNamed (codes "-h") words
+IsCommandForm (command.Help (Some about)) words = words ≡ codes "help" ∷ name_text about ∷ []
+IsCommandForm command.Version words = IsNamed (codes "version") words ⊎ IsNamed (codes "--version") words
 
 -- COUNT is from 1 to 256, and there are 1 to 16 workers
 abbrev pub IsInRange : Command → Type 0

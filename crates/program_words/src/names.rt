@@ -2,9 +2,9 @@
 ghost use Rattle.std.specs.Prelude.{◌≡◌};
 ghost use Rattle.program_words.specs.Names.{named};
 
-/// Which command a first word names.
+/// The name of a command.
 #[derive(Clone, Copy, Debug, PartialEq, Eq, Drop)]
-pub(crate) enum Name {
+pub enum CommandName {
     Check,
     Init,
     Run,
@@ -15,23 +15,27 @@ pub(crate) enum Name {
     Verify,
     Gen,
     Bulk,
+    Help,
+    Version,
 }
 
 /// The command that the word names, if it names one.
-pub(crate) fn name_of(word: &str) -> Option<Name>
+pub(crate) fn name_of(word: &str) -> Option<CommandName>
     ensures { result ≡ named word.now }
 {
     match word {
-        "check" => Some(Name::Check),
-        "init" => Some(Name::Init),
-        "run" => Some(Name::Run),
-        "session" => Some(Name::Session),
-        "serve" => Some(Name::Serve),
-        "restart" => Some(Name::Restart),
-        "show" => Some(Name::Show),
-        "verify" => Some(Name::Verify),
-        "gen" => Some(Name::Gen),
-        "bulk" => Some(Name::Bulk),
+        "check" => Some(CommandName::Check),
+        "init" => Some(CommandName::Init),
+        "run" => Some(CommandName::Run),
+        "session" => Some(CommandName::Session),
+        "serve" => Some(CommandName::Serve),
+        "restart" => Some(CommandName::Restart),
+        "show" => Some(CommandName::Show),
+        "verify" => Some(CommandName::Verify),
+        "gen" => Some(CommandName::Gen),
+        "bulk" => Some(CommandName::Bulk),
+        "help" => Some(CommandName::Help),
+        "version" => Some(CommandName::Version),
         _ => None,
     }
 }

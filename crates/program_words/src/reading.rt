@@ -5,7 +5,8 @@ ghost use Rattle.program_words.specs.Commands.{asked, asked_after};
 ghost use Rattle.program_words.specs.Forms.{IsCommandForm, IsInRange};
 
 use crate::arguments::read_no_argument;
-use crate::names::{Name, name_of};
+use crate::help::{read_help, read_option};
+use crate::names::{CommandName, name_of};
 use crate::numbers::read_number_and_count;
 use crate::refusals::WordsError;
 use crate::workers::read_workers;
@@ -24,6 +25,9 @@ pub enum Command {
     Verify,
     Gen { number: u64, count: u32 },
     Bulk { number: u64, count: u32 },
+    /// Of a command, or of all.
+    Help { about: Option<CommandName> },
+    Version,
 }
 
 /// Reads the words after the program's name.
@@ -40,55 +44,60 @@ pub fn read_words(alloc: Global, words: &[String]) -> Result<Command, WordsError
     };
     match name_of(first.as_str()) {
         Some(name) => read_after(alloc, name, rest),
-        None => Err(WordsError::BadWords),
+        None => read_option(first.as_str(), rest),
     }
 }
 
 // Reads the words after the name of a command.
-fn read_after(alloc: Global, name: Name, rest: &[String]) -> Result<Command, WordsError>
+fn read_after(alloc: Global, name: CommandName, rest: &[String]) -> Result<Command, WordsError>
     ensures asked { Answers (asked_after name (map string_bytes rest.now)) result }
     ensures range { IfOk result IsInRange }
 {
     match name {
-        Name::Check => {
+        CommandName::Check => {
             read_no_argument(alloc, "check", rest)?;
             Ok(Command::Check)
         }
-        Name::Init => {
+        CommandName::Init => {
             read_no_argument(alloc, "init", rest)?;
             Ok(Command::Init)
         }
-        Name::Run => {
+        CommandName::Run => {
             let workers = read_workers(alloc, "run", rest)?;
             Ok(Command::Run { workers })
         }
-        Name::Session => {
+        CommandName::Session => {
             read_no_argument(alloc, "session", rest)?;
             Ok(Command::Session)
         }
-        Name::Serve => {
+        CommandName::Serve => {
             read_no_argument(alloc, "serve", rest)?;
             Ok(Command::Serve)
         }
-        Name::Restart => {
+        CommandName::Restart => {
             read_no_argument(alloc, "restart", rest)?;
             Ok(Command::Restart)
         }
-        Name::Show => {
+        CommandName::Show => {
             read_no_argument(alloc, "show", rest)?;
             Ok(Command::Show)
         }
-        Name::Verify => {
+        CommandName::Verify => {
             read_no_argument(alloc, "verify", rest)?;
             Ok(Command::Verify)
         }
-        Name::Gen => {
+        CommandName::Gen => {
             let (number, count) = read_number_and_count(alloc, "gen", rest)?;
             Ok(Command::Gen { number, count })
         }
-        Name::Bulk => {
+        CommandName::Bulk => {
             let (number, count) = read_number_and_count(alloc, "bulk", rest)?;
             Ok(Command::Bulk { number, count })
+        }
+        CommandName::Help => read_help(rest),
+        CommandName::Version => {
+            read_no_argument(alloc, "version", rest)?;
+            Ok(Command::Version)
         }
     }
 }

@@ -1,4 +1,4 @@
-use Rattle.std.proofs.Common.{◌≡◌, ◌∙◌, slice_index_or, inl, refl, subst, sym, arith}
+use Rattle.std.proofs.Common.{◌≡◌, ◌∙◌, slice_index_or, refl, subst, sym, arith}
 use Rattle.std.proofs.lemmas.Result.{IfOk-weaker}
 use Rattle.process_disk.specs.Disk.{Told}
 use Rattle.command_refusals.specs.declared.status.Status.TheVariants.{Done}
@@ -11,24 +11,8 @@ use Rattle.process_top.specs.Bulk.{IsBulkDue}
 use Rattle.process_top.specs.Restart.{IsRestartDue}
 use Rattle.process_top.specs.Worlds.{output}
 use Rattle.process_top.proofs.GatesAsked.{first_asked}
-use Rattle.process_top.proofs.Saying.{bulk_says, init_says, restart_says, says_so, serve_says, session_says}
-use Rattle.init_run.proofs.FilesMade.{untouched}
+use Rattle.process_top.proofs.Saying.{bulk_says, init_says, restart_says, serve_says, session_says}
 use Rattle.process_top.proofs.door.done.Goals as goal
-
-pub returns-in-Check-clause-due : goal.returns-in-Check-clause-due
-returns-in-Check-clause-due g c =
-    rw c.in-Check.is
-    (says_so (λ reply due. (due, untouched (g.R.Rack.disk c.args.parts.rack) (g.met.R.Rack.honest c.args.parts.rack))) c.check.result c.check.ensures, refl)
-
-pub returns-in-Verify-clause-due : goal.returns-in-Verify-clause-due
-returns-in-Verify-clause-due g c =
-    rw c.in-Verify.is
-    (says_so (λ reply due. (due, untouched (g.R.Rack.disk c.args.parts.rack) (g.met.R.Rack.honest c.args.parts.rack))) c.verify.result c.verify.ensures, refl)
-
-pub returns-in-Gen-clause-due : goal.returns-in-Gen-clause-due
-returns-in-Gen-clause-due g c =
-    rw c.in-Gen.is
-    (says_so (λ reply due. (due, untouched (g.R.Rack.disk c.args.parts.rack) (g.met.R.Rack.honest c.args.parts.rack))) c.scenario.result c.scenario.ensures, refl)
 
 pub returns-in-Init-clause-due : goal.returns-in-Init-clause-due
 returns-in-Init-clause-due g c =
@@ -37,9 +21,6 @@ returns-in-Init-clause-due g c =
       init_says (input g.S.Source c.args.source.now) (input g.S.Source c.init.new.source) (files g.R.Rack c.args.parts.rack) (files g.R.Rack c.init.result.parts.rack) c.init.result.found c.init.ensures.due,
       refl,
     ))
-
-pub returns-in-Run-clause-due : goal.returns-in-Run-clause-due
-returns-in-Run-clause-due g c = rw c.in-Run.is ((inl refl, untouched (g.R.Rack.disk c.args.parts.rack) (g.met.R.Rack.honest c.args.parts.rack)), refl)
 
 pub returns-in-Session-clause-due : goal.returns-in-Session-clause-due
 returns-in-Session-clause-due g c =

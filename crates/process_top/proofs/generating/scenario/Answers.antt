@@ -1,6 +1,6 @@
 use Rattle.std.proofs.Common.{rules, refl}
-use Rattle.process_top.specs.Replies.{generated}
+use Rattle.process_top.specs.Replies.{printed}
 use Rattle.process_top.proofs.generating.scenario.Goals as goal
 
 pub returns : goal.returns
-returns c = (generated c.in_ok-text.text.items, refl, search rules, refl, refl)
+returns c = (printed c.in_ok-text.text.items, refl, search rules, refl, refl)

@@ -1,0 +1,6 @@
+use Rattle.std.proofs.Common.{rules, refl}
+use Rattle.process_top.specs.Replies.{printed}
+use Rattle.process_top.proofs.generating.version.Goals as goal
+
+pub returns : goal.returns
+returns c = (printed c.in_ok-text.text.items, refl, search rules, refl, refl)
