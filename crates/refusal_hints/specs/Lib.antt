@@ -1,0 +1,5 @@
+pub mod Places
+pub mod Words
+pub mod Pointing
+pub mod Remedies
+pub mod Hints

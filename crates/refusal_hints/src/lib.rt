@@ -1,0 +1,17 @@
+//! What a refusal means to a person: where in the input it comes from, and what to do.
+//!
+//! `hint` gives the line that stands on standard error beside a refusal. The line of the refusal itself is `command_refusals`', and
+//! programs read that one. `specs/Places` says what a place is, `specs/Pointing` which places a hint may name, and `specs/Hints` how
+//! it reads. The texts stand in `src/remedies.rt` alone.
+#![tactic(auto)]
+
+mod documents;
+mod hints;
+mod keys;
+mod places;
+mod remedies;
+mod words;
+
+pub use documents::InputForm;
+pub use hints::hint;
+pub use places::places_of_parts_are_places;
