@@ -65,11 +65,19 @@ fn committed<H: Abort, R: Rack, B: Resource>(
     let Ok(mut store) = Store::create(alloc, rack, 1, resource) else {
         panic!(rt; "no store");
     };
-    must(rt, store.make_room(effect.call.key));
-    let mut stores = must(rt, Vec::with_capacity(alloc, 1));
+    let Ok(()) = store.make_room(effect.call.key) else {
+        panic!(rt; "no memory");
+    };
+    let Ok(mut stores) = Vec::with_capacity(alloc, 1) else {
+        panic!(rt; "no memory");
+    };
     stores.push_reserved(store);
-    must(rt, prepare_each(&mut stores, rack, &[Some(effect)]));
-    must(rt, commit_each(&mut stores, rack));
+    let Ok(()) = prepare_each(&mut stores, rack, &[Some(effect)]) else {
+        panic!(rt; "not prepared");
+    };
+    let Ok(()) = commit_each(&mut stores, rack) else {
+        panic!(rt; "not committed");
+    };
     let Some(store) = stores.pop() else {
         panic!(rt; "no store");
     };
@@ -89,17 +97,17 @@ fn a_committed_effect_is_the_file_and_bars_a_take_of_more(rt: HostRuntime) {
     assert!(rt; is_file(&rt, alloc, &mut rack, whole_file()));
 }
 
-// A stop within a call of the `roll_back`, calls 2 and 3, and whether it leaves the effect in doubt: call 0 writes the file, and
-// `open` syncs it.
+// A stop within a call of the `roll_back`, calls 4 and 5, and whether it leaves the effect in doubt: call 0 writes the file, and
+// `open` makes three.
 const STOPS: [(u32, u32, u8, bool); 8] = [
-    (2, 0, 0x00, false),
-    (2, 0, 0x77, true),
-    (2, 1, 0x00, false),
-    (2, 1, 0x77, false),
-    (3, 0, 0x00, false),
-    (3, 0, 0x77, true),
-    (3, 1, 0x00, false),
-    (3, 1, 0x77, false),
+    (4, 0, 0x00, false),
+    (4, 0, 0x77, true),
+    (4, 1, 0x00, false),
+    (4, 1, 0x77, false),
+    (5, 0, 0x00, false),
+    (5, 0, 0x77, true),
+    (5, 1, 0x00, false),
+    (5, 1, 0x77, false),
 ];
 
 // A rack whose file 1 had adding committed, and taking prepared and taken back.
@@ -144,7 +152,7 @@ fn expect_stop<H: Abort>(rt: &H, alloc: Global, rack: &MemoryRack, stop: (u32, u
 fn a_stop_within_a_roll_back_leaves_the_effect_in_doubt_or_not(rt: HostRuntime) {
     let alloc = rt.alloc();
     let rack = rolled_back(&rt, alloc);
-    assert_eq!(rt; rack.calls(), 4);
+    assert_eq!(rt; rack.calls(), 6);
     for stop in &STOPS {
         expect_stop(&rt, alloc, &rack, *stop);
     }

@@ -1,0 +1,23 @@
+use Rattle.std.proofs.Common.{◌≡◌, ◌+◌, ◌++◌, ◌∷◌, [], List, length, Some, ◌∙◌, sym, ap, subst}
+use Rattle.std.specs.List.{slice_get}
+use Rattle.subsystem_store.specs.Opened.{Opened}
+use Rattle.store_group.proofs.InOrder.{of_became}
+use Rattle.store_tests.proofs.OneStore.{at_end, one_of}
+use Rattle.store_tests.proofs.effects.committed.Goals as goal
+
+pub commit_each-requires-clause-order : goal.commit_each-requires-clause-order
+commit_each-requires-clause-order g c =
+    of_became _ (λ q t. t.log.file ≡ q + 1) c.push_reserved.new.self.items c.prepare_each.new.stores.items c.in-Ok-prepare_each.ensures.ok
+    (λ q s t at by.
+    let alone = c.push_reserved.ensures.items ∙ ap (λ (xs : List (Opened g.row.B.Denot)). xs ++ c.make_room.new.self ∷ []) c.in-Ok-with_capacity.ensures.items in
+    let is = one_of c.make_room.new.self q s (subst (λ xs. slice_get xs q ≡ Some s) alone at) in
+    by.file ∙ (ap (λ (x : Opened g.row.B.Denot). x.log.file) is.1 ∙ (ap (λ l. l.file) c.make_room.ensures.same.0 ∙ (c.in-Ok.ensures.unused.0 ∙ sym (ap (λ n. n + 1) is.0)))))
+
+pub commit_each-requires-clause-stand : goal.commit_each-requires-clause-stand
+commit_each-requires-clause-stand g c told = c.in-Ok-prepare_each.ensures.acknowledged (sym c.prepare_each.ensures.rack.tells ∙ told)
+
+pub returns : goal.returns
+returns g c = record {
+  fits = c.commit_each.ensures.fits (length c.pop.new.self.items) c.in-Some.store
+      (subst (λ xs. slice_get xs (length c.pop.new.self.items) ≡ Some c.in-Some.store) (sym c.in-Some.ensures.items) (at_end c.pop.new.self.items c.in-Some.store));
+}
