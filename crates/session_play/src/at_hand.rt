@@ -2,8 +2,8 @@
 ghost use Rattle.std.specs.Prelude.{◌≡◌, IfOk};
 ghost use Rattle.session_play.specs.AtHand.{hand_of, none_at_hand};
 
-use process_engine::Queued;
 use process_core::Piece;
+use process_engine::Queued;
 use std::alloc::{AllocError, Global};
 
 /// The pieces that a line may still finish or queue, and those that are queued.

@@ -5,8 +5,8 @@ ghost use Rattle.session_play.specs.Pieces.{admitted_pieces, chosen_pieces, full
 ghost use Rattle.session_play.specs.declared.cut.Cut.TheVariants.{NoMemory};
 
 use crate::Cut;
-use process_engine::Queue;
 use process_core::{Admit, Next, Piece};
+use process_engine::Queue;
 
 /// The place of the piece of this number.
 pub fn place_of(pieces: &[Piece], number: u32) -> Option<usize>
