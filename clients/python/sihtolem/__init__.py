@@ -1,4 +1,5 @@
 """Runs processes over several transactional systems by `tps serve`. See clients/README.md."""
+from .dialogue import Block
 from .errors import (
     Closed,
     FilesFull,
@@ -21,23 +22,28 @@ from .errors import (
 from .outbox import Outbox
 from .participants import Participant, ProgramAlone, Work
 from .postgres import Postgres
-from .scheduler import Outcome, Scheduler
+from .scheduler import Observer, Outcome, Scheduler
 from .settling import Action, Answer, State, settle
 from .sqlite import Held, Sqlite
 from .statements import Statements
+from .worker import Fenced, Overtaken, Service, Worker
 
 __all__ = [
     "Action",
     "Answer",
+    "Block",
     "Closed",
+    "Fenced",
     "FilesFull",
     "FilesRefused",
     "FolderInUse",
     "Held",
     "NoParticipant",
     "NotReady",
+    "Observer",
     "Outbox",
     "Outcome",
+    "Overtaken",
     "Participant",
     "Postgres",
     "ProcessRefused",
@@ -48,6 +54,7 @@ __all__ = [
     "Scheduler",
     "ServeFailed",
     "SihtolemError",
+    "Service",
     "Sqlite",
     "State",
     "Statements",
@@ -57,5 +64,6 @@ __all__ = [
     "Work",
     "WorkAhead",
     "WorkLost",
+    "Worker",
     "settle",
 ]

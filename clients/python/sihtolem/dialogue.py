@@ -1,10 +1,17 @@
 """The dialogue with `tps serve`: a line goes out, and its answer comes back. docs/DRIVERS.md has the protocol."""
+import re
 import subprocess
+import time
+from collections.abc import Callable
 from dataclasses import dataclass
 
 from .errors import ProgramMissing
 
 FAULTS = ("disk fault", "no memory", "read fault")
+
+
+# Hears each line with its answer, and the seconds from the one to the other; of lines that go out in one write, since the write.
+Listener = Callable[[str, list[str], float], None]
 
 
 class Ended(Exception):
@@ -42,10 +49,28 @@ def read_piece(line: str) -> Piece | None:
     return Piece(int(words[1].rstrip(":")), words[2], int(process), step, operation, int(key), int(amount))
 
 
+@dataclass(frozen=True)
+class Block:
+    """What stands against the next piece of a process: a step of another process, by a rule of docs/ADMISSION.md."""
+
+    process: int
+    step: str
+    holder: int
+    held: str
+    rule: str
+
+
+def read_block(line: str) -> Block | None:
+    """The block of a line such as `blocked on 1.add by 2.take rule A3`; None if it is another line."""
+    found = re.fullmatch(r"(?:blocked|wait) on (\d+)\.(\w+) by (\d+)\.(\w+) rule (\w+)", line)
+    return Block(int(found[3]), found[4], int(found[1]), found[2], found[5]) if found else None
+
+
 class Dialogue:
     """One run of `tps serve`. `active` has the processes, with their names, that an earlier run left."""
 
-    def __init__(self, program: str, folder: str, scenario: str):
+    def __init__(self, program: str, folder: str, scenario: str, listener: Listener = lambda line, answer, seconds: None):
+        self._listener = listener
         try:
             # A signal for the driver's own group, such as that of Ctrl-C, isn't for the program.
             self._program = subprocess.Popen(
@@ -83,8 +108,11 @@ class Dialogue:
         answers = []
         for at in range(0, len(lines), 200):
             some = lines[at : at + 200]
+            began = time.monotonic()
             self._say("".join(f"{line}\n" for line in some))
-            answers += [self._read_answer() for _ in some]
+            for line in some:
+                answers.append(self._read_answer())
+                self._listener(line, answers[-1], time.monotonic() - began)
         return answers
 
     def _say(self, text: str) -> None:

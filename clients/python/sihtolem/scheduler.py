@@ -9,9 +9,9 @@ from collections import deque
 from collections.abc import Callable, Collection, Iterable, Iterator
 from concurrent.futures import Future, ThreadPoolExecutor, wait
 from dataclasses import dataclass, field
-from typing import Any
+from typing import Any, Protocol
 
-from .dialogue import Dialogue, Ended, Piece, read_piece
+from .dialogue import Block, Dialogue, Ended, Piece, read_block, read_piece
 from .errors import (
     Closed,
     FilesFull,
@@ -28,7 +28,7 @@ from .errors import (
 from .files import copy_files, make_files
 from .opening import Settling, carry_out
 from .participants import Participant, Work
-from .report import conflict, operations_of, read_report
+from .report import Report, conflict, operations_of, read_report
 from .settling import Action
 
 log = logging.getLogger("sihtolem")
@@ -87,6 +87,16 @@ class Message:
     speaks: bool = False
 
 
+class Observer(Protocol):
+    """Hears what the thread that speaks does, in its order. A call that takes long holds up the program; one that raises ends the scheduler."""
+
+    def opened(self, report: Report, active: dict[int, str]) -> None:
+        """The program was started, and what a stop left is settled. These processes are active, by number."""
+
+    def answered(self, line: str, answer: list[str], seconds: float) -> None:
+        """A line of docs/DRIVERS.md, its answer, and how long that took."""
+
+
 class Stuck(Exception):
     """Nothing is out, and nothing can go on: tries are used up."""
 
@@ -106,6 +116,7 @@ class Scheduler:
         program: str = "tps",
         mark: str | None = None,
         alone: Collection[str] = (),
+        observer: Observer | None = None,
         most_active: int = 64,
         workers: int = 16,
         patience: float = 60.0,
@@ -116,7 +127,7 @@ class Scheduler:
         self.mark = mark if mark is not None else os.path.basename(self._folder)
         self._participants = list(participants)
         self._of = {operation: participant for participant in self._participants for operation in participant.operations}
-        self._most_active, self._patience, self._alone = most_active, patience, alone
+        self._most_active, self._patience, self._alone, self._observer = most_active, patience, alone, observer
         self._first_pause, self._longest_pause = first_pause, longest_pause
         self._preparing = ThreadPoolExecutor(workers, thread_name_prefix="sihtolem-prepare")
         self._settling = ThreadPoolExecutor(workers, thread_name_prefix="sihtolem-settle")
@@ -124,6 +135,7 @@ class Scheduler:
         self._lock = threading.Lock()
         self._error: BaseException | None = None
         self._calls: "list[Future[Any]]" = []
+        self._askers: "list[Future[list[Block]]]" = []
         self._names: dict[str, Process] = {}
         self._waiting: deque[Process] = deque()
         self._closing, self._start_number, self._stuck = "", 0, 0
@@ -161,6 +173,12 @@ class Scheduler:
         begun to; a handler doesn't wait for it, since at a new start of the program the scheduler waits for its handlers."""
         return self._call(lambda: self._abort(name))
 
+    def waits(self) -> "Future[list[Block]]":
+        """Which processes wait, for whom, and by which rule: what stands against each active process that may not go on now."""
+        future: "Future[list[Block]]" = Future()
+        self._send(Message(lambda: self._askers.append(future)), future)
+        return future
+
     def backup(self, folder: str | os.PathLike[str]) -> None:
         """Copies the files, at a moment when no line is unanswered, into a fresh folder."""
         self._call(lambda: copy_files(self._folder, os.fspath(folder))).result()
@@ -197,11 +215,15 @@ class Scheduler:
             except Exception as error:
                 future.set_exception(error)
 
+        self._send(Message(doing, speaks=True), future)
+        return future
+
+    def _send(self, message: Message, future: "Future[Any]") -> None:
+        """The future has the error with which the scheduler ends, if it ends before."""
         with self._lock:
             self._raise_if_ended()
             self._calls = [it for it in self._calls if not it.done()] + [future]
-            self._inbox.put(Message(doing, speaks=True))
-        return future
+            self._inbox.put(message)
 
     def _raise_if_ended(self) -> None:
         if self._error is not None:
@@ -251,7 +273,8 @@ class Scheduler:
             answered = False
             try:
                 make_files(self._program, self._folder, self._scenario)
-                dialogue = self._dialogue = Dialogue(self._program, self._folder, self._scenario)
+                listener = {"listener": self._observer.answered} if self._observer else {}
+                dialogue = self._dialogue = Dialogue(self._program, self._folder, self._scenario, **listener)
                 try:
                     self._open(dialogue)
                     answered = True
@@ -293,6 +316,8 @@ class Scheduler:
         for participant, action, work in self._until_reached(lambda: list(self._settling_of(dialogue))):
             self._until_reached(lambda: carry_out(participant, action, work))
         self._learn_names(dialogue.active)
+        if self._observer:
+            self._observer.opened(self._report, dialogue.active)
         if not self._opened.done():
             self._opened.set_result(None)
 
@@ -347,6 +372,7 @@ class Scheduler:
             self._report_prepared()
             self._start_waiting()
             self._hand_out()
+            self._tell_waits()
             if not self._is_done():
                 self._take_messages(is_idle=not self._prepared)
 
@@ -447,6 +473,22 @@ class Scheduler:
                 raise Stuck(f"{line}: a step was refused as often as it may be tried")
             else:
                 self._may_hand_out = False
+
+    def _tell_waits(self) -> None:
+        """Nothing more can be handed out now, so `admit` tells of each process without a piece what stands against it. If it hands out a
+        piece all the same, that is taken as any other."""
+        if not self._askers or self._may_hand_out:
+            return
+        out, found = {job.piece.process for job in self._jobs.values()}, []
+        for number in [number for number in self._active if number not in out]:
+            line = self._ask(f"admit {number}")[0]
+            block, piece = read_block(line), read_piece(line)
+            if block:
+                found.append(block)
+            elif piece:
+                self._take_piece(piece)
+        while self._askers:
+            self._askers.pop().set_result(found)
 
     def _take_piece(self, piece: Piece) -> None:
         """A piece builds on what took effect before it was handed out: so its work begins once that is committed, where the two

@@ -1,0 +1,332 @@
+"use strict";
+// The window on the service: it reads how all stands once, and then follows the events. What it draws follows from `world` alone.
+
+const KINDS = new Set(["c", "p", "r", "cr"]);
+const OPTIONS = new Set(["tries", "undo", "refuse", "undorefuse"]);
+const LANE = 26, BOX = 19, GAP = 16, NAMES = 190, GUTTER = 84, TOLD = 340;
+// A drawing begins so many milliseconds behind the last one at least, and four times as many as that took.
+const BETWEEN = 60;
+const world = { active: new Map(), ended: [], isEndedDrawn: false, queued: 0, event: 0, effects: 0, state: ["", "connecting"], chosen: "" };
+const element = (id) => document.getElementById(id);
+const escaped = (words) => String(words).replace(/[&<>"']/g, (sign) => `&#${sign.charCodeAt(0)};`);
+
+// Process texts. A block is its steps and the alternatives behind them.
+
+function blockOf(words) {
+  const block = { steps: [], alternatives: [] };
+  while (KINDS.has(words[0])) {
+    const [kind, name, operation, key, amount] = words.splice(0, 5);
+    while (OPTIONS.has(words[0])) words.splice(0, 2);
+    block.steps.push({ kind, name, operation, key, amount });
+  }
+  if (words[0] === "choose") {
+    do {
+      words.shift();
+      block.alternatives.push(blockOf(words));
+    } while (words[0] === "or");
+    words.shift();
+  }
+  return block;
+}
+
+const trees = new Map();
+
+/** The steps of a text with their places, the lines between them, and the size of all. The same text is laid out once. */
+function layoutOf(text) {
+  if (!trees.has(text)) {
+    if (trees.size > 4096) trees.clear();
+    const layout = { steps: [], lines: [], width: 0, lanes: 1 };
+    layout.lanes = place(blockOf(text.split(" ").slice(2)), 0, 0, layout, null);
+    trees.set(text, layout);
+  }
+  return trees.get(text);
+}
+
+/** Places a block at x and a lane, behind the end of another one, and gives how many lanes it takes. */
+function place(block, x, lane, layout, from) {
+  for (const step of block.steps) {
+    const wide = Math.max(48, 7 * step.name.length + 16);
+    if (from) layout.lines.push([from, [x, lane]]);
+    layout.steps.push({ ...step, x, lane, wide });
+    from = [x + wide, lane];
+    x += wide + GAP;
+  }
+  layout.width = Math.max(layout.width, x);
+  let lanes = 0;
+  for (const alternative of block.alternatives) lanes += place(alternative, x, lane + lanes, layout, from);
+  return Math.max(1, lanes);
+}
+
+// One process.
+
+/** What became of each step last, by its name. */
+function statesOf(process) {
+  const states = new Map();
+  for (const mark of process.way) if (mark.what !== "dropped") states.set(mark.step, mark.what);
+  if (process.waits) states.set(process.waits.own_step, "waits");
+  if (process.at_work?.step) states.set(process.at_work.step, "work");
+  return states;
+}
+
+function secondsSince(time) {
+  return Math.max(0, Math.round((Date.now() - Date.parse(time)) / 1000));
+}
+
+function toldOf(process) {
+  if (process.waits) return `waits for ${process.waits.for} (${process.waits.their_step}) by rule ${process.waits.rule}, ${secondsSince(process.waits.since)} s`;
+  if (process.at_work) {
+    const work = { do: "", undo: "undo ", end: "its end" }[process.at_work.work];
+    return `${work}${process.at_work.step || ""}: at work ${secondsSince(process.at_work.since)} s`;
+  }
+  return "goes on when it is its turn";
+}
+
+/** Bands of the picture by process, in their order, with how high each is. */
+function bandsOf() {
+  const bands = new Map();
+  let y = 0;
+  for (const [name, process] of world.active) {
+    const height = layoutOf(process.text).lanes * LANE + 8;
+    bands.set(name, { y, height });
+    y += height;
+  }
+  return { bands, height: y };
+}
+
+function rowOf(process, band) {
+  const layout = layoutOf(process.text), states = statesOf(process), left = GUTTER + NAMES;
+  const x = (at) => left + at, y = (lane) => band.y + 4 + lane * LANE;
+  const lines = layout.lines.map(([[x1, lane1], [x2, lane2]]) => {
+    const [y1, y2, bend] = [y(lane1) + BOX / 2 + 2, y(lane2) + BOX / 2 + 2, x(x2) - GAP / 2];
+    return `<path class="link" d="M${x(x1)},${y1} H${bend} V${y2} H${x(x2)}"/>`;
+  });
+  const steps = layout.steps.map((step) => {
+    const title = `${step.kind} ${step.name} ${step.operation} ${step.key} ${step.amount}`;
+    return `<g class="step ${states.get(step.name) || ""}" data-step="${escaped(step.name)}"><title>${escaped(title)}</title>` +
+      `<rect x="${x(step.x)}" y="${y(step.lane) + 2}" width="${step.wide}" height="${BOX}" rx="4"/>` +
+      `<text x="${x(step.x) + step.wide / 2}" y="${y(step.lane) + 15}">${escaped(step.name)}</text></g>`;
+  });
+  const age = process.started ? `${secondsSince(process.started)} s` : "";
+  return `<g class="row${world.chosen === process.name ? " chosen" : ""}" data-name="${escaped(process.name)}">` +
+    `<rect x="${GUTTER}" y="${band.y}" width="100%" height="${band.height - 2}"/>` +
+    `<text class="name" x="${GUTTER + 6}" y="${band.y + 18}">${escaped(process.name)}</text>` +
+    `<text class="told" x="${GUTTER + NAMES - 46}" y="${band.y + 18}">${age}</text>${lines.join("")}${steps.join("")}` +
+    `<text class="told ${process.waits ? "waits" : ""}" x="${x(layout.width) + 8}" y="${band.y + 18}">${escaped(toldOf(process))}</text></g>`;
+}
+
+/** An arc in the gutter from each process that waits to the one that it waits for. */
+function arcsOf(bands) {
+  const waiting = [...world.active.values()].filter((process) => process.waits && bands.has(process.waits.for));
+  return waiting.map((process, at) => {
+    const from = bands.get(process.name).y + 14, to = bands.get(process.waits.for).y + 14;
+    const reach = GUTTER - 12 - (at % 6) * 11;
+    return `<path class="arc" marker-end="url(#head)" d="M${GUTTER},${from} C${GUTTER - reach},${from} ${GUTTER - reach},${to} ${GUTTER - 2},${to}"/>` +
+      `<text class="rule" x="${GUTTER - 18}" y="${from - 3}">${process.waits.rule}</text>`;
+  });
+}
+
+// The page.
+
+function draw() {
+  const began = performance.now();
+  const { bands, height } = bandsOf();
+  const processes = [...world.active.values()];
+  const width = GUTTER + NAMES + TOLD + Math.max(0, ...processes.map((process) => layoutOf(process.text).width));
+  const rows = processes.map((process) => rowOf(process, bands.get(process.name)));
+  element("active").innerHTML = `<svg xmlns="http://www.w3.org/2000/svg" width="${width}" height="${height + 8}">` +
+    `<defs><marker id="head" viewBox="0 0 8 8" refX="7" refY="4" markerWidth="7" markerHeight="7" orient="auto"><path d="M0,0 L8,4 L0,8 z" fill="#6b46c1"/>` +
+    `</marker></defs>${rows.join("")}${arcsOf(bands).join("")}</svg>`;
+  element("idle").hidden = processes.length > 0;
+  drawEnded();
+  drawNumbers(processes);
+  const [kind, told] = world.state;
+  element("state").className = kind;
+  element("state").textContent = told;
+  element("active").getBoundingClientRect();
+  lastTook = performance.now() - began;
+  document.body.dataset.drawn = String(lastTook);
+}
+
+function drawNumbers(processes) {
+  const numbers = {
+    active: processes.length,
+    queued: world.queued,
+    "at work": processes.filter((process) => process.at_work).length,
+    waiting: processes.filter((process) => process.waits).length,
+    effects: world.effects,
+  };
+  element("numbers").innerHTML = Object.entries(numbers).map(([name, count]) => `<div><dt>${name}</dt><dd>${count}</dd></div>`).join("");
+}
+
+function endOf(process) {
+  if (process.state === "refused") return ["nothing", "not started"];
+  return process.path.length ? ["", process.path.join(" → ")] : ["nothing", "nothing is left"];
+}
+
+function drawEnded() {
+  if (world.isEndedDrawn) return;
+  world.isEndedDrawn = true;
+  element("ended").innerHTML = world.ended.map((process) => {
+    const [kind, told] = endOf(process);
+    return `<li><button data-name="${escaped(process.name)}">${escaped(process.name)}</button> <span class="end ${kind}">${escaped(told)}</span>` +
+      `<div class="why">${escaped(process.reasons.join("; "))}</div></li>`;
+  }).join("");
+}
+
+let isDue = false, lastTook = 0;
+function drawSoon() {
+  if (isDue) return;
+  isDue = true;
+  setTimeout(() => {
+    isDue = false;
+    draw();
+  }, Math.max(BETWEEN, 4 * lastTook));
+}
+
+// The history of one process.
+
+async function choose(name) {
+  world.chosen = name;
+  const answer = await call(`/v1/processes/${encodeURIComponent(name)}`);
+  if (!answer.ok || world.chosen !== name) return;
+  const process = await answer.json(), history = element("history");
+  const lines = [[process.submitted, "submitted"], [process.started, "started"]];
+  for (const mark of process.way) lines.push([mark.at, `${mark.step} ${mark.what}`]);
+  if (process.at_work) lines.push([process.at_work.since, `${process.at_work.work} ${process.at_work.step || ""} at work`]);
+  if (process.waits) lines.push([process.waits.since, toldOf(process)]);
+  if (process.ended) lines.push([process.ended, endOf(process)[1]]);
+  const told = lines.filter(([time, line]) => time || !["submitted", "started"].includes(line))
+    .map(([time, line]) => `<li><time>${time ? escaped(time.slice(11, 23)) : "before this start"}</time>${escaped(line)}</li>`);
+  history.innerHTML = `<button class="close" data-close="1">close</button><h2>${escaped(name)} <small>${escaped(process.state)}` +
+    `${process.number ? `, process ${process.number} of files ${process.files}` : ""}</small></h2><ol>${told.join("")}</ol>` +
+    `<div class="why">${escaped((process.reasons || []).join("; "))}</div><pre>${escaped(process.text)}</pre>`;
+  history.hidden = false;
+  drawSoon();
+}
+
+document.addEventListener("click", (click) => {
+  if (click.target.closest("[data-close]")) {
+    world.chosen = "";
+    element("history").hidden = true;
+    drawSoon();
+    return;
+  }
+  const named = click.target.closest("[data-name]");
+  if (named) choose(named.dataset.name);
+});
+
+// The service.
+
+function call(path) {
+  const token = sessionStorage.getItem("token");
+  return fetch(path, { headers: token ? { Authorization: `Bearer ${token}` } : {} });
+}
+
+async function readAll() {
+  const answer = await call("/v1/processes");
+  if (answer.status === 401) {
+    element("token").hidden = false;
+    throw new Error("a token is wanted");
+  }
+  if (!answer.ok) throw new Error((await answer.json()).what);
+  const told = await answer.json();
+  world.active = new Map(told.active.map((process) => [process.name, process]));
+  world.ended = told.ended;
+  world.isEndedDrawn = false;
+  world.queued = told.queued_count;
+  world.event = told.event;
+  world.state = told.open ? ["live", "live"] : ["fault", `not open: waits for ${told.waits_for}`];
+  draw();
+}
+
+/** What each event makes of the world. Those of other names change nothing that is drawn. */
+const changes = {
+  submitted: (event) => {
+    world.queued += 1;
+    texts.set(event.process, event.text);
+  },
+  started: (event) => {
+    world.queued -= 1;
+    const text = texts.get(event.process) || "";
+    texts.delete(event.process);
+    world.active.set(event.process, { ...event, name: event.process, text, started: event.time, way: [] });
+  },
+  handed_out: (event, process) => {
+    process.at_work = { work: event.work, step: event.step, since: event.time };
+    delete process.waits;
+  },
+  effected: (event, process) => passed(event, process, event.work === "undo" ? "undone" : "done"),
+  refused: (event, process) => (event.path ? changes.ended({ ...event, event: "refused" }, process) : passed(event, process, "refused")),
+  dropped: (event, process) => passed(event, process, "dropped"),
+  ended: (event, process) => {
+    world.active.delete(event.process);
+    world.ended.unshift({ ...process, name: event.process, state: event.event, path: event.path, reasons: event.reasons });
+    world.ended.length = Math.min(world.ended.length, 100);
+    world.isEndedDrawn = false;
+  },
+  waits: (event) => {
+    for (const { process, waits } of event.changed) {
+      const found = world.active.get(process);
+      if (found) found.waits = waits || undefined;
+    }
+  },
+};
+const texts = new Map();
+
+function passed(event, process, what) {
+  delete process.at_work;
+  if (event.step) process.way.push({ what, step: event.step, at: event.time });
+  if (event.event === "effected") world.effects += 1;
+}
+
+/** Whether the event can be taken; if not, all has to be read anew. */
+function take(event) {
+  world.event = event.id;
+  if (["lost", "opened", "failed", "files_full"].includes(event.event)) return false;
+  const change = changes[event.event], process = world.active.get(event.process);
+  if (!change) return true;
+  if (process || ["submitted", "started", "waits", "ended", "refused"].includes(event.event)) change(event, process || {});
+  if (world.chosen && world.chosen === event.process) choose(world.chosen);
+  drawSoon();
+  return true;
+}
+
+async function follow() {
+  const answer = await call(`/v1/events?after=${world.event}`);
+  if (!answer.ok) throw new Error((await answer.json()).what);
+  const reader = answer.body.pipeThrough(new TextDecoderStream()).getReader();
+  let rest = "";
+  for (;;) {
+    const { value, done } = await reader.read();
+    if (done) return;
+    const parts = (rest + value).split("\n\n");
+    rest = parts.pop();
+    for (const part of parts) {
+      const line = part.split("\n").find((line) => line.startsWith("data: "));
+      if (line && !take(JSON.parse(line.slice(6)))) await readAll();
+    }
+  }
+}
+
+async function live() {
+  for (;;) {
+    try {
+      await readAll();
+      await follow();
+      world.state = ["fault", "the service has gone; trying again"];
+    } catch (error) {
+      world.state = ["fault", String(error.message || error)];
+    }
+    drawSoon();
+    await new Promise((done) => setTimeout(done, 1000));
+  }
+}
+
+element("token").addEventListener("submit", (event) => {
+  event.preventDefault();
+  sessionStorage.setItem("token", new FormData(event.target).get("token"));
+  event.target.hidden = true;
+});
+// Ages go on by themselves.
+setInterval(drawSoon, 1000);
+live();
