@@ -1,5 +1,5 @@
 # `make` proves and builds the program; `make demo` runs it on the examples; `make shop` runs a shop beside it; `make test` is what CI runs;
-# `make install` puts the program and its manual under PREFIX.
+# `make install` puts the program, its manual, the service and the libraries under PREFIX.
 .PHONY: build demo shop test edits bench install
 
 PREFIX ?= /usr/local
@@ -23,9 +23,7 @@ test:
 	./gate
 
 install: build
-	install -D -m 755 crates/process_main/out/process_main $(DESTDIR)$(PREFIX)/bin/tps
-	install -d $(DESTDIR)$(PREFIX)/share/man/man1
-	install -m 644 docs/man/*.1 $(DESTDIR)$(PREFIX)/share/man/man1
+	service/deploy/install "$(DESTDIR)" "$(PREFIX)"
 
 # Tries every wrong body, or with CRATES="A B" those of these crates.
 edits:

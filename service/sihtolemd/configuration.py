@@ -103,11 +103,13 @@ def checked(made: Configuration) -> Configuration:
 
 def _with_paths(made: Configuration, base: str) -> Configuration:
     """Relative paths begin at the folder of the file. A program without a slash is looked for on the path."""
-    at = lambda path: os.path.join(base, path) if "/" in path or path.startswith(".") else path
-    carry_over = tuple([at(made.carry_over[0]), *made.carry_over[1:]]) if made.carry_over else ()
-    return dataclasses.replace(
-        made, folder=os.path.join(base, made.folder), scenario=os.path.join(base, made.scenario), program=at(made.program), carry_over=carry_over
-    )
+
+    def program_at(path: str) -> str:
+        return os.path.join(base, path) if "/" in path else path
+
+    carry_over = (program_at(made.carry_over[0]), *made.carry_over[1:]) if made.carry_over else ()
+    folder, scenario = os.path.join(base, made.folder), os.path.join(base, made.scenario)
+    return dataclasses.replace(made, folder=folder, scenario=scenario, program=program_at(made.program), carry_over=carry_over)
 
 
 def _made(kind: Any, told: dict[str, Any], where: str) -> Any:

@@ -34,6 +34,12 @@ class BadProcess(RequestError):
     name, status, advice = "bad_process", 422, "mend the text; POST /v1/check tells of a text whether it is well-formed"
 
 
+class CheckFailed(RequestError):
+    """Something kills the program that checks. Nothing was accepted."""
+
+    name, status, advice = "check_failed", 503, "submit it again; look at the memory of the machine"
+
+
 class UnknownOperation(RequestError):
     name, status, advice = "unknown_operation", 422, "name operations of the scenario, each of which a worker or a participant does"
 

@@ -111,7 +111,8 @@ class Ledger:
 
     @staticmethod
     def _made(row: tuple[Any, ...]) -> Submission:
-        return Submission(*row[:5], json.loads(row[5]) if row[5] else None)
+        name, text, submitted, state, ended, outcome = row
+        return Submission(name, text, submitted, state, ended, json.loads(outcome) if outcome else None)
 
     def _put(self, do: Callable[[sqlite3.Connection], Any]) -> "Future[Any]":
         future: "Future[Any]" = Future()

@@ -105,7 +105,7 @@ class Paths:
         service = self._service
         number = service.events.last
         queued, active = service.tracker.queued(), service.tracker.active()
-        told = {"event": number, "open": service.is_open, "waits_for": None if service.is_open else service.waits_for}
+        told: dict[str, Any] = {"event": number, "open": service.is_open, "waits_for": None if service.is_open else service.waits_for}
         told |= {"active": active, "queued": queued[:ENDED_TOLD], "queued_count": len(queued), "ended": service.last_ended(ENDED_TOLD)}
         return web.json_response(told)
 

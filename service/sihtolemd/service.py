@@ -9,6 +9,7 @@ import threading
 import time
 from collections.abc import Sequence
 from concurrent.futures import Future, ThreadPoolExecutor
+from functools import partial
 from typing import Any
 
 from sihtolem import Closed, FilesFull, NoParticipant, Outcome, Participant, ProcessRefused, Scheduler, SihtolemError
@@ -16,7 +17,7 @@ from sihtolem.report import operations_of
 
 from .configuration import Configuration
 from .desk import Desk, Lease, told
-from .errors import BadProcess, NameTaken, NoProcess, NotOpen, QueueFull, StorageFailed, UnknownOperation
+from .errors import BadProcess, CheckFailed, NameTaken, NoProcess, NotOpen, QueueFull, StorageFailed, UnknownOperation
 from .events import Events
 from .ledger import Ledger, Submission
 from .metrics import Metrics
@@ -24,7 +25,7 @@ from .remote import RemoteWorkers
 from .sets import OPENING, Sets
 from .tracker import Tracker
 
-CHECKS_AT_ONCE = 4
+CHECKS_AT_ONCE, CHECK_TRIES = 4, 3
 # The waits are asked for so often at most, and take up this share of the scheduler's time at most.
 SECONDS_BETWEEN_WAITS, SHARE_OF_WAITS = 0.25, 0.05
 PAUSE_AFTER_FAILURE = 2.0
@@ -44,8 +45,9 @@ class Service:
         self._sets = Sets(configuration.program, f"{configuration.folder}/files", self._scenario, configuration.carry_over)
         self._checks = ThreadPoolExecutor(CHECKS_AT_ONCE, thread_name_prefix="check")
         self._scheduler: Scheduler | None = None
-        self._lock, self._handed_over = threading.Lock(), 0
-        self._is_full, self._stopping = threading.Event(), threading.Event()
+        self._lock, self._stopping = threading.Lock(), threading.Event()
+        # Of the files in use: how many processes they have, and those that were handed over and haven't ended.
+        self._is_full, self._handed_over, self._under_way = False, 0, set[str]()
         self.waits_for = "the start"
         self._queued: set[str] = set()
 
@@ -63,7 +65,6 @@ class Service:
     async def stop(self) -> None:
         """Waits for what is out; the rest goes on at the next start. Workers may still say what they have done."""
         self._stopping.set()
-        self._is_full.set()
         await asyncio.to_thread(self._thread.join)
         self.desk.close()
         await asyncio.to_thread(self._ledger.close)
@@ -159,8 +160,11 @@ class Service:
             raise BadProcess(said)
 
     def _checked(self, text: str) -> str:
-        done = subprocess.run([self.configuration.program, "check"], input=text, stdout=subprocess.PIPE, encoding="utf-8", cwd="/")
-        return done.stdout.strip()
+        for _ in range(CHECK_TRIES):
+            done = subprocess.run([self.configuration.program, "check"], input=text, stdout=subprocess.PIPE, encoding="utf-8", cwd="/")
+            if done.returncode >= 0:
+                return done.stdout.strip()
+        raise CheckFailed(f"signal {-done.returncode} ended `check`")
 
     # What becomes of leases.
 
@@ -203,9 +207,8 @@ class Service:
         return number
 
     def _serve(self, number: int) -> None:
-        """Serves until these files are full, or the service stops. What was active in them has ended then, and its end is kept."""
+        """Serves until these files are full, or the service stops. What was active in full files has ended then, and its end is kept."""
         settings = self.configuration
-        self._is_full.clear()
         self.waits_for = "the settling: work of an earlier run that workers have to commit or take back"
         participants = [Reopened(it) for it in self._participants]
         options: dict[str, Any] = {"program": settings.program, "mark": str(number), "alone": [OPENING], "observer": self.tracker}
@@ -213,50 +216,53 @@ class Service:
         scheduler = Scheduler(self._sets.folder(number), self._scenario, participants, **options)
         try:
             with self._lock:
-                self._handed_over = scheduler.report().count("\nstart ")
+                self._is_full, self._handed_over, self._under_way = False, self.tracker.count_in_files(), set()
                 self._scheduler = scheduler
             self._hand_over(self._ledger.open())
             self._watch(scheduler)
         finally:
             with self._lock:
                 self._scheduler = None
-            self.waits_for = "the end of what is out"
+            self.waits_for = "fresh files" if self._is_full else "the end of what is out"
             scheduler.close(until_ended=not self._stopping.is_set())
             self._ledger.flush()
 
     def _watch(self, scheduler: Scheduler) -> None:
-        """Asks for the waits again and again. An error of the scheduler comes out here."""
+        """Asks for the waits again and again, until the files are full and all in them has ended. An error of the scheduler comes out here."""
         pause = SECONDS_BETWEEN_WAITS
-        while not self._is_full.wait(pause):
+        while not self._stopping.wait(pause) and not (self._is_full and not self._under_way):
             began = time.monotonic()
             self.tracker.waits(scheduler.waits().result())
             pause = max(SECONDS_BETWEEN_WAITS, (time.monotonic() - began) / SHARE_OF_WAITS)
-        if not self._stopping.is_set():
-            self.events.publish("files_full", files=self.tracker.files)
 
     def _hand_over(self, submissions: Sequence[Submission]) -> None:
         """Gives them to the scheduler, as far as the files have room. The rest comes when there is a scheduler over fresh files."""
+        futures = []
         with self._lock:
             for submission in submissions:
-                if self._scheduler is None or self._is_full.is_set():
-                    return
-                if self._handed_over >= self.configuration.processes_in_files and not self._is_known(submission):
-                    self._is_full.set()
-                    return
+                if self._scheduler is None:
+                    break
+                is_new = not self.tracker.is_in_files(submission.name)
+                if is_new and self._handed_over >= self.configuration.processes_in_files:
+                    self._files_are_full()
+                if is_new and self._is_full or submission.name in self._under_way:
+                    continue
                 try:
-                    future = self._scheduler.submit(submission.text)
+                    futures.append((submission.name, self._scheduler.submit(submission.text)))
                 except (NoParticipant, ProcessRefused) as error:
                     self._refused(submission.name, error)
                 except SihtolemError:
-                    return
+                    break
                 else:
-                    self._handed_over += not self._is_known(submission)
-                    future.add_done_callback(lambda done, name=submission.name: self._ended(name, done))
+                    self._handed_over += is_new
+                    self._under_way.add(submission.name)
+        for name, future in futures:
+            future.add_done_callback(partial(self._ended, name))
 
-    def _is_known(self, submission: Submission) -> bool:
-        """Whether these files have it already."""
-        view = self.tracker.view(submission.name)
-        return view is not None and view["state"] == "active"
+    def _files_are_full(self) -> None:
+        if not self._is_full:
+            self._is_full = True
+            self.events.publish("files_full", files=self.tracker.files)
 
     def _ended(self, name: str, done: "Future[Outcome]") -> None:
         error = done.exception()
@@ -264,9 +270,10 @@ class Service:
             self.tracker.ended(done.result())
             self._keep(name, "ended")
         elif isinstance(error, FilesFull):
-            self._is_full.set()
+            self._files_are_full()
         elif isinstance(error, ProcessRefused):
             self._refused(name, error)
+        self._under_way.discard(name)
 
     def _refused(self, name: str, error: SihtolemError) -> None:
         self.tracker.refused(name, str(error))

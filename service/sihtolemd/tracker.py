@@ -83,6 +83,7 @@ class Tracker:
         self._views: dict[str, View] = {}
         self._ended: dict[str, View] = {}
         self._names: dict[int, str] = {}
+        self._in_files: set[str] = set()
         self._pieces: dict[int, Piece] = {}
         self._queued: list[int] = []
         self.files = 0
@@ -143,6 +144,15 @@ class Tracker:
             found = self._views.get(name) or self._ended.get(name)
             return found.as_json(self._names) if found else None
 
+    def is_in_files(self, name: str) -> bool:
+        """Whether the files in use know the process, active or ended."""
+        with self._lock:
+            return name in self._in_files
+
+    def count_in_files(self) -> int:
+        with self._lock:
+            return len(self._in_files)
+
     def active(self) -> list[dict[str, Any]]:
         with self._lock:
             return [view.as_json(self._names) for view in self._views.values() if view.state == "active"]
@@ -165,7 +175,7 @@ class Tracker:
 
     def opened(self, report: Report, active: dict[int, str]) -> None:
         with self._lock:
-            self._names, self._pieces, self._queued = dict(report.names), {}, []
+            self._names, self._in_files, self._pieces, self._queued = dict(report.names), set(report.names.values()), {}, []
             for number, name in active.items():
                 view = self._views.setdefault(name, View(name, "", time.time()))
                 view.state, view.number, view.files, view.piece, view.block = "active", number, self.files, None, None
@@ -198,6 +208,7 @@ class Tracker:
         number, name = int(words[1]), words[2]
         with self._lock:
             self._names[number] = name
+            self._in_files.add(name)
             view = self._views.setdefault(name, View(name, "", time.time()))
             view.state, view.number, view.files, view.started = "active", number, self.files, time.time()
         self._events.publish("started", process=name, files=self.files, number=number)
@@ -254,8 +265,9 @@ class Tracker:
             self._metrics.count(self._metrics.effects, piece.work)
         elif what == "refused":
             self._metrics.count(self._metrics.refusals, piece.step)
-        told = {"place": int(place)} if word == "effected" else {"answer": answer} if what == "refused" else {}
-        self._events.publish({"done": "effected", "undone": "effected"}.get(what, what), process=name, **piece_as_json(piece), **told)
+        told: dict[str, Any] = {"place": int(place)} if word == "effected" else {"answer": answer} if what == "refused" else {}
+        told = {"process": name, **piece_as_json(piece), **told}
+        self._events.publish("effected" if word == "effected" else what, **told)
 
 
 def piece_as_json(piece: Piece) -> dict[str, Any]:

@@ -3,21 +3,22 @@
 
 const KINDS = new Set(["c", "p", "r", "cr"]);
 const OPTIONS = new Set(["tries", "undo", "refuse", "undorefuse"]);
-const LANE = 26, BOX = 19, GAP = 16, NAMES = 190, GUTTER = 84, TOLD = 340;
+// The height of a step with its gap, that of a row beside it, and the width of the gutter for arcs; window.css has the same.
+const LANE = 26, ROW = 8, GUTTER = 84;
 // A drawing begins so many milliseconds behind the last one at least, and four times as many as that took.
 const BETWEEN = 60;
 const world = { active: new Map(), ended: [], isEndedDrawn: false, queued: 0, event: 0, effects: 0, state: ["", "connecting"], chosen: "" };
 const element = (id) => document.getElementById(id);
 const escaped = (words) => String(words).replace(/[&<>"']/g, (sign) => `&#${sign.charCodeAt(0)};`);
 
-// Process texts. A block is its steps and the alternatives behind them.
+// Process texts. A block is its steps and the alternatives behind them, and as many lanes as these take.
 
 function blockOf(words) {
-  const block = { steps: [], alternatives: [] };
+  const block = { steps: [], alternatives: [], lanes: 1 };
   while (KINDS.has(words[0])) {
     const [kind, name, operation, key, amount] = words.splice(0, 5);
     while (OPTIONS.has(words[0])) words.splice(0, 2);
-    block.steps.push({ kind, name, operation, key, amount });
+    block.steps.push({ name, told: [kind, name, operation, key, amount].join(" ") });
   }
   if (words[0] === "choose") {
     do {
@@ -25,36 +26,19 @@ function blockOf(words) {
       block.alternatives.push(blockOf(words));
     } while (words[0] === "or");
     words.shift();
+    block.lanes = block.alternatives.reduce((sum, alternative) => sum + alternative.lanes, 0);
   }
   return block;
 }
 
-const trees = new Map();
+const blocks = new Map();
 
-/** The steps of a text with their places, the lines between them, and the size of all. The same text is laid out once. */
-function layoutOf(text) {
-  if (!trees.has(text)) {
-    if (trees.size > 4096) trees.clear();
-    const layout = { steps: [], lines: [], width: 0, lanes: 1 };
-    layout.lanes = place(blockOf(text.split(" ").slice(2)), 0, 0, layout, null);
-    trees.set(text, layout);
+function blockOfText(text) {
+  if (!blocks.has(text)) {
+    if (blocks.size > 4096) blocks.clear();
+    blocks.set(text, blockOf(text.split(" ").slice(2)));
   }
-  return trees.get(text);
-}
-
-/** Places a block at x and a lane, behind the end of another one, and gives how many lanes it takes. */
-function place(block, x, lane, layout, from) {
-  for (const step of block.steps) {
-    const wide = Math.max(48, 7 * step.name.length + 16);
-    if (from) layout.lines.push([from, [x, lane]]);
-    layout.steps.push({ ...step, x, lane, wide });
-    from = [x + wide, lane];
-    x += wide + GAP;
-  }
-  layout.width = Math.max(layout.width, x);
-  let lanes = 0;
-  for (const alternative of block.alternatives) lanes += place(alternative, x, lane + lanes, layout, from);
-  return Math.max(1, lanes);
+  return blocks.get(text);
 }
 
 // One process.
@@ -81,64 +65,76 @@ function toldOf(process) {
   return "goes on when it is its turn";
 }
 
-/** Bands of the picture by process, in their order, with how high each is. */
-function bandsOf() {
-  const bands = new Map();
-  let y = 0;
-  for (const [name, process] of world.active) {
-    const height = layoutOf(process.text).lanes * LANE + 8;
-    bands.set(name, { y, height });
-    y += height;
-  }
-  return { bands, height: y };
+function drawnBlock(block, states) {
+  const steps = block.steps.map((step) =>
+    `<span class="step ${states.get(step.name) || ""}" data-step="${escaped(step.name)}" title="${escaped(step.told)}">${escaped(step.name)}</span>`);
+  const ways = block.alternatives.map((alternative) => `<span class="way">${drawnBlock(alternative, states)}</span>`);
+  return steps.join("") + (ways.length ? `<span class="choice">${ways.join("")}</span>` : "");
 }
 
-function rowOf(process, band) {
-  const layout = layoutOf(process.text), states = statesOf(process), left = GUTTER + NAMES;
-  const x = (at) => left + at, y = (lane) => band.y + 4 + lane * LANE;
-  const lines = layout.lines.map(([[x1, lane1], [x2, lane2]]) => {
-    const [y1, y2, bend] = [y(lane1) + BOX / 2 + 2, y(lane2) + BOX / 2 + 2, x(x2) - GAP / 2];
-    return `<path class="link" d="M${x(x1)},${y1} H${bend} V${y2} H${x(x2)}"/>`;
-  });
-  const steps = layout.steps.map((step) => {
-    const title = `${step.kind} ${step.name} ${step.operation} ${step.key} ${step.amount}`;
-    return `<g class="step ${states.get(step.name) || ""}" data-step="${escaped(step.name)}"><title>${escaped(title)}</title>` +
-      `<rect x="${x(step.x)}" y="${y(step.lane) + 2}" width="${step.wide}" height="${BOX}" rx="4"/>` +
-      `<text x="${x(step.x) + step.wide / 2}" y="${y(step.lane) + 15}">${escaped(step.name)}</text></g>`;
-  });
+function drawnRow(process) {
   const age = process.started ? `${secondsSince(process.started)} s` : "";
-  return `<g class="row${world.chosen === process.name ? " chosen" : ""}" data-name="${escaped(process.name)}">` +
-    `<rect x="${GUTTER}" y="${band.y}" width="100%" height="${band.height - 2}"/>` +
-    `<text class="name" x="${GUTTER + 6}" y="${band.y + 18}">${escaped(process.name)}</text>` +
-    `<text class="told" x="${GUTTER + NAMES - 46}" y="${band.y + 18}">${age}</text>${lines.join("")}${steps.join("")}` +
-    `<text class="told ${process.waits ? "waits" : ""}" x="${x(layout.width) + 8}" y="${band.y + 18}">${escaped(toldOf(process))}</text></g>`;
+  return `<span class="name">${escaped(process.name)}</span><span class="age">${age}</span>` +
+    `<span class="block">${drawnBlock(blockOfText(process.text), statesOf(process))}</span>` +
+    `<span class="told ${process.waits ? "waits" : ""}">${escaped(toldOf(process))}</span>`;
+}
+
+// The page. A row is made anew only where it has changed.
+
+const rows = new Map();
+
+function drawRows() {
+  for (const [name, row] of rows) {
+    if (!world.active.has(name)) {
+      row.made.remove();
+      rows.delete(name);
+    }
+  }
+  const fresh = document.createDocumentFragment();
+  for (const [name, process] of world.active) {
+    const text = drawnRow(process);
+    if (!rows.has(name)) rows.set(name, { made: freshRow(process, fresh), text: "" });
+    const row = rows.get(name);
+    if (row.text !== text) row.made.innerHTML = row.text = text;
+    row.made.classList.toggle("chosen", world.chosen === name);
+  }
+  element("active").append(fresh);
+}
+
+function freshRow(process, parent) {
+  const row = document.createElement("div");
+  row.className = "row";
+  row.dataset.name = process.name;
+  row.style.height = `${blockOfText(process.text).lanes * LANE + ROW}px`;
+  parent.append(row);
+  return row;
 }
 
 /** An arc in the gutter from each process that waits to the one that it waits for. */
-function arcsOf(bands) {
-  const waiting = [...world.active.values()].filter((process) => process.waits && bands.has(process.waits.for));
-  return waiting.map((process, at) => {
-    const from = bands.get(process.name).y + 14, to = bands.get(process.waits.for).y + 14;
-    const reach = GUTTER - 12 - (at % 6) * 11;
-    return `<path class="arc" marker-end="url(#head)" d="M${GUTTER},${from} C${GUTTER - reach},${from} ${GUTTER - reach},${to} ${GUTTER - 2},${to}"/>` +
-      `<text class="rule" x="${GUTTER - 18}" y="${from - 3}">${process.waits.rule}</text>`;
+function drawArcs() {
+  const middles = new Map();
+  let y = 0;
+  for (const [name, process] of world.active) {
+    middles.set(name, y + 14);
+    y += blockOfText(process.text).lanes * LANE + ROW;
+  }
+  const waiting = [...world.active.values()].filter((process) => middles.has(process.waits?.for));
+  const arcs = waiting.map((process, at) => {
+    const from = middles.get(process.name), to = middles.get(process.waits.for), reach = 12 + (at % 6) * 11;
+    return `<path class="arc" marker-end="url(#head)" d="M${GUTTER},${from} C${reach},${from} ${reach},${to} ${GUTTER - 2},${to}"/>` +
+      `<text class="rule" x="${GUTTER - 18}" y="${from - 3}">${escaped(process.waits.rule)}</text>`;
   });
+  element("arcs").setAttribute("height", y);
+  element("arcs_drawn").innerHTML = arcs.join("");
 }
-
-// The page.
 
 function draw() {
   const began = performance.now();
-  const { bands, height } = bandsOf();
-  const processes = [...world.active.values()];
-  const width = GUTTER + NAMES + TOLD + Math.max(0, ...processes.map((process) => layoutOf(process.text).width));
-  const rows = processes.map((process) => rowOf(process, bands.get(process.name)));
-  element("active").innerHTML = `<svg xmlns="http://www.w3.org/2000/svg" width="${width}" height="${height + 8}">` +
-    `<defs><marker id="head" viewBox="0 0 8 8" refX="7" refY="4" markerWidth="7" markerHeight="7" orient="auto"><path d="M0,0 L8,4 L0,8 z" fill="#6b46c1"/>` +
-    `</marker></defs>${rows.join("")}${arcsOf(bands).join("")}</svg>`;
-  element("idle").hidden = processes.length > 0;
+  drawRows();
+  drawArcs();
   drawEnded();
-  drawNumbers(processes);
+  drawNumbers();
+  element("idle").hidden = world.active.size > 0;
   const [kind, told] = world.state;
   element("state").className = kind;
   element("state").textContent = told;
@@ -147,7 +143,8 @@ function draw() {
   document.body.dataset.drawn = String(lastTook);
 }
 
-function drawNumbers(processes) {
+function drawNumbers() {
+  const processes = [...world.active.values()];
   const numbers = {
     active: processes.length,
     queued: world.queued,
@@ -230,6 +227,8 @@ async function readAll() {
   }
   if (!answer.ok) throw new Error((await answer.json()).what);
   const told = await answer.json();
+  rows.forEach((row) => row.made.remove());
+  rows.clear();
   world.active = new Map(told.active.map((process) => [process.name, process]));
   world.ended = told.ended;
   world.isEndedDrawn = false;
@@ -282,7 +281,7 @@ function passed(event, process, what) {
 /** Whether the event can be taken; if not, all has to be read anew. */
 function take(event) {
   world.event = event.id;
-  if (["lost", "opened", "failed", "files_full"].includes(event.event)) return false;
+  if (["lost", "opened", "failed", "files_begun"].includes(event.event)) return false;
   const change = changes[event.event], process = world.active.get(event.process);
   if (!change) return true;
   if (process || ["submitted", "started", "waits", "ended", "refused"].includes(event.event)) change(event, process || {});
