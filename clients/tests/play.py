@@ -10,6 +10,7 @@ import os
 import re
 import sys
 import tempfile
+import threading
 import time
 from concurrent.futures import ThreadPoolExecutor
 
@@ -19,7 +20,7 @@ sys.dont_write_bytecode = True
 
 import sihtolem
 from memory import Memory
-from sihtolem import Action, Answer, Held, Outbox, Scheduler, Sqlite, State, Work, settle
+from sihtolem import Action, Answer, Block, Fenced, Held, Outbox, Overtaken, Scheduler, Sqlite, State, Work, settle
 from sihtolem.dialogue import read_piece
 from sihtolem.opening import answer_of
 from sihtolem.report import conflict, operations_of, read_report
@@ -203,6 +204,55 @@ def play_abort(scenario):
         check("what is left", memory.states, {"1.reserve": State.UNDONE, "1.pay": State.ABSENT})
 
 
+class Heard:
+    """An observer that keeps what it hears."""
+
+    def __init__(self):
+        self.opened_with, self.lines = [], []
+
+    def opened(self, report, active):
+        self.opened_with.append((dict(report.names), active))
+
+    def answered(self, line, answer, seconds):
+        self.lines.append((line.partition(" ")[0], answer[-1]))
+
+
+def play_waits(scenario):
+    """While a delivery is at work an order waits for it, and nobody waits later. An observer hears the lines."""
+    with tempfile.TemporaryDirectory() as folder:
+        memory, heard, at_work, go_on = Memory(OPERATIONS), Heard(), threading.Event(), threading.Event()
+        memory.on_call = lambda count: at_work.set() or go_on.wait(30) if count == 1 else None
+        with Scheduler(f"{folder}/files", scenario, [memory], program=PROGRAM, mark="m", observer=heard) as scheduler:
+            futures = [scheduler.submit("process a r unload deliver 3 10 end")]
+            at_work.wait(30)
+            futures.append(scheduler.submit("process b c reserve reserve 3 2 r tell mail 1 1 end"))
+            until(lambda: ("start", "started 2 b") in heard.lines)
+            check("who waits", scheduler.waits().result(30), [Block(2, "reserve", 1, "unload", "A0")])
+            go_on.set()
+            check("the ends", [future.result(30).path for future in futures], [("unload",), ("reserve", "tell")])
+            check("who waits later", scheduler.waits().result(30), [])
+        check("the opening", heard.opened_with, [({}, {})])
+        check("what was handed out", sum(answer.startswith("piece ") for word, answer in heard.lines if word in ("next", "admit")), 5)
+
+
+def play_fence():
+    """What comes under a lease that another has overtaken changes nothing, also behind a take back."""
+    work = Work("m", "2.x", False, "order_1", "take", 3, 1)
+    with tempfile.TemporaryDirectory() as folder:
+        shop = Fenced(f"{folder}/shop.db", {"take": Held()})
+        for lease, do in ((7, shop.prepare), (8, shop.prepare), (9, shop.take_back)):
+            with shop.under(lease):
+                do(work)
+        for do in (shop.prepare, shop.commit):
+            try:
+                with shop.under(8):
+                    do(work)
+                sys.exit("a lease that is overtaken does work")
+            except Overtaken:
+                check("what is prepared", shop.found("m"), {})
+        shop.close()
+
+
 def play_resuming(scenario):
     """Whoever goes on and whoever goes back are both known, and not started again."""
     with tempfile.TemporaryDirectory() as folder:
@@ -239,6 +289,8 @@ def main():
         play_story(stories["scenario"], story)
     play_closing(stories["scenario"])
     play_abort(stories["scenario"])
+    play_waits(stories["scenario"])
+    play_fence()
     play_resuming(stories["scenario"])
     play_outbox()
     print(f"clients, Python: the settling over {len(table('settling'))} states, lines, {len(stories['stories'])} stories, and an outbox")

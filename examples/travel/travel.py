@@ -50,14 +50,19 @@ def trip(number):
     return read("trip.process").replace("NUMBER", str(number)).replace("FLIGHT", str(number % 8 + 1)).replace("HOTEL", str(number % 6 + 1))
 
 
+def opened(host):
+    """The four databases as participants."""
+    return [Postgres(partial(psycopg2.connect, host=host, user="postgres", dbname=name), work) for name, work in BOOKINGS.items()]
+
+
 def main():
     folder, host, trips = sys.argv[1], sys.argv[2], int(sys.argv[3])
-    databases = [Postgres(partial(psycopg2.connect, host=host, user="postgres", dbname=name), work) for name, work in BOOKINGS.items()]
     program = os.environ.get("PROGRAM", f"{HERE}/../../tps")
-    with Scheduler(folder, read("travel.toml"), databases, program=program) as scheduler, ThreadPoolExecutor(20) as clients:
+    with Scheduler(folder, read("travel.toml"), opened(host), program=program) as scheduler, ThreadPoolExecutor(20) as clients:
         # Each client places an order and waits how it ends.
         for outcome in clients.map(lambda number: scheduler.submit(trip(number)).result(), range(1, trips + 1)):
             print(outcome.name, *(outcome.path or ("nothing:", *outcome.reasons)))
 
 
-main()
+if __name__ == "__main__":
+    main()

@@ -72,6 +72,8 @@ def main() -> None:
     if len(sys.argv) != 2:
         sys.exit(__doc__)
     os.umask(0o077)
+    # Modules of the operator's own stand beside the configuration.
+    sys.path.append(os.path.dirname(os.path.realpath(sys.argv[1])))
     try:
         asyncio.run(serve(read_configuration(sys.argv[1])))
     except (ConfigurationError, OSError) as error:

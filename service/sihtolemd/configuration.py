@@ -40,7 +40,7 @@ class Configuration:
     listen: tuple[str, ...] = ("127.0.0.1:8470",)
     program: str = field(default_factory=lambda: os.environ.get("PROGRAM", "tps"))
     worker_operations: tuple[str, ...] = ()
-    participants: str = ""
+    participants: tuple[str, ...] = ()
     carry_over: tuple[str, ...] = ()
     processes_in_files: int = 4000
     most_active: int = 64

@@ -177,11 +177,12 @@ class Service:
         return RemoteWorkers(f"{self.configuration.folder}/workers.db", self.configuration.worker_operations, self.desk)
 
     def _own_participants(self) -> Sequence[Participant]:
-        """Those of the function that the configuration names, as `module:function`."""
+        """What the function `module:function` of the configuration gives, called with the words behind it."""
         if not self.configuration.participants:
             return ()
-        module, _, function = self.configuration.participants.partition(":")
-        made: Sequence[Participant] = getattr(importlib.import_module(module), function)()
+        place, *words = self.configuration.participants
+        module, _, function = place.partition(":")
+        made: Sequence[Participant] = getattr(importlib.import_module(module), function)(*words)
         return made
 
     # The thread that has the scheduler.

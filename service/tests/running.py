@@ -16,6 +16,9 @@ sys.dont_write_bytecode = True
 
 from shop_workers import opened  # noqa: E402  which makes the shop known
 
+import audit  # noqa: E402
+from databases import Databases  # noqa: E402
+from files import Files  # noqa: E402
 from sihtolem import Service  # noqa: E402
 from sihtolem.worker import Connection  # noqa: E402
 
@@ -153,3 +156,38 @@ def kill(process):
         os.kill(process, signal.SIGKILL)
     except ProcessLookupError:
         pass
+
+
+def end(process):
+    process.kill()
+    process.wait()
+
+
+def is_done(daemon):
+    """Whether the service is there, and all have ended. It may be at its start still."""
+    try:
+        told = daemon.call("GET", "/v1/processes")[1]
+    except (OSError, http.client.HTTPException):
+        return False
+    return told.get("open") and not told["active"] and not told["queued_count"]
+
+
+def reached(daemon):
+    try:
+        return daemon.call("GET", "/ready")[0] in (200, 503)
+    except OSError:
+        return False
+
+
+def audited(daemon):
+    files, databases = Files(PROGRAM, daemon.folder), Databases(daemon.databases)
+    faults = audit.faults(files, databases)
+    if faults:
+        raise Failure("\n".join(faults))
+    fates = [fate for fate in audit.fates(files) if not fate.is_opening]
+    return len(fates), sum(bool(fate.path) for fate in fates), files.last
+
+
+def check(what, told, wanted):
+    if told != wanted:
+        raise Failure(f"{what}: {told} and not {wanted}")

@@ -1,0 +1,156 @@
+"""Bad input, tokens, bodies that are too large, and full disks."""
+import hashlib
+import http.client
+import json
+import os
+import re
+import socket
+import subprocess
+import tempfile
+import threading
+
+from running import TOP, Daemon, Failure, audited, check, end, free_port, is_done, wait_for, worker
+
+from orders import order
+from shop_workers import opened
+from sihtolem.worker import Connection
+
+TOKENS = {"front": ["submit", "abort"], "van": ["work"]}
+
+
+def look_at_bad_input(folder):
+    """Each fault has one named answer, also without a token, and the service goes on."""
+    tokens = [{"name": name, "sha256": hashlib.sha256(name.encode()).hexdigest(), "may": may} for name, may in TOKENS.items()]
+    port = free_port()
+    limits = {"requests_per_second": 20.0, "burst": 100.0}
+    daemon = Daemon(folder, tokens=tokens, limits=limits, listen=[f"unix:{folder}/socket", f"127.0.0.1:{port}"]).start()
+    try:
+        rows = [
+            ("no token", "/v1/processes", b"{}", "", 401, "no_token"),
+            ("a wrong token", "/v1/processes", b"{}", "wrong", 401, "no_token"),
+            ("a token for something else", "/v1/processes", b"{}", "van", 403, "not_allowed"),
+            ("abort by a worker", "/v1/processes/x/abort", b"{}", "van", 403, "not_allowed"),
+            ("work by a shop", "/v1/work", b"{}", "front", 403, "not_allowed"),
+            ("bad JSON", "/v1/processes", b"{", "front", 400, "bad_json"),
+            ("deep JSON", "/v1/processes", b"[" * 100000, "front", 400, "bad_json"),
+            ("bytes", "/v1/processes", b"\xff\xfe", "front", 400, "bad_json"),
+            ("a list", "/v1/processes", b"[]", "front", 400, "bad_json"),
+            ("no field", "/v1/processes", b"{}", "front", 400, "bad_field"),
+            ("a number for a text", "/v1/processes", b'{"process": 1}', "front", 400, "bad_field"),
+            ("no process", "/v1/processes", b'{"process": "order"}', "front", 422, "bad_process"),
+            ("a process that gets stuck", "/v1/processes", b'{"process": "process s p a charge 1 1 p b charge 1 1 end"}', "front", 422, "bad_process"),
+            ("an operation of nobody", "/v1/processes", b'{"process": "process s c a fly 1 1 end"}', "front", 422, "unknown_operation"),
+            ("no such process", "/v1/processes/nobody/abort", b"{}", "front", 404, "no_process"),
+            ("no such lease", "/v1/work/7/done", b"{}", "van", 409, "lease_ended"),
+            ("no such path", "/v1/nothing", b"{}", "front", 404, "no_such_path"),
+            ("another method", "/v1/events", b"{}", "front", 405, "wrong_method"),
+            ("too much", "/v1/processes", b" " * 200_000, "front", 413, "body_too_large"),
+        ]
+        for what, path, body, token, status, name in rows:
+            told, error = raw_call(daemon, path, body, token)
+            check(what, (told, error), (status, name))
+        look_at_great_body(daemon)
+        look_at_hosts(port)
+        told = [raw_call(daemon, "/v1/processes", b"{", "front")[1] for _ in range(200)]
+        check("a flood", set(told), {"bad_json", "too_many_requests"})
+        check("a text that is checked", daemon.call("POST", "/v1/check", {"text": "process x c a reserve 1 1 end"})[1]["is_well_formed"], True)
+        check("no JSON", plain_call(port, "POST", "/v1/check", "x", {"Content-Type": "text/plain"}), 415)
+        daemon.stop()
+    finally:
+        end(daemon.process)
+    return f"{len(rows)} kinds of bad input, a flood, and bodies of 100 MB"
+
+
+def raw_call(daemon, path, body, token):
+    """The status and the name of the error, of a body that may be no JSON."""
+    connection = Connection(daemon.address, 30)
+    headers = {"Content-Type": "application/json", **({"Authorization": f"Bearer {token}"} if token else {})}
+    try:
+        connection.request("POST", path, body, headers)
+    except (BrokenPipeError, ConnectionResetError):
+        pass
+    answer = connection.getresponse()
+    told = json.loads(answer.read())
+    connection.close()
+    return answer.status, told.get("error")
+
+
+def plain_call(port, method, path, body, headers):
+    connection = http.client.HTTPConnection("127.0.0.1", port, timeout=30)
+    connection.request(method, path, body, headers)
+    status = connection.getresponse().status
+    connection.close()
+    return status
+
+
+def look_at_great_body(daemon):
+    """100 MB, announced or in pieces, are refused before they are read."""
+    before = memory_of(daemon.process.pid)
+    for head in ("Content-Length: 100000000", "Transfer-Encoding: chunked"):
+        with socket.socket(socket.AF_UNIX) as it:
+            it.settimeout(30)
+            it.connect(daemon.address.removeprefix("unix:"))
+            it.sendall(f"POST /v1/processes HTTP/1.1\r\nHost: x\r\nAuthorization: Bearer front\r\nContent-Type: application/json\r\n{head}\r\n\r\n".encode())
+            threading.Thread(target=pour, args=(it, "chunked" in head), daemon=True).start()
+            status = it.makefile("rb").readline()
+        if b" 413 " not in status:
+            raise Failure(f"100 MB by {head} are answered {status!r}")
+    if memory_of(daemon.process.pid) > before + 20_000:
+        raise Failure("100 MB stay in memory")
+
+
+def pour(it, is_chunked):
+    piece = b"x" * 100_000
+    try:
+        for _ in range(1000):
+            it.sendall(b"%x\r\n%s\r\n" % (len(piece), piece) if is_chunked else piece)
+    except OSError:
+        pass
+
+
+def memory_of(process):
+    with open(f"/proc/{process}/status") as file:
+        return int(re.search(r"VmRSS:\s+(\d+)", file.read())[1])
+
+
+def look_at_hosts(port):
+    """A page of another site is refused, though its name leads here."""
+    check("this machine", plain_call(port, "GET", "/v1/processes", None, {"Host": f"localhost:{port}"}), 200)
+    check("another site", plain_call(port, "GET", "/v1/processes", None, {"Host": "elsewhere.example"}), 421)
+    with tempfile.TemporaryDirectory() as folder:
+        daemon = Daemon(folder, listen=["0.0.0.0:1"])
+        daemon.start(until_open=False)
+        if daemon.process.wait(30) == 0 or "without a token" not in daemon.log():
+            raise Failure("the service listens beyond the machine without a token")
+
+
+def look_at_full_disk(folder):
+    """Where a small disk can be mounted: nothing is accepted while it is full, and all goes on once there is room."""
+    disk = f"{folder}/disk"
+    os.makedirs(disk)
+    if subprocess.run(["mount", "-t", "tmpfs", "-o", "size=8m", "none", disk], capture_output=True).returncode:
+        return "a full disk is left out: none can be mounted"
+    daemon = Daemon(f"{disk}/shop", databases=f"{folder}/databases", patience_seconds=3.0)
+    workers = []
+    try:
+        daemon.start()
+        workers = [worker(daemon, "worker")]
+        with open(f"{disk}/ballast", "wb", buffering=0) as ballast:
+            try:
+                while True:
+                    ballast.write(b"x" * 4096)
+            except OSError:
+                pass
+        answers = [daemon.call("POST", "/v1/processes", {"process": order(number).process}) for number in range(1, 30)]
+        if "storage_failed" not in {told.get("error") for _, told in answers}:
+            raise Failure(f"a full disk accepts 29 orders: {answers[-1]}")
+        os.remove(f"{disk}/ballast")
+        wait_for(lambda: daemon.call("POST", "/v1/processes", {"process": order(40).process})[0] in (200, 201), "there is room again")
+        wait_for(lambda: is_done(daemon), "all end behind a full disk")
+        daemon.stop()
+        audited(daemon)
+    finally:
+        for each in [*workers, *([daemon.process] if daemon.process else [])]:
+            end(each)
+        subprocess.run(["umount", "-l", disk], check=False)
+    return "a full disk"

@@ -1,0 +1,90 @@
+"""The daemon, the program, a worker and a customer are killed with signal 9, again and again, each at moments of its own."""
+import random
+import time
+from concurrent.futures import ThreadPoolExecutor
+
+from running import PROGRAM, TOP, Daemon, Failure, audited, check, end, is_done, script, wait_for, worker
+
+import audit
+from files import Files
+
+LONGEST_WAIT, MOST_SECONDS = 1.0, 60
+ORDERS_IN_FILES = 60
+MOST_OPEN = 30
+
+
+def run_killed(folder, seed, kills):
+    limits = {"queued": MOST_OPEN}
+    daemon = Daemon(folder, processes_in_files=ORDERS_IN_FILES, lease_seconds=2.0, most_active=16, limits=limits).start()
+    workers = [worker(daemon, f"worker_{at}") for at in range(2)]
+    customers = [customer(daemon, at) for at in (1, 2, 3)]
+    killers = [
+        lambda chance: restart_daemon(daemon, chance),
+        lambda chance: daemon.kill_program(),
+        lambda chance: restart(workers, chance, lambda at: worker(daemon, f"worker_{at}")),
+        lambda chance: restart(customers, chance, lambda at: customer(daemon, at + 1)),
+    ]
+    try:
+        with ThreadPoolExecutor(len(killers)) as threads:
+            killing = [threads.submit(kill_again_and_again, kill, random.Random(seed + at), kills) for at, kill in enumerate(killers)]
+            told = [done.result() for done in killing]
+        open(f"{folder}/enough", "w").close()
+        if [it.wait(60) for it in customers] != [0, 0, 0]:
+            raise Failure("a customer was answered something else")
+        wait_for(lambda: is_done(daemon), "all end", 90)
+        look_at_acknowledged(daemon)
+        daemon.stop()
+    finally:
+        for each in [*workers, *customers, daemon.process]:
+            end(each)
+    daemons, programs, of_workers, of_customers = told
+    count, whole, sets = audited(daemon)
+    kills = f"killed {daemons} times, the program {programs}, workers {of_workers}, customers {of_customers} times"
+    return f"{kills}; {count} orders over {sets} sets of files, {whole} of them whole"
+
+
+def kill_again_and_again(kill, chance, kills):
+    """Gives how often it killed: on a machine that is busy with other things fewer times than it should."""
+    end = time.monotonic() + MOST_SECONDS
+    for done in range(kills):
+        time.sleep(chance.uniform(0, LONGEST_WAIT))
+        if time.monotonic() > end:
+            return done
+        kill(chance)
+    return kills
+
+
+def restart_daemon(daemon, chance):
+    """Half of the times the next kill may come before it is open."""
+    daemon.kill()
+    daemon.start(until_open=chance.random() < 0.5)
+
+
+def restart(processes, chance, anew):
+    at = chance.randrange(len(processes))
+    end(processes[at])
+    processes[at] = anew(at)
+
+
+def customer(daemon, first):
+    return script(daemon, f"{TOP}/service/tests/customer.py", daemon.address, daemon.folder, str(first))
+
+
+def acknowledged(daemon):
+    names = set()
+    for first in (1, 2, 3):
+        with open(f"{daemon.folder}/acknowledged.{first}") as file:
+            names |= set(file.read().split())
+    return names
+
+
+def look_at_acknowledged(daemon):
+    """The service tells of each how it has ended, as the files do."""
+    files = Files(PROGRAM, daemon.folder)
+    fates = {fate.name: fate.path for fate in audit.fates(files)}
+    for name in acknowledged(daemon):
+        told = daemon.call("GET", f"/v1/processes/{name}")[1]
+        if "aborted before its start" in told.get("reasons", ()):
+            check(name, name in fates, False)
+        else:
+            check(name, (told["state"], tuple(told["path"])), ("ended", fates[name]))
