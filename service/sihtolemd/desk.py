@@ -39,6 +39,7 @@ class Poll:
     worker: str
     operations: Collection[str]
     found: "asyncio.Future[Lease]"
+    is_there: Callable[[], bool]
 
 
 class Desk:
@@ -65,13 +66,13 @@ class Desk:
         self._loop.call_soon_threadsafe(self._put, task)
         task.done.result()
 
-    async def take(self, worker: str, operations: Collection[str], wait: float) -> Lease | None:
-        """A lease of the first task that this worker can do, or None if none comes in that time."""
+    async def take(self, worker: str, operations: Collection[str], wait: float, is_there: Callable[[], bool]) -> Lease | None:
+        """A lease of the first task that this worker can do, or None if none comes in that time. One that isn't there any more gets none."""
         for task in self._tasks:
             if task.work.operation in operations:
                 self._tasks.remove(task)
                 return self._lend(task, worker)
-        poll = Poll(worker, operations, self._loop.create_future())
+        poll = Poll(worker, operations, self._loop.create_future(), is_there)
         self._polls.append(poll)
         try:
             return await asyncio.wait_for(poll.found, wait)
@@ -114,7 +115,7 @@ class Desk:
 
     def _put(self, task: Task) -> None:
         for poll in self._polls:
-            if task.work.operation in poll.operations and not poll.found.done():
+            if task.work.operation in poll.operations and not poll.found.done() and poll.is_there():
                 self._polls.remove(poll)
                 poll.found.set_result(self._lend(task, poll.worker))
                 return

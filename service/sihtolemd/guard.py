@@ -46,9 +46,9 @@ class Guard:
             raise TooManyRequests(f"more than {limits.requests_per_second:g} requests a second")
 
     def _refuse_other_host(self, request: web.Request) -> None:
-        """A page of another site can have its name lead to this machine. On a Unix socket no browser comes."""
+        """A page of another site can have its name lead to this machine, where reading wants no token. On a Unix socket no browser comes."""
         address = request.transport.get_extra_info("sockname") if request.transport else None
-        if not isinstance(address, tuple) or self._configuration.tokens and "Authorization" in request.headers:
+        if not isinstance(address, tuple) or not self._configuration.is_local:
             return
         host = request.host.rpartition(":")[0] if request.host.rpartition(":")[2].isdigit() else request.host
         if host.strip("[]") not in ("localhost", "127.0.0.1", "::1", address[0], *self._configuration.hosts):

@@ -25,7 +25,7 @@ LEASES_OF_A_RUN = 1 << 32
 
 @dataclass(frozen=True)
 class Submission:
-    """`state` is `open`, `ended`, or `refused` where the program took no such process. The outcome is what GET /v1/processes/NAME tells."""
+    """`state` is `open`, `ended`, or `rejected` where the program took no such process. The outcome is what GET /v1/processes/NAME tells."""
 
     name: str
     text: str
@@ -57,7 +57,7 @@ class Ledger:
         return self._put(do)
 
     def end(self, name: str, state: str, now: float, outcome: dict[str, Any]) -> "Future[None]":
-        """Keeps how a process has ended, or that it was refused. The first end counts."""
+        """Keeps how a process has ended, or that it was rejected. The first end counts."""
         statement = "UPDATE submissions SET state = ?, ended = ?, outcome = ? WHERE name = ? AND state = 'open'"
         return self._put(lambda connection: connection.execute(statement, (state, now, json.dumps(outcome), name)) and None)
 
@@ -81,7 +81,7 @@ class Ledger:
         with self._lock:
             return [self._made(row) for row in self._reader.execute(query, (count,))]
 
-    def first_fence(self) -> int:
+    def first_lease(self) -> int:
         """The first number of leases for this run: above each of an earlier run."""
 
         def do(connection: sqlite3.Connection) -> int:

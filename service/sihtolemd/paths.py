@@ -92,8 +92,8 @@ class Paths:
         return window
 
     async def _ready(self, request: web.Request) -> web.StreamResponse:
-        if not self._service.is_open:
-            raise NotOpen(f"the service waits for {self._service.waits_for}")
+        if not self._service.runner.is_open:
+            raise NotOpen(f"the service waits for {self._service.runner.waits_for}")
         return web.json_response({"open": True})
 
     async def _metrics(self, request: web.Request) -> web.StreamResponse:
@@ -105,7 +105,7 @@ class Paths:
         service = self._service
         number = service.events.last
         queued, active = service.tracker.queued(), service.tracker.active()
-        told: dict[str, Any] = {"event": number, "open": service.is_open, "waits_for": None if service.is_open else service.waits_for}
+        told: dict[str, Any] = {"event": number, "open": service.runner.is_open, "waits_for": None if service.runner.is_open else service.runner.waits_for}
         told |= {"active": active, "queued": queued[:ENDED_TOLD], "queued_count": len(queued), "ended": service.last_ended(ENDED_TOLD)}
         return web.json_response(told)
 
@@ -133,7 +133,7 @@ class Paths:
         return answer
 
     async def _send_events(self, answer: web.StreamResponse, wake: asyncio.Event, last: int) -> None:
-        while not self._service.is_stopping:
+        while not self._service.runner.is_stopping:
             wake.clear()
             found = self._service.events.after(last)
             if found is None:
@@ -170,7 +170,7 @@ class Paths:
         if self._service.desk.polls >= self._configuration.limits.polls:
             raise TooManyStreams(f"{self._service.desk.polls} workers wait for work")
         wait = min(max(field_of(body, "wait", float, 20.0), 0.0), LONGEST_POLL)
-        lease = await self._service.desk.take(field_of(body, "worker", str), set(operations), wait)
+        lease = await self._service.desk.take(field_of(body, "worker", str), set(operations), wait, lambda: is_there(request))
         if lease is None:
             return web.Response(status=204)
         return web.json_response({**told(lease), "seconds": self._service.desk.seconds})
@@ -187,6 +187,11 @@ class Paths:
     async def _heartbeat(self, request: web.Request) -> web.StreamResponse:
         self._service.desk.beat(int(request.match_info["lease"]))
         return web.json_response({"seconds": self._service.desk.seconds})
+
+
+def is_there(request: web.Request) -> bool:
+    """Whether who asks has not closed the connection."""
+    return request.transport is not None and not request.transport.is_closing()
 
 
 def refusal(error: RequestError) -> web.Response:

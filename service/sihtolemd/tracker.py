@@ -68,7 +68,7 @@ class View:
             told["at_work"] = {"work": self.piece.work, "step": self.piece.step, "since": spelled_time(self.since or 0)}
         if self.block:
             told["waits"] = {**block_as_json(self.block, names), "since": spelled_time(self.since or 0)}
-        if self.state in ("ended", "refused"):
+        if self.state in ("ended", "rejected"):
             told |= {"path": list(self.path), "reasons": list(self.reasons)}
         return told
 
@@ -101,8 +101,8 @@ class Tracker:
         if self._finish(outcome.name, "ended", outcome.path, outcome.reasons):
             self._metrics.count(self._metrics.ended, "whole" if outcome.path else "nothing")
 
-    def refused(self, name: str, why: str) -> None:
-        self._finish(name, "refused", (), (why,))
+    def rejected(self, name: str, why: str) -> None:
+        self._finish(name, "rejected", (), (why,))
 
     def _finish(self, name: str, state: str, path: tuple[str, ...], reasons: tuple[str, ...]) -> bool:
         """Whether it had not ended before."""
@@ -156,6 +156,11 @@ class Tracker:
     def active(self) -> list[dict[str, Any]]:
         with self._lock:
             return [view.as_json(self._names) for view in self._views.values() if view.state == "active"]
+
+    def ended_lately(self, count: int) -> list[dict[str, Any]]:
+        """The newest first."""
+        with self._lock:
+            return [view.as_json(self._names) for view in list(self._ended.values())[: -count - 1 : -1]]
 
     def queued(self) -> list[str]:
         with self._lock:

@@ -8,14 +8,15 @@ from running import PROGRAM, TOP, Daemon, Failure, audited, check, end, is_done,
 import audit
 from files import Files
 
-LONGEST_WAIT, MOST_SECONDS = 1.0, 60
+MOST_SECONDS = 60
 ORDERS_IN_FILES = 60
 MOST_OPEN = 30
 
 
 def run_killed(folder, seed, kills):
-    limits = {"queued": MOST_OPEN}
+    limits, began = {"queued": MOST_OPEN}, time.monotonic()
     daemon = Daemon(folder, processes_in_files=ORDERS_IN_FILES, lease_seconds=2.0, most_active=16, limits=limits).start()
+    took = time.monotonic() - began
     workers = [worker(daemon, f"worker_{at}") for at in range(2)]
     customers = [customer(daemon, at) for at in (1, 2, 3)]
     killers = [
@@ -26,7 +27,7 @@ def run_killed(folder, seed, kills):
     ]
     try:
         with ThreadPoolExecutor(len(killers)) as threads:
-            killing = [threads.submit(kill_again_and_again, kill, random.Random(seed + at), kills) for at, kill in enumerate(killers)]
+            killing = [threads.submit(kill_again_and_again, kill, random.Random(seed + at), kills, 2 * took) for at, kill in enumerate(killers)]
             told = [done.result() for done in killing]
         open(f"{folder}/enough", "w").close()
         if [it.wait(60) for it in customers] != [0, 0, 0]:
@@ -43,11 +44,12 @@ def run_killed(folder, seed, kills):
     return f"{kills}; {count} orders over {sets} sets of files, {whole} of them whole"
 
 
-def kill_again_and_again(kill, chance, kills):
-    """Gives how often it killed: on a machine that is busy with other things fewer times than it should."""
+def kill_again_and_again(kill, chance, kills, longest):
+    """Waits up to `longest` seconds before each kill, twice what a start takes, so that some work is done between. Gives how often it killed: on a
+    machine that is busy with other things fewer times than it should."""
     end = time.monotonic() + MOST_SECONDS
     for done in range(kills):
-        time.sleep(chance.uniform(0, LONGEST_WAIT))
+        time.sleep(chance.uniform(0, longest))
         if time.monotonic() > end:
             return done
         kill(chance)

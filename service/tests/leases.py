@@ -1,11 +1,13 @@
 """Workers that go away with a lease, or come back late, or are slow."""
 import time
 
-from running import OPERATIONS, TOP, Daemon, Failure, audited, check, end, is_done, reached, script, wait_for
+from running import OPERATIONS, TOP, Daemon, Failure, audited, check, end, is_done, reached, script, wait_for, worker
 
 from orders import order
 from shop_workers import opened
 from sihtolem import Overtaken, Work
+
+LEASE = 3.0
 
 
 def take(daemon, name="tester", operations=OPERATIONS, wait=10.0):
@@ -30,7 +32,7 @@ def finish(daemon, databases, told):
 
 def look_at_leases(folder):
     """A worker prepares and is heard of no more. Its work is handed out again; what it does late changes nothing."""
-    daemon = Daemon(folder, lease_seconds=0.5, most_active=4).start()
+    daemon = Daemon(folder, lease_seconds=LEASE, most_active=4).start()
     try:
         databases = opened(daemon.databases)
         daemon.call("POST", "/v1/processes", {"process": order(1).process})
@@ -44,7 +46,7 @@ def look_at_leases(folder):
         check("a late word", daemon.call("POST", f"/v1/work/{gone['lease']}/done")[1]["error"], "lease_ended")
         check("a late sign of life", daemon.call("POST", f"/v1/work/{gone['lease']}/heartbeat")[1]["error"], "lease_ended")
         for _ in range(4):
-            time.sleep(0.2)
+            time.sleep(LEASE / 3)
             check("a sign of life", daemon.call("POST", f"/v1/work/{again['lease']}/heartbeat")[0], 200)
         finish(daemon, databases, again)
         commit = take(daemon)
@@ -84,24 +86,37 @@ def look_at_a_stop_behind_a_lease(daemon, databases, each):
 
 def look_at_slow_worker(folder):
     """A worker takes longer to charge than its lease lasts, with signs of life. A delivery passes it by."""
-    daemon = Daemon(folder, lease_seconds=2.0, most_active=8).start()
+    daemon = Daemon(folder, lease_seconds=LEASE, most_active=8).start()
     deliverer = script(daemon, f"{TOP}/service/tests/deliverer.py", daemon.address, daemon.databases)
     try:
         daemon.call("POST", "/v1/processes", {"process": "process paying p pay charge 1 20 r keep deliver 2 1 end"})
         slow, began = take_charge(daemon), time.monotonic()
         daemon.call("POST", "/v1/processes", {"process": "process coming r unload deliver 1 5 end"})
         wait_for(lambda: beat(daemon, slow) and state_of(daemon, "coming") == "ended", "a delivery passes a slow payment")
-        wait_for(lambda: beat(daemon, slow) and time.monotonic() > began + 3, "the lease would have ended")
+        wait_for(lambda: beat(daemon, slow) and time.monotonic() > began + 1.3 * LEASE, "the lease would have ended")
         check("the slow one", state_of(daemon, "paying"), "active")
         databases = opened(daemon.databases)
         finish(daemon, databases, slow)
         finish(daemon, databases, take_charge(daemon))
         wait_for(lambda: state_of(daemon, "paying") == "ended", "the slow one ends")
+        look_at_signs_of_life(daemon)
         daemon.stop()
     finally:
         end(deliverer)
         end(daemon.process)
     return "a slow worker"
+
+
+def look_at_signs_of_life(daemon):
+    """The library's worker keeps the leases of what takes long alive."""
+    long = worker(daemon, "long", threads=4, seconds=2 * LEASE)
+    try:
+        for number in range(4):
+            daemon.call("POST", "/v1/processes", {"process": f"process long_{number} p pay charge 1 1 r keep keep {number} 1 tries 20 end"})
+        wait_for(lambda: is_done(daemon), "what takes long ends")
+    finally:
+        end(long)
+    check("leases that lapsed", daemon.events("lease_lapsed"), [])
 
 
 def beat(daemon, told):
@@ -111,6 +126,30 @@ def beat(daemon, told):
 
 def state_of(daemon, name):
     return daemon.call("GET", f"/v1/processes/{name}")[1]["state"]
+
+
+def look_at_sets(folder):
+    """Files that are full: what is active in them ends, one that waits for fresh files can be called off, and another one is started there."""
+    daemon = Daemon(folder, processes_in_files=2, lease_seconds=60.0).start()
+    try:
+        databases = opened(daemon.databases)
+        for name in "abc":
+            daemon.call("POST", "/v1/processes", {"process": f"process {name} c reserve reserve 1 1 p pay charge 1 1 end"})
+        wait_for(lambda: state_of(daemon, "a") == "active", "the first one starts")
+        check("the files", [event["files"] for event in daemon.events("files_full")], [1])
+        told = daemon.call("POST", "/v1/processes/b/abort")[1]
+        check("who is called off", (told["state"], told["path"], told["reasons"]), ("ended", [], ["aborted before its start"]))
+        check("the service", daemon.call("GET", "/ready")[0], 200)
+        while state_of(daemon, "c") != "ended":
+            status, told = daemon.call("POST", "/v1/work", {"worker": "tester", "operations": OPERATIONS, "wait": 1})
+            if status == 200:
+                finish(daemon, databases, told)
+        told = daemon.call("GET", "/v1/processes/c")[1]
+        check("who is started in fresh files", (told["files"], told["path"]), (2, ["reserve", "pay"]))
+        daemon.stop()
+    finally:
+        end(daemon.process)
+    return "files that are full"
 
 
 def take_charge(daemon):

@@ -7,7 +7,7 @@ import sqlite3
 import threading
 import time
 from collections.abc import Callable, Iterable, Iterator
-from contextlib import contextmanager
+from contextlib import contextmanager, nullcontext
 from typing import Any
 
 from .errors import Refused, Unreachable
@@ -92,21 +92,24 @@ class Service:
 
 
 class Worker:
-    """Works with so many threads until it is closed. Work that raises `Unreachable` is tried again while its lease is kept alive; an error of no class
-    ends the try, and the lease lapses: so another worker has it."""
+    """Works with so many threads until it is closed, and keeps their leases alive meanwhile. Work that raises `Unreachable` is tried again; an error of no
+    class ends the try, and the lease lapses: so another worker has it."""
 
     def __init__(self, address: str, participants: Iterable[Participant], *, name: str, token: str = "", threads: int = 4, pause: float = 0.2):
         self._of = {operation: participant for participant in participants for operation in participant.operations}
         self._address, self._token, self._name, self._pause = address, token, name, pause
-        self._closing = threading.Event()
+        self._closing, self._lock = threading.Event(), threading.Lock()
+        # The leases under way, each with the seconds between its signs of life, and when the next one is due.
+        self._leases: dict[int, tuple[float, float]] = {}
         self._threads = [threading.Thread(target=self._work, name=f"{name}-{at}", daemon=True) for at in range(threads)]
-        for thread in self._threads:
+        self._beating = threading.Thread(target=self._beat, name=f"{name}-beat", daemon=True)
+        for thread in [*self._threads, self._beating]:
             thread.start()
 
     def close(self) -> None:
         """Ends once what is under way is done; a wait for work ends by itself."""
         self._closing.set()
-        for thread in self._threads:
+        for thread in [*self._threads, self._beating]:
             thread.join()
 
     def _work(self) -> None:
@@ -125,34 +128,58 @@ class Worker:
         service.close()
 
     def _do(self, service: Service, told: dict[str, Any]) -> None:
-        lease = told["lease"]
+        lease, seconds = told["lease"], told["seconds"] / 3
         work = Work(*(told[name] for name in ("mark", "place", "undo", "process", "operation", "key", "amount")))
+        with self._lock:
+            self._leases[lease] = (seconds, time.monotonic() + seconds)
         try:
-            self._carry_out(service, told, work)
-            service.call("POST", f"/v1/work/{lease}/done")
-        except Refused as error:
-            service.call("POST", f"/v1/work/{lease}/refused", {"reason": str(error)})
+            refusal = self._refusal(lease, told["action"], work)
         except Overtaken as error:
             log.warning("%s", error)
-        except (OSError, http.client.HTTPException):
-            raise
+            return
         except Exception:
             log.exception("%s of %s fails", told["action"], work.name)
+            return
+        finally:
+            with self._lock:
+                self._leases.pop(lease, None)
+        if refusal is None:
+            service.call("POST", f"/v1/work/{lease}/done")
+        else:
+            service.call("POST", f"/v1/work/{lease}/refused", {"reason": refusal})
 
-    def _carry_out(self, service: Service, told: dict[str, Any], work: Work) -> None:
-        participant, lease = self._of[work.operation], told["lease"]
-        do = {"prepare": participant.prepare, "commit": participant.commit, "take back": participant.take_back}[told["action"]]
+    def _refusal(self, lease: int, action: str, work: Work) -> str | None:
+        """Does it, as often as it takes. Gives why the system refuses, or None where it is done."""
+        participant = self._of[work.operation]
+        do = {"prepare": participant.prepare, "commit": participant.commit, "take back": participant.take_back}[action]
         while True:
             try:
-                with participant.under(lease) if isinstance(participant, Fenced) else _nothing():
-                    return do(work)
+                with participant.under(lease) if isinstance(participant, Fenced) else nullcontext():
+                    do(work)
+                return None
+            except Refused as error:
+                return str(error)
             except Unreachable as error:
                 log.warning("%s: %s", work.name, error)
                 time.sleep(self._pause)
-                if service.call("POST", f"/v1/work/{lease}/heartbeat")[0] != 200:
+                if lease not in self._leases:
                     raise Overtaken(f"{work.name}: lease {lease} has ended") from error
 
-
-@contextmanager
-def _nothing() -> Iterator[None]:
-    yield
+    def _beat(self) -> None:
+        """A sign of life for each lease that is due. One that has ended is given up."""
+        service = Service(self._address, self._token, timeout=10)
+        while not self._closing.wait(self._pause) or self._leases:
+            now = time.monotonic()
+            with self._lock:
+                due = [(lease, seconds) for lease, (seconds, at) in self._leases.items() if at <= now]
+            for lease, seconds in due:
+                try:
+                    is_alive = service.call("POST", f"/v1/work/{lease}/heartbeat")[0] == 200
+                except (OSError, http.client.HTTPException, ValueError):
+                    continue
+                with self._lock:
+                    if lease in self._leases and is_alive:
+                        self._leases[lease] = (seconds, now + seconds)
+                    elif not is_alive:
+                        self._leases.pop(lease, None)
+        service.close()

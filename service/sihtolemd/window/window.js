@@ -156,7 +156,7 @@ function drawNumbers() {
 }
 
 function endOf(process) {
-  if (process.state === "refused") return ["nothing", "not started"];
+  if (process.state === "rejected") return ["nothing", "not started"];
   return process.path.length ? ["", process.path.join(" → ")] : ["nothing", "nothing is left"];
 }
 
@@ -255,10 +255,11 @@ const changes = {
     delete process.waits;
   },
   effected: (event, process) => passed(event, process, event.work === "undo" ? "undone" : "done"),
-  refused: (event, process) => (event.path ? changes.ended({ ...event, event: "refused" }, process) : passed(event, process, "refused")),
+  refused: (event, process) => passed(event, process, "refused"),
+  rejected: (event, process) => changes.ended(event, process),
   dropped: (event, process) => passed(event, process, "dropped"),
   ended: (event, process) => {
-    world.active.delete(event.process);
+    if (!world.active.delete(event.process)) world.queued -= 1;
     world.ended.unshift({ ...process, name: event.process, state: event.event, path: event.path, reasons: event.reasons });
     world.ended.length = Math.min(world.ended.length, 100);
     world.isEndedDrawn = false;
@@ -284,7 +285,7 @@ function take(event) {
   if (["lost", "opened", "failed", "files_begun"].includes(event.event)) return false;
   const change = changes[event.event], process = world.active.get(event.process);
   if (!change) return true;
-  if (process || ["submitted", "started", "waits", "ended", "refused"].includes(event.event)) change(event, process || {});
+  if (process || ["submitted", "started", "waits", "ended", "rejected"].includes(event.event)) change(event, process || {});
   if (world.chosen && world.chosen === event.process) choose(world.chosen);
   drawSoon();
   return true;
