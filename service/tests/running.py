@@ -40,6 +40,8 @@ def why_skipped():
 class Daemon:
     """It listens on a socket of its folder, if nothing else is said. The databases are those of the workers."""
 
+    command = f"{TOP}/service/bin/sihtolemd"
+
     def __init__(self, folder, databases=None, **entries):
         self.folder, self.databases, self.address = folder, databases or f"{folder}/databases", f"unix:{folder}/socket"
         os.makedirs(folder, exist_ok=True)
@@ -62,7 +64,7 @@ class Daemon:
 
     def start(self, until_open=True):
         log = open(f"{self.folder}/log", "a")
-        self.process = subprocess.Popen([f"{TOP}/service/bin/sihtolemd", f"{self.folder}/sihtolemd.toml"], stdout=log, stderr=log)
+        self.process = subprocess.Popen([self.command, f"{self.folder}/sihtolemd.toml"], stdout=log, stderr=log)
         if until_open:
             wait_for(lambda: self.is_open(), "the service opens")
         return self
