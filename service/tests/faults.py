@@ -22,7 +22,7 @@ def look_at_bad_input(folder):
     """Each fault has one named answer, also without a token, and the service goes on."""
     tokens = [{"name": name, "sha256": hashlib.sha256(name.encode()).hexdigest(), "may": may} for name, may in TOKENS.items()]
     port = free_port()
-    limits = {"requests_per_second": 20.0, "burst": 100.0}
+    limits = {"requests_per_second": 2.0, "burst": 60.0}
     daemon = Daemon(folder, tokens=tokens, limits=limits, listen=[f"unix:{folder}/socket", f"127.0.0.1:{port}"]).start()
     try:
         rows = [

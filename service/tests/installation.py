@@ -1,6 +1,7 @@
 """What `make install` puts in place: the service, its example and the program run from there."""
 import os
 import subprocess
+import sys
 
 from running import PROGRAM, TOP, Daemon, Failure, check, end, script, wait_for
 
@@ -14,7 +15,7 @@ def look_at_installation(folder):
         if not os.path.exists(f"{there}/{path}"):
             raise Failure(f"the installation lacks {path}")
     examples = f"{there}/share/sihtolem/examples/service"
-    entries = {"program": f"{there}/bin/tps", "scenario": f"{examples}/shop.toml", "carry_over": [f"{examples}/carry_over.py", f"{folder}/state/databases"]}
+    entries = {"program": f"{there}/bin/tps", "scenario": f"{examples}/shop.toml", "carry_over": [sys.executable, f"{examples}/carry_over.py", f"{folder}/state/databases"]}
     daemon = Daemon(f"{folder}/state", **entries)
     daemon.command = f"{there}/bin/sihtolemd"
     daemon.start()

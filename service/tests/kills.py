@@ -14,8 +14,10 @@ MOST_OPEN = 30
 
 
 def run_killed(folder, seed, kills):
-    limits, began = {"queued": MOST_OPEN}, time.monotonic()
-    daemon = Daemon(folder, processes_in_files=ORDERS_IN_FILES, lease_seconds=2.0, most_active=16, limits=limits).start()
+    daemon = Daemon(folder, processes_in_files=ORDERS_IN_FILES, lease_seconds=2.0, most_active=16, limits={"queued": MOST_OPEN}).start()
+    daemon.stop()
+    began = time.monotonic()
+    daemon.start()
     took = time.monotonic() - began
     workers = [worker(daemon, f"worker_{at}") for at in range(2)]
     customers = [customer(daemon, at) for at in (1, 2, 3)]

@@ -1,5 +1,8 @@
 """Workers that go away with a lease, or come back late, or are slow."""
+import threading
 import time
+from concurrent.futures import ThreadPoolExecutor
+from contextlib import contextmanager
 
 from running import OPERATIONS, TOP, Daemon, Failure, audited, check, end, is_done, reached, script, wait_for, worker
 
@@ -45,9 +48,8 @@ def look_at_leases(folder):
             raise Failure("a later lease has no greater number")
         check("a late word", daemon.call("POST", f"/v1/work/{gone['lease']}/done")[1]["error"], "lease_ended")
         check("a late sign of life", daemon.call("POST", f"/v1/work/{gone['lease']}/heartbeat")[1]["error"], "lease_ended")
-        for _ in range(4):
-            time.sleep(LEASE / 3)
-            check("a sign of life", daemon.call("POST", f"/v1/work/{again['lease']}/heartbeat")[0], 200)
+        with alive(daemon, again):
+            time.sleep(1.3 * LEASE)
         finish(daemon, databases, again)
         commit = take(daemon)
         check("what comes behind", (commit["action"], commit["name"]), ("commit", gone["name"]))
@@ -91,9 +93,10 @@ def look_at_slow_worker(folder):
     try:
         daemon.call("POST", "/v1/processes", {"process": "process paying p pay charge 1 20 r keep deliver 2 1 end"})
         slow, began = take_charge(daemon), time.monotonic()
-        daemon.call("POST", "/v1/processes", {"process": "process coming r unload deliver 1 5 end"})
-        wait_for(lambda: beat(daemon, slow) and state_of(daemon, "coming") == "ended", "a delivery passes a slow payment")
-        wait_for(lambda: beat(daemon, slow) and time.monotonic() > began + 1.3 * LEASE, "the lease would have ended")
+        with alive(daemon, slow):
+            daemon.call("POST", "/v1/processes", {"process": "process coming r unload deliver 1 5 end"})
+            wait_for(lambda: state_of(daemon, "coming") == "ended", "a delivery passes a slow payment")
+            wait_for(lambda: time.monotonic() > began + 1.3 * LEASE, "the lease would have ended")
         check("the slow one", state_of(daemon, "paying"), "active")
         databases = opened(daemon.databases)
         finish(daemon, databases, slow)
@@ -119,9 +122,22 @@ def look_at_signs_of_life(daemon):
     check("leases that lapsed", daemon.events("lease_lapsed"), [])
 
 
-def beat(daemon, told):
-    check("a sign of life", daemon.call("POST", f"/v1/work/{told['lease']}/heartbeat")[0], 200)
-    return True
+@contextmanager
+def alive(daemon, told):
+    """A sign of life now and then, from a thread of its own."""
+    enough = threading.Event()
+
+    def beat():
+        while not enough.wait(LEASE / 10):
+            check("a sign of life", daemon.call("POST", f"/v1/work/{told['lease']}/heartbeat")[0], 200)
+
+    with ThreadPoolExecutor(1) as thread:
+        beating = thread.submit(beat)
+        try:
+            yield
+        finally:
+            enough.set()
+        beating.result()
 
 
 def state_of(daemon, name):

@@ -51,7 +51,7 @@ class Daemon:
             "listen": [self.address],
             "program": PROGRAM,
             "worker_operations": OPERATIONS,
-            "carry_over": [f"{TOP}/examples/service/carry_over.py", self.databases],
+            "carry_over": [sys.executable, f"{TOP}/examples/service/carry_over.py", self.databases],
             "unclaimed_seconds": 1.0,
             **entries,
         }
@@ -140,7 +140,7 @@ def wait_for(is_so, what, seconds=PATIENCE):
     while not is_so():
         if time.monotonic() > end:
             raise Failure(f"{what}: not within {seconds} s")
-        time.sleep(0.02)
+        time.sleep(0.1)
 
 
 def children(parent):
