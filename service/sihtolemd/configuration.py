@@ -3,6 +3,7 @@ import dataclasses
 import ipaddress
 import os
 import tomllib
+import typing
 from dataclasses import dataclass, field
 from typing import Any
 
@@ -118,9 +119,11 @@ def _made(kind: Any, told: dict[str, Any], where: str) -> Any:
     for name, value in told.items():
         if name not in known:
             raise ConfigurationError(f"{where} has no entry `{name}`; there is {', '.join(known)}")
-        if isinstance(value, list):
+        if typing.get_origin(known[name].type) is tuple:
+            if not isinstance(value, (list, tuple)) or name != "tokens" and not all(isinstance(it, str) for it in value):
+                raise ConfigurationError(f"`{name}` of {where} is a list of texts")
             told = {**told, name: tuple(value)}
-        elif known[name].type in (str, "str") and not isinstance(value, str):
+        elif known[name].type is str and not isinstance(value, str):
             raise ConfigurationError(f"`{name}` of {where} is text")
         elif known[name].type in (int, float) and (isinstance(value, bool) or not isinstance(value, (int, float))):
             raise ConfigurationError(f"`{name}` of {where} is a number")

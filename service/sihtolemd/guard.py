@@ -41,6 +41,9 @@ class Guard:
                 raise NoToken(f"to {permission} wants a token" if "Authorization" not in request.headers else "this token isn't known")
             if permission != "read" and permission not in token.may:
                 raise NotAllowed(f"{token.name} may not {permission}")
+        # A page of another site can send forms and texts without asking, but no JSON.
+        if request.method == "POST" and request.content_type != "application/json":
+            raise NotJson(f"it is {request.content_type}")
         limits, who = self._configuration.limits, token.name if token else ""
         if not self._buckets.setdefault(who, Bucket(limits.requests_per_second, limits.burst)).take():
             raise TooManyRequests(f"more than {limits.requests_per_second:g} requests a second")
@@ -66,8 +69,6 @@ async def body_of(request: web.Request, configuration: Configuration) -> dict[st
     limits = configuration.limits
     if request.content_length is not None and request.content_length > limits.body_bytes:
         raise BodyTooLarge(f"{request.content_length} bytes")
-    if request.content_type != "application/json":
-        raise NotJson(f"the body is {request.content_type}")
     try:
         body = await asyncio.wait_for(request.read(), limits.body_seconds)
     except web.HTTPRequestEntityTooLarge:

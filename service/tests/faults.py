@@ -14,8 +14,39 @@ from running import TOP, Daemon, Failure, audited, check, end, free_port, is_don
 from orders import order
 from shop_workers import opened
 from sihtolem.worker import Connection
+from sihtolemd.configuration import read_configuration
+from sihtolemd.errors import ConfigurationError
 
 TOKENS = {"front": ["submit", "abort"], "van": ["work"]}
+
+
+def look_at_configurations(folder):
+    """Each configuration that has no form, or would be unsafe, is refused in words."""
+    least, digest = 'folder = "a"\nscenario = "s"\n', "0" * 64
+    rows = [
+        ("folder =", "Invalid value"),
+        ('folder = 1\nscenario = "s"', "`folder` of the top is text"),
+        ('folder = "a"', "lacks the entry `scenario`"),
+        (f'{least}listen = "127.0.0.1:1"', "`listen` of the top is a list"),
+        (f'{least}listen = ["nowhere"]', "neither HOST:PORT nor unix:PATH"),
+        (f'{least}listen = ["0.0.0.0:1"]', "without a token"),
+        (f"{least}most_active = 300", "from 1 to 256"),
+        (f"{least}color = 1", "no entry `color`"),
+        (f'{least}[limits]\nqueued = "many"', "`queued` of limits is a number"),
+        (f'{least}[[tokens]]\nname = "a"\nsha256 = "secret"\nmay = ["submit"]', "no SHA-256"),
+        (f'{least}[[tokens]]\nname = "a"\nsha256 = "{digest}"\nmay = ["fly"]', "may ['fly']"),
+    ]
+    os.makedirs(folder)
+    for text, words in rows:
+        with open(f"{folder}/bad.toml", "w") as file:
+            file.write(text)
+        try:
+            read_configuration(f"{folder}/bad.toml")
+        except ConfigurationError as error:
+            check(f"what is said of {text!r}", words in str(error), True)
+        else:
+            raise Failure(f"{text!r} is taken")
+    return f"{len(rows)} bad configurations"
 
 
 def look_at_bad_input(folder):
@@ -55,6 +86,7 @@ def look_at_bad_input(folder):
         check("a flood", set(told), {"bad_json", "too_many_requests"})
         check("a text that is checked", daemon.call("POST", "/v1/check", {"text": "process x c a reserve 1 1 end"})[1]["is_well_formed"], True)
         check("no JSON", plain_call(port, "POST", "/v1/check", "x", {"Content-Type": "text/plain"}), 415)
+        check("a form of another page", plain_call(port, "POST", "/v1/processes/x/abort", None, {"Authorization": "Bearer front"}), 415)
         daemon.stop()
     finally:
         end(daemon.process)

@@ -22,19 +22,19 @@ def run_killed(folder, seed, kills):
     workers = [worker(daemon, f"worker_{at}") for at in range(2)]
     customers = [customer(daemon, at) for at in (1, 2, 3)]
     killers = [
-        lambda chance: restart_daemon(daemon, chance),
+        lambda chance: (daemon.kill(), daemon.start(until_open=False)),
         lambda chance: daemon.kill_program(),
         lambda chance: restart(workers, chance, lambda at: worker(daemon, f"worker_{at}")),
         lambda chance: restart(customers, chance, lambda at: customer(daemon, at + 1)),
     ]
     try:
         with ThreadPoolExecutor(len(killers)) as threads:
-            killing = [threads.submit(kill_again_and_again, kill, random.Random(seed + at), kills, 2 * took) for at, kill in enumerate(killers)]
+            killing = [threads.submit(kill_again_and_again, kill, random.Random(seed + at), kills, 4 * took) for at, kill in enumerate(killers)]
             told = [done.result() for done in killing]
         open(f"{folder}/enough", "w").close()
         if [it.wait(60) for it in customers] != [0, 0, 0]:
             raise Failure("a customer was answered something else")
-        wait_for(lambda: is_done(daemon), "all end", 90)
+        wait_for(lambda: is_done(daemon), "all end", 120)
         look_at_acknowledged(daemon)
         daemon.stop()
     finally:
@@ -47,7 +47,7 @@ def run_killed(folder, seed, kills):
 
 
 def kill_again_and_again(kill, chance, kills, longest):
-    """Waits up to `longest` seconds before each kill, twice what a start takes, so that some work is done between. Gives how often it killed: on a
+    """Waits up to `longest` seconds before each kill, four times what a start takes, so that some work is done between. Gives how often it killed: on a
     machine that is busy with other things fewer times than it should."""
     end = time.monotonic() + MOST_SECONDS
     for done in range(kills):
@@ -56,12 +56,6 @@ def kill_again_and_again(kill, chance, kills, longest):
             return done
         kill(chance)
     return kills
-
-
-def restart_daemon(daemon, chance):
-    """Half of the times the next kill may come before it is open."""
-    daemon.kill()
-    daemon.start(until_open=chance.random() < 0.5)
 
 
 def restart(processes, chance, anew):

@@ -70,6 +70,10 @@ def look_at_a_stop_behind_a_lease(daemon, databases, each):
     daemon.start(until_open=False)
     wait_for(lambda: reached(daemon), "the service is there")
     check("a service that settles", daemon.call("GET", "/ready")[1]["error"], "not_open")
+    # It can be stopped while it waits for workers.
+    daemon.stop()
+    daemon.start(until_open=False)
+    wait_for(lambda: reached(daemon), "the service is there again")
     back = take(daemon)
     check("what is prepared is taken back", (back["action"], back["name"], back["key"]), ("take back", pay["name"], pay["key"]))
     finish(daemon, databases, back)

@@ -11,7 +11,7 @@ import time
 TOP = os.path.dirname(os.path.dirname(os.path.dirname(os.path.realpath(__file__))))
 PROGRAM = os.path.abspath(os.environ.get("PROGRAM", f"{TOP}/tps"))
 PYTHON = "/usr/bin/python3"
-sys.path[:0] = [f"{TOP}/examples/shop", f"{TOP}/examples/service", f"{TOP}/clients/python"]
+sys.path[:0] = [f"{TOP}/examples/shop", f"{TOP}/examples/service", f"{TOP}/clients/python", f"{TOP}/service"]
 sys.dont_write_bytecode = True
 
 from shop_workers import opened  # noqa: E402  which makes the shop known
