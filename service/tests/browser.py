@@ -1,7 +1,9 @@
 """A headless Chromium, driven by its debugging protocol over aiohttp."""
 import asyncio
 import base64
+import os
 import shutil
+import signal
 import subprocess
 import tempfile
 
@@ -25,9 +27,9 @@ class Browser:
     async def __aenter__(self):
         words = ["--headless=new", "--no-sandbox", "--disable-gpu", "--disable-dev-shm-usage", "--no-first-run", "--remote-debugging-port=0"]
         size = f"--window-size={self._size[0]},{self._size[1]}"
-        self._process = subprocess.Popen(
-            ["chromium", *words, f"--user-data-dir={self._folder}", size, "about:blank"], stdout=subprocess.DEVNULL, stderr=subprocess.PIPE, text=True
-        )
+        words = ["chromium", *words, f"--user-data-dir={self._folder}", size, "about:blank"]
+        # It has processes of its own, which end with its group.
+        self._process = subprocess.Popen(words, stdout=subprocess.DEVNULL, stderr=subprocess.PIPE, text=True, start_new_session=True)
         port = next((line.split(":")[2].split("/")[0] for line in self._process.stderr if "DevTools listening on" in line), None)
         if port is None:
             raise PageFault("chromium doesn't start")
@@ -41,7 +43,7 @@ class Browser:
 
     async def __aexit__(self, *_):
         await self._session.close()
-        self._process.kill()
+        os.killpg(self._process.pid, signal.SIGKILL)
         self._process.wait()
         shutil.rmtree(self._folder, ignore_errors=True)
 
