@@ -32,7 +32,7 @@ use Rattle.dependence_model.specs.Audited.{CanReduce, completed_schedule, IsPref
 use Rattle.dependence_model.specs.Laws.{AreOnce, TestIsExact, SchedulesAreOnce}
 use Rattle.audit_core.specs.declared.judging.Audited.{Audited}
 use Rattle.audit_core.specs.declared.judging.Audited.TheVariants.{Reducible, Barred, Cycle}
-use Rattle.audit_core.specs.Audits.{IsAudit, IsBarred, IsCyclic, IsFailing, IsFoundFrom, IsLeastFrom, NowFound, schedule_at, serial_order}
+use Rattle.audit_core.specs.Audits.{IsAudit, IsBarred, IsCyclic, IsFailing, IsFoundFrom, IsLeastFrom, NowFound, schedule_at, serial_schedule}
 
 -- Completion asks the courses of the active processes alone.
 module _ (cs ds : List Course) (h : List Event) (same : (i : ℕ) → IsTrue (is_active h i) → SameCourse cs ds i) where
@@ -153,7 +153,7 @@ module _ (table : ConflictRelation) (courses : List Course) (h : List Event) whe
           (subst (IsLeastFrom table courses h from) (sym fails'.0) here, subst (λ (k : ℕ). IsCyclic table (schedule_at courses h k) left.items processes.items) (sym fails'.0) fails'.1)
 
   -- at first nothing was judged
-  pub found-first : (serial : List ℕ) (found : Audited) → serial ≡ serial_order table courses h → (s : _) → found ≡ Reducible s → s.items ≡ serial → IsFoundFrom table courses h (length h + 1) found
+  pub found-first : (serial : List Entry) (found : Audited) → serial ≡ serial_schedule table courses h → (s : _) → found ≡ Reducible s → s.items ≡ serial → IsFoundFrom table courses h (length h + 1) found
   found-first serial found is s same items =
       subst (IsFoundFrom table courses h (length h + 1)) (sym same) (λ m above within. absurd (omega (arith, above, within)), items ∙ is)
 

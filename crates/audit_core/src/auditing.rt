@@ -5,9 +5,9 @@ ghost use Rattle.schedule_model.specs.declared.event.Event.{Event};
 ghost use Rattle.schedule_model.specs.Course.{courses_of};
 ghost use Rattle.schedule_model.specs.Laws.{IsPlanned, plans_in};
 ghost use Rattle.schedule_model.specs.OwnOrder.{is_in_own_order};
-ghost use Rattle.audit_core.specs.Audits.{IsAudit};
+ghost use Rattle.audit_core.specs.Audits.{most_events, IsAudit};
 
-use crate::judging::{Audited, judged, serial_order};
+use crate::judging::{Audited, judged, serial_schedule};
 use dependence_model::{schedules_are_once, test_is_exact};
 use process_tree::Conflicts;
 use schedule_model::{Events, Plans};
@@ -36,13 +36,13 @@ fn without_last(alloc: Global, h: History) -> Result<History, AllocError>
 pub fn audit(alloc: Global, h: History, c: &Conflicts) -> Result<Audited, AllocError>
     requires planned { IsPlanned (operations_in c.now) h.plans h.events }
     requires own_order { IsTrue (is_in_own_order (courses_of h.plans) h.events) }
-    requires few { length h.events ≤ 128 }
+    requires few { length h.events ≤ most_events }
     ensures { IfOk result (λ found. IsAudit (do_conflict c.now) (courses_of h.plans) h.events found) }
 {
     test_is_exact();
     schedules_are_once();
     let count = h.events.as_slice().len();
-    let serial = serial_order(alloc, &h, c)?;
+    let serial = serial_schedule(alloc, &h, c)?;
     let mut found = judged(alloc, &h, c, Audited::Reducible { serial })?;
     let mut g = h;
     let mut left = count;

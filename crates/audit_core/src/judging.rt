@@ -7,26 +7,25 @@ ghost use Rattle.schedule_model.specs.Laws.{IsPlanned};
 ghost use Rattle.schedule_model.specs.OwnOrder.{is_in_own_order};
 ghost use Rattle.dependence_model.specs.Dependence.{left_of};
 ghost use Rattle.dependence_model.specs.Audited.{completed_schedule};
-ghost use Rattle.dependence_model.specs.SerialOrder.{order_of};
 ghost use Rattle.audit_core.specs.Taking.{AreAllKnown};
 ghost use Rattle.audit_core.specs.Arrows.{AreFew};
-ghost use Rattle.audit_core.specs.Audits.{NowFound};
+ghost use Rattle.audit_core.specs.Audits.{most_events, serial_schedule, NowFound};
 
 use crate::cycles::told_cycle;
-use crate::ordering::order_of;
+use crate::ordering::{one_by_one, order_of};
 use crate::placing::placed;
 use crate::taking::take_away;
 use dependence_model::{Placed, left_is_computed, left_is_unique, schedules_are_once};
-use process_tree::Conflicts;
+use process_tree::{Conflicts, Entry};
 use schedule_rules::{History, completed};
 use std::alloc::{AllocError, Global};
 
 /// What an audit finds.
 #[derive(Drop)]
 pub enum Audited {
-    /// Each beginning can be reduced. The processes of which something is left of the whole are in a serial order.
+    /// Each beginning can be reduced, and this is the serial list to which the whole is brought.
     Reducible {
-        serial: Vec<u32>,
+        serial: Vec<Entry>,
     },
     /// An undo can't be brought to its step: the least number of events for which that is so, and what is left of them.
     Barred {
@@ -45,7 +44,7 @@ pub enum Audited {
 fn left_behind(alloc: Global, h: &History, c: &Conflicts) -> Result<Vec<Placed>, AllocError>
     requires planned { IsPlanned (operations_in c.now) h.now.plans h.now.events }
     requires own_order { IsTrue (is_in_own_order (courses_of h.now.plans) h.now.events) }
-    requires few { length h.now.events ≤ 128 }
+    requires few { length h.now.events ≤ most_events }
     ensures left { IfOk result
         (λ left. left.items ≡ left_of (do_conflict c.now) (completed_schedule (courses_of h.now.plans) h.now.events)) }
     ensures known { IfOk result (λ left. AreAllKnown c.now left.items) }
@@ -67,17 +66,17 @@ fn has_undo(left: &[Placed]) -> bool
     left.iter().any(|x| x.entry.undo)
 }
 
-/// The computed order of what is left of the schedule of a completed history.
-pub fn serial_order(alloc: Global, h: &History, c: &Conflicts) -> Result<Vec<u32>, AllocError>
+/// The serial list to which the schedule of a completed history is brought.
+pub fn serial_schedule(alloc: Global, h: &History, c: &Conflicts) -> Result<Vec<Entry>, AllocError>
     requires planned { IsPlanned (operations_in c.now) h.now.plans h.now.events }
     requires own_order { IsTrue (is_in_own_order (courses_of h.now.plans) h.now.events) }
-    requires few { length h.now.events ≤ 128 }
+    requires few { length h.now.events ≤ most_events }
     ensures { IfOk result
-        (λ order. order.items ≡ order_of (do_conflict c.now)
-        (left_of (do_conflict c.now) (completed_schedule (courses_of h.now.plans) h.now.events))) }
+        (λ serial. serial.items ≡ serial_schedule (do_conflict c.now) (courses_of h.now.plans) h.now.events) }
 {
     let left = left_behind(alloc, h, c)?;
-    order_of(alloc, c, &left)
+    let order = order_of(alloc, c, &left)?;
+    one_by_one(alloc, &left, &order)
 }
 
 /// What is found where this history is judged, too: it fails, or what was found of longer ones stays.
@@ -89,7 +88,7 @@ pub fn judged(
 ) -> Result<Audited, AllocError>
     requires planned { IsPlanned (operations_in c.now) h.now.plans h.now.events }
     requires own_order { IsTrue (is_in_own_order (courses_of h.now.plans) h.now.events) }
-    requires few { length h.now.events ≤ 128 }
+    requires few { length h.now.events ≤ most_events }
     ensures { IfOk result (λ now. NowFound (do_conflict c.now) (completed_schedule (courses_of h.now.plans) h.now.events)
         (length h.now.events) found now) }
 {

@@ -1,16 +1,17 @@
-// The serial order of what is left.
-ghost use Rattle.std.specs.Prelude.{◌≡◌, ◌<◌, filter, length, nat_eq, not, IfOk};
+// The serial order of what is left, and the list that it makes of it.
+ghost use Rattle.std.specs.Prelude.{◌≡◌, ◌<◌, ◌++◌, filter, length, nat_eq, not, IfOk, OnOk};
 ghost use Rattle.std.specs.List.{list_any};
 ghost use Rattle.process_tree.specs.Conflicts.{do_conflict};
-ghost use Rattle.dependence_model.specs.Dependence.{processes_of};
-ghost use Rattle.dependence_model.specs.SerialOrder.{first_free, order_of, ordered};
+ghost use Rattle.schedule_model.specs.Histories.{of_process};
+ghost use Rattle.dependence_model.specs.Dependence.{entries_of, processes_of};
+ghost use Rattle.dependence_model.specs.SerialOrder.{first_free, one_by_one, order_of, ordered};
 ghost use Rattle.audit_core.specs.Taking.{AreAllKnown};
 ghost use Rattle.audit_core.specs.Arrows.{AreBelow, AreFew, arrow_in};
 
 use crate::arrowing::arrows;
 use bit_rows::Bits;
 use dependence_model::Placed;
-use process_tree::Conflicts;
+use process_tree::{Conflicts, Entry};
 use std::alloc::{AllocError, Global};
 
 // Whether an arrow leads to a process from one of these.
@@ -95,4 +96,31 @@ pub fn order_of(alloc: Global, c: &Conflicts, left: &[Placed]) -> Result<Vec<u32
     let rows = arrows(alloc, c, left)?;
     let all = processes_of(alloc, left)?;
     ordered(alloc, &rows, all, left.len())
+}
+
+// Adds the entries of one process.
+fn add_process(left: &[Placed], i: u32, list: &mut Vec<Entry>) -> Result<(), AllocError>
+    ensures { OnOk result (list.new.items ≡ list.old.items ++ of_process i (entries_of left.now)) }
+{
+    let mut rest = left;
+    while let [x, after @ ..] = rest {
+        if x.entry.process == i {
+            list.push(x.entry)?;
+        }
+        rest = after;
+    }
+    Ok(())
+}
+
+/// The entries of these processes, one process after another.
+pub fn one_by_one(alloc: Global, left: &[Placed], order: &[u32]) -> Result<Vec<Entry>, AllocError>
+    ensures { IfOk result (λ list. list.items ≡ one_by_one order.now (entries_of left.now)) }
+{
+    let mut list = Vec::new(alloc);
+    let mut rest = order;
+    while let [i, after @ ..] = rest {
+        add_process(left, *i, &mut list)?;
+        rest = after;
+    }
+    Ok(list)
 }

@@ -1,0 +1,4 @@
+mod SameNames
+mod Refusals
+mod Starting
+mod ScenarioPlans
