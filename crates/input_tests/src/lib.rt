@@ -1,5 +1,5 @@
-//! Tests of what is read: the words of a call, trees and their limits, the printing of processes, catalogs. What is said of texts
-//! and of scenarios are rows (`tests/rows/check`, `tests/rows/init`).
+//! Tests of what is read: the words of a call, trees and their limits, the printing of processes, catalogs, what is warned of in
+//! scenarios. What is said of texts and of scenarios are rows (`tests/rows/check`, `tests/rows/init`).
 //!
 //! They stand apart from the crates that they test, since a crate with tests is proved twice.
 #![tactic(auto)]
@@ -10,5 +10,7 @@ mod catalogs;
 mod texts;
 #[cfg(test)]
 mod trees;
+#[cfg(test)]
+mod warnings;
 #[cfg(test)]
 mod words;
