@@ -10,7 +10,7 @@ use Rattle.schedule_model.specs.Reduction.{can_change}
 use Rattle.commute_table.specs.declared.op.Verb.{Verb}
 use Rattle.commute_table.specs.declared.op.Verb.TheVariants.{Add, Take, Look, Put, Hold, Free}
 use Rattle.resource_box.specs.Table.{bars, kind_of, takes}
-use Rattle.value_rules.specs.ValueConflict.{commute}
+use Rattle.value_conflict.specs.ValueConflict.{commute}
 use Rattle.value_rules.specs.Ledgers.{Deeds, Ledger, after, after_all, is_sum, left_by, met, same_place}
 use Rattle.value_rules.specs.Laws.{AreSound}
 use Rattle.value_rules.proofs.Steps.{Alike, InRange, alike-after, commute-is, flip_both, with-else, with-here}

@@ -13,4 +13,3 @@ mod Forward
 mod Found
 mod ValueLaws
 mod RealTime
-mod LeastPair

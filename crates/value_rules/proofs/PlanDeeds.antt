@@ -28,7 +28,7 @@ use Rattle.commute_table.specs.declared.catalog.Catalog.{Catalog}
 use Rattle.subsystem_store.specs.Bodies.{is_amount}
 use Rattle.history_files.specs.Effects.{amount_of, key_of, subsystem_of, verb_of}
 use Rattle.history_files.proofs.Amounts.{amount_within}
-use Rattle.value_rules.specs.ValueConflict.{IsValueSound, commute, conflict_in_value, is_never, no_op, op_at}
+use Rattle.value_conflict.specs.ValueConflict.{IsValueSound, commute, conflict_in_value, is_never, no_op, op_at}
 use Rattle.value_rules.specs.Ledgers.{Deed, Deeds, is_sum, same_place}
 use Rattle.value_rules.specs.Laws.{AreSound}
 

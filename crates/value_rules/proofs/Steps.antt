@@ -10,7 +10,7 @@ use Rattle.resource_box.specs.declared.call.Kind.{Kind}
 use Rattle.resource_box.specs.Table.{applied, applied_at, reverted, reverted_at, takes, kind_of}
 use Rattle.schedule_model.specs.Conflict.{ConflictRelation, conflict}
 use Rattle.schedule_model.specs.Reduction.{can_change}
-use Rattle.value_rules.specs.ValueConflict.{commute}
+use Rattle.value_conflict.specs.ValueConflict.{commute}
 use Rattle.value_rules.specs.Ledgers.{Deeds, Ledger, with_at, met, made_of, left_by, noted, after, is_sum, same_place}
 use Rattle.value_rules.specs.Laws.{AreSound}
 use Rattle.value_rules.proofs.Wraps.{Fits, moved, moves-commute}

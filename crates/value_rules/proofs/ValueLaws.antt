@@ -27,7 +27,7 @@ use Rattle.schedule_model.proofs.StandingLaws.{completed-legal}
 use Rattle.commute_table.specs.declared.catalog.Catalog.{Catalog}
 use Rattle.resource_box.specs.Table.{bars, kind_of}
 use Rattle.history_files.specs.Effects.{call_of, key_of, subsystem_of, verb_of}
-use Rattle.value_rules.specs.ValueConflict.{IsValueSound}
+use Rattle.value_conflict.specs.ValueConflict.{IsValueSound}
 use Rattle.value_rules.specs.Ledgers.{Deed, is_sum, met, unused}
 use Rattle.value_rules.specs.Laws.{AgreeOn, AreOnce, AreSound}
 use Rattle.value_rules.specs.HistoryValues.{KeepsValues, NothingIsBarred, TakesAreOfNoLess, ValueLaw, ValueLawOfCompleted, in_front_of, is_barred_in, value_after, value_found}

@@ -21,7 +21,7 @@ use Rattle.resource_box.specs.Meaning.{value_at}
 use Rattle.resource_box.specs.Table.{kind_of, bars}
 use Rattle.subsystem_store.specs.Values.{values}
 use Rattle.history_files.specs.Effects.{effects_from, call_of, subsystem_of, verb_of, key_of, amount_of}
-use Rattle.value_rules.specs.ValueConflict.{IsValueSound}
+use Rattle.value_conflict.specs.ValueConflict.{IsValueSound}
 use Rattle.value_rules.specs.Ledgers.{is_sum}
 
 -- the value that entries leave in subsystem q at a key

@@ -6,7 +6,7 @@ use Rattle.process_tree.specs.declared.entry.Entry.{Entry}
 use Rattle.schedule_model.specs.Conflict.{ConflictRelation}
 use Rattle.schedule_model.specs.Histories.{same_step}
 use Rattle.schedule_model.specs.Reduction.{AreReduced, can_change}
-use Rattle.value_rules.specs.ValueConflict.{commute}
+use Rattle.value_conflict.specs.ValueConflict.{commute}
 use Rattle.value_rules.specs.Ledgers.{Deeds, Ledger, after_all, unused, is_sum, same_place}
 
 -- What is asked of deeds and of a conflict relation, for the entries that are known: who may change places doesn't meet at one key,

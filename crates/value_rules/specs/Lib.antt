@@ -1,5 +1,4 @@
 pub mod ValueConflict
-pub mod Soundness
 pub mod Ledgers
 pub mod Laws
 pub mod HistoryValues

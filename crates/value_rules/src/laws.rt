@@ -1,12 +1,6 @@
 // The laws of values: each function says one, and does nothing.
-ghost use Rattle.value_rules.specs.ValueConflict.{FirstCommutingIsExact};
 ghost use Rattle.value_rules.specs.Laws.{ReductionKeepsValues};
 ghost use Rattle.value_rules.specs.HistoryValues.{ValueLaw, ValueLawOfCompleted, OrderIsOfRealTime};
-
-/// A pair that is found is the least one; where none is, the catalog names each conflict in value.
-pub fn first_commuting_is_exact()
-    ensures { FirstCommutingIsExact }
-{}
 
 /// Exchanges of neighbours and cancels keep the values, and what steps found.
 pub fn reduction_keeps_values()

@@ -1,6 +1,6 @@
 use Rattle.std.proofs.Common.{◌∙◌, sym, arith}
-use Rattle.value_rules.proofs.LeastPair.{with-step}
-use Rattle.value_rules.proofs.soundness.first_with.Goals as goal
+use Rattle.value_conflict.proofs.LeastPair.{with-step}
+use Rattle.value_conflict.proofs.soundness.first_with.Goals as goal
 
 pub loop-b-preserved : goal.loop-b-preserved
 loop-b-preserved c =

@@ -2,8 +2,8 @@
 ghost use Rattle.std.specs.Prelude.{◌≡◌, ◌<◌, ◌-◌, length};
 ghost use Rattle.process_tree.specs.Blocks.{numbers_from};
 ghost use Rattle.commute_table.specs.Operations.{IsCatalog};
-ghost use Rattle.value_rules.specs.ValueConflict.{commute, conflict_in_value, is_commuting, first_with, first_commuting};
-ghost use Rattle.value_rules.specs.Soundness.{pair_with, pair_of};
+ghost use Rattle.value_conflict.specs.ValueConflict.{commute, conflict_in_value, is_commuting, first_with, first_commuting};
+ghost use Rattle.value_conflict.specs.Soundness.{pair_with, pair_of};
 
 use commute_table::{Catalog, Op, Verb};
 use process_tree::Mode;
@@ -33,7 +33,7 @@ fn conflict_in_value(a: &Op, b: &Op) -> bool
 }
 
 /// Whether these operations conflict in value, though the catalog names no conflict of them.
-fn is_commuting(c: &Catalog, a: u16, b: u16) -> bool
+pub fn is_commuting(c: &Catalog, a: u16, b: u16) -> bool
     requires catalog { IsCatalog c.now }
     requires a_is_one { a < length c.now.ops }
     requires b_is_one { b < length c.now.ops }

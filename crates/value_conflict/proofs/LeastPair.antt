@@ -1,19 +1,42 @@
 -- The pair that is found is the least one.
 use Rattle.std.proofs.Common.{◌≡◌, ⊎_elim, ℕ, zero, suc, ◌+◌, ◌-◌, ◌<◌, ◌≤◌, Bool, true, false, not, eqb, ltb, ◌&&◌, ◌∷◌, length, Option, Some, None, refl, sym, ap, ◌∙◌, arith, if◌then◌else◌}
-use Rattle.std.proofs.lemmas.Bool.{and_parts, eqb-true, ltb-true, or_cases, cases_lt}
+use Rattle.std.proofs.lemmas.Bool.{and_parts, eqb-true, eq-eqb, ne_eqb, eqb-false, false≢true, ltb-true, or_cases, cases_lt}
 use Rattle.process_tree.specs.Blocks.{numbers_from}
 use Rattle.process_tree.specs.Conflicts.{mode_of}
 use Rattle.process_tree.proofs.Tables.{mode_of-symmetric}
-use Rattle.schedule_model.proofs.Conflicts.{same_either_way}
 use Rattle.commute_table.specs.declared.op.Verb.{Verb}
+use Rattle.commute_table.specs.declared.op.Verb.TheVariants.{Add, Take, Look, Put, Hold, Free}
 use Rattle.commute_table.specs.declared.catalog.Catalog.{Catalog}
-use Rattle.value_rules.specs.ValueConflict.{FirstCommuting, FirstCommutingIsExact, comes_before, commute, conflict_in_value, first_among, first_with, is_commuting, is_never, op_at, or_else}
-use Rattle.value_rules.proofs.Steps.{commute-is}
+use Rattle.value_conflict.specs.ValueConflict.{FirstCommuting, FirstCommutingIsExact, comes_before, commute, conflict_in_value, first_among, first_with, is_commuting, is_never, op_at, or_else}
 
 -- Conflict in value is the same either way.
 
+same_either_way : (a b : ℕ) (t : Bool) → eqb a b ≡ t → eqb b a ≡ t
+same_either_way a b true is = eq-eqb b a (sym (eqb-true a b is))
+same_either_way a b false is = ne_eqb b a (λ same. eqb-false a b is (sym same))
+
 same_verb : (a b : Verb) → commute a b ≡ true → a ≡ b
-same_verb a b is = ⊎_elim (λ looks. looks.0 ∙ sym looks.1) (λ sum. sum.2.0 ∙ sym sum.2.1) (commute-is a b is)
+same_verb Add Add is = refl
+same_verb Add Take is = absurd (false≢true is)
+same_verb Add Look is = absurd (false≢true is)
+same_verb Add Put is = absurd (false≢true is)
+same_verb Add Hold is = absurd (false≢true is)
+same_verb Add Free is = absurd (false≢true is)
+same_verb Take Add is = absurd (false≢true is)
+same_verb Take Take is = refl
+same_verb Take Look is = absurd (false≢true is)
+same_verb Take Put is = absurd (false≢true is)
+same_verb Take Hold is = absurd (false≢true is)
+same_verb Take Free is = absurd (false≢true is)
+same_verb Look Add is = absurd (false≢true is)
+same_verb Look Take is = absurd (false≢true is)
+same_verb Look Look is = refl
+same_verb Look Put is = absurd (false≢true is)
+same_verb Look Hold is = absurd (false≢true is)
+same_verb Look Free is = absurd (false≢true is)
+same_verb Put b is = absurd (false≢true is)
+same_verb Hold b is = absurd (false≢true is)
+same_verb Free b is = absurd (false≢true is)
 
 commute-symmetric : (a b : Verb) → commute a b ≡ commute b a
 commute-symmetric a b = by (commute a b) (commute b a) refl refl

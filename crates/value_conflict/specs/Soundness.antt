@@ -1,6 +1,6 @@
 -- What is answered of a catalog, as the pair that it tells of.
 use Rattle.std.specs.Prelude.{ℕ, Option, Some, None, Result, Ok, Err}
-use Rattle.value_rules.specs.declared.soundness.Commuting.{Commuting}
+use Rattle.value_conflict.specs.declared.soundness.Commuting.{Commuting}
 
 -- the pair of an operation and another one
 abbrev pub pair_with : ℕ → Option ℕ → Option (ℕ × ℕ)

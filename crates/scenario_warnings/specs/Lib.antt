@@ -1,0 +1,3 @@
+pub mod Warnings
+pub mod Lines
+pub mod Examples

@@ -1,0 +1,3 @@
+pub mod ValueConflict
+pub mod Soundness
+pub mod Examples
