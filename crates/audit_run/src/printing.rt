@@ -10,105 +10,10 @@ use crate::judging::Outcome;
 use audit_core::{Audited, Placed};
 use audit_text::{Log, plans_of};
 use commute_table::{Catalog, Op};
-use process_report::{place_word, put_line};
+use process_report::{act_word, form_of, op_name, place_word, put_entries, put_four, put_line};
 use process_tree::{Entry, Plan};
 use std::alloc::{AllocError, Global};
 use trace_verify::Form;
-
-fn form_of(c: &Catalog) -> Form
-    ensures { result ≡ form_of c.now }
-{
-    if c.version == 2 {
-        Form::Keyed
-    } else {
-        Form::Plain
-    }
-}
-
-fn act_word(undo: bool) -> &'static [u8]
-    ensures { result.now ≡ (if undo then codes "undo" else codes "do") }
-{
-    if undo { b"undo" } else { b"do" }
-}
-
-// The name of an operation, or nothing where there is no such operation.
-fn op_name(ops: &[Op], n: u16) -> &[u8]
-    ensures { result.now ≡ op_name ops.now n }
-{
-    let place = usize::from(n);
-    if place < ops.len() {
-        ops[place].name.bytes()
-    } else {
-        b""
-    }
-}
-
-// Writes a line of three words.
-fn put_three<'a>(
-    out: &mut Vec<u8>,
-    first: &'a [u8],
-    second: &'a [u8],
-    third: &'a [u8],
-) -> Result<(), AllocError>
-    ensures { OnOk result (out.new.items ≡ out.old.items ++ line_of (first.now ∷ second.now ∷ third.now ∷ [])) }
-{
-    put_line(out, &[first, second, third])
-}
-
-// Writes a line of four words.
-fn put_four<'a>(
-    out: &mut Vec<u8>,
-    first: &'a [u8],
-    second: &'a [u8],
-    third: &'a [u8],
-    fourth: &'a [u8],
-) -> Result<(), AllocError>
-    ensures { OnOk result (out.new.items ≡ out.old.items ++ line_of (first.now ∷ second.now ∷ third.now ∷ fourth.now ∷ [])) }
-{
-    put_line(out, &[first, second, third, fourth])
-}
-
-// Writes the line of an entry of a serial list.
-fn put_entry(
-    alloc: Global,
-    form: Form,
-    plans: &[Plan],
-    ops: &[Op],
-    entry: &Entry,
-    out: &mut Vec<u8>,
-) -> Result<(), AllocError>
-    ensures { OnOk result (out.new.items ≡ out.old.items ++ line_of (entry_line form plans.now ops.now entry.now)) }
-{
-    let place = place_word(alloc, plans, entry.process, entry.step)?;
-    let op = op_name(ops, entry.op);
-    match form {
-        Form::Plain => put_three(out, act_word(entry.undo), &place, op),
-        Form::Keyed => {
-            let key = entry.key;
-            let word = format!(in alloc; "{key}")?;
-            put_four(out, act_word(entry.undo), &place, op, word.as_bytes())
-        }
-    }
-}
-
-// Writes the lines of a serial list.
-fn put_entries(
-    alloc: Global,
-    form: Form,
-    plans: &[Plan],
-    ops: &[Op],
-    entries: &[Entry],
-    out: &mut Vec<u8>,
-) -> Result<(), AllocError>
-    ensures { OnOk result (out.new.items ≡ out.old.items ++ text_of (map (entry_line form plans.now ops.now) entries.now)) }
-{
-    let mut rest = entries;
-    while let [entry, after @ ..] = rest {
-        put_entry(alloc, form, plans, ops, entry, out)?;
-        rest = after;
-    }
-    Ok(())
-}
 
 // Writes the line of an entry that is left.
 fn put_placed(

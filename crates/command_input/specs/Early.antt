@@ -4,6 +4,7 @@ use Rattle.process_text.specs.declared.error.TextError.TheVariants as errors
 use Rattle.command_refusals.specs.declared.faults.Quantity.TheVariants.{Input, Operations, Processes, Active, Entries}
 use Rattle.command_refusals.specs.declared.refusal.Refusal.{Refusal}
 use Rattle.command_refusals.specs.declared.refusal.Refusal.TheVariants.{BadWords, Text, Scenario, CatalogDiffers, BadLine, Limit}
+use Rattle.command_refusals.specs.declared.refusal.Refusal.TheVariants.{Commuting}
 use Rattle.command_refusals.specs.declared.refusal.Refusal.TheVariants.{Unfinished, File, BookDiffers, Report, ReadFault, DiskFault}
 use Rattle.command_refusals.specs.declared.refusal.Refusal.TheVariants.{Exhausted, NoMemory}
 
@@ -16,6 +17,8 @@ comes_before_files (Text (errors.SameName line name)) = true
 comes_before_files (Text errors.NoMemory) = false
 comes_before_files (Scenario fault) = true
 comes_before_files (CatalogDiffers n) = false
+-- of the input's catalog for `init`, and of the files' for `replay`
+comes_before_files (Commuting a b) = false
 comes_before_files (BadLine n) = true
 comes_before_files (Limit Input n) = true
 comes_before_files (Limit Operations n) = true

@@ -5,7 +5,7 @@ use Rattle.command_refusals.specs.declared.faults.Quantity.TheVariants.{Input, O
 use Rattle.command_refusals.specs.declared.faults.ScenarioFault.TheVariants.{BadToml, BadKey, UnknownOperation, SameOperation}
 use Rattle.command_refusals.specs.declared.faults.FileFault.TheVariants.{NotEmpty, BadHeader, BadRecord, BadHistory, BadBook}
 use Rattle.command_refusals.specs.declared.refusal.Refusal.TheVariants.{Scenario, CatalogDiffers, BadLine, Limit, Unfinished, File}
-use Rattle.command_refusals.specs.declared.refusal.Refusal.TheVariants.{BookDiffers, Exhausted}
+use Rattle.command_refusals.specs.declared.refusal.Refusal.TheVariants.{BookDiffers, Commuting, Exhausted}
 use Rattle.command_refusals.specs.Shown.{shown_word}
 use Rattle.command_refusals.specs.Refusals.{refusal_text}
 
@@ -28,6 +28,9 @@ no_operation = refl
 
 pub repeated_operation : refusal_text (Scenario (SameOperation (codes "add"))) ≡ codes "same operation add"
 repeated_operation = refl
+
+pub unnamed_conflict : refusal_text (Commuting (codes "note") (codes "note")) ≡ codes "commuting note note"
+unnamed_conflict = refl
 
 pub other_catalog : refusal_text (CatalogDiffers 1) ≡ codes "catalog differs at byte 1"
 unfolding digits

@@ -10,6 +10,7 @@ use Rattle.command_refusals.specs.declared.faults.ReportFault.{ReportFault}
 use Rattle.command_refusals.specs.declared.faults.ReportFault.TheVariants as faults
 use Rattle.command_refusals.specs.declared.refusal.Refusal.{Refusal}
 use Rattle.command_refusals.specs.declared.refusal.Refusal.TheVariants.{BadWords, Text, Scenario, CatalogDiffers, BadLine, Limit}
+use Rattle.command_refusals.specs.declared.refusal.Refusal.TheVariants.{Commuting}
 use Rattle.command_refusals.specs.declared.refusal.Refusal.TheVariants.{Unfinished, File, BookDiffers, Report, ReadFault, DiskFault}
 use Rattle.command_refusals.specs.declared.refusal.Refusal.TheVariants.{Exhausted, NoMemory}
 use Rattle.command_refusals.specs.Faults.{quantity_word, scenario_text, file_text, report_text}
@@ -33,6 +34,7 @@ refusal_status BadWords = statuses.BadWords
 refusal_status (Text e) = error_status e
 refusal_status (Scenario fault) = statuses.BadInput
 refusal_status (CatalogDiffers n) = statuses.BadInput
+refusal_status (Commuting a b) = statuses.BadInput
 refusal_status (BadLine n) = statuses.BadInput
 refusal_status (Limit quantity n) = statuses.Limit
 refusal_status (Unfinished i) = statuses.Unfinished
@@ -50,6 +52,7 @@ refusal_text BadWords = codes "bad words"
 refusal_text (Text e) = error_text e
 refusal_text (Scenario fault) = scenario_text fault
 refusal_text (CatalogDiffers n) = codes "catalog differs at byte " ++ decimal n
+refusal_text (Commuting a b) = codes "commuting " ++ a ++ codes " " ++ b
 refusal_text (BadLine n) = codes "bad line " ++ decimal n
 refusal_text (Limit quantity n) = codes "limit " ++ quantity_word quantity ++ codes " " ++ decimal n
 refusal_text (Unfinished i) = codes "unfinished " ++ decimal i

@@ -20,6 +20,9 @@ pub enum Refusal {
     Scenario(ScenarioFault),
     /// The first byte, counted from 0, at which the catalog of a scenario differs from that of the files.
     CatalogDiffers(u32),
+    /// These two operations of the catalog conflict in value, and no conflict names them: their order can matter to the books. The
+    /// second may be the first.
+    Commuting(Name, Name),
     /// The first line of the input that is no line of a session, counted from 1.
     BadLine(u32),
     /// There are so many of these, which is more than may be.
@@ -66,9 +69,10 @@ impl Refusal {
     {
         match self {
             Refusal::BadWords => Status::BadWords,
-            Refusal::Scenario(_) | Refusal::CatalogDiffers(_) | Refusal::BadLine(_) => {
-                Status::BadInput
-            }
+            Refusal::Scenario(_)
+            | Refusal::CatalogDiffers(_)
+            | Refusal::Commuting(_, _)
+            | Refusal::BadLine(_) => Status::BadInput,
             Refusal::Text(error) => error_status(error),
             Refusal::Limit(_, _) => Status::Limit,
             Refusal::Unfinished(_) => Status::Unfinished,
@@ -107,6 +111,7 @@ impl fmt::Display for Refusal {
             Refusal::Text(error) => write!(f, "{error}"),
             Refusal::Scenario(fault) => write!(f, "{fault}"),
             Refusal::CatalogDiffers(n) => write!(f, "catalog differs at byte {n}"),
+            Refusal::Commuting(first, second) => write!(f, "commuting {first} {second}"),
             Refusal::BadLine(n) => write!(f, "bad line {n}"),
             Refusal::Limit(quantity, n) => write!(f, "limit {quantity} {n}"),
             Refusal::Unfinished(i) => write!(f, "unfinished {i}"),

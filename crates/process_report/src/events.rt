@@ -13,7 +13,8 @@ use schedule_model::Event;
 use std::alloc::{AllocError, Global};
 use trace_verify::Form;
 
-fn act_word(undo: bool) -> &'static [u8]
+/// The word of an act in a report.
+pub fn act_word(undo: bool) -> &'static [u8]
     ensures { result.now ≡ (if undo then codes "undo" else codes "do") }
 {
     if undo { b"undo" } else { b"do" }

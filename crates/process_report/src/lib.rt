@@ -20,7 +20,9 @@ mod printing;
 mod steps;
 
 pub use blocks::{blocked_text, place_word};
+pub use conflicts::form_of;
+pub use events::{act_word, put_entries};
 pub use laws::printed_reports_are_accepted;
-pub use lines::put_line;
-pub use names::{process_name, step_name};
+pub use lines::{put_four, put_line};
+pub use names::{op_name, process_name, step_name};
 pub use printing::{report, report_of};

@@ -209,6 +209,7 @@ verify_ends text faults after (refused (refusals.Report fault)) status due is qu
 verify_ends text faults after (refused refusals.BadWords) status due is quiet within = not_verified text faults after refusals.BadWords status due is quiet within
 verify_ends text faults after (refused (refusals.Text e)) status due is quiet within = not_verified text faults after (refusals.Text e) status due is quiet within
 verify_ends text faults after (refused (refusals.Scenario fault)) status due is quiet within = not_verified text faults after (refusals.Scenario fault) status due is quiet within
+verify_ends text faults after (refused (refusals.Commuting a b)) status due is quiet within = not_verified text faults after (refusals.Commuting a b) status due is quiet within
 verify_ends text faults after (refused (refusals.CatalogDiffers n)) status due is quiet within = not_verified text faults after (refusals.CatalogDiffers n) status due is quiet within
 verify_ends text faults after (refused (refusals.BadLine n)) status due is quiet within = not_verified text faults after (refusals.BadLine n) status due is quiet within
 verify_ends text faults after (refused (refusals.Limit quantity n)) status due is quiet within = not_verified text faults after (refusals.Limit quantity n) status due is quiet within

@@ -44,6 +44,7 @@ pub quietly_refused : (tests : List ℕ → List (Option Refusal)) (r : Refusal)
 quietly_refused tests refusals.BadWords text faults after why quiet by = by why.1
 quietly_refused tests (refusals.Text e) text faults after why quiet by = by why.1
 quietly_refused tests (refusals.Scenario fault) text faults after why quiet by = by why.1
+quietly_refused tests (refusals.Commuting a b) text faults after why quiet by = by why.1
 quietly_refused tests (refusals.CatalogDiffers n) text faults after why quiet by = by why.1
 quietly_refused tests (refusals.BadLine n) text faults after why quiet by = by why.1
 quietly_refused tests (refusals.Limit quantity n) text faults after why quiet by = by why.1

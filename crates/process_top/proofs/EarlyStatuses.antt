@@ -144,6 +144,7 @@ always_refusal : (r : Refusal) → is_always_early (refusal_status r) ≡ true �
 always_refusal refusals.BadWords is = refl
 always_refusal (refusals.Text e) is = absurd (always_text e is)
 always_refusal (refusals.Scenario fault) is = absurd (cc)
+always_refusal (refusals.Commuting a b) is = absurd (cc)
 always_refusal (refusals.CatalogDiffers n) is = absurd (cc)
 always_refusal (refusals.BadLine n) is = absurd (cc)
 always_refusal (refusals.Limit quantity n) is = absurd (cc)

@@ -25,6 +25,7 @@ pub refused_undone : (r : Refusal) → refusal_status r ≡ Done → ⊥
 refused_undone refusals.BadWords is = absurd (cc)
 refused_undone (refusals.Text e) is = text_undone e is
 refused_undone (refusals.Scenario fault) is = absurd (cc)
+refused_undone (refusals.Commuting a b) is = absurd (cc)
 refused_undone (refusals.CatalogDiffers n) is = absurd (cc)
 refused_undone (refusals.BadLine n) is = absurd (cc)
 refused_undone (refusals.Limit quantity n) is = absurd (cc)

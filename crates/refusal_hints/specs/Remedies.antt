@@ -21,7 +21,7 @@ use Rattle.refusal_hints.specs.declared.remedies.TheConstants.{WORDS, PROCESS, N
 use Rattle.refusal_hints.specs.declared.remedies.TheConstants.{NUMBER, NEXT, CLOSE, OR, SAME_NAME, PROCESSES, STEPS}
 use Rattle.refusal_hints.specs.declared.remedies.TheConstants.{NESTING, ALTERNATIVES, BAD_TOML, VERSION, CONFLICTS}
 use Rattle.refusal_hints.specs.declared.remedies.TheConstants.{TEXT, OP, OP_NAME, SUBSYSTEM, VERB, NO_KEY}
-use Rattle.refusal_hints.specs.declared.remedies.TheConstants.{UNKNOWN_OPERATION, SAME_OPERATION, CATALOG, LINE}
+use Rattle.refusal_hints.specs.declared.remedies.TheConstants.{UNKNOWN_OPERATION, SAME_OPERATION, CATALOG, COMMUTING, LINE}
 use Rattle.refusal_hints.specs.declared.remedies.TheConstants.{INPUT, OPERATIONS, ALL_PROCESSES, ACTIVE, ENTRIES}
 use Rattle.refusal_hints.specs.declared.remedies.TheConstants.{UNFINISHED, NOT_EMPTY, BAD_HEADER, BAD_FILE, BOOK}
 use Rattle.refusal_hints.specs.declared.remedies.TheConstants.{REPORT_LINE, STEP_REFUSED, NOT_SERIAL, SERIAL_DIFFERS}
@@ -101,6 +101,7 @@ remedy refusal.BadWords = WORDS.now
 remedy (refusal.Text e) = error_remedy e
 remedy (refusal.Scenario fault) = scenario_remedy fault
 remedy (refusal.CatalogDiffers n) = CATALOG.now
+remedy (refusal.Commuting a b) = COMMUTING.now
 remedy (refusal.BadLine n) = LINE.now
 remedy (refusal.Limit quantity n) = limit_remedy quantity
 remedy (refusal.Unfinished i) = UNFINISHED.now

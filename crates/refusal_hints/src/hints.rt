@@ -38,6 +38,7 @@ fn remedy(alloc: Global, refusal: &Refusal) -> Result<&'static str, AllocError>
         Refusal::Text(error) => Ok(remedies::error_remedy(error)),
         Refusal::Scenario(fault) => scenario_remedy(alloc, fault),
         Refusal::CatalogDiffers(_) => Ok(remedies::CATALOG),
+        Refusal::Commuting(_, _) => Ok(remedies::COMMUTING),
         Refusal::BadLine(_) => Ok(remedies::LINE),
         Refusal::Limit(quantity, _) => Ok(remedies::limit_remedy(*quantity)),
         Refusal::Unfinished(_) => Ok(remedies::UNFINISHED),

@@ -78,6 +78,9 @@ pub(crate) const SAME_OPERATION: &str = "two tables [[op]] have this name; renam
 pub(crate) const CATALOG: &str =
     "the files were made for other operations or conflicts; use the scenario that 'tps init' was given, or make files for this one in another folder";
 
+pub(crate) const COMMUTING: &str =
+    "the order of these two can matter to the books, so name them in 'conflicts', also where both are the same operation";
+
 pub(crate) const LINE: &str =
     "a line is one of: start NAME, admit I, next, finish N done, finish N refused, queue N done, queue N refused, flush, abort I, show, stop";
 

@@ -14,6 +14,7 @@ own_catalog c (refusals.Unfinished i) why = absurd why
 own_catalog c refusals.BadWords why = absurd why
 own_catalog c (refusals.Text e) why = absurd why
 own_catalog c (refusals.Scenario fault) why = absurd why
+own_catalog c (refusals.Commuting a b) why = absurd why
 own_catalog c (refusals.BadLine n) why = absurd why
 own_catalog c (refusals.Limit q n) why = absurd why
 own_catalog c (refusals.File fault) why = absurd why
