@@ -13,7 +13,6 @@ use commute_table::{Catalog, Op};
 use process_report::{act_word, form_of, op_name, place_word, put_entries, put_four, put_line};
 use process_tree::{Entry, Plan};
 use std::alloc::{AllocError, Global};
-use trace_verify::Form;
 
 // Writes the line of an entry that is left.
 fn put_placed(
