@@ -88,8 +88,8 @@ fn add_end<'a>(
     add_path(h.plans.as_slice(), i, &steps, words)
 }
 
-// Writes the line of a process.
-fn put_end(
+/// Writes what became of a process. Those entries are the net of the history.
+pub fn put_end(
     alloc: Global,
     h: &History,
     standing: &[Entry],

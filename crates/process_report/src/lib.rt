@@ -21,6 +21,7 @@ mod steps;
 
 pub use blocks::{blocked_text, place_word};
 pub use conflicts::form_of;
+pub use ends::put_end;
 pub use events::{act_word, put_entries};
 pub use laws::printed_reports_are_accepted;
 pub use lines::{put_four, put_line};
