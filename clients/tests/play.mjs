@@ -2,9 +2,25 @@
 /** Plays the tables of clients/tests against the library in JavaScript, as play.py does in Python. PROGRAM names the program. */
 import assert from "node:assert/strict";
 import { mkdtempSync, readFileSync, readdirSync, rmSync } from "node:fs";
+import { createServer } from "node:http";
 import { tmpdir } from "node:os";
 import { join } from "node:path";
-import { Action, Answer, Outbox, Scheduler, SihtolemError, Sqlite, State, Work, settle } from "../node/src/index.mjs";
+import {
+  Action,
+  Answer,
+  Fenced,
+  Outbox,
+  Overtaken,
+  Refused,
+  Scheduler,
+  SihtolemError,
+  Sqlite,
+  State,
+  Unreachable,
+  Work,
+  Worker,
+  settle,
+} from "../node/src/index.mjs";
 import { readPiece } from "../node/src/dialogue.mjs";
 import { answerOf } from "../node/src/opening.mjs";
 import { conflict, operationsOf, readReport } from "../node/src/report.mjs";
@@ -204,6 +220,77 @@ async function playAbort(scenario) {
   }
 }
 
+/** As play_fence in play.py. Words of a refusal that sound like an error of SQLite are a refusal. */
+async function playFence() {
+  const work = new Work("m", "2.x", false, "order_1", "take", 3, 1);
+  const folder = mkdtempSync(join(tmpdir(), "sihtolem-"));
+  try {
+    const database = await openDatabase(join(folder, "shop.db"));
+    const shop = new Fenced(database, { take: {}, keep: { hold: "SELECT 1 WHERE 0", refusal: "the counter is busy" } });
+    for (const [lease, call] of [[7, "prepare"], [8, "prepare"], [9, "takeBack"]]) await shop.under(lease, () => shop[call](work));
+    for (const call of ["prepare", "commit"]) {
+      await assert.rejects(async () => shop.under(8, () => shop[call](work)), Overtaken);
+      assert.equal((await shop.found("m")).size, 0, "what is prepared");
+    }
+    const kept = new Work("m", "3.x", false, "order_2", "keep", 3, 1);
+    await assert.rejects(async () => shop.under(10, () => shop.prepare(kept)), Refused);
+    database.close();
+  } finally {
+    rmSync(folder, { recursive: true, force: true });
+  }
+}
+
+/** A worker of a service that is played: what it does with each lease, and what the service hears of it. The last lease is ended by the service. */
+async function playWorker() {
+  const heard = {};
+  const tries = {};
+  const names = ["done", "refused", "unreachable", "broken", "slow", "ended"];
+  const system = {
+    operations: ["take"],
+    async prepare({ process }) {
+      tries[process] = (tries[process] ?? 0) + 1;
+      if (process === "refused") throw new Refused("there are too few");
+      if (process === "broken") throw new TypeError("played");
+      if (process === "ended" || (process === "unreachable" && tries[process] < 3)) throw new Unreachable("played");
+      if (process === "slow") await new Promise((done) => setTimeout(done, 400));
+    },
+  };
+  const toLend = names.map((process, at) => ({ lease: at + 1, action: "prepare", mark: "m", place: `${at + 1}.x`, undo: false, process }));
+  const server = createServer((call, answer) => {
+    const parts = [];
+    call.on("data", (part) => parts.push(part));
+    call.on("end", () => {
+      const body = Buffer.concat(parts).toString();
+      const [, lease, word] = call.url.match(/^\/v1\/work(?:\/(\d+)\/(\w+))?$/);
+      const say = (status, told) => setTimeout(() => answer.writeHead(status).end(told && JSON.stringify(told)), status === 204 ? 20 : 0);
+      assert.equal(call.headers.authorization, "Bearer secret");
+      if (lease) {
+        const said = (heard[names[lease - 1]] ??= []);
+        const reason = body && ` ${JSON.parse(body).reason}`;
+        if (word !== "heartbeat" || !said.includes(word)) said.push(word + reason);
+        return say(names[lease - 1] === "ended" ? 409 : 200, {});
+      }
+      assert.deepEqual(JSON.parse(body), { worker: "w", operations: ["take"], wait: 5 });
+      const lent = toLend.shift();
+      return lent ? say(200, { ...lent, operation: "take", key: 3, amount: 1, seconds: 0.3 }) : say(204);
+    });
+  });
+  await new Promise((done) => server.listen(0, "127.0.0.1", done));
+  const worker = new Worker(`127.0.0.1:${server.address().port}`, [system], { name: "w", token: "secret", threads: 3, pause: 20, log });
+  const words = (name) => (heard[name] ?? []).filter((word) => word !== "heartbeat");
+  const isOver = () => names.every((name) => name === "broken" || (name === "ended" ? heard[name] : words(name).length));
+  for (let tried = 0; !isOver(); tried++) {
+    assert.ok(tried < 1000, `what the service heard: ${JSON.stringify(heard)}`);
+    await new Promise((done) => setTimeout(done, 10));
+  }
+  await worker.close();
+  server.close();
+  const wanted = { done: ["done"], refused: ["refused there are too few"], unreachable: ["done"], broken: [], slow: ["done"], ended: [] };
+  assert.deepEqual(Object.fromEntries(names.map((name) => [name, words(name)])), wanted);
+  for (const name of ["slow", "ended"]) assert.ok(heard[name].includes("heartbeat"), `a sign of life of ${name}`);
+  assert.equal(tries.unreachable, 3, "tries where the system is out of reach");
+}
+
 /** As play_resuming in play.py. */
 async function playResuming(scenario) {
   const folder = mkdtempSync(join(tmpdir(), "sihtolem-"));
@@ -229,6 +316,8 @@ for (const story of stories.stories) {
 }
 await playClosing(stories.scenario);
 await playAbort(stories.scenario);
+await playFence();
+await playWorker();
 await playResuming(stories.scenario);
 await playOutbox();
-console.log(`clients, JavaScript: the settling over ${table("settling").length} states, lines, ${stories.stories.length} stories, and an outbox`);
+console.log(`clients, JavaScript: the settling over ${table("settling").length} states, lines, ${stories.stories.length} stories, an outbox, and a worker`);

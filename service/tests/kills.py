@@ -3,7 +3,7 @@ import random
 import time
 from concurrent.futures import ThreadPoolExecutor
 
-from running import PROGRAM, TOP, Daemon, Failure, audited, check, end, is_done, script, wait_for, worker
+from running import PROGRAM, TOP, Daemon, Failure, audited, check, end, is_done, other_worker, script, wait_for, worker
 
 import audit
 from files import Files
@@ -19,12 +19,13 @@ def run_killed(folder, seed, kills):
     began = time.monotonic()
     daemon.start()
     took = time.monotonic() - began
-    workers = [worker(daemon, f"worker_{at}") for at in range(2)]
+    kinds = [worker, other_worker]
+    workers = [kind(daemon, f"worker_{at}") for at, kind in enumerate(kinds)]
     customers = [customer(daemon, at) for at in (1, 2, 3)]
     killers = [
         lambda chance: (daemon.kill(), daemon.start(until_open=False)),
         lambda chance: daemon.kill_program(),
-        lambda chance: restart(workers, chance, lambda at: worker(daemon, f"worker_{at}")),
+        lambda chance: restart(workers, chance, lambda at: kinds[at](daemon, f"worker_{at}")),
         lambda chance: restart(customers, chance, lambda at: customer(daemon, at + 1)),
     ]
     try:

@@ -4,7 +4,7 @@ import time
 from concurrent.futures import ThreadPoolExecutor
 from contextlib import contextmanager
 
-from running import OPERATIONS, TOP, Daemon, Failure, audited, check, end, is_done, reached, script, wait_for, worker
+from running import OPERATIONS, TOP, Daemon, Failure, audited, check, end, is_done, other_worker, reached, script, wait_for, worker
 
 from orders import order
 from shop_workers import opened
@@ -115,14 +115,18 @@ def look_at_slow_worker(folder):
 
 
 def look_at_signs_of_life(daemon):
-    """The library's worker keeps the leases of what takes long alive."""
-    long = worker(daemon, "long", threads=4, seconds=2 * LEASE)
+    """The libraries' workers keep the leases of what takes long alive. They end when they are asked to."""
+    workers = [worker(daemon, "long", threads=4, seconds=2 * LEASE), other_worker(daemon, "as_long", seconds=2 * LEASE)]
     try:
-        for number in range(4):
+        for number in range(8):
             daemon.call("POST", "/v1/processes", {"process": f"process long_{number} p pay charge 1 1 r keep keep {number} 1 tries 20 end"})
         wait_for(lambda: is_done(daemon), "what takes long ends")
+        for each in workers:
+            each.terminate()
+        check("how the workers end", [each.wait(30) for each in workers], [0, 0])
     finally:
-        end(long)
+        for each in workers:
+            end(each)
     check("leases that lapsed", daemon.events("lease_lapsed"), [])
 
 

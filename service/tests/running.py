@@ -2,6 +2,7 @@
 import http.client
 import json
 import os
+import shutil
 import signal
 import socket
 import subprocess
@@ -125,14 +126,21 @@ def spelled(entries):
     return "".join(f"{name} = {json.dumps(value)}\n" for name, value in entries.items())
 
 
-def script(daemon, *words):
-    """A program of this repository, in Python. What it says goes into the log of the daemon."""
+def script(daemon, *words, language=(sys.executable, "-B")):
+    """A program of this repository, in Python if nothing else is said. What it says goes into the log of the daemon."""
     with open(f"{daemon.folder}/log", "a") as log:
-        return subprocess.Popen([sys.executable, "-B", *words], stdout=log, stderr=log)
+        return subprocess.Popen([*language, *words], stdout=log, stderr=log)
 
 
 def worker(daemon, name, threads=4, seconds=0.0):
     return script(daemon, f"{TOP}/examples/service/worker.py", daemon.address, daemon.databases, name, str(threads), str(seconds))
+
+
+def other_worker(daemon, name, seconds=0.0):
+    """One in JavaScript, where there is node."""
+    if shutil.which("node") is None:
+        return worker(daemon, name, 4, seconds)
+    return script(daemon, f"{TOP}/service/tests/worker.mjs", daemon.address, daemon.databases, name, str(seconds), language=["node"])
 
 
 def wait_for(is_so, what, seconds=PATIENCE):

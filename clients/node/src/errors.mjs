@@ -6,6 +6,9 @@ export class Refused extends Error {}
 /** Thrown by a handler: its system can't be reached, or can't say yet. The work is tried again, after a pause that grows. */
 export class Unreachable extends Error {}
 
+/** Somebody has a later lease of this work: what this one asks for comes too late, and changes nothing. */
+export class Overtaken extends Error {}
+
 /** What the library can't mend by itself. `advice` says what a person does. */
 export class SihtolemError extends Error {
   static advice = "";

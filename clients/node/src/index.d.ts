@@ -4,6 +4,8 @@
 export class Refused extends Error {}
 /** Thrown by a handler: its system can't be reached, or can't say yet. The work is tried again, after a pause that grows. */
 export class Unreachable extends Error {}
+/** Somebody has a later lease of this work: what this one asks for comes too late, and changes nothing. */
+export class Overtaken extends Error {}
 
 /** What the library can't mend by itself. `advice` says what a person does. */
 export class SihtolemError extends Error {
@@ -163,6 +165,13 @@ export class Sqlite implements Participant {
   transaction<T>(task: () => Answered<T>): Promise<T>;
 }
 
+/** A database of a worker of the service. It keeps the greatest lease that it saw of each step, and drops what comes under an earlier one by
+ * `Overtaken`. Its calls of a step are under a lease. */
+export class Fenced extends Sqlite {
+  /** What the task asks for is under this lease. */
+  under<T>(lease: number, task: () => Answered<T>): Answered<T>;
+}
+
 /** Sends the work of these operations until it goes through. `work.name` is the idempotency key. */
 export class Outbox extends Sqlite {
   constructor(
@@ -217,4 +226,32 @@ export class Scheduler {
   report(): Promise<string>;
   /** Waits until all that was submitted has ended; without `untilEnded`, only until what is out is reported and settled. */
   close(options?: { untilEnded?: boolean }): Promise<void>;
+}
+
+/** Calls of `sihtolemd` at `HOST:PORT`, or at a Unix socket by `unix:PATH`. The timeout is in milliseconds. */
+export class Service {
+  constructor(address: string, token?: string, timeout?: number);
+  /** The status and the JSON of the answer. It is rejected where there is none. */
+  call(method: string, path: string, body?: Record<string, unknown>): Promise<[status: number, told: any]>;
+  close(): void;
+}
+
+export interface WorkerOptions {
+  /** What the service calls it. */
+  name: string;
+  /** One that may work, where the service wants one. */
+  token?: string;
+  /** How many pieces of work it does at once; 4 if it isn't said. */
+  threads?: number;
+  /** Before another try, in milliseconds; 200 if it isn't said. */
+  pause?: number;
+  log?: Log;
+}
+
+/** Does work of `sihtolemd` until it is closed, and keeps its leases alive meanwhile. Work that throws `Unreachable` is tried again; an error of no
+ * class ends the try, and the lease lapses: so another worker has it. */
+export class Worker {
+  constructor(address: string, participants: Iterable<Participant>, options: WorkerOptions);
+  /** Ends once what is under way is done. The participants stay open. */
+  close(): Promise<void>;
 }

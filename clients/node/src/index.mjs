@@ -6,3 +6,4 @@ export { Postgres } from "./postgres.mjs";
 export { Scheduler } from "./scheduler.mjs";
 export { Action, Answer, State, settle } from "./settling.mjs";
 export { Sqlite } from "./sqlite.mjs";
+export { Fenced, Service, Worker } from "./worker.mjs";

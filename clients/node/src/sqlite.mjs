@@ -1,5 +1,5 @@
 /** A SQLite database that takes part. It can't prepare a transaction, so what is prepared is a row, and what it holds back. */
-import { Refused, Unreachable } from "./errors.mjs";
+import { Overtaken, Refused, Unreachable } from "./errors.mjs";
 import { State } from "./settling.mjs";
 import { filled, inOrder, literal } from "./statements.mjs";
 
@@ -22,12 +22,7 @@ export class Sqlite {
 
   /** A transaction of a driver that was killed is gone with it. */
   async begin() {
-    if (!this.setUp.length) return;
-    for (const text of ["PRAGMA journal_mode = WAL", "PRAGMA synchronous = FULL"]) await this.database.prepare(text).all();
-    await this.transaction(async () => {
-      for (const text of this.setUp) await this.database.exec(text);
-    });
-    this.setUp = [];
+    await this.transaction(() => {});
   }
 
   async found(mark) {
@@ -38,7 +33,7 @@ export class Sqlite {
 
   prepare(work) {
     return this.transaction(async () => {
-      const [state, kept] = await this.#kept(work);
+      const [state, kept] = await this.kept(work);
       if (work.undo && state === State.COMMITTED) return this.#set(work, State.UNDO_PREPARED);
       if (work.undo || state !== State.ABSENT) return;
       const { hold, refusal = "no row was changed" } = this.held[kept.operation];
@@ -50,7 +45,7 @@ export class Sqlite {
 
   commit(work) {
     return this.transaction(async () => {
-      const [state, kept] = await this.#kept(work);
+      const [state, kept] = await this.kept(work);
       if (work.undo && state === State.UNDO_PREPARED) {
         await this.#run(this.held[kept.operation].undo, kept);
         await this.#set(work, State.UNDONE);
@@ -63,7 +58,7 @@ export class Sqlite {
 
   takeBack(work) {
     return this.transaction(async () => {
-      const [state, kept] = await this.#kept(work);
+      const [state, kept] = await this.kept(work);
       if (work.undo && state === State.UNDO_PREPARED) return this.#set(work, State.COMMITTED);
       if (work.undo || state !== State.PREPARED) return;
       await this.#run(this.held[kept.operation].release, kept);
@@ -85,6 +80,7 @@ export class Sqlite {
 
   async #inTransaction(task) {
     try {
+      await this.#open();
       await this.database.exec("BEGIN IMMEDIATE");
       const told = await task();
       await this.database.exec("COMMIT");
@@ -97,8 +93,16 @@ export class Sqlite {
     }
   }
 
-  /** The state of the step, and its work with what was kept of it. */
-  async #kept(work) {
+  /** Before the first transaction. */
+  async #open() {
+    if (!this.setUp.length) return;
+    for (const text of ["PRAGMA journal_mode = WAL", "PRAGMA synchronous = FULL"]) await this.database.prepare(text).all();
+    for (const text of ["BEGIN IMMEDIATE", ...this.setUp, "COMMIT"]) await this.database.exec(text);
+    this.setUp = [];
+  }
+
+  /** The state of the step, and its work with what was kept of it. It is called within each transaction of a step, first. */
+  async kept(work) {
     const [row] = await this.database.prepare(`SELECT process, operation, key, amount, state FROM sihtolem_work WHERE ${at(work)}`).all();
     return row ? [row.state, work.with(row)] : [State.ABSENT, work];
   }
@@ -120,6 +124,7 @@ export class Sqlite {
 const at = (work) => `mark = ${literal(work.mark)} AND place = ${literal(work.place)}`;
 
 function named(error) {
+  if (error instanceof Refused || error instanceof Overtaken) return error;
   const told = `${error.code ?? ""} ${error.errstr ?? ""} ${error.message}`;
   if (/constraint/i.test(told)) return new Refused(error.message);
   if (/busy|locked|disk I\/O|disk is full|unable to open/i.test(told)) return new Unreachable(error.message);

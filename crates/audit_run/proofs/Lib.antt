@@ -2,3 +2,5 @@ mod SameNames
 mod Refusals
 mod Starting
 mod ScenarioPlans
+mod LooserScenarios
+mod JournalParts

@@ -1,2 +1,4 @@
 pub mod Outcomes
 pub mod Audit
+pub mod History
+pub mod Laws

@@ -1,9 +1,9 @@
 // What is found of a log.
 ghost use Rattle.std.specs.Prelude.{◌≡◌, ◌≤◌, ◌<◌, length, IfOk};
-ghost use Rattle.commute_table.specs.Operations.{IsCatalog};
 ghost use Rattle.audit_core.specs.Audits.{most_events};
 ghost use Rattle.audit_text.specs.Copies.{IsSound};
 ghost use Rattle.audit_text.specs.Logs.{plans_in};
+ghost use Rattle.named_conflicts.specs.Under.{HasItsTable};
 ghost use Rattle.audit_run.specs.Outcomes.{outcome_status, steps_in, IsOutcome, IsWithin};
 
 use audit_core::{Audited, audit};
@@ -71,7 +71,7 @@ fn counted(n: usize) -> Result<u32, AllocError>
 
 // What is found of a log that is within the limits.
 fn judged(alloc: Global, c: &Catalog, log: &Log<'_>) -> Result<Outcome, AllocError>
-    requires catalog { IsCatalog c.now }
+    requires catalog { HasItsTable c.now }
     requires sound { IsSound (length c.now.ops) log.now }
     requires within { IsWithin log.now }
     ensures { IfOk result (IsOutcome c.now log.now) }
@@ -85,7 +85,7 @@ fn judged(alloc: Global, c: &Catalog, log: &Log<'_>) -> Result<Outcome, AllocErr
 
 /// What is found of a log.
 pub fn outcome_of(alloc: Global, c: &Catalog, log: &Log<'_>) -> Result<Outcome, AllocError>
-    requires catalog { IsCatalog c.now }
+    requires catalog { HasItsTable c.now }
     requires sound { IsSound (length c.now.ops) log.now }
     ensures { IfOk result (IsOutcome c.now log.now) }
 {

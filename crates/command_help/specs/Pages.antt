@@ -2,8 +2,8 @@
 use Rattle.std.specs.Prelude.{ℕ, List, Option, Some, None, codes}
 use Rattle.program_words.specs.declared.names.CommandName.{CommandName}
 use Rattle.program_words.specs.declared.names.CommandName.TheVariants as name
-use Rattle.command_help.specs.declared.pages.TheConstants.{COMMANDS, CHECK, INIT, RUN, SESSION, SERVE, RESTART, SHOW, VERIFY, GEN}
-use Rattle.command_help.specs.declared.pages.TheConstants.{BULK, HELP, VERSION}
+use Rattle.command_help.specs.declared.pages.TheConstants.{COMMANDS, CHECK, INIT, RUN, SESSION, SERVE, RESTART, SHOW, REPLAY}
+use Rattle.command_help.specs.declared.pages.TheConstants.{VERIFY, AUDIT, GEN, BULK, HELP, VERSION}
 
 -- the page on a command, or on all
 abbrev pub page_of : Option CommandName → List ℕ
@@ -15,7 +15,9 @@ page_of (Some name.Session) = SESSION.now
 page_of (Some name.Serve) = SERVE.now
 page_of (Some name.Restart) = RESTART.now
 page_of (Some name.Show) = SHOW.now
+page_of (Some name.Replay) = REPLAY.now
 page_of (Some name.Verify) = VERIFY.now
+page_of (Some name.Audit) = AUDIT.now
 page_of (Some name.Gen) = GEN.now
 page_of (Some name.Bulk) = BULK.now
 page_of (Some name.Help) = HELP.now

@@ -3,13 +3,15 @@
 pub(crate) const COMMANDS: &str = "usage: tps COMMAND
 
   check              tells of each process of a text whether it can get stuck
-  init               makes the files for the operations of a scenario
+  init [--values]    makes the files for the operations of a scenario
   run [--workers N]  runs the processes of a scenario to their ends
   session            answers the lines behind a scenario
   serve              answers each line before it reads the next, for a driver
   restart            completes what a stop left unfinished
   show               prints the report of what has happened so far
+  replay             prints what the serial list of the files makes of the books
   verify             tests whether a report's steps lead to its serial list
+  audit [--history]  tests whether a log can be reduced wherever it is cut off
   gen NUMBER COUNT   prints a scenario to try the program with
   bulk NUMBER COUNT  makes the files and runs such a scenario on them
   help [COMMAND]     prints this page, or the page of a command
@@ -30,14 +32,15 @@ exit status: 0 all are well-formed, 3 one is not, 2 the text has a fault,
 4 a limit is passed
 ";
 
-pub(crate) const INIT: &str = "usage: tps init < SCENARIO
+pub(crate) const INIT: &str = "usage: tps init [--values] < SCENARIO
 
 Makes the files tps.0 to tps.8 of the current folder for the operations and
 conflicts of a scenario, and prints 'created'. Its processes are not read.
-Files that have a byte are left alone.
+Files that have a byte are left alone. With --values, two operations whose
+order can matter to the books have to be in conflict.
 
-exit status: 0 made, 2 the scenario has a fault, 4 a limit is passed,
-6 a file is not empty
+exit status: 0 made, 2 the scenario has a fault or leaves out such a conflict,
+4 a limit is passed, 6 a file is not empty
 ";
 
 pub(crate) const RUN: &str = "usage: tps run [--workers N] < SCENARIO
@@ -89,6 +92,17 @@ exit status: 0 printed, 6 the files are damaged or were not made, 10 the disk
 failed
 ";
 
+pub(crate) const REPLAY: &str = "usage: tps replay
+
+Executes the serial list of the report on empty books, one process after
+another, and prints each step with the value that it found and then the values
+that are left. They are those of the history itself. It changes nothing.
+
+exit status: 0 printed, 2 the conflicts leave out two operations whose order can
+matter to the books, 5 a process is unfinished, 6 the files are damaged or were
+not made, 10 the disk failed
+";
+
 pub(crate) const VERIFY: &str = "usage: tps verify < REPORT
 
 Applies the printed steps of a report to its history, and prints 'accepted'
@@ -96,6 +110,20 @@ where they lead to its serial list. It reads no file.
 
 exit status: 0 accepted, 2 a line has no form, 12 a step, a place or the list
 is wrong
+";
+
+pub(crate) const AUDIT: &str = "usage: tps audit [--history] < INPUT
+
+Reads a scenario, a line '%%' and then a log of what another scheduler did, in
+lines 'start NAME', 'do I.STEP', 'undo I.STEP' and 'end I'. It prints the serial
+list where each beginning of the log can be reduced, and else what is left of
+the least beginning that can't. It reads no file.
+With --history the log is the history of the files, under the conflicts of the
+scenario.
+
+exit status: 0 it can be reduced, 2 the scenario or a line has a fault, or the
+log leaves the order of a process, 3 a process is not well-formed, 4 a limit is
+passed, 12 it can't be reduced
 ";
 
 pub(crate) const GEN: &str = "usage: tps gen NUMBER COUNT

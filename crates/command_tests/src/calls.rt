@@ -35,6 +35,7 @@ fn answered<H: Threads + Wait + Sync, G: Gate + Drop + Send>(
     let finished = top(rt, alloc, words, source, sink, rack, resources, gates);
     let Finished {
         status,
+        refused: _,
         rack,
         resources,
         gates,

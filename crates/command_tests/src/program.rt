@@ -58,11 +58,23 @@ fn expect_on<H: Abort + Threads + Wait + Sync, D: Folder + Drop + Send>(
     requires { D.access folder ≡ Access.Unentered }
 {
     let args = must(rt, words_of(alloc, &["tps", call.word])).into_iter();
-    let mut source = MemorySource::new(must(rt, call.text.to_vec(alloc)), Vec::new(alloc));
+    let source = MemorySource::new(must(rt, call.text.to_vec(alloc)), Vec::new(alloc));
     let mut sink = MemorySink::new(alloc, Vec::new(alloc));
-    let Ended { code, rack } = program(rt, alloc, Ok(args), &mut source, &mut sink, folder);
+    // Nothing of what is said beside the answer goes out, and the answer is the same.
+    let mut errors = MemorySink::new(alloc, must(rt, vec![in alloc; 0]));
+    let Ended { code, source, rack } = program(
+        rt,
+        alloc,
+        Ok(args),
+        source,
+        &mut sink,
+        &mut errors,
+        folder,
+    );
+    drop(source);
     expect_code(rt, alloc, code, call.code);
     assert_eq!(rt; sink.bytes(), call.output);
+    assert_eq!(rt; errors.bytes(), b"".as_slice());
     rack
 }
 

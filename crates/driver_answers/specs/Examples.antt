@@ -12,6 +12,7 @@ use Rattle.process_report.specs.Examples.{purchase, sale}
 use Rattle.driver_requests.specs.declared.request.Happening.TheVariants.{Done, Undone, NotDone}
 use Rattle.driver_answers.specs.Happenings.{happening}
 use Rattle.driver_answers.specs.Serving.{happened, listed, with_call}
+use Rattle.driver_answers.specs.Starts.{started}
 
 -- step 0 of process 1 took effect and was undone, its step 1 stands
 abbrev pub worked : List Event
@@ -51,6 +52,14 @@ done_line = refl
 pub no_step_line : line_of (happened bought 1 (codes "z")) ≡ codes "no step z\n"
 unfolding digits
 no_step_line = refl
+
+-- the purchase has ended with its step y done, and a process of another name is not told
+pub started_line : started bought (codes "a") ≡ codes "1 a path y\n"
+unfolding digits
+started_line = refl
+
+pub started_none : started bought (codes "b") ≡ []
+started_none = refl
 
 -- there is no such process
 pub unknown_line : line_of (happened bought 2 (codes "x")) ≡ codes "unknown 2\n"

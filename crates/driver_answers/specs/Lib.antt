@@ -1,3 +1,4 @@
 pub mod Happenings
+pub mod Starts
 pub mod Serving
 mod Examples

@@ -26,11 +26,12 @@ use Rattle.session_play.specs.Playing.{SessionState, plan_for, play, play_start}
 use Rattle.session_play.specs.declared.cut.Cut.{Cut}
 use Rattle.session_play.specs.declared.cut.Cut.TheVariants as cuts
 use Rattle.driver_requests.specs.declared.request.Request.{Request}
-use Rattle.driver_requests.specs.declared.request.Request.TheVariants.{Session, StartSpelled, Pieces, Happened}
+use Rattle.driver_requests.specs.declared.request.Request.TheVariants.{Session, StartSpelled, Pieces, Happened, Started}
 use Rattle.driver_requests.specs.Answers.{bad_line_words, called_piece, framed, happening_words, no_step_words, numbered_lines}
 use Rattle.driver_requests.specs.Answers.{piece_call, with_words}
 use Rattle.driver_requests.specs.Requests.{request_of}
 use Rattle.driver_answers.specs.Happenings.{happening, step_named}
+use Rattle.driver_answers.specs.Starts.{started}
 
 -- A dialogue between two lines: the machine, and the pieces at hand, in the order in which they were handed out and queued.
 pub record DriverState : Type 0 where
@@ -117,6 +118,7 @@ IsRequestAnswered c plans s n line (Some StartSpelled) t text = IsSpelledAnswere
 IsRequestAnswered c plans s n line (Some Pieces) t text = (t ≡ s) × (text ≡ numbered_lines (listed s.core.plans s.hand.unfinished))
 IsRequestAnswered c plans s n line (Some (Happened i name)) t text =
     (t ≡ s) × (text ≡ line_of (happened (full_history s.core) i name))
+IsRequestAnswered c plans s n line (Some (Started name)) t text = (t ≡ s) × (text ≡ numbered_lines (started (full_history s.core) name))
 
 -- Line n of the input, under this catalog and with these plans of the scenario, led from one state of the dialogue to another, and
 -- this is its answer. An empty line has none.
@@ -133,6 +135,7 @@ LeadsTo c plans s line (Some StartSpelled) core =
     (p : Plan) × AreGoodPlans c.ops (drop 6 line) (p ∷ []) × (core ≡ (play_start (as_session s) p.name (Some p)).state.core)
 LeadsTo c plans s line (Some Pieces) core = core ≡ s.core
 LeadsTo c plans s line (Some (Happened i name)) core = core ≡ s.core
+LeadsTo c plans s line (Some (Started name)) core = core ≡ s.core
 
 -- It was not answered: nothing was kept; or there was no memory to print what it led to.
 abbrev pub IsLineCut : Catalog → List Plan → DriverState → List ℕ → Cut → CoreState → Type 0

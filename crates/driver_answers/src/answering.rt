@@ -13,6 +13,7 @@ ghost use Rattle.driver_answers.specs.Serving.{has_many_lines, state_of, IsLineA
 use crate::happenings::happened_text;
 use crate::listing::{add_handed, pieces_text};
 use crate::spelled::{bad_line, start_spelled};
+use crate::starts::started_text;
 use driver_requests::{Request, framed, request_of};
 use process_disk::Rack;
 use process_engine::Engine;
@@ -110,6 +111,7 @@ pub fn answer_line<R: Rack + Drop, B: Resource>(
         Some(Request::Happened(i, step)) => {
             Ok(happened_text(alloc, engine.history(), i, &step)?)
         }
+        Some(Request::Started(name)) => Ok(started_text(alloc, engine.history(), &name)?),
         None => Ok(bad_line(alloc, number)?),
     }
 }

@@ -6,7 +6,7 @@ use Rattle.machine_model.specs.declared.kept.Work.TheVariants.{Forward, Undo, En
 use Rattle.process_report.specs.Examples.{purchase, sale, cut_off, side_by_side}
 use Rattle.session_text.specs.declared.line.Line.TheVariants.{Start, Next}
 use Rattle.driver_requests.specs.declared.request.Happening.TheVariants.{Done, Undone, NotDone}
-use Rattle.driver_requests.specs.declared.request.Request.TheVariants.{Session, StartSpelled, Happened}
+use Rattle.driver_requests.specs.declared.request.Request.TheVariants.{Session, StartSpelled, Happened, Started}
 use Rattle.driver_requests.specs.Answers.{called_piece, framed, happening_words}
 use Rattle.driver_requests.specs.Readiness.{ready_text}
 use Rattle.driver_requests.specs.Requests.{request_of}
@@ -28,6 +28,14 @@ named_process = refl
 pub of_a_step : request_of (codes "done 12.pay") ≡ Some (Happened 12 (codes "pay"))
 unfolding digits
 of_a_step = refl
+
+pub of_a_name : request_of (codes "started order_12") ≡ Some (Started (codes "order_12"))
+unfolding digits
+of_a_name = refl
+
+pub no_name : request_of (codes "started 12") ≡ None
+unfolding digits
+no_name = refl
 
 pub leading_zero : request_of (codes "done 01.pay") ≡ None
 unfolding digits

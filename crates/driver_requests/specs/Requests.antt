@@ -7,7 +7,7 @@ use Rattle.trace_verify.specs.Forms.{number_of}
 use Rattle.session_text.specs.declared.line.Line.{Line}
 use Rattle.session_text.specs.Forms.{line_of}
 use Rattle.driver_requests.specs.declared.request.Request.{Request}
-use Rattle.driver_requests.specs.declared.request.Request.TheVariants.{Session, StartSpelled, Pieces, Happened}
+use Rattle.driver_requests.specs.declared.request.Request.TheVariants.{Session, StartSpelled, Pieces, Happened, Started}
 
 -- a process and the name of a step
 abbrev pub happened : List ℕ → ℕ → Option Request
@@ -22,15 +22,20 @@ happened_by step (Some i) = happened step i
 abbrev pub happened_of : List ℕ → Option Request
 happened_of text = of_both (λ process step. happened_by step (number_of process)) (cut 46 text)
 
+-- `NAME`
+abbrev pub started_of : List ℕ → Option Request
+started_of text = if is_name text then Some (Started text) else None
+
 -- the text begins with the word `process` and has more words: whether these are a process is not asked here
 abbrev pub is_spelled : List ℕ → Bool
 is_spelled text = both_pass (λ word rest. same_text word (codes "process")) (cut 32 text)
 
--- `done I.STEP`, or `start process NAME .. end`, by its first word and the rest
+-- `done I.STEP`, `started NAME`, or `start process NAME .. end`, by its first word and the rest
 abbrev pub more_words : List ℕ → List ℕ → Option Request
 more_words word rest =
     if same_text word (codes "done") then happened_of rest
-    else (if same_text word (codes "start") && is_spelled rest then Some StartSpelled else None)
+    else (if same_text word (codes "started") then started_of rest
+    else (if same_text word (codes "start") && is_spelled rest then Some StartSpelled else None))
 
 -- a line that no session has, cut behind its first word if it has more
 abbrev pub own_line : List ℕ → Option Parts → Option Request

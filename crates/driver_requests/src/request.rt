@@ -13,6 +13,8 @@ pub enum Request {
     Pieces,
     /// What became of the step of this name of this process.
     Happened(u32, Name),
+    /// What became of the processes of this name.
+    Started(Name),
 }
 
 /// What became of a step, at which place of the history, counted from 1.

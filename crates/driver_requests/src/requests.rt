@@ -1,6 +1,6 @@
 // Lines of a driver by their forms.
 ghost use Rattle.std.specs.Prelude.{◌≡◌, IfOk};
-ghost use Rattle.driver_requests.specs.Requests.{happened_of, is_spelled, more_words, request_of};
+ghost use Rattle.driver_requests.specs.Requests.{happened_of, is_spelled, more_words, request_of, started_of};
 
 use crate::Request;
 use process_text::is_word;
@@ -26,6 +26,17 @@ fn happened_of(alloc: Global, text: &[u8]) -> Result<Option<Request>, AllocError
     }
 }
 
+// `NAME`
+fn started_of(alloc: Global, text: &[u8]) -> Result<Option<Request>, AllocError>
+    ensures { IfOk result (λ found. found ≡ started_of text.now) }
+{
+    match Name::new(alloc, text) {
+        Ok(name) => Ok(Some(Request::Started(name))),
+        Err(NameError::BadName) => Ok(None),
+        Err(NameError::NoMemory) => Err(AllocError),
+    }
+}
+
 // Whether a text begins with the word `process` and has more words.
 fn is_spelled(text: &[u8]) -> bool
     ensures { result ≡ is_spelled text.now }
@@ -42,6 +53,9 @@ fn more_words(alloc: Global, word: &[u8], rest: &[u8]) -> Result<Option<Request>
 {
     if is_word(word, b"done") {
         return happened_of(alloc, rest);
+    }
+    if is_word(word, b"started") {
+        return started_of(alloc, rest);
     }
     if is_word(word, b"start") && is_spelled(rest) {
         return Ok(Some(Request::StartSpelled));

@@ -1,6 +1,7 @@
 pub mod GoodHistories
 pub mod ExactBooks
 pub mod Left
+pub mod LeavesSound
 pub mod Restored
 pub mod Recovered
 pub mod Exits
@@ -8,4 +9,5 @@ pub mod Went
 pub mod WentByCommand
 pub mod Agree
 pub mod Whole
+pub mod Chained
 pub mod Stops

@@ -1,7 +1,7 @@
 -- What `restart` answers on files that are sound for a history.
-use Rattle.std.proofs.Common.{◌≡◌, ◌≢◌, ◌⊎◌, ◌∙◌, ℕ, Bool, true, false, List, [], ◌∷◌, ◌++◌, inl, inr, ⊎_elim, refl, ap, subst, sym, append-nil}
+use Rattle.std.proofs.Common.{◌≡◌, ◌≢◌, ◌⊎◌, ◌∙◌, ℕ, Bool, true, false, List, [], ◌∷◌, ◌++◌, Option, Some, inl, inr, ⊎_elim, refl, ap, subst, sym, append-nil}
 use Rattle.std.specs.Io.KnownBytes.{Appends}
-use Rattle.process_disk.specs.Disk.{FileSet, IsHonest}
+use Rattle.process_disk.specs.Disk.{FileSet, IsHonest, Told}
 use Rattle.process_disk.specs.Images.{EachImage}
 use Rattle.schedule_model.specs.declared.event.Event.{Event}
 use Rattle.schedule_model.specs.declared.history.History.{History}
@@ -10,7 +10,7 @@ use Rattle.schedule_model.specs.Course.{courses_of}
 use Rattle.commute_table.specs.declared.catalog.Catalog.{Catalog}
 use Rattle.machine_model.specs.State.{is_exhausted}
 use Rattle.process_core.specs.Cores.{CoreState, courses_in, moment_of}
-use Rattle.process_journal.specs.Laws.{IsSameHistory, beginning}
+use Rattle.process_journal.specs.Laws.{beginning}
 use Rattle.history_files.specs.Images.{IsWithin}
 use Rattle.history_files.specs.Sound.{IsSound}
 use Rattle.engine_steps.specs.Opening.{LeftByOpening}
@@ -34,34 +34,33 @@ use Rattle.process_top.specs.Told.{IsTold}
 use Rattle.process_top.specs.Worlds.{BoxState, World}
 use Rattle.process_top.proofs.StatusNumbers.{same_status}
 use Rattle.restart_run.specs.Boxes.{HaveValuesOf}
-use Rattle.process_top.specs.Commands.{DoesItsWork, IsDueTo}
+use Rattle.process_top.specs.Commands.{Answers, DoesItsWork, IsDueTo}
 use Rattle.process_restart.specs.Completing.{with_completion}
 use Rattle.process_restart.specs.Restarting.{IsRestart}
 use Rattle.restart_run.specs.Restart.{IsRestartCutOff, SaysRestart}
 use Rattle.process_top.specs.Restart.{IsRestartDue}
-use Rattle.headline.specs.Headline.{HoldsAcknowledged, IsBeginningOf, IsCompleted, IsHeldUp, IsRecovered, IsRestartOn, NothingIsExhausted}
+use Rattle.headline.specs.Headline.{HoldsAcknowledged, IsBeginningOf, IsCompleted, IsHeldUp, IsRecovered, NothingIsExhausted}
+use Rattle.program_words.specs.Commands.{asked}
+use Rattle.program_words.specs.declared.reading.Command.TheVariants.{Restart}
 use Rattle.headline.proofs.Exits.{IsCut, told_cut}
-use Rattle.headline.proofs.Left.{LeftAs}
 use Rattle.headline.proofs.Restored.{restart_images, restored}
-use Rattle.same_histories.proofs.SameHistories.{one_sound, same_through}
+use Rattle.same_histories.proofs.SameHistories.{one_sound}
 use Rattle.headline.proofs.GoodHistories.{whole_beginning}
 
-module _ {S K R : Type 0} (c : Catalog) (h : History) (MayBeAhead : History → Type 0) (now : CoreState) (came : List (ℕ × List Event)) (moment : ℕ) (left : FileSet) (found : LeftAs c h MayBeAhead now came moment left)
-    (words : List (List ℕ)) (again last : World S K R) (number : ℕ) (on : IsRestartOn left words again last number) (honest : IsHonest last.files.disk) (opened : SoundFilesAreOpened)
-    (books : BooksAreReadBack) where
-  abbrev g : History
-  g = found.history
+-- an image is one that a crash before the restart might have left, or is on the way to the completed history
+abbrev pub OnTheWay : {S K R : Type 0} → Catalog → History → World S K R → World S K R → Type 0
+OnTheWay c read again last =
+    EachImage last.files.disk again.files.disk.moment (λ files. again.files.disk.may_leave files ⊎ IsWithin c read.events (with_completion read) files)
 
-  sound : IsSound c g again.files.disk.files
-  sound = subst (λ fs. IsSound c g fs) (sym on.found) found.sound
-
+module _ {S K R : Type 0} (c : Catalog) (g : History) (words : List (List ℕ)) (again last : World S K R) (number : ℕ) (asks : asked words ≡ Some Restart) (refusal : Option Refusal) (answered : Answers words again last number refusal)
+    (tells : Told again.files.disk) (sound : IsSound c g again.files.disk.files) (honest : IsHonest last.files.disk) (opened : SoundFilesAreOpened) (books : BooksAreReadBack) where
   -- What became of the restart: of this history, which was read.
   pub record Becomes (read : History) : Type 0 where
     pub reads : IsSound c read again.files.disk.files
-    pub images : EachImage last.files.disk again.files.disk.moment (IsWithin c read.events (with_completion read))
-    pub ends : (on.answered.status ≡ Done) ⊎ (on.answered.status ≡ Exhausted) ⊎ IsCut on.answered.status
-    pub done : on.answered.status ≡ Done → IsCompleted c read again last
-    pub held_up : on.answered.status ≡ Exhausted → IsHeldUp c read again last
+    pub images : OnTheWay c read again last
+    pub ends : (answered.status ≡ Done) ⊎ (answered.status ≡ Exhausted) ⊎ IsCut answered.status
+    pub done : answered.status ≡ Done → IsCompleted c read again last
+    pub held_up : answered.status ≡ Exhausted → IsHeldUp c read again last
 
   cut_not_done : (s : Status) → IsCut s → s ≡ Done → ⊥
   cut_not_done s (inl a) is = absurd cc
@@ -76,30 +75,30 @@ module _ {S K R : Type 0} (c : Catalog) (h : History) (MayBeAhead : History → 
   abbrev pub Came : Type 0
   Came = (read : History) × Becomes read
 
-  cut_off : (read : History) → IsSound c read again.files.disk.files → EachImage last.files.disk again.files.disk.moment (IsWithin c read.events (with_completion read)) → IsCut on.answered.status → Came
+  cut_off : (read : History) → IsSound c read again.files.disk.files → OnTheWay c read again last → IsCut answered.status → Came
   cut_off read reads images cut = (
     read,
     record {
       reads = reads;
       images = images;
       ends = inr (inr cut);
-      done = λ is. absurd (cut_not_done on.answered.status cut is);
-      held_up = λ is. absurd (cut_not_up on.answered.status cut is);
+      done = λ is. absurd (cut_not_done answered.status cut is);
+      held_up = λ is. absurd (cut_not_up answered.status cut is);
     },
   )
 
   -- it said what it did
   by_text : (k : History) (core : CoreState) (s : Said) → IsRestart (first_gate (gates_asked again.gates last.gates)) c k core Settled again.files.disk last.files.disk → SaysRestart c k core s
-      → IsTold s.status s.text.items again.output last.output on.answered.status → Came
+      → IsTold s.status s.text.items again.output last.output answered.status → Came
   by_text k core s made says told = (
     k,
     record {
-      reads = made.kept.sound on.known.told;
+      reads = made.kept.sound tells;
       images = images;
       ends = ⊎_elim (λ out. ⊎_elim (λ whole. inl (out.0 ∙ whole.0)) (λ up. inr (inl (out.0 ∙ up.2))) says) (λ failed. inr (inr (inl failed.0))) told;
       done = λ is. ⊎_elim
           (λ out. ⊎_elim
-          (λ whole. restored (first_gate (gates_asked again.gates last.gates)) c k core again last made on.known whole.1 (subst (Appends again.output.taken last.output.taken) whole.2 out.1) (values is) books)
+          (λ whole. restored (first_gate (gates_asked again.gates last.gates)) c k core again last made tells whole.1 (subst (Appends again.output.taken last.output.taken) whole.2 out.1) (values is) books)
           (λ up. absurd (let a = out.0 in let b = up.2 in cc))
           says)
           (λ failed. absurd (let a = failed.0 in cc))
@@ -113,8 +112,8 @@ module _ {S K R : Type 0} (c : Catalog) (h : History) (MayBeAhead : History → 
             process = up.0;
             step = up.1;
             exhausted = up.3;
-            books = made.read refl on.known.told;
-            kept = made.each refl on.known.told;
+            books = made.read refl tells;
+            kept = made.each refl tells;
             printed = subst (Appends again.output.taken last.output.taken) up.4 out.1;
           })
           says)
@@ -123,11 +122,11 @@ module _ {S K R : Type 0} (c : Catalog) (h : History) (MayBeAhead : History → 
     },
   )
     where
-      images : EachImage last.files.disk again.files.disk.moment (IsWithin c k.events (with_completion k))
-      images = restart_images (first_gate (gates_asked again.gates last.gates)) c k core Settled again.files.disk last.files.disk made on.known honest
+      images : OnTheWay c k again last
+      images = restart_images (first_gate (gates_asked again.gates last.gates)) c k core Settled again.files.disk last.files.disk made tells honest
 
-      values : on.answered.status ≡ Done → HaveValuesOf (λ (b : BoxState). b.values) last.files.disk.files last.boxes
-      values is = on.answered.values on.asks is (subst (λ b. b ≡ true) (sym on.answered.left.tells) on.known.told)
+      values : answered.status ≡ Done → HaveValuesOf (λ (b : BoxState). b.values) last.files.disk.files last.boxes
+      values is = answered.values asks is (subst (λ b. b ≡ true) (sym answered.left.tells) tells)
 
   -- files that are sound for a history are on the way to its completed one
   within_itself : (k : History) (files : FileSet) → IsSound c k files → IsWithin c k.events (with_completion k) files
@@ -140,30 +139,30 @@ module _ {S K R : Type 0} (c : Catalog) (h : History) (MayBeAhead : History → 
 
   -- what became sound for a history is on the way
   becoming : (d : Catalog) (k : History) → IsSound d k again.files.disk.files → BecomesSound d k again.files.disk last.files.disk
-      → IsSound c k again.files.disk.files × EachImage last.files.disk again.files.disk.moment (IsWithin c k.events (with_completion k))
+      → IsSound c k again.files.disk.files × OnTheWay c k again last
   becoming d k reads becomes =
       let same : d ≡ c = (one_sound c d g k again.files.disk.files sound reads).0 in
       let reads' : IsSound c k again.files.disk.files = subst (λ x. IsSound x k again.files.disk.files) same reads in (
         reads',
         record {
-          has = λ files left. within_itself k files (⊎_elim
-              (λ may. subst (λ fs. IsSound c k fs) (sym (on.known.synced.only files may)) reads')
-              (λ since. subst (λ x. IsSound x k files) same (becomes.each.has files since))
-              (becomes.before files left));
+          has = λ files left. ⊎_elim
+              (λ may. inl may)
+              (λ since. inr (within_itself k files (subst (λ x. IsSound x k files) same (becomes.each.has files since))))
+              (becomes.before files left);
         },
       )
 
   -- they were not opened
-  not_opened : (e : OpenError) (r : Refusal) → r ≡ open_refusal e → AreNotOpened e again.files last.files → IsReplyTold (refused r) again.output last.output on.answered.status → Came
-  not_opened e r is why told = by (why.left on.known.told)
+  not_opened : (e : OpenError) (r : Refusal) → r ≡ open_refusal e → AreNotOpened e again.files last.files → IsReplyTold (refused r) again.output last.output answered.status → Came
+  not_opened e r is why told = by (why.left tells)
     where
-      cut : IsCut on.answered.status
-      cut = told_cut r again.output last.output on.answered.status
-          (⊎_elim (λ fault. inl (is ∙ ap open_refusal fault)) (λ memory. inr (is ∙ ap open_refusal memory)) (opened c g again.files.disk.files e sound (why.due on.known.told))) told
+      cut : IsCut answered.status
+      cut = told_cut r again.output last.output answered.status
+          (⊎_elim (λ fault. inl (is ∙ ap open_refusal fault)) (λ memory. inr (is ∙ ap open_refusal memory)) (opened c g again.files.disk.files e sound (why.due tells))) told
 
       by : LeftByOpening e again.files.disk last.files.disk → Came
       by (inl (inl same)) = cut_off g sound (record {
-        has = λ files left. let from = same.images files left in within_itself g files (subst (λ fs. IsSound c g fs) (sym (from.2 ∙ on.known.synced.only from.0 from.1)) sound);
+        has = λ files left. let from = same.images files left in inl (subst (λ fs. again.files.disk.may_leave fs) (sym from.2) from.1);
       }) cut
       by (inl (inr began)) = let so = becoming began.1.catalog began.1.history began.1.sound began.1.becomes in cut_off began.1.history so.0 so.1 cut
       by (inr settled) = let so = becoming settled.1.catalog settled.1.history settled.1.sound settled.1.becomes in cut_off settled.1.history so.0 so.1 cut
@@ -173,27 +172,27 @@ module _ {S K R : Type 0} (c : Catalog) (h : History) (MayBeAhead : History → 
 
   -- a restart of another catalog is of this one
   of_catalog : (d : Catalog) (k : History) (core : CoreState) (on' : Phase) → IsRestart gate d k core on' again.files.disk last.files.disk → d ≡ c
-  of_catalog d k core on' made = (one_sound c d g k again.files.disk.files sound (made.kept.sound on.known.told)).0
+  of_catalog d k core on' made = (one_sound c d g k again.files.disk.files sound (made.kept.sound tells)).0
 
   cut_on : (k : History) (core : CoreState) (on' : Phase) (r : Refusal) → IsRestart gate c k core on' again.files.disk last.files.disk → (r ≡ refusals.DiskFault) ⊎ (r ≡ refusals.NoMemory)
-      → IsReplyTold (refused r) again.output last.output on.answered.status → Came
+      → IsReplyTold (refused r) again.output last.output answered.status → Came
   cut_on k core on' r made free told =
-      cut_off k (made.kept.sound on.known.told) (restart_images gate c k core on' again.files.disk last.files.disk made on.known honest) (told_cut r again.output last.output on.answered.status free told)
+      cut_off k (made.kept.sound tells) (restart_images gate c k core on' again.files.disk last.files.disk made tells honest) (told_cut r again.output last.output answered.status free told)
 
   -- it was cut off
-  by_cut : (r : Refusal) → IsRestartCutOff gate again.files last.files r → IsReplyTold (refused r) again.output last.output on.answered.status → Came
+  by_cut : (r : Refusal) → IsRestartCutOff gate again.files last.files r → IsReplyTold (refused r) again.output last.output answered.status → Came
   by_cut r (d, k, core, inl (memory, made)) told =
       cut_on k core Settled r (subst (λ x. IsRestart gate x k core Settled again.files.disk last.files.disk) (of_catalog d k core Settled made) made) (inr memory) told
   by_cut r (d, k, core, inr (fault, made, rose)) told =
       cut_on k core Closed r (subst (λ x. IsRestart gate x k core Closed again.files.disk last.files.disk) (of_catalog d k core Closed made) made) (inl fault) told
 
   by_said : (s : Said) (d : Catalog) (k : History) (core : CoreState) → IsRestart gate d k core Settled again.files.disk last.files.disk → SaysRestart d k core s
-      → IsTold s.status s.text.items again.output last.output on.answered.status → Came
+      → IsTold s.status s.text.items again.output last.output answered.status → Came
   by_said s d k core made says told =
       let same = of_catalog d k core Settled made in
       by_text k core s (subst (λ x. IsRestart gate x k core Settled again.files.disk last.files.disk) same made) (subst (λ x. SaysRestart x k core s) same says) told
 
-  by_reply : (reply : Reply) → IsRestartDue gate again.files last.files reply → IsReplyTold reply again.output last.output on.answered.status → Came
+  by_reply : (reply : Reply) → IsRestartDue gate again.files last.files reply → IsReplyTold reply again.output last.output answered.status → Came
   by_reply (ended s) due told = by_said s due.0 due.1 due.2 due.3 due.4 told
   by_reply (refused r) (inl (e, is, why)) told = not_opened e r is why told
   by_reply (refused r) (inr cut) told = by_cut r cut told
@@ -205,17 +204,8 @@ module _ {S K R : Type 0} (c : Catalog) (h : History) (MayBeAhead : History → 
   by_reply (printed text) due told = absurd due
 
   pub came_of : Came
-  came_of = by_reply on.answered.reply
-      (subst (λ o. IsDueTo o (gates_asked again.gates last.gates) again.input last.input again.files last.files on.answered.reply) on.asks on.answered.due) on.answered.told
-
-  -- what was left holds, whatever is read of it
-  begins_as : (read : History) → IsSameHistory g read → IsBeginningOf MayBeAhead now read
-  begins_as read same =
-      let (k, which, rest, is, begun) = found.begins in
-      (k, which, rest, is ∙ ap (λ es. es ++ rest) same.events, same_through (beginning k read.events) g read (subst (λ es. IsSameHistory (beginning k es) g) same.events begun) same)
-
-  holds_as : (read : History) → IsSameHistory g read → HoldsAcknowledged h came moment read
-  holds_as read same = (found.holds.0, sym same.events ∙ found.holds.1)
+  came_of = by_reply answered.reply
+      (subst (λ o. IsDueTo o (gates_asked again.gates last.gates) again.input last.input again.files last.files answered.reply) asks answered.due) answered.told
 
   one_of : (s : Status) → (s ≡ Done) ⊎ (s ≡ Exhausted) ⊎ IsCut s → IsOneOf s (Done ∷ WriteFault ∷ DiskFault ∷ Exhausted ∷ NoMemory ∷ [])
   one_of s (inl done) = inl done
@@ -230,32 +220,30 @@ module _ {S K R : Type 0} (c : Catalog) (h : History) (MayBeAhead : History → 
   not_up : (read : History) → NothingIsExhausted gate c read → IsHeldUp c read again last → ⊥
   not_up read willing up = true_false (is_exhausted (courses_in up.now) (moment_of up.now) up.process) up.exhausted.exhausted (willing up.now up.process up.completing up.exhausted.turn)
 
-  done_by : (read : History) → Becomes read → NothingIsExhausted gate c read → number ≢ number_of NoMemory → IsOneOf on.answered.status (Done ∷ Exhausted ∷ NoMemory ∷ []) → on.answered.status ≡ Done
+  done_by : (read : History) → Becomes read → NothingIsExhausted gate c read → number ≢ number_of NoMemory → IsOneOf answered.status (Done ∷ Exhausted ∷ NoMemory ∷ []) → answered.status ≡ Done
   done_by read is willing memory (inl done) = done
   done_by read is willing memory (inr (inl up)) = absurd (not_up read willing (is.held_up up))
-  done_by read is willing memory (inr (inr (inl none))) = absurd (memory (on.answered.numbered ∙ ap number_of none))
+  done_by read is willing memory (inr (inr (inl none))) = absurd (memory (answered.numbered ∙ ap number_of none))
   done_by read is willing memory (inr (inr (inr none))) = absurd none
 
-  pub recovered : (read : History) → Becomes read → IsRecovered c h MayBeAhead now came moment read words again last number
-  recovered read is =
-      let same = (one_sound c c g read again.files.disk.files sound is.reads).1 in
-      record {
-        reads = is.reads;
-        begins = begins_as read same;
-        holds = holds_as read same;
-        images = is.images;
-        status = on.answered.status;
-        numbered = on.answered.numbered;
-        one_of = one_of on.answered.status is.ends;
-        well = λ willing memory quiet. done_by read is willing memory
-            ((subst (λ o. DoesItsWork o again.input again.files on.answered.status) on.asks (on.answered.complete quiet)) c g on.known.told sound);
-      }
-
-  pub all_of : (read : History) × IsRecovered c h MayBeAhead now came moment read words again last number × (number ≡ number_of Done → IsCompleted c read again last)
-      × (number ≡ number_of Exhausted → IsHeldUp c read again last)
-  all_of = let (read, is) = came_of in (
-    read,
-    recovered read is,
-    (λ done. is.done (same_status on.answered.status Done (sym on.answered.numbered ∙ done))),
-    (λ up. is.held_up (same_status on.answered.status Exhausted (sym on.answered.numbered ∙ up))),
+  -- what was said at its ends
+  pub ended_so : (read : History) → Becomes read → (number ≡ number_of Done → IsCompleted c read again last) × (number ≡ number_of Exhausted → IsHeldUp c read again last)
+  ended_so read is = (
+    (λ done. is.done (same_status answered.status Done (sym answered.numbered ∙ done))),
+    (λ up. is.held_up (same_status answered.status Exhausted (sym answered.numbered ∙ up))),
   )
+
+  -- So it is recovered, where the history that is read may be.
+  pub recovered : (h : History) (MayBeAhead : History → Type 0) (now : CoreState) (came : List (ℕ × List Event)) (moment : ℕ) (read : History) → Becomes read
+      → IsBeginningOf MayBeAhead now read → HoldsAcknowledged h came moment read → IsRecovered c h MayBeAhead now came moment read words again last number
+  recovered h MayBeAhead now came moment read is begins holds = record {
+    reads = is.reads;
+    begins = begins;
+    holds = holds;
+    images = is.images;
+    status = answered.status;
+    numbered = answered.numbered;
+    one_of = one_of answered.status is.ends;
+    well = λ willing memory quiet. done_by read is willing memory
+        ((subst (λ o. DoesItsWork o again.input again.files answered.status) asks (answered.complete quiet)) c g tells sound);
+  }

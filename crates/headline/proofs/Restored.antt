@@ -1,8 +1,8 @@
 -- What a restart makes of files that are sound for a history.
-use Rattle.std.proofs.Common.{◌≡◌, ◌∙◌, ℕ, List, [], ◌∷◌, ◌++◌, ⊎_elim, refl, ap, subst, sym, append-nil, append_assoc, arith}
+use Rattle.std.proofs.Common.{◌≡◌, ◌⊎◌, ◌∙◌, ℕ, List, [], ◌∷◌, ◌++◌, inl, inr, ⊎_elim, refl, ap, subst, sym, append-nil, append_assoc, arith}
 use Rattle.std.proofs.lemmas.List.{append_cancel_left}
 use Rattle.std.specs.Io.KnownBytes.{Appends}
-use Rattle.process_disk.specs.Disk.{Disk, FileSet, IsHonest}
+use Rattle.process_disk.specs.Disk.{Disk, FileSet, IsHonest, Told}
 use Rattle.process_disk.specs.Images.{EachImage}
 use Rattle.process_tree.specs.Conflicts.{do_conflict}
 use Rattle.schedule_model.specs.declared.event.Event.{Event}
@@ -34,18 +34,18 @@ use Rattle.restart_run.specs.Boxes.{HaveValuesOf}
 use Rattle.engine_calls.specs.Acknowledged.{acknowledged, events_of}
 use Rattle.process_restart.specs.Completing.{IsNextOfCompletion, restart_causes, with_completion}
 use Rattle.process_restart.specs.Restarting.{IsRestart}
-use Rattle.headline.specs.Headline.{IsKnown, IsCompleted}
+use Rattle.headline.specs.Headline.{IsCompleted}
 use Rattle.engine_calls.proofs.Acknowledged.{Holds, held}
 use Rattle.subsystem_store.specs.Laws.{BooksAreReadBack}
 use Rattle.headline.proofs.ExactBooks.{exactly_read}
-use Rattle.headline.proofs.GoodHistories.{good_history, whole_beginning}
+use Rattle.headline.proofs.GoodHistories.{good_history}
 
-module _ (gate : AskedGate) (c : Catalog) (h : History) (now : CoreState) (on : Phase) (before after : Disk) (restart : IsRestart gate c h now on before after) (known : IsKnown before) where
+module _ (gate : AskedGate) (c : Catalog) (h : History) (now : CoreState) (on : Phase) (before after : Disk) (restart : IsRestart gate c h now on before after) (told : Told before) where
   same_plans : now.plans ≡ h.plans
   same_plans = restart.completing.run.plans
 
   sound : IsSound c h before.files
-  sound = restart.kept.sound known.told
+  sound = restart.kept.sound told
 
   abbrev AheadFiles : FileSet → Type 0
   AheadFiles = IsNextOfCompletion c h now on
@@ -60,16 +60,7 @@ module _ (gate : AskedGate) (c : Catalog) (h : History) (now : CoreState) (on : 
   all_events : completed_history h ≡ h.events ++ events_of came ++ restart.completing.rest
   all_events = restart.completing.toward ∙ ap (λ es. es ++ restart.completing.rest) restart.kept.events
 
-  -- files of the history are on the way,
-  within_first : (files : FileSet) → IsSound c h files → IsWithin c h.events (with_completion h) files
-  within_first files is = record {
-    middle = [];
-    last = completion (courses_of h.plans) h.events;
-    is = ap (λ es. es ++ completion (courses_of h.plans) h.events) (sym (append-nil h.events));
-    sound = subst (λ es. IsSound c (beginning h es) files) (sym (append-nil h.events)) (subst (λ k. IsSound c k files) (whole_beginning c h is.history) is);
-  }
-
-  -- so are those that hold what came as far as this,
+  -- files that hold what came as far as this are on the way,
   within_held : (m : ℕ) (files : FileSet) → Holds c (full_history now) AheadFiles after h.events m came files → IsWithin c h.events (with_completion h) files
   within_held m files held =
       let all = acknowledged m came ++ held.middle in
@@ -94,15 +85,15 @@ module _ (gate : AskedGate) (c : Catalog) (h : History) (now : CoreState) (on : 
         sound = subst (λ es. IsSound c (beginning (with_completion h) es) files) more (subst (λ j. IsSound c j files) next.is is);
       }
 
-  -- Every image since the entry is on the way to the completed history.
-  pub restart_images : IsHonest after → EachImage after before.moment (IsWithin c h.events (with_completion h))
+  -- Every image since the entry is one that a crash before might have left, or is on the way to the completed history.
+  pub restart_images : IsHonest after → EachImage after before.moment (λ files. before.may_leave files ⊎ IsWithin c h.events (with_completion h) files)
   restart_images honest =
-      let turn = restart.kept.in_turn known.told in
+      let turn = restart.kept.in_turn told in
       record {
         has = λ files left. ⊎_elim
-            (λ may. within_first files (subst (λ fs. IsSound c h fs) (sym (known.synced.only files may)) sound))
-            (λ since. ⊎_elim (within_held turn.moment files) (within_ahead files)
-            (held c (full_history now) AheadFiles after honest came h.events turn.moment turn.moment turn.since (omega arith) files since))
+            (λ may. inl may)
+            (λ since. inr (⊎_elim (within_held turn.moment files) (within_ahead files)
+            (held c (full_history now) AheadFiles after honest came h.events turn.moment turn.moment turn.since (omega arith) files since)))
             (turn.before files left);
       }
 
@@ -129,22 +120,22 @@ module _ (c : Catalog) (h : History) (good : IsGood (do_conflict c.conflicts) h.
   whole_reduces = prefix-reducibility (do_conflict c.conflicts) h.plans h.events [] (subst (λ es. IsGood (do_conflict c.conflicts) h.plans es) (sym (append-nil h.events)) good)
 
 -- What is restored where all was completed.
-pub restored : {S K R : Type 0} (gate : AskedGate) (c : Catalog) (h : History) (now : CoreState) (again last : World S K R) → IsRestart gate c h now Settled again.files.disk last.files.disk → IsKnown again.files.disk
+pub restored : {S K R : Type 0} (gate : AskedGate) (c : Catalog) (h : History) (now : CoreState) (again last : World S K R) → IsRestart gate c h now Settled again.files.disk last.files.disk → Told again.files.disk
     → history_of now ≡ completed_history h → Appends again.output.taken last.output.taken (report_text c (with_completion h) (restart_causes h)) → HaveValuesOf (λ (b : BoxState). b.values) last.files.disk.files last.boxes
     → BooksAreReadBack → IsCompleted c h again last
-restored gate c h now again last restart known complete printed values books =
-    let sound = restart.kept.sound known.told in
+restored gate c h now again last restart told complete printed values books =
+    let sound = restart.kept.sound told in
     let good = good_history c h sound.history in
     let law = completion-law (do_conflict c.conflicts) h.plans h.events good in
     let whole : full_history now ≡ with_completion h = ap (λ ps. record { plans = ps; events = history_of now }) restart.completing.run.plans ∙ ap (λ es. record { plans = h.plans; events = es }) complete in
-    let exactly : AreExactly c (with_completion h) last.files.disk.files = subst (λ k. AreExactly c k last.files.disk.files) whole (restart.read refl known.told) in
-    let all_sound : IsSound c (with_completion h) last.files.disk.files = subst (λ k. IsSound c k last.files.disk.files) whole (restart.kept.read refl known.told) in
+    let exactly : AreExactly c (with_completion h) last.files.disk.files = subst (λ k. AreExactly c k last.files.disk.files) whole (restart.read refl told) in
+    let all_sound : IsSound c (with_completion h) last.files.disk.files = subst (λ k. IsSound c k last.files.disk.files) whole (restart.kept.read refl told) in
     let reduces = whole_reduces c h good in
     record {
       ended = law.2;
       nobody = law.1;
       books = exactly;
-      kept = subst (λ k. EachImage last.files.disk last.files.disk.moment (AreExactly c k)) whole (restart.each refl known.told);
+      kept = subst (λ k. EachImage last.files.disk last.files.disk.moment (AreExactly c k)) whole (restart.each refl told);
       boxes = values (λ q. effects c.ops (with_completion h) q) (exactly_read books c (with_completion h) last.files.disk.files all_sound exactly);
       steps = (trace_of (ends (completed_history h)) (acts (completed_history h))).steps;
       list = (trace_of (ends (completed_history h)) (acts (completed_history h))).list;

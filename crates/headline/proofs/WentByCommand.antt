@@ -14,7 +14,7 @@ use Rattle.command_refusals.specs.Statuses.{number_of}
 use Rattle.command_refusals.specs.declared.status.Status.{Status}
 use Rattle.command_refusals.specs.declared.status.Status.TheVariants as statuses
 use Rattle.program_words.specs.declared.reading.Command.{Command}
-use Rattle.program_words.specs.declared.reading.Command.TheVariants.{Check, Init, Run, Session, Serve, Restart, Show, Verify, Gen, Bulk, Help, Version}
+use Rattle.program_words.specs.declared.reading.Command.TheVariants.{Check, Init, Run, Session, Serve, Restart, Show, Replay, Verify, Audit, Gen, Bulk, Help, Version}
 use Rattle.command_input.specs.declared.said.Said.{Said}
 use Rattle.command_refusals.specs.declared.refusal.Refusal.{Refusal}
 use Rattle.scenario_run.specs.Opening.{IsNotOpenedFor}
@@ -38,7 +38,7 @@ use Rattle.process_top.specs.Serve.{IsServeDue}
 use Rattle.process_top.specs.Session.{IsSessionDue}
 use Rattle.process_top.specs.Told.{IsRefusalTold, IsTold}
 use Rattle.process_top.specs.Worlds.{World}
-use Rattle.headline.specs.Headline.{FailsInDialogue, IsAtEntry, IsRackFault, goes_on, is_refused_beforehand}
+use Rattle.headline.specs.Headline.{FailsInDialogue, IsRackFault, ReadsAs, goes_on, is_refused_beforehand}
 use Rattle.headline.proofs.Exits.{cut_late, failed_late, refused_fault, said_fault, said_late, told_cut}
 use Rattle.headline.proofs.Went.{Went, kept, nothing, not_opened, not_opened_for, not_opened_with, untouched}
 use Rattle.scenario_run.proofs.OpeningParts.{idle_or_room}
@@ -46,7 +46,7 @@ use Rattle.scenario_run.proofs.RunParts as run_parts
 use Rattle.session_run.proofs.SessionParts as session_parts
 use Rattle.serve_run.proofs.ServeParts as serve_parts
 
-module _ {S K R : Type 0} (c : Catalog) (h : History) (before after : World S K R) (entry : IsAtEntry c h before.files.disk)
+module _ {S K R : Type 0} (c : Catalog) (h : History) (before after : World S K R) (entry : ReadsAs c h before.files.disk)
     (number : ℕ) (status : Status) (numbered : number ≡ number_of status) (known : Told after.files.disk) (honest : IsHonest after.files.disk) where
   abbrev gates : AskedGates
   gates = gates_asked before.gates after.gates
@@ -262,9 +262,11 @@ module _ {S K R : Type 0} (c : Catalog) (h : History) (before after : World S K 
   went_by (Some Serve) goes reply due out = serve_due reply due out
   went_by (Some Restart) goes reply due out = restart_due reply due out
   went_by (Some Check) goes reply due out = absurd cc
-  went_by (Some Init) goes reply due out = absurd cc
+  went_by (Some (Init values)) goes reply due out = absurd cc
   went_by (Some Show) goes reply due out = absurd cc
   went_by (Some Verify) goes reply due out = absurd cc
+  went_by (Some Replay) goes reply due out = absurd cc
+  went_by (Some (Audit history)) goes reply due out = absurd cc
   went_by (Some (Gen number count)) goes reply due out = absurd cc
   went_by (Some (Bulk number count)) goes reply due out = absurd cc
   went_by (Some (Help about)) goes reply due out = absurd cc

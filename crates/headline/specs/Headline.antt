@@ -11,7 +11,9 @@
 --   sink, rack, boxes and gates. The machine came to where it is by what its gate answered or its lines said, whatever that was
 --   (`CameBy`).
 -- - 'Wherever a stop falls': a moment of the call, between two device calls or within one, and any files that the device may have
---   kept since then (`WereLeft`). The next call finds them, and nobody else wrote them (`IsRestartOn`).
+--   kept since then (`WereLeft`). The next call finds such files, and nobody else wrote them (`FindsLeft`). Where the power was cut,
+--   they are all that is there. Where the program alone was killed, what it had written and not synced is still to be read, and a
+--   crash later on may leave less of it.
 -- - 'A prefix of the history': the first events of the machine's history, or of that with what was under way, one event or those of
 --   one group, with the plans of the processes that start in them (`IsBeginningOf`).
 -- - 'Every acknowledged activity': each group of events of the call, one event by itself or several that took effect together,
@@ -24,14 +26,15 @@
 --
 -- Where a process uses up its tries, memory is wanting or a device fails, what `restart` read is still such a prefix
 -- (`IsRecovered`).
-use Rattle.std.specs.Prelude.{◌≡◌, ◌≢◌, ◌⊎◌, ◌≤◌, ℕ, Bool, true, false, List, [], ◌∷◌, ◌++◌, Option, Some, IsTrue}
+use Rattle.std.specs.Prelude.{◌≡◌, ◌≢◌, ◌⊎◌, ◌≤◌, ℕ, Bool, true, false, List, [], ◌∷◌, ◌++◌, Option, Some, IsTrue, nat_le}
+use Rattle.std.proofs.Common.{inl, inr}
 use Rattle.std.specs.Io.KnownBytes.{Appends}
 use Rattle.process_flow.specs.Causes.{Rose}
 use Rattle.process_flow.specs.declared.source.Source.{Ghosts as Sources}
 use Rattle.process_flow.specs.declared.sink.Sink.{Ghosts as Sinks}
 use Rattle.process_disk.specs.declared.rack.Rack.{Ghosts as Racks}
 use Rattle.process_disk.specs.Disk.{Disk, FileSet, Only, Told}
-use Rattle.process_disk.specs.Images.{EachImage}
+use Rattle.process_disk.specs.Images.{AllAsBefore, EachImage}
 use Rattle.process_tree.specs.declared.entry.Entry.{Entry}
 use Rattle.process_tree.specs.declared.plan.Plan.{Plan}
 use Rattle.process_tree.specs.Conflicts.{do_conflict}
@@ -54,6 +57,7 @@ use Rattle.engine_steps.specs.Engines.{AreExactly, full_history}
 use Rattle.process_engine.specs.declared.gates.Gate.{Ghosts as Gates}
 use Rattle.resource_box.specs.declared.resource.Resource.{Ghosts as Resources}
 use Rattle.process_report.specs.Report.{report_of, report_text}
+use Rattle.command_refusals.specs.declared.refusal.Refusal.{Refusal}
 use Rattle.command_refusals.specs.declared.status.Status.{Status}
 use Rattle.command_refusals.specs.declared.status.Status.TheVariants.{Done, BadWords, BadInput, IllFormed, Limit, Unfinished}
 use Rattle.command_refusals.specs.declared.status.Status.TheVariants.{BadFile}
@@ -123,8 +127,24 @@ IsAhead (Some Serve) before after c h now k =
 IsAhead (Some Restart) before after c h now k = IsNextHistory h now k
 IsAhead o before after c h now k = ⊥
 
--- A call on files of this history, from one world to another: the machine opened on the history, wherever its plans lie, and went
--- on to where it is now. What came is acknowledged group by group, and kept from then on.
+-- Nothing came, the machine stands where it opened, and all nine files are as before.
+pub record IsLeftAlone (h : History) (now : CoreState) (came : List (ℕ × List Event)) (old new : Disk) : Type 0 where
+  pub nothing : came ≡ []
+  pub still : full_history now ≡ h
+  pub as_before : AllAsBefore old new
+
+-- Since the files were opened, what came is acknowledged group by group, and kept from then on. An image may be ahead of it by what
+-- was under way.
+abbrev pub IsKeptInTurn : {S K R : Type 0} → Option Command → Catalog → History → World S K R → World S K R → History → CoreState
+    → List (ℕ × List Event) → Type 0
+IsKeptInTurn o c h before after opened now came =
+    FromOpening (λ t. ComeInTurn c (full_history now)
+    (λ files. (k : History) × IsAhead o before.input after.input c opened now k × IsSound c k files)
+    after.files.disk h.events t came)
+    before.files.disk after.files.disk
+
+-- A call on files that read as those of this history, from one world to another: the machine opened on the history, wherever its
+-- plans lie, and went on to where it is now. What came was kept in turn; or the files were left alone.
 pub record WentOn {S K R : Type 0} (o : Option Command) (c : Catalog) (h : History) (before after : World S K R) (now : CoreState)
     (came : List (ℕ × List Event)) : Type 0 where
   pub opened : History
@@ -134,10 +154,12 @@ pub record WentOn {S K R : Type 0} (o : Option Command) (c : Catalog) (h : Histo
   pub by : (now ≡ opened_on c.conflicts opened.plans opened.events)
       ⊎ CameBy o (gates_asked before.gates after.gates) before.input after.input c opened now
   pub events : history_of now ≡ h.events ++ events_of came
-  pub in_turn : FromOpening (λ t. ComeInTurn c (full_history now)
-      (λ files. (k : History) × IsAhead o before.input after.input c opened now k
-      × IsSound c k files) after.files.disk h.events t came)
-      before.files.disk after.files.disk
+  pub kept : IsLeftAlone h now came before.files.disk after.files.disk ⊎ IsKeptInTurn o c h before after opened now came
+
+-- the files had been opened by this moment: from then on a crash leaves what was read of them
+abbrev pub was_opened_by : {Alone : Type 0} {holds : ℕ → Type 0} {old new : Disk} → ℕ → Alone ⊎ FromOpening holds old new → Bool
+was_opened_by moment (inl alone) = false
+was_opened_by moment (inr opening) = nat_le opening.moment moment
 
 -- the statuses of what is refused beforehand: of words, of an input, and of files that can't be gone on with
 abbrev pub is_refused_beforehand : Status → Bool
@@ -161,10 +183,10 @@ IsRackFault status before after = (status ≡ DiskFault) ⊎ ((status ≡ WriteF
 
 -- What a call finds, and what it leaves.
 
--- The rack tells its bytes and nothing is unsynced, so that a crash at once would leave the files as they read.
-pub record IsKnown (disk : Disk) : Type 0 where
+-- The rack tells its bytes, which read as those of this history under this catalog.
+pub record ReadsAs (c : Catalog) (h : History) (disk : Disk) : Type 0 where
   pub told : Told disk
-  pub synced : Only disk.files disk.may_leave
+  pub reads : IsSound c h disk.files
 
 -- The rack tells its bytes. The files were created for this catalog and are sound for this history, and so is whatever a crash at
 -- once would leave: as where nothing is unsynced, and where the last call kept them.
@@ -174,31 +196,56 @@ pub record IsAtEntry (c : Catalog) (h : History) (disk : Disk) : Type 0 where
   pub images : (files : FileSet) → disk.may_leave files → IsSound c h files
 
 -- What a call that ended leaves, of which this came.
-pub record LeavesFiles {S K R : Type 0} (o : Option Command) (c : Catalog) (before after : World S K R) (number : ℕ)
+pub record LeavesFiles {S K R : Type 0} (o : Option Command) (c : Catalog) (h : History) (before after : World S K R) (number : ℕ)
     (now : CoreState) (came : List (ℕ × List Event)) : Type 0 where
   pub status : Status
   pub numbered : number ≡ number_of status
   -- what was refused beforehand did nothing; but in a dialogue the source may fail at any line
   pub nothing : is_refused_beforehand status ≡ true → ¬ FailsInDialogue o status → came ≡ []
+  -- by the end all that came is acknowledged
+  pub all : acknowledged after.files.disk.moment came ≡ events_of came
+  -- unless the rack failed, or the files were left alone, they are sound for the history that the machine has come to, and so is
+  -- whatever a crash leaves of them from now on
+  pub kept : ¬ IsRackFault status before after → IsLeftAlone h now came before.files.disk after.files.disk
+      ⊎ EachImage after.files.disk after.files.disk.moment (IsSound c (full_history now))
+
+-- What a call leaves of files that were sound for its history at entry, as was whatever a crash would have left.
+pub record LeavesSound {S K R : Type 0} (o : Option Command) (c : Catalog) (h : History) (before after : World S K R)
+    (status : Status) (opened : History) (now : CoreState) (came : List (ℕ × List Event)) : Type 0 where
+  -- what came was kept in turn
+  pub in_turn : IsKeptInTurn o c h before after opened now came
   -- unless the rack failed, the files are sound for the history that the machine has come to, and so is whatever a crash leaves of
   -- them from now on: the next call finds them so
   pub kept : ¬ IsRackFault status before after → EachImage after.files.disk after.files.disk.moment (IsSound c (full_history now))
   pub next : ¬ IsRackFault status before after → IsAtEntry c (full_history now) after.files.disk
 
--- The stop, and the restart after it.
+-- The stop, and the call after it.
 
 -- These files were left by a stop at some moment of a call, or later in it.
 pub record WereLeft {S K R : Type 0} (before after : World S K R) (moment : ℕ) (left : FileSet) : Type 0 where
   pub begun : before.files.disk.moment ≤ moment
   pub image : after.files.disk.left_since moment left
 
--- The command `restart` was called on files that read so, and nobody else had written them.
-pub record IsRestartOn {S K R : Type 0} (left : FileSet) (words : List (List ℕ)) (again last : World S K R)
+-- A call finds what was left, and nobody else wrote it: the rack tells its bytes, they read as files that may have been left, and so
+-- does whatever a crash at once would leave. After a cut of the power that is what reads; where the program alone was killed, what
+-- it had not synced may be lost later on.
+pub record FindsLeft (Left : FileSet → Type 0) (disk : Disk) : Type 0 where
+  pub told : Told disk
+  pub found : Left disk.files
+  pub images : (files : FileSet) → disk.may_leave files → Left files
+
+-- The rack tells its bytes and nothing is unsynced, so that a crash at once would leave the files as they read.
+pub record IsKnown (disk : Disk) : Type 0 where
+  pub told : Told disk
+  pub synced : Only disk.files disk.may_leave
+
+-- The command `restart` was called on files that were left.
+pub record IsRestartOn {S K R : Type 0} (Left : FileSet → Type 0) (words : List (List ℕ)) (again last : World S K R)
     (number : ℕ) : Type 0 where
   pub asks : asked words ≡ Some Restart
-  pub known : IsKnown again.files.disk
-  pub found : again.files.disk.files ≡ left
-  pub answered : Answers words again last number
+  pub finds : FindsLeft Left again.files.disk
+  pub refusal : Option Refusal
+  pub answered : Answers words again last number refusal
 
 -- No step of a completion and no undo of it is refused by this gate, or barred by the values, as often as its tries: in no restart
 -- on this history, as far as it may go, is the process whose turn it is exhausted.
@@ -219,6 +266,19 @@ IsBeginningOf MayBeAhead now read =
 abbrev pub HoldsAcknowledged : History → List (ℕ × List Event) → ℕ → History → Type 0
 HoldsAcknowledged h came moment read = (rest : List Event) × (read.events ≡ h.events ++ acknowledged moment came ++ rest)
 
+-- A history of files that a stop left at a moment: where the files had not been opened by then, one of those that might have been
+-- left before; or else a beginning, which holds every acknowledged event.
+abbrev pub MayLeave : (History → Type 0) → (History → Type 0) → History → CoreState → List (ℕ × List Event) → ℕ → Bool → History
+    → Type 0
+MayLeave MayBe MayBeAhead h now came moment opened k =
+    ((opened ≡ false) × MayBe k) ⊎ (IsBeginningOf MayBeAhead now k × HoldsAcknowledged h came moment k)
+
+-- So it is of a call that went on so.
+abbrev pub MayBeLeft : {S K R : Type 0} (o : Option Command) (c : Catalog) (h : History) (before after : World S K R)
+    (now : CoreState) (came : List (ℕ × List Event)) → WentOn o c h before after now came → (History → Type 0) → ℕ → History → Type 0
+MayBeLeft o c h before after now came went MayBe moment =
+    MayLeave MayBe (IsAhead o before.input after.input c went.opened now) h now came moment (was_opened_by moment went.kept)
+
 -- What `restart` reads of files that a stop left, whatever becomes of it: of a history of which this may be ahead, this is read.
 pub record IsRecovered {S K R : Type 0} (c : Catalog) (h : History) (MayBeAhead : History → Type 0) (now : CoreState)
     (came : List (ℕ × List Event)) (moment : ℕ) (read : History)
@@ -227,8 +287,10 @@ pub record IsRecovered {S K R : Type 0} (c : Catalog) (h : History) (MayBeAhead 
   -- it is a beginning of the history, and holds every acknowledged event
   pub begins : IsBeginningOf MayBeAhead now read
   pub holds : HoldsAcknowledged h came moment read
-  -- a stop of the restart itself, at whatever moment, leaves a history on the way to the same completed one
-  pub images : EachImage last.files.disk again.files.disk.moment (IsWithin c read.events (with_completion read))
+  -- a stop of the restart itself, at whatever moment, leaves a history on the way to the same completed one, or what a crash might
+  -- have left before it
+  pub images : EachImage last.files.disk again.files.disk.moment
+      (λ files. again.files.disk.may_leave files ⊎ IsWithin c read.events (with_completion read) files)
   -- it ends with one of these statuses, and well where nothing goes wrong
   pub status : Status
   pub numbered : number ≡ number_of status
@@ -260,11 +322,10 @@ pub record IsCompleted {S K R : Type 0} (c : Catalog) (read : History) (again la
 
 -- The sentence: what `restart` makes of files that a stop left at a moment of a call, where nothing goes wrong.
 pub record IsRestored {S K R : Type 0} (c : Catalog) (h : History) (MayBeAhead : History → Type 0) (now : CoreState)
-    (came : List (ℕ × List Event)) (moment : ℕ) (left : FileSet)
-    (again last : World S K R) : Type 0 where
+    (came : List (ℕ × List Event)) (moment : ℕ) (again last : World S K R) : Type 0 where
   -- it reads a beginning of the history
   pub read : History
-  pub reads : IsSound c read left
+  pub reads : IsSound c read again.files.disk.files
   pub begins : IsBeginningOf MayBeAhead now read
   -- that holds every acknowledged event
   pub holds : HoldsAcknowledged h came moment read
@@ -304,8 +365,8 @@ module _ {S K R B G : Type 0} (sources : Sources S) (sinks : Sinks K) (racks : R
   abbrev pub OfEachRestart : List (List ℕ) → Catalog → History → Outside S K R B G → Outside S K R B G → CoreState
       → List (ℕ × List Event) → History → Type 0
   OfEachRestart words c h before after now came opened =
-      (moment : ℕ) (left : FileSet) (words' : List (List ℕ)) (again last : Outside S K R B G) (number : ℕ)
-      → WereLeft (seen before) (seen after) moment left → IsRestartOn left words' (seen again) (seen last) number
+      (moment : ℕ) (words' : List (List ℕ)) (again last : Outside S K R B G) (number : ℕ)
+      → IsRestartOn (WereLeft (seen before) (seen after) moment) words' (seen again) (seen last) number
       → (read : History)
       × IsRecovered c h (IsAhead (asked words) (seen before).input (seen after).input c opened now) now came moment read words'
       (seen again) (seen last) number
@@ -317,20 +378,20 @@ module _ {S K R B G : Type 0} (sources : Sources S) (sinks : Sinks K) (racks : R
   -- restored. And where it ends, the next call finds the files of its history.
   abbrev pub StopsAreRestored : Type 0
   StopsAreRestored =
-      (words : List (List ℕ)) (before after : Outside S K R B G) (number : ℕ) (c : Catalog) (h : History)
-      → goes_on (asked words) ≡ true → Answers words (seen before) (seen after) number → IsAtEntry c h (seen before).files.disk
+      (words : List (List ℕ)) (before after : Outside S K R B G) (number : ℕ) (refusal : Option Refusal) (c : Catalog) (h : History)
+      → goes_on (asked words) ≡ true → Answers words (seen before) (seen after) number refusal → IsAtEntry c h (seen before).files.disk
       → (now : CoreState) × (came : List (ℕ × List Event)) × (went : WentOn (asked words) c h (seen before) (seen after) now came)
-      × LeavesFiles (asked words) c (seen before) (seen after) number now came
+      × (leaves : LeavesFiles (asked words) c h (seen before) (seen after) number now came)
+      × LeavesSound (asked words) c h (seen before) (seen after) leaves.status went.opened now came
       × OfEachRestart words c h before after now came went.opened
 
   -- The premises on a stop and on the restart after it.
-  pub record Premises (before after : Outside S K R B G) (c : Catalog) (moment : ℕ) (left : FileSet) (words : List (List ℕ))
+  pub record Premises (before after : Outside S K R B G) (c : Catalog) (moment : ℕ) (words : List (List ℕ))
       (again last : Outside S K R B G) (number : ℕ) : Type 0 where
     -- nobody but the stopped call wrote the files that `restart` finds
-    pub stopped : WereLeft (seen before) (seen after) moment left
-    pub restarted : IsRestartOn left words (seen again) (seen last) number
+    pub restarted : IsRestartOn (WereLeft (seen before) (seen after) moment) words (seen again) (seen last) number
     -- no retriable and no undo is refused or barred as often as its tries
-    pub willing : (read : History) → IsSound c read left
+    pub willing : (read : History) → IsSound c read (seen again).files.disk.files
         → NothingIsExhausted (first_gate (gates_asked (seen again).gates (seen last).gates)) c read
     -- memory is found
     pub memory : number ≢ number_of NoMemory
@@ -340,11 +401,11 @@ module _ {S K R B G : Type 0} (sources : Sources S) (sinks : Sinks K) (racks : R
   -- The headline.
   abbrev pub Headline : Type 0
   Headline =
-      (words : List (List ℕ)) (before after : Outside S K R B G) (number : ℕ) (c : Catalog) (h : History)
-      → goes_on (asked words) ≡ true → Answers words (seen before) (seen after) number → IsAtEntry c h (seen before).files.disk
+      (words : List (List ℕ)) (before after : Outside S K R B G) (number : ℕ) (refusal : Option Refusal) (c : Catalog) (h : History)
+      → goes_on (asked words) ≡ true → Answers words (seen before) (seen after) number refusal → IsAtEntry c h (seen before).files.disk
       → (now : CoreState) × (came : List (ℕ × List Event)) × (went : WentOn (asked words) c h (seen before) (seen after) now came)
-      × ((moment : ℕ) (left : FileSet) (words' : List (List ℕ)) (again last : Outside S K R B G) (number' : ℕ)
-      → Premises before after c moment left words' again last number'
+      × ((moment : ℕ) (words' : List (List ℕ)) (again last : Outside S K R B G) (number' : ℕ)
+      → Premises before after c moment words' again last number'
       → (number' ≡ number_of Done)
-      × IsRestored c h (IsAhead (asked words) (seen before).input (seen after).input c went.opened now) now came moment left
+      × IsRestored c h (IsAhead (asked words) (seen before).input (seen after).input c went.opened now) now came moment
       (seen again) (seen last))

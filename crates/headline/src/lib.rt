@@ -2,9 +2,11 @@
 //!
 //! `specs/Headline` quotes the sentence and says what each part of it is: what a stopped call leaves behind, on what premises a
 //! restart follows it, and what the restart makes of that. `stops_are_restored` proves it of any calls that were answered as
-//! `process_top` says, over any sources, sinks, racks, boxes and gates. Nothing here runs.
+//! `process_top` says, over any sources, sinks, racks, boxes and gates. `specs/Chains` says it of any number of calls in one folder,
+//! one after another, and `nothing_is_lost` proves that. Nothing here runs.
 #![tactic(auto)]
 
+ghost use Rattle.headline.specs.Chains.{ChainsLoseNothing};
 ghost use Rattle.headline.specs.Headline.{Headline, StopsAreRestored};
 
 use history_opening::sound_files_are_opened;
@@ -20,6 +22,15 @@ use subsystem_store::books_are_read_back;
 pub fn stops_are_restored<S: Source, K: Sink, R: Rack + Drop, B: Resource, G: Gate>()
     ensures stops { StopsAreRestored S.Source K.Sink R.Rack B.Resource G.Gate }
     ensures headline { Headline S.Source K.Sink R.Rack B.Resource G.Gate }
+{
+    sound_files_are_opened();
+    books_are_read_back();
+}
+
+/// However many such calls follow one another in one folder, ended or stopped: each reads a history that begins with all that was
+/// acknowledged before it, and goes on from there.
+pub fn nothing_is_lost<S: Source, K: Sink, R: Rack + Drop, B: Resource, G: Gate>()
+    ensures { ChainsLoseNothing S.Source K.Sink R.Rack B.Resource G.Gate }
 {
     sound_files_are_opened();
     books_are_read_back();

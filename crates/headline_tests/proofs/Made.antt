@@ -1,5 +1,5 @@
 -- The files that a session begins on were made, and are on a rack that nobody has called.
-use Rattle.std.proofs.Common.{◌≡◌, ◌∙◌, ℕ, [], Option, Some, None, IfSome, refl, inl, inr, subst, sym}
+use Rattle.std.proofs.Common.{◌≡◌, ◌∙◌, ℕ, false, [], ◌∷◌, Option, Some, None, IfSome, refl, inl, inr, subst, sym}
 use Rattle.std.specs.Prelude.{codes}
 use Rattle.process_flow.specs.declared.source.Source.{Ghosts as Sources}
 use Rattle.process_flow.specs.declared.sink.Sink.{Ghosts as Sinks}
@@ -23,7 +23,7 @@ use Rattle.process_top.specs.Worlds.{World}
 use Rattle.process_top.proofs.RefusedStatuses.{refused_undone}
 use Rattle.process_top.proofs.StatusNumbers.{same_status}
 use Rattle.headline.specs.Headline.{IsAtEntry}
-use Rattle.headline_tests.specs.Example.{IsCall, see}
+use Rattle.headline_tests.specs.Example.{IsAnswered, see}
 use Rattle.headline_tests.proofs.Asked.{init_asked}
 
 -- what is refused isn't told at the status of work that was done
@@ -37,7 +37,7 @@ module _ {S K R : Type 0} (before after : World S K R) (told : Told before.files
   abbrev Made : Type 0
   Made = (c : Catalog) × IsSound c no_history after.files.disk.files
 
-  made_by : (reply : Reply) → IsInitDue before.input after.input before.files after.files reply → IsReplyTold reply before.output after.output status → Made
+  made_by : (reply : Reply) → IsInitDue false before.input after.input before.files after.files reply → IsReplyTold reply before.output after.output status → Made
   made_by created (c, read, made) out = (c, made.read told)
   made_by (refused r) due out = absurd (never_done r before.output after.output status done out)
   made_by (checked ps vs) due out = absurd due
@@ -49,7 +49,7 @@ module _ {S K R : Type 0} (before after : World S K R) (told : Told before.files
 
 -- The files of an `init` that ended well are sound for a history without events.
 module _ {S K R B G : Type 0} (sources : Sources S) (sinks : Sinks K) (racks : Racks R) (resources : Resources B) (workers : Gates G) where
-  pub made_well : (rack left : R) (status : ℕ) (sink : K) → Told (racks.disk rack) → status ≡ 0 → IsCall sources sinks racks resources workers (codes "init") rack status sink left
+  pub made_well : (rack left : R) (status : ℕ) (sink : K) → Told (racks.disk rack) → status ≡ 0 → IsAnswered sources sinks racks resources workers (codes "init" ∷ []) rack status sink left
       → (c : Catalog) × IsSound c no_history (racks.disk left).files
   made_well rack left status sink told zero call =
       let old = see sources sinks racks resources workers call.before in

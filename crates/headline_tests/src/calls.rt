@@ -1,6 +1,6 @@
 // Calls of the program over objects in memory.
-ghost use Rattle.std.specs.Prelude.{◌≡◌, ◌∷◌, [], IfOk, length, map, string_bytes};
-ghost use Rattle.headline_tests.specs.Example.{IsCall};
+ghost use Rattle.std.specs.Prelude.{◌≡◌, ◌∷◌, ◌++◌, [], IfOk, codes, length, map, string_bytes};
+ghost use Rattle.headline_tests.specs.Example.{IsAnswered, run_words};
 
 use process_disk::{MemoryRack, Rack};
 use process_engine::Gate;
@@ -40,18 +40,26 @@ fn one_word(alloc: Global, word: &str) -> Result<Vec<String>, AllocError>
     Ok(words)
 }
 
-/// What is answered on one word and an input over a rack, with new boxes, and gates that refuse nothing.
-pub fn answered<H: Threads + Wait + Sync>(
+// These words, and one more.
+fn and_word(alloc: Global, words: Vec<String>, word: &str) -> Result<Vec<String>, AllocError>
+    ensures { IfOk result (λ all. map string_bytes all.items ≡ map string_bytes words.items ++ word.now ∷ []) }
+{
+    let mut words = words;
+    words.push(String::from_str(alloc, word)?)?;
+    Ok(words)
+}
+
+// What is answered on these words.
+fn answered_on<H: Threads + Wait + Sync>(
     rt: &H,
     alloc: Global,
-    word: &str,
+    words: Vec<String>,
     text: &[u8],
     rack: MemoryRack,
 ) -> Result<Told, AllocError>
-    ensures { IfOk result (λ t. IsCall ⟦<MemorySource as Source>⟧ ⟦<MemorySink as Sink>⟧ ⟦<MemoryRack as Rack>⟧
-        ⟦<OwnBox as Resource>⟧ ⟦<ScriptGate as Gate>⟧ word.now rack t.status t.sink t.rack) }
+    ensures { IfOk result (λ t. IsAnswered ⟦<MemorySource as Source>⟧ ⟦<MemorySink as Sink>⟧ ⟦<MemoryRack as Rack>⟧
+        ⟦<OwnBox as Resource>⟧ ⟦<ScriptGate as Gate>⟧ (map string_bytes words.items) rack t.status t.sink t.rack) }
 {
-    let words = one_word(alloc, word)?;
     let resources = new_boxes(alloc)?;
     let gates = willing_gates(alloc)?;
     let mut source = MemorySource::new(text.to_vec(alloc)?, Vec::new(alloc));
@@ -68,11 +76,44 @@ pub fn answered<H: Threads + Wait + Sync>(
     );
     let Finished {
         status,
+        refused,
         rack,
         resources,
         gates,
     } = finished;
+    drop(refused);
     drop(resources);
     drop(gates);
     Ok(Told { status, sink, rack })
+}
+
+/// What is answered on one word and an input over a rack, with new boxes, and gates that refuse nothing.
+pub fn answered<H: Threads + Wait + Sync>(
+    rt: &H,
+    alloc: Global,
+    word: &str,
+    text: &[u8],
+    rack: MemoryRack,
+) -> Result<Told, AllocError>
+    ensures { IfOk result (λ t. IsAnswered ⟦<MemorySource as Source>⟧ ⟦<MemorySink as Sink>⟧ ⟦<MemoryRack as Rack>⟧
+        ⟦<OwnBox as Resource>⟧ ⟦<ScriptGate as Gate>⟧ (word.now ∷ []) rack t.status t.sink t.rack) }
+{
+    let words = one_word(alloc, word)?;
+    answered_on(rt, alloc, words, text, rack)
+}
+
+/// What a run by three workers answers, as above.
+pub fn run_by_three<H: Threads + Wait + Sync>(
+    rt: &H,
+    alloc: Global,
+    text: &[u8],
+    rack: MemoryRack,
+) -> Result<Told, AllocError>
+    ensures { IfOk result (λ t. IsAnswered ⟦<MemorySource as Source>⟧ ⟦<MemorySink as Sink>⟧ ⟦<MemoryRack as Rack>⟧
+        ⟦<OwnBox as Resource>⟧ ⟦<ScriptGate as Gate>⟧ run_words rack t.status t.sink t.rack) }
+{
+    let run = one_word(alloc, "run")?;
+    let option = and_word(alloc, run, "--workers")?;
+    let words = and_word(alloc, option, "3")?;
+    answered_on(rt, alloc, words, text, rack)
 }

@@ -1,6 +1,6 @@
 // Two processes, of which the second builds on the first: a session does the first step of each, and is stopped wherever a stop
 // may fall.
-use crate::stopped_and_restarted;
+use crate::{Stop, run_served_and_restarted, stopped_and_restarted};
 use process_flow::MemorySink;
 use std::alloc::{AllocError, Global};
 use std::process::Abort;
@@ -17,6 +17,14 @@ const SCENARIO: &[u8] = b"version = 1\n\
     \n[[op]]\nname = \"add\"\nsubsystem = 0\nverb = \"add\"\n\
     \n[[op]]\nname = \"take\"\nsubsystem = 0\nverb = \"take\"\n\
     \n[[op]]\nname = \"pay\"\nsubsystem = 1\nverb = \"add\"\n";
+
+// What a driver says: it takes the first piece that is handed out, and does it.
+const DIALOGUE: &[u8] = b"version = 1\n\
+    conflicts = [[\"add\", \"take\"], [\"take\", \"take\"]]\n\
+    processes = \"\"\n\
+    \n[[op]]\nname = \"add\"\nsubsystem = 0\nverb = \"add\"\n\
+    \n[[op]]\nname = \"take\"\nsubsystem = 0\nverb = \"take\"\n\
+    \n[[op]]\nname = \"pay\"\nsubsystem = 1\nverb = \"add\"\n%%\nnext\nfinish 1 done\nnext\nstop\n";
 
 const LINES: &[u8] = b"%%\nstart a\nstart b\nadmit 1\nfinish 1 done\nadmit 2\nfinish 2 done\n";
 
@@ -89,5 +97,59 @@ fn a_stop_that_keeps_half_a_record_is_restored(rt: HostRuntime) -> Result<(), Fa
 #[test]
 fn a_stop_that_keeps_all_is_restored(rt: HostRuntime) -> Result<(), Fail> {
     assert_eq!(rt; stopped_in_each_call(&rt, rt.alloc(), 1_000_000, 0)?, 4);
+    Ok(())
+}
+
+// A run by three workers is stopped within this call, and `serve` behind it within each of its calls in turn, of which the first
+// ones are those of its opening. Each restart ends well. The answer is how many there were.
+fn stopped_twice<H: Abort + Threads + Wait + Sync>(
+    rt: &H,
+    alloc: Global,
+    first: &Stop,
+) -> Result<usize, AllocError> {
+    for call in 0..24_u32 {
+        let second = Stop {
+            call,
+            keep: 1,
+            fill: 0xff,
+        };
+        let told = run_served_and_restarted(rt, alloc, SCENARIO, DIALOGUE, first, &second)?;
+        let Some(told) = told else {
+            return Ok(call as usize);
+        };
+        assert_eq!(rt; told.status, 0);
+    }
+    Ok(24)
+}
+
+// Stops the run within three of its calls: how many stops of `serve` there were at most behind one of them.
+fn stopped_in_some_calls<H: Abort + Threads + Wait + Sync>(
+    rt: &H,
+    alloc: Global,
+    keep: u32,
+) -> Result<usize, AllocError> {
+    let mut restarts = 0;
+    for dozen in 1..4_u32 {
+        let first = Stop {
+            call: 12 * dozen,
+            keep,
+            fill: 0,
+        };
+        restarts = stopped_twice(rt, alloc, &first)?.max(restarts);
+    }
+    Ok(restarts)
+}
+
+#[test]
+fn a_run_and_serve_that_are_stopped_are_restored(rt: HostRuntime) -> Result<(), Fail> {
+    assert!(rt; stopped_in_some_calls(&rt, rt.alloc(), 0)? > 20);
+    Ok(())
+}
+
+#[test]
+fn a_run_and_serve_that_are_stopped_with_all_kept_are_restored(
+    rt: HostRuntime,
+) -> Result<(), Fail> {
+    assert!(rt; stopped_in_some_calls(&rt, rt.alloc(), 1_000_000)? > 20);
     Ok(())
 }

@@ -1,6 +1,7 @@
 //! A worked example of the headline: files are made, a session is played on them, a stop falls in it, and `restart` is answered on
 //! what is left. All that the law asks for holds here, and in the cases every restart ends with status 0, so what it says of one
-//! isn't empty.
+//! isn't empty. A second example is a chain: a run by three workers that is stopped, `serve` on what that left, which is stopped too,
+//! and `restart`.
 //!
 //! `specs/Example` says what the example is and what it has; `example` is the calls, over objects in memory, with gates that
 //! refuse nothing and a rack that is stopped wherever one likes.
@@ -12,4 +13,4 @@ mod cases;
 mod example;
 
 pub use calls::Told;
-pub use example::stopped_and_restarted;
+pub use example::{Stop, run_served_and_restarted, stopped_and_restarted};

@@ -1,5 +1,5 @@
 -- That `init` makes the files where no call failed: every other answer has a cause that isn't there.
-use Rattle.std.proofs.Common.{◌≡◌, ◌≤◌, ℕ, List, length, Option, Some, None, Ok, Err, refl, sym, ap, subst, ◌∙◌, inl, inr, arith}
+use Rattle.std.proofs.Common.{◌≡◌, ◌≤◌, ℕ, Bool, true, List, length, Option, Some, None, Ok, Err, refl, sym, ap, subst, ◌∙◌, inl, inr, arith}
 use Rattle.process_flow.specs.Causes.{Rose}
 use Rattle.process_disk.specs.Disk.{Told}
 use Rattle.commute_table.specs.declared.catalog.Catalog.{Catalog}
@@ -12,6 +12,8 @@ use Rattle.history_files.specs.declared.faults.CreateError.{CreateError}
 use Rattle.history_files.specs.declared.faults.CreateError.TheVariants as create
 use Rattle.command_refusals.specs.declared.status.Status.TheVariants.{NoMemory}
 use Rattle.command_refusals.specs.declared.refusal.Refusal.{Refusal}
+use Rattle.value_conflict.specs.ValueConflict.{IsValueSound}
+use Rattle.replay_run.proofs.SoundCatalogs.{unsound_memory}
 use Rattle.command_refusals.specs.Refusals.{refusal_status}
 use Rattle.command_input.specs.Inputs.{Input, most_input, HasNoText}
 use Rattle.command_input.specs.FilesLeft.{Files}
@@ -26,6 +28,13 @@ says_one bytes s e says other =
     let tables : says.0 ≡ other.0 = cc in
     let both : Ok s ≡ Err e = sym says.3 ∙ ap scenario_said tables ∙ other.3 in
     absurd (cc)
+
+says_same : (bytes : List ℕ) (s t : Scenario) → Says bytes (Ok s) → Says bytes (Ok t) → s ≡ t
+says_same bytes s t says other =
+    let same : Some says.0 ≡ Some other.0 = sym says.2 ∙ other.2 in
+    let tables : says.0 ≡ other.0 = cc in
+    let both : Ok s ≡ Ok t = sym says.3 ∙ ap scenario_said tables ∙ other.3 in
+    cc
 
 -- a scenario is not refused, unless memory is wanting
 no_refusal : (bytes : List ℕ) (s : Scenario) (e : ScenarioError) → Says bytes (Ok s) → IsAnswer bytes (Err e) → refusal_status (scenario_refusal e) ≡ NoMemory
@@ -45,13 +54,16 @@ no_text_quietly r text faults after (inr (inl fault)) quiet within = absurd (qui
 no_text_quietly r text faults after (inr (inr memory)) quiet within = ap refusal_status memory
 
 -- so a scenario's catalog is read
-not_read_quietly : (r : Refusal) (text : List ℕ) (faults : ℕ) (after : Input) (c : Catalog) → IsCatalogRefused r (record { left = Some text; faults = faults }) after → ¬ Rose faults after.faults
-    → length text ≤ most_input → HasCatalog text c → refusal_status r ≡ NoMemory
-not_read_quietly r text faults after c (inl none) quiet within has = no_text_quietly r text faults after none quiet within
-not_read_quietly r text faults after c (inr why) quiet within has =
+not_read_quietly : (values : Bool) (r : Refusal) (text : List ℕ) (faults : ℕ) (after : Input) (c : Catalog) → IsCatalogRefused values r (record { left = Some text; faults = faults }) after → ¬ Rose faults after.faults
+    → length text ≤ most_input → HasCatalog text c → (values ≡ true → IsValueSound c) → refusal_status r ≡ NoMemory
+not_read_quietly values r text faults after c (inl none) quiet within has sound = no_text_quietly r text faults after none quiet within
+not_read_quietly values r text faults after c (inr (bytes, whole, inl refused)) quiet within has sound =
     let s : Scenario = record { catalog = c; processes = has.0 } in
-    let refused = why.2 in
-    ap refusal_status refused.1 ∙ no_refusal why.0 s refused.0 (subst (λ (b : List ℕ). Says b (Ok s)) (sym why.1.2) has.1) refused.2
+    ap refusal_status refused.1 ∙ no_refusal bytes s refused.0 (subst (λ (b : List ℕ). Says b (Ok s)) (sym whole.2) has.1) refused.2
+not_read_quietly values r text faults after c (inr (bytes, whole, inr (t, says, why))) quiet within has sound =
+    let s : Scenario = record { catalog = c; processes = has.0 } in
+    let one : s ≡ t = says_same bytes s t (subst (λ (b : List ℕ). Says b (Ok s)) (sym whole.2) has.1) says in
+    unsound_memory t.catalog r (subst (λ (u : Scenario). IsValueSound u.catalog) one (sound why.0)) why.1
 
 not_made_quietly : (e : CreateError) (before after : ℕ) → IsDueToFiles None e → (e ≡ create.DiskFault → Rose before after) → ¬ Rose before after → refusal_status (create_refusal e) ≡ NoMemory
 not_made_quietly create.DiskFault before after due rose quiet = absurd (quiet (rose refl))
@@ -59,14 +71,15 @@ not_made_quietly (create.NotEmpty q) before after due rose quiet = absurd (cc)
 not_made_quietly create.NoMemory before after due rose quiet = refl
 
 -- the files of a scenario's catalog are made where all are empty, or memory was wanting
-pub not_created_quietly : (r : Refusal) (text : List ℕ) (faults : ℕ) (after : Input) (files files_after : Files) (c : Catalog) → IsNotCreated r (record { left = Some text; faults = faults }) after files files_after
-    → ¬ Rose faults after.faults → ¬ Rose files.faults files_after.faults → length text ≤ most_input → HasCatalog text c → Told files.disk → first_used files.disk.files ≡ None
-    → refusal_status r ≡ NoMemory
-not_created_quietly r text faults after files files_after c not_created quiet quiet_files within has told empty =
-    by_part (in_parts r (record { left = Some text; faults = faults }) after files files_after not_created)
+pub not_created_quietly : (values : Bool) (r : Refusal) (text : List ℕ) (faults : ℕ) (after : Input) (files files_after : Files) (c : Catalog)
+    → IsNotCreated values r (record { left = Some text; faults = faults }) after files files_after
+    → ¬ Rose faults after.faults → ¬ Rose files.faults files_after.faults → length text ≤ most_input → HasCatalog text c → (values ≡ true → IsValueSound c) → Told files.disk
+    → first_used files.disk.files ≡ None → refusal_status r ≡ NoMemory
+not_created_quietly values r text faults after files files_after c not_created quiet quiet_files within has sound told empty =
+    by_part (in_parts values r (record { left = Some text; faults = faults }) after files files_after not_created)
   where
-    by_part : IsRefusedInParts r (record { left = Some text; faults = faults }) after files files_after → refusal_status r ≡ NoMemory
-    by_part (inl why) = not_read_quietly r text faults after c why.0 quiet within has
+    by_part : IsRefusedInParts values r (record { left = Some text; faults = faults }) after files files_after → refusal_status r ≡ NoMemory
+    by_part (inl why) = not_read_quietly values r text faults after c why.0 quiet within has sound
     by_part (inr why) =
         let made = why.1 in
         ap refusal_status made.1 ∙ not_made_quietly made.0 files.faults files_after.faults (subst (λ (found : Option ℕ). IsDueToFiles found made.0) empty (made.2 told)) made.4 quiet_files

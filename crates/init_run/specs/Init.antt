@@ -1,11 +1,10 @@
 -- The command `init`: it makes nine empty files those of the catalog of a scenario, in which nothing has happened. The text of the
--- scenario's processes isn't looked at.
-use Rattle.std.specs.Prelude.{◌≡◌, ◌≤◌, ℕ, List, [], ◌∷◌, length, None, IfSome, Result, Ok, Err, codes, ⊤}
+-- scenario's processes isn't looked at. Where it is asked to, it refuses a catalog that names not each conflict in value.
+use Rattle.std.specs.Prelude.{◌≡◌, ◌≢◌, ◌≤◌, ℕ, Bool, true, List, [], ◌∷◌, length, None, IfSome, Result, Ok, Err, codes, ⊤}
 use Rattle.process_flow.specs.Causes.{Rose}
 use Rattle.process_disk.specs.Disk.{Disk, Told}
 use Rattle.process_disk.specs.Images.{EachImage}
 use Rattle.commute_table.specs.declared.catalog.Catalog.{Catalog}
-use Rattle.commute_table.specs.declared.scenario.Scenario.{Scenario}
 use Rattle.commute_table.specs.Document.{Says}
 use Rattle.process_journal.specs.Bodies.{no_history}
 use Rattle.history_files.specs.Creating.{first_used, IsDueToFiles, AreLeftUnmade}
@@ -23,22 +22,32 @@ use Rattle.command_input.specs.declared.said.Said.{Said}
 use Rattle.command_input.specs.Inputs.{Input, most_input, text_test, IsWholeText}
 use Rattle.command_input.specs.FilesLeft.{Files, before_files}
 use Rattle.command_input.specs.Scenarios.{document_test}
+use Rattle.value_conflict.specs.ValueConflict.{IsValueSound}
+use Rattle.replay_run.specs.Soundness.{IsUnsound}
 
 -- the document says a scenario with this catalog, whatever its processes are
 abbrev pub HasCatalog : List ℕ → Catalog → Type 0
 HasCatalog bytes c = (text : List ℕ) × Says bytes (Ok (record { catalog = c; processes = text }))
 
--- the source was read to its end, and had the document of a scenario with this catalog
-abbrev pub IsCatalogRead : Input → Input → Catalog → Type 0
-IsCatalogRead before after c = (bytes : List ℕ) × IsWholeText before after bytes × HasCatalog bytes c
+-- the source was read to its end, and had the document of a scenario with this catalog, which names each conflict in value where
+-- that is asked
+abbrev pub IsCatalogRead : Bool → Input → Input → Catalog → Type 0
+IsCatalogRead values before after c =
+    (bytes : List ℕ) × IsWholeText before after bytes × HasCatalog bytes c × (values ≡ true → IsValueSound c)
 
--- The tests of the input, in their order: its text comes, and is the document of a scenario, which is handed on.
-abbrev pub input_tests : Input → Input → Tests Refusal Scenario
-input_tests before after = test_then (text_test before after) (λ bytes. last_test (document_test bytes))
+-- the test of the values, where it is asked: the catalog names each conflict in value
+abbrev pub values_test : Bool → Catalog → Test Refusal ⊤
+values_test values c =
+    record { hands_on = λ _. values ≡ true → IsValueSound c; refuses = λ r. (values ≡ true) × IsUnsound c r }
+
+-- The tests of the input, in their order: its text comes, it is the document of a scenario, and its catalog passes.
+abbrev pub input_tests : Bool → Input → Input → Tests Refusal ⊤
+input_tests values before after =
+    test_then (text_test before after) (λ bytes. test_then (document_test bytes) (λ s. last_test (values_test values s.catalog)))
 
 -- why no catalog was read: what is refused first of the input
-abbrev pub IsCatalogRefused : Refusal → Input → Input → Type 0
-IsCatalogRefused r before after = IsFirstRefusal (input_tests before after) r
+abbrev pub IsCatalogRefused : Bool → Refusal → Input → Input → Type 0
+IsCatalogRefused values r before after = IsFirstRefusal (input_tests values before after) r
 
 -- what is told of files that were not made
 abbrev pub create_refusal : CreateError → Refusal
@@ -60,14 +69,18 @@ AreNotMade r before after =
     × (Told before.disk → AreLeftUnmade e before.disk after.disk)
     × (e ≡ create.DiskFault → Rose before.faults after.faults)
 
+-- the refusal says nothing of a catalog
+abbrev pub IsOfFiles : Refusal → Type 0
+IsOfFiles r = (a b : List ℕ) → r ≢ refusals.Commuting a b
+
 -- the line of files that were made, at status 0
 pub record SaysCreated (said : Said) : Type 0 where
   pub text : said.text.items ≡ codes "created\n"
   pub status : said.status ≡ Done
 
 -- the files of the scenario's catalog were made
-abbrev pub IsCreated : Input → Input → Files → Files → Type 0
-IsCreated before after files files_after = (c : Catalog) × IsCatalogRead before after c × AreMade c files files_after
+abbrev pub IsCreated : Bool → Input → Input → Files → Files → Type 0
+IsCreated values before after files files_after = (c : Catalog) × IsCatalogRead values before after c × AreMade c files files_after
 
 -- the test of the files: they are empty
 abbrev pub empty_test : Files → Files → Test Refusal ⊤
@@ -75,21 +88,22 @@ empty_test before after =
     record { hands_on = λ _. Told before.disk → first_used before.disk.files ≡ None; refuses = λ r. AreNotMade r before after }
 
 -- The order of the refusals of `init`: the tests of its input, before a file is looked at, and then that of the files.
-abbrev pub init_tests : Input → Input → Files → Files → Tests Refusal ⊤
-init_tests before after files files_after =
-    followed_by (before_files files files_after (input_tests before after)) (λ _. last_test (empty_test files files_after))
+abbrev pub init_tests : Bool → Input → Input → Files → Files → Tests Refusal ⊤
+init_tests values before after files files_after =
+    followed_by (before_files files files_after (input_tests values before after)) (λ _. last_test (empty_test files files_after))
 
 -- why they were not made: what is refused first
-abbrev pub IsNotCreated : Refusal → Input → Input → Files → Files → Type 0
-IsNotCreated r before after files files_after = IsFirstRefusal (init_tests before after files files_after) r
+abbrev pub IsNotCreated : Bool → Refusal → Input → Input → Files → Files → Type 0
+IsNotCreated values r before after files files_after = IsFirstRefusal (init_tests values before after files files_after) r
 
 -- What there is to say: that they were made, or why not.
-abbrev pub IsInitDue : Input → Input → Files → Files → Result Said Refusal → Type 0
-IsInitDue before after files files_after (Ok said) = SaysCreated said × IsCreated before after files files_after
-IsInitDue before after files files_after (Err r) = IsNotCreated r before after files files_after
+abbrev pub IsInitDue : Bool → Input → Input → Files → Files → Result Said Refusal → Type 0
+IsInitDue values before after files files_after (Ok said) = SaysCreated said × IsCreated values before after files files_after
+IsInitDue values before after files files_after (Err r) = IsNotCreated values r before after files files_after
 
--- where the input is a scenario and all files are empty, they are made, or memory is wanting
-abbrev pub IsInitComplete : Input → Disk → Status → Type 0
-IsInitComplete input disk status =
-    IfSome input.left (λ text. (c : Catalog) → length text ≤ most_input → HasCatalog text c → Told disk
-    → first_used disk.files ≡ None → IsOneOf status (Done ∷ NoMemory ∷ []))
+-- where the input is a scenario, whose catalog names each conflict in value if that is asked, and all files are empty, they are
+-- made, or memory is wanting
+abbrev pub IsInitComplete : Bool → Input → Disk → Status → Type 0
+IsInitComplete values input disk status =
+    IfSome input.left (λ text. (c : Catalog) → length text ≤ most_input → HasCatalog text c → (values ≡ true → IsValueSound c)
+    → Told disk → first_used disk.files ≡ None → IsOneOf status (Done ∷ NoMemory ∷ []))

@@ -1,12 +1,14 @@
 // The command `init`.
-ghost use Rattle.std.specs.Prelude.{◌≡◌, true, false, IfOk, IfErr};
+ghost use Rattle.std.specs.Prelude.{◌≡◌, ℕ, List, true, false, IfOk, IfErr, OnOk};
 ghost use Rattle.commute_table.specs.Operations.{IsCatalog};
 ghost use Rattle.history_files.specs.Boxes.{AreBoxes};
 ghost use Rattle.command_input.specs.Inputs.{input};
 ghost use Rattle.command_input.specs.FilesLeft.{AreLeft, files};
 ghost use Rattle.command_input.specs.Early.{comes_before_files};
+ghost use Rattle.value_conflict.specs.ValueConflict.{IsValueSound};
+ghost use Rattle.replay_run.specs.Soundness.{IsUnsound};
 ghost use Rattle.init_run.specs.Init.{create_refusal, AreMade, AreNotMade, IsCatalogRead, IsCatalogRefused, IsInitDue};
-ghost use Rattle.init_run.specs.Init.{SaysCreated};
+ghost use Rattle.init_run.specs.Init.{IsOfFiles, SaysCreated};
 
 use command_input::{CommandEnd, Said, document_of, text_of};
 use command_refusals::{FileFault, Refusal, Status};
@@ -14,6 +16,7 @@ use commute_table::{Catalog, Scenario};
 use process_disk::Rack;
 use process_engine::{CreateError, Engine, Parts};
 use process_flow::Source;
+use replay_run::sound_catalog;
 use resource_box::Resource;
 use std::alloc::{AllocError, Global};
 
@@ -39,15 +42,34 @@ fn created_line(alloc: Global) -> Result<Said, AllocError>
     })
 }
 
-// The catalog of the source's scenario, and the line of files that were made, so that it is there before they are.
-fn catalog_of<S: Source>(alloc: Global, source: &mut S) -> Result<(Catalog, Said), Refusal>
-    ensures read { IfOk result (λ ready. IsCatalogRead (input S.Source source.old) (input S.Source source.new) ready.0) }
+// Tests the values of a catalog, where that is asked.
+fn tested(alloc: Global, values: bool, c: &Catalog) -> Result<(), Refusal>
+    requires { IsCatalog c.now }
+    ensures sound { OnOk result (values ≡ true → IsValueSound c.now) }
+    ensures refused { IfErr result (λ r. (values ≡ true) × IsUnsound c.now r) }
+{
+    if values {
+        sound_catalog(alloc, c)
+    } else {
+        Ok(())
+    }
+}
+
+// The catalog of the source's scenario, which is tested where that is asked, and the line of files that were made, so that it is
+// there before they are.
+fn catalog_of<S: Source>(
+    alloc: Global,
+    source: &mut S,
+    values: bool,
+) -> Result<(Catalog, Said), Refusal>
+    ensures read { IfOk result (λ ready. IsCatalogRead values (input S.Source source.old) (input S.Source source.new) ready.0) }
     ensures valid { IfOk result (λ ready. IsCatalog ready.0) }
     ensures line { IfOk result (λ ready. SaysCreated ready.1) }
-    ensures refused { IfErr result (λ r. IsCatalogRefused r (input S.Source source.old) (input S.Source source.new)) }
+    ensures refused { IfErr result (λ r. IsCatalogRefused values r (input S.Source source.old) (input S.Source source.new)) }
 {
     let text = text_of(alloc, source)?;
     let Scenario { catalog, .. } = document_of(alloc, &text)?;
+    tested(alloc, values, &catalog)?;
     let line = created_line(alloc)?;
     Ok((catalog, line))
 }
@@ -65,6 +87,7 @@ fn made<R: Rack + Drop, B: Resource>(
     ensures made { IfOk result.found (λ _. AreMade catalog (files R.Rack parts.rack) (files R.Rack result.parts.rack)) }
     ensures refused { IfErr result.found (λ r. AreNotMade r (files R.Rack parts.rack) (files R.Rack result.parts.rack)) }
     ensures late { IfErr result.found (λ r. comes_before_files r ≡ false) }
+    ensures cause { IfErr result.found IsOfFiles }
     ensures back { AreBoxes B.sort result.parts.resources.items }
     ensures left { AreLeft (files R.Rack parts.rack) (files R.Rack result.parts.rack) }
 {
@@ -80,20 +103,24 @@ fn made<R: Rack + Drop, B: Resource>(
     }
 }
 
-/// Makes nine empty files those of the catalog of the source's scenario, in which nothing has happened.
+/// Makes nine empty files those of the catalog of the source's scenario, in which nothing has happened. With `values` it refuses a
+/// catalog that names not each conflict in value, before a file is looked at.
 pub fn init<S: Source, R: Rack + Drop, B: Resource>(
     alloc: Global,
     source: &mut S,
     parts: Parts<R, B>,
+    values: bool,
 ) -> CommandEnd<Parts<R, B>>
     requires boxes { AreBoxes B.sort parts.resources.items }
-    ensures due { IsInitDue (input S.Source source.old) (input S.Source source.new) (files R.Rack parts.rack)
+    ensures due { IsInitDue values (input S.Source source.old) (input S.Source source.new) (files R.Rack parts.rack)
         (files R.Rack result.parts.rack) result.found }
     ensures early { IfErr result.found (λ r. comes_before_files r ≡ true → result.parts.rack ≡ parts.rack) }
+    ensures commuting { IfErr result.found
+        (λ r. (a b : List ℕ) → r ≡ Refusal.Commuting a b → result.parts.rack ≡ parts.rack) }
     ensures back { AreBoxes B.sort result.parts.resources.items }
     ensures left { AreLeft (files R.Rack parts.rack) (files R.Rack result.parts.rack) }
 {
-    match catalog_of(alloc, source) {
+    match catalog_of(alloc, source, values) {
         Ok((catalog, said)) => made(alloc, parts, catalog, said),
         Err(refusal) => CommandEnd {
             parts,

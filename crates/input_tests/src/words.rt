@@ -25,14 +25,30 @@ fn words_of(rt: &impl Abort, alloc: Global, line: &str) -> Vec<String> {
 }
 
 // Lines, and what is asked for.
-const COMMANDS: [(&str, Result<Command, WordsError>); 50] = [
+const COMMANDS: [(&str, Result<Command, WordsError>); 69] = [
     ("check", Ok(Command::Check)),
-    ("init", Ok(Command::Init)),
+    ("init", Ok(Command::Init { values: false })),
+    ("init --values", Ok(Command::Init { values: true })),
+    ("init --values --", Ok(Command::Init { values: true })),
+    ("init --", Ok(Command::Init { values: false })),
+    ("init values", Err(WordsError::BadWords)),
+    ("init --values --values", Err(WordsError::BadWords)),
+    ("init --values=true", Err(WordsError::BadWords)),
+    ("init --history", Err(WordsError::BadWords)),
     ("run", Ok(Command::Run { workers: 1 })),
     ("session", Ok(Command::Session)),
     ("serve", Ok(Command::Serve)),
     ("show", Ok(Command::Show)),
+    ("replay", Ok(Command::Replay)),
+    ("replay 1", Err(WordsError::BadWords)),
     ("verify", Ok(Command::Verify)),
+    ("audit", Ok(Command::Audit { history: false })),
+    ("audit --history", Ok(Command::Audit { history: true })),
+    ("audit -- --history", Err(WordsError::BadWords)),
+    ("audit --", Ok(Command::Audit { history: false })),
+    ("audit history", Err(WordsError::BadWords)),
+    ("audit --values", Err(WordsError::BadWords)),
+    ("audit --hist", Err(WordsError::BadWords)),
     ("check --", Ok(Command::Check)),
     ("", Err(WordsError::BadWords)),
     ("Check", Err(WordsError::BadWords)),
@@ -97,6 +113,18 @@ const COMMANDS: [(&str, Result<Command, WordsError>); 50] = [
         }),
     ),
     (
+        "help audit",
+        Ok(Command::Help {
+            about: Some(CommandName::Audit),
+        }),
+    ),
+    (
+        "help replay",
+        Ok(Command::Help {
+            about: Some(CommandName::Replay),
+        }),
+    ),
+    (
         "help version",
         Ok(Command::Help {
             about: Some(CommandName::Version),
@@ -107,6 +135,7 @@ const COMMANDS: [(&str, Result<Command, WordsError>); 50] = [
     ("version", Ok(Command::Version)),
     ("--version", Ok(Command::Version)),
     ("help all", Err(WordsError::BadWords)),
+    ("help audit --history", Err(WordsError::BadWords)),
     ("help --help", Err(WordsError::BadWords)),
     ("help run show", Err(WordsError::BadWords)),
     ("--help run", Err(WordsError::BadWords)),

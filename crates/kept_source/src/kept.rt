@@ -1,51 +1,78 @@
 // The source.
-ghost use Rattle.std.specs.Prelude.{◌≡◌, ◌<◌, ◌⊎◌, ◌++◌, [], length};
+ghost use Rattle.std.specs.Prelude.{◌≡◌, ◌<◌, ◌⊎◌, ◌++◌, [], ℕ, List, Option, None, true, false, length, IfSome};
 ghost use Rattle.std.specs.Io.{ReadsAtMost};
-ghost use Rattle.std.specs.Io.KnownBytes.{ReadConsumes};
+ghost use Rattle.std.specs.Io.KnownBytes.{Consumes, ReadConsumes};
 ghost use Rattle.process_flow.specs.Causes.{CountsFaults};
-ghost use Rattle.kept_source.specs.Keeping.{IsKept};
+ghost use Rattle.kept_source.specs.Keeping.{IsHandedOn, IsKept, handed_on_is_a_fact};
 
 use process_flow::{Failed, Source};
 use std::alloc::Global;
+use std::marker::{Brand, PhantomData};
 
 /// How many bytes are kept at most.
 pub const MOST_KEPT: usize = 1048576;
 
-/// A source, and the bytes that it has handed on so far; from the first on that didn't fit, none is kept any more.
-#[derive(Drop)]
-pub struct KeptSource<S: Source + Drop> {
-    pub inner: S,
-    pub kept: Vec<u8>,
-    pub is_whole: bool,
+/// What a source had left when the first byte was still to be handed on.
+pub trait Opening {
+    ghost left: { Option (List ℕ) };
 }
 
-impl<S: Source + Drop> KeptSource<S> {
+impl Opening for Brand {
+    ghost left = { None };
+}
+
+/// A source, and the bytes that it has handed on so far; from the first on that didn't fit, none is kept any more.
+#[derive(Drop)]
+pub struct KeptSource<S: Source + Drop, O: Opening> {
+    pub inner: S,
+    pub kept: Vec<u8>,
+    /// Whether all bytes that were handed on are kept.
+    pub is_whole: bool,
+    marker: PhantomData<O>,
+    ghost handed_on: { IsHandedOn O.left (S.left inner) kept.items is_whole } by { handed_on_is_a_fact _ _ _ _ },
+}
+
+impl<S: Source + Drop, O: Opening> KeptSource<S, O> {
     /// This source, of which nothing is kept yet.
     pub fn new(alloc: Global, inner: S) -> Self
+        requires { S.left inner ≡ O.left }
         ensures inner { result.inner ≡ inner }
         ensures kept { result.kept.items ≡ [] }
+        ensures whole { result.is_whole ≡ true }
     {
         KeptSource {
             inner,
             kept: Vec::new(alloc),
             is_whole: true,
+            marker: PhantomData,
         }
     }
 
-    // Keeps these bytes, if all before them are kept, and these fit.
-    fn keep(&mut self, bytes: &[u8])
-        ensures inner { self.new.inner ≡ self.old.inner }
-        ensures kept { (self.new.kept.items ≡ self.old.kept.items ++ bytes.now)
-            ⊎ (self.new.kept.items ≡ self.old.kept.items) }
+    /// The source, and all that it has handed on, if all is kept.
+    pub fn into_parts(self) -> (S, Option<Vec<u8>>)
+        ensures inner { result.0 ≡ self.inner }
+        ensures kept { IfSome result.1 (λ kept. Consumes O.left (S.left self.inner) kept.items) }
     {
-        let fits = self.kept.len().saturating_add(bytes.len()) <= MOST_KEPT;
-        if !self.is_whole || !fits || self.kept.extend_from_slice(bytes).is_err() {
-            self.is_whole = false;
-        }
+        let KeptSource {
+            inner,
+            kept,
+            is_whole,
+            ..
+        } = self;
+        (inner, if is_whole { Some(kept) } else { None })
     }
 }
 
-impl<S: Source + Drop> Source for KeptSource<S> {
+// Keeps these bytes, if all before them are kept, and these fit. Whether all are kept then.
+fn keep(kept: &mut Vec<u8>, is_whole: bool, bytes: &[u8]) -> bool
+    ensures whole { result ≡ true → (is_whole ≡ true) × (kept.new.items ≡ kept.old.items ++ bytes.now) }
+    ensures part { result ≡ false → kept.new.items ≡ kept.old.items }
+{
+    let fits = kept.len().saturating_add(bytes.len()) <= MOST_KEPT;
+    is_whole && fits && kept.extend_from_slice(bytes).is_ok()
+}
+
+impl<S: Source + Drop, O: Opening> Source for KeptSource<S, O> {
     ghost left = { λ k. S.left k.inner };
 
     ghost faults = { λ k. S.faults k.inner };
@@ -58,7 +85,7 @@ impl<S: Source + Drop> Source for KeptSource<S> {
         ensures kept { IsKept self.old.kept.items self.new.kept.items result buf.new }
     {
         let count = self.inner.take(buf)?;
-        self.keep(&buf[..count]);
+        self.is_whole = keep(&mut self.kept, self.is_whole, &buf[..count]);
         Ok(count)
     }
 }

@@ -6,4 +6,4 @@
 
 mod kept;
 
-pub use kept::{KeptSource, MOST_KEPT};
+pub use kept::{KeptSource, MOST_KEPT, Opening};

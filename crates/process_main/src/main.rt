@@ -1,4 +1,4 @@
-//! The program: its words, standard input, standard output and the files of the current folder.
+//! The program: its words, standard input, standard output, standard error and the files of the current folder.
 #![tactic(auto)]
 
 use file_rack::SystemFolder;
@@ -13,6 +13,7 @@ fn main(rt: HostRuntime) -> ExitCode {
         env::args(&rt),
         rt.stdin(),
         rt.stdout(),
+        rt.stderr(),
         SystemFolder::new(&rt),
     )
 }

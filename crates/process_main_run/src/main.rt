@@ -13,6 +13,7 @@ fn main(rt: HostRuntime) -> ExitCode {
         env::args(&rt),
         rt.stdin(),
         rt.stdout(),
+        rt.stderr(),
         SystemFolder::new(&rt),
     )
 }

@@ -1,23 +1,76 @@
--- The same answer, told of equal words and of an equal number.
-use Rattle.std.specs.Prelude.{List}
-use Rattle.std.proofs.Common.{◌≡◌, ℕ, map, ap, subst, ◌∙◌, inl}
-use Rattle.std.specs.Prelude.{not, replicate, Some}
+-- The same answer, told of equal words and of an equal number, and of what is in a source in place of it.
+use Rattle.std.specs.Prelude.{List, Option}
+use Rattle.std.proofs.Common.{◌≡◌, ℕ, map, ap, subst, sym, ◌∙◌, inl}
+use Rattle.std.specs.Prelude.{not, replicate, Some, None, IfSome}
+use Rattle.std.specs.Option.{option_map}
+use Rattle.std.specs.Io.KnownBytes.{Consumes}
 use Rattle.process_flow.specs.declared.source.Source.{Ghosts as Sources}
 use Rattle.process_flow.specs.declared.sink.Sink.{Ghosts as Sinks}
 use Rattle.process_disk.specs.declared.rack.Rack.{Ghosts as Racks}
 use Rattle.worker_gate.specs.Gates.{PlainState, plain_answer}
+use Rattle.command_refusals.specs.declared.refusal.Refusal.{Refusal}
+use Rattle.process_flow.specs.Causes.{Rose}
+use Rattle.program_words.specs.Commands.{asked}
+use Rattle.command_input.specs.Inputs.{Input, input}
+use Rattle.command_input.specs.Outputs.{output}
+use Rattle.diagnostics.specs.Diagnostics.{IsSaidBeside}
 use Rattle.process_top.specs.Worlds.{BoxState, GatesState, World}
-use Rattle.process_top.specs.Commands.{Answers, first_is_show}
+use Rattle.process_top.specs.Run.{gates_asked}
+use Rattle.process_top.specs.Commands.{Answers, DoesItsWork, IsDueTo, only_reads}
 use Rattle.process_program.specs.Ends.{EndsSo, RackOver, world_over}
 use Rattle.process_program.specs.Own.{Own, empty_boxes, new_gates, new_own}
 
 -- an answer to equal words, from an equal world, at an equal number
-pub same_answer : {S K D : Type 0} (words words' : List (List ℕ)) (before before' after : World S K D) (number number' : ℕ) → words ≡ words' → before ≡ before' → number ≡ number'
-    → Answers words before after number → Answers words' before' after number'
-same_answer words words' before before' after number number' by_words by_before by_number answers =
-    subst (λ n. Answers words' before' after n) by_number
-    (subst (λ b. Answers words' b after number) by_before
-    (subst (λ w. Answers w before after number) by_words answers))
+pub same_answer : {S K D : Type 0} (words words' : List (List ℕ)) (before before' after : World S K D) (number number' : ℕ) (refusal : Option Refusal) → words ≡ words' → before ≡ before' → number ≡ number'
+    → Answers words before after number refusal → Answers words' before' after number' refusal
+same_answer words words' before before' after number number' refusal by_words by_before by_number answers =
+    subst (λ n. Answers words' before' after n refusal) by_number
+    (subst (λ b. Answers words' b after number refusal) by_before
+    (subst (λ w. Answers w before after number refusal) by_words answers))
+
+-- a world, seen over this source
+abbrev pub seen_over : {S T K R : Type 0} → Sources S → World T K R → S → World S K R
+seen_over s w source = record {
+  source = source;
+  sink = w.sink;
+  rack = w.rack;
+  input = input s source;
+  output = w.output;
+  files = w.files;
+  boxes = w.boxes;
+  gates = w.gates;
+}
+
+-- an answer over a source is one over another that is told of alike, and that stays as it is where that does
+pub answer_seen : {S T K R : Type 0} (s : Sources S) (words : List (List ℕ)) (before after : World T K R) (number : ℕ) (refusal : Option Refusal) → Answers words before after number refusal
+    → (source source' : S) → before.input ≡ input s source → after.input ≡ input s source' → (after.source ≡ before.source → source' ≡ source)
+    → Answers words (seen_over s before source) (seen_over s after source') number refusal
+answer_seen s words before after number refusal answers source source' same same' stays = record {
+  status = answers.status;
+  numbered = answers.numbered;
+  reply = answers.reply;
+  due = subst (λ (i : Input). IsDueTo (asked words) (gates_asked before.gates after.gates) i (input s source') before.files after.files answers.reply) same
+      (subst (λ (i : Input). IsDueTo (asked words) (gates_asked before.gates after.gates) before.input i before.files after.files answers.reply) same' answers.due);
+  told = answers.told;
+  refused = answers.refused;
+  complete = λ quiet. subst (λ (i : Input). DoesItsWork (asked words) i before.files answers.status) same
+      (answers.complete
+      (record {
+        input = λ needed. subst (λ (i : Input). ¬ Rose before.input.faults i.faults) (sym same') (subst (λ (i : Input). ¬ Rose i.faults (input s source').faults) (sym same) (quiet.input needed));
+        files = quiet.files;
+        output = quiet.output;
+      }));
+  left = answers.left;
+  boxes = answers.boxes;
+  kept = answers.kept;
+  values = answers.values;
+  replayed = answers.replayed;
+  gates = answers.gates;
+  unasked = answers.unasked;
+  untouched = answers.untouched;
+  unread = λ none. stays (answers.unread none);
+  early = answers.early;
+}
 
 -- boxes and gates with which a call begins
 pub own_is_new : (boxes : List BoxState) (gates : GatesState) → boxes ≡ empty_boxes → gates ≡ new_gates → record { boxes = boxes; gates = gates } ≡ new_own
@@ -29,11 +82,14 @@ pub gates_are_new : (gates : List PlainState) → gates ≡ replicate 16 (record
 gates_are_new gates are = ap {B = GatesState} (λ (gs : List PlainState). record { answers = λ p. Some (plain_answer p); counts = map (λ g. record { asked = g.calls; refusals = g.refusals }) gs }) are
 
 -- what is answered over a rack that was never called, with new boxes and gates, is how the call ends
-pub ends_over_new : {S K R D : Type 0} (s : Sources S) (k : Sinks K) (r : Racks R) (over : RackOver R D) (words words' : List (List ℕ)) (source source' : S) (sink sink' : K) (folder : D) (rack rack' : R)
-    (boxes boxes' : List BoxState) (gates gates' : GatesState) (number number' : ℕ) → over.folder rack ≡ folder → over.writes rack ≡ not (first_is_show words') → over.is_new rack → words ≡ words' → number ≡ number'
-    → boxes ≡ empty_boxes → gates ≡ new_gates → Answers words (world_over s k r source sink rack (record { boxes = boxes; gates = gates })) (world_over s k r source' sink' rack' (record { boxes = boxes'; gates = gates' })) number
-    → EndsSo s k r over words' source sink folder source' sink' rack' number'
-ends_over_new s k r over words words' source source' sink sink' folder rack rack' boxes boxes' gates gates' number number' by_folder by_writes is_new by_words by_number empty new answers =
+pub ends_over_new : {S K E R D : Type 0} (s : Sources S) (k : Sinks K) (e : Sinks E) (r : Racks R) (over : RackOver R D) (words words' : List (List ℕ)) (source source' : S) (sink sink' : K) (errors errors' : E) (folder : D)
+    (rack rack' : R) (boxes boxes' : List BoxState) (gates gates' : GatesState) (number number' : ℕ) (refusal : Option Refusal) (given : Option (List ℕ)) → over.folder rack ≡ folder
+    → over.writes rack ≡ not (only_reads words') → over.is_new rack → words ≡ words' → number ≡ number' → boxes ≡ empty_boxes → gates ≡ new_gates
+    → Answers words (world_over s k r source sink rack (record { boxes = boxes; gates = gates })) (world_over s k r source' sink' rack' (record { boxes = boxes'; gates = gates' })) number refusal
+    → IfSome given (Consumes (s.left source) (s.left source')) → IsSaidBeside words' number refusal given (output e errors) (output e errors')
+    → EndsSo s k e r over words' source sink errors folder source' sink' errors' rack' number'
+ends_over_new s k e r over words words' source source' sink sink' errors errors' folder rack rack' boxes boxes' gates gates' number number' refusal given by_folder by_writes is_new by_words by_number empty new answers
+    consumed said =
     inl (
       rack,
       by_folder,
@@ -41,7 +97,20 @@ ends_over_new s k r over words words' source source' sink sink' folder rack rack
       is_new,
       (
         record { boxes = boxes'; gates = gates' },
+        refusal,
         same_answer words words' (world_over s k r source sink rack (record { boxes = boxes; gates = gates })) (world_over s k r source sink rack new_own) (world_over s k r source' sink' rack' (record { boxes = boxes'; gates = gates' }))
-            number number' by_words (ap (world_over s k r source sink rack) (own_is_new boxes gates empty new)) by_number answers,
+            number number' refusal by_words (ap (world_over s k r source sink rack) (own_is_new boxes gates empty new)) by_number answers,
+        (
+          given,
+          consumed,
+          subst (λ n. IsSaidBeside words' n refusal given (output e errors) (output e errors')) by_number said,
+        ),
       ),
     )
+
+-- what was handed on since a source had this left
+pub given_inside : {A : Type 0} (before opening left after : Option (List ℕ)) (bytes : A → List ℕ) (kept : Option A) → before ≡ opening → left ≡ after → IfSome kept (λ k. Consumes opening left (bytes k))
+    → IfSome (option_map bytes kept) (Consumes before after)
+given_inside before opening left after bytes None by_opening by_after given = tt
+given_inside before opening left after bytes (Some k) by_opening by_after given =
+    subst (λ b. Consumes b after (bytes k)) (sym by_opening) (subst (λ a. Consumes opening a (bytes k)) by_after given)

@@ -10,7 +10,9 @@ ghost use Rattle.process_program.specs.Words.{words_behind};
 
 use crate::own::{OwnBox, new_boxes, new_gates};
 use command_refusals::Status;
+use diagnostics::tell_beside;
 use file_rack::{Access, FileRack, Folder};
+use kept_source::{KeptSource, Opening};
 use process_disk::Rack;
 use process_flow::{Sink, Source, StdSink, StdSource};
 use process_top::{Finished, only_reads, top};
@@ -19,14 +21,16 @@ use std::alloc::{AllocError, Global};
 use std::env::Args;
 use std::io;
 use std::io::{Read, Write};
+use std::marker::Brand;
 use std::process::ExitCode;
 use std::sync::Wait;
 use std::thread::Threads;
 use worker_gate::PlainGate;
 
-/// What a call of the program ends with, and the rack that it leaves.
-pub struct Ended<D: Folder + Drop> {
+/// What a call of the program ends with, and the source and the rack that it leaves.
+pub struct Ended<S, D: Folder + Drop> {
     pub code: ExitCode,
+    pub source: S,
     pub rack: FileRack<D>,
 }
 
@@ -78,46 +82,93 @@ fn made_ready(alloc: Global, args: io::Result<Args>) -> Result<Ready, AllocError
     })
 }
 
-/// Answers the words behind the first over a source, a sink and the files of a folder, by the code that is the status.
-pub fn program<H: Threads + Wait + Sync, S: Source, K: Sink, D: Folder + Drop + Send>(
+// Answers with what was made ready, and says what there is to say beside the answer.
+fn answered<
+    O: Opening,
+    H: Threads + Wait + Sync,
+    S: Source + Drop,
+    K: Sink,
+    E: Sink,
+    D: Folder + Drop + Send,
+>(
     rt: &H,
     alloc: Global,
-    args: io::Result<Args>,
-    source: &mut S,
+    ready: Ready,
+    source: S,
     sink: &mut K,
+    errors: &mut E,
     folder: D,
-) -> Ended<D>
+) -> Ended<S, D>
     requires new { D.access folder ≡ Access.Unentered }
-    // On these words, from this source, sink and folder to those, the call ends with this number.
-    ensures ends { EndsSo S.Source K.Sink ⟦<FileRack<D> as Rack>⟧
+    requires opening { S.left source ≡ O.left }
+    requires kinds { AreBoxes ⟦<OwnBox as Resource>⟧.sort ready.resources.items }
+    requires empty { boxes_of ⟦<OwnBox as Resource>⟧.sort ⟦<OwnBox as Resource>⟧.meaning ready.resources.items ≡ empty_boxes }
+    requires gates { ready.gates.items ≡ replicate 16 (record { calls = 0; refusals = 0 }) }
+    ensures ends { EndsSo S.Source K.Sink E.Sink ⟦<FileRack<D> as Rack>⟧
         (record { folder = λ r. r.folder; writes = λ r. r.writes; is_new = λ r. IsNew r.unsynced r.broken r.faults })
-        (words_behind args) source.old sink.old folder source.new sink.new result.rack (exit_status result.code) }
+        (map string_bytes ready.words.items) source sink.old errors.old folder result.source sink.new errors.new result.rack
+        (exit_status result.code) }
 {
-    let Ok(ready) = made_ready(alloc, args) else {
-        return Ended {
-            code: ExitCode::from(Status::NoMemory.number()),
-            rack: FileRack::over(folder, false),
-        };
-    };
     let Ready {
         words,
         resources,
         gates,
     } = ready;
+    let mut source: KeptSource<S, O> = KeptSource::new(alloc, source);
     // A rack that only reads takes no lock, and works on files that may only be read.
     let rack = FileRack::over(folder, !only_reads(&words));
-    let finished = top(rt, alloc, &words, source, sink, rack, resources, gates);
+    let finished = top(rt, alloc, &words, &mut source, sink, rack, resources, gates);
     let Finished {
         status,
+        refused,
         rack,
         resources,
         gates,
     } = finished;
     drop(resources);
     drop(gates);
+    let (source, input) = source.into_parts();
+    tell_beside(alloc, errors, &words, status, refused, input);
     Ended {
         code: ExitCode::from(status),
+        source,
         rack,
+    }
+}
+
+/// Answers the words behind the first over a source, a sink and the files of a folder, by the code that is the status. What people
+/// want to know beside the answer goes to the second sink.
+pub fn program<
+    H: Threads + Wait + Sync,
+    S: Source + Drop,
+    K: Sink,
+    E: Sink,
+    D: Folder + Drop + Send,
+>(
+    rt: &H,
+    alloc: Global,
+    args: io::Result<Args>,
+    source: S,
+    sink: &mut K,
+    errors: &mut E,
+    folder: D,
+) -> Ended<S, D>
+    requires new { D.access folder ≡ Access.Unentered }
+    // On these words, from this source, these sinks and this folder to those, the call ends with this number.
+    ensures ends { EndsSo S.Source K.Sink E.Sink ⟦<FileRack<D> as Rack>⟧
+        (record { folder = λ r. r.folder; writes = λ r. r.writes; is_new = λ r. IsNew r.unsynced r.broken r.faults })
+        (words_behind args) source sink.old errors.old folder result.source sink.new errors.new result.rack
+        (exit_status result.code) }
+{
+    match made_ready(alloc, args) {
+        Ok(ready) => {
+            answered::<Brand, H, S, K, E, D>(rt, alloc, ready, source, sink, errors, folder)
+        }
+        Err(_) => Ended {
+            code: ExitCode::from(Status::NoMemory.number()),
+            source,
+            rack: FileRack::over(folder, false),
+        },
     }
 }
 
@@ -126,18 +177,36 @@ pub fn program_of_system<
     H: Threads + Wait + Sync,
     R: Read + Drop,
     W: Write + Drop,
+    E: Write + Drop,
     D: Folder + Drop + Send,
->(rt: &H, alloc: Global, args: io::Result<Args>, input: R, output: W, folder: D) -> ExitCode
+>(
+    rt: &H,
+    alloc: Global,
+    args: io::Result<Args>,
+    input: R,
+    output: W,
+    errors: E,
+    folder: D,
+) -> ExitCode
     requires new { D.access folder ≡ Access.Unentered }
-    ensures ends { (source : _) × (sink : _) × (rack : _)
-        × EndsSo ⟦<StdSource<R> as Source>⟧ ⟦<StdSink<W> as Sink>⟧ ⟦<FileRack<D> as Rack>⟧
+    ensures ends { (source : _) × (sink : _) × (aside : _) × (rack : _)
+        × EndsSo ⟦<StdSource<R> as Source>⟧ ⟦<StdSink<W> as Sink>⟧ ⟦<StdSink<E> as Sink>⟧ ⟦<FileRack<D> as Rack>⟧
         (record { folder = λ r. r.folder; writes = λ r. r.writes; is_new = λ r. IsNew r.unsynced r.broken r.faults })
-        (words_behind args) (record { inner = input; faults = 0 }) (record { inner = output; faults = 0 }) folder source sink rack
-        (exit_status result) }
+        (words_behind args) (record { inner = input; faults = 0 }) (record { inner = output; faults = 0 })
+        (record { inner = errors; faults = 0 }) folder source sink aside rack (exit_status result) }
 {
-    let mut source = StdSource::new(input);
     let mut sink = StdSink::new(output);
-    let Ended { code, rack } = program(rt, alloc, args, &mut source, &mut sink, folder);
+    let mut errors = StdSink::new(errors);
+    let Ended { code, source, rack } = program(
+        rt,
+        alloc,
+        args,
+        StdSource::new(input),
+        &mut sink,
+        &mut errors,
+        folder,
+    );
+    drop(source);
     drop(rack);
     code
 }

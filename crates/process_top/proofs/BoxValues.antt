@@ -7,6 +7,8 @@ use Rattle.process_disk.specs.Disk.{FileSet}
 use Rattle.resource_box.specs.Meaning.{value_at}
 use Rattle.resource_box.specs.declared.resource.Resource.{Ghosts as Resources}
 use Rattle.restart_run.specs.Boxes.{HaveValuesOf}
+use Rattle.command_input.specs.FilesLeft.{Files}
+use Rattle.replay_run.specs.Replay.{HaveValuesOfFile}
 use Rattle.process_top.specs.Worlds.{BoxState, boxes}
 
 module _ {B : Type 0} (b : Resources B) where
@@ -23,3 +25,15 @@ module _ {B : Type 0} (b : Resources B) where
   told_have_values files resources has books read q x at key =
       let box = box_of x (slice_get resources q) (sym (slice_get-map told resources q) ∙ at) in
       ap (λ (y : BoxState). value_at y.values key) (sym box.2) ∙ has books read q box.0 box.1 key
+
+  -- so are boxes that have those of the history of file 0
+  pub told_have_file_values : (before after : Files) (resources : List B) → HaveValuesOfFile (λ x. (b.meaning x).items) before after resources
+      → HaveValuesOfFile (λ (x : BoxState). x.values) before after (boxes b resources)
+  told_have_file_values before after resources (c, h, read, has) = (
+    c,
+    h,
+    read,
+    λ q x at key.
+        let box = box_of x (slice_get resources q) (sym (slice_get-map told resources q) ∙ at) in
+        ap (λ (y : BoxState). value_at y.values key) (sym box.2) ∙ has q box.0 box.1 key,
+  )

@@ -1,12 +1,12 @@
 -- What is answered does what its command is for, where no call failed.
-use Rattle.std.proofs.Common.{◌≡◌, ◌≤◌, ◌⊎◌, ⊎_elim, ℕ, List, [], ◌∷◌, length, Option, Some, None, IfSome, Result, Ok, Err, refl, sym, ap, subst, ◌∙◌, inl, inr}
+use Rattle.std.proofs.Common.{◌≡◌, ◌≤◌, ◌⊎◌, ⊎_elim, ℕ, Bool, true, false, List, [], ◌∷◌, length, Option, Some, None, IfSome, Result, Ok, Err, refl, sym, ap, subst, ◌∙◌, inl, inr}
 use Rattle.std.specs.Prelude.{⊤}
 use Rattle.std.proofs.Math.Nat.{le_trans}
 use Rattle.process_flow.specs.Causes.{Rose}
 use Rattle.trace_verify.specs.declared.verdict.Verified.{Verified}
 use Rattle.trace_verify.specs.Verdicts.{verdict}
 use Rattle.program_words.specs.declared.reading.Command.{Command}
-use Rattle.program_words.specs.declared.reading.Command.TheVariants.{Check, Init, Run, Session, Serve, Restart, Show, Verify, Gen, Bulk, Help, Version}
+use Rattle.program_words.specs.declared.reading.Command.TheVariants.{Check, Init, Run, Session, Serve, Restart, Show, Replay, Verify, Audit, Gen, Bulk, Help, Version}
 use Rattle.command_refusals.specs.Statuses.{IsOneOf}
 use Rattle.command_refusals.specs.declared.status.Status.{Status}
 use Rattle.command_refusals.specs.declared.status.Status.TheVariants.{Done, Exhausted, NoMemory}
@@ -42,6 +42,9 @@ use Rattle.process_top.specs.Commands.{IsDueTo, IsQuiet, DoesItsWork}
 use Rattle.command_input.proofs.InputRefusals.{is_within}
 use Rattle.init_run.specs.Init.{IsInitComplete}
 use Rattle.init_run.proofs.MadeWell.{not_created_quietly}
+use Rattle.replay_run.specs.Replay.{found_status, IsReplayComplete}
+use Rattle.process_top.specs.Audit.{IsAuditComplete, IsHistoryAuditComplete}
+use Rattle.process_top.proofs.Wanting.{audit_wanting, history_wanting, replay_wanting, told_so}
 use Rattle.process_top.proofs.Completing.{given, told_well, quietly_refused, text_passes, by_any, not_opened_quietly}
 
 -- a check
@@ -63,22 +66,22 @@ check_done None faults after reply status due is quiet = tt
 check_done (Some text) faults after reply status due is quiet = check_ends text faults after reply status due is quiet
 
 -- an init
-init_ends : (text : List ℕ) (faults : ℕ) (after : Input) (files files_after : Files) (reply : Reply) (status : Status) → IsInitDue (given (Some text) faults) after files files_after reply → status ≡ status_of reply
-    → ¬ Rose faults after.faults → ¬ Rose files.faults files_after.faults → IsInitComplete (given (Some text) faults) files.disk status
-init_ends text faults after files files_after created status due is quiet quiet_files c within has told empty = inl is
-init_ends text faults after files files_after (refused r) status due is quiet quiet_files c within has told empty =
-    inr (inl (is ∙ not_created_quietly r text faults after files files_after c due quiet quiet_files within has told empty))
-init_ends text faults after files files_after (checked ps vs) status due is quiet quiet_files c within has told empty = absurd due
-init_ends text faults after files files_after (ended said) status due is quiet quiet_files c within has told empty = absurd due
-init_ends text faults after files files_after (served said at) status due is quiet quiet_files c within has told empty = absurd due
-init_ends text faults after files files_after (shown d h) status due is quiet quiet_files c within has told empty = absurd due
-init_ends text faults after files files_after accepted status due is quiet quiet_files c within has told empty = absurd due
-init_ends text faults after files files_after (printed said) status due is quiet quiet_files c within has told empty = absurd due
+init_ends : (values : Bool) (text : List ℕ) (faults : ℕ) (after : Input) (files files_after : Files) (reply : Reply) (status : Status) → IsInitDue values (given (Some text) faults) after files files_after reply → status ≡ status_of reply
+    → ¬ Rose faults after.faults → ¬ Rose files.faults files_after.faults → IsInitComplete values (given (Some text) faults) files.disk status
+init_ends values text faults after files files_after created status due is quiet quiet_files c within has sound told empty = inl is
+init_ends values text faults after files files_after (refused r) status due is quiet quiet_files c within has sound told empty =
+    inr (inl (is ∙ not_created_quietly values r text faults after files files_after c due quiet quiet_files within has sound told empty))
+init_ends values text faults after files files_after (checked ps vs) status due is quiet quiet_files c within has sound told empty = absurd due
+init_ends values text faults after files files_after (ended said) status due is quiet quiet_files c within has sound told empty = absurd due
+init_ends values text faults after files files_after (served said at) status due is quiet quiet_files c within has sound told empty = absurd due
+init_ends values text faults after files files_after (shown d h) status due is quiet quiet_files c within has sound told empty = absurd due
+init_ends values text faults after files files_after accepted status due is quiet quiet_files c within has sound told empty = absurd due
+init_ends values text faults after files files_after (printed said) status due is quiet quiet_files c within has sound told empty = absurd due
 
-init_done : (left : Option (List ℕ)) (faults : ℕ) (after : Input) (files files_after : Files) (reply : Reply) (status : Status) → IsInitDue (given left faults) after files files_after reply → status ≡ status_of reply
-    → ¬ Rose faults after.faults → ¬ Rose files.faults files_after.faults → IsInitComplete (given left faults) files.disk status
-init_done None faults after files files_after reply status due is quiet quiet_files = tt
-init_done (Some text) faults after files files_after reply status due is quiet quiet_files = init_ends text faults after files files_after reply status due is quiet quiet_files
+init_done : (values : Bool) (left : Option (List ℕ)) (faults : ℕ) (after : Input) (files files_after : Files) (reply : Reply) (status : Status) → IsInitDue values (given left faults) after files files_after reply → status ≡ status_of reply
+    → ¬ Rose faults after.faults → ¬ Rose files.faults files_after.faults → IsInitComplete values (given left faults) files.disk status
+init_done values None faults after files files_after reply status due is quiet quiet_files = tt
+init_done values (Some text) faults after files files_after reply status due is quiet quiet_files = init_ends values text faults after files files_after reply status due is quiet quiet_files
 
 -- a run, or a restart
 told_report : (found : Result Said Refusal) (old new : Output) (status : Status) → IsReportThere found → IsResultTold found old new status → ¬ Rose old.faults new.faults
@@ -87,6 +90,12 @@ told_report (Ok said) old new status (inl done) told quiet = inl (told_well _ _ 
 told_report (Ok said) old new status (inr exhausted) told quiet = inr (inl (told_well _ _ old new status told quiet ∙ exhausted))
 told_report (Err r) old new status memory (inl told) quiet = inr (inr (inl (told_well _ _ old new status told quiet ∙ ap refusal_status memory)))
 told_report (Err r) old new status memory (inr told) quiet = inr (inr (inl (told_well _ _ old new status told.1 quiet)))
+
+-- what was found was told at its status, or memory was wanting
+told_status : (found : Result Said Refusal) (old new : Output) (status : Status) → IsResultTold found old new status → ¬ Rose old.faults new.faults → (status ≡ found_status found) ⊎ (status ≡ NoMemory)
+told_status (Ok said) old new status told quiet = inl (told_well _ _ old new status told quiet)
+told_status (Err r) old new status (inl told) quiet = inl (told_well _ _ old new status told quiet)
+told_status (Err r) old new status (inr told) quiet = inr (told_well _ _ old new status told.1 quiet)
 
 -- a session
 session_status : (found : Result Said Refusal) (old new : Output) (status : Status) → AreAllAnswered found → IsResultTold found old new status → ¬ Rose old.faults new.faults
@@ -116,6 +125,9 @@ Worked (Some (Run workers)) before after status = IsQuiet (Some (Run workers)) b
 Worked (Some Session) before after status = IsQuiet (Some Session) before after → IsSessionComplete before.input before.files status
 Worked (Some Serve) before after status = IsQuiet (Some Serve) before after → IsServeComplete before.input before.files status
 Worked (Some Restart) before after status = IsQuiet (Some Restart) before after → IsRestartComplete before.files status
+Worked (Some Replay) before after status = IsQuiet (Some Replay) before after → IsReplayComplete before.files.disk status
+Worked (Some (Audit false)) before after status = IsQuiet (Some (Audit false)) before after → IsAuditComplete before.input status
+Worked (Some (Audit true)) before after status = IsQuiet (Some (Audit true)) before after → IsHistoryAuditComplete before.input before.files status
 Worked (Some (Bulk number count)) before after status = IsQuiet (Some (Bulk number count)) before after → IsBulkComplete number count before.files status
 Worked o before after status = ⊤
 
@@ -125,7 +137,7 @@ pub worked_due : {S K R : Type 0} (o : Option Command) (before after : World S K
     → before.output.faults ≤ after.output.faults → Worked o before after status
 worked_due None before after found status has told later = tt
 worked_due (Some Check) before after found status has told later = tt
-worked_due (Some Init) before after found status has told later = tt
+worked_due (Some (Init values)) before after found status has told later = tt
 worked_due (Some (Run workers)) before after found status has told later = λ quiet bytes c plans h scenario room.
     told_report found before.output after.output status (has bytes c plans h scenario room (record { source = quiet.input refl; rack = quiet.files refl })) told quiet.output
 worked_due (Some Session) before after found status has told later = λ quiet bytes c plans lines h text files.
@@ -136,7 +148,16 @@ worked_due (Some Serve) before after found status has told later = λ quiet byte
 worked_due (Some Restart) before after found status has told later = λ quiet c h known sound.
     told_report found before.output after.output status (has c h known sound (quiet.files refl)) told quiet.output
 worked_due (Some Show) before after found status has told later = tt
+worked_due (Some Replay) before after found status has told later = λ quiet.
+    told_so (IsReplayComplete before.files.disk) status (found_status found) (told_status found before.output after.output status told quiet.output) (has (quiet.files refl))
+    (replay_wanting before.files.disk status)
 worked_due (Some Verify) before after found status has told later = tt
+worked_due (Some (Audit false)) before after found status has told later = λ quiet.
+    told_so (IsAuditComplete before.input) status (found_status found) (told_status found before.output after.output status told quiet.output) (has (quiet.input refl))
+    (audit_wanting before.input status)
+worked_due (Some (Audit true)) before after found status has told later = λ quiet.
+    told_so (IsHistoryAuditComplete before.input before.files) status (found_status found) (told_status found before.output after.output status told quiet.output)
+    (has (record { source = quiet.input refl; rack = quiet.files refl })) (history_wanting before.input before.files status)
 worked_due (Some (Gen number count)) before after found status has told later = tt
 worked_due (Some (Bulk number count)) before after found status has told later = λ quiet c plans fits empty.
     told_report found before.output after.output status (has c plans fits empty (quiet.files refl)) told quiet.output
@@ -149,14 +170,17 @@ pub worked_held : {S K R : Type 0} (o : Option Command) (before after : World S 
     → HasWorked o before.input after.input before.files after.files before.output after.output (endings.Told status) → Worked o before after status
 worked_held None before after text at status due has = tt
 worked_held (Some Check) before after text at status due has = tt
-worked_held (Some Init) before after text at status due has = tt
+worked_held (Some (Init values)) before after text at status due has = tt
 worked_held (Some (Run workers)) before after text at status due has = absurd due
 worked_held (Some Session) before after text at status due has = absurd due
 worked_held (Some Serve) before after text at status due has = λ quiet bytes c plans h scene known sound.
     well_held status (has bytes c plans h scene known sound (record { source = quiet.input refl; rack = quiet.files refl }) quiet.output)
 worked_held (Some Restart) before after text at status due has = absurd due
 worked_held (Some Show) before after text at status due has = tt
+worked_held (Some Replay) before after text at status due has = absurd due.0
 worked_held (Some Verify) before after text at status due has = tt
+worked_held (Some (Audit false)) before after text at status due has = absurd due.0
+worked_held (Some (Audit true)) before after text at status due has = absurd due.0
 worked_held (Some (Gen number count)) before after text at status due has = tt
 worked_held (Some (Bulk number count)) before after text at status due has = absurd due
 worked_held (Some (Help about)) before after text at status due has = tt
@@ -242,14 +266,17 @@ done_by : {S K R : Type 0} (o : Option Command) (gates : AskedGates) (before aft
     → status ≡ status_of reply → Worked o before after status → IsQuiet o before after → DoesItsWork o before.input before.files status
 done_by None gates before after status reply due is worked quiet = tt
 done_by (Some Check) gates before after status reply due is worked quiet = check_done before.input.left before.input.faults after.input reply status due.0 is (quiet.input refl)
-done_by (Some Init) gates before after status reply due is worked quiet =
-    init_done before.input.left before.input.faults after.input before.files after.files reply status due is (quiet.input refl) (quiet.files refl)
+done_by (Some (Init values)) gates before after status reply due is worked quiet =
+    init_done values before.input.left before.input.faults after.input before.files after.files reply status due is (quiet.input refl) (quiet.files refl)
 done_by (Some (Run workers)) gates before after status reply due is worked quiet = worked quiet
 done_by (Some Session) gates before after status reply due is worked quiet = worked quiet
 done_by (Some Serve) gates before after status reply due is worked quiet = worked quiet
 done_by (Some Restart) gates before after status reply due is worked quiet = worked quiet
 done_by (Some Show) gates before after status reply due is worked quiet = show_done before.files after.files reply status due.0 is (quiet.files refl)
+done_by (Some Replay) gates before after status reply due is worked quiet = worked quiet
 done_by (Some Verify) gates before after status reply due is worked quiet = verify_done before.input.left before.input.faults after.input reply status due.0 is (quiet.input refl)
+done_by (Some (Audit false)) gates before after status reply due is worked quiet = worked quiet
+done_by (Some (Audit true)) gates before after status reply due is worked quiet = worked quiet
 done_by (Some (Gen number count)) gates before after status reply due is worked quiet = text_done (scenario number count) reply status due.0 is
 done_by (Some (Bulk number count)) gates before after status reply due is worked quiet = worked quiet
 done_by (Some (Help about)) gates before after status reply due is worked quiet = text_done (page_of about) reply status due.0 is
@@ -263,13 +290,16 @@ given_memory (Some text) P all = all text
 wanting : (o : Option Command) (input : Input) (files : Files) (status : Status) → status ≡ NoMemory → DoesItsWork o input files status
 wanting None input files status is = tt
 wanting (Some Check) input files status is = given_memory input.left _ (λ text ps within reading. inr (inr (inl is)))
-wanting (Some Init) input files status is = given_memory input.left _ (λ text c within has told empty. inr (inl is))
+wanting (Some (Init values)) input files status is = given_memory input.left _ (λ text c within has sound told empty. inr (inl is))
 wanting (Some (Run workers)) input files status is = λ bytes c plans h scenario room. inr (inr (inl is))
 wanting (Some Session) input files status is = λ bytes c plans lines h text room. inr (inl is)
 wanting (Some Serve) input files status is = λ bytes c plans h scene told sound. inr (inl is)
 wanting (Some Restart) input files status is = λ c h told sound. inr (inr (inl is))
 wanting (Some Show) input files status is = λ c h good told log. inr (inl is)
+wanting (Some Replay) input files status is = replay_wanting files.disk status is
 wanting (Some Verify) input files status is = given_memory input.left _ (λ text within. inr (inl is))
+wanting (Some (Audit false)) input files status is = audit_wanting input status is
+wanting (Some (Audit true)) input files status is = history_wanting input files status is
 wanting (Some (Gen number count)) input files status is = inr (inl is)
 wanting (Some (Bulk number count)) input files status is = λ c plans fits empty. inr (inr (inl is))
 wanting (Some (Help about)) input files status is = inr (inl is)

@@ -26,7 +26,7 @@ use Rattle.command_refusals.specs.Refusals.{error_status, refusal_status}
 use Rattle.command_input.specs.Inputs.{Input, most_input, first_refusal, text_tests, IsRefused}
 use Rattle.command_input.specs.FilesLeft.{Files}
 use Rattle.process_top.specs.Told.{Output, IsTold}
-use Rattle.process_top.specs.Show.{journal_refusal, IsNotOpened}
+use Rattle.journal_input.specs.Opening.{journal_refusal, IsNotOpened}
 use Rattle.command_input.proofs.InputRefusals.{is_within}
 
 -- an input that is told, and its count of faults

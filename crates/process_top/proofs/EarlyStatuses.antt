@@ -1,13 +1,13 @@
 -- At a status of the words or of the source, and at one of a verdict, the rack is as it was: what is answered of an early reply gives it,
 -- since no other reply of a command that calls the rack has such a status. But in a dialogue of `serve` the source may fail at any line. For
 -- each command but `run`, `session` and `serve` so is it at a status of the input.
-use Rattle.std.proofs.Common.{◌≡◌, ℕ, List, Bool, true, false, Option, Some, None, Ok, Err, refl, sym, ap, subst, ◌∙◌, inl, inr}
+use Rattle.std.proofs.Common.{◌≡◌, ◌||◌, ℕ, List, [], ◌∷◌, Bool, true, false, Option, Some, None, Ok, Err, refl, sym, ap, subst, ◌∙◌, inl, inr}
 use Rattle.process_journal.specs.declared.errors.JournalError.{JournalError}
 use Rattle.process_journal.specs.declared.errors.JournalError.TheVariants as journal
 use Rattle.program_words.specs.Commands.{asked}
 use Rattle.program_words.specs.declared.reading.Command.{Command}
-use Rattle.program_words.specs.declared.reading.Command.TheVariants.{Check, Init, Run, Session, Serve, Restart, Show, Verify, Gen, Bulk, Help, Version}
-use Rattle.command_refusals.specs.Statuses.{number_of}
+use Rattle.program_words.specs.declared.reading.Command.TheVariants.{Check, Init, Run, Session, Serve, Restart, Show, Replay, Verify, Audit, Gen, Bulk, Help, Version}
+use Rattle.command_refusals.specs.Statuses.{IsOneOf, number_of}
 use Rattle.command_refusals.specs.declared.status.Status.{Status}
 use Rattle.command_refusals.specs.declared.status.Status.TheVariants as statuses
 use Rattle.command_refusals.specs.declared.refusal.Refusal.{Refusal}
@@ -23,7 +23,7 @@ use Rattle.history_files.specs.declared.faults.CreateError.{CreateError}
 use Rattle.history_files.specs.declared.faults.CreateError.TheVariants as create
 use Rattle.init_run.specs.Init.{create_refusal, IsCatalogRefused, IsNotCreated}
 use Rattle.init_run.proofs.InitParts.{in_parts, IsRefusedInParts}
-use Rattle.process_top.specs.Show.{journal_refusal}
+use Rattle.journal_input.specs.Opening.{journal_refusal}
 use Rattle.process_tree.specs.declared.plan.Plan.{Plan}
 use Rattle.commute_table.specs.declared.catalog.Catalog.{Catalog}
 use Rattle.process_core.specs.Cores.{CoreState, opened_on}
@@ -49,7 +49,11 @@ use Rattle.schedule_model.specs.declared.history.History.{History}
 use Rattle.process_top.specs.Run.{first_gate, first_gates, gates_asked}
 use Rattle.process_top.specs.Replies.{Reply, checked, created, ended, served, shown, accepted, printed, refused, status_of, IsReplyTold}
 use Rattle.process_top.specs.Told.{IsTold}
-use Rattle.process_top.specs.Commands.{is_early, is_verdict, IsDueTo, Answers, needs}
+use Rattle.replay_run.specs.Replay.{IsReplayDue as IsReplayFound}
+use Rattle.replay_run.specs.Soundness.{IsUnsound}
+use Rattle.process_top.specs.Commands.{comes_first, is_commuting, is_early, is_verdict, IsDueTo, Answers, needs}
+use Rattle.audit_run.specs.History.{IsHistoryAuditDue as IsHistoryAuditFound}
+use Rattle.process_top.proofs.Audits.{history_is}
 use Rattle.process_top.proofs.StatusNumbers.{same_status}
 
 -- the statuses of what is refused before the rack is called, and of verdicts
@@ -97,17 +101,28 @@ early_text r before after (inr (inl fault)) is = subst (λ (e : Refusal). comes_
 early_text r before after (inr (inr memory)) is =
     let wrong : false ≡ true = ap (λ (e : Refusal). is_early_status (refusal_status e)) (sym memory) ∙ is in absurd (cc)
 
-early_catalog : (r : Refusal) (before after : Input) → IsCatalogRefused r before after → is_early_status (refusal_status r) ≡ true → comes_before_files r ≡ true
-early_catalog r before after (inl none) is = early_text r before after none is
-early_catalog r before after (inr why) is =
-    let same = why.2.1 in
-    subst (λ (e : Refusal). comes_before_files e ≡ true) (sym same) (early_scenario why.2.0 (ap (λ (e : Refusal). is_early_status (refusal_status e)) (sym same) ∙ is))
+-- that a catalog leaves out a conflict in value
+early_values : (values : Bool) (c : Catalog) (r : Refusal) → IsUnsound c r → is_early_status (refusal_status r) ≡ true → comes_first (Some (Init values)) r ≡ true
+early_values values c r (inl memory) is =
+    let wrong : false ≡ true = ap (λ (e : Refusal). is_early_status (refusal_status e)) (sym memory) ∙ is in absurd (cc)
+early_values values c r (inr (a, b, same, least)) is = subst (λ (e : Refusal). comes_first (Some (Init values)) e ≡ true) (sym same) refl
 
-early_init : (r : Refusal) (before after : Input) (files files_after : Files) → IsNotCreated r before after files files_after → is_early_status (refusal_status r) ≡ true → comes_before_files r ≡ true
-early_init r before after files files_after not_created is = by_part (in_parts r before after files files_after not_created)
+-- what comes before the files comes first
+first_of : (values : Bool) (r : Refusal) → comes_before_files r ≡ true → comes_first (Some (Init values)) r ≡ true
+first_of values r before = ap (λ b. b || is_commuting r) before
+
+early_catalog : (values : Bool) (r : Refusal) (before after : Input) → IsCatalogRefused values r before after → is_early_status (refusal_status r) ≡ true → comes_first (Some (Init values)) r ≡ true
+early_catalog values r before after (inl none) is = first_of values r (early_text r before after none is)
+early_catalog values r before after (inr (bytes, whole, inl why)) is =
+    let same = why.1 in
+    first_of values r (subst (λ (e : Refusal). comes_before_files e ≡ true) (sym same) (early_scenario why.0 (ap (λ (e : Refusal). is_early_status (refusal_status e)) (sym same) ∙ is)))
+early_catalog values r before after (inr (bytes, whole, inr (s, says, refused'))) is = early_values values s.catalog r refused'.1 is
+
+early_init : (values : Bool) (r : Refusal) (before after : Input) (files files_after : Files) → IsNotCreated values r before after files files_after → is_early_status (refusal_status r) ≡ true → comes_first (Some (Init values)) r ≡ true
+early_init values r before after files files_after not_created is = by_part (in_parts values r before after files files_after not_created)
   where
-    by_part : IsRefusedInParts r before after files files_after → comes_before_files r ≡ true
-    by_part (inl why) = early_catalog r before after why.0 is
+    by_part : IsRefusedInParts values r before after files files_after → comes_first (Some (Init values)) r ≡ true
+    by_part (inl why) = early_catalog values r before after why.0 is
     by_part (inr why) =
         let wrong : false ≡ true = sym (late_create why.1.0) ∙ ap (λ (e : Refusal). is_early_status (refusal_status e)) (sym why.1.1) ∙ is in absurd (cc)
 
@@ -126,11 +141,21 @@ is_early_in_dialogue statuses.IllFormed = true
 is_early_in_dialogue statuses.NotReduced = true
 is_early_in_dialogue status = false
 
--- those that do so at this one: `run`, `session` and `serve` read the catalog of the files too, and `run` and `bulk` how much they have
+-- and those that do so where a history is audited, which may end as one that can't be reduced
+abbrev pub is_early_in_audit : Status → Bool
+is_early_in_audit statuses.BadWords = true
+is_early_in_audit statuses.IllFormed = true
+is_early_in_audit statuses.ReadFault = true
+is_early_in_audit status = false
+
+-- those that do so at this one: `run`, `session`, `serve` and `replay` read the catalog of the files too, `run` and `bulk` how much they have,
+-- and `audit --history` their history
 abbrev pub is_early_for : Option Command → Status → Bool
 is_early_for (Some (Run workers)) s = is_always_early s
 is_early_for (Some Session) s = is_always_early s
 is_early_for (Some Serve) s = is_early_in_dialogue s
+is_early_for (Some Replay) s = is_always_early s
+is_early_for (Some (Audit true)) s = is_early_in_audit s
 is_early_for (Some (Bulk number count)) s = is_always_early s
 is_early_for o s = is_early_status s
 
@@ -263,23 +288,58 @@ late_restart gate files files_after r (inl (e, same, none)) is = late_refusal r 
 late_restart gate files files_after r (inr (c, h, now, inl cut)) is = late_refusal r refusals.NoMemory cut.0 refl is
 late_restart gate files files_after r (inr (c, h, now, inr cut)) is = late_refusal r refusals.DiskFault cut.0 refl is
 
+-- what a replay has to say has none
+late_replay : (files files_after : Files) (said : Said) → IsReplayFound files files_after (Ok said) → is_always_early said.status ≡ true → ⊥
+late_replay files files_after said (c, h, read, replayed) is = let wrong : false ≡ true = ap is_always_early (sym replayed.ended) ∙ is in absurd (cc)
+
+-- what an audit of the files has to say has none but the verdict
+audit_always : (s : Status) → is_early_in_audit s ≡ true → is_always_early s ≡ true
+audit_always statuses.Done is = absurd (cc)
+audit_always statuses.BadWords is = refl
+audit_always statuses.BadInput is = absurd (cc)
+audit_always statuses.IllFormed is = refl
+audit_always statuses.Limit is = absurd (cc)
+audit_always statuses.Unfinished is = absurd (cc)
+audit_always statuses.BadFile is = absurd (cc)
+audit_always statuses.BookDiffers is = absurd (cc)
+audit_always statuses.ReadFault is = refl
+audit_always statuses.WriteFault is = absurd (cc)
+audit_always statuses.DiskFault is = absurd (cc)
+audit_always statuses.Exhausted is = absurd (cc)
+audit_always statuses.NotReduced is = absurd (cc)
+audit_always statuses.NoMemory is = absurd (cc)
+
+late_audit : (s : Status) → IsOneOf s (statuses.Done ∷ statuses.BadInput ∷ statuses.Limit ∷ statuses.NotReduced ∷ statuses.NoMemory ∷ []) → is_early_in_audit s ≡ true → ⊥
+late_audit s (inl same) is = let wrong : false ≡ true = ap is_early_in_audit (sym same) ∙ is in absurd (cc)
+late_audit s (inr (inl same)) is = let wrong : false ≡ true = ap is_early_in_audit (sym same) ∙ is in absurd (cc)
+late_audit s (inr (inr (inl same))) is = let wrong : false ≡ true = ap is_early_in_audit (sym same) ∙ is in absurd (cc)
+late_audit s (inr (inr (inr (inl same)))) is = let wrong : false ≡ true = ap is_early_in_audit (sym same) ∙ is in absurd (cc)
+late_audit s (inr (inr (inr (inr (inl same))))) is = let wrong : false ≡ true = ap is_early_in_audit (sym same) ∙ is in absurd (cc)
+late_audit s (inr (inr (inr (inr (inr none))))) is = none
+
+audit_said : (before after : Input) (files files_after : Files) (said : Said) → IsHistoryAuditFound before after files files_after (Ok said) → is_early_in_audit said.status ≡ true → is_verdict said.status ≡ true
+audit_said before after files files_after said (bytes, whole, inl audited) is =
+    absurd (late_audit said.status (history_is audited.catalog audited.own audited.history said.text.items said.status audited.said) is)
+audit_said before after files files_after said (bytes, whole, inr ill) is = subst (λ (s : Status). is_verdict s ≡ true) (sym ill.ended) refl
+
 module _ {S K R : Type 0} (before after : World S K R) where
   by_command : (o : Option Command) (gates : AskedGates) (reply : Reply) → IsDueTo o gates before.input after.input before.files after.files reply → ((needs o).files ≡ false → after.rack ≡ before.rack)
-      → (is_early reply ≡ true → after.rack ≡ before.rack) → is_early_for o (status_of reply) ≡ true → after.rack ≡ before.rack
+      → (is_early o reply ≡ true → after.rack ≡ before.rack) → is_early_for o (status_of reply) ≡ true → after.rack ≡ before.rack
   by_command None gates reply due untouched early is = untouched refl
   by_command (Some Check) gates reply due untouched early is = untouched refl
   by_command (Some Verify) gates reply due untouched early is = untouched refl
+  by_command (Some (Audit false)) gates reply due untouched early is = untouched refl
   by_command (Some (Gen number count)) gates reply due untouched early is = untouched refl
   by_command (Some (Help about)) gates reply due untouched early is = untouched refl
   by_command (Some Version) gates reply due untouched early is = untouched refl
-  by_command (Some Init) gates created due untouched early is = absurd (cc)
-  by_command (Some Init) gates (refused r) due untouched early is = early (early_init r before.input after.input before.files after.files due is)
-  by_command (Some Init) gates (checked ps vs) due untouched early is = absurd due
-  by_command (Some Init) gates (ended said) due untouched early is = absurd due
-  by_command (Some Init) gates (served text at) due untouched early is = absurd due
-  by_command (Some Init) gates (shown c h) due untouched early is = absurd due
-  by_command (Some Init) gates accepted due untouched early is = absurd due
-  by_command (Some Init) gates (printed text) due untouched early is = absurd due
+  by_command (Some (Init values)) gates created due untouched early is = absurd (cc)
+  by_command (Some (Init values)) gates (refused r) due untouched early is = early (early_init values r before.input after.input before.files after.files due is)
+  by_command (Some (Init values)) gates (checked ps vs) due untouched early is = absurd due
+  by_command (Some (Init values)) gates (ended said) due untouched early is = absurd due
+  by_command (Some (Init values)) gates (served text at) due untouched early is = absurd due
+  by_command (Some (Init values)) gates (shown c h) due untouched early is = absurd due
+  by_command (Some (Init values)) gates accepted due untouched early is = absurd due
+  by_command (Some (Init values)) gates (printed text) due untouched early is = absurd due
   by_command (Some (Run workers)) gates (ended said) due untouched early is = early (always_said (first_gates workers gates) before.input after.input before.files after.files said due is)
   by_command (Some (Run workers)) gates (refused r) due untouched early is = early (always_refusal r is)
   by_command (Some (Run workers)) gates (checked ps vs) due untouched early is = absurd due
@@ -329,18 +389,37 @@ module _ {S K R : Type 0} (before after : World S K R) where
   by_command (Some Show) gates (ended said) due untouched early is = absurd due.0
   by_command (Some Show) gates accepted due untouched early is = absurd due.0
   by_command (Some Show) gates (printed text) due untouched early is = absurd due.0
+  by_command (Some Replay) gates (ended said) due untouched early is = absurd (late_replay before.files after.files said due.0 is)
+  by_command (Some Replay) gates (refused r) due untouched early is = early (always_refusal r is)
+  by_command (Some Replay) gates (checked ps vs) due untouched early is = absurd due.0
+  by_command (Some Replay) gates created due untouched early is = absurd due.0
+  by_command (Some Replay) gates (served text at) due untouched early is = absurd due.0
+  by_command (Some Replay) gates (shown c h) due untouched early is = absurd due.0
+  by_command (Some Replay) gates accepted due untouched early is = absurd due.0
+  by_command (Some Replay) gates (printed text) due untouched early is = absurd due.0
+  by_command (Some (Audit true)) gates (ended said) due untouched early is = early (audit_said before.input after.input before.files after.files said due.0 is)
+  by_command (Some (Audit true)) gates (refused r) due untouched early is = early (always_refusal r (audit_always (refusal_status r) is))
+  by_command (Some (Audit true)) gates (checked ps vs) due untouched early is = absurd due.0
+  by_command (Some (Audit true)) gates created due untouched early is = absurd due.0
+  by_command (Some (Audit true)) gates (served text at) due untouched early is = absurd due.0
+  by_command (Some (Audit true)) gates (shown c h) due untouched early is = absurd due.0
+  by_command (Some (Audit true)) gates accepted due untouched early is = absurd due.0
+  by_command (Some (Audit true)) gates (printed text) due untouched early is = absurd due.0
 
   -- neither a write fault nor want of memory is such a status
   late_for : (o : Option Command) → (is_early_for o statuses.WriteFault ≡ false) × (is_early_for o statuses.NoMemory ≡ false)
   late_for None = (refl, refl)
   late_for (Some Check) = (refl, refl)
-  late_for (Some Init) = (refl, refl)
+  late_for (Some (Init values)) = (refl, refl)
   late_for (Some (Run workers)) = (refl, refl)
   late_for (Some Session) = (refl, refl)
   late_for (Some Serve) = (refl, refl)
   late_for (Some Restart) = (refl, refl)
   late_for (Some Show) = (refl, refl)
+  late_for (Some Replay) = (refl, refl)
   late_for (Some Verify) = (refl, refl)
+  late_for (Some (Audit false)) = (refl, refl)
+  late_for (Some (Audit true)) = (refl, refl)
   late_for (Some (Gen number count)) = (refl, refl)
   late_for (Some (Bulk number count)) = (refl, refl)
   late_for (Some (Help about)) = (refl, refl)
@@ -363,7 +442,7 @@ module _ {S K R : Type 0} (before after : World S K R) where
   by_reply o s accepted old new at told same is = by_told o s _ _ old new at told same is
   by_reply o s (printed text) old new at told same is = by_told o s _ _ old new at told same is
 
-  pub early_status_leaves : (words : List (List ℕ)) (number : ℕ) (s : Status) → Answers words before after number → is_early_for (asked words) s ≡ true → number ≡ number_of s → after.rack ≡ before.rack
-  early_status_leaves words number s answers is numbered =
+  pub early_status_leaves : (words : List (List ℕ)) (number : ℕ) (refusal : Option Refusal) (s : Status) → Answers words before after number refusal → is_early_for (asked words) s ≡ true → number ≡ number_of s → after.rack ≡ before.rack
+  early_status_leaves words number refusal s answers is numbered =
       let same : answers.status ≡ s = same_status answers.status s (sym answers.numbered ∙ numbered) in
       by_command (asked words) (gates_asked before.gates after.gates) answers.reply answers.due answers.untouched answers.early (by_reply (asked words) s answers.reply before.output after.output answers.status answers.told same is)

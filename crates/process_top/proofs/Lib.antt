@@ -1,5 +1,7 @@
 pub mod AtOnce
 pub mod Due
+pub mod Wanting
+pub mod Audits
 pub mod Completing
 pub mod Complete
 pub mod Saying

@@ -36,7 +36,13 @@ use Rattle.bulk_run.specs.Bulk.{IsBulkDue as IsBulkFound}
 use Rattle.scenario_gen.specs.Generated.{generated as scenario}
 use Rattle.process_top.specs.Serve.{IsServeDue}
 use Rattle.process_top.specs.Session.{IsSessionDue}
-use Rattle.process_top.specs.Show.{IsNotOpened}
+use Rattle.journal_input.specs.Opening.{IsNotOpened}
+use Rattle.replay_run.specs.Replay.{IsReplayDue as IsReplayFound}
+use Rattle.process_top.specs.Replay.{IsReplayDue}
+use Rattle.audit_run.specs.Audit.{IsAuditDue as IsAuditFound}
+use Rattle.audit_run.specs.History.{IsHistoryAuditDue as IsHistoryAuditFound}
+use Rattle.process_top.specs.Audit.{IsAuditDue, IsHistoryAuditDue}
+use Rattle.command_input.specs.FilesLeft.{AreUntouched}
 
 -- what is due so is due otherwise
 pub says_so : {P Q : Reply → Type 0} → ((reply : Reply) → P reply → Q reply) → (found : Result Said Refusal) → Says P found → Says Q found
@@ -86,6 +92,27 @@ bulk_says gate number count files files_after (Ok said) due = (ended said, refl,
 bulk_says gate number count files files_after (Err r) due = due
 
 -- what `init` found is said
-pub init_says : (before after : Input) (files files_after : Files) (found : Result Said Refusal) → IsInitFound before after files files_after found → Says (IsInitDue before after files files_after) found
-init_says before after files files_after (Ok said) due = (created, refl, due.1, due.0.text, due.0.status)
-init_says before after files files_after (Err r) due = due
+pub init_says : (values : Bool) (before after : Input) (files files_after : Files) (found : Result Said Refusal) → IsInitFound values before after files files_after found → Says (IsInitDue values before after files files_after) found
+init_says values before after files files_after (Ok said) due = (created, refl, due.1, due.0.text, due.0.status)
+init_says values before after files files_after (Err r) due = due
+
+-- what a replay found is said, and the files are as they were
+pub replay_says : (files files_after : Files) (found : Result Said Refusal) → IsReplayFound files files_after found → AreUntouched files files_after
+    → Says (λ reply. IsReplayDue files files_after reply × AreUntouched files files_after) found
+replay_says files files_after (Ok said) due untouched = (ended said, refl, (due, untouched), refl, refl)
+replay_says files files_after (Err r) due untouched = (due, untouched)
+
+-- what an audit found is said
+pub audit_says : (before after : Input) (found : Result Said Refusal) → IsAuditFound before after found → Says (IsAuditDue before after) found
+audit_says before after (Ok said) due = (ended said, refl, due, refl, refl)
+audit_says before after (Err r) due = due
+
+pub history_audit_says : (before after : Input) (files files_after : Files) (found : Result Said Refusal) → IsHistoryAuditFound before after files files_after found
+    → Says (IsHistoryAuditDue before after files files_after) found
+history_audit_says before after files files_after (Ok said) due = (ended said, refl, due, refl, refl)
+history_audit_says before after files files_after (Err r) due = due
+
+-- what is said leaves the files as they were
+pub says_untouched : (P : Reply → Type 0) (files files_after : Files) (found : Result Said Refusal) → Says P found → AreUntouched files files_after
+    → Says (λ reply. P reply × AreUntouched files files_after) found
+says_untouched P files files_after found says untouched = says_so (λ reply due. (due, untouched)) found says

@@ -8,7 +8,9 @@ pub mod Session
 pub mod Serve
 pub mod Restart
 pub mod Show
+pub mod Replay
 pub mod Verify
+pub mod Audit
 pub mod Printed
 pub mod Gen
 pub mod Help

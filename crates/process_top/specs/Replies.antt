@@ -1,5 +1,5 @@
 -- What there is to say: for each command and end a reply, with its status and its text.
-use Rattle.std.specs.Prelude.{ℕ, Bool, true, false, List, [], Option, codes, if◌then◌else◌}
+use Rattle.std.specs.Prelude.{ℕ, Bool, true, false, List, [], Option, Some, None, codes, if◌then◌else◌}
 use Rattle.process_tree.specs.declared.tree.Named.{Named}
 use Rattle.process_tree.specs.Termination.{Fault}
 use Rattle.commute_table.specs.declared.catalog.Catalog.{Catalog}
@@ -34,6 +34,11 @@ pub data Reply : Type 0 where
 abbrev pub is_refused : Reply → Bool
 is_refused (refused r) = true
 is_refused reply = false
+
+-- what a reply refuses, if it is a refusal
+abbrev pub refused_of : Reply → Option Refusal
+refused_of (refused r) = Some r
+refused_of reply = None
 
 abbrev pub status_of : Reply → Status
 status_of (checked ps verdicts) = if any_fault verdicts then IllFormed else Done

@@ -4,18 +4,19 @@ ghost use Rattle.process_disk.specs.Disk.{Told};
 ghost use Rattle.command_refusals.specs.Statuses.{number_of};
 ghost use Rattle.command_refusals.specs.declared.status.Status.TheVariants.{Done, IllFormed};
 ghost use Rattle.program_words.specs.Forms.{IsInRange};
-ghost use Rattle.program_words.specs.declared.reading.Command.TheVariants.{Restart, Run};
+ghost use Rattle.program_words.specs.declared.reading.Command.TheVariants.{Replay, Restart, Run};
 ghost use Rattle.history_files.specs.Boxes.{AreBoxes};
 ghost use Rattle.command_input.specs.FilesLeft.{AreLeft};
-ghost use Rattle.command_input.specs.Early.{comes_before_files};
+ghost use Rattle.replay_run.specs.Replay.{HaveValuesOfFile};
 ghost use Rattle.restart_run.specs.Boxes.{HaveValuesOf};
 ghost use Rattle.process_top.specs.Run.{gates_asked};
 ghost use Rattle.serve_run.specs.Serve.{OnEnding};
-ghost use Rattle.process_top.specs.Said.{EndsBy, HasWorked, IsResultTold};
+ghost use Rattle.process_top.specs.Said.{refused_at, EndsBy, HasWorked, IsResultTold};
 ghost use Rattle.process_top.specs.Worlds.{files, input, output, world, gates as told_gates};
-ghost use Rattle.process_top.specs.Commands.{at_once, first_is_show, needs};
+ghost use Rattle.process_top.specs.Commands.{at_once, comes_first, names_reading, needs, only_reads};
 ghost use Rattle.process_top.specs.Commands.{Answers, AnswersAtOnce, AnswersTo, AreOthersAsBefore, IsDueTo, words_refusal};
 
+use crate::auditing;
 use crate::check::check;
 use crate::generating::{help, scenario, version};
 use crate::running::run_by_first;
@@ -30,6 +31,7 @@ use process_disk::Rack;
 use process_engine::{Gate, Parts};
 use process_flow::{Sink, Source};
 use program_words::{Command, WordsError, read_words};
+use replay_run::replay;
 use resource_box::Resource;
 use restart_run::restart;
 use scenario_run::RunEnd;
@@ -39,19 +41,28 @@ use std::alloc::Global;
 use std::sync::Wait;
 use std::thread::Threads;
 
-/// Whether a list of words can only read files: its first word is `show`.
+// Whether a word names a command that writes nothing to the files.
+fn names_reading(word: &str) -> bool
+    ensures { result ≡ names_reading word.now }
+{
+    matches!(word, "show" | "replay" | "audit")
+}
+
+/// Whether a list of words writes nothing to the files: its first word names such a command.
 pub fn only_reads(words: &[String]) -> bool
-    ensures { result ≡ first_is_show (map string_bytes words.now) }
+    ensures { result ≡ only_reads (map string_bytes words.now) }
 {
     match words {
-        [first, ..] => first.as_str() == "show",
+        [first, ..] => names_reading(first.as_str()),
         _ => false,
     }
 }
 
-/// The number of an answer's status, and the rack, the boxes and the gates after it.
+/// The number of an answer's status, the refusal that was told or for whose line memory was wanting, and the rack, the boxes and the
+/// gates after it.
 pub struct Finished<R, G, B = Box<dyn Resource + Send>> {
     pub status: u8,
+    pub refused: Option<Refusal>,
     pub rack: R,
     pub resources: Vec<B>,
     pub gates: Vec<G>,
@@ -105,16 +116,19 @@ fn done<S: Source, K: Sink, R: Rack + Drop, B: Resource, G: Gate>(
     ensures untouched { (needs (at_once (Some command))).files ≡ false → result.parts.rack ≡ parts.rack }
     ensures unread { (needs (at_once (Some command))).input ≡ false → source.new ≡ source.old }
     ensures early { OnEnding (λ _. ⊤)
-        (λ found. IfErr found (λ r. comes_before_files r ≡ true → result.parts.rack ≡ parts.rack)) result.ending }
+        (λ found. IfErr found (λ r. comes_first (at_once (Some command)) r ≡ true → result.parts.rack ≡ parts.rack)) result.ending }
     ensures verdict { OnEnding (λ _. ⊤)
         (λ found. IfOk found (λ s. s.status ≡ IllFormed → result.parts.rack ≡ parts.rack)) result.ending }
     ensures values { at_once (Some command) ≡ Some Restart → OnEnding (λ _. ⊥)
         (λ found. IfOk found (λ s. s.status ≡ Done → Told (R.disk result.parts.rack)
         → HaveValuesOf (λ b. (B.meaning b).items) (R.disk result.parts.rack).files result.parts.resources.items)) result.ending }
+    ensures replayed { at_once (Some command) ≡ Some Replay → OnEnding (λ _. ⊥)
+        (λ found. IfOk found (λ s. s.status ≡ Done → HaveValuesOfFile (λ b. (B.meaning b).items) (files R.Rack parts.rack)
+        (files R.Rack result.parts.rack) result.parts.resources.items)) result.ending }
 {
     match command {
         Command::Check => untold(parts, check(alloc, source)),
-        Command::Init => unsaid(init(alloc, source, parts)),
+        Command::Init { values } => unsaid(init(alloc, source, parts, values)),
         Command::Run { .. } => untold(parts, Err(Refusal::BadWords)),
         Command::Session => unsaid(session(alloc, source, parts)),
         Command::Serve => serve(alloc, source, sink, parts),
@@ -124,13 +138,30 @@ fn done<S: Source, K: Sink, R: Rack + Drop, B: Resource, G: Gate>(
             let found = show(alloc, &mut parts.rack);
             untold(parts, found)
         }
+        Command::Replay => unsaid(replay(alloc, parts)),
         Command::Verify => untold(parts, verify(alloc, source)),
+        Command::Audit { history: false } => untold(parts, auditing::log(alloc, source)),
+        Command::Audit { history: true } => {
+            let mut parts = parts;
+            let found = auditing::history(alloc, source, &mut parts.rack);
+            untold(parts, found)
+        }
         Command::Gen { number, count } => untold(parts, scenario(alloc, number, count)),
         Command::Bulk { number, count } => {
             unsaid(bulk(alloc, number, count, parts, &mut gates[0]))
         }
         Command::Help { about } => untold(parts, help(alloc, about)),
         Command::Version => untold(parts, version(alloc)),
+    }
+}
+
+// The refusal with which a call ends, if it ends with one.
+fn refused_at(ending: Ending) -> Option<Refusal>
+    ensures { result ≡ refused_at ending }
+{
+    match ending {
+        Ending::Due(Err(refusal)) => Some(refusal),
+        Ending::Due(Ok(_)) | Ending::Told(_) => None,
     }
 }
 
@@ -148,12 +179,14 @@ fn tell_served<K: Sink, R: Rack + Drop, B: Resource, G>(
         × OnEnding (λ s. (at ≡ s) × (output K.Sink sink.new ≡ output K.Sink sink.old))
         (λ found. IsResultTold found (output K.Sink sink.old) (output K.Sink sink.new) at) served.ending }
     ensures later { K.faults sink.old ≤ K.faults sink.new }
+    ensures refused { result.refused ≡ refused_at served.ending }
 {
     let Served { parts, ending } = served;
     let status = tell_ending(alloc, sink, &ending);
     let Parts { rack, resources } = parts;
     Finished {
         status: status.number(),
+        refused: refused_at(ending),
         rack,
         resources,
         gates,
@@ -184,7 +217,7 @@ fn unread<S: Source, K: Sink, R: Rack + Drop, B: Resource, G: Gate>(
     ensures { (command : Option Command) → (why ≡ WordsError.BadWords → command ≡ None) → AnswersTo command
         (world S.Source K.Sink R.Rack B.Resource G.Gate source.old sink.old rack resources.items gates.items)
         (world S.Source K.Sink R.Rack B.Resource G.Gate source.new sink.new result.rack result.resources.items result.gates.items)
-        result.status }
+        result.status result.refused }
 {
     let _ = source;
     let served = Served {
@@ -210,7 +243,7 @@ fn answer_to<S: Source, K: Sink, R: Rack + Drop, B: Resource, G: Gate>(
     ensures { AnswersTo (at_once (Some command))
         (world S.Source K.Sink R.Rack B.Resource G.Gate source.old sink.old rack resources.items gates.items)
         (world S.Source K.Sink R.Rack B.Resource G.Gate source.new sink.new result.rack result.resources.items result.gates.items)
-        result.status }
+        result.status result.refused }
 {
     let mut gates = gates;
     let parts = Parts { rack, resources };
@@ -235,7 +268,7 @@ pub fn answer<S: Source, K: Sink, R: Rack + Drop, B: Resource, G: Gate>(
     ensures { AnswersAtOnce (map string_bytes words.now)
         (world S.Source K.Sink R.Rack B.Resource G.Gate source.old sink.old rack resources.items gates.items)
         (world S.Source K.Sink R.Rack B.Resource G.Gate source.new sink.new result.rack result.resources.items result.gates.items)
-        result.status }
+        result.status result.refused }
 {
     match read_words(alloc, words) {
         Ok(command) => answer_to(alloc, command, source, sink, rack, resources, gates),
@@ -277,7 +310,7 @@ fn answer_run<
     ensures { AnswersTo (Some (Run workers))
         (world S.Source K.Sink R.Rack B.Resource G.Gate source.old sink.old rack resources.items gates.items)
         (world S.Source K.Sink R.Rack B.Resource G.Gate source.new sink.new result.rack result.resources.items result.gates.items)
-        result.status }
+        result.status result.refused }
 {
     let parts = Parts { rack, resources };
     let RunEnd {
@@ -316,7 +349,7 @@ pub fn top<
     ensures { Answers (map string_bytes words.now)
         (world S.Source K.Sink R.Rack B.Resource G.Gate source.old sink.old rack resources.items gates.items)
         (world S.Source K.Sink R.Rack B.Resource G.Gate source.new sink.new result.rack result.resources.items result.gates.items)
-        result.status }
+        result.status result.refused }
 {
     let command = match read_words(alloc, words) {
         Ok(command) => command,

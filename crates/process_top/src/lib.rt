@@ -6,6 +6,7 @@
 //! commands read is `command_input`'s, and the lines themselves are `command_refusals`' and `process_report`'s.
 #![tactic(auto)]
 
+mod auditing;
 mod check;
 mod door;
 mod generating;

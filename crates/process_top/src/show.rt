@@ -5,43 +5,14 @@ ghost use Rattle.process_disk.specs.Images.{AllAsBefore};
 ghost use Rattle.command_input.specs.FilesLeft.{AreLeft, files};
 ghost use Rattle.command_input.specs.Early.{comes_before_files};
 ghost use Rattle.process_top.specs.Said.{Says};
-ghost use Rattle.process_top.specs.Show.{journal_refusal, IsNotOpened, IsShown, IsShowDue};
+ghost use Rattle.process_top.specs.Show.{IsShowDue};
 
 use command_input::Said;
-use command_refusals::{FileFault, Refusal, Status};
-use commute_table::Catalog;
+use command_refusals::{Refusal, Status};
+use journal_input::opened;
 use process_disk::Rack;
-use process_journal::{Journal, JournalError};
 use process_report::report;
-use schedule_model::History;
 use std::alloc::Global;
-
-fn journal_refusal(error: JournalError) -> Refusal
-    ensures refusal { result ≡ journal_refusal error }
-    ensures late { comes_before_files result ≡ false }
-{
-    match error {
-        JournalError::DiskFault => Refusal::DiskFault,
-        JournalError::BadHeader => Refusal::File(FileFault::BadHeader(0)),
-        JournalError::BadRecord(n) => Refusal::File(FileFault::BadRecord(0, n)),
-        JournalError::BadHistory(n) => Refusal::File(FileFault::BadHistory(n)),
-        JournalError::NoMemory => Refusal::NoMemory,
-    }
-}
-
-// The catalog and the history of which file 0 is the journal.
-fn opened<R: Rack>(alloc: Global, rack: &mut R) -> Result<(Catalog, History), Refusal>
-    ensures shown { IfOk result (λ opened. IsShown opened.0 opened.1 (files R.Rack rack.old) (files R.Rack rack.new)) }
-    ensures refused { IfErr result (λ r. IsNotOpened r (files R.Rack rack.old) (files R.Rack rack.new)) }
-    ensures all { Told (R.disk rack.old) → AllAsBefore (R.disk rack.old) (R.disk rack.new) }
-    ensures left { AreLeft (files R.Rack rack.old) (files R.Rack rack.new) }
-    ensures late { IfErr result (λ r. comes_before_files r ≡ false) }
-{
-    match Journal::open(alloc, rack) {
-        Ok((_, catalog, history)) => Ok((catalog, history)),
-        Err(error) => Err(journal_refusal(error)),
-    }
-}
 
 /// Shows the history of file 0.
 pub fn show<R: Rack>(alloc: Global, rack: &mut R) -> Result<Said, Refusal>

@@ -1,5 +1,5 @@
 -- What is written as it should be is taken.
-use Rattle.std.proofs.Common.{◌≡◌, ◌∙◌, ◌≤◌, ℕ, false, List, [], ◌∷◌, drop, take, ◌-◌, refl, map, slice_index_or, ap, ap₂, sym, subst, inl, inr, ◌⊎◌, arith, ◌==◌, length}
+use Rattle.std.proofs.Common.{◌≡◌, ◌∙◌, ◌≤◌, ℕ, Bool, true, false, List, [], ◌∷◌, drop, take, ◌-◌, refl, map, slice_index_or, ap, ap₂, sym, subst, inl, inr, ◌⊎◌, arith, ◌==◌, length}
 use Rattle.std.specs.Prelude.{Option, Some, None, Result, Ok, Err, option_map, unwrap_or, codes, decimal, ⊤}
 use Rattle.std.specs.Option.{option_map_or}
 use Rattle.std.specs.Str.Parse.{digits_value, without_leading_plus}
@@ -20,7 +20,7 @@ use Rattle.program_words.specs.declared.refusals.WordsError.{WordsError}
 use Rattle.program_words.specs.declared.refusals.WordsError.TheVariants.{BadWords, NoMemory}
 use Rattle.program_words.proofs.Taken.{taken_by}
 use Rattle.program_words.proofs.Numerals.{IsPlainNumber, decimal_is, signed_accepted, unsigned_accepted}
-use Rattle.program_words.proofs.Passes.{nothing_passes, no_workers_pass, numbers_count, numbers_number, numbers_pass, one_worker, workers_number, workers_pass}
+use Rattle.program_words.proofs.Passes.{history_given, history_left_out, values_given, values_left_out, nothing_passes, no_workers_pass, numbers_count, numbers_number, numbers_pass, one_worker, workers_number, workers_pass}
 
 number_at : (t : Text) (n : ℕ) (o : Option Text) → IsPlainNumber t n → o ≡ Some t
     → option_map_or (λ t. digits_value 10 (without_leading_plus t)) o 0 ≡ n
@@ -87,7 +87,9 @@ names_itself name.Session = refl
 names_itself name.Serve = refl
 names_itself name.Restart = refl
 names_itself name.Show = refl
+names_itself name.Replay = refl
 names_itself name.Verify = refl
+names_itself name.Audit = refl
 names_itself name.Gen = refl
 names_itself name.Bulk = refl
 names_itself name.Help = refl
@@ -96,13 +98,17 @@ names_itself name.Version = refl
 -- a command as it is written asks for itself
 pub form_asked : (c : Command) (words : List Text) → IsCommandForm c words → asked words ≡ Some c
 form_asked command.Check words is = ap asked is ∙ plain_written (codes "check") command.Check
-form_asked command.Init words is = ap asked is ∙ plain_written (codes "init") command.Init
+form_asked (command.Init true) words is = ap asked is ∙ ap (option_map (λ (b : Bool). command.Init b)) (values_given (codes "init"))
+form_asked (command.Init false) words is = ap asked is ∙ ap (option_map (λ (b : Bool). command.Init b)) (values_left_out (codes "init"))
 form_asked (command.Run workers) words (rest, is, form) =
     ap asked is ∙ ap (option_map (λ (n : ℕ). command.Run n)) (workers_form_asked (codes "run") workers rest form)
 form_asked command.Session words is = ap asked is ∙ plain_written (codes "session") command.Session
 form_asked command.Serve words is = ap asked is ∙ plain_written (codes "serve") command.Serve
 form_asked command.Restart words is = ap asked is ∙ plain_written (codes "restart") command.Restart
 form_asked command.Show words is = ap asked is ∙ plain_written (codes "show") command.Show
+form_asked command.Replay words is = ap asked is ∙ plain_written (codes "replay") command.Replay
+form_asked (command.Audit true) words is = ap asked is ∙ ap (option_map (λ (b : Bool). command.Audit b)) (history_given (codes "audit"))
+form_asked (command.Audit false) words is = ap asked is ∙ ap (option_map (λ (b : Bool). command.Audit b)) (history_left_out (codes "audit"))
 form_asked command.Verify words is = ap asked is ∙ plain_written (codes "verify") command.Verify
 form_asked (command.Gen number count) words (rest, is, form) =
     ap asked is ∙ ap (option_map (λ ((n, k) : ℕ × ℕ). command.Gen n k)) (numbers_form_asked (codes "gen") number count rest form)

@@ -8,10 +8,27 @@ use Rattle.clap.specs.ValueTests.{accepts}
 use Rattle.clap.specs.declared.builder.value_parser.ValueParser.TheVariants as vp
 use Rattle.clap.proofs.OnLiterals.{clap_on_literals}
 use Rattle.program_words.specs.Apps.{numbers_app, plain_app, workers_app}
+use Rattle.program_words.specs.Asked.{flag_asked}
 
 pub nothing_passes : (name : Text) → fault_of (plain_app name) [] ≡ []
 unfolding clap_on_literals
 nothing_passes name = refl
+
+pub values_left_out : (name : Text) → flag_asked name (codes "values") [] ≡ Some false
+unfolding clap_on_literals
+values_left_out name = refl
+
+pub history_left_out : (name : Text) → flag_asked name (codes "history") [] ≡ Some false
+unfolding clap_on_literals
+history_left_out name = refl
+
+pub values_given : (name : Text) → flag_asked name (codes "values") (codes "--values" ∷ []) ≡ Some true
+unfolding clap_on_literals
+values_given name = refl
+
+pub history_given : (name : Text) → flag_asked name (codes "history") (codes "--history" ∷ []) ≡ Some true
+unfolding clap_on_literals
+history_given name = refl
 
 pub no_workers_pass : (name : Text) → fault_of (workers_app name) [] ≡ []
 unfolding clap_on_literals

@@ -2,7 +2,7 @@
 use Rattle.std.specs.Prelude.{[], ◌∷◌, Some, true, pos, codes}
 use Rattle.clap.specs.Walk.{Rule, Text}
 use Rattle.clap.specs.Simple.{App, new_app, new_rule, on_top, with_rule}
-use Rattle.clap.specs.declared.builder.action.ArgAction.TheVariants.{Set}
+use Rattle.clap.specs.declared.builder.action.ArgAction.TheVariants.{Set, SetTrue}
 use Rattle.clap.specs.declared.builder.value_parser.ValueParser.TheVariants.{Signed, Unsigned}
 
 -- a command without arguments, with neither help nor version; the first word is no program's name
@@ -12,6 +12,14 @@ plain_app name = on_top (λ s. record s {
   disable_help_flag = true;
   disable_version_flag = true;
 }) (new_app name)
+
+-- an option without a value
+abbrev pub flag_rule : Text → Rule
+flag_rule option = record (new_rule option) { long = Some option; action = Some SetTrue }
+
+-- a command that takes one option without a value
+abbrev pub flag_app : Text → Text → App
+flag_app name option = with_rule (plain_app name) (flag_rule option)
 
 -- `--workers`, one whole number from 1 to 16, and 1 where it is not given
 abbrev pub workers_rule : Rule

@@ -1,13 +1,14 @@
 -- What words ask for, or nothing where they are refused.
-use Rattle.std.specs.Prelude.{◌≡◌, ℕ, List, [], ◌∷◌, Option, Some, None, Result, Ok, Err, ⊤}
+use Rattle.std.specs.Prelude.{◌≡◌, ℕ, Bool, false, List, [], ◌∷◌, Option, Some, None, Result, Ok, Err, ⊤}
 use Rattle.std.specs.Prelude.{codes}
 use Rattle.std.specs.Option.{option_map_or}
+use Rattle.std.specs.Str.{bytes_eq}
 use Rattle.std.specs.Str.Parse.{digits_value, without_leading_plus}
-use Rattle.clap.specs.Walk.{Row, Text, one_of}
+use Rattle.clap.specs.Walk.{Row, Text, first_of, one_of}
 use Rattle.clap.specs.Simple.{App, matches_of}
 use Rattle.clap.specs.Faults.{fault_of}
 use Rattle.clap.specs.Kinds.{Kinds}
-use Rattle.program_words.specs.Apps.{numbers_app, workers_app}
+use Rattle.program_words.specs.Apps.{flag_app, numbers_app, workers_app}
 use Rattle.program_words.specs.declared.refusals.WordsError.{WordsError}
 use Rattle.program_words.specs.declared.refusals.WordsError.TheVariants.{BadWords, NoMemory}
 
@@ -33,6 +34,15 @@ number_of id rows = option_map_or (λ t. digits_value 10 (without_leading_plus t
 -- nothing more, of a command without arguments
 abbrev pub nothing_asked : App → List Text → Option ⊤
 nothing_asked app words = taken_as app words tt
+
+-- the text of an option without a value is `true` where it is given
+abbrev pub is_true : Option Text → Bool
+is_true text = option_map_or (λ t. bytes_eq t (codes "true")) text false
+
+-- whether an option without a value is given
+abbrev pub flag_asked : Text → Text → List Text → Option Bool
+flag_asked name option words =
+    taken_as (flag_app name option) words (is_true (first_of option (matches_of (flag_app name option) words)))
 
 -- how many workers
 abbrev pub workers_asked : Text → List Text → Option ℕ

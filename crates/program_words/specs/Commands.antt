@@ -3,7 +3,7 @@ use Rattle.std.specs.Prelude.{◌||◌, List, [], ◌∷◌, Option, Some, None,
 use Rattle.std.specs.Str.{bytes_eq}
 use Rattle.clap.specs.Walk.{Text}
 use Rattle.program_words.specs.Apps.{plain_app}
-use Rattle.program_words.specs.Asked.{nothing_asked, numbers_asked, workers_asked}
+use Rattle.program_words.specs.Asked.{flag_asked, nothing_asked, numbers_asked, workers_asked}
 use Rattle.program_words.specs.Names.{named}
 use Rattle.program_words.specs.declared.names.CommandName.{CommandName}
 use Rattle.program_words.specs.declared.names.CommandName.TheVariants as name
@@ -23,12 +23,14 @@ help_asked (word ∷ other ∷ rest) = None
 -- what the words after a command's name ask for, or nothing where `clap` refuses them
 abbrev pub asked_after : CommandName → List Text → Option Command
 asked_after name.Check rest = plain_asked (codes "check") command.Check rest
-asked_after name.Init rest = plain_asked (codes "init") command.Init rest
+asked_after name.Init rest = option_map (λ values. command.Init values) (flag_asked (codes "init") (codes "values") rest)
 asked_after name.Run rest = option_map (λ workers. command.Run workers) (workers_asked (codes "run") rest)
 asked_after name.Session rest = plain_asked (codes "session") command.Session rest
 asked_after name.Serve rest = plain_asked (codes "serve") command.Serve rest
 asked_after name.Restart rest = plain_asked (codes "restart") command.Restart rest
 asked_after name.Show rest = plain_asked (codes "show") command.Show rest
+asked_after name.Replay rest = plain_asked (codes "replay") command.Replay rest
+asked_after name.Audit rest = option_map (λ history. command.Audit history) (flag_asked (codes "audit") (codes "history") rest)
 asked_after name.Verify rest = plain_asked (codes "verify") command.Verify rest
 asked_after name.Gen rest = option_map (λ (number, count). command.Gen number count) (numbers_asked (codes "gen") rest)
 asked_after name.Bulk rest = option_map (λ (number, count). command.Bulk number count) (numbers_asked (codes "bulk") rest)

@@ -1,5 +1,5 @@
 -- How commands and their arguments are written.
-use Rattle.std.specs.Prelude.{◌≡◌, ◌⊎◌, ◌≤◌, ℕ, List, [], ◌∷◌, Some, None, codes, decimal, ⊤}
+use Rattle.std.specs.Prelude.{◌≡◌, ◌⊎◌, ◌≤◌, ℕ, Bool, true, false, List, [], ◌∷◌, Some, None, codes, decimal, ⊤}
 use Rattle.clap.specs.Walk.{Text}
 use Rattle.program_words.specs.Names.{name_text}
 use Rattle.program_words.specs.declared.reading.Command.{Command}
@@ -20,15 +20,22 @@ IsNumbersForm number count words =
 abbrev pub IsNamed : Text → List Text → Type 0
 IsNamed name words = words ≡ name ∷ []
 
+-- they are that of a command with an option without a value, and the option where it is given
+abbrev pub IsFlagForm : Text → Text → Bool → List Text → Type 0
+IsFlagForm name option true words = words ≡ name ∷ option ∷ []
+IsFlagForm name option false words = IsNamed name words
+
 -- the words are a command as it is written
 abbrev pub IsCommandForm : Command → List Text → Type 0
 IsCommandForm command.Check words = IsNamed (codes "check") words
-IsCommandForm command.Init words = IsNamed (codes "init") words
+IsCommandForm (command.Init values) words = IsFlagForm (codes "init") (codes "--values") values words
 IsCommandForm (command.Run workers) words = (rest : List Text) × (words ≡ codes "run" ∷ rest) × IsWorkersForm workers rest
 IsCommandForm command.Session words = IsNamed (codes "session") words
 IsCommandForm command.Serve words = IsNamed (codes "serve") words
 IsCommandForm command.Restart words = IsNamed (codes "restart") words
 IsCommandForm command.Show words = IsNamed (codes "show") words
+IsCommandForm command.Replay words = IsNamed (codes "replay") words
+IsCommandForm (command.Audit history) words = IsFlagForm (codes "audit") (codes "--history") history words
 IsCommandForm command.Verify words = IsNamed (codes "verify") words
 IsCommandForm (command.Gen number count) words = (rest : List Text) × (words ≡ codes "gen" ∷ rest) × IsNumbersForm number count rest
 IsCommandForm (command.Bulk number count) words =

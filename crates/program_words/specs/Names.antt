@@ -14,12 +14,14 @@ named word = if bytes_eq word (codes "check") then Some name.Check
     else (if bytes_eq word (codes "serve") then Some name.Serve
     else (if bytes_eq word (codes "restart") then Some name.Restart
     else (if bytes_eq word (codes "show") then Some name.Show
+    else (if bytes_eq word (codes "replay") then Some name.Replay
     else (if bytes_eq word (codes "verify") then Some name.Verify
+    else (if bytes_eq word (codes "audit") then Some name.Audit
     else (if bytes_eq word (codes "gen") then Some name.Gen
     else (if bytes_eq word (codes "bulk") then Some name.Bulk
     else (if bytes_eq word (codes "help") then Some name.Help
     else (if bytes_eq word (codes "version") then Some name.Version
-    else None)))))))))))
+    else None)))))))))))))
 
 -- the name of a command, as it is written
 abbrev pub name_text : CommandName → Text
@@ -30,7 +32,9 @@ name_text name.Session = codes "session"
 name_text name.Serve = codes "serve"
 name_text name.Restart = codes "restart"
 name_text name.Show = codes "show"
+name_text name.Replay = codes "replay"
 name_text name.Verify = codes "verify"
+name_text name.Audit = codes "audit"
 name_text name.Gen = codes "gen"
 name_text name.Bulk = codes "bulk"
 name_text name.Help = codes "help"

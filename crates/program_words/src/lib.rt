@@ -1,12 +1,13 @@
 //! Reads the words after the program's name into a command. `clap` decides on the words behind a command's name, so a faulty
 //! command line is exactly one that `clap` refuses. The contracts cite `specs/Commands`: the command that words ask for, or none.
 //!
-//! Commands are read by `read_words`, with NUMBER and COUNT, the option `--workers` or the name of a command, where they take them.
+//! Commands are read by `read_words`, with NUMBER and COUNT, an option or the name of a command, where they take them.
 //! The words that are compared here are the names of commands, and `--help`, `-h` and `--version`, which ask for help or for the
 //! version where nothing stands behind them.
 #![tactic(auto)]
 
 mod arguments;
+mod flags;
 mod help;
 mod names;
 mod numbers;

@@ -5,6 +5,7 @@ ghost use Rattle.program_words.specs.Commands.{asked, asked_after};
 ghost use Rattle.program_words.specs.Forms.{IsCommandForm, IsInRange};
 
 use crate::arguments::read_no_argument;
+use crate::flags::read_flag;
 use crate::help::{read_help, read_option};
 use crate::names::{CommandName, name_of};
 use crate::numbers::read_number_and_count;
@@ -16,13 +17,17 @@ use std::alloc::Global;
 #[derive(Clone, Copy, Debug, PartialEq, Eq, Drop)]
 pub enum Command {
     Check,
-    Init,
+    /// With `values`, only under a catalog whose conflicts name each two operations of which the order can matter to the books.
+    Init { values: bool },
     Run { workers: u32 },
     Session,
     Serve,
     Restart,
     Show,
+    Replay,
     Verify,
+    /// Of the log behind a scenario, or with `history` of the files.
+    Audit { history: bool },
     Gen { number: u64, count: u32 },
     Bulk { number: u64, count: u32 },
     /// Of a command, or of all.
@@ -59,8 +64,8 @@ fn read_after(alloc: Global, name: CommandName, rest: &[String]) -> Result<Comma
             Ok(Command::Check)
         }
         CommandName::Init => {
-            read_no_argument(alloc, "init", rest)?;
-            Ok(Command::Init)
+            let values = read_flag(alloc, "init", "values", rest)?;
+            Ok(Command::Init { values })
         }
         CommandName::Run => {
             let workers = read_workers(alloc, "run", rest)?;
@@ -82,9 +87,17 @@ fn read_after(alloc: Global, name: CommandName, rest: &[String]) -> Result<Comma
             read_no_argument(alloc, "show", rest)?;
             Ok(Command::Show)
         }
+        CommandName::Replay => {
+            read_no_argument(alloc, "replay", rest)?;
+            Ok(Command::Replay)
+        }
         CommandName::Verify => {
             read_no_argument(alloc, "verify", rest)?;
             Ok(Command::Verify)
+        }
+        CommandName::Audit => {
+            let history = read_flag(alloc, "audit", "history", rest)?;
+            Ok(Command::Audit { history })
         }
         CommandName::Gen => {
             let (number, count) = read_number_and_count(alloc, "gen", rest)?;

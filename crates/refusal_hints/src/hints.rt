@@ -1,6 +1,6 @@
 // The hint beside a refusal.
-ghost use Rattle.std.specs.Prelude.{◌≡◌, ◌++◌, IfOk, IfSome, OnOk, codes};
-ghost use Rattle.refusal_hints.specs.Hints.{IsHint, beginning, number_text};
+ghost use Rattle.std.specs.Prelude.{◌≡◌, ◌++◌, IfOk, IfSome, OnOk, None, codes};
+ghost use Rattle.refusal_hints.specs.Hints.{IsHint, beginning, hint_text, number_text};
 ghost use Rattle.refusal_hints.specs.Pointing.{IsErrorPlace, IsFirstAlone, IsPointed, IsTextPlace};
 ghost use Rattle.refusal_hints.specs.Remedies.{remedy, scenario_remedy};
 
@@ -167,5 +167,14 @@ pub fn hint(
     let text = remedy(alloc, refusal)?;
     let at = place(alloc, form, input, refusal)?;
     let out = beginning(alloc, at)?;
+    ended(out, text)
+}
+
+/// The same where the input isn't known: it names no place.
+pub fn placeless_hint(alloc: Global, refusal: &Refusal) -> Result<Vec<u8>, AllocError>
+    ensures { IfOk result (λ line. line.items ≡ hint_text None refusal.now) }
+{
+    let text = remedy(alloc, refusal)?;
+    let out = beginning(alloc, None)?;
     ended(out, text)
 }

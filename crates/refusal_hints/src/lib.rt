@@ -13,5 +13,5 @@ mod remedies;
 mod words;
 
 pub use documents::InputForm;
-pub use hints::hint;
+pub use hints::{hint, placeless_hint};
 pub use places::places_of_parts_are_places;

@@ -56,9 +56,9 @@ b = codes "b"
 pub nothing : warnings named (plan a 0 (pos 5) ∷ plan b 1 (pos 5) ∷ plan (codes "c") 2 (pos 7) ∷ []) ≡ []
 nothing = refl
 
--- without processes no operation is used
-pub none_is_used : warnings named [] ≡ Unused 0 ∷ Unused 1 ∷ Unused 2 ∷ []
-none_is_used = refl
+-- a scenario without processes
+pub no_processes : warnings named [] ≡ []
+no_processes = refl
 
 -- selling in another order than filling may be barred, and two holds of one seat are never alike
 pub conflicts_left_out : warnings (catalog (no_conflicts 3)) (plan a 0 (pos 5) ∷ plan b 1 (pos 5) ∷ plan (codes "c") 2 (pos 7) ∷ [])

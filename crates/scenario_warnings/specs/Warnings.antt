@@ -28,9 +28,10 @@ uses op p = list_any (λ used. nat_eq used op) p.ops
 abbrev pub is_used : List Plan → ℕ → Bool
 is_used plans op = list_any (uses op) plans
 
--- no process uses the operation
+-- no process uses the operation, where there are any: a driver's scenario has none, and spells each as it starts
 abbrev pub unused : List Plan → ℕ → List Warning
-unused plans op = if is_used plans op then [] else Unused op ∷ []
+unused [] op = []
+unused (p ∷ ps) op = if is_used (p ∷ ps) op then [] else Unused op ∷ []
 
 -- two operations conflict in value, and the catalog names no conflict of them
 abbrev pub commuting : Catalog → ℕ → ℕ → List Warning

@@ -26,15 +26,18 @@ fn is_used(plans: &[Plan], op: u16) -> bool
     plans.iter().any(|plan| uses(plan, op))
 }
 
-// Warns of an operation that no process uses.
+// Warns of an operation that no process uses, where there are any.
 fn add_unused(plans: &[Plan], op: u16, out: &mut Vec<Warning>) -> Result<(), AllocError>
     ensures { OnOk result (out.new.items ≡ out.old.items ++ unused plans.now op) }
 {
-    if is_used(plans, op) {
-        return Ok(());
+    match plans {
+        [] => Ok(()),
+        [..] if is_used(plans, op) => Ok(()),
+        [..] => {
+            out.push(Warning::Unused(op))?;
+            Ok(())
+        }
     }
-    out.push(Warning::Unused(op))?;
-    Ok(())
 }
 
 // Warns of two operations that conflict in value without being named.

@@ -1,1 +1,1 @@
-mod LeastPair
+pub mod LeastPair

@@ -1,3 +1,4 @@
 pub mod ValueConflict
 pub mod Soundness
+pub mod Names
 pub mod Examples

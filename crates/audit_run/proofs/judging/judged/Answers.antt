@@ -12,7 +12,7 @@ out_of_order-requires c =
 pub audit-requires-clause-planned : goal.audit-requires-clause-planned
 audit-requires-clause-planned c =
     let h = c.in_ok-h.h in
-    subst (λ (n : ℕ). IsPlanned n h.plans h.events) (sym c.requires.catalog.of_all) (c.in_ok-h.ensures.planned (length c.args.c.now.ops) c.requires.sound)
+    subst (λ (n : ℕ). IsPlanned n h.plans h.events) (sym c.requires.catalog.all) (c.in_ok-h.ensures.planned (length c.args.c.now.ops) c.requires.sound)
 
 pub audit-requires-clause-own_order : goal.audit-requires-clause-own_order
 audit-requires-clause-own_order c = in_own_order (courses_of c.in_ok-h.h.plans) c.in_ok-h.h.events (sym c.in_ok-n.ensures ∙ c.in-None.is)

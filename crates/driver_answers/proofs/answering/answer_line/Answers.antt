@@ -34,6 +34,12 @@ returns-in_err-happened_text-in-Some-Happened-clause-goes g c = goes_at_rest g.R
 pub returns-in_ok-happened_text-in-Some-Happened-clause-goes : goal.returns-in_ok-happened_text-in-Some-Happened-clause-goes
 returns-in_ok-happened_text-in-Some-Happened-clause-goes g c = goes_at_rest g.R.Rack c.args.plans.now c.args.engine.now c.invariant_holds.ensures.run (c.invariant_holds.ensures.each c.requires.ready.settled)
 
+pub returns-in_err-started_text-in-Some-Started-clause-goes : goal.returns-in_err-started_text-in-Some-Started-clause-goes
+returns-in_err-started_text-in-Some-Started-clause-goes g c = goes_at_rest g.R.Rack c.args.plans.now c.args.engine.now c.invariant_holds.ensures.run (c.invariant_holds.ensures.each c.requires.ready.settled)
+
+pub returns-in_ok-started_text-in-Some-Started-clause-goes : goal.returns-in_ok-started_text-in-Some-Started-clause-goes
+returns-in_ok-started_text-in-Some-Started-clause-goes g c = goes_at_rest g.R.Rack c.args.plans.now c.args.engine.now c.invariant_holds.ensures.run (c.invariant_holds.ensures.each c.requires.ready.settled)
+
 pub returns-in_err-bad_line-in-None-clause-goes : goal.returns-in_err-bad_line-in-None-clause-goes
 returns-in_err-bad_line-in-None-clause-goes g c = goes_at_rest g.R.Rack c.args.plans.now c.args.engine.now c.invariant_holds.ensures.run (c.invariant_holds.ensures.each c.requires.ready.settled)
 

@@ -1,14 +1,5 @@
-use Rattle.std.proofs.Common.{◌≡◌, ◌∙◌, [], ◌∷◌, Some, ap}
-use Rattle.std.specs.Prelude.{map, string_bytes}
-use Rattle.process_flow.specs.Memory.{MemoryOutput}
-use Rattle.headline_tests.proofs.OneWord.{call_of}
+use Rattle.headline_tests.proofs.OneWord.{same_words}
 use Rattle.headline_tests.proofs.calls.answered.Goals as goal
 
 pub returns : goal.returns
-returns g c =
-    let words : map string_bytes c.deref.result.now ≡ c.args.word.now ∷ [] = ap (map string_bytes) c.deref.ensures.value ∙ c.in_ok-words.ensures in
-    let last = c.top-finished in
-    call_of _ _ _ _ _
-    (record { source = c.new-source.result; sink = c.new-sink.result; rack = c.args.rack; boxes = c.in_ok-resources.resources.items; gates = c.in_ok-gates.gates.items })
-    (record { source = last.new.source; sink = last.new.sink; rack = last.result.rack; boxes = last.result.resources.items; gates = last.result.gates.items })
-    (map string_bytes c.deref.result.now) c.args.word.now last.result.status words (ap (λ (s : MemoryOutput). Some s.taken) c.new-sink.ensures) last.ensures
+returns g c = same_words _ _ _ _ _ _ _ _ _ c.in_ok-words.ensures c.answered_on.ensures

@@ -7,7 +7,7 @@ use Rattle.process_top.proofs.Unread.{bad_ask_nothing}
 use Rattle.process_top.proofs.door.answer.Goals as goal
 
 pub returns-in-Ok : goal.returns-in-Ok
-returns-in-Ok g c = answers_as _ _ _ _ _ (ap at_once c.in-Ok.ensures.asked) c.answer_to.ensures
+returns-in-Ok g c = answers_as _ _ _ _ _ _ (ap at_once c.in-Ok.ensures.asked) c.answer_to.ensures
 
 pub returns-in-Err : goal.returns-in-Err
 returns-in-Err g c =

@@ -19,7 +19,7 @@ returns g c =
     (result_is_answered (Some (Run c.args.workers))
     (world g.S.Source g.K.Sink g.R.Rack g.B.Resource g.G.Gate c.args.source.now c.args.sink.now c.args.rack c.args.resources.items c.args.gates.items)
     (world g.S.Source g.K.Sink g.R.Rack g.B.Resource g.G.Gate c.run_by_first-parts.new.source c.tell_served.new.sink ran.parts.rack ran.parts.resources.items ran.gates.items)
-    c.tell_served.result.status ended.told.0 ended.told.1 has.left (told_are_boxes g.B.Resource ran.parts.resources.items has.back)
+    c.tell_served.result.status c.tell_served.result.refused ended.told.0 ended.told.1 has.left (told_are_boxes g.B.Resource ran.parts.resources.items has.back)
     (λ none. absurd cc) has.others (λ none. absurd cc) (λ none. absurd cc) (λ none. absurd cc) ran.found
     (run_says first (input g.S.Source c.args.source.now) (input g.S.Source c.run_by_first-parts.new.source) (files g.R.Rack c.args.rack) (files g.R.Rack ran.parts.rack) ran.found has.due)
-    ended.told.2 ended.later has.complete has.early has.ill_formed (λ asks. absurd cc))
+    ended.told.2 ended.refused ended.later has.complete has.early has.ill_formed (λ asks. absurd cc) (λ asks. absurd cc))

@@ -3,22 +3,24 @@ use Rattle.std.proofs.lemmas.Result.{IfOk-weaker}
 use Rattle.process_disk.specs.Disk.{Told}
 use Rattle.command_refusals.specs.declared.status.Status.TheVariants.{Done}
 use Rattle.restart_run.specs.Boxes.{HaveValuesOf}
+use Rattle.replay_run.specs.Replay.{HaveValuesOfFile}
 use Rattle.command_input.specs.Inputs.{input}
 use Rattle.command_input.specs.FilesLeft.{files}
 use Rattle.engine_calls.specs.GateAnswers.{AskedGate}
 use Rattle.process_top.specs.Said.{Says}
+use Rattle.process_top.specs.Audit.{IsHistoryAuditDue}
 use Rattle.process_top.specs.Bulk.{IsBulkDue}
 use Rattle.process_top.specs.Restart.{IsRestartDue}
 use Rattle.process_top.specs.Worlds.{output}
 use Rattle.process_top.proofs.GatesAsked.{first_asked}
-use Rattle.process_top.proofs.Saying.{bulk_says, init_says, restart_says, serve_says, session_says}
+use Rattle.process_top.proofs.Saying.{bulk_says, init_says, replay_says, restart_says, says_untouched, serve_says, session_says}
 use Rattle.process_top.proofs.door.done.Goals as goal
 
 pub returns-in-Init-clause-due : goal.returns-in-Init-clause-due
 returns-in-Init-clause-due g c =
     rw c.in-Init.is
     (rw c.unsaid.ensures (
-      init_says (input g.S.Source c.args.source.now) (input g.S.Source c.init.new.source) (files g.R.Rack c.args.parts.rack) (files g.R.Rack c.init.result.parts.rack) c.init.result.found c.init.ensures.due,
+      init_says c.in-Init.values (input g.S.Source c.args.source.now) (input g.S.Source c.init.new.source) (files g.R.Rack c.args.parts.rack) (files g.R.Rack c.init.result.parts.rack) c.init.result.found c.init.ensures.due,
       refl,
     ))
 
@@ -83,3 +85,32 @@ returns-in-Bulk-clause-due g c =
 
 pub returns-in-Bulk-clause-worked : goal.returns-in-Bulk-clause-worked
 returns-in-Bulk-clause-worked g c = rw c.in-Bulk.is (rw c.unsaid-in-Bulk.ensures c.bulk.ensures.complete)
+
+pub returns-in-Replay-clause-due : goal.returns-in-Replay-clause-due
+returns-in-Replay-clause-due g c =
+    rw c.in-Replay.is
+    (rw c.unsaid-in-Replay.ensures (
+      replay_says (files g.R.Rack c.args.parts.rack) (files g.R.Rack c.replay.result.parts.rack) c.replay.result.found c.replay.ensures.due c.replay.ensures.all,
+      refl,
+    ))
+
+pub returns-in-Replay-clause-replayed : goal.returns-in-Replay-clause-replayed
+returns-in-Replay-clause-replayed g c =
+    let parts = c.replay.result.parts in
+    let b = g.B.Resource in
+    let have = HaveValuesOfFile (λ x. (b.meaning x).items) (files g.R.Rack c.args.parts.rack) (files g.R.Rack parts.rack) parts.resources.items in
+    rw c.unsaid-in-Replay.ensures (λ asks. IfOk-weaker c.replay.result.found (λ _. have) (λ s. s.status ≡ Done → have) (λ s has done. has) c.replay.ensures.values)
+
+pub returns-in-Audit-true-clause-due : goal.returns-in-Audit-true-clause-due
+returns-in-Audit-true-clause-due g c =
+    let before = input g.S.Source c.args.source.now in
+    let after = input g.S.Source c.history-found.new.source in
+    let found = files g.R.Rack c.args.parts.rack in
+    let left = files g.R.Rack c.history-found.new.rack in
+    rw c.in-Audit-true.is
+    (rw c.in-Audit-true.history-test
+    (rw c.untold-in-Audit-true.ensures (says_untouched (IsHistoryAuditDue before after found left) found left c.history-found.result c.history-found.ensures.due c.history-found.ensures.all, refl)))
+
+pub returns-in-Audit-true-clause-worked : goal.returns-in-Audit-true-clause-worked
+returns-in-Audit-true-clause-worked g c =
+    rw c.in-Audit-true.is (rw c.in-Audit-true.history-test (rw c.untold-in-Audit-true.ensures c.history-found.ensures.complete))

@@ -14,12 +14,12 @@ answer_run-requires-clause-workers g c =
 pub returns-in-Some : goal.returns-in-Some
 returns-in-Some g c =
     let is = run_is c.in-Ok.command c.in-Some.workers (sym c.workers_of.ensures ∙ c.in-Some.is) in
-    answers_as _ _ _ _ _ (c.in-Ok.ensures.asked ∙ ap Some is) c.answer_run.ensures
+    answers_as _ _ _ _ _ _ (c.in-Ok.ensures.asked ∙ ap Some is) c.answer_run.ensures
 
 pub returns-in-None : goal.returns-in-None
 returns-in-None g c =
     let is = at_once_is c.in-Ok.command (sym c.workers_of.ensures ∙ c.in-None.is) in
-    answers_as _ _ _ _ _ (c.in-Ok.ensures.asked ∙ sym is) c.answer_to.ensures
+    answers_as _ _ _ _ _ _ (c.in-Ok.ensures.asked ∙ sym is) c.answer_to.ensures
 
 pub returns-in-Err : goal.returns-in-Err
 returns-in-Err g c =

@@ -1,0 +1,5 @@
+pub mod Soundness
+pub mod Printed
+pub mod Boxes
+pub mod Replay
+pub mod Examples
