@@ -61,11 +61,11 @@ one_more_staged first log new events (x ∷ rest) d some was is =
       acts_or_ends = was.acts_or_ends.1;
       size = let few = few_bytes x was.acts_or_ends.0 in let size = was.size in omega (arith, few, size, records_size-push log.staged (bytes_of (record_for x)));
       room = let room = was.room in omega (arith, room, length-append log.staged (bytes_of (record_for x) ∷ []));
-      journal = ap (λ bs. record { file = log.file; count = log.count; end = log.end; last = log.last; staged = bs }) (append_assoc log.staged (bytes_of (record_for x) ∷ []) (bodies_of rest)) ∙ was.journal;
+      journal = ap (λ bs. record { file = log.file; count = log.count; end = log.end; staged = bs }) (append_assoc log.staged (bytes_of (record_for x) ∷ []) (bodies_of rest)) ∙ was.journal;
     }))
 
 pub all_staged : (first log : LogState) (events rest : List Event) → length rest < 1 → IsStagedSoFar first log events rest → log ≡ staging_all first (bodies_of events)
-all_staged first log events [] none was = ap (λ bs. record { file = log.file; count = log.count; end = log.end; last = log.last; staged = bs }) (sym (append-nil log.staged)) ∙ was.journal
+all_staged first log events [] none was = ap (λ bs. record { file = log.file; count = log.count; end = log.end; staged = bs }) (sym (append-nil log.staged)) ∙ was.journal
 all_staged first log events (x ∷ rest) none was = absurd (omega (arith, none))
 
 -- a log stands for what it does, whatever is staged in it
@@ -73,7 +73,7 @@ stands_staged : {B : Type 0} (c : Catalog) (h : History) (log : LogState) (bodie
 stands_staged c h log bodies stores disk stand = record {
   journal = record {
     history = stand.journal.history;
-    log = let s = stand.journal.log in record { count = s.count; end = s.end; last = s.last; read = s.read; each = s.each };
+    log = let s = stand.journal.log in record { count = s.count; end = s.end; read = s.read; each = s.each };
   };
   stores = stand.stores;
   good = stand.good;

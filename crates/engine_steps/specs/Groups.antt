@@ -84,7 +84,7 @@ pub record LeavesCore {R B : Type 0} (old new : EngineState R B) (result : Resul
 -- the log in which these bodies are staged behind those that are
 abbrev pub staging_all : LogState → List (List ℕ) → LogState
 staging_all log bodies =
-    record { file = log.file; count = log.count; end = log.end; last = log.last; staged = log.staged ++ bodies }
+    record { file = log.file; count = log.count; end = log.end; staged = log.staged ++ bodies }
 
 -- the bodies of the records of these events
 abbrev pub bodies_of : List Event → List (List ℕ)

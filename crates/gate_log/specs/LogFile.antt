@@ -42,12 +42,6 @@ abbrev pub records_size : List (List ℕ) → ℕ
 records_size [] = 0
 records_size (body ∷ bodies) = 3 + length body + records_size bodies
 
--- how many bytes the last body has, if there is one
-abbrev pub last_size : List (List ℕ) → Option ℕ
-last_size [] = None
-last_size (body ∷ []) = Some (length body)
-last_size (body ∷ next ∷ bodies) = last_size (next ∷ bodies)
-
 -- where the closed gate stands
 abbrev pub end_of : List (List ℕ) → ℕ
 end_of bodies = 8 + records_size bodies

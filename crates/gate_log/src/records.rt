@@ -2,7 +2,6 @@
 ghost use Rattle.std.specs.Prelude.{◌≡◌, ◌≢◌, ◌<◌, ◌≤◌, ◌+◌, ◌*◌, ◌^◌, ◌++◌, ◌∷◌, [], length, None, Some, Ok, Err, IfOk};
 ghost use Rattle.std.specs.Prelude.{IfErr, IfSome, MatchOption, All};
 ghost use Rattle.gate_log.specs.LogFile.{header, after_header, first_record, is_closed, bodies_in, most_records, records_size};
-ghost use Rattle.gate_log.specs.LogFile.{last_size};
 ghost use Rattle.gate_log.specs.declared.errors.LogError.TheVariants.{NoMemory};
 
 use crate::{Body, LogError};
@@ -90,16 +89,5 @@ pub fn bodies_in(alloc: Global, bytes: &[u8]) -> Result<Bodies, LogError>
         Ok(Bodies { bodies, size })
     } else {
         Err(LogError::BadRecord(bodies.len() as u32 + 1))
-    }
-}
-
-/// How many bytes the last body has, if there is one.
-pub fn last_size(bodies: &[Body]) -> Option<u32>
-    requires short { All (λ body. length body < 2 ^ 16) bodies.now }
-    ensures size { result ≡ last_size bodies.now }
-{
-    match bodies {
-        [.., body] => Some(body.bytes().len() as u32),
-        [] => None,
     }
 }

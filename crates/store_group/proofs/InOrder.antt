@@ -103,11 +103,6 @@ of_set P xs n y all own q s at = by (cases_eq q n)
         subst P (one_there (slice_set xs n y) n y s (set_there xs n (get_or xs n y) y was) (subst (λ k. slice_get (slice_set xs n y) k ≡ Some s) here at)) own
     by (inr other) = all q s (sym (set_others xs n q y other) ∙ at)
 
--- what holds of something that may be there, where it is there
-pub if_each : {A : Type 0} (o : Option A) (P : A → Type 0) → ((x : A) → o ≡ Some x → P x) → IfSome o P
-if_each None P each = tt
-if_each (Some x) P each = each x refl
-
 -- what holds in any case holds at Err
 pub on_err : {T E : Type 0} {P : Type 0} (r : Result T E) → P → OnErr r P
 on_err (Ok x) p = tt

@@ -6,4 +6,4 @@ append-requires-2-clause-open g c = λ told. record { bodies = _; stands = c.in_
 
 pub retract-requires-clause-open : goal.retract-requires-clause-open
 retract-requires-clause-open g c = λ told.
-    record { bodies = _; stands = c.in_ok-append-2.ensures.acknowledged refl _ (c.in_ok-append.ensures.acknowledged refl [] (c.in_ok-log.ensures.stands refl)) }
+    record { bodies = _; last = _; number_is = refl; size_is = refl; stands = c.in_ok-append-2.ensures.acknowledged refl _ (c.in_ok-append.ensures.acknowledged refl [] (c.in_ok-log.ensures.stands refl)) }

@@ -1,8 +1,6 @@
-use Rattle.std.proofs.Common.{◌<◌, ap, subst, sym}
-use Rattle.std.specs.Prelude.{IsSome}
+use Rattle.std.proofs.Common.{◌<◌, subst}
 use Rattle.process_disk.proofs.Images.{still_told, others_then}
 use Rattle.gate_log.proofs.Plain.{plain_with}
-use Rattle.gate_log.proofs.Staging.{some_last}
 use Rattle.gate_log.proofs.log.Log.append_staged.Goals as goal
 
 pub returns-in_err-open_on_disk-clause-others : goal.returns-in_err-open_on_disk-clause-others
@@ -33,6 +31,3 @@ returns-clause-others g c = λ told.
     let told_mid = still_told old mid c.put_on_disk.ensures.rack.tells told in
     let told_new = still_told mid new c.open_on_disk.ensures.rack.tells told_mid in
     others_then c.args.self.now.file old mid new (g.met.R.Rack.honest c.put_on_disk.new.rack told_mid) (g.met.R.Rack.honest c.open_on_disk.new.rack told_new) (c.put_on_disk.ensures.others told) (c.open_on_disk.ensures.others told_mid)
-
-pub returns-clause-ok : goal.returns-clause-ok
-returns-clause-ok g c = (c.take_staged.ensures, subst IsSome (sym (ap (λ l. l.last) c.take_staged.ensures)) (some_last c.args.self.now.staged c.requires.staged))

@@ -10,7 +10,7 @@ returns-clause-stands g c = λ told.
     let new = g.R.Rack.disk c.write_and_sync.new.rack in
     let told_new = still_told old new c.write_and_sync.ensures.rack.tells told in
     log_created _ c.args.file c.first_bytes.result old new (g.met.R.Rack.honest c.args.rack.now told) (g.met.R.Rack.honest c.write_and_sync.new.rack told_new) c.requires.file c.first_bytes.ensures
-    (c.in_ok-write_and_sync.ensures.written told) (c.in_ok-write_and_sync.ensures.durable told) refl refl refl refl
+    (c.in_ok-write_and_sync.ensures.written told) (c.in_ok-write_and_sync.ensures.durable told) refl refl refl
 
 pub returns-clause-bytes : goal.returns-clause-bytes
 returns-clause-bytes g c = λ told.
