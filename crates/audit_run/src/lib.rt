@@ -3,7 +3,7 @@
 //! `audit` reads a scenario and the log behind it (`audit_text`), sees that it is within the limits and in own order, audits it
 //! (`audit_core`), and says what was found. `specs/Outcomes` has what is found and what is printed of it, and `specs/Audit` what is
 //! due on an input, in the order of its tests. `audit_history` takes the history of file 0 in place of a log, and says also whether
-//! the conflicts of the scenario would have allowed it: `specs/Under` names these conflicts of the journal's own operations, and
+//! the conflicts of the scenario would have allowed it: `named_conflicts` gives these to the journal's own operations, and
 //! `specs/History` has what is due. By `looser_scenarios_allow_journals` loosening a table makes no journal illegal.
 #![tactic(auto)]
 

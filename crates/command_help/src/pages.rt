@@ -118,12 +118,14 @@ Reads a scenario, a line '%%' and then a log of what another scheduler did, in
 lines 'start NAME', 'do I.STEP', 'undo I.STEP' and 'end I'. It prints the serial
 list where each beginning of the log can be reduced, and else what is left of
 the least beginning that can't. It reads no file.
-With --history the log is the history of the files, under the conflicts of the
-scenario.
+With --history the input is a scenario alone, and the log is the history of the
+files. It first says whether the conflicts of the scenario allow each event:
+'legal', or 'not legal at N' and the first event that they don't.
 
 exit status: 0 it can be reduced, 2 the scenario or a line has a fault, or the
 log leaves the order of a process, 3 a process is not well-formed, 4 a limit is
-passed, 12 it can't be reduced
+passed, 6 the files are damaged or were not made, 10 the disk failed, 12 it
+can't be reduced
 ";
 
 pub(crate) const GEN: &str = "usage: tps gen NUMBER COUNT
